@@ -1,0 +1,2 @@
+pub mod Callback
+mod Masks

@@ -1,0 +1,31 @@
+-- The code address of a frame: which one it is, and where unwind information for it is looked up.
+use Rattle.std.specs.Prelude.{ℕ, ◌-◌, Bool, true, false}
+use Rattle.std.specs.Int.NonZero.{non_zero_u64_get}
+use Rattle.framehop_core.specs.declared.code_address.FrameAddress.{FrameAddress}
+use Rattle.framehop_core.specs.declared.code_address.FrameAddress.TheVariants.{InstructionPointer, ReturnAddress}
+
+-- where a frame stands: at its instruction pointer, or at the address to which its callee returns (AVMAs)
+pub data Place : Type 0 where
+  at_instruction_pointer : ℕ → Place
+  at_return_address : ℕ → Place
+
+-- the place of a frame address
+abbrev pub place_of : FrameAddress → Place
+place_of (InstructionPointer address) = at_instruction_pointer address
+place_of (ReturnAddress address) = at_return_address (non_zero_u64_get address)
+
+-- the raw address of a place
+abbrev pub address_of : Place → ℕ
+address_of (at_instruction_pointer address) = address
+address_of (at_return_address address) = address
+
+-- The address to look up: of a return address the byte before it, which lies inside the call instruction
+-- (framehop 0.16.0, `FrameAddress::address_for_lookup`).
+abbrev pub lookup_address : Place → ℕ
+lookup_address (at_instruction_pointer address) = address
+lookup_address (at_return_address address) = address - 1
+
+-- the kind of a frame: only a frame at its instruction pointer is a first frame
+abbrev pub is_first_frame : Place → Bool
+is_first_frame (at_instruction_pointer _) = true
+is_first_frame (at_return_address _) = false

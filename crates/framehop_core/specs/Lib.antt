@@ -1,0 +1,5 @@
+pub mod ErrorText
+pub mod Memory
+pub mod CodeAddress
+pub mod Outcome
+pub mod Aarch64

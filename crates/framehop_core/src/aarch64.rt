@@ -1,0 +1,8 @@
+// Types for unwinding on the aarch64 CPU architecture.
+pub mod arch;
+pub mod unwind_rule;
+pub mod unwindregs;
+
+pub use arch::ArchAarch64;
+pub use unwind_rule::UnwindRuleAarch64;
+pub use unwindregs::{PtrAuthMask, UnwindRegsAarch64};

@@ -1,0 +1,89 @@
+ghost use Rattle.std.specs.Prelude.{◌≡◌, MatchOption, not};
+ghost use Rattle.framehop_core.specs.CodeAddress.{place_of, address_of, lookup_address, is_first_frame, at_instruction_pointer, at_return_address};
+
+use std::num::NonZeroU64;
+
+/// An absolute code address for a stack frame: the instruction pointer ("program counter") or a
+/// return address.
+///
+/// These addresses are AVMAs, addresses in the virtual memory of the profiled process.
+#[derive(Clone, Copy, Debug, PartialEq, Eq)]
+pub enum FrameAddress {
+    /// The instruction pointer, with which unwinding starts.
+    InstructionPointer(u64),
+
+    /// A return address: the address of the instruction behind the call. Unwinding gives a list
+    /// of these.
+    ReturnAddress(NonZeroU64),
+}
+
+impl FrameAddress {
+    /// The frame address of an instruction pointer (AVMA).
+    pub fn from_instruction_pointer(ip: u64) -> Self
+        ensures { place_of result ≡ at_instruction_pointer ip }
+    {
+        FrameAddress::InstructionPointer(ip)
+    }
+
+    /// The frame address of a return address (AVMA), or `None` if that is 0.
+    pub fn from_return_address(return_address: u64) -> Option<Self>
+        ensures { MatchOption result (return_address ≡ 0)
+            (λ frame. place_of frame ≡ at_return_address return_address) }
+    {
+        Some(FrameAddress::ReturnAddress(NonZeroU64::new(return_address)?))
+    }
+
+    /// The raw address (AVMA).
+    pub fn address(self) -> u64
+        ensures { result ≡ address_of (place_of self) }
+    {
+        match self {
+            FrameAddress::InstructionPointer(address) => address,
+            FrameAddress::ReturnAddress(address) => address.get(),
+        }
+    }
+
+    /// The address (AVMA) at which unwind information or debug information is to be looked up.
+    ///
+    /// For an instruction pointer that is the address itself. For a return address it is the byte
+    /// before it, which lies inside the call instruction: the call can be the last instruction of
+    /// its function, and the return address then belongs to the next function.
+    pub fn address_for_lookup(self) -> u64
+        ensures { result ≡ lookup_address (place_of self) }
+    {
+        match self {
+            FrameAddress::InstructionPointer(address) => address,
+            FrameAddress::ReturnAddress(address) => address.get() - 1,
+        }
+    }
+
+    /// Whether this address is a return address.
+    pub fn is_return_address(self) -> bool
+        ensures { result ≡ not (is_first_frame (place_of self)) }
+    {
+        match self {
+            FrameAddress::InstructionPointer(_) => false,
+            FrameAddress::ReturnAddress(_) => true,
+        }
+    }
+}
+
+#[cfg(test)]
+mod tests {
+    use super::*;
+    use std::test::Fail;
+
+    #[test]
+    fn looks_up_inside_the_call(rt: HostRuntime) -> Result<(), Fail> {
+        assert_eq!(rt; FrameAddress::from_return_address(0), None);
+        let caller = FrameAddress::from_return_address(0x1000).ok_or("not 0")?;
+        assert_eq!(rt; caller.address(), 0x1000);
+        assert_eq!(rt; caller.address_for_lookup(), 0xfff);
+        assert!(rt; caller.is_return_address());
+        let first = FrameAddress::from_instruction_pointer(0);
+        assert_eq!(rt; first.address(), 0);
+        assert_eq!(rt; first.address_for_lookup(), 0);
+        assert!(rt; !first.is_return_address());
+        Ok(())
+    }
+}

@@ -1,0 +1,85 @@
+ghost use Rattle.std.specs.Prelude.{Some};
+ghost use Rattle.framehop_core.specs.ErrorText.{error_text};
+
+use std::{error, fmt};
+
+/// Why a frame could not be unwound.
+#[derive(Debug, Clone, Copy, PartialEq, Eq)]
+pub enum Error {
+    /// The callback could not read the stack word at this address (AVMA).
+    CouldNotReadStack(u64),
+
+    /// The caller's frame pointer or stack pointer does not lie above the callee's.
+    FramepointerUnwindingMovedBackwards,
+
+    /// The step would give the same frame again.
+    DidNotAdvance,
+
+    /// A stack pointer or a stack address does not fit 64 bits.
+    IntegerOverflow,
+
+    /// A frame answered the return address 0.
+    ReturnAddressIsNull,
+
+    /// Memory was asked for and refused.
+    OutOfMemory,
+}
+
+impl fmt::Display for Error {
+    ghost output = { λ e. Some (error_text e) };
+
+    fn fmt<W: fmt::Write>(&self, f: &mut fmt::Formatter<W>) -> fmt::Result {
+        match self {
+            Error::CouldNotReadStack(address) => {
+                write!(f, "Could not read stack memory at 0x{address:x}")
+            }
+            Error::FramepointerUnwindingMovedBackwards => {
+                write!(f, "Frame pointer unwinding moved backwards")
+            }
+            Error::DidNotAdvance => write!(
+                f,
+                "Neither the code address nor the stack pointer changed, would loop"
+            ),
+            Error::IntegerOverflow => write!(f, "Unwinding caused integer overflow"),
+            Error::ReturnAddressIsNull => write!(f, "Return address is null"),
+            Error::OutOfMemory => write!(f, "Out of memory"),
+        }
+    }
+}
+
+impl error::Error for Error {}
+
+#[cfg(test)]
+mod tests {
+    use super::*;
+    use std::test::Fail;
+
+    #[test]
+    fn prints_each_error(rt: HostRuntime) -> Result<(), Fail> {
+        for (error, text) in [
+            (
+                Error::CouldNotReadStack(0x1003fc0de),
+                "Could not read stack memory at 0x1003fc0de",
+            ),
+            (
+                Error::CouldNotReadStack(0),
+                "Could not read stack memory at 0x0",
+            ),
+            (
+                Error::FramepointerUnwindingMovedBackwards,
+                "Frame pointer unwinding moved backwards",
+            ),
+            (
+                Error::DidNotAdvance,
+                "Neither the code address nor the stack pointer changed, would loop",
+            ),
+            (Error::IntegerOverflow, "Unwinding caused integer overflow"),
+            (Error::ReturnAddressIsNull, "Return address is null"),
+            (Error::OutOfMemory, "Out of memory"),
+        ] {
+            let printed = error.to_string(rt.alloc())?;
+            assert_eq!(rt; printed.as_str(), text);
+        }
+        Ok(())
+    }
+}

@@ -1,0 +1,11 @@
+// The small types that every layer shares: code addresses, errors, registers and unwind rules.
+#![tactic(auto)]
+
+pub mod aarch64;
+pub mod arch;
+pub mod code_address;
+pub mod error;
+pub mod unwind_rule;
+
+pub use code_address::FrameAddress;
+pub use error::Error;
