@@ -1,0 +1,4 @@
+//! Readers of the DWARF call frame sections, and the traits by which a module lends its sections.
+#![tactic(auto)]
+
+pub mod section;
