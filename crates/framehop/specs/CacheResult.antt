@@ -1,0 +1,17 @@
+-- What a lookup answers.
+use Rattle.std.specs.Prelude.{◌≡◌, Bool, true, ⊤}
+use Rattle.framehop.specs.Cache.{Key, Found, hit, empty_slot, wrong_modules, wrong_address}
+use Rattle.framehop.specs.declared.rule_cache.CacheResult.{CacheResult}
+use Rattle.framehop.specs.declared.rule_cache.CacheResult.TheVariants.{Hit, Miss}
+
+-- the rule that was found, or the key for an insert
+abbrev pub result_of : {R : Type 0} → Key → Found R → CacheResult R
+result_of key (hit rule) = Hit rule
+result_of key empty_slot = Miss key
+result_of key wrong_modules = Miss key
+result_of key wrong_address = Miss key
+
+-- a rule that a lookup answers can be run
+abbrev pub HitRuns : {R : Type 0} → (R → Bool) → CacheResult R → Type 0
+HitRuns executable (Hit rule) = executable rule ≡ true
+HitRuns executable (Miss _) = ⊤

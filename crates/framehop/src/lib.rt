@@ -1,0 +1,10 @@
+// A stack frame unwinder: from registers, stack words and the unwind data of loaded modules to
+// the return addresses of a call stack.
+#![tactic(auto)]
+
+pub mod cache;
+pub mod rule_cache;
+
+pub use cache::{AllocationPolicy, MayAllocateDuringUnwind, MustNotAllocateDuringUnwind};
+pub use framehop_core::{Error, FrameAddress};
+pub use rule_cache::CacheStats;
