@@ -1,4 +1,4 @@
-ghost use Rattle.std.specs.Prelude.{◌≡◌, ℕ, Bool, true, IsTrue, MatchResult, IfNone, Result};
+ghost use Rattle.std.specs.Prelude.{◌≡◌, ◌≢◌, ℕ, Bool, true, IsTrue, MatchResult, IfNone, Result};
 ghost use Rattle.framehop_core.specs.Memory.{Memory, AnswersAs};
 ghost use Rattle.framehop_core.specs.Outcome.{Outcome, answer_of, registers_after, word_at, read_of};
 
@@ -78,6 +78,7 @@ pub fn read_stack_word<F: FnMut(u64) -> Result<u64, ()>>(
     ensures callable { F.IsAlwaysCallable read_stack.new }
     ensures read { (reply : Result ℕ (Unit {0})) × F.step read_stack.old address reply read_stack.new
         × (result ≡ read_of address reply) }
+    ensures no_memory_taken { result ≢ Err Error.OutOfMemory }
     ensures answers { (memory : Memory) → AnswersAs F.FnMut read_stack.old memory
         → AnswersAs F.FnMut read_stack.new memory × (result ≡ word_at memory address) }
 {
