@@ -1,6 +1,6 @@
 -- The cache of unwind rules: sets of entries that are found by key (framehop 0.16.0, `RuleCache`; the kind of frame
 -- belongs to the key here).
-use Rattle.std.specs.Prelude.{ℕ, ◌+◌, ◌-◌, ◌^◌, ◌%◌, Bool, not, ◌&&◌, ◌==◌, nat_lt, if◌then◌else◌, min, List, [], ◌∷◌, length, take, filter, find, slice_index_or, slice_set, Option, Some, None}
+use Rattle.std.specs.Prelude.{ℕ, ◌+◌, ◌-◌, ◌^◌, ◌%◌, Bool, not, ◌&&◌, ◌==◌, nat_lt, if◌then◌else◌, min, List, [], ◌∷◌, length, take, filter, find, slice_index_or, slice_set, replicate, Option, Some, None}
 use Rattle.std.specs.List.{list_any}
 use mathlib.Core.Bool.{beq}
 use Rattle.framehop.specs.declared.rule_cache.CacheStats.{CacheStats}
@@ -93,3 +93,10 @@ total_of stats = min (stats.hit_count + misses_of stats) (2 ^ 64 - 1)
 -- how many entries a set holds
 abbrev pub ways : ℕ
 ways = 1
+
+-- a cache as it is made
+abbrev pub no_stats : CacheStats
+no_stats = record { hit_count = 0; miss_empty_slot_count = 0; miss_wrong_modules_count = 0; miss_wrong_address_count = 0 }
+
+abbrev pub empty_cache : {R : Type 0} → CacheView R
+empty_cache = record { sets = replicate CACHE_ENTRY_COUNT []; stats = no_stats }

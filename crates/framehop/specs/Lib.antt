@@ -1,6 +1,10 @@
 pub mod Cache
 pub mod CacheEntry
 pub mod CacheResult
+pub mod Modules
+pub mod Fresh
+pub mod Walk
+pub mod Soundness
 pub use Rattle.framehop_core.specs.Memory
 pub use Rattle.framehop_core.specs.Outcome
 pub use Rattle.framehop_core.specs.CodeAddress

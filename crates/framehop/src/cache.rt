@@ -1,4 +1,10 @@
+ghost use Rattle.std.specs.Prelude.{◌≡◌, IfOk};
+ghost use Rattle.framehop.specs.Cache.{empty_cache};
+
+use crate::rule_cache::{CacheStats, RuleCache};
+use framehop_core::unwind_rule::UnwindRule;
 use std::alloc::{AllocError, Global};
+use std::marker::{Model, PhantomData};
 
 /// Whether unwinding may take memory. The two policies are [`MustNotAllocateDuringUnwind`] and
 /// [`MayAllocateDuringUnwind`].
@@ -20,4 +26,39 @@ pub struct MayAllocateDuringUnwind;
 
 impl AllocationPolicy for MayAllocateDuringUnwind {
     const MAY_ALLOCATE: bool = true;
+}
+
+/// The unwinder cache. It is made before unwinding, and unwinding needs exclusive access to it.
+/// One cache can serve several unwinders in turn.
+#[derive(Drop)]
+pub struct Cache<R: UnwindRule, P: AllocationPolicy = MayAllocateDuringUnwind> {
+    pub(crate) rule_cache: RuleCache<R>,
+    policy: PhantomData<P>,
+}
+
+impl<R: UnwindRule, P: AllocationPolicy> Model for Cache<R, P> {
+    ghost use Rattle.framehop.specs.Cache.{CacheView};
+
+    ghost Value = { CacheView R };
+
+    ghost view = { λ c. c.rule_cache };
+}
+
+impl<R: UnwindRule, P: AllocationPolicy> Cache<R, P> {
+    /// An empty cache. Refused where the memory for it is.
+    pub fn new(alloc: Global) -> Result<Self, AllocError>
+        ensures { IfOk result (λ cache. cache ≡ empty_cache) }
+    {
+        Ok(Cache {
+            rule_cache: RuleCache::new(alloc)?,
+            policy: PhantomData,
+        })
+    }
+
+    /// The counts of the lookups.
+    pub fn stats(&self) -> CacheStats
+        ensures { result ≡ self.now.stats }
+    {
+        self.rule_cache.stats()
+    }
 }

@@ -2,9 +2,12 @@
 // the return addresses of a call stack.
 #![tactic(auto)]
 
+pub mod aarch64;
 pub mod cache;
+pub mod generations;
 pub mod rule_cache;
 
 pub use cache::{AllocationPolicy, MayAllocateDuringUnwind, MustNotAllocateDuringUnwind};
 pub use framehop_core::{Error, FrameAddress};
+pub use generations::Generations;
 pub use rule_cache::CacheStats;

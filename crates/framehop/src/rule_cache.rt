@@ -1,5 +1,5 @@
-ghost use Rattle.std.specs.Prelude.{◌≡◌, ◌^◌, ◌-◌, ◌+◌, min, true, IfOk, replicate, []};
-ghost use Rattle.framehop.specs.Cache.{Key, counted, found, inserted, misses_of, total_of, set_number, ways};
+ghost use Rattle.std.specs.Prelude.{◌≡◌, ◌^◌, ◌-◌, ◌+◌, min, true, IfOk};
+ghost use Rattle.framehop.specs.Cache.{Key, counted, empty_cache, no_stats, found, inserted, misses_of, total_of, set_number, ways};
 ghost use Rattle.framehop.specs.CacheResult.{result_of, HitRuns};
 
 use framehop_core::unwind_rule::UnwindRule;
@@ -35,9 +35,7 @@ impl<R: UnwindRule> Model for RuleCache<R> {
 impl<R: UnwindRule> RuleCache<R> {
     /// A cache with 509 empty slots. Refused where the memory for them is.
     pub fn new(alloc: Global) -> Result<Self, AllocError>
-        ensures { IfOk result (λ cache. cache ≡ record { sets = replicate CACHE_ENTRY_COUNT []; stats = record {
-            hit_count = 0; miss_empty_slot_count = 0; miss_wrong_modules_count = 0; miss_wrong_address_count = 0
-        } }) }
+        ensures { IfOk result (λ cache. cache ≡ empty_cache) }
     {
         let mut entries = Vec::with_capacity(alloc, CACHE_ENTRY_COUNT)?;
         for _slot in 0..CACHE_ENTRY_COUNT {
@@ -179,9 +177,7 @@ pub struct CacheStats {
 impl CacheStats {
     /// Counts that are all 0.
     pub fn new() -> Self
-        ensures { result ≡ record {
-            hit_count = 0; miss_empty_slot_count = 0; miss_wrong_modules_count = 0; miss_wrong_address_count = 0
-        } }
+        ensures { result ≡ no_stats }
     {
         Default::default()
     }

@@ -1,0 +1,157 @@
+-- A lookup in a sound cache, and what an insert leaves standing.
+use Rattle.std.proofs.Common.{eqb-true, ◌≡◌, ℕ, zero, suc, Bool, true, false, not, cond, ◌&&◌, ◌==◌, ◌⊎◌, List, [], ◌∷◌, take, filter, find, slice_index_or, slice_set, Option, Some, None, refl, sym, ap, ◌∙◌, subst, inl, inr, ⊎_elim}
+use mathlib.Core.Bool.{beq}
+use Rattle.framehop_core.specs.CodeAddress.{Place, lookup_address, is_first_frame}
+use Rattle.framehop.specs.Cache.{Key, Entry, Sets, CacheView, Found, hit, empty_slot, wrong_modules, wrong_address, found, found_in, hit_or, inserted, inserted_in, same_key, set_of, set_number, counted, ways}
+use Rattle.framehop.specs.Fresh.{Fresh, by_rule, direct, fresh}
+use Rattle.framehop.specs.Modules.{UnwinderView}
+use Rattle.framehop.specs.Soundness.{Among, Stands, IsFresh, IsSound, Extends, key_of, sets_after, sets_after_miss, cache_after}
+
+-- ---- what is among a list
+
+Among-take : {A : Type 0} (x : A) (n : ℕ) (xs : List A) → Among x (take n xs) → Among x xs
+Among-take x zero xs h = absurd h
+Among-take x (suc n) [] h = h
+Among-take x (suc n) (y ∷ ys) (inl e) = inl e
+Among-take x (suc n) (y ∷ ys) (inr h) = inr (Among-take x n ys h)
+
+Among-kept : {A : Type 0} (x : A) (test : A → Bool) (y : A) (ys : List A) (b : Bool) → (Among x (filter test ys) → Among x ys) → Among x (cond b (y ∷ filter test ys) (filter test ys)) → Among x (y ∷ ys)
+Among-kept x test y ys true rest (inl e) = inl e
+Among-kept x test y ys true rest (inr h) = inr (rest h)
+Among-kept x test y ys false rest h = inr (rest h)
+
+Among-filter : {A : Type 0} (x : A) (test : A → Bool) (ys : List A) → Among x (filter test ys) → Among x ys
+Among-filter x test [] h = h
+Among-filter x test (y ∷ ys) h = Among-kept x test y ys (test y) (Among-filter x test ys) h
+
+Among-found : {A : Type 0} (x y : A) (test : A → Bool) (ys : List A) (b : Bool) → b ≡ test y → (find test ys ≡ Some x → Among x ys × (test x ≡ true)) → cond b (Some y) (find test ys) ≡ Some x → Among x (y ∷ ys) × (test x ≡ true)
+Among-found x y test ys true is rest e = let same : y ≡ x = cc in (inl same, ap test (sym same) ∙ sym is)
+Among-found x y test ys false is rest e = (inr (rest e).0, (rest e).1)
+
+-- what is found is among the list, and passes the test
+Among-find : {A : Type 0} (x : A) (test : A → Bool) (ys : List A) → find test ys ≡ Some x → Among x ys × (test x ≡ true)
+Among-find x test [] e = cc
+Among-find x test (y ∷ ys) e = Among-found x y test ys (test y) refl (Among-find x test ys) e
+
+-- ---- what stands in the sets
+
+Stands-index : {R : Type 0} (entry : Entry R) (sets : Sets R) (i : ℕ) → Among entry (slice_index_or sets i []) → Stands entry sets
+Stands-index entry [] i h = h
+Stands-index entry (set ∷ sets) zero h = inl h
+Stands-index entry (set ∷ sets) (suc i) h = inr (Stands-index entry sets i h)
+
+Stands-set : {R : Type 0} (entry : Entry R) (sets : Sets R) (i : ℕ) (new : List (Entry R)) → Stands entry (slice_set sets i new) → Stands entry sets ⊎ Among entry new
+Stands-set entry [] i new h = inl h
+Stands-set entry (set ∷ sets) zero new (inl h) = inr h
+Stands-set entry (set ∷ sets) zero new (inr h) = inl (inr h)
+Stands-set entry (set ∷ sets) (suc i) new (inl h) = inl (inl h)
+Stands-set entry (set ∷ sets) (suc i) new (inr h) =
+    ⊎_elim (λ old. inl (inr old)) (λ added. inr added) (Stands-set entry sets i new h)
+
+-- among a set with a new entry before what is kept of it
+Among-renewed : {R : Type 0} (entry new : Entry R) (set : List (Entry R)) (kept : Entry R → Bool) → Among entry (new ∷ filter kept set) → Among entry set ⊎ (new ≡ entry)
+Among-renewed entry new set kept (inl e) = inr e
+Among-renewed entry new set kept (inr h) = inl (Among-filter entry kept set h)
+
+Among-inserted : {R : Type 0} (entry new : Entry R) (set : List (Entry R)) → Among entry (inserted_in ways new set) → Among entry set ⊎ (new ≡ entry)
+Among-inserted {R} entry new set h =
+    let kept : Entry R → Bool = λ other. not (same_key other.key new.key) in
+    Among-renewed entry new set kept (Among-take entry ways (new ∷ filter kept set) h)
+
+-- after an insert each entry is the new one, or stood there before
+Stands-inserted : {R : Type 0} (entry new : Entry R) (sets : Sets R) → Stands entry (inserted ways sets new) → Stands entry sets ⊎ (new ≡ entry)
+Stands-inserted entry new sets h =
+    let set = set_of sets new.key.address in
+    let i = set_number new.key.address in
+    ⊎_elim
+      (λ old. inl old)
+      (λ added. ⊎_elim (λ old. inl (Stands-index entry sets i old)) (λ e. inr e) (Among-inserted entry new set added))
+      (Stands-set entry sets i (inserted_in ways new set) h)
+
+-- ---- keys
+
+both-true : (a b : Bool) → (a && b) ≡ true → (a ≡ true) × (b ≡ true)
+both-true true b e = (refl, e)
+both-true false b e = cc
+
+beq-true : (a b : Bool) → beq a b ≡ true → a ≡ b
+beq-true true true e = refl
+beq-true false false e = refl
+beq-true true false e = cc
+beq-true false true e = cc
+
+key-from_parts : (a b : Key) → a.address ≡ b.address → a.generation ≡ b.generation → a.is_first_frame ≡ b.is_first_frame → a ≡ b
+key-from_parts a b p q r = λ i. record { address = p i; generation = q i; is_first_frame = r i }
+
+same_key-true : (a b : Key) → same_key a b ≡ true → a ≡ b
+same_key-true a b h =
+    let outer = both-true ((a.address == b.address) && (a.generation == b.generation)) (beq a.is_first_frame b.is_first_frame) h in
+    let inner = both-true (a.address == b.address) (a.generation == b.generation) outer.0 in
+    key-from_parts a b (eqb-true a.address b.address inner.0) (eqb-true a.generation b.generation inner.1) (beq-true a.is_first_frame b.is_first_frame outer.1)
+
+-- ---- lookups
+
+-- what is not a hit
+miss-no_hit : {R : Type 0} (room other : Bool) (rule : R) → (cond room empty_slot (cond other wrong_address wrong_modules)) ≡ hit rule → ⊥
+miss-no_hit true other rule e = cc
+miss-no_hit false true rule e = cc
+miss-no_hit false false rule e = cc
+
+hit_or-hit : {R : Type 0} (o : Option (Entry R)) (other : Found R) (rule : R) → (other ≡ hit rule → ⊥) → hit_or o other ≡ hit rule → (entry : Entry R) × (o ≡ Some entry) × (entry.rule ≡ rule)
+hit_or-hit (Some entry) other rule none e = (entry, refl, cc)
+hit_or-hit None other rule none e = absurd (none e)
+
+-- a hit is an entry of the key that stands in the sets
+hit-stands : {R : Type 0} (sets : Sets R) (key : Key) (rule : R) → found ways sets key ≡ hit rule → (entry : Entry R) × Stands entry sets × (entry.key ≡ key) × (entry.rule ≡ rule)
+hit-stands {R} sets key rule e =
+    let set = set_of sets key.address in
+    let test : Entry R → Bool = λ entry. same_key entry.key key in
+    let there = hit_or-hit (find test set) _ rule (miss-no_hit _ _ rule) e in
+    let among = Among-find there.0 test set there.1 in
+    (there.0, Stands-index there.0 sets (set_number key.address) among.0, same_key-true there.0.key key among.1, there.2)
+
+module _ {R : Type 0} (Regs : Type 0) (fallback : R) where
+  -- in a sound cache a hit is what the modules give afresh
+  pub fresh-hit : (unwinder : UnwinderView) (sets : Sets R) (place : Place) (rule : R) → IsSound Regs fallback unwinder sets → found ways sets (key_of unwinder place) ≡ hit rule → fresh {Regs = Regs} fallback unwinder.modules (lookup_address place) (is_first_frame place) ≡ by_rule rule
+  fresh-hit unwinder sets place rule sound e =
+      let there = hit-stands sets (key_of unwinder place) rule e in
+      let own = ap (λ key. key.generation) there.2 in
+      let known = (sound.each there.0 there.1 own).rule in
+      ap (λ key. fresh {Regs = Regs} fallback unwinder.modules key.address key.is_first_frame) (sym there.2) ∙ known ∙ ap by_rule there.3
+
+  Extends-refl : (unwinder : UnwinderView) (sets : Sets R) → Extends Regs fallback unwinder sets sets
+  Extends-refl unwinder sets = record { each = λ entry h. inl h }
+
+  Extends-miss : (unwinder : UnwinderView) (sets : Sets R) (place : Place) (answer : Fresh R Regs) → fresh fallback unwinder.modules (lookup_address place) (is_first_frame place) ≡ answer → Extends Regs fallback unwinder sets (sets_after_miss sets (key_of unwinder place) answer)
+  Extends-miss unwinder sets place (by_rule rule) is = record {
+      each = λ entry h.
+        ⊎_elim
+          (λ old. inl old)
+          (λ e. inr (subst (IsFresh Regs fallback unwinder) e (record { generation = refl; rule = is })))
+          (Stands-inserted entry (record { key = key_of unwinder place; rule = rule }) sets h)
+    }
+  Extends-miss unwinder sets place (direct values) is = Extends-refl unwinder sets
+
+  Extends-found : (unwinder : UnwinderView) (sets : Sets R) (place : Place) (seen : Found R) → Extends Regs fallback unwinder sets (sets_after {Regs = Regs} sets (key_of unwinder place) seen (fresh fallback unwinder.modules (lookup_address place) (is_first_frame place)))
+  Extends-found unwinder sets place (hit rule) = Extends-refl unwinder sets
+  Extends-found unwinder sets place empty_slot = Extends-miss unwinder sets place _ refl
+  Extends-found unwinder sets place wrong_modules = Extends-miss unwinder sets place _ refl
+  Extends-found unwinder sets place wrong_address = Extends-miss unwinder sets place _ refl
+
+  -- a step extends the cache by what the modules give afresh
+  pub Extends-after : (unwinder : UnwinderView) (cache : CacheView R) (place : Place) → Extends Regs fallback unwinder cache.sets (cache_after Regs fallback unwinder cache place).sets
+  unfolding cache_after
+  Extends-after unwinder cache place = Extends-found unwinder cache.sets place (found ways cache.sets (key_of unwinder place))
+
+  -- a cache stays sound for each unwinder that has other modules only under another generation
+  pub IsSound-extended : (unwinder other : UnwinderView) (old new : Sets R) → (unwinder.generation ≡ other.generation → unwinder.modules ≡ other.modules) → Extends Regs fallback unwinder old new → IsSound Regs fallback other old → IsSound Regs fallback other new
+  IsSound-extended unwinder other old new apart extends sound = record {
+      each = λ entry h own.
+        ⊎_elim
+          (λ before. sound.each entry before own)
+          (λ added. record {
+            generation = own;
+            rule = ap (λ modules. fresh {Regs = Regs} fallback modules entry.key.address entry.key.is_first_frame) (sym (apart (sym added.generation ∙ own))) ∙ added.rule
+          })
+          (extends.each entry h)
+    }

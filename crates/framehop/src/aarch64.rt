@@ -1,0 +1,5 @@
+// Types for unwinding on the aarch64 CPU architecture.
+pub mod cache;
+
+pub use cache::CacheAarch64;
+pub use framehop_core::aarch64::{ArchAarch64, PtrAuthMask, UnwindRegsAarch64, UnwindRuleAarch64};
