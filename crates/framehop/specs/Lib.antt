@@ -2,6 +2,7 @@ pub mod Cache
 pub mod CacheEntry
 pub mod CacheResult
 pub mod Modules
+pub mod UnwindData
 pub mod Fresh
 pub mod Walk
 pub mod Soundness

@@ -1,0 +1,7 @@
+use Rattle.std.proofs.Common.{◌≡◌, max, drop}
+use Rattle.framehop.specs.Modules.{greatest_end}
+use Rattle.framehop.proofs.unwinder.UnwinderInternal.max_known_code_address.Given as goal
+
+abbrev pub invariant-loop-module : goal.invariant-loop-module
+invariant-loop-module g l =
+    max l.greatest (greatest_end (drop l.module-index l.module-items)) ≡ greatest_end l.module-items

@@ -1,0 +1,251 @@
+ghost use Rattle.std.specs.Prelude.{◌≡◌, ◌≢◌, ℕ, ◌+◌, ◌-◌, ◌^◌, ◌<◌, ◌↔◌, true, false, IfOk, IfErr, IfSome, IfNone, OnOk, IsErrAnd, MatchOption, MatchResult, SomeIff, string_bytes, slice_get, length, take, drop, ◌≤◌, Option, []};
+ghost use Rattle.std.specs.List.Sorted.{IsPartitionPoint};
+ghost use Rattle.framehop.specs.Modules.{ModuleView, UnwinderView, no_unwind_data, starting_by, starting_above, with_module, starts_by, covers, covering, greatest_end};
+
+use crate::cache::AllocationPolicy;
+use crate::generations::Generations;
+use framehop_core::arch::Arch;
+use framehop_cfi::section::{ModuleSectionInfo, SectionBytes};
+use std::alloc::{AllocError, Global};
+use std::marker::{Model, PhantomData};
+use std::ops::Range;
+use std::rc::Rc;
+use thiserror::Error;
+
+/// Why a module could not be made, or the list of an unwinder's modules not be changed.
+#[derive(Clone, Copy, Debug, PartialEq, Eq, Error)]
+pub enum ModuleListError {
+    /// Memory was asked for and refused.
+    #[error("Out of memory")]
+    OutOfMemory,
+
+    /// The counter of generations is at its end.
+    #[error("Generations exhausted")]
+    GenerationsExhausted,
+}
+
+/// A module that was not added, and why.
+#[derive(Drop)]
+pub struct RefusedModule<M> {
+    pub module: M,
+    pub cause: ModuleListError,
+}
+
+/// A module that is loaded in a process, as an executable or a library: its addresses, and its
+/// unwind data.
+#[derive(Drop)]
+pub struct Module<D: SectionBytes> {
+    name: String,
+    avma_range: Range<u64>,
+    base_avma: u64,
+    base_svma: u64,
+    unwind_data: Rc<ModuleUnwindDataInternal<D>>,
+}
+
+/// What unwind data a module has. Clones of a module share it.
+#[derive(Drop)]
+enum ModuleUnwindDataInternal<D> {
+    None(PhantomData<D>),
+}
+
+impl<D: SectionBytes> Model for Module<D> {
+    ghost use Rattle.std.specs.Prelude.{string_bytes};
+    ghost use Rattle.framehop.specs.Modules.{ModuleView};
+
+    ghost Value = { ModuleView };
+
+    ghost use Rattle.framehop.specs.UnwindData.{unwind_data_of};
+
+    ghost view = { λ m. record {
+        name = string_bytes m.name;
+        start = m.avma_range.start;
+        end = m.avma_range.end;
+        base_avma = m.base_avma;
+        base_svma = m.base_svma;
+        unwind_data = unwind_data_of m.unwind_data.value;
+    } };
+}
+
+impl<D: SectionBytes> Module<D> {
+    /// A module of the name that is loaded at the addresses (AVMAs) from `avma_range.start` to
+    /// below `avma_range.end`. Its relative address 0 is `base_avma`. The sections are asked for
+    /// the unwind data. Refused with `OutOfMemory` alone.
+    pub fn new<I: ModuleSectionInfo<D> + Drop>(
+        alloc: Global,
+        name: String,
+        avma_range: Range<u64>,
+        base_avma: u64,
+        section_info: I,
+    ) -> Result<Self, ModuleListError>
+        ensures made { IfOk result (λ made. made ≡ record {
+            name = string_bytes name;
+            start = avma_range.start;
+            end = avma_range.end;
+            base_avma = base_avma;
+            base_svma = (I.table section_info).base_svma;
+            unwind_data = no_unwind_data;
+        }) }
+        ensures refused { IfErr result (λ error. error ≡ ModuleListError.OutOfMemory) }
+    {
+        let base_svma = section_info.base_svma();
+        let Ok(unwind_data) = Rc::new(alloc, ModuleUnwindDataInternal::None(PhantomData)) else {
+            return Err(ModuleListError::OutOfMemory);
+        };
+        Ok(Module {
+            name,
+            avma_range,
+            base_avma,
+            base_svma,
+            unwind_data,
+        })
+    }
+
+    /// The module's addresses (AVMAs).
+    pub fn avma_range(&self) -> Range<u64>
+        ensures start { result.start ≡ self.now.start }
+        ensures end { result.end ≡ self.now.end }
+    {
+        self.avma_range.start..self.avma_range.end
+    }
+
+    /// The address (AVMA) of the module's relative address 0.
+    pub fn base_avma(&self) -> u64
+        ensures { result ≡ self.now.base_avma }
+    {
+        self.base_avma
+    }
+
+    /// The module's name.
+    pub fn name(&self) -> &str
+        ensures { result.now ≡ self.now.name }
+    {
+        self.name.as_str()
+    }
+
+    // whether the module starts at or below the address
+    fn starts_by(&self, address: u64) -> bool
+        ensures { result ≡ starts_by address self.now }
+    {
+        self.avma_range.start <= address
+    }
+
+    // the relative address of an address (AVMA) that the module covers
+    fn relative_address(&self, address: u64) -> Option<u32>
+        ensures { SomeIff result (covers address self.now ≡ true) (address - self.now.base_avma) }
+    {
+        if address != self.avma_range.start && self.avma_range.end <= address {
+            return None;
+        }
+        u32::try_from(address.checked_sub(self.base_avma)?).ok()
+    }
+}
+
+/// The modules of one process, and unwinding by them, for any architecture.
+#[derive(Drop)]
+pub struct UnwinderInternal<D: SectionBytes, A: Arch, P: AllocationPolicy> {
+    modules: Vec<Module<D>>,
+    modules_generation: u64,
+    arch: PhantomData<A>,
+    allocation_policy: PhantomData<P>,
+}
+
+impl<D: SectionBytes, A: Arch, P: AllocationPolicy> Model for UnwinderInternal<D, A, P> {
+    ghost use Rattle.framehop.specs.Modules.{UnwinderView, AreInOrder};
+
+    ghost Value = { UnwinderView };
+
+    ghost view = { λ u. record { modules = u.modules.items; generation = u.modules_generation } };
+
+    ghost invariant = { λ u. AreInOrder u.modules.items };
+}
+
+impl<D: SectionBytes + Drop, A: Arch, P: AllocationPolicy> UnwinderInternal<D, A, P> {
+    /// An unwinder without modules, of the next generation. It takes no memory, and is refused at
+    /// the counter's end alone.
+    pub fn new(alloc: Global, generations: &mut Generations) -> Result<Self, ModuleListError>
+        ensures { MatchResult result
+            (λ made. (made ≡ record { modules = []; generation = generations.old })
+                × (generations.new ≡ generations.old + 1) × (generations.old < 2 ^ 64 - 1))
+            (λ error. (error ≡ ModuleListError.GenerationsExhausted)
+                × (generations.old ≡ 2 ^ 64 - 1) × (generations.new ≡ generations.old)) }
+    {
+        let Some(modules_generation) = generations.next() else {
+            return Err(ModuleListError::GenerationsExhausted);
+        };
+        Ok(UnwinderInternal {
+            modules: Vec::new(alloc),
+            modules_generation,
+            arch: PhantomData,
+            allocation_policy: PhantomData,
+        })
+    }
+
+    // the place behind the modules that start at or below the address
+    fn place_behind(&self, address: u64) -> usize
+        ensures within { result ≤ length self.now.modules }
+        ensures point { IsPartitionPoint (λ m. starts_by address m ≡ true) (λ m. starts_by address m ≡ false) self.now.modules result }
+        ensures before { take result self.now.modules ≡ starting_by address self.now.modules }
+        ensures behind { drop result self.now.modules ≡ starting_above address self.now.modules }
+    {
+        self.modules
+            .as_slice()
+            .partition_point(|module| module.starts_by(address))
+    }
+
+    // the covering module of an address: its index, and the relative address
+    fn find_module_for_address(&self, address: u64) -> Option<(usize, u32)>
+        ensures { MatchOption result (covering self.now.modules address ≡ None)
+            (λ found. (m : ModuleView) × (covering self.now.modules address ≡ Some m)
+                × (slice_get self.now.modules found.0 ≡ Some m) × (found.1 ≡ address - m.base_avma)) }
+    {
+        let index = self.place_behind(address).checked_sub(1)?;
+        let relative_address = self.modules[index].relative_address(address)?;
+        Some((index, relative_address))
+    }
+
+    /// Adds a module, behind those of equal start, and takes the next generation. The module comes
+    /// back where the counter is at its end (tested first) or memory is refused; then the unwinder
+    /// and the counter are unchanged.
+    pub fn add_module(
+        &mut self,
+        module: Module<D>,
+        generations: &mut Generations,
+    ) -> Result<(), RefusedModule<Module<D>>>
+        ensures added { OnOk result (
+            (self.new ≡ record { modules = with_module «module» self.old.modules; generation = generations.old })
+            × (generations.new ≡ generations.old + 1)) }
+        ensures refused { IfErr result (λ back. (back.module ≡ «module») × (self.new ≡ self.old)
+            × (generations.new ≡ generations.old)) }
+        ensures exhausted { (generations.old ≡ 2 ^ 64 - 1)
+            ↔ IsErrAnd result (λ back. back.cause ≡ ModuleListError.GenerationsExhausted) }
+    {
+        if generations.is_exhausted() {
+            return Err(RefusedModule {
+                module,
+                cause: ModuleListError::GenerationsExhausted,
+            });
+        }
+        let index = self.place_behind(module.avma_range.start);
+        if let Err(refused) = self.modules.insert(index, module) {
+            return Err(RefusedModule {
+                module: refused.value,
+                cause: ModuleListError::OutOfMemory,
+            });
+        }
+        if let Some(generation) = generations.next() {
+            self.modules_generation = generation;
+        }
+        Ok(())
+    }
+
+    /// The greatest end of a module (AVMA), or 0 without modules.
+    pub fn max_known_code_address(&self) -> u64
+        ensures { result ≡ greatest_end self.now.modules }
+    {
+        let mut greatest = 0;
+        for module in self.modules.iter() {
+            greatest = module.avma_range.end.max(greatest);
+        }
+        greatest
+    }
+}
