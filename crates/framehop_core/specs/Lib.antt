@@ -1,3 +1,4 @@
+pub mod AddSigned
 pub mod ErrorText
 pub mod Memory
 pub mod CodeAddress

@@ -2,8 +2,10 @@
 #![tactic(auto)]
 
 pub mod aarch64;
+pub mod add_signed;
 pub mod arch;
 pub mod code_address;
+pub mod display_utils;
 pub mod error;
 pub mod unwind_rule;
 
