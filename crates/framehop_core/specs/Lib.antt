@@ -4,3 +4,4 @@ pub mod Memory
 pub mod CodeAddress
 pub mod Outcome
 pub mod Aarch64
+pub mod X86_64

@@ -8,6 +8,7 @@ pub mod code_address;
 pub mod display_utils;
 pub mod error;
 pub mod unwind_rule;
+pub mod x86_64;
 
 pub use code_address::FrameAddress;
 pub use error::Error;
