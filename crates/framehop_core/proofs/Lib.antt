@@ -1,2 +1,3 @@
+mod RegisterFile
 pub mod Callback
 mod Masks

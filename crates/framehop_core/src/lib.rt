@@ -2,10 +2,13 @@
 #![tactic(auto)]
 
 pub mod aarch64;
+pub mod add_signed;
 pub mod arch;
 pub mod code_address;
+pub mod display_utils;
 pub mod error;
 pub mod unwind_rule;
+pub mod x86_64;
 
 pub use code_address::FrameAddress;
 pub use error::Error;

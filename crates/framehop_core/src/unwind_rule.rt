@@ -1,7 +1,8 @@
-ghost use Rattle.std.specs.Prelude.{◌≡◌, ◌≢◌, ℕ, Bool, true, IsTrue, MatchResult, IfNone, Result};
+ghost use Rattle.std.specs.Prelude.{◌≡◌, ◌≢◌, ℕ, ◌≤◌, ◌+ℤ◌, ◌*ℤ◌, pos, Bool, true, IsTrue, MatchResult, IfOk, OnSome, IfNone, Result};
 ghost use Rattle.framehop_core.specs.Memory.{Memory, AnswersAs};
-ghost use Rattle.framehop_core.specs.Outcome.{Outcome, answer_of, registers_after, word_at, read_of};
+ghost use Rattle.framehop_core.specs.Outcome.{Outcome, answer_of, registers_after, and_then, address_at, word_at, read_of};
 
+use crate::add_signed::checked_add_signed;
 use crate::error::Error;
 use std::fmt;
 
@@ -13,6 +14,10 @@ pub trait UnwindRule: Copy + fmt::Debug {
 
     // what the rule does in a first frame (`true`) or another, over registers and memory
     ghost outcome: { Self → Bool → Self.UnwindRegs → Memory → Outcome Self.UnwindRegs };
+
+    // what a step that answers an address does to the registers, whatever the callback replies:
+    // of a first frame (`true`) or another, before and after
+    ghost advances: { Bool → Self.UnwindRegs → Self.UnwindRegs → Type 0 };
 
     // whether the rule can be run; the others are made by no function of this library
     ghost executable: { Self → Bool };
@@ -40,6 +45,9 @@ pub trait UnwindRule: Copy + fmt::Debug {
         ensures kept { MatchResult result
             (λ answer. IfNone answer (regs.new ≡ regs.old))
             (λ _. regs.new ≡ regs.old) }
+        ensures advances { IfOk result
+            (λ answer. OnSome answer (advances is_first_frame regs.old regs.new)) }
+        ensures no_memory_taken { result ≢ Err Error.OutOfMemory }
         ensures answers { (memory : Memory) → AnswersAs F.FnMut read_stack.old memory
             → AnswersAs F.FnMut read_stack.new memory
             × (result ≡ answer_of (outcome self is_first_frame regs.old memory))
@@ -86,4 +94,39 @@ pub fn read_stack_word<F: FnMut(u64) -> Result<u64, ()>>(
         Ok(word) => Ok(word),
         Err(()) => Err(Error::CouldNotReadStack(address)),
     }
+}
+
+/// The address at this many bytes above another. `IntegerOverflow` where it does not fit 64 bits.
+#[inline(always)]
+pub(crate) fn offset_address(base: u64, offset: u64) -> Result<u64, Error>
+    ensures address { result ≡ address_at (pos base +ℤ pos offset) }
+    ensures not_below { IfOk result (λ address. base ≤ address) }
+{
+    base.checked_add(offset).ok_or(Error::IntegerOverflow)
+}
+
+/// The address at this many words of 8 bytes from another. `IntegerOverflow` where it does not
+/// fit 64 bits.
+#[inline(always)]
+pub(crate) fn address_beside(base: u64, offset_by_8: i16) -> Result<u64, Error>
+    ensures { result ≡ address_at (pos base +ℤ offset_by_8 *ℤ pos 8) }
+{
+    checked_add_signed(base, i64::from(offset_by_8) * 8).ok_or(Error::IntegerOverflow)
+}
+
+/// Reads the stack word at this many words of 8 bytes from the address (AVMA).
+#[inline(always)]
+pub(crate) fn read_word_beside<F: FnMut(u64) -> Result<u64, ()>>(
+    read_stack: &mut F,
+    base: u64,
+    offset_by_8: i16,
+) -> Result<u64, Error>
+    requires { F.IsAlwaysCallable read_stack.old }
+    ensures callable { F.IsAlwaysCallable read_stack.new }
+    ensures no_memory_taken { result ≢ Err Error.OutOfMemory }
+    ensures answers { (memory : Memory) → AnswersAs F.FnMut read_stack.old memory
+        → AnswersAs F.FnMut read_stack.new memory
+        × (result ≡ and_then (address_at (pos base +ℤ offset_by_8 *ℤ pos 8)) (word_at memory)) }
+{
+    read_stack_word(read_stack, address_beside(base, offset_by_8)?)
 }

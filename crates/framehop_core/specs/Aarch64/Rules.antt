@@ -1,12 +1,12 @@
 -- What the unwind rules of aarch64 do, as a table (framehop 0.16.0, documentation of `UnwindRuleAarch64`).
-use Rattle.std.specs.Prelude.{ℕ, ℤ, pos, ◌+ℤ◌, Bool, true, false, not, ◌&&◌, ◌||◌, ◌==◌, if◌then◌else◌, nat_le, Result, Ok}
+use Rattle.std.specs.Prelude.{◌≡◌, ℕ, ◌*◌, ◌<◌, ◌≤◌, ℤ, pos, ◌+ℤ◌, ◌*ℤ◌, Bool, true, false, not, ◌&&◌, ◌||◌, ◌==◌, if◌then◌else◌, nat_le, OnSome, IfOk, Option, Result, Ok}
 use Rattle.framehop_core.specs.Memory.{Memory}
 use Rattle.framehop_core.specs.Outcome.{Outcome, answered, root, refused, after, and_then, address_at, word_at}
 use Rattle.framehop_core.specs.Aarch64.Registers.{Registers, strip_ptr_auth}
 use Rattle.framehop_core.specs.declared.error.Error.{Error}
 use Rattle.framehop_core.specs.declared.error.Error.TheVariants.{DidNotAdvance, FramepointerUnwindingMovedBackwards}
 use Rattle.framehop_core.specs.declared.aarch64.unwind_rule.UnwindRuleAarch64.{UnwindRuleAarch64}
-use Rattle.framehop_core.specs.declared.aarch64.unwind_rule.UnwindRuleAarch64.TheVariants.{NoOp, UseFramePointer}
+use Rattle.framehop_core.specs.declared.aarch64.unwind_rule.UnwindRuleAarch64.TheVariants.{NoOp, NoOpIfFirstFrameOtherwiseFp, OffsetSp, OffsetSpIfFirstFrameOtherwiseStackEndsHere, OffsetSpAndRestoreLr, OffsetSpAndRestoreFpAndLr, UseFramePointer, UseFramepointerWithOffsets}
 
 -- where the caller's value of a register is: still in the register, or in the stack word at an address
 pub data Source : Type 0 where
@@ -16,19 +16,43 @@ pub data Source : Type 0 where
 -- what is asked of the caller's frame, beside that it is another frame
 pub data Demand : Type 0 where
   nothing_more : Demand
+  stack_pointer_rises : Demand
   frame_pointer_rises : Demand
 
--- A line of the table: there is no caller's frame to be had, or the caller's sp, lr and fp are here.
+-- A line of the table: there is no caller's frame to be had, or the stack ends here, or the caller's sp, lr and fp
+-- are here.
 pub data Line : Type 0 where
   no_advance : Line
+  stack_end : Line
   caller : ℤ → Source → Source → Demand → Line
+
+-- the address at this many bytes, or words of eight bytes, from a register
+abbrev pub above : ℕ → ℕ → ℤ
+above register bytes = pos register +ℤ pos bytes
+
+abbrev pub beside : ℕ → ℤ → ℤ
+beside register words = pos register +ℤ words *ℤ pos 8
 
 -- the table: of a rule in a first frame (`true`) or another, over the registers
 abbrev pub line_of : UnwindRuleAarch64 → Bool → Registers → Line
 line_of NoOp true r = caller (pos r.sp) (kept r.lr) (kept r.fp) nothing_more
 line_of NoOp false r = no_advance
+line_of NoOpIfFirstFrameOtherwiseFp true r = caller (pos r.sp) (kept r.lr) (kept r.fp) nothing_more
+line_of NoOpIfFirstFrameOtherwiseFp false r =
+    caller (above r.fp 16) (stored_at (above r.fp 8)) (stored_at (pos r.fp)) stack_pointer_rises
+line_of (OffsetSp x) true r = caller (above r.sp (x * 16)) (kept r.lr) (kept r.fp) nothing_more
+line_of (OffsetSp x) false r = no_advance
+line_of (OffsetSpIfFirstFrameOtherwiseStackEndsHere x) true r =
+    caller (above r.sp (x * 16)) (kept r.lr) (kept r.fp) nothing_more
+line_of (OffsetSpIfFirstFrameOtherwiseStackEndsHere x) false r = stack_end
+line_of (OffsetSpAndRestoreLr x z) first r =
+    caller (above r.sp (x * 16)) (stored_at (beside r.sp z)) (kept r.fp) nothing_more
+line_of (OffsetSpAndRestoreFpAndLr x y z) first r =
+    caller (above r.sp (x * 16)) (stored_at (beside r.sp z)) (stored_at (beside r.sp y)) nothing_more
 line_of UseFramePointer first r =
-    caller (pos r.fp +ℤ pos 16) (stored_at (pos r.fp +ℤ pos 8)) (stored_at (pos r.fp)) frame_pointer_rises
+    caller (above r.fp 16) (stored_at (above r.fp 8)) (stored_at (pos r.fp)) frame_pointer_rises
+line_of (UseFramepointerWithOffsets x y z) first r =
+    caller (above r.fp (x * 8)) (stored_at (beside r.fp z)) (stored_at (beside r.fp y)) frame_pointer_rises
 
 -- the value from a source: a stack word is read at its address
 abbrev pub value_from : Memory → Source → Result ℕ Error
@@ -38,6 +62,8 @@ value_from memory (stored_at address) = and_then (address_at address) (word_at m
 -- the test of a demand, before what follows it
 abbrev pub demanded : Demand → Registers → ℕ → ℕ → Outcome Registers → Outcome Registers
 demanded nothing_more r sp fp next = next
+demanded stack_pointer_rises r sp fp next =
+    if nat_le sp r.sp then refused FramepointerUnwindingMovedBackwards else next
 demanded frame_pointer_rises r sp fp next =
     if fp == 0 then root
     else (if nat_le fp r.fp || nat_le sp r.sp then refused FramepointerUnwindingMovedBackwards
@@ -55,6 +81,7 @@ finished first r sp lr fp =
 -- what a line of the table gives, its parts taken in order: sp, lr, fp, the demand, the last step
 abbrev pub outcome_of_line : Line → Bool → Registers → Memory → Outcome Registers
 outcome_of_line no_advance first r memory = refused DidNotAdvance
+outcome_of_line stack_end first r memory = root
 outcome_of_line (caller sp lr fp demand) first r memory =
     after (address_at sp) (λ new_sp.
     after (value_from memory lr) (λ new_lr.
@@ -64,3 +91,12 @@ outcome_of_line (caller sp lr fp demand) first r memory =
 -- what a rule does to a frame of this kind (`true`: the first frame), over registers and memory
 abbrev pub outcome : UnwindRuleAarch64 → Bool → Registers → Memory → Outcome Registers
 outcome rule first r memory = outcome_of_line (line_of rule first r) first r memory
+
+-- a step to the caller's frame: sp does not fall, and it rises in a frame that is not the first
+pub record Advances (first : Bool) (callee caller : Registers) : Type 0 where
+  pub not_below : callee.sp ≤ caller.sp
+  pub rises : first ≡ false → callee.sp < caller.sp
+
+-- where a call has answered an address, the registers have advanced
+abbrev pub AdvancesWhereAnswered : Bool → Result (Option ℕ) Error → Registers → Registers → Type 0
+AdvancesWhereAnswered first result old new = IfOk result (λ answer. OnSome answer (Advances first old new))

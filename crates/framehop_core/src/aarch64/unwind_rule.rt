@@ -1,30 +1,76 @@
-ghost use Rattle.std.specs.Prelude.{◌≡◌, MatchResult, IfNone};
-ghost use Rattle.framehop_core.specs.Aarch64.Rules.{finished};
+ghost use Rattle.std.specs.Prelude.{◌≡◌, ◌≤◌, MatchResult, IfNone};
+ghost use Rattle.framehop_core.specs.Aarch64.Rules.{finished, demanded, frame_pointer_rises, AdvancesWhereAnswered};
 ghost use Rattle.framehop_core.specs.Outcome.{answer_of, registers_after};
 
 use super::unwindregs::UnwindRegsAarch64;
 use crate::error::Error;
-use crate::unwind_rule::{UnwindRule, read_stack_word};
+use crate::unwind_rule::{UnwindRule, offset_address, read_stack_word, read_word_beside};
 
 /// How to get from the registers of a frame to those of its caller, on aarch64.
+///
+/// A field whose name ends in `by_16` or `by_8` counts units of that many bytes: here `x` stands
+/// for the offset of sp, `y` and `z` for those of the stored fp and lr, all in bytes.
 #[derive(Clone, Copy, Debug, PartialEq, Eq)]
 pub enum UnwindRuleAarch64 {
     /// `(sp, fp, lr) = (sp, fp, lr)`, in a first frame only: any other frame must get its return
     /// address from somewhere else than lr, or the walk would not end.
     NoOp,
 
+    /// `(sp, fp, lr) = (sp, fp, lr)` in a first frame, else `(fp + 16, *fp, *(fp + 8))`.
+    ///
+    /// This serves an address inside a module for which the unwind data has nothing.
+    NoOpIfFirstFrameOtherwiseFp,
+
+    /// `(sp, fp, lr) = (sp + x, fp, lr)`, in a first frame only, for the reason given at `NoOp`.
+    OffsetSp {
+        sp_offset_by_16: u16,
+    },
+
+    /// `(sp, fp, lr) = (sp + x, fp, lr)` in a first frame; any other frame is the root.
+    ///
+    /// DWARF data that leaves the return address undefined can mean two things: that lr still has
+    /// it, which only a first frame allows, or that there is no caller.
+    OffsetSpIfFirstFrameOtherwiseStackEndsHere {
+        sp_offset_by_16: u16,
+    },
+
+    /// `(sp, fp, lr) = (sp + x, fp, *(sp + z))`
+    OffsetSpAndRestoreLr {
+        sp_offset_by_16: u16,
+        lr_storage_offset_from_sp_by_8: i16,
+    },
+
+    /// `(sp, fp, lr) = (sp + x, *(sp + y), *(sp + z))`
+    OffsetSpAndRestoreFpAndLr {
+        sp_offset_by_16: u16,
+        fp_storage_offset_from_sp_by_8: i16,
+        lr_storage_offset_from_sp_by_8: i16,
+    },
+
     /// `(sp, fp, lr) = (fp + 16, *fp, *(fp + 8))`
+    ///
+    /// A function with a frame pointer stores the caller's fp and lr next to each other on the
+    /// stack, and sets fp to the address of that pair.
     UseFramePointer,
+
+    /// `(sp, fp, lr) = (fp + x, *(fp + y), *(fp + z))`
+    UseFramepointerWithOffsets {
+        sp_offset_from_fp_by_8: u16,
+        fp_storage_offset_from_fp_by_8: i16,
+        lr_storage_offset_from_fp_by_8: i16,
+    },
 }
 
 impl UnwindRule for UnwindRuleAarch64 {
     ghost use Rattle.std.specs.Prelude.{true, refl};
-    ghost use Rattle.framehop_core.specs.Aarch64.Rules.{outcome};
+    ghost use Rattle.framehop_core.specs.Aarch64.Rules.{outcome, Advances};
     ghost use Rattle.framehop_core.specs.declared.aarch64.unwind_rule.UnwindRuleAarch64.TheVariants.{NoOp, UseFramePointer};
 
     type UnwindRegs = UnwindRegsAarch64;
 
     ghost outcome = { outcome };
+
+    ghost advances = { Advances };
 
     ghost executable = { λ _. true };
 
@@ -59,17 +105,65 @@ impl UnwindRule for UnwindRuleAarch64 {
                 }
                 finish(is_first_frame, regs, sp, lr, fp)
             }
-            UnwindRuleAarch64::UseFramePointer => {
-                let new_sp = fp.checked_add(16).ok_or(Error::IntegerOverflow)?;
+            UnwindRuleAarch64::NoOpIfFirstFrameOtherwiseFp => {
+                if is_first_frame {
+                    return finish(is_first_frame, regs, sp, lr, fp);
+                }
+                let new_sp = offset_address(fp, 16)?;
                 let new_lr = read_stack_word(read_stack, fp + 8)?;
                 let new_fp = read_stack_word(read_stack, fp)?;
-                if new_fp == 0 {
-                    return Ok(None);
-                }
-                if new_fp <= fp || new_sp <= sp {
+                if new_sp <= sp {
                     return Err(Error::FramepointerUnwindingMovedBackwards);
                 }
                 finish(is_first_frame, regs, new_sp, new_lr, new_fp)
+            }
+            UnwindRuleAarch64::OffsetSp { sp_offset_by_16 } => {
+                if !is_first_frame {
+                    return Err(Error::DidNotAdvance);
+                }
+                let new_sp = offset_address(sp, u64::from(sp_offset_by_16) * 16)?;
+                finish(is_first_frame, regs, new_sp, lr, fp)
+            }
+            UnwindRuleAarch64::OffsetSpIfFirstFrameOtherwiseStackEndsHere { sp_offset_by_16 } => {
+                if !is_first_frame {
+                    return Ok(None);
+                }
+                let new_sp = offset_address(sp, u64::from(sp_offset_by_16) * 16)?;
+                finish(is_first_frame, regs, new_sp, lr, fp)
+            }
+            UnwindRuleAarch64::OffsetSpAndRestoreLr {
+                sp_offset_by_16,
+                lr_storage_offset_from_sp_by_8,
+            } => {
+                let new_sp = offset_address(sp, u64::from(sp_offset_by_16) * 16)?;
+                let new_lr = read_word_beside(read_stack, sp, lr_storage_offset_from_sp_by_8)?;
+                finish(is_first_frame, regs, new_sp, new_lr, fp)
+            }
+            UnwindRuleAarch64::OffsetSpAndRestoreFpAndLr {
+                sp_offset_by_16,
+                fp_storage_offset_from_sp_by_8,
+                lr_storage_offset_from_sp_by_8,
+            } => {
+                let new_sp = offset_address(sp, u64::from(sp_offset_by_16) * 16)?;
+                let new_lr = read_word_beside(read_stack, sp, lr_storage_offset_from_sp_by_8)?;
+                let new_fp = read_word_beside(read_stack, sp, fp_storage_offset_from_sp_by_8)?;
+                finish(is_first_frame, regs, new_sp, new_lr, new_fp)
+            }
+            UnwindRuleAarch64::UseFramePointer => {
+                let new_sp = offset_address(fp, 16)?;
+                let new_lr = read_stack_word(read_stack, fp + 8)?;
+                let new_fp = read_stack_word(read_stack, fp)?;
+                finish_at_frame_pointer(is_first_frame, regs, new_sp, new_lr, new_fp)
+            }
+            UnwindRuleAarch64::UseFramepointerWithOffsets {
+                sp_offset_from_fp_by_8,
+                fp_storage_offset_from_fp_by_8,
+                lr_storage_offset_from_fp_by_8,
+            } => {
+                let new_sp = offset_address(fp, u64::from(sp_offset_from_fp_by_8) * 8)?;
+                let new_lr = read_word_beside(read_stack, fp, lr_storage_offset_from_fp_by_8)?;
+                let new_fp = read_word_beside(read_stack, fp, fp_storage_offset_from_fp_by_8)?;
+                finish_at_frame_pointer(is_first_frame, regs, new_sp, new_lr, new_fp)
             }
         }
     }
@@ -91,6 +185,29 @@ impl UnwindRule for UnwindRuleAarch64 {
     }
 }
 
+/// The last step of a rule that goes by a frame pointer: the caller's frame pointer is 0 at the
+/// root, and otherwise it and the stack pointer lie above the callee's.
+#[inline(always)]
+fn finish_at_frame_pointer(
+    is_first_frame: bool,
+    regs: &mut UnwindRegsAarch64,
+    new_sp: u64,
+    new_lr: u64,
+    new_fp: u64,
+) -> Result<Option<u64>, Error>
+    ensures answer { result ≡ answer_of (demanded frame_pointer_rises regs.old new_sp new_fp (finished is_first_frame regs.old new_sp new_lr new_fp)) }
+    ensures registers { regs.new ≡ registers_after regs.old (demanded frame_pointer_rises regs.old new_sp new_fp (finished is_first_frame regs.old new_sp new_lr new_fp)) }
+    ensures advances { AdvancesWhereAnswered is_first_frame result regs.old regs.new }
+{
+    if new_fp == 0 {
+        return Ok(None);
+    }
+    if new_fp <= regs.fp() || new_sp <= regs.sp() {
+        return Err(Error::FramepointerUnwindingMovedBackwards);
+    }
+    finish(is_first_frame, regs, new_sp, new_lr, new_fp)
+}
+
 /// The last step of each rule: writes the caller's registers and answers the stripped return
 /// address, unless that is 0 (the root) or a caller frame keeps its stack pointer.
 #[inline(always)]
@@ -103,6 +220,7 @@ fn finish(
 ) -> Result<Option<u64>, Error>
     ensures answer { result ≡ answer_of (finished is_first_frame regs.old new_sp new_lr new_fp) }
     ensures registers { regs.new ≡ registers_after regs.old (finished is_first_frame regs.old new_sp new_lr new_fp) }
+    ensures advances { regs.old.sp ≤ new_sp → AdvancesWhereAnswered is_first_frame result regs.old regs.new }
 {
     let return_address = regs.lr_mask().strip_ptr_auth(new_lr);
     if return_address == 0 {

@@ -1,6 +1,8 @@
 ghost use Rattle.std.specs.Prelude.{◌≡◌, ◌-◌, ◌^◌};
 ghost use Rattle.framehop_core.specs.Aarch64.Registers.{strip_ptr_auth, IsStripped, StandsStripped, IsMaskUpTo};
 
+use crate::display_utils::HexNum;
+use std::fmt;
 use std::marker::Model;
 
 /// The registers used for unwinding on aarch64: lr (x30), sp (x31) and fp (x29).
@@ -167,9 +169,31 @@ impl UnwindRegsAarch64 {
     }
 }
 
+impl fmt::Debug for UnwindRegsAarch64 {
+    fn fmt<W: fmt::Write>(&self, f: &mut fmt::Formatter<W>) -> fmt::Result {
+        f.debug_struct("UnwindRegsAarch64")
+            .field("lr", &HexNum(self.lr))
+            .field("sp", &HexNum(self.sp))
+            .field("fp", &HexNum(self.fp))
+            .finish()
+    }
+}
+
 #[cfg(test)]
 mod tests {
     use super::*;
+    use std::test::Fail;
+
+    #[test]
+    fn prints_in_hexadecimal(rt: HostRuntime) -> Result<(), Fail> {
+        let regs = UnwindRegsAarch64::new(0x100300, 0x10, 0x20);
+        let printed = format!(in rt.alloc(); "{regs:?}")?;
+        assert_eq!(rt;
+            printed.as_str(),
+            "UnwindRegsAarch64 { lr: 100300, sp: 10, fp: 20 }"
+        );
+        Ok(())
+    }
 
     #[test]
     fn masks_up_to_the_highest_known_address(rt: HostRuntime) {

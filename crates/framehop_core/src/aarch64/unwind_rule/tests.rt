@@ -46,3 +46,125 @@ fn walks_a_stack(rt: HostRuntime) -> Result<(), Fail> {
     assert_eq!(rt; (regs.sp(), regs.fp(), regs.lr()), (0x50, 0x70, 0x100100));
     Ok(())
 }
+
+#[test]
+fn finds_each_caller(rt: HostRuntime) -> Result<(), Fail> {
+    for (rule, is_first_frame, lr, sp, fp) in [
+        (UnwindRuleAarch64::NoOp, true, 0x100300, 0x10, 0x20),
+        (
+            UnwindRuleAarch64::NoOpIfFirstFrameOtherwiseFp,
+            true,
+            0x100300,
+            0x10,
+            0x20,
+        ),
+        (
+            UnwindRuleAarch64::NoOpIfFirstFrameOtherwiseFp,
+            false,
+            0x100200,
+            0x30,
+            0x40,
+        ),
+        (
+            UnwindRuleAarch64::OffsetSp { sp_offset_by_16: 5 },
+            true,
+            0x100300,
+            0x60,
+            0x20,
+        ),
+        (
+            UnwindRuleAarch64::OffsetSpIfFirstFrameOtherwiseStackEndsHere { sp_offset_by_16: 2 },
+            true,
+            0x100300,
+            0x30,
+            0x20,
+        ),
+        (
+            UnwindRuleAarch64::OffsetSpAndRestoreLr {
+                sp_offset_by_16: 2,
+                lr_storage_offset_from_sp_by_8: 3,
+            },
+            false,
+            0x100200,
+            0x30,
+            0x20,
+        ),
+        (
+            UnwindRuleAarch64::OffsetSpAndRestoreFpAndLr {
+                sp_offset_by_16: 2,
+                fp_storage_offset_from_sp_by_8: 2,
+                lr_storage_offset_from_sp_by_8: 3,
+            },
+            false,
+            0x100200,
+            0x30,
+            0x40,
+        ),
+        (
+            UnwindRuleAarch64::UseFramePointer,
+            true,
+            0x100200,
+            0x30,
+            0x40,
+        ),
+        (
+            UnwindRuleAarch64::UseFramepointerWithOffsets {
+                sp_offset_from_fp_by_8: 4,
+                fp_storage_offset_from_fp_by_8: 4,
+                lr_storage_offset_from_fp_by_8: 5,
+            },
+            false,
+            0x100100,
+            0x40,
+            0x70,
+        ),
+    ] {
+        let mut regs = UnwindRegsAarch64::new(0x100300, 0x10, 0x20);
+        let answer = exec_over_words(rule, is_first_frame, &mut regs, &STACK)?;
+        assert_eq!(rt; answer, Some(lr), "{rule:?}");
+        assert_eq!(rt; regs, UnwindRegsAarch64::new(lr, sp, fp), "{rule:?}");
+    }
+    Ok(())
+}
+
+#[test]
+fn refuses_with_the_registers_kept(rt: HostRuntime) {
+    let offset = UnwindRuleAarch64::OffsetSp { sp_offset_by_16: 1 };
+    let stack_end = UnwindRuleAarch64::OffsetSpIfFirstFrameOtherwiseStackEndsHere {
+        sp_offset_by_16: 1,
+    };
+    let restore_lr = UnwindRuleAarch64::OffsetSpAndRestoreLr {
+        sp_offset_by_16: 0,
+        lr_storage_offset_from_sp_by_8: -1,
+    };
+    let use_fp = UnwindRuleAarch64::UseFramePointer;
+    let no_advance = Err(Error::DidNotAdvance);
+    let overflow = Err(Error::IntegerOverflow);
+    for (rule, is_first_frame, sp, fp, want) in [
+        (UnwindRuleAarch64::NoOp, false, 0x10, 0x20, no_advance),
+        (offset, false, 0x10, 0x20, no_advance),
+        (offset, true, u64::MAX - 15, 0x20, overflow),
+        (stack_end, false, 0x10, 0x20, Ok(None)),
+        (restore_lr, true, 0, 0x20, overflow),
+        (use_fp, true, 0x10, u64::MAX - 15, overflow),
+        (
+            use_fp,
+            true,
+            0x10,
+            0x78,
+            Err(Error::CouldNotReadStack(0x80)),
+        ),
+        (
+            use_fp,
+            true,
+            0x40,
+            0x20,
+            Err(Error::FramepointerUnwindingMovedBackwards),
+        ),
+    ] {
+        let mut regs = UnwindRegsAarch64::new(0x100300, sp, fp);
+        let answer = exec_over_words(rule, is_first_frame, &mut regs, &STACK);
+        assert_eq!(rt; answer, want, "{rule:?}");
+        assert_eq!(rt; regs, UnwindRegsAarch64::new(0x100300, sp, fp), "{rule:?}");
+    }
+}

@@ -1,0 +1,4 @@
+// Types for unwinding on the x86_64 CPU architecture.
+pub mod unwindregs;
+
+pub use unwindregs::{Reg, UnwindRegsX86_64};

@@ -1,0 +1,199 @@
+ghost use Rattle.std.specs.Prelude.{◌≡◌};
+ghost use Rattle.framehop_core.specs.X86_64.Registers.{register, with_register};
+
+use crate::display_utils::HexNum;
+use std::fmt;
+use std::marker::Model;
+
+/// The registers used for unwinding on x86_64: the instruction pointer rip and the sixteen
+/// general registers, rsp (the stack pointer) and rbp (the frame pointer) among them.
+#[derive(Clone, Copy, PartialEq, Eq)]
+pub struct UnwindRegsX86_64 {
+    ip: u64,
+    regs: [u64; 16],
+}
+
+impl Model for UnwindRegsX86_64 {
+    ghost use Rattle.std.specs.Prelude.{◌≡◌, length};
+    ghost use Rattle.std.proofs.Common.{ap};
+    ghost use Rattle.framehop_core.specs.X86_64.Registers.{Registers, registers_of, words_of, words_of-registers_of};
+
+    ghost Value = { Registers };
+
+    ghost view = { λ r. registers_of r.ip r.regs };
+
+    ghost invariant = { λ r. length r.regs ≡ 16 };
+
+    ghost inverse = { λ r. record { ip = r.ip; regs = words_of r } };
+
+    ghost inverse_ok = { λ r h. ap (λ words. record { ip = r.ip; regs = words }) (words_of-registers_of r.ip r.regs h) };
+}
+
+/// A general register of x86_64.
+#[derive(Clone, Copy, Debug, PartialEq, Eq, PartialOrd, Ord, Hash)]
+pub enum Reg {
+    RAX,
+    RDX,
+    RCX,
+    RBX,
+    RSI,
+    RDI,
+    RBP,
+    RSP,
+    R8,
+    R9,
+    R10,
+    R11,
+    R12,
+    R13,
+    R14,
+    R15,
+}
+
+impl UnwindRegsX86_64 {
+    /// Registers with an instruction pointer, a stack pointer and a frame pointer (AVMAs), the
+    /// others being 0.
+    pub fn new(ip: u64, sp: u64, bp: u64) -> Self
+        ensures { result ≡ record {
+          ip = ip;
+          rax = 0;
+          rdx = 0;
+          rcx = 0;
+          rbx = 0;
+          rsi = 0;
+          rdi = 0;
+          rbp = bp;
+          rsp = sp;
+          r8 = 0;
+          r9 = 0;
+          r10 = 0;
+          r11 = 0;
+          r12 = 0;
+          r13 = 0;
+          r14 = 0;
+          r15 = 0;
+        } }
+    {
+        let mut regs = Self { ip, regs: [0; 16] };
+        regs.set_sp(sp);
+        regs.set_bp(bp);
+        regs
+    }
+
+    /// The value of a general register.
+    #[inline(always)]
+    pub fn get(&self, reg: Reg) -> u64
+        ensures { result ≡ register self.now reg }
+    {
+        self.regs[reg as usize]
+    }
+
+    /// Sets a general register.
+    #[inline(always)]
+    pub fn set(&mut self, reg: Reg, value: u64)
+        ensures { self.new ≡ with_register self.old reg value }
+    {
+        self.regs[reg as usize] = value;
+    }
+
+    /// The instruction pointer, rip.
+    #[inline(always)]
+    pub fn ip(&self) -> u64
+        ensures { result ≡ self.now.ip }
+    {
+        self.ip
+    }
+
+    /// Sets the instruction pointer, rip.
+    #[inline(always)]
+    pub fn set_ip(&mut self, ip: u64)
+        ensures { self.new ≡ record self.old { ip = ip } }
+    {
+        self.ip = ip;
+    }
+
+    /// The stack pointer, rsp.
+    #[inline(always)]
+    pub fn sp(&self) -> u64
+        ensures { result ≡ self.now.rsp }
+    {
+        self.get(Reg::RSP)
+    }
+
+    /// Sets the stack pointer, rsp.
+    #[inline(always)]
+    pub fn set_sp(&mut self, sp: u64)
+        ensures { self.new ≡ record self.old { rsp = sp } }
+    {
+        self.set(Reg::RSP, sp)
+    }
+
+    /// The frame pointer, rbp.
+    #[inline(always)]
+    pub fn bp(&self) -> u64
+        ensures { result ≡ self.now.rbp }
+    {
+        self.get(Reg::RBP)
+    }
+
+    /// Sets the frame pointer, rbp.
+    #[inline(always)]
+    pub fn set_bp(&mut self, bp: u64)
+        ensures { self.new ≡ record self.old { rbp = bp } }
+    {
+        self.set(Reg::RBP, bp)
+    }
+}
+
+impl fmt::Debug for UnwindRegsX86_64 {
+    fn fmt<W: fmt::Write>(&self, f: &mut fmt::Formatter<W>) -> fmt::Result {
+        f.debug_struct("UnwindRegsX86_64")
+            .field("ip", &HexNum(self.ip()))
+            .field("rax", &HexNum(self.get(Reg::RAX)))
+            .field("rdx", &HexNum(self.get(Reg::RDX)))
+            .field("rcx", &HexNum(self.get(Reg::RCX)))
+            .field("rbx", &HexNum(self.get(Reg::RBX)))
+            .field("rsi", &HexNum(self.get(Reg::RSI)))
+            .field("rdi", &HexNum(self.get(Reg::RDI)))
+            .field("rbp", &HexNum(self.get(Reg::RBP)))
+            .field("rsp", &HexNum(self.get(Reg::RSP)))
+            .field("r8", &HexNum(self.get(Reg::R8)))
+            .field("r9", &HexNum(self.get(Reg::R9)))
+            .field("r10", &HexNum(self.get(Reg::R10)))
+            .field("r11", &HexNum(self.get(Reg::R11)))
+            .field("r12", &HexNum(self.get(Reg::R12)))
+            .field("r13", &HexNum(self.get(Reg::R13)))
+            .field("r14", &HexNum(self.get(Reg::R14)))
+            .field("r15", &HexNum(self.get(Reg::R15)))
+            .finish()
+    }
+}
+
+#[cfg(test)]
+mod tests {
+    use super::*;
+    use std::test::Fail;
+
+    #[test]
+    fn keeps_each_register(rt: HostRuntime) -> Result<(), Fail> {
+        let mut regs = UnwindRegsX86_64::new(0x1000, 0x20, 0x30);
+        assert_eq!(rt; (regs.ip(), regs.sp(), regs.bp()), (0x1000, 0x20, 0x30));
+        regs.set_ip(0x100300);
+        regs.set_sp(0x40);
+        regs.set_bp(0x50);
+        regs.set(Reg::RAX, 0xa);
+        regs.set(Reg::RDX, 0xd);
+        regs.set(Reg::R15, 0xf);
+        assert_eq!(rt;
+            (regs.get(Reg::RSP), regs.get(Reg::RBP), regs.get(Reg::R14)),
+            (0x40, 0x50, 0)
+        );
+        let printed = format!(in rt.alloc(); "{regs:?}")?;
+        assert_eq!(rt;
+            printed.as_str(),
+            "UnwindRegsX86_64 { ip: 100300, rax: a, rdx: d, rcx: 0, rbx: 0, rsi: 0, rdi: 0, rbp: 50, rsp: 40, r8: 0, r9: 0, r10: 0, r11: 0, r12: 0, r13: 0, r14: 0, r15: f }"
+        );
+        assert!(rt; regs != UnwindRegsX86_64::new(0x100300, 0x40, 0x50));
+        Ok(())
+    }
+}
