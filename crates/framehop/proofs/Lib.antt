@@ -1,3 +1,4 @@
 mod Slots
 pub mod SoundnessLemmas
 pub mod ModuleLemmas
+mod FreshLemmas

@@ -3,8 +3,12 @@ use Rattle.std.proofs.Common.{eqb-true, ◌≡◌, ℕ, zero, suc, Bool, true, f
 use mathlib.Core.Bool.{beq}
 use Rattle.framehop_core.specs.CodeAddress.{Place, lookup_address, is_first_frame}
 use Rattle.framehop.specs.Cache.{Key, Entry, Sets, CacheView, Found, hit, empty_slot, wrong_modules, wrong_address, found, found_in, hit_or, inserted, inserted_in, same_key, set_of, set_number, counted, ways}
-use Rattle.framehop.specs.Fresh.{Fresh, by_rule, direct, fresh}
-use Rattle.framehop.specs.Modules.{UnwinderView}
+use Rattle.framehop_core.specs.Memory.{Memory}
+use Rattle.framehop_core.specs.Outcome.{Outcome}
+use Rattle.framehop.specs.CacheResult.{result_of}
+use Rattle.framehop.specs.declared.rule_cache.CacheResult.TheVariants.{Hit, Miss}
+use Rattle.framehop.specs.Fresh.{Fresh, by_rule, direct, fresh, step}
+use Rattle.framehop.specs.Modules.{ModuleView, UnwinderView}
 use Rattle.framehop.specs.Soundness.{Among, Stands, IsFresh, IsSound, Extends, key_of, sets_after, sets_after_miss, cache_after}
 
 -- ---- what is among a list
@@ -155,3 +159,62 @@ module _ {R : Type 0} (Regs : Type 0) (fallback : R) where
           })
           (extends.each entry h)
     }
+
+  -- a cache stays sound for the unwinder that steps
+  pub IsSound-step : (unwinder : UnwinderView) (cache : CacheView R) (place : Place) → IsSound Regs fallback unwinder cache.sets → IsSound Regs fallback unwinder (cache_after Regs fallback unwinder cache place).sets
+  IsSound-step unwinder cache place sound =
+      IsSound-extended unwinder unwinder cache.sets _ (λ _. refl) (Extends-after unwinder cache place) sound
+
+  -- ---- the cache after a step, by what the lookup answered
+
+  CacheView-equal : (a b : CacheView R) → a.sets ≡ b.sets → a.stats ≡ b.stats → a ≡ b
+  CacheView-equal a b p q = λ i. record { sets = p i; stats = q i }
+
+  hit-answered : (key : Key) (seen : Found R) (rule : R) → result_of key seen ≡ Hit rule → seen ≡ hit rule
+  hit-answered key (hit other) rule e = cc
+  hit-answered key empty_slot rule e = cc
+  hit-answered key wrong_modules rule e = cc
+  hit-answered key wrong_address rule e = cc
+
+  miss-answered : (sets : Sets R) (key handle : Key) (seen : Found R) (answer : Fresh R Regs) → result_of key seen ≡ Miss handle → (key ≡ handle) × (sets_after sets key seen answer ≡ sets_after_miss sets key answer)
+  miss-answered sets key handle (hit rule) answer e = cc
+  miss-answered sets key handle empty_slot answer e = (cc, refl)
+  miss-answered sets key handle wrong_modules answer e = (cc, refl)
+  miss-answered sets key handle wrong_address answer e = (cc, refl)
+
+  module _ (unwinder : UnwinderView) (cache : CacheView R) (place : Place) where
+    pub cache_after-hit : (new : CacheView R) (rule : R) → new.sets ≡ cache.sets → new.stats ≡ counted cache.stats (found ways cache.sets (key_of unwinder place)) → result_of (key_of unwinder place) (found ways cache.sets (key_of unwinder place)) ≡ Hit rule → new ≡ cache_after Regs fallback unwinder cache place
+    unfolding cache_after
+    cache_after-hit new rule kept counts e =
+        let s = hit-answered (key_of unwinder place) (found ways cache.sets (key_of unwinder place)) rule e in
+        let answer : Fresh R Regs = fresh fallback unwinder.modules (lookup_address place) (is_first_frame place) in
+        CacheView-equal new (cache_after Regs fallback unwinder cache place)
+          (kept ∙ sym (ap (λ f. sets_after cache.sets (key_of unwinder place) f answer) s)) counts
+
+    -- a hit in a sound cache steps as the modules' bytes say
+    pub step-hit : (outcome : R → Bool → Regs → Memory → Outcome Regs) (rule : R) (regs : Regs) (memory : Memory) → IsSound Regs fallback unwinder cache.sets → result_of (key_of unwinder place) (found ways cache.sets (key_of unwinder place)) ≡ Hit rule → outcome rule (is_first_frame place) regs memory ≡ step outcome fallback unwinder.modules place regs memory
+    unfolding step
+    step-hit outcome rule regs memory sound e =
+        let known = fresh-hit unwinder cache.sets place rule sound (hit-answered (key_of unwinder place) (found ways cache.sets (key_of unwinder place)) rule e) in
+        rw known refl
+
+    pub cache_after-miss : (between new : CacheView R) (handle : Key) (rule : R) → between.sets ≡ cache.sets → between.stats ≡ counted cache.stats (found ways cache.sets (key_of unwinder place)) → result_of (key_of unwinder place) (found ways cache.sets (key_of unwinder place)) ≡ Miss handle → fresh {Regs = Regs} fallback unwinder.modules (lookup_address place) (is_first_frame place) ≡ by_rule rule → new ≡ record between { sets = inserted ways between.sets (record { key = handle; rule = rule }) } → new ≡ cache_after Regs fallback unwinder cache place
+    unfolding cache_after
+    cache_after-miss between new handle rule kept counts e known is =
+        let answer : Fresh R Regs = fresh fallback unwinder.modules (lookup_address place) (is_first_frame place) in
+        let key = key_of unwinder place in
+        let m = miss-answered cache.sets key handle (found ways cache.sets key) answer e in
+        let stored : inserted ways between.sets (record { key = handle; rule = rule }) ≡ inserted ways cache.sets (record { key = key; rule = rule }) =
+            ap (λ k. inserted ways between.sets (record { key = k; rule = rule })) (sym m.0) ∙ ap (λ sets. inserted ways sets (record { key = key; rule = rule })) kept in
+        CacheView-equal new (cache_after Regs fallback unwinder cache place)
+          (ap (λ (c : CacheView R). c.sets) is ∙ stored ∙ sym (ap (sets_after_miss cache.sets key) known) ∙ sym m.1)
+          (ap (λ (c : CacheView R). c.stats) is ∙ counts)
+
+    pub step-miss : (outcome : R → Bool → Regs → Memory → Outcome Regs) (rule : R) (regs : Regs) (memory : Memory) → fresh {Regs = Regs} fallback unwinder.modules (lookup_address place) (is_first_frame place) ≡ by_rule rule → outcome rule (is_first_frame place) regs memory ≡ step outcome fallback unwinder.modules place regs memory
+    unfolding step
+    step-miss outcome rule regs memory known = rw known refl
+
+  -- the answer for an address and a kind that are those of a place
+  pub fresh-at : (modules : List ModuleView) (place : Place) (address : ℕ) (first : Bool) (rule : R) → address ≡ lookup_address place → first ≡ is_first_frame place → fresh {Regs = Regs} fallback modules address first ≡ by_rule rule → fresh {Regs = Regs} fallback modules (lookup_address place) (is_first_frame place) ≡ by_rule rule
+  fresh-at modules place address first rule at kind h =
+      ap (λ a. fresh {Regs = Regs} fallback modules a (is_first_frame place)) (sym at) ∙ ap (fresh {Regs = Regs} fallback modules address) (sym kind) ∙ h

@@ -1,7 +1,8 @@
-ghost use Rattle.std.specs.Prelude.{◌≡◌, IfOk};
-ghost use Rattle.framehop.specs.Cache.{empty_cache};
+ghost use Rattle.std.specs.Prelude.{◌≡◌, true, IfOk};
+ghost use Rattle.framehop.specs.Cache.{Key, counted, empty_cache, found, inserted, ways};
+ghost use Rattle.framehop.specs.CacheResult.{result_of, HitRuns};
 
-use crate::rule_cache::{CacheStats, RuleCache};
+use crate::rule_cache::{CacheHandle, CacheResult, CacheStats, RuleCache};
 use framehop_core::unwind_rule::UnwindRule;
 use std::alloc::{AllocError, Global};
 use std::marker::{Model, PhantomData};
@@ -32,7 +33,7 @@ impl AllocationPolicy for MayAllocateDuringUnwind {
 /// One cache can serve several unwinders in turn.
 #[derive(Drop)]
 pub struct Cache<R: UnwindRule, P: AllocationPolicy = MayAllocateDuringUnwind> {
-    pub(crate) rule_cache: RuleCache<R>,
+    rule_cache: RuleCache<R>,
     policy: PhantomData<P>,
 }
 
@@ -53,6 +54,34 @@ impl<R: UnwindRule, P: AllocationPolicy> Cache<R, P> {
             rule_cache: RuleCache::new(alloc)?,
             policy: PhantomData,
         })
+    }
+
+    /// Looks for the rule of a lookup address (AVMA), and counts the lookup.
+    #[inline]
+    pub(crate) fn lookup(
+        &mut self,
+        address: u64,
+        modules_generation: u64,
+        is_first_frame: bool,
+    ) -> CacheResult<R>
+        ensures answer { let key : Key = record { address = address; generation = modules_generation; is_first_frame = is_first_frame } in
+            result ≡ result_of key (found ways self.old.sets key) }
+        ensures runnable { HitRuns R.executable result }
+        ensures kept { self.new.sets ≡ self.old.sets }
+        ensures stats { self.new.stats ≡ counted self.old.stats
+            (found ways self.old.sets (record { address = address; generation = modules_generation; is_first_frame = is_first_frame })) }
+    {
+        self.rule_cache
+            .lookup(address, modules_generation, is_first_frame)
+    }
+
+    /// Stores a rule for the lookup that gave the handle.
+    #[inline]
+    pub(crate) fn insert(&mut self, handle: CacheHandle, unwind_rule: R)
+        requires { R.executable unwind_rule ≡ true }
+        ensures { self.new ≡ record self.old { sets = inserted ways self.old.sets (record { key = handle; rule = unwind_rule }) } }
+    {
+        self.rule_cache.insert(handle, unwind_rule);
     }
 
     /// The counts of the lookups.

@@ -1,19 +1,28 @@
-ghost use Rattle.std.specs.Prelude.{◌≡◌, ◌≢◌, ℕ, ◌+◌, ◌-◌, ◌^◌, ◌<◌, ◌↔◌, true, false, IfOk, IfErr, IfSome, IfNone, OnOk, IsErrAnd, MatchOption, MatchResult, SomeIff, string_bytes, slice_get, length, take, drop, ◌≤◌, Option, []};
+ghost use Rattle.std.specs.Prelude.{◌≡◌, ◌≢◌, ℕ, ◌+◌, ◌-◌, ◌^◌, ◌<◌, ◌↔◌, Bool, true, false, IfOk, IfErr, IfSome, IfNone, OnOk, OnSome, IsErrAnd, MatchOption, MatchResult, SomeIff, string_bytes, slice_get, length, take, drop, ◌≤◌, Option, []};
+ghost use Rattle.framehop.specs.Memory.{Memory, AnswersAs};
+ghost use Rattle.framehop.specs.Outcome.{Outcome, answer_of, registers_after};
+ghost use Rattle.framehop.specs.CodeAddress.{Place, place_of, is_first_frame};
+ghost use Rattle.framehop.specs.Fresh.{fresh, by_rule};
+ghost use Rattle.framehop.specs.Cache.{found, counted, ways};
+ghost use Rattle.framehop.specs.CacheResult.{result_of, HitRuns};
+ghost use Rattle.framehop.specs.Soundness.{key_of};
 ghost use Rattle.std.specs.List.Sorted.{IsPartitionPoint};
 ghost use Rattle.framehop.specs.Modules.{ModuleView, UnwinderView, no_unwind_data, starting_by, starting_above, with_module, starts_by, covers, covering, greatest_end};
 
-use crate::cache::AllocationPolicy;
+use crate::cache::{AllocationPolicy, Cache};
 use crate::generations::Generations;
+use crate::rule_cache::CacheResult;
 use framehop_core::arch::Arch;
+use framehop_core::unwind_rule::UnwindRule;
+use framehop_core::{Error, FrameAddress};
 use framehop_cfi::section::{ModuleSectionInfo, SectionBytes};
 use std::alloc::{AllocError, Global};
 use std::marker::{Model, PhantomData};
 use std::ops::Range;
 use std::rc::Rc;
-use thiserror::Error;
 
 /// Why a module could not be made, or the list of an unwinder's modules not be changed.
-#[derive(Clone, Copy, Debug, PartialEq, Eq, Error)]
+#[derive(Clone, Copy, Debug, PartialEq, Eq, thiserror::Error)]
 pub enum ModuleListError {
     /// Memory was asked for and refused.
     #[error("Out of memory")]
@@ -29,6 +38,86 @@ pub enum ModuleListError {
 pub struct RefusedModule<M> {
     pub module: M,
     pub cause: ModuleListError,
+}
+
+/// An unwinder for one CPU architecture: the modules of one process, and unwinding by them.
+pub trait Unwinder {
+    /// The registers that unwinding needs on this architecture.
+    type UnwindRegs;
+
+    /// The cache for this architecture, under the unwinder's allocation policy.
+    type Cache;
+
+    /// A module whose unwind data this unwinder can read.
+    type Module;
+
+    // the modules in order of start, and their generation
+    ghost unwinder_view: { Self → UnwinderView };
+
+    ghost module_view: { Self.Module → ModuleView };
+
+    // one step by the modules' bytes, read afresh
+    ghost step: { Self → Place → Self.UnwindRegs → Memory → Outcome Self.UnwindRegs };
+
+    // what a step that answers an address does to the registers, whatever the callback replies
+    ghost advances: { Bool → Self.UnwindRegs → Self.UnwindRegs → Type 0 };
+
+    // the cache changes no answer
+    ghost is_sound: { Self → Self.Cache → Type 0 };
+
+    // the cache after a step at a place
+    ghost cache_after: { Self → Self.Cache → Place → Self.Cache };
+
+    /// Adds a module that is loaded in the process, behind those of equal start, and takes the
+    /// next generation. The module comes back where the counter is at its end (tested first) or
+    /// memory is refused; then the unwinder and the counter are unchanged.
+    fn add_module(
+        &mut self,
+        module: Self::Module,
+        generations: &mut Generations,
+    ) -> Result<(), RefusedModule<Self::Module>>
+        ensures added { OnOk result (
+            (unwinder_view self.new ≡ record {
+                modules = with_module (module_view «module») (unwinder_view self.old).modules;
+                generation = generations.old;
+            })
+            × (generations.new ≡ generations.old + 1)) }
+        ensures refused { IfErr result (λ back. (back.module ≡ «module») × (self.new ≡ self.old)
+            × (generations.new ≡ generations.old)) }
+        ensures exhausted { (generations.old ≡ 2 ^ 64 - 1)
+            ↔ IsErrAnd result (λ back. back.cause ≡ ModuleListError.GenerationsExhausted) };
+
+    /// The greatest end of a module (AVMA), or 0 without modules. It serves to guess a mask for
+    /// pointer authentication.
+    fn max_known_code_address(&self) -> u64
+        ensures { result ≡ greatest_end (unwinder_view self.now).modules };
+
+    /// Unwinds a single frame: answers its return address (AVMA), `None` at the root of the stack,
+    /// or why it can't be unwound, and writes the caller's registers where it answers an address.
+    /// `read_stack` reads the stack word at an address (AVMA).
+    fn unwind_frame<F>(
+        &self,
+        address: FrameAddress,
+        regs: &mut Self::UnwindRegs,
+        cache: &mut Self::Cache,
+        read_stack: &mut F,
+    ) -> Result<Option<u64>, Error>
+    where
+        F: FnMut(u64) -> Result<u64, ()>,
+        requires can_read { F.IsAlwaysCallable read_stack.old }
+        ensures callable { F.IsAlwaysCallable read_stack.new }
+        ensures kept { MatchResult result
+            (λ answer. IfNone answer (regs.new ≡ regs.old))
+            (λ _. regs.new ≡ regs.old) }
+        ensures advances { IfOk result
+            (λ answer. OnSome answer (advances (is_first_frame (place_of address)) regs.old regs.new)) }
+        ensures no_memory_taken { result ≢ Err Error.OutOfMemory }
+        ensures cached { cache.new ≡ cache_after self.now cache.old (place_of address) }
+        ensures stays_sound { is_sound self.now cache.old → is_sound self.now cache.new }
+        ensures answers { (memory : Memory) → AnswersAs F.FnMut read_stack.old memory → is_sound self.now cache.old
+            → AnswersAs F.FnMut read_stack.new memory
+                × (result ≡ answer_of (step self.now (place_of address) regs.old memory))
+                × (regs.new ≡ registers_after regs.old (step self.now (place_of address) regs.old memory)) };
 }
 
 /// A module that is loaded in a process, as an executable or a library: its addresses, and its
@@ -203,22 +292,65 @@ impl<D: SectionBytes + Drop, A: Arch, P: AllocationPolicy> UnwinderInternal<D, A
         Some((index, relative_address))
     }
 
-    /// Adds a module, behind those of equal start, and takes the next generation. The module comes
-    /// back where the counter is at its end (tested first) or memory is refused; then the unwinder
-    /// and the counter are unchanged.
-    pub fn add_module(
+    // looks for the rule of a frame in the cache
+    fn lookup_rule(
+        &self,
+        address: FrameAddress,
+        cache: &mut Cache<A::UnwindRule, P>,
+    ) -> CacheResult<A::UnwindRule>
+        ensures answer { result ≡ result_of (key_of self.now (place_of address)) (found ways cache.old.sets (key_of self.now (place_of address))) }
+        ensures runnable { HitRuns A.UnwindRule.executable result }
+        ensures kept { cache.new.sets ≡ cache.old.sets }
+        ensures stats { cache.new.stats ≡ counted cache.old.stats (found ways cache.old.sets (key_of self.now (place_of address))) }
+    {
+        cache.lookup(
+            address.address_for_lookup(),
+            self.modules_generation,
+            !address.is_return_address(),
+        )
+    }
+
+    // the rule of an address by the modules' unwind data, else the fallback rule
+    fn rule_for_address(&self, lookup_address: u64, is_first_frame: bool) -> A::UnwindRule
+        ensures fresh { fresh {Regs = A.UnwindRegs} A.UnwindRule.fallback self.now.modules lookup_address is_first_frame ≡ by_rule result }
+        ensures runnable { A.UnwindRule.executable result ≡ true }
+    {
+        match self.find_module_for_address(lookup_address) {
+            None => A::UnwindRule::fallback_rule(),
+            Some((index, _relative_address)) => match *self.modules[index].unwind_data {
+                ModuleUnwindDataInternal::None(_) => A::UnwindRule::fallback_rule(),
+            },
+        }
+    }
+}
+
+impl<D: SectionBytes + Drop, A: Arch, P: AllocationPolicy> Unwinder for UnwinderInternal<D, A, P> {
+    ghost use Rattle.framehop.specs.Fresh.{step};
+    ghost use Rattle.framehop.specs.Soundness.{IsSound, cache_after};
+
+    type UnwindRegs = A::UnwindRegs;
+
+    type Cache = Cache<A::UnwindRule, P>;
+
+    type Module = Module<D>;
+
+    ghost unwinder_view = { λ u. u };
+
+    ghost module_view = { λ m. m };
+
+    ghost step = { λ u place regs memory. step A.UnwindRule.outcome A.UnwindRule.fallback u.modules place regs memory };
+
+    ghost advances = { A.UnwindRule.advances };
+
+    ghost is_sound = { λ u cache. IsSound A.UnwindRegs A.UnwindRule.fallback u cache.sets };
+
+    ghost cache_after = { λ u cache place. cache_after A.UnwindRegs A.UnwindRule.fallback u cache place };
+
+    fn add_module(
         &mut self,
         module: Module<D>,
         generations: &mut Generations,
-    ) -> Result<(), RefusedModule<Module<D>>>
-        ensures added { OnOk result (
-            (self.new ≡ record { modules = with_module «module» self.old.modules; generation = generations.old })
-            × (generations.new ≡ generations.old + 1)) }
-        ensures refused { IfErr result (λ back. (back.module ≡ «module») × (self.new ≡ self.old)
-            × (generations.new ≡ generations.old)) }
-        ensures exhausted { (generations.old ≡ 2 ^ 64 - 1)
-            ↔ IsErrAnd result (λ back. back.cause ≡ ModuleListError.GenerationsExhausted) }
-    {
+    ) -> Result<(), RefusedModule<Module<D>>> {
         if generations.is_exhausted() {
             return Err(RefusedModule {
                 module,
@@ -238,14 +370,32 @@ impl<D: SectionBytes + Drop, A: Arch, P: AllocationPolicy> UnwinderInternal<D, A
         Ok(())
     }
 
-    /// The greatest end of a module (AVMA), or 0 without modules.
-    pub fn max_known_code_address(&self) -> u64
-        ensures { result ≡ greatest_end self.now.modules }
-    {
+    fn max_known_code_address(&self) -> u64 {
         let mut greatest = 0;
         for module in self.modules.iter() {
             greatest = module.avma_range.end.max(greatest);
         }
         greatest
+    }
+
+    fn unwind_frame<F>(
+        &self,
+        address: FrameAddress,
+        regs: &mut A::UnwindRegs,
+        cache: &mut Cache<A::UnwindRule, P>,
+        read_stack: &mut F,
+    ) -> Result<Option<u64>, Error>
+    where
+        F: FnMut(u64) -> Result<u64, ()>,
+    {
+        let is_first_frame = !address.is_return_address();
+        match self.lookup_rule(address, cache) {
+            CacheResult::Hit(rule) => rule.exec(is_first_frame, regs, read_stack),
+            CacheResult::Miss(handle) => {
+                let rule = self.rule_for_address(address.address_for_lookup(), is_first_frame);
+                cache.insert(handle, rule);
+                rule.exec(is_first_frame, regs, read_stack)
+            }
+        }
     }
 }

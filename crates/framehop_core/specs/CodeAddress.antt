@@ -1,5 +1,5 @@
 -- The code address of a frame: which one it is, and where unwind information for it is looked up.
-use Rattle.std.specs.Prelude.{ℕ, ◌-◌, Bool, true, false}
+use Rattle.std.specs.Prelude.{ℕ, ◌-◌, Bool, true, false, not}
 use Rattle.std.specs.Int.NonZero.{non_zero_u64_get}
 use Rattle.framehop_core.specs.declared.code_address.FrameAddress.{FrameAddress}
 use Rattle.framehop_core.specs.declared.code_address.FrameAddress.TheVariants.{InstructionPointer, ReturnAddress}
@@ -25,7 +25,11 @@ abbrev pub lookup_address : Place → ℕ
 lookup_address (at_instruction_pointer address) = address
 lookup_address (at_return_address address) = address - 1
 
+-- whether the address is a return address
+abbrev pub is_return_address : Place → Bool
+is_return_address (at_instruction_pointer _) = false
+is_return_address (at_return_address _) = true
+
 -- the kind of a frame: only a frame at its instruction pointer is a first frame
 abbrev pub is_first_frame : Place → Bool
-is_first_frame (at_instruction_pointer _) = true
-is_first_frame (at_return_address _) = false
+is_first_frame place = not (is_return_address place)

@@ -1,5 +1,5 @@
-ghost use Rattle.std.specs.Prelude.{◌≡◌, MatchOption, not};
-ghost use Rattle.framehop_core.specs.CodeAddress.{place_of, address_of, lookup_address, is_first_frame, at_instruction_pointer, at_return_address};
+ghost use Rattle.std.specs.Prelude.{◌≡◌, MatchOption};
+ghost use Rattle.framehop_core.specs.CodeAddress.{place_of, address_of, lookup_address, is_return_address, at_instruction_pointer, at_return_address};
 
 use std::num::NonZeroU64;
 
@@ -59,7 +59,7 @@ impl FrameAddress {
 
     /// Whether this address is a return address.
     pub fn is_return_address(self) -> bool
-        ensures { result ≡ not (is_first_frame (place_of self)) }
+        ensures { result ≡ is_return_address (place_of self) }
     {
         match self {
             FrameAddress::InstructionPointer(_) => false,

@@ -2,7 +2,7 @@ use Rattle.std.proofs.Common.{◌≡◌, ◌≤◌, true, false, length, insert,
 use Rattle.std.specs.List.Sorted.{IsPartitionPoint}
 use Rattle.framehop.specs.Modules.{UnwinderView, starts_by}
 use Rattle.framehop.proofs.ModuleLemmas.{AreInOrder-inserted}
-use Rattle.framehop.proofs.unwinder.UnwinderInternal.add_module.Goals as goal
+use Rattle.framehop.proofs.unwinder.UnwinderInternalUnwinder.add_module.Goals as goal
 
 pub invariant_of-self-in-Some : goal.invariant_of-self-in-Some
 invariant_of-self-in-Some g c =
