@@ -41,7 +41,7 @@ pub struct RefusedModule<M> {
 }
 
 /// An unwinder for one CPU architecture: the modules of one process, and unwinding by them.
-pub trait Unwinder {
+pub trait Unwinder: Clone {
     /// The registers that unwinding needs on this architecture.
     type UnwindRegs;
 
@@ -155,6 +155,20 @@ impl<D: SectionBytes> Model for Module<D> {
     } };
 }
 
+impl<D: SectionBytes> Clone for Module<D> {
+    ghost is_clone = { λ m copy. copy ≡ m };
+
+    fn clone(&self) -> Result<Self, AllocError> {
+        Ok(Module {
+            name: self.name.clone()?,
+            avma_range: self.avma_range.start..self.avma_range.end,
+            base_avma: self.base_avma,
+            base_svma: self.base_svma,
+            unwind_data: self.unwind_data.clone()?,
+        })
+    }
+}
+
 impl<D: SectionBytes> Module<D> {
     /// A module of the name that is loaded at the addresses (AVMAs) from `avma_range.start` to
     /// below `avma_range.end`. Its relative address 0 is `base_avma`. The sections are asked for
@@ -246,6 +260,20 @@ impl<D: SectionBytes, A: Arch, P: AllocationPolicy> Model for UnwinderInternal<D
     ghost view = { λ u. record { modules = u.modules.items; generation = u.modules_generation } };
 
     ghost invariant = { λ u. AreInOrder u.modules.items };
+}
+
+impl<D: SectionBytes + Drop, A: Arch, P: AllocationPolicy> Clone for UnwinderInternal<D, A, P> {
+    ghost is_clone = { λ u copy. copy ≡ u };
+
+    // the clone keeps the generation, since it has the same modules
+    fn clone(&self) -> Result<Self, AllocError> {
+        Ok(UnwinderInternal {
+            modules: self.modules.clone()?,
+            modules_generation: self.modules_generation,
+            arch: PhantomData,
+            allocation_policy: PhantomData,
+        })
+    }
 }
 
 impl<D: SectionBytes + Drop, A: Arch, P: AllocationPolicy> UnwinderInternal<D, A, P> {
