@@ -6,6 +6,7 @@ pub mod UnwindData
 pub mod Fresh
 pub mod Walk
 pub mod Soundness
+pub mod Iterator
 pub use Rattle.framehop_core.specs.Memory
 pub use Rattle.framehop_core.specs.Outcome
 pub use Rattle.framehop_core.specs.CodeAddress

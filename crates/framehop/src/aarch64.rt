@@ -1,5 +1,7 @@
 // Types for unwinding on the aarch64 CPU architecture.
 pub mod cache;
+pub mod unwinder;
 
 pub use cache::CacheAarch64;
 pub use framehop_core::aarch64::{ArchAarch64, PtrAuthMask, UnwindRegsAarch64, UnwindRuleAarch64};
+pub use unwinder::UnwinderAarch64;

@@ -120,6 +120,119 @@ pub trait Unwinder: Clone {
                 × (regs.new ≡ registers_after regs.old (step self.now (place_of address) regs.old memory)) };
 }
 
+/// An iterator over the frames of a stack, from the initial register values on.
+///
+/// The first frame is the instruction pointer, and the others are return addresses. It ends with
+/// `Ok(None)` where it finds the root of the stack, and with an error where the stack seems to be
+/// cut off. That can't be told in all cases, so expect errors in normal operation too.
+///
+/// - `'u`: the lifetime of the [`Unwinder`].
+/// - `'c`: the lifetime of the unwinder cache.
+/// - `'r`: the lifetime of the exclusive access to the `read_stack` callback.
+pub struct UnwindIterator<'u, 'c, 'r, U: Unwinder, F: FnMut(u64) -> Result<u64, ()>> {
+    unwinder: &'u U,
+    state: UnwindIteratorState,
+    regs: U::UnwindRegs,
+    cache: &'c mut U::Cache,
+    read_stack: &'r mut F,
+}
+
+#[derive(Clone, Copy)]
+enum UnwindIteratorState {
+    Initial(u64),
+    Unwinding(FrameAddress),
+    Done,
+}
+
+impl<'u, 'c, 'r, U: Unwinder, F: FnMut(u64) -> Result<u64, ()>> UnwindIterator<'u, 'c, 'r, U, F> {
+    ghost use Rattle.std.specs.Prelude.{◌≡◌};
+    ghost use Rattle.framehop.specs.Iterator.{progress_of, before};
+
+    /// An iterator from the instruction pointer (AVMA) on. [`Unwinder::iter_frames`] is the usual
+    /// way to make one.
+    pub fn new(
+        unwinder: &'u U,
+        pc: u64,
+        regs: U::UnwindRegs,
+        cache: &'c mut U::Cache,
+        read_stack: &'r mut F,
+    ) -> Self
+        ensures progress { progress_of result.state ≡ before pc }
+        ensures unwinder { result.unwinder.now ≡ unwinder.entry.now }
+        ensures regs { result.regs ≡ regs }
+        ensures cache { result.cache ≡ cache.entry }
+        ensures read_stack { result.read_stack ≡ read_stack.entry }
+    {
+        UnwindIterator {
+            unwinder,
+            state: UnwindIteratorState::Initial(pc),
+            regs,
+            cache,
+            read_stack,
+        }
+    }
+}
+
+impl<U: Unwinder, F: FnMut(u64) -> Result<u64, ()>> UnwindIterator<'_, '_, '_, U, F> {
+    ghost use Rattle.std.specs.Prelude.{◌≡◌, Result, Ok, Err, OnErr, OnOk};
+    ghost use Rattle.framehop.specs.Iterator.{progress_of, place_answer, next_of, cache_after_next};
+    ghost use Rattle.framehop.specs.Memory.{Memory, AnswersAs};
+
+    /// The next frame: the instruction pointer, then return addresses, and `Ok(None)` from the
+    /// root on. After an error the next call tries the same frame again. A return address 0 is
+    /// `ReturnAddressIsNull`, and the registers are the caller's by then.
+    #[allow(clippy::should_implement_trait)]
+    pub fn next(&mut self) -> Result<Option<FrameAddress>, Error>
+        requires { F.IsAlwaysCallable self.old.read_stack.now }
+        ensures callable { F.IsAlwaysCallable self.new.read_stack.now }
+        ensures same_unwinder { self.new.unwinder ≡ self.old.unwinder }
+        ensures same_cache { self.new.cache.ghost_name ≡ self.old.cache.ghost_name }
+        ensures same_callback { self.new.read_stack.ghost_name ≡ self.old.read_stack.ghost_name }
+        ensures no_memory_taken { result ≢ Err Error.OutOfMemory }
+        ensures cached { self.new.cache.now ≡ cache_after_next (U.cache_after self.old.unwinder.now) (progress_of self.old.state) self.old.cache.now }
+        ensures answers { (memory : Memory) → AnswersAs F.FnMut self.old.read_stack.now memory
+            → U.is_sound self.old.unwinder.now self.old.cache.now
+            → let next = next_of (λ place regs. U.step self.old.unwinder.now place regs memory) (progress_of self.old.state) self.old.regs in
+                AnswersAs F.FnMut self.new.read_stack.now memory
+                × U.is_sound self.new.unwinder.now self.new.cache.now
+                × (place_answer result ≡ next.answer) × (progress_of self.new.state ≡ next.progress) × (self.new.regs ≡ next.regs) }
+    {
+        let next = match self.state {
+            UnwindIteratorState::Initial(pc) => {
+                let first = FrameAddress::from_instruction_pointer(pc);
+                self.state = UnwindIteratorState::Unwinding(first);
+                return Ok(Some(first));
+            }
+            UnwindIteratorState::Unwinding(address) => self.unwinder.unwind_frame(
+                address,
+                &mut self.regs,
+                self.cache,
+                self.read_stack,
+            )?,
+            UnwindIteratorState::Done => return Ok(None),
+        };
+        match next {
+            Some(return_address) => {
+                let return_address = FrameAddress::from_return_address(return_address)
+                    .ok_or(Error::ReturnAddressIsNull)?;
+                self.state = UnwindIteratorState::Unwinding(return_address);
+                Ok(Some(return_address))
+            }
+            None => {
+                self.state = UnwindIteratorState::Done;
+                Ok(None)
+            }
+        }
+    }
+
+    /// The registers of the frame at which the iterator stands.
+    pub fn regs(&self) -> &U::UnwindRegs
+        ensures { result.now ≡ self.now.regs }
+    {
+        &self.regs
+    }
+}
+
 /// A module that is loaded in a process, as an executable or a library: its addresses, and its
 /// unwind data.
 #[derive(Drop)]

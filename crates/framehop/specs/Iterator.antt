@@ -1,0 +1,57 @@
+-- The frames of a stack, one at a time.
+use Rattle.std.specs.Prelude.{◌≡◌, ℕ, if◌then◌else◌, ◌==◌, Option, Some, None, Result, Ok, Err}
+use Rattle.framehop_core.specs.Outcome.{Outcome, answered, root, refused}
+use Rattle.framehop_core.specs.CodeAddress.{Place, at_instruction_pointer, at_return_address, place_of}
+use Rattle.framehop_core.specs.declared.code_address.FrameAddress.{FrameAddress}
+use Rattle.framehop_core.specs.declared.error.Error.{Error}
+use Rattle.framehop_core.specs.declared.error.Error.TheVariants.{ReturnAddressIsNull}
+use Rattle.framehop.specs.declared.unwinder.UnwindIteratorState.{UnwindIteratorState}
+use Rattle.framehop.specs.declared.unwinder.UnwindIteratorState.TheVariants.{Initial, Unwinding, Done}
+
+-- how far an iterator has come: before the frame at its instruction pointer, at a frame, or at the end
+pub data Progress : Type 0 where
+  before : ℕ → Progress
+  at_frame : Place → Progress
+  at_end : Progress
+
+abbrev pub progress_of : UnwindIteratorState → Progress
+progress_of (Initial pc) = before pc
+progress_of (Unwinding address) = at_frame (place_of address)
+progress_of Done = at_end
+
+-- an answer with the place of its frame
+abbrev pub place_option : Option FrameAddress → Option Place
+place_option (Some address) = Some (place_of address)
+place_option None = None
+
+abbrev pub place_answer : Result (Option FrameAddress) Error → Result (Option Place) Error
+place_answer (Ok frame) = Ok (place_option frame)
+place_answer (Err error) = Err error
+
+-- what one call answers, and what it leaves
+pub record Next (Regs : Type 0) : Type 0 where
+  pub answer : Result (Option Place) Error
+  pub progress : Progress
+  pub regs : Regs
+
+-- the call at a frame, by the outcome of its step over the registers that it found: after a refusal it stands at the same
+-- frame, and the return address 0 is refused with the caller's registers
+abbrev pub next_after : {Regs : Type 0} → Place → Regs → Outcome Regs → Next Regs
+next_after place old (answered address new) =
+    if address == 0 then record { answer = Err ReturnAddressIsNull; progress = at_frame place; regs = new }
+    else record { answer = Ok (Some (at_return_address address)); progress = at_frame (at_return_address address); regs = new }
+next_after place old root = record { answer = Ok None; progress = at_end; regs = old }
+next_after place old (refused error) = record { answer = Err error; progress = at_frame place; regs = old }
+
+-- the next call
+abbrev pub next_of : {Regs : Type 0} → (Place → Regs → Outcome Regs) → Progress → Regs → Next Regs
+next_of step (before pc) regs =
+    record { answer = Ok (Some (at_instruction_pointer pc)); progress = at_frame (at_instruction_pointer pc); regs = regs }
+next_of step (at_frame place) regs = next_after place regs (step place regs)
+next_of step at_end regs = record { answer = Ok None; progress = at_end; regs = regs }
+
+-- the cache after the next call
+abbrev pub cache_after_next : {Cache : Type 0} → (Cache → Place → Cache) → Progress → Cache → Cache
+cache_after_next cache_after (before pc) cache = cache
+cache_after_next cache_after (at_frame place) cache = cache_after cache place
+cache_after_next cache_after at_end cache = cache
