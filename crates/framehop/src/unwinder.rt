@@ -2,6 +2,7 @@ ghost use Rattle.std.specs.Prelude.{◌≡◌, ◌≢◌, ℕ, ◌+◌, ◌-◌,
 ghost use Rattle.framehop.specs.Memory.{Memory, AnswersAs};
 ghost use Rattle.framehop.specs.Outcome.{Outcome, answer_of, registers_after};
 ghost use Rattle.framehop.specs.CodeAddress.{Place, place_of, is_first_frame};
+ghost use Rattle.framehop.specs.Iterator.{progress_of, before};
 ghost use Rattle.framehop.specs.Fresh.{fresh, by_rule};
 ghost use Rattle.framehop.specs.Cache.{found, counted, ways};
 ghost use Rattle.framehop.specs.CacheResult.{result_of, HitRuns};
@@ -43,7 +44,7 @@ pub struct RefusedModule<M> {
 /// An unwinder for one CPU architecture: the modules of one process, and unwinding by them.
 pub trait Unwinder: Clone {
     /// The registers that unwinding needs on this architecture.
-    type UnwindRegs;
+    type UnwindRegs: Copy;
 
     /// The cache for this architecture, under the unwinder's allocation policy.
     type Cache;
@@ -118,6 +119,26 @@ pub trait Unwinder: Clone {
             → AnswersAs F.FnMut read_stack.new memory
                 × (result ≡ answer_of (step self.now (place_of address) regs.old memory))
                 × (regs.new ≡ registers_after regs.old (step self.now (place_of address) regs.old memory)) };
+
+    /// An iterator over the frames of a stack, from the instruction pointer (AVMA) and the initial
+    /// registers on.
+    final fn iter_frames<'u, 'c, 'r, F>(
+        &'u self,
+        pc: u64,
+        regs: Self::UnwindRegs,
+        cache: &'c mut Self::Cache,
+        read_stack: &'r mut F,
+    ) -> UnwindIterator<'u, 'c, 'r, Self, F>
+    where
+        F: FnMut(u64) -> Result<u64, ()>,
+        ensures progress { progress_of result.state ≡ before pc }
+        ensures unwinder { result.unwinder.now ≡ self.entry.now }
+        ensures regs { result.regs ≡ regs }
+        ensures cache { result.cache ≡ cache.entry }
+        ensures read_stack { result.read_stack ≡ read_stack.entry }
+    {
+        UnwindIterator::new(self, pc, regs, cache, read_stack)
+    }
 }
 
 /// An iterator over the frames of a stack, from the initial register values on.
@@ -135,6 +156,24 @@ pub struct UnwindIterator<'u, 'c, 'r, U: Unwinder, F: FnMut(u64) -> Result<u64, 
     regs: U::UnwindRegs,
     cache: &'c mut U::Cache,
     read_stack: &'r mut F,
+}
+
+impl<U: Unwinder, F: FnMut(u64) -> Result<u64, ()>> Drop for UnwindIterator<'_, '_, '_, U, F> {
+    ghost use Rattle.std.specs.Prelude.{◌≡◌};
+
+    // the cache and the callback stay as the last call left them
+    fn drop(self)
+        ensures cache { self.exit.1.1.1.0.now ≡ self.entry.cache.now }
+        ensures read_stack { self.exit.1.1.1.1.0.now ≡ self.entry.read_stack.now }
+    {
+        let UnwindIterator {
+            unwinder: _,
+            state: _,
+            regs: _,
+            cache: _,
+            read_stack: _,
+        } = self;
+    }
 }
 
 #[derive(Clone, Copy)]

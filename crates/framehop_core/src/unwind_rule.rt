@@ -10,7 +10,7 @@ use std::fmt;
 /// return address and the registers of its caller.
 pub trait UnwindRule: Copy + fmt::Debug {
     /// The registers that the rule works on.
-    type UnwindRegs;
+    type UnwindRegs: Copy;
 
     // what the rule does in a first frame (`true`) or another, over registers and memory
     ghost outcome: { Self → Bool → Self.UnwindRegs → Memory → Outcome Self.UnwindRegs };
