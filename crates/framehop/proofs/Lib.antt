@@ -2,3 +2,4 @@ mod Slots
 pub mod SoundnessLemmas
 pub mod ModuleLemmas
 mod FreshLemmas
+mod WalkLemmas

@@ -1,5 +1,6 @@
 -- The frames of a stack, one at a time.
-use Rattle.std.specs.Prelude.{◌≡◌, ℕ, if◌then◌else◌, ◌==◌, Option, Some, None, Result, Ok, Err}
+use Rattle.framehop.specs.Walk.{Walk, End, at_root, at_refusal, at_limit, callers, walk_from, cache_after_callers, cache_after_walk}
+use Rattle.std.specs.Prelude.{ℕ, zero, suc, [], if◌then◌else◌, ◌==◌, Option, Some, None, Result, Ok, Err}
 use Rattle.framehop_core.specs.Outcome.{Outcome, answered, root, refused}
 use Rattle.framehop_core.specs.CodeAddress.{Place, at_instruction_pointer, at_return_address, place_of}
 use Rattle.framehop_core.specs.declared.code_address.FrameAddress.{FrameAddress}
@@ -55,3 +56,20 @@ abbrev pub cache_after_next : {Cache : Type 0} → (Cache → Place → Cache) �
 cache_after_next cache_after (before pc) cache = cache
 cache_after_next cache_after (at_frame place) cache = cache_after cache place
 cache_after_next cache_after at_end cache = cache
+
+-- the end of at most so many calls behind the end of a walk
+abbrev pub end_after : ℕ → End
+end_after zero = at_limit
+end_after (suc n) = at_root
+
+-- the walk of at most so many further calls
+abbrev pub walk_on : {Regs : Type 0} → (Place → Regs → Outcome Regs) → ℕ → Progress → Regs → Walk Regs
+walk_on step n (before pc) regs = walk_from step n pc regs
+walk_on step n (at_frame place) regs = callers step n place regs
+walk_on step n at_end regs = record { frames = []; end = end_after n; regs = regs }
+
+-- the cache after it
+abbrev pub cache_on : {Regs Cache : Type 0} → (Place → Regs → Outcome Regs) → (Cache → Place → Cache) → ℕ → Progress → Regs → Cache → Cache
+cache_on step cache_after n (before pc) regs cache = cache_after_walk step cache_after n pc regs cache
+cache_on step cache_after n (at_frame place) regs cache = cache_after_callers step cache_after n place regs cache
+cache_on step cache_after n at_end regs cache = cache

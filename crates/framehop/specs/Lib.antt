@@ -7,6 +7,8 @@ pub mod Fresh
 pub mod Walk
 pub mod Soundness
 pub mod Iterator
+pub mod World
+pub mod SessionView
 pub use Rattle.framehop_core.specs.Memory
 pub use Rattle.framehop_core.specs.Outcome
 pub use Rattle.framehop_core.specs.CodeAddress

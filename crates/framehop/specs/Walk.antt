@@ -39,3 +39,19 @@ callers step (suc n) place regs = onward (callers step n) regs (step place regs)
 unfoldable pub walk_from : {Regs : Type 0} → (Place → Regs → Outcome Regs) → ℕ → ℕ → Regs → Walk Regs
 walk_from step zero pc regs = record { frames = []; end = at_limit; regs = regs }
 walk_from step (suc n) pc regs = frame_before (at_instruction_pointer pc) (callers step n (at_instruction_pointer pc) regs)
+
+-- the cache after the steps of a walk, each of which looks up one frame; `next` is the cache after the steps from the
+-- caller's frame on
+abbrev pub onward_cache : {Regs Cache : Type 0} → (Place → Regs → Cache) → Cache → Outcome Regs → Cache
+onward_cache next cache (answered address new) = if address == 0 then cache else next (at_return_address address) new
+onward_cache next cache root = cache
+onward_cache next cache (refused error) = cache
+
+unfoldable pub cache_after_callers : {Regs Cache : Type 0} → (Place → Regs → Outcome Regs) → (Cache → Place → Cache) → ℕ → Place → Regs → Cache → Cache
+cache_after_callers step cache_after zero place regs cache = cache
+cache_after_callers step cache_after (suc n) place regs cache =
+    onward_cache (λ caller new. cache_after_callers step cache_after n caller new (cache_after cache place)) (cache_after cache place) (step place regs)
+
+unfoldable pub cache_after_walk : {Regs Cache : Type 0} → (Place → Regs → Outcome Regs) → (Cache → Place → Cache) → ℕ → ℕ → Regs → Cache → Cache
+cache_after_walk step cache_after zero pc regs cache = cache
+cache_after_walk step cache_after (suc n) pc regs cache = cache_after_callers step cache_after n (at_instruction_pointer pc) regs cache

@@ -6,6 +6,7 @@ pub mod aarch64;
 pub mod cache;
 pub mod generations;
 pub mod rule_cache;
+pub mod session;
 pub mod unwinder;
 
 pub use cache::{AllocationPolicy, MayAllocateDuringUnwind, MustNotAllocateDuringUnwind};

@@ -1,0 +1,139 @@
+//! Lists of commands over unwinders that share caches.
+ghost use Rattle.std.specs.Prelude.{◌≡◌, ◌≢◌, IfOk, IfErr};
+ghost use Rattle.framehop.specs.Memory.{Memory as StackMemory, AnswersAs};
+ghost use Rattle.framehop.specs.Iterator.{progress_of, walk_on, cache_on};
+ghost use Rattle.framehop.specs.SessionView.{walk_of};
+ghost use Rattle.framehop.specs.CodeAddress.{Place};
+ghost use Rattle.framehop.specs.Outcome.{Outcome};
+
+use crate::rule_cache::CacheStats;
+use crate::unwinder::{Module, UnwindIterator, Unwinder};
+use framehop_cfi::section::SectionBytes;
+use framehop_core::{Error, FrameAddress};
+use std::alloc::Global;
+
+/// The stack words of a step or a walk: word `i` stands at the address (AVMA) `base + 8 * i`, and
+/// no other address can be read.
+#[derive(Drop)]
+pub struct Memory {
+    pub base: u64,
+    pub words: Vec<u64>,
+}
+
+/// A command of a session. Unwinders are numbered from 0, in the order in which they are made.
+#[derive(Drop)]
+pub enum Command<D: SectionBytes, R> {
+    /// Makes an unwinder without modules.
+    New,
+
+    /// Adds a module to an unwinder.
+    Add { unwinder: usize, module: Module<D> },
+
+    /// Walks a stack from an instruction pointer (AVMA) and initial registers on, by at most
+    /// `limit` frames.
+    Walk {
+        unwinder: usize,
+        cache: usize,
+        pc: u64,
+        regs: R,
+        memory: Memory,
+        limit: u32,
+    },
+
+    /// Tells the counts of a cache.
+    Stats { cache: usize },
+}
+
+/// How a walk ended.
+#[derive(Clone, Copy, Debug, PartialEq, Eq)]
+pub enum WalkEnd {
+    /// At the root of the stack.
+    Root,
+
+    /// At a frame that could not be unwound.
+    Refused(Error),
+
+    /// At the limit of the command.
+    Limit,
+}
+
+/// The reply to a command.
+#[derive(Drop)]
+pub enum Reply<R> {
+    /// The number of the unwinder that was made.
+    Made(usize),
+
+    /// The command was carried out.
+    Done,
+
+    /// The frames of a walk, how it ended, and the registers there.
+    Walk {
+        frames: Vec<FrameAddress>,
+        end: WalkEnd,
+        regs: R,
+    },
+
+    /// The counts of a cache.
+    Stats(CacheStats),
+}
+
+/// Why a session was refused.
+#[derive(Clone, Copy, Debug, PartialEq, Eq, thiserror::Error)]
+pub enum SessionError {
+    /// Memory was asked for and refused.
+    #[error("Out of memory")]
+    OutOfMemory,
+
+    /// A command names an unwinder that was not made.
+    #[error("No such unwinder")]
+    NoSuchUnwinder,
+
+    /// A command names a cache that the session does not have.
+    #[error("No such cache")]
+    NoSuchCache,
+
+    /// The counter of generations is at its end.
+    #[error("Generations exhausted")]
+    GenerationsExhausted,
+}
+
+/// The next frames of an iterator, at most so many, and how the walk ended.
+fn next_frames<U: Unwinder, F: FnMut(u64) -> Result<u64, ()>>(
+    alloc: Global,
+    unwinding: &mut UnwindIterator<'_, '_, '_, U, F>,
+    limit: u32,
+) -> Result<(Vec<FrameAddress>, WalkEnd), SessionError>
+    requires { F.IsAlwaysCallable unwinding.old.read_stack.now }
+    ensures callable { F.IsAlwaysCallable unwinding.new.read_stack.now }
+    ensures same_unwinder { unwinding.new.unwinder ≡ unwinding.old.unwinder }
+    ensures same_cache { unwinding.new.cache.ghost_name ≡ unwinding.old.cache.ghost_name }
+    ensures same_callback { unwinding.new.read_stack.ghost_name ≡ unwinding.old.read_stack.ghost_name }
+    ensures refused { IfErr result (λ error. error ≡ SessionError.OutOfMemory) }
+    ensures answers { (memory : StackMemory) → AnswersAs F.FnMut unwinding.old.read_stack.now memory
+        → U.is_sound unwinding.old.unwinder.now unwinding.old.cache.now
+        → IfOk result (λ walk.
+            let step : Place → U.UnwindRegs → Outcome U.UnwindRegs = λ place regs. U.step unwinding.old.unwinder.now place regs memory in
+            (walk_of walk.0.items walk.1 unwinding.new.regs
+                ≡ walk_on step limit (progress_of unwinding.old.state) unwinding.old.regs)
+            × (unwinding.new.cache.now
+                ≡ cache_on step (U.cache_after unwinding.old.unwinder.now) limit (progress_of unwinding.old.state) unwinding.old.regs unwinding.old.cache.now)) }
+{
+    let mut frames = Vec::new(alloc);
+    for _call in 0..limit {
+        match unwinding.next() {
+            Ok(Some(frame)) => {
+                if frames.push(frame).is_err() {
+                    return Err(SessionError::OutOfMemory);
+                }
+            }
+            Ok(None) => return Ok((frames, WalkEnd::Root)),
+            Err(error) => {
+                return match error {
+                    Error::OutOfMemory => Err(SessionError::OutOfMemory),
+                    refusal => Ok((frames, WalkEnd::Refused(refusal))),
+                };
+            }
+        }
+    }
+    Ok((frames, WalkEnd::Limit))
+}
