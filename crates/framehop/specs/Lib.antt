@@ -8,6 +8,7 @@ pub mod Walk
 pub mod Soundness
 pub mod Iterator
 pub mod World
+pub mod Room
 pub mod SessionView
 pub use Rattle.framehop_core.specs.Memory
 pub use Rattle.framehop_core.specs.Outcome

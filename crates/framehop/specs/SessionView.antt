@@ -1,9 +1,15 @@
 -- Replies in memory, as what they tell: the capacities of their vectors do not count.
-use Rattle.std.specs.Prelude.{ℕ, List, map, Option, Some, None}
+use Rattle.std.specs.Prelude.{List, map, Result, Ok, Err}
+use Rattle.std.specs.Global.{Global}
+use Rattle.std.specs.declared.vec.Vec.{Vec}
 use Rattle.framehop_core.specs.CodeAddress.{place_of}
 use Rattle.framehop_core.specs.declared.code_address.FrameAddress.{FrameAddress}
 use Rattle.framehop.specs.Walk.{Walk, End, at_root, at_refusal, at_limit}
-use Rattle.framehop.specs.World.{WorldReply, made, done, walked}
+use Rattle.framehop.specs.World.{made, done, walked}
+use Rattle.framehop.specs.Room.{RoomReply, of_world, counts}
+use Rattle.framehop.specs.declared.session.Reply.{Reply}
+use Rattle.framehop.specs.declared.session.Reply.TheVariants.{Made, Done, Walk as WalkReply, Stats}
+use Rattle.framehop.specs.declared.session.SessionError.{SessionError}
 use Rattle.framehop.specs.declared.session.WalkEnd.{WalkEnd}
 use Rattle.framehop.specs.declared.session.WalkEnd.TheVariants.{Root, Refused, Limit}
 
@@ -15,3 +21,15 @@ end_of Limit = at_limit
 -- the frames, the end and the registers of a walk
 abbrev pub walk_of : {Regs : Type 0} → List FrameAddress → WalkEnd → Regs → Walk Regs
 walk_of frames end regs = record { frames = map place_of frames; end = end_of end; regs = regs }
+
+-- what a reply tells
+abbrev pub reply_view : {Regs : Type 0} → Reply Regs → RoomReply Regs
+reply_view (Made unwinder) = of_world (made unwinder)
+reply_view Done = of_world done
+reply_view (WalkReply frames end regs) = of_world (walked (walk_of frames.items end regs))
+reply_view (Stats stats) = counts stats
+
+-- what a session answers
+abbrev pub result_view : {Regs : Type 0} → Result (Vec (Reply Regs) Global) SessionError → Result (List (RoomReply Regs)) SessionError
+result_view (Ok replies) = Ok (map reply_view replies.items)
+result_view (Err error) = Err error

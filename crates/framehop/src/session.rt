@@ -1,14 +1,20 @@
 //! Lists of commands over unwinders that share caches.
 ghost use Rattle.std.specs.Prelude.{◌≡◌, ◌≢◌, IfOk, IfErr};
-ghost use Rattle.framehop.specs.Memory.{Memory as StackMemory, AnswersAs};
+ghost use Rattle.framehop.specs.Memory.{Memory as StackMemory, AnswersAs, reply};
 ghost use Rattle.framehop.specs.Iterator.{progress_of, walk_on, cache_on};
-ghost use Rattle.framehop.specs.SessionView.{walk_of};
+ghost use Rattle.framehop.specs.SessionView.{walk_of, result_view, reply_view};
+ghost use Rattle.framehop.specs.World.{memory_of};
+ghost use Rattle.framehop.specs.Walk.{walk_from, cache_after_walk};
+ghost use Rattle.framehop.specs.Soundness.{IsSound, cache_after};
+ghost use Rattle.framehop.specs.Room.{step_of};
 ghost use Rattle.framehop.specs.CodeAddress.{Place};
 ghost use Rattle.framehop.specs.Outcome.{Outcome};
 
+use crate::cache::{AllocationPolicy, Cache};
 use crate::rule_cache::CacheStats;
-use crate::unwinder::{Module, UnwindIterator, Unwinder};
+use crate::unwinder::{Module, UnwindIterator, Unwinder, UnwinderInternal};
 use framehop_cfi::section::SectionBytes;
+use framehop_core::arch::Arch;
 use framehop_core::{Error, FrameAddress};
 use std::alloc::Global;
 
@@ -18,6 +24,21 @@ use std::alloc::Global;
 pub struct Memory {
     pub base: u64,
     pub words: Vec<u64>,
+}
+
+impl Memory {
+    /// The stack word at the address (AVMA).
+    pub fn read(&self, address: u64) -> Result<u64, ()>
+        ensures { result ≡ reply (memory_of self.now address) }
+    {
+        let Some(offset) = address.checked_sub(self.base) else {
+            return Err(());
+        };
+        if offset % 8 != 0 {
+            return Err(());
+        }
+        self.words.get((offset / 8) as usize).copied().ok_or(())
+    }
 }
 
 /// A command of a session. Unwinders are numbered from 0, in the order in which they are made.
@@ -136,4 +157,29 @@ fn next_frames<U: Unwinder, F: FnMut(u64) -> Result<u64, ()>>(
         }
     }
     Ok((frames, WalkEnd::Limit))
+}
+
+/// Walks a stack over its words: the frames, how the walk ended, and the registers there.
+fn walk_stack<D: SectionBytes + Drop, A: Arch, P: AllocationPolicy>(
+    alloc: Global,
+    unwinder: &UnwinderInternal<D, A, P>,
+    cache: &mut Cache<A::UnwindRule, P>,
+    pc: u64,
+    regs: A::UnwindRegs,
+    memory: &Memory,
+    limit: u32,
+) -> Result<(Vec<FrameAddress>, WalkEnd, A::UnwindRegs), SessionError>
+    ensures refused { IfErr result (λ error. error ≡ SessionError.OutOfMemory) }
+    ensures answers { IsSound A.UnwindRegs A.UnwindRule.fallback unwinder.now cache.old.sets → IfOk result (λ walk.
+        let step = step_of A.UnwindRule.outcome A.UnwindRule.fallback unwinder.now (memory_of memory.now) in
+        (walk_of walk.0.items walk.1 walk.2 ≡ walk_from step limit pc regs)
+        × (cache.new ≡ cache_after_walk step (cache_after A.UnwindRegs A.UnwindRule.fallback unwinder.now) limit pc regs cache.old)) }
+{
+    let mut read_stack = |address: u64| -> Result<u64, ()>
+        ensures { result ≡ reply (memory_of memory.entry.now address) }
+    { memory.read(address) };
+    let mut unwinding = unwinder.iter_frames(pc, regs, cache, &mut read_stack);
+    let (frames, end) = next_frames(alloc, &mut unwinding, limit)?;
+    let regs = *unwinding.regs();
+    Ok((frames, end, regs))
 }
