@@ -3,3 +3,5 @@ pub mod SoundnessLemmas
 pub mod ModuleLemmas
 mod FreshLemmas
 mod WalkLemmas
+mod RoomLemmas
+mod WorldLemmas

@@ -10,6 +10,7 @@ pub mod Iterator
 pub mod World
 pub mod Room
 pub mod SessionView
+pub mod Transparent
 pub use Rattle.framehop_core.specs.Memory
 pub use Rattle.framehop_core.specs.Outcome
 pub use Rattle.framehop_core.specs.CodeAddress

@@ -1,18 +1,21 @@
 //! Lists of commands over unwinders that share caches.
-ghost use Rattle.std.specs.Prelude.{◌≡◌, ◌≢◌, IfOk, IfErr};
+ghost use Rattle.std.specs.Prelude.{◌≡◌, ◌≢◌, ◌≤◌, ℕ, [], replicate, IfOk, IfErr};
 ghost use Rattle.framehop.specs.Memory.{Memory as StackMemory, AnswersAs, reply};
 ghost use Rattle.framehop.specs.Iterator.{progress_of, walk_on, cache_on};
 ghost use Rattle.framehop.specs.SessionView.{walk_of, result_view, reply_view};
 ghost use Rattle.framehop.specs.World.{memory_of};
 ghost use Rattle.framehop.specs.Walk.{walk_from, cache_after_walk};
 ghost use Rattle.framehop.specs.Soundness.{IsSound, cache_after};
-ghost use Rattle.framehop.specs.Room.{step_of};
+ghost use Rattle.framehop.specs.Room.{Room, step_of};
+ghost use Rattle.framehop.specs.Transparent.{IsTransparent, Serves};
+ghost use Rattle.framehop.specs.Cache.{empty_cache};
 ghost use Rattle.framehop.specs.CodeAddress.{Place};
 ghost use Rattle.framehop.specs.Outcome.{Outcome};
 
 use crate::cache::{AllocationPolicy, Cache};
+use crate::generations::Generations;
 use crate::rule_cache::CacheStats;
-use crate::unwinder::{Module, UnwindIterator, Unwinder, UnwinderInternal};
+use crate::unwinder::{Module, ModuleListError, UnwindIterator, Unwinder, UnwinderInternal};
 use framehop_cfi::section::SectionBytes;
 use framehop_core::arch::Arch;
 use framehop_core::{Error, FrameAddress};
@@ -182,4 +185,147 @@ fn walk_stack<D: SectionBytes + Drop, A: Arch, P: AllocationPolicy>(
     let (frames, end) = next_frames(alloc, &mut unwinding, limit)?;
     let regs = *unwinding.regs();
     Ok((frames, end, regs))
+}
+
+/// Unwinders and the caches that they share.
+#[derive(Drop)]
+struct Session<D: SectionBytes, A: Arch, P: AllocationPolicy> {
+    alloc: Global,
+    unwinders: Vec<UnwinderInternal<D, A, P>>,
+    caches: Vec<Cache<A::UnwindRule, P>>,
+}
+
+impl<D: SectionBytes + Drop, A: Arch, P: AllocationPolicy> Session<D, A, P> {
+    /// No unwinder, and so many empty caches.
+    fn new(alloc: Global, cache_count: usize) -> Result<Self, SessionError>
+        ensures made { IfOk result (λ session.
+            (session.unwinders.items ≡ []) × (session.caches.items ≡ replicate cache_count empty_cache)) }
+        ensures refused { IfErr result (λ error. error ≡ SessionError.OutOfMemory) }
+    {
+        let mut caches = Vec::new(alloc);
+        for _number in 0..cache_count {
+            let Ok(cache) = Cache::new(alloc) else {
+                return Err(SessionError::OutOfMemory);
+            };
+            if caches.push(cache).is_err() {
+                return Err(SessionError::OutOfMemory);
+            }
+        }
+        Ok(Session {
+            alloc,
+            unwinders: Vec::new(alloc),
+            caches,
+        })
+    }
+
+    fn make_unwinder(
+        &mut self,
+        generations: &mut Generations,
+    ) -> Result<Reply<A::UnwindRegs>, SessionError>
+        ensures drawn { generations.old ≤ generations.new }
+        ensures served { let old : Room A.UnwindRule = record { unwinders = self.old.unwinders.items; next = generations.old; caches = self.old.caches.items } in
+            let command : Command D A.UnwindRegs = Command.New in
+            Serves A.UnwindRule.outcome A.UnwindRule.fallback old command result
+                (record { unwinders = self.new.unwinders.items; next = generations.new; caches = self.new.caches.items }) }
+    {
+        let number = self.unwinders.len();
+        let Ok(unwinder) = UnwinderInternal::new(self.alloc, generations) else {
+            return Err(SessionError::GenerationsExhausted);
+        };
+        if self.unwinders.push(unwinder).is_err() {
+            return Err(SessionError::OutOfMemory);
+        }
+        Ok(Reply::Made(number))
+    }
+
+    fn add_module(
+        &mut self,
+        unwinder: usize,
+        module: Module<D>,
+        generations: &mut Generations,
+    ) -> Result<Reply<A::UnwindRegs>, SessionError>
+        ensures drawn { generations.old ≤ generations.new }
+        ensures served { let old : Room A.UnwindRule = record { unwinders = self.old.unwinders.items; next = generations.old; caches = self.old.caches.items } in
+            let command : Command D A.UnwindRegs = Command.Add unwinder «module» in
+            Serves A.UnwindRule.outcome A.UnwindRule.fallback old command result
+                (record { unwinders = self.new.unwinders.items; next = generations.new; caches = self.new.caches.items }) }
+    {
+        if unwinder >= self.unwinders.len() {
+            return Err(SessionError::NoSuchUnwinder);
+        }
+        let target = &mut self.unwinders[unwinder];
+        match target.add_module(module, generations) {
+            Ok(()) => Ok(Reply::Done),
+            Err(refused) => Err(match refused.cause {
+                ModuleListError::OutOfMemory => SessionError::OutOfMemory,
+                ModuleListError::GenerationsExhausted => SessionError::GenerationsExhausted,
+            }),
+        }
+    }
+
+    fn stats(&self, cache: usize) -> Result<Reply<A::UnwindRegs>, SessionError>
+        ensures { (next : ℕ) → let room : Room A.UnwindRule = record { unwinders = self.now.unwinders.items; next = next; caches = self.now.caches.items } in
+            let command : Command D A.UnwindRegs = Command.Stats cache in
+            Serves A.UnwindRule.outcome A.UnwindRule.fallback room command result room }
+    {
+        if cache >= self.caches.len() {
+            return Err(SessionError::NoSuchCache);
+        }
+        Ok(Reply::Stats(self.caches[cache].stats()))
+    }
+
+    fn walk(
+        &mut self,
+        unwinder: usize,
+        cache: usize,
+        pc: u64,
+        regs: A::UnwindRegs,
+        memory: Memory,
+        limit: u32,
+    ) -> Result<Reply<A::UnwindRegs>, SessionError>
+        ensures { (next : ℕ) → let old : Room A.UnwindRule = record { unwinders = self.old.unwinders.items; next = next; caches = self.old.caches.items } in
+            let command : Command D A.UnwindRegs = Command.Walk unwinder cache pc regs memory limit in
+            IsTransparent A.UnwindRegs A.UnwindRule.fallback old →
+            Serves A.UnwindRule.outcome A.UnwindRule.fallback old command result
+                (record { unwinders = self.new.unwinders.items; next = next; caches = self.new.caches.items }) }
+    {
+        if unwinder >= self.unwinders.len() {
+            return Err(SessionError::NoSuchUnwinder);
+        }
+        if cache >= self.caches.len() {
+            return Err(SessionError::NoSuchCache);
+        }
+        let walker = &self.unwinders[unwinder];
+        let shared = &mut self.caches[cache];
+        let (frames, end, regs) =
+            walk_stack(self.alloc, walker, shared, pc, regs, &memory, limit)?;
+        Ok(Reply::Walk { frames, end, regs })
+    }
+
+    /// Carries out one command.
+    fn serve(
+        &mut self,
+        command: Command<D, A::UnwindRegs>,
+        generations: &mut Generations,
+    ) -> Result<Reply<A::UnwindRegs>, SessionError>
+        ensures drawn { generations.old ≤ generations.new }
+        ensures served { let old : Room A.UnwindRule = record { unwinders = self.old.unwinders.items; next = generations.old; caches = self.old.caches.items } in
+            IsTransparent A.UnwindRegs A.UnwindRule.fallback old →
+            Serves A.UnwindRule.outcome A.UnwindRule.fallback old command result
+                (record { unwinders = self.new.unwinders.items; next = generations.new; caches = self.new.caches.items }) }
+    {
+        match command {
+            Command::New => self.make_unwinder(generations),
+            Command::Add { unwinder, module } => self.add_module(unwinder, module, generations),
+            Command::Walk {
+                unwinder,
+                cache,
+                pc,
+                regs,
+                memory,
+                limit,
+            } => self.walk(unwinder, cache, pc, regs, memory, limit),
+            Command::Stats { cache } => self.stats(cache),
+        }
+    }
 }

@@ -82,7 +82,7 @@ pub trait Unwinder: Clone {
                 modules = with_module (module_view «module») (unwinder_view self.old).modules;
                 generation = generations.old;
             })
-            × (generations.new ≡ generations.old + 1)) }
+            × (generations.new ≡ generations.old + 1) × (generations.old < 2 ^ 64 - 1)) }
         ensures refused { IfErr result (λ back. (back.module ≡ «module») × (self.new ≡ self.old)
             × (generations.new ≡ generations.old)) }
         ensures exhausted { (generations.old ≡ 2 ^ 64 - 1)

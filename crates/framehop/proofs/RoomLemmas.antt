@@ -1,0 +1,197 @@
+-- A room stays transparent through each command, and its replies are the world's.
+use Rattle.std.proofs.Common.{◌≡◌, ℕ, zero, suc, ◌+◌, ◌-◌, ◌*◌, ◌^◌, ◌<◌, ◌≤◌, Bool, true, false, cond, ◌==◌, ◌⊎◌, List, [], ◌∷◌, ◌++◌, map, length, replicate, slice_index_or, slice_set, Option, Some, None, Result, Ok, Err, refl, sym, ap, ◌∙◌, subst, inl, inr, ⊎_elim, arith, nat_lt, ltb-true, lt-ltb, ne_eqb}
+use Rattle.std.proofs.lemmas.List.{length-map}
+use Rattle.framehop_core.specs.Memory.{Memory}
+use Rattle.framehop_core.specs.Outcome.{Outcome, answered, root, refused}
+use Rattle.framehop_core.specs.CodeAddress.{Place, at_instruction_pointer, at_return_address}
+use Rattle.framehop.specs.Cache.{Entry, CacheView, Sets, empty_cache}
+use Rattle.framehop.specs.Modules.{ModuleView, UnwinderView, with_module}
+use Rattle.framehop.specs.Soundness.{Among, Stands, IsFresh, IsSound, Extends, cache_after}
+use Rattle.framehop.specs.Walk.{onward_cache, cache_after_callers, cache_after_walk}
+use Rattle.framehop.specs.Room.{Room, empty_room, world_of, unwinder_at, cache_at, step_of, room_after}
+use Rattle.framehop.specs.Transparent.{IsTransparent}
+use Rattle.framehop.specs.World.{memory_of, refusal_of, needs_unwinder, needs_cache, needs_generation}
+use Rattle.framehop.specs.declared.rule_cache.TheConstants.{CACHE_ENTRY_COUNT}
+use Rattle.framehop.specs.declared.session.Command.{Command}
+use Rattle.framehop.specs.declared.session.Command.TheVariants.{New, Add, Walk as WalkCommand, Stats}
+use Rattle.framehop.specs.declared.session.SessionError.{SessionError}
+use Rattle.framehop.specs.declared.session.SessionError.TheVariants.{NoSuchUnwinder, NoSuchCache}
+use Rattle.framehop.proofs.SoundnessLemmas.{Extends-after, IsSound-extended}
+
+-- ---- what is among a list that grew, or of which one was replaced
+
+Among-push : {A : Type 0} (x y : A) (xs : List A) → Among x (xs ++ y ∷ []) → Among x xs ⊎ (y ≡ x)
+Among-push x y [] (inl e) = inr e
+Among-push x y [] (inr h) = absurd h
+Among-push x y (z ∷ xs) (inl e) = inl (inl e)
+Among-push x y (z ∷ xs) (inr h) = ⊎_elim (λ old. inl (inr old)) (λ e. inr e) (Among-push x y xs h)
+
+Among-set : {A : Type 0} (x y : A) (xs : List A) (i : ℕ) → Among x (slice_set xs i y) → Among x xs ⊎ (y ≡ x)
+Among-set x y [] i h = inl h
+Among-set x y (z ∷ xs) zero (inl e) = inr e
+Among-set x y (z ∷ xs) zero (inr h) = inl (inr h)
+Among-set x y (z ∷ xs) (suc i) (inl e) = inl (inl e)
+Among-set x y (z ∷ xs) (suc i) (inr h) = ⊎_elim (λ old. inl (inr old)) (λ e. inr e) (Among-set x y xs i h)
+
+pub Among-index : {A : Type 0} (xs : List A) (i : ℕ) (d : A) → i < length xs → Among (slice_index_or xs i d) xs
+Among-index [] i d h = absurd (omega arith)
+Among-index (x ∷ xs) zero d h = inl refl
+Among-index (x ∷ xs) (suc i) d h = inr (Among-index xs i d (omega arith))
+
+Among-replicate : {A : Type 0} (x y : A) (n : ℕ) → Among x (replicate n y) → y ≡ x
+Among-replicate x y zero h = absurd h
+Among-replicate x y (suc n) (inl e) = e
+Among-replicate x y (suc n) (inr h) = Among-replicate x y n h
+
+none-stands : {R : Type 0} (entry : Entry R) (n : ℕ) → Stands entry (replicate n []) → ⊥
+none-stands entry zero h = h
+none-stands entry (suc n) (inl h) = h
+none-stands entry (suc n) (inr h) = none-stands entry n h
+
+-- ---- a walk extends its cache
+
+module _ {R Regs : Type 0} (fallback : R) (unwinder : UnwinderView) where
+  Extends-trans : (a b c : Sets R) → Extends Regs fallback unwinder a b → Extends Regs fallback unwinder b c → Extends Regs fallback unwinder a c
+  Extends-trans a b c ab bc = record {
+      each = λ entry h. ⊎_elim (λ between. ab.each entry between) (λ added. inr added) (bc.each entry h)
+    }
+
+  module _ (step : Place → Regs → Outcome Regs) where
+    Extends-onward : (old : Sets R) (next : Place → Regs → CacheView R) (now : CacheView R) (outcome : Outcome Regs) → Extends Regs fallback unwinder old now.sets → ((place : Place) (regs : Regs) → Extends Regs fallback unwinder old (next place regs).sets) → Extends Regs fallback unwinder old (onward_cache next now outcome).sets
+    Extends-onward old next now (answered address new) here there = zero-or old next now address new here there (address == 0)
+      where
+        zero-or : (old : Sets R) (next : Place → Regs → CacheView R) (now : CacheView R) (address : ℕ) (new : Regs) → Extends Regs fallback unwinder old now.sets → ((place : Place) (regs : Regs) → Extends Regs fallback unwinder old (next place regs).sets) → (b : Bool) → Extends Regs fallback unwinder old (cond b now (next (at_return_address address) new)).sets
+        zero-or old next now address new here there true = here
+        zero-or old next now address new here there false = there (at_return_address address) new
+    Extends-onward old next now root here there = here
+    Extends-onward old next now (refused error) here there = here
+
+    Extends-callers : (n : ℕ) (place : Place) (regs : Regs) (cache : CacheView R) → Extends Regs fallback unwinder cache.sets (cache_after_callers step (cache_after Regs fallback unwinder) n place regs cache).sets
+    unfolding cache_after_callers
+    Extends-callers zero place regs cache = record { each = λ entry h. inl h }
+    Extends-callers (suc n) place regs cache =
+        let now = cache_after Regs fallback unwinder cache place in
+        let here = Extends-after Regs fallback unwinder cache place in
+        Extends-onward cache.sets (λ caller new. cache_after_callers step (cache_after Regs fallback unwinder) n caller new now) now (step place regs) here
+          (λ caller new. Extends-trans cache.sets now.sets _ here (Extends-callers n caller new now))
+
+    Extends-walk : (n pc : ℕ) (regs : Regs) (cache : CacheView R) → Extends Regs fallback unwinder cache.sets (cache_after_walk step (cache_after Regs fallback unwinder) n pc regs cache).sets
+    unfolding cache_after_walk
+    Extends-walk zero pc regs cache = record { each = λ entry h. inl h }
+    Extends-walk (suc n) pc regs cache = Extends-callers n (at_instruction_pointer pc) regs cache
+
+-- ---- what a command that is not refused names
+
+needs-none : (b : Bool) (other : Option SessionError) (error : SessionError) → cond b other (Some error) ≡ None → (b ≡ true) × (other ≡ None)
+needs-none true other error e = (refl, e)
+needs-none false other error e = cc
+
+walk-within : {R : Type 0} (room : Room R) (unwinder cache : ℕ) → needs_unwinder (world_of room) unwinder (needs_cache (length room.caches) cache None) ≡ None → (unwinder < length room.unwinders) × (cache < length room.caches)
+walk-within room unwinder cache e =
+    let outer = needs-none (nat_lt unwinder (length (world_of room).unwinders)) (needs_cache (length room.caches) cache None) NoSuchUnwinder e in
+    let inner = needs-none (nat_lt cache (length room.caches)) None NoSuchCache outer.1 in
+    (omega (arith, ltb-true _ _ outer.0, length-map room.unwinders (λ (u : UnwinderView). u.modules)), ltb-true _ _ inner.0)
+
+-- an unwinder that is there and a counter that is not at its end refuse nothing
+pub adds-allowed : {R : Type 0} (room : Room R) (unwinder : ℕ) → unwinder < length room.unwinders → room.next < 2 ^ 64 - 1 → needs_unwinder (world_of room) unwinder (needs_generation (world_of room)) ≡ None
+adds-allowed room unwinder within left =
+    let there : nat_lt unwinder (length (world_of room).unwinders) ≡ true = lt-ltb _ _ (omega (arith, length-map room.unwinders (λ (u : UnwinderView). u.modules))) in
+    let some : ((2 ^ 64 - 1) - room.next == 0) ≡ false = ne_eqb _ _ (λ e. omega arith) in
+    rw (there, some) refl
+
+-- an unwinder and a cache that are there refuse nothing
+pub walks-allowed : {R : Type 0} (room : Room R) (unwinder cache : ℕ) → unwinder < length room.unwinders → cache < length room.caches → needs_unwinder (world_of room) unwinder (needs_cache (length room.caches) cache None) ≡ None
+walks-allowed room unwinder cache within in_caches =
+    let there : nat_lt unwinder (length (world_of room).unwinders) ≡ true = lt-ltb _ _ (omega (arith, length-map room.unwinders (λ (u : UnwinderView). u.modules))) in
+    let cached : nat_lt cache (length room.caches) ≡ true = lt-ltb _ _ in_caches in
+    rw (there, cached) refl
+
+pub Room-equal : {R : Type 0} (a b : Room R) → a.unwinders ≡ b.unwinders → a.next ≡ b.next → a.caches ≡ b.caches → a ≡ b
+Room-equal a b p q r = λ i. record { unwinders = p i; next = q i; caches = r i }
+
+-- ---- a room stays transparent
+
+module _ {R : Type 0} (Regs : Type 0) (fallback : R) where
+  no-entry : (caches next : ℕ) (c : CacheView R) (entry : Entry R) → Among c (empty_room {R = R} caches next).caches → Stands entry c.sets → ⊥
+  no-entry caches next c entry among stands =
+      let same : empty_cache ≡ c = Among-replicate c empty_cache caches among in
+      none-stands entry CACHE_ENTRY_COUNT (subst (λ (d : CacheView R). Stands entry d.sets) (sym same) stands)
+
+  pub transparent-start : (caches next : ℕ) → IsTransparent Regs fallback (empty_room {R = R} caches next)
+  transparent-start caches next = record {
+      sound = λ u c among _. absurd among;
+      apart = λ u v among _ _. absurd among;
+      drawn = λ u among. absurd among;
+      stored = λ c entry among stands. absurd (no-entry caches next c entry among stands)
+    }
+
+  -- a cache knows nothing of a generation that was just drawn
+  sound-drawn : (room : Room R) → IsTransparent Regs fallback room → (u : UnwinderView) → u.generation ≡ room.next → (c : CacheView R) → Among c room.caches → IsSound Regs fallback u c.sets
+  sound-drawn room old u drawn c among = record {
+      each = λ entry stands own. let below = old.stored c entry among stands in absurd (omega arith)
+    }
+
+  module _ (room : Room R) (old : IsTransparent Regs fallback room) where
+    -- with an unwinder of a generation that was just drawn
+    pub transparent-grown : (unwinders : List UnwinderView) (added : UnwinderView) → added.generation ≡ room.next → ((u : UnwinderView) → Among u unwinders → Among u room.unwinders ⊎ (added ≡ u)) → IsTransparent Regs fallback (record room { unwinders = unwinders; next = room.next + 1 })
+    transparent-grown unwinders added drawn grown = record {
+        sound = λ u c among in_caches.
+          ⊎_elim
+            (λ before. old.sound u c before in_caches)
+            (λ e. sound-drawn room old u (ap (λ (v : UnwinderView). v.generation) (sym e) ∙ drawn) c in_caches)
+            (grown u among);
+        apart = λ u v among_u among_v same.
+          ⊎_elim
+            (λ before_u. ⊎_elim
+              (λ before_v. old.apart u v before_u before_v same)
+              (λ e. let g = ap (λ (w : UnwinderView). w.generation) e in let below = old.drawn u before_u in absurd (omega arith))
+              (grown v among_v))
+            (λ e. ⊎_elim
+              (λ before_v. let g = ap (λ (w : UnwinderView). w.generation) e in let below = old.drawn v before_v in absurd (omega arith))
+              (λ f. ap (λ (w : UnwinderView). w.modules) (sym e ∙ f))
+              (grown v among_v))
+            (grown u among_u);
+        drawn = λ u among.
+          ⊎_elim
+            (λ before. let below = old.drawn u before in omega arith)
+            (λ e. let g = ap (λ (w : UnwinderView). w.generation) e in omega arith)
+            (grown u among);
+        stored = λ c entry among stands. let below = old.stored c entry among stands in omega arith
+      }
+
+    -- with a cache that an unwinder's steps extended
+    pub transparent-cached : (caches : List (CacheView R)) (u : UnwinderView) (before after : CacheView R) → Among u room.unwinders → Among before room.caches → Extends Regs fallback u before.sets after.sets → ((c : CacheView R) → Among c caches → Among c room.caches ⊎ (after ≡ c)) → IsTransparent Regs fallback (record room { caches = caches })
+    transparent-cached caches u before after among_u among_before extends replaced = record {
+        sound = λ v c among_v among.
+          ⊎_elim
+            (λ kept. old.sound v c among_v kept)
+            (λ e. subst (λ (d : CacheView R). IsSound Regs fallback v d.sets) e
+              (IsSound-extended Regs fallback u v before.sets after.sets (old.apart u v among_u among_v) extends (old.sound v before among_v among_before)))
+            (replaced c among);
+        apart = old.apart;
+        drawn = old.drawn;
+        stored = λ c entry among stands.
+          ⊎_elim
+            (λ kept. old.stored c entry kept stands)
+            (λ e. ⊎_elim
+              (λ there. old.stored before entry among_before there)
+              (λ added. let below = old.drawn u among_u in let g = added.generation in omega arith)
+              (extends.each entry (subst (λ (d : CacheView R). Stands entry d.sets) (sym e) stands)))
+            (replaced c among)
+      }
+
+  -- a command that is not refused leaves a transparent room
+  pub transparent-after : {D : Type 0} (outcome : R → Bool → Regs → Memory → Outcome Regs) (room : Room R) (command : Command D Regs) → refusal_of (length room.caches) (world_of room) command ≡ None → IsTransparent Regs fallback room → IsTransparent Regs fallback (room_after outcome fallback room command)
+  transparent-after outcome room New allowed old =
+      transparent-grown room old _ (record { modules = []; generation = room.next }) refl (λ u h. Among-push u _ room.unwinders h)
+  transparent-after outcome room (Add unwinder added) allowed old =
+      transparent-grown room old _ (record { modules = with_module added (unwinder_at room unwinder).modules; generation = room.next }) refl (λ u h. Among-set u _ room.unwinders unwinder h)
+  transparent-after outcome room (WalkCommand unwinder cache pc regs memory limit) allowed old =
+      let walker = unwinder_at room unwinder in
+      let within = walk-within room unwinder cache allowed in
+      transparent-cached room old _ walker (cache_at room cache) _
+        (Among-index room.unwinders unwinder _ within.0)
+        (Among-index room.caches cache _ within.1)
+        (Extends-walk fallback walker (step_of outcome fallback walker (memory_of memory)) limit pc regs (cache_at room cache))
+        (λ c h. Among-set c _ room.caches cache h)
+  transparent-after outcome room (Stats cache) allowed old = old
