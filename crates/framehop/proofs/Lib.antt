@@ -5,3 +5,4 @@ mod FreshLemmas
 mod WalkLemmas
 mod RoomLemmas
 mod WorldLemmas
+mod RunLemmas

@@ -1,14 +1,16 @@
 -- The replies of a room, without the counts of its caches, are those of the world.
 use Rattle.std.proofs.Common.{◌≡◌, ℕ, zero, suc, ◌+◌, ◌-◌, ◌^◌, Bool, List, [], ◌∷◌, ◌++◌, map, length, slice_index_or, slice_set, Option, Some, None, Result, Ok, Err, refl, sym, ap, ◌∙◌, arith, length-set}
+use Rattle.std.proofs.Math.ListN.{length-replicate}
 use Rattle.std.proofs.lemmas.List.{length-map}
 use Rattle.framehop_core.specs.Memory.{Memory}
 use Rattle.framehop_core.specs.Outcome.{Outcome}
 use Rattle.framehop_core.specs.CodeAddress.{Place}
+use Rattle.framehop.specs.Cache.{empty_cache}
 use Rattle.framehop.specs.Modules.{ModuleView, UnwinderView, with_module}
 use Rattle.framehop.specs.Fresh.{step}
 use Rattle.framehop.specs.Walk.{walk_from}
-use Rattle.framehop.specs.World.{World, WorldReply, made, done, walked, memory_of, refusal_of, unless_refused, reply_to, reply_before, world_after, world_replies, modules_of}
-use Rattle.framehop.specs.Room.{Room, RoomReply, of_world, counts, world_of, unwinder_at, step_of, room_reply, room_after, reply_then, room_replies, world_part, without_counts, world_result}
+use Rattle.framehop.specs.World.{World, WorldReply, made, done, walked, memory_of, refusal_of, unless_refused, reply_to, reply_before, world_after, world_replies, modules_of, empty_world}
+use Rattle.framehop.specs.Room.{Room, empty_room, RoomReply, of_world, counts, world_of, unwinder_at, step_of, room_reply, room_after, reply_then, room_replies, world_part, without_counts, world_result}
 use Rattle.framehop.specs.declared.session.Command.{Command}
 use Rattle.framehop.specs.declared.session.Command.TheVariants.{New, Add, Walk as WalkCommand, Stats}
 use Rattle.framehop.specs.declared.session.SessionError.{SessionError}
@@ -91,3 +93,9 @@ module _ {R Regs : Type 0} (outcome : R → Bool → Regs → Memory → Outcome
       result-refused (refusal_of (length room.caches) (world_of room) command) _
         ∙ ap (unless_refused (refusal_of (length room.caches) (world_of room) command))
           (world-reply room command _ ∙ ap (reply_before (reply_to (step outcome fallback) (world_of room) command)) rest)
+
+  -- from so many empty caches and no unwinder
+  pub world-replies-start : {D : Type 0} (caches next : ℕ) (commands : List (Command D Regs)) → world_result (room_replies outcome fallback (empty_room caches next) commands) ≡ world_replies (step outcome fallback) caches (empty_world next) commands
+  world-replies-start caches next commands =
+      world-replies (empty_room caches next) commands
+        ∙ ap (λ n. world_replies (step outcome fallback) n (empty_world next) commands) (length-replicate caches empty_cache)

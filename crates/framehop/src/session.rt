@@ -3,10 +3,11 @@ ghost use Rattle.std.specs.Prelude.{◌≡◌, ◌≢◌, ◌≤◌, ℕ, [], re
 ghost use Rattle.framehop.specs.Memory.{Memory as StackMemory, AnswersAs, reply};
 ghost use Rattle.framehop.specs.Iterator.{progress_of, walk_on, cache_on};
 ghost use Rattle.framehop.specs.SessionView.{walk_of, result_view, reply_view};
-ghost use Rattle.framehop.specs.World.{memory_of};
+ghost use Rattle.framehop.specs.World.{memory_of, empty_world, world_replies};
 ghost use Rattle.framehop.specs.Walk.{walk_from, cache_after_walk};
 ghost use Rattle.framehop.specs.Soundness.{IsSound, cache_after};
-ghost use Rattle.framehop.specs.Room.{Room, step_of};
+ghost use Rattle.framehop.specs.Room.{Room, step_of, empty_room, room_replies, next_after_all, world_result};
+ghost use Rattle.framehop.specs.Fresh.{step};
 ghost use Rattle.framehop.specs.Transparent.{IsTransparent, Serves};
 ghost use Rattle.framehop.specs.Cache.{empty_cache};
 ghost use Rattle.framehop.specs.CodeAddress.{Place};
@@ -328,4 +329,35 @@ impl<D: SectionBytes + Drop, A: Arch, P: AllocationPolicy> Session<D, A, P> {
             Command::Stats { cache } => self.stats(cache),
         }
     }
+}
+
+/// Carries out a list of commands, over so many caches that all its unwinders share, and answers
+/// their replies in order. Generations are drawn from the counter.
+///
+/// The first command that names an unwinder or a cache that is not there, or that needs a
+/// generation where the counter is at its end, refuses the session, and so does want of memory.
+/// Then its unwinders and caches are gone, and the generations that it drew stay drawn.
+pub fn run<D: SectionBytes + Drop, A: Arch, P: AllocationPolicy>(
+    alloc: Global,
+    commands: Vec<Command<D, A::UnwindRegs>>,
+    cache_count: usize,
+    generations: &mut Generations,
+) -> Result<Vec<Reply<A::UnwindRegs>>, SessionError>
+    ensures transparent { result ≢ Err SessionError.OutOfMemory → world_result (result_view result)
+        ≡ world_replies (step A.UnwindRule.outcome A.UnwindRule.fallback) cache_count (empty_world generations.old) commands.items }
+    ensures counted { result ≢ Err SessionError.OutOfMemory → result_view result
+        ≡ room_replies A.UnwindRule.outcome A.UnwindRule.fallback (empty_room cache_count generations.old) commands.items }
+    ensures drawn { result ≢ Err SessionError.OutOfMemory → generations.new
+        ≡ next_after_all A.UnwindRule.outcome A.UnwindRule.fallback (empty_room cache_count generations.old) commands.items }
+    ensures never_back { generations.old ≤ generations.new }
+{
+    let mut session: Session<D, A, P> = Session::new(alloc, cache_count)?;
+    let mut replies = Vec::new(alloc);
+    for command in commands {
+        let reply = session.serve(command, generations)?;
+        if replies.push(reply).is_err() {
+            return Err(SessionError::OutOfMemory);
+        }
+    }
+    Ok(replies)
 }

@@ -1,0 +1,78 @@
+use Rattle.std.proofs.Common.{◌≡◌, ◌≢◌, ◌≤◌, [], ◌∷◌, ◌++◌, map, Result, Ok, Err, refl, sym, ap, ◌∙◌, subst, arith, rules}
+use Rattle.std.proofs.lemmas.List.{map-append, nil_from_length}
+use Rattle.std.proofs.lemmas.Result.{err_from_is_err_and}
+use Rattle.std.specs.Vec.Iter.{into_iter_items}
+use Rattle.framehop.specs.Room.{Room, empty_room, room_replies, next_after_all, world_result}
+use Rattle.framehop.specs.declared.session.SessionError.TheVariants.{OutOfMemory}
+use Rattle.framehop.specs.SessionView.{reply_view, result_view}
+use Rattle.framehop.specs.Transparent.{IsTransparent}
+use Rattle.framehop.proofs.RoomLemmas.{transparent-start, transparent-after, Room-equal}
+use Rattle.framehop.proofs.RunLemmas.{Continues, Continues-start, Continues-served, refused-all, done-all}
+use Rattle.framehop.proofs.WorldLemmas.{world-replies-start}
+use Rattle.framehop.proofs.session.run.Goals as goal
+
+pub loop-command-init : goal.loop-command-init
+loop-command-init g c =
+    let start : Room g.row.A-UnwindRule.Denot = empty_room c.args.cache_count c.args.generations.now in
+    let made = c.in_ok-session.ensures.made in
+    let room : Room g.row.A-UnwindRule.Denot = record { unwinders = c.in_ok-session.session.unwinders.items; next = c.args.generations.now; caches = c.in_ok-session.session.caches.items } in
+    let same : room ≡ start = Room-equal room start made.0 refl made.1 in
+    let given : into_iter_items c.into_iter-command-iterator.result ≡ c.args.commands.items = search rules in
+    (
+      subst (IsTransparent _ _) (sym same) (transparent-start g.row.A-UnwindRegs.Denot g.A.UnwindRule.UnwindRule.fallback c.args.cache_count c.args.generations.now),
+      rw (c.new-replies.ensures.items, same, given) (Continues-start g.A.UnwindRule.UnwindRule.outcome g.A.UnwindRule.UnwindRule.fallback start c.args.commands.items),
+      omega arith,
+      search rules,
+    )
+
+-- the command that was refused refuses all
+refused-at : (g : _) (c : goal.After-drop-session-in_err-reply g) → c.from_residual-in_err-reply.result ≢ Err OutOfMemory → (result_view c.from_residual-in_err-reply.result ≡ room_replies g.A.UnwindRule.UnwindRule.outcome g.A.UnwindRule.UnwindRule.fallback (empty_room c.args.cache_count c.args.generations.now) c.args.commands.items) × (c.serve.new.generations ≡ next_after_all g.A.UnwindRule.UnwindRule.outcome g.A.UnwindRule.UnwindRule.fallback (empty_room c.args.cache_count c.args.generations.now) c.args.commands.items)
+refused-at g c other =
+    let old = c.loop-command.invariant in
+    let room : Room g.row.A-UnwindRule.Denot = record { unwinders = c.loop-command.session.unwinders.items; next = c.loop-command.generations; caches = c.loop-command.session.caches.items } in
+    let taken : into_iter_items c.loop-command.command-iterator ≡ c.in-Some.command ∷ into_iter_items c.next.new.self = search rules in
+    let here = subst (λ commands. Continues g.A.UnwindRule.UnwindRule.outcome g.A.UnwindRule.UnwindRule.fallback room (empty_room c.args.cache_count c.args.generations.now) (map reply_view c.loop-command.replies.items) commands c.args.commands.items) taken old.1 in
+    let p = err_from_is_err_and c.from_residual-in_err-reply.result c.from_residual-in_err-reply.ensures.1 in
+    let is : c.from_residual-in_err-reply.result ≡ Err c.in_err-reply.field-0.0 = p.1 ∙ ap (λ error. Err error) p.2 in
+    let served = c.in_err-reply.ensures.served old.0 (λ e. other (is ∙ ap (λ error. Err error) e)) in
+    let all = refused-all g.A.UnwindRule.UnwindRule.outcome g.A.UnwindRule.UnwindRule.fallback room (empty_room c.args.cache_count c.args.generations.now) (map reply_view c.loop-command.replies.items) c.in-Some.command (into_iter_items c.next.new.self) c.args.commands.items here c.in_err-reply.field-0.0 served.0 in
+    (ap result_view is ∙ all.0, served.1 ∙ all.1)
+
+pub returns-in_err-reply-clause-counted : goal.returns-in_err-reply-clause-counted
+returns-in_err-reply-clause-counted g c = λ other. (refused-at g c other).0
+
+pub returns-in_err-reply-clause-transparent : goal.returns-in_err-reply-clause-transparent
+returns-in_err-reply-clause-transparent g c = λ other.
+    ap world_result (refused-at g c other).0 ∙ world-replies-start g.A.UnwindRule.UnwindRule.outcome g.A.UnwindRule.UnwindRule.fallback c.args.cache_count c.args.generations.now c.args.commands.items
+
+pub returns-in_err-reply-clause-drawn : goal.returns-in_err-reply-clause-drawn
+returns-in_err-reply-clause-drawn g c = λ other. (refused-at g c other).1
+
+pub loop-command-preserved : goal.loop-command-preserved
+loop-command-preserved g c =
+    let old = c.loop-command.invariant in
+    let room : Room g.row.A-UnwindRule.Denot = record { unwinders = c.loop-command.session.unwinders.items; next = c.loop-command.generations; caches = c.loop-command.session.caches.items } in
+    let taken : into_iter_items c.loop-command.command-iterator ≡ c.in-Some.command ∷ into_iter_items c.next.new.self = search rules in
+    let served = c.in_ok-reply.ensures.served old.0 in
+    let pushed : c.push.new.self.items ≡ c.loop-command.replies.items ++ c.in_ok-reply.reply ∷ [] = search rules in
+    let here = subst (λ commands. Continues g.A.UnwindRule.UnwindRule.outcome g.A.UnwindRule.UnwindRule.fallback room (empty_room c.args.cache_count c.args.generations.now) (map reply_view c.loop-command.replies.items) commands c.args.commands.items) taken old.1 in
+    (
+      subst (IsTransparent _ _) (sym served.2) (transparent-after g.row.A-UnwindRegs.Denot g.A.UnwindRule.UnwindRule.fallback g.A.UnwindRule.UnwindRule.outcome room c.in-Some.command served.0 old.0),
+      rw (pushed, map-append) (Continues-served g.A.UnwindRule.UnwindRule.outcome g.A.UnwindRule.UnwindRule.fallback room _ _ c.in-Some.command _ _ here _ (reply_view c.in_ok-reply.reply) served.0 served.1 served.2),
+      omega arith,
+      search rules,
+    )
+
+pub returns-clause-counted : goal.returns-clause-counted
+returns-clause-counted g c = λ other.
+    let none : into_iter_items c.loop-command.command-iterator ≡ [] = nil_from_length _ (sym c.loop-command.invariant.3 ∙ c.in-None.ensures.steps.0) in
+    (done-all g.A.UnwindRule.UnwindRule.outcome g.A.UnwindRule.UnwindRule.fallback _ _ _ _ _ none c.loop-command.invariant.1).0
+
+pub returns-clause-transparent : goal.returns-clause-transparent
+returns-clause-transparent g c = λ other.
+    ap world_result (returns-clause-counted g c other) ∙ world-replies-start g.A.UnwindRule.UnwindRule.outcome g.A.UnwindRule.UnwindRule.fallback c.args.cache_count c.args.generations.now c.args.commands.items
+
+pub returns-clause-drawn : goal.returns-clause-drawn
+returns-clause-drawn g c = λ other.
+    let none : into_iter_items c.loop-command.command-iterator ≡ [] = nil_from_length _ (sym c.loop-command.invariant.3 ∙ c.in-None.ensures.steps.0) in
+    (done-all g.A.UnwindRule.UnwindRule.outcome g.A.UnwindRule.UnwindRule.fallback _ _ _ _ _ none c.loop-command.invariant.1).1
