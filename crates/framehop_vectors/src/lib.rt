@@ -1,0 +1,7 @@
+// Worked examples of the library, with the values that are to come out. This crate has tests alone.
+#![tactic(auto)]
+
+#[cfg(test)]
+mod sections;
+#[cfg(test)]
+mod walk;
