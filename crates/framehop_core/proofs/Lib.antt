@@ -1,3 +1,4 @@
+pub mod Orderings
 mod RegisterFile
 pub mod Callback
 mod Masks
