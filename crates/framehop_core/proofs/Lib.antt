@@ -1,3 +1,4 @@
+pub mod Sequences
 pub mod Orderings
 mod RegisterFile
 pub mod Callback

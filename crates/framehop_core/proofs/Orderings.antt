@@ -10,7 +10,7 @@ use Rattle.std.proofs.lemmas.Nat.{div-mul-add, mod-mul-add, mod_below, div-add-m
 use Rattle.std.proofs.Math.Nat.{mul-le-mul_left, mul-le-mul_right, mul_assoc}
 use Rattle.framehop_core.specs.declared.x86_64.unwindregs.Reg.{Reg}
 use Rattle.framehop_core.specs.declared.x86_64.unwindregs.Reg.TheVariants.{RBX, RBP, RDI, RSI, R12, R13, R14, R15}
-use Rattle.framehop_core.specs.X86_64.Ordering.{eight, exchanges, ordering, IsArrangement}
+use Rattle.framehop_core.specs.X86_64.Ordering.{eight, exchanges, ordering, IsArrangement, IsEncoding}
 
 -- ---- one exchange
 
@@ -440,18 +440,11 @@ module _ (registers order : List Reg) (place encoded scale : ℕ) (z : Reg) (n :
       Encodes-absent registers (drop place order) (get_or registers place z) (drop (place + 1) registers) encoded scale (rw others_is at old) (rw whole at absent) number.0 number.1
 
 -- after the last register
-pub record IsEncoded (registers : List Reg) (encoded : ℕ) : Type 0 where
-  pub arrangement : IsArrangement registers
-  pub orders : ordering (length registers) encoded ≡ registers
-  pub below : encoded < 40320
-  pub least : (n : ℕ) → ordering (length registers) n ≡ registers → encoded ≤ n
-
-pub IsEncoded-end : (registers pool : List Reg) (place encoded scale : ℕ) → length registers ≤ place → Encodes registers pool (drop place registers) encoded scale → IsEncoded registers encoded
-IsEncoded-end registers pool place encoded scale last e =
+pub IsEncoding-end : (registers pool : List Reg) (place encoded scale : ℕ) → length registers ≤ place → Encodes registers pool (drop place registers) encoded scale → IsEncoding registers (length registers) encoded
+IsEncoding-end registers pool place encoded scale last e =
     let end = Encodes-end registers pool encoded scale (rw (drop_all place registers last) at e) in
-    record {
-      arrangement = subst IsArrangement end.0 (IsArrangement-ordering (length registers) encoded);
-      orders = end.0;
-      below = end.2;
-      least = end.1;
-    }
+    record { counted = refl; below = end.2; orders = end.0; least = end.1 }
+
+-- what is encoded is an arrangement
+pub IsArrangement-encoding : (registers : List Reg) (count n : ℕ) → IsEncoding registers count n → IsArrangement registers
+IsArrangement-encoding registers count n e = subst IsArrangement e.orders (IsArrangement-ordering count n)

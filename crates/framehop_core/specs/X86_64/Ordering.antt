@@ -1,5 +1,5 @@
 -- The orderings of registers, each of which has a number (framehop 0.16.0, `register_ordering`).
-use Rattle.std.specs.Prelude.{ℕ, zero, suc, ◌/◌, ◌%◌, Bool, ◌&&◌, nat_lt, nat_le, List, [], ◌∷◌, ◌++◌, take, drop, swap, ◌≢◌, All, AllPairs, Contains}
+use Rattle.std.specs.Prelude.{◌≡◌, ℕ, zero, suc, ◌<◌, ◌≤◌, ◌/◌, ◌%◌, Bool, ◌&&◌, nat_lt, nat_le, List, [], ◌∷◌, ◌++◌, length, take, drop, swap, ◌≢◌, All, AllPairs, Contains}
 use Rattle.framehop_core.specs.declared.x86_64.unwindregs.Reg.{Reg}
 use Rattle.framehop_core.specs.declared.x86_64.unwindregs.Reg.TheVariants.{RBX, RBP, RDI, RSI, R12, R13, R14, R15}
 
@@ -27,3 +27,10 @@ is_ordering count n = nat_le count 8 && nat_lt n 40320
 pub record IsArrangement (registers : List Reg) : Type 0 where
   pub distinct : AllPairs (λ a b. a ≢ b) registers
   pub among : All (Contains eight) registers
+
+-- the count and the number that stand for an ordering: the least number that it has
+pub record IsEncoding (registers : List Reg) (count n : ℕ) : Type 0 where
+  pub counted : count ≡ length registers
+  pub below : n < 40320
+  pub orders : ordering count n ≡ registers
+  pub least : (m : ℕ) → ordering count m ≡ registers → n ≤ m

@@ -1,12 +1,14 @@
 -- What the unwind rules of x86_64 do, as a table (framehop 0.16.0, documentation of `UnwindRuleX86_64`).
-use Rattle.std.specs.Prelude.{ℕ, ◌*◌, ◌≤◌, ℤ, pos, negsuc, ◌+ℤ◌, ◌-ℤ◌, ◌*ℤ◌, Bool, true, false, ◌&&◌, ◌==◌, if◌then◌else◌, nat_le, List, [], ◌∷◌, Option, Some, None, OnSome, IfOk, unwrap_or, Result, Ok, Err}
+use Rattle.std.specs.Prelude.{◌≡◌, ℕ, ◌*◌, ◌≤◌, ℤ, pos, negsuc, ◌+ℤ◌, ◌-ℤ◌, ◌*ℤ◌, Bool, true, false, ◌&&◌, ◌==◌, if◌then◌else◌, nat_le, List, [], ◌∷◌, Option, Some, None, option_map, OnSome, IfOk, unwrap_or, Result, Ok, Err}
 use Rattle.framehop_core.specs.Memory.{Memory}
 use Rattle.framehop_core.specs.Outcome.{Outcome, answered, root, refused, after, and_then, address_at, word_at}
 use Rattle.framehop_core.specs.X86_64.Registers.{Registers, with_register}
-use Rattle.framehop_core.specs.X86_64.Ordering.{ordering, is_ordering}
+use Rattle.framehop_core.specs.X86_64.Ordering.{ordering, is_ordering, IsArrangement, IsEncoding}
 use Rattle.framehop_core.specs.declared.error.Error.{Error}
 use Rattle.framehop_core.specs.declared.error.Error.TheVariants.{DidNotAdvance, FramepointerUnwindingMovedBackwards}
 use Rattle.framehop_core.specs.declared.x86_64.unwindregs.Reg.{Reg}
+use Rattle.framehop_core.specs.declared.x86_64.unwind_rule.OffsetOrPop.{OffsetOrPop}
+use Rattle.framehop_core.specs.declared.x86_64.unwind_rule.OffsetOrPop.TheVariants.{OffsetBy8, Pop}
 use Rattle.framehop_core.specs.declared.x86_64.unwind_rule.UnwindRuleX86_64.{UnwindRuleX86_64}
 use Rattle.framehop_core.specs.declared.x86_64.unwind_rule.UnwindRuleX86_64.TheVariants.{EndOfStack, JustReturn, JustReturnIfFirstFrameOtherwiseFp, OffsetSp, OffsetSpAndRestoreBp, UseFramePointer, OffsetSpAndPopRegisters}
 
@@ -135,3 +137,30 @@ pub record Advances (first : Bool) (callee caller : Registers) : Type 0 where
 -- where a call has answered an address, rsp has not fallen
 abbrev pub NotBelowWhereAnswered : Result (Option ℕ) Error → Registers → Registers → Type 0
 NotBelowWhereAnswered result old new = IfOk result (λ answer. OnSome answer (old.rsp ≤ new.rsp))
+
+-- ---- rules of operations
+
+-- the registers of operations that are pops alone
+abbrev pub pops_of : List OffsetOrPop → Option (List Reg)
+pops_of [] = Some []
+pops_of (Pop register ∷ operations) = option_map (λ registers. register ∷ registers) (pops_of operations)
+pops_of (_ ∷ operations) = None
+
+-- the offset and the registers of operations that are at most one offset, then pops alone
+abbrev pub offset_and_pops_of : List OffsetOrPop → Option (ℕ × List Reg)
+offset_and_pops_of (OffsetBy8 x ∷ operations) = option_map (λ registers. (x, registers)) (pops_of operations)
+offset_and_pops_of operations = option_map (λ registers. (0, registers)) (pops_of operations)
+
+-- the rule of an offset and the registers behind it: without both a plain return
+abbrev pub IsRuleOf : ℕ → List Reg → UnwindRuleX86_64 → Type 0
+IsRuleOf x registers JustReturn = (x ≡ 0) × (registers ≡ [])
+IsRuleOf x registers (OffsetSpAndPopRegisters y count n) =
+    (y ≡ x) × IsEncoding registers count n × ¬ ((x ≡ 0) × (registers ≡ []))
+IsRuleOf x registers _ = ⊥
+
+-- the rule of operations, or none where they are no offset and pops, or their registers have no ordering
+abbrev pub IsRuleOfOperations : List OffsetOrPop → Option UnwindRuleX86_64 → Type 0
+IsRuleOfOperations operations None =
+    (x : ℕ) (registers : List Reg) → offset_and_pops_of operations ≡ Some (x, registers) → ¬ IsArrangement registers
+IsRuleOfOperations operations (Some rule) =
+    (x : ℕ) × (registers : List Reg) × (offset_and_pops_of operations ≡ Some (x, registers)) × IsRuleOf x registers rule

@@ -1,7 +1,7 @@
 // Numbers for the orders in which registers are popped: an unwind rule keeps a count and a number
 // in place of a list of registers.
 ghost use Rattle.std.specs.Prelude.{◌≡◌, ℕ, ◌+◌, ◌<◌, ◌≤◌, ◌↔◌, length, IsSome, IfSome, MatchOption, slice_index_or, swap, All, ◌≢◌};
-ghost use Rattle.framehop_core.specs.X86_64.Ordering.{eight, ordering, is_ordering, IsArrangement};
+ghost use Rattle.framehop_core.specs.X86_64.Ordering.{eight, ordering, is_ordering, IsArrangement, IsEncoding};
 
 use super::unwindregs::Reg;
 use arrayvec::ArrayVec;
@@ -48,10 +48,7 @@ pub fn decode(count: u8, encoded_ordering: u16) -> ArrayVec<Reg, 8>
 /// stands in the list twice, or is not one of the eight that can be ordered.
 pub fn encode(registers: &[Reg]) -> Option<(u8, u16)>
     ensures exact { IsSome result ↔ IsArrangement registers.now }
-    ensures ordering { IfSome result (λ p. (p.0 ≡ length registers.now)
-        × (p.1 < 40320)
-        × (ordering p.0 p.1 ≡ registers.now)) }
-    ensures least { IfSome result (λ p. (n : ℕ) → ordering p.0 n ≡ registers.now → p.1 ≤ n) }
+    ensures encoding { IfSome result (λ p. IsEncoding registers.now p.0 p.1) }
 {
     if registers.len() > ENCODE_REGISTERS.len() {
         return None;

@@ -1,12 +1,14 @@
-ghost use Rattle.std.specs.Prelude.{◌≡◌, ◌≤◌, pos, ◌-ℤ◌, MatchResult, OnOk};
+ghost use Rattle.std.specs.Prelude.{◌≡◌, ℕ, ◌<◌, ◌≤◌, pos, ◌-ℤ◌, true, List, length, MatchResult, OnOk, MatchOption, IfSome};
+ghost use Rattle.std.specs.Iterator.{IsFinite, AlwaysYields};
 ghost use Rattle.framehop_core.specs.Memory.{Memory, AnswersAs};
 ghost use Rattle.framehop_core.specs.Outcome.{KeptUnlessAnswered, HasDone, address_at};
-ghost use Rattle.framehop_core.specs.X86_64.Rules.{NotBelowWhereAnswered, outcome_of_line, frame_pointer_line, beside, restored_at, value_from, popped, return_address, finished};
+ghost use Rattle.framehop_core.specs.X86_64.Rules.{NotBelowWhereAnswered, outcome_of_line, frame_pointer_line, beside, restored_at, value_from, popped, return_address, finished, is_executable, offset_and_pops_of, IsRuleOfOperations};
 
 use super::register_ordering;
 use super::unwindregs::{Reg, UnwindRegsX86_64};
 use crate::error::Error;
 use crate::unwind_rule::{UnwindRule, address_beside, offset_address, read_stack_word};
+use arrayvec::ArrayVec;
 
 /// How to get from the registers of a frame to those of its caller, on x86_64.
 ///
@@ -53,6 +55,68 @@ pub enum UnwindRuleX86_64 {
         /// The number of their ordering, see `register_ordering`.
         encoded_registers_to_pop: u16,
     },
+}
+
+/// An operation that unwinding has to do: an offset of the stack pointer, in units of 8 bytes, or
+/// a pop of a register, or something else.
+#[derive(Clone, Copy, Debug, PartialEq, Eq)]
+pub enum OffsetOrPop {
+    None,
+    OffsetBy8(u16),
+    Pop(Reg),
+}
+
+impl UnwindRuleX86_64 {
+    /// The rule that does these operations: at most one offset first, then pops alone, of distinct
+    /// registers among the eight that can be ordered. Other operations have no rule.
+    pub fn for_sequence_of_offset_or_pop<I>(operations: I) -> Option<Self>
+    where
+        I: Iterator<Item = OffsetOrPop> + Drop,
+        requires can { I.can_next operations }
+        requires ends { IsFinite (I.remaining operations) }
+        ensures rule { (given : List OffsetOrPop) → AlwaysYields I.next_gives (λ operation. operation) operations given
+            → IsRuleOfOperations given result }
+        ensures executable { IfSome result (λ rule. is_executable rule ≡ true) }
+    {
+        let (sp_offset_by_8, registers) = offset_and_pops(operations)?;
+        if sp_offset_by_8 == 0 && registers.is_empty() {
+            return Some(Self::JustReturn);
+        }
+        let (register_count, encoded_registers_to_pop) = register_ordering::encode(
+            registers.as_slice(),
+        )?;
+        Some(Self::OffsetSpAndPopRegisters {
+            sp_offset_by_8,
+            register_count,
+            encoded_registers_to_pop,
+        })
+    }
+}
+
+/// The offset and the registers of operations that are at most one offset, then at most 8 pops.
+fn offset_and_pops<I>(operations: I) -> Option<(u16, ArrayVec<Reg, 8>)>
+where
+    I: Iterator<Item = OffsetOrPop> + Drop,
+    requires can { I.can_next operations }
+    requires ends { IsFinite (I.remaining operations) }
+    ensures given { (given : List OffsetOrPop) → AlwaysYields I.next_gives (λ operation. operation) operations given
+        → MatchOption result
+        ((x : ℕ) (registers : List Reg) → offset_and_pops_of given ≡ Some (x, registers) → 8 < length registers)
+        (λ found. offset_and_pops_of given ≡ Some (found.0, found.1.items)) }
+    ensures few { IfSome result (λ found. length found.1.items ≤ 8) }
+{
+    let mut sp_offset_by_8 = 0;
+    let mut registers = ArrayVec::new();
+    let mut is_first = true;
+    for operation in operations {
+        match operation {
+            OffsetOrPop::OffsetBy8(offset) if is_first => sp_offset_by_8 = offset,
+            OffsetOrPop::Pop(register) if !registers.is_full() => registers.push(register),
+            _ => return None,
+        }
+        is_first = false;
+    }
+    Some((sp_offset_by_8, registers))
 }
 
 impl UnwindRule for UnwindRuleX86_64 {

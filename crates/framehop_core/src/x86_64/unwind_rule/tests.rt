@@ -1,7 +1,4 @@
-ghost use Rattle.std.specs.Prelude.{◌≡◌, ◌-◌, ◌/◌, slice_get, Option, IsTrue};
-ghost use Rattle.framehop_core.specs.Memory.{reply};
-
-use super::UnwindRuleX86_64;
+use super::{OffsetOrPop, UnwindRuleX86_64};
 use crate::error::Error;
 use crate::unwind_rule::UnwindRule;
 use crate::x86_64::unwindregs::{Reg, UnwindRegsX86_64};
@@ -165,4 +162,34 @@ fn pops_registers(rt: HostRuntime) -> Result<(), Fail> {
         assert_eq!(rt; regs, UnwindRegsX86_64::new(0x1007, 0x100, 0));
     }
     Ok(())
+}
+
+#[test]
+fn makes_rules_of_operations(rt: HostRuntime) {
+    let rule = |sp_offset_by_8, register_count| {
+        Some(UnwindRuleX86_64::OffsetSpAndPopRegisters {
+            sp_offset_by_8,
+            register_count,
+            encoded_registers_to_pop: 0,
+        })
+    };
+    let rbx = OffsetOrPop::Pop(Reg::RBX);
+    for (operations, want) in [
+        ([].as_slice(), Some(UnwindRuleX86_64::JustReturn)),
+        (
+            [OffsetOrPop::OffsetBy8(0)].as_slice(),
+            Some(UnwindRuleX86_64::JustReturn),
+        ),
+        ([OffsetOrPop::OffsetBy8(3)].as_slice(), rule(3, 0)),
+        ([OffsetOrPop::OffsetBy8(4), rbx].as_slice(), rule(4, 1)),
+        ([rbx, OffsetOrPop::OffsetBy8(4)].as_slice(), None),
+        ([OffsetOrPop::None].as_slice(), None),
+        ([OffsetOrPop::Pop(Reg::RAX)].as_slice(), None),
+    ] {
+        let operations = operations.iter().copied();
+        assert_eq!(rt;
+            UnwindRuleX86_64::for_sequence_of_offset_or_pop(operations),
+            want
+        );
+    }
 }

@@ -1,6 +1,6 @@
 use Rattle.std.proofs.Common.{arith, length, refl}
 use Rattle.framehop_core.specs.declared.x86_64.unwindregs.Reg.TheVariants.{RAX}
-use Rattle.framehop_core.proofs.Orderings.{IsArrangement-number, Encodes-start, Encodes-place, Encodes-fits, Encodes-refused, IsEncoded-end}
+use Rattle.framehop_core.proofs.Orderings.{IsArrangement-number, Encodes-start, Encodes-place, Encodes-fits, Encodes-refused, IsEncoding-end, IsArrangement-encoding}
 use Rattle.framehop_core.proofs.x86_64.register_ordering.encode.Goals as goal
 
 pub returns-then-registers-gt8-clause-exact : goal.returns-then-registers-gt8-clause-exact
@@ -37,15 +37,9 @@ loop-place-preserved c =
 
 pub returns-clause-exact : goal.returns-clause-exact
 returns-clause-exact c =
-    let done = IsEncoded-end c.args.registers.now _ c.loop-place.place c.loop-place.encoded c.loop-place.scale c.loop-place-test.false c.loop-place.invariant.1 in
-    (λ _. done.arrangement, λ _. refl)
+    let done = IsEncoding-end c.args.registers.now _ c.loop-place.place c.loop-place.encoded c.loop-place.scale c.loop-place-test.false c.loop-place.invariant.1 in
+    (λ _. IsArrangement-encoding _ _ _ done, λ _. refl)
 
-pub returns-clause-ordering : goal.returns-clause-ordering
-returns-clause-ordering c =
-    let done = IsEncoded-end c.args.registers.now _ c.loop-place.place c.loop-place.encoded c.loop-place.scale c.loop-place-test.false c.loop-place.invariant.1 in
-    (refl, done.below, done.orders)
-
-pub returns-clause-least : goal.returns-clause-least
-returns-clause-least c =
-    let done = IsEncoded-end c.args.registers.now _ c.loop-place.place c.loop-place.encoded c.loop-place.scale c.loop-place-test.false c.loop-place.invariant.1 in
-    done.least
+pub returns-clause-encoding : goal.returns-clause-encoding
+returns-clause-encoding c =
+    IsEncoding-end c.args.registers.now _ c.loop-place.place c.loop-place.encoded c.loop-place.scale c.loop-place-test.false c.loop-place.invariant.1
