@@ -1,3 +1,4 @@
+pub mod Runs
 pub mod Sequences
 pub mod Orderings
 mod RegisterFile
