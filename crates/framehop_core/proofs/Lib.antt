@@ -1,3 +1,6 @@
+pub mod X86_64Outcomes
+pub mod Outcomes
+pub mod Aarch64Outcomes
 pub mod Runs
 pub mod Sequences
 pub mod Orderings

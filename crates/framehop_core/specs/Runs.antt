@@ -1,5 +1,5 @@
 -- Rules one after another: each starts from the registers that the one before it leaves.
-use Rattle.std.specs.Prelude.{◌≡◌, ℕ, zero, suc, ◌+◌, Bool, true, false, List, [], ◌∷◌}
+use Rattle.std.specs.Prelude.{◌≡◌, ℕ, zero, suc, ◌+◌, ◌-◌, ◌≤◌, Bool, true, false, List, [], ◌∷◌}
 use Rattle.framehop_core.specs.Memory.{Memory}
 use Rattle.framehop_core.specs.Outcome.{Outcome, answered, root, refused, registers_after}
 use Rattle.framehop_core.specs.declared.unwind_rule.RunEnd.{RunEnd}
@@ -37,3 +37,7 @@ module _ {U R : Type 0} (outcome : U → Bool → R → Memory → Outcome R) wh
 abbrev pub StepsBy : {R : Type 0} → (Bool → R → R → Type 0) → Bool → ℕ → R → R → Type 0
 StepsBy advances first zero old new = old ≡ new
 StepsBy {R} advances first (suc n) old new = (next : R) × advances first old next × StepsBy advances false n next new
+
+-- of so many answered steps each after the first has raised the stack pointer, which stood here behind the first
+abbrev pub IsWithinRise : ℕ → ℕ → ℕ → Type 0
+IsWithinRise count first last = count - 1 ≤ last - first

@@ -1,13 +1,15 @@
-ghost use Rattle.std.specs.Prelude.{◌≡◌, ℕ, ◌<◌, ◌≤◌, pos, ◌-ℤ◌, true, List, length, MatchResult, OnOk, MatchOption, IfSome};
+ghost use Rattle.std.specs.Prelude.{◌≡◌, ℕ, ◌<◌, ◌≤◌, pos, ◌-ℤ◌, true, List, length, All, MatchResult, OnOk, MatchOption, IfSome};
 ghost use Rattle.std.specs.Iterator.{IsFinite, AlwaysYields};
 ghost use Rattle.framehop_core.specs.Memory.{Memory, AnswersAs};
 ghost use Rattle.framehop_core.specs.Outcome.{KeptUnlessAnswered, HasDone, address_at};
-ghost use Rattle.framehop_core.specs.X86_64.Rules.{NotBelowWhereAnswered, outcome_of_line, frame_pointer_line, beside, restored_at, value_from, popped, return_address, finished, is_executable, offset_and_pops_of, IsRuleOfOperations};
+ghost use Rattle.framehop_core.specs.Runs.{run_of, after_first, IsWithinRise};
+ghost use Rattle.framehop_core.specs.X86_64.Rules.{outcome, NotBelowWhereAnswered, outcome_of_line, frame_pointer_line, beside, restored_at, value_from, popped, return_address, finished, is_executable, offset_and_pops_of, IsRuleOfOperations};
 
 use super::register_ordering;
 use super::unwindregs::{Reg, UnwindRegsX86_64};
 use crate::error::Error;
-use crate::unwind_rule::{UnwindRule, address_beside, offset_address, read_stack_word};
+use crate::unwind_rule;
+use crate::unwind_rule::{RunEnd, UnwindRule, address_beside, offset_address, read_stack_word};
 use arrayvec::ArrayVec;
 
 /// How to get from the registers of a frame to those of its caller, on x86_64.
@@ -227,6 +229,30 @@ impl UnwindRule for UnwindRuleX86_64 {
             _ => true,
         }
     }
+}
+
+/// Runs rules one after another, each from the registers that the one before it leaves, the first
+/// one as a first frame. Answers how many answered an address, and why the run ended.
+///
+/// No answered rule lowers the stack pointer. With a callback that answers as one memory each
+/// after the first raises it: then at most as many of them answer as the stack pointer has risen
+/// since the first one.
+pub fn run_rules<F: FnMut(u64) -> Result<u64, ()>>(
+    rules: &[UnwindRuleX86_64],
+    regs: &mut UnwindRegsX86_64,
+    read_stack: &mut F,
+) -> (usize, RunEnd)
+    requires can_run { All (λ rule. is_executable rule ≡ true) rules.now }
+    requires can_read { F.IsAlwaysCallable read_stack.old }
+    ensures callable { F.IsAlwaysCallable read_stack.new }
+    ensures not_below { regs.old.rsp ≤ regs.new.rsp }
+    ensures answers { (memory : Memory) → AnswersAs F.FnMut read_stack.old memory
+        → AnswersAs F.FnMut read_stack.new memory
+        × (run_of outcome true rules.now regs.old memory
+        ≡ record { count = result.0; end = result.1; registers = regs.new })
+        × IsWithinRise result.0 (after_first outcome rules.now regs.old memory).rsp regs.new.rsp }
+{
+    unwind_rule::run_rules(rules, regs, read_stack)
 }
 
 /// The step by the frame pointer, `(sp, bp) = (bp + 16, *bp)`, where the stack pointer must rise.

@@ -15,14 +15,13 @@ returns-in-Err-clause-advances g c =
 pub loop-answered-preserved : goal.loop-answered-preserved
 loop-answered-preserved g c =
     let l = c.loop-answered in
-    let step = rw c.in-Ok-Some.field-0-is at c.in-Ok-Some.ensures.advances in
-    (
+    let step = rw c.in-Ok-Some.field-0-is at c.in-Ok-Some.ensures.advances in (
       c.in-Ok-Some.ensures.callable,
       λ n new steps. StepsBy-more g.R.UnwindRule.advances l.answered n c.args.regs.now l.regs c.exec.new.regs new l.invariant.1 step steps,
       λ memory h.
-        let so_far = l.invariant.2 memory h in
-        let done = rw c.in-Ok-Some.field-0-is at (c.in-Ok-Some.ensures.answers memory so_far.0) in
-        (done.0, run_of-answered g.R.UnwindRule.outcome memory c.args.rules.now l.answered l.regs c.exec.new.regs _ c.index-rules-answered.result c.in-Ok-Some.field-0-0 so_far.1 c.loop-answered-test.true c.index-rules-answered.is done.1 done.2),
+          let so_far = l.invariant.2 memory h in
+          let done = rw c.in-Ok-Some.field-0-is at (c.in-Ok-Some.ensures.answers memory so_far.0) in
+          (done.0, run_of-answered g.R.UnwindRule.outcome memory c.args.rules.now l.answered l.regs c.exec.new.regs _ c.index-rules-answered.result c.in-Ok-Some.field-0-0 so_far.1 c.loop-answered-test.true c.index-rules-answered.is done.1 done.2),
     )
 
 pub returns-clause-advances : goal.returns-clause-advances
