@@ -1,11 +1,10 @@
 -- The orderings of registers: each list of distinct registers among the eight has a least number, and its ordering
 -- is the list.
-use Rattle.std.proofs.Common.{◌≡◌, ◌≢◌, ℕ, zero, suc, ◌+◌, ◌-◌, ◌*◌, ◌/◌, ◌%◌, ◌<◌, ◌≤◌, cond, eqb, true, false, Bool, List, [], ◌∷◌, ◌++◌, length, take, drop, get_or, set, refl, sym, ap, ◌∙◌, subst, arith, rules, get_or-set_same, get_or-set_other, length-set, zero-add, suc-add, add-one, inl, inr, ◌⊎◌, Contains, All, AllPairs}
+use Rattle.std.proofs.Common.{◌≡◌, ◌≢◌, ℕ, zero, suc, ◌+◌, ◌-◌, ◌*◌, ◌/◌, ◌%◌, ◌<◌, ◌≤◌, List, [], ◌∷◌, ◌++◌, length, take, drop, get_or, set, refl, sym, ap, ◌∙◌, subst, arith, get_or-set_same, get_or-set_other, length-set, zero-add, suc-add, add-one, inl, inr, ◌⊎◌, Contains, All, AllPairs}
 use Rattle.std.specs.List.{swap}
 use Rattle.std.proofs.lemmas.List.{set-get_or, get_or_default, drop_more, drop-drop, length-drop, take-append-drop, take_all, drop_all}
 use Rattle.std.proofs.lemmas.List.Edits.{swap_is, length-swap}
 use Rattle.std.proofs.lemmas.Bool.{cases_eq}
-use Rattle.std.proofs.lemmas.Bool.Decides.{nat_tests}
 use Rattle.std.proofs.lemmas.Nat.{div-mul-add, mod-mul-add, mod_below, div-add-mod'}
 use Rattle.std.proofs.Math.Nat.{mul-le-mul_left, mul-le-mul_right, mul_assoc}
 use Rattle.framehop_core.specs.declared.x86_64.unwindregs.Reg.{Reg}

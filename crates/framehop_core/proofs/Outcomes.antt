@@ -1,5 +1,5 @@
 -- What follows from an outcome that answers an address: each of its parts has given a value.
-use Rattle.std.proofs.Common.{◌≡◌, ◌≢◌, ℕ, ◌^◌, ◌<◌, ℤ, pos, negsuc, Bool, true, false, cond, nat_eq, nat_lt, nat_le, Option, Some, None, Result, Ok, Err, refl, sym, ap, ◌∙◌, arith}
+use Rattle.std.proofs.Common.{◌≡◌, ◌≢◌, ℕ, ◌^◌, ◌<◌, ℤ, pos, negsuc, Bool, true, false, cond, nat_eq, nat_lt, Option, Some, None, Result, Ok, Err, refl, ap, arith}
 use Rattle.std.proofs.lemmas.Bool.Decides.{nat_tests}
 use Rattle.framehop_core.specs.Memory.{Memory, reply}
 use Rattle.framehop_core.specs.Outcome.{Outcome, answered, root, refused, after, and_then, address_at, read_of, word_at}

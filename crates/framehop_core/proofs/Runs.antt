@@ -1,12 +1,11 @@
 -- Runs of rules: what one more rule adds.
-use Rattle.std.proofs.Common.{◌≡◌, ◌≢◌, ℕ, zero, suc, ◌+◌, ◌-◌, ◌<◌, ◌≤◌, Bool, true, false, nat_eq, List, [], ◌∷◌, drop, get_or, length, Option, Some, None, Result, Ok, Err, refl, sym, ap, ◌∙◌, subst, add_assoc, zero-add, add-zero, add-one, add-suc, arith}
+use Rattle.std.proofs.Common.{◌≡◌, ℕ, suc, ◌+◌, ◌-◌, ◌<◌, ◌≤◌, Bool, true, false, nat_eq, List, [], ◌∷◌, drop, get_or, length, Some, None, Ok, Err, refl, sym, ap, ◌∙◌, add_assoc, zero-add, add-zero, arith}
 use Rattle.std.proofs.lemmas.Bool.Decides.{nat_tests}
-use Rattle.std.proofs.lemmas.List.{drop_more, drop_all}
+use Rattle.std.proofs.lemmas.List.{drop_more}
 use Rattle.framehop_core.specs.Memory.{Memory}
 use Rattle.framehop_core.specs.Outcome.{Outcome, answered, root, refused, answer_of, registers_after}
 use Rattle.framehop_core.specs.Runs.{Run, later, run_on, run_of, after_first, StepsBy}
 use Rattle.framehop_core.specs.declared.error.Error.{Error}
-use Rattle.framehop_core.specs.declared.unwind_rule.RunEnd.TheVariants.{All, Root, Refused}
 
 -- ---- what an answer says of the outcome
 

@@ -1,8 +1,8 @@
 -- x86_64: what a rule's step to the caller has found, and that rsp does not fall.
-use Rattle.std.proofs.Common.{◌≡◌, ◌≢◌, ℕ, zero, suc, ◌+◌, ◌^◌, ◌<◌, ◌≤◌, ◌*◌, ℤ, pos, ◌-ℤ◌, Bool, true, false, not, ◌&&◌, nat_eq, nat_le, cond, List, [], ◌∷◌, Option, Some, None, Result, Ok, Err, refl, sym, ap, ◌∙◌, arith}
+use Rattle.std.proofs.Common.{◌≡◌, ◌≢◌, ℕ, zero, suc, ◌^◌, ◌<◌, ◌≤◌, ℤ, pos, ◌-ℤ◌, Bool, true, false, ◌&&◌, nat_eq, nat_le, cond, List, [], ◌∷◌, Option, Some, None, Result, Ok, Err, refl, sym, ap, ◌∙◌, arith}
 use Rattle.std.proofs.lemmas.Bool.Decides.{nat_tests}
 use Rattle.framehop_core.specs.Memory.{Memory}
-use Rattle.framehop_core.specs.Outcome.{Outcome, answered, root, refused, after, and_then, address_at, word_at}
+use Rattle.framehop_core.specs.Outcome.{Outcome, answered, address_at, word_at}
 use Rattle.framehop_core.specs.X86_64.Registers.{Registers, register, with_register}
 use Rattle.framehop_core.specs.X86_64.Rules.{Source, Demand, nothing_more, stack_pointer_rises, value_from, word_from, demanded, popped, return_address, returned, finished, Line, caller, pops, stack_end, outcome_of_line, line_of, frame_pointer_line, above, outcome, Advances}
 use Rattle.framehop_core.specs.declared.error.Error.{Error}
@@ -12,7 +12,7 @@ use Rattle.framehop_core.specs.declared.x86_64.unwind_rule.UnwindRuleX86_64.{Unw
 use Rattle.framehop_core.specs.declared.x86_64.unwind_rule.UnwindRuleX86_64.TheVariants.{EndOfStack, JustReturn, JustReturnIfFirstFrameOtherwiseFp, OffsetSp, OffsetSpAndRestoreBp, UseFramePointer, OffsetSpAndPopRegisters}
 use Rattle.framehop_core.specs.Runs.{StepsBy, run_of, after_first, IsWithinRise}
 use Rattle.framehop_core.proofs.Runs.{run_of-bound}
-use Rattle.framehop_core.proofs.Outcomes.{after-answered, and_then-ok, address_at-ok, refused_unless, root_unless, same-answered}
+use Rattle.framehop_core.proofs.Outcomes.{after-answered, and_then-ok, address_at-ok, refused_unless, same-answered}
 
 -- a demand is met by the caller's rsp
 abbrev pub Meets : Demand → Registers → ℕ → Type 0

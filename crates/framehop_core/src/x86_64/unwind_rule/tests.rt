@@ -1,6 +1,6 @@
-use super::{OffsetOrPop, UnwindRuleX86_64};
+use super::{OffsetOrPop, UnwindRuleX86_64, run_rules};
 use crate::error::Error;
-use crate::unwind_rule::UnwindRule;
+use crate::unwind_rule::{RunEnd, UnwindRule};
 use crate::x86_64::unwindregs::{Reg, UnwindRegsX86_64};
 use std::test::Fail;
 
@@ -192,4 +192,16 @@ fn makes_rules_of_operations(rt: HostRuntime) {
             want
         );
     }
+}
+
+#[test]
+fn runs_rules_up_to_a_refusal(rt: HostRuntime) {
+    let rules = [UnwindRuleX86_64::OffsetSp { sp_offset_by_8: 0 }; 2];
+    let mut regs = UnwindRegsX86_64::new(0x1000, 0x20, 0);
+    let mut read_stack = |address: u64| -> Result<u64, ()> {
+        if address == 0x18 { Ok(0x2000) } else { Err(()) }
+    };
+    let run = run_rules(&rules, &mut regs, &mut read_stack);
+    assert_eq!(rt; run, (1, RunEnd::Refused(Error::DidNotAdvance)));
+    assert_eq!(rt; regs, UnwindRegsX86_64::new(0x2000, 0x20, 0));
 }

@@ -1,6 +1,6 @@
 use Rattle.std.proofs.Common.{◌≡◌, ◌+◌, ◌-◌, inl, inr, sym, ◌∙◌, arith}
 use Rattle.framehop_core.specs.X86_64.Ordering.{ordering, eight, exchanges}
-use Rattle.framehop_core.proofs.Orderings.{exchanged_from-more, exchanged_from-all, exchanged_from}
+use Rattle.framehop_core.proofs.Orderings.{exchanged_from-more, exchanged_from-all}
 use Rattle.framehop_core.proofs.x86_64.register_ordering.decode.Goals as goal
 use Rattle.framehop_core.proofs.x86_64.register_ordering.decode.Goals.{else-loop-place-test, then-loop-place-test+then-rest-eq0}
 

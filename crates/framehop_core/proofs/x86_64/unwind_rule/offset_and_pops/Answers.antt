@@ -1,4 +1,4 @@
-use Rattle.std.proofs.Common.{sym, ◌∙◌, arith, rules, of_calls}
+use Rattle.std.proofs.Common.{sym, ◌∙◌, arith, of_calls}
 use Rattle.std.proofs.lemmas.Bool.Decides.{nat_tests}
 use Rattle.std.proofs.lemmas.Option.{none-some}
 use Rattle.framehop_core.proofs.Sequences.{Gives-pop, Gives-full, Gives-end, Gives-other, continued-offset, continued-other}
