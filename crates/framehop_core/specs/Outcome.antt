@@ -1,5 +1,5 @@
 -- What one unwind rule does to one frame: the vocabulary of the rule tables.
-use Rattle.std.specs.Prelude.{ℕ, ◌^◌, ℤ, pos, negsuc, if◌then◌else◌, nat_lt, Option, Some, None, Result, Ok, Err}
+use Rattle.std.specs.Prelude.{◌≡◌, ℕ, ◌^◌, ℤ, pos, negsuc, if◌then◌else◌, nat_lt, Option, Some, None, IfNone, Result, Ok, Err, MatchResult}
 use Rattle.framehop_core.specs.Memory.{Memory, reply}
 use Rattle.framehop_core.specs.declared.error.Error.{Error}
 use Rattle.framehop_core.specs.declared.error.Error.TheVariants.{CouldNotReadStack, IntegerOverflow}
@@ -45,3 +45,11 @@ read_of address (Err _) = Err (CouldNotReadStack address)
 -- the word that the memory has at an address of 64 bits
 abbrev pub word_at : Memory → ℕ → Result ℕ Error
 word_at memory address = read_of address (reply (memory address))
+
+-- where a call has not answered an address, the registers are as they were
+abbrev pub KeptUnlessAnswered : {R : Type 0} → Result (Option ℕ) Error → R → R → Type 0
+KeptUnlessAnswered result old new = MatchResult result (λ answer. IfNone answer (new ≡ old)) (λ _. new ≡ old)
+
+-- a call has done what the outcome says
+abbrev pub HasDone : {R : Type 0} → Outcome R → Result (Option ℕ) Error → R → R → Type 0
+HasDone outcome result old new = (result ≡ answer_of outcome) × (new ≡ registers_after old outcome)

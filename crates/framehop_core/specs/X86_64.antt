@@ -1,1 +1,3 @@
 pub mod Registers
+pub mod Ordering
+pub mod Rules

@@ -4,5 +4,5 @@ pub mod unwind_rule;
 pub mod unwindregs;
 
 pub use arch::ArchAarch64;
-pub use unwind_rule::UnwindRuleAarch64;
+pub use unwind_rule::{UnwindRuleAarch64, run_rules};
 pub use unwindregs::{PtrAuthMask, UnwindRegsAarch64};

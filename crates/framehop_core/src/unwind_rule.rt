@@ -1,5 +1,6 @@
-ghost use Rattle.std.specs.Prelude.{◌≡◌, ◌≢◌, ℕ, ◌≤◌, ◌+ℤ◌, ◌*ℤ◌, pos, Bool, true, IsTrue, MatchResult, IfOk, OnSome, IfNone, Result};
+ghost use Rattle.std.specs.Prelude.{◌≡◌, ◌≢◌, ℕ, ◌≤◌, ◌+ℤ◌, ◌*ℤ◌, pos, Bool, true, IsTrue, All, MatchResult, IfOk, OnSome, IfNone, Result};
 ghost use Rattle.framehop_core.specs.Memory.{Memory, AnswersAs};
+ghost use Rattle.framehop_core.specs.Runs.{run_of, StepsBy};
 ghost use Rattle.framehop_core.specs.Outcome.{Outcome, answer_of, registers_after, and_then, address_at, word_at, read_of};
 
 use crate::add_signed::checked_add_signed;
@@ -74,6 +75,45 @@ pub trait UnwindRule: Copy + fmt::Debug {
     ghost function_start_rule_executable: { executable function_start_rule ≡ true };
 
     ghost fallback_executable: { executable fallback ≡ true };
+}
+
+/// How a run of rules ends.
+#[derive(Clone, Copy, Debug, PartialEq, Eq)]
+pub enum RunEnd {
+    /// Each rule answered an address.
+    All,
+
+    /// A rule found the root of the stack.
+    Root,
+
+    /// A rule was refused.
+    Refused(Error),
+}
+
+/// Runs rules one after another, each from the registers that the one before it leaves, the first
+/// one as a first frame. Answers how many answered an address, and why the run ended.
+pub fn run_rules<R: UnwindRule, F: FnMut(u64) -> Result<u64, ()>>(
+    rules: &[R],
+    regs: &mut R::UnwindRegs,
+    read_stack: &mut F,
+) -> (usize, RunEnd)
+    requires can_run { All (λ rule. IsTrue (R.executable rule)) rules.now }
+    requires can_read { F.IsAlwaysCallable read_stack.old }
+    ensures callable { F.IsAlwaysCallable read_stack.new }
+    ensures advances { StepsBy R.advances true result.0 regs.old regs.new }
+    ensures answers { (memory : Memory) → AnswersAs F.FnMut read_stack.old memory
+        → AnswersAs F.FnMut read_stack.new memory
+        × (run_of R.outcome true rules.now regs.old memory
+        ≡ record { count = result.0; end = result.1; registers = regs.new }) }
+{
+    for (answered, rule) in rules.iter().enumerate() {
+        match rule.exec(answered == 0, regs, read_stack) {
+            Ok(Some(_)) => {}
+            Ok(None) => return (answered, RunEnd::Root),
+            Err(error) => return (answered, RunEnd::Refused(error)),
+        }
+    }
+    (rules.len(), RunEnd::All)
 }
 
 /// Reads the stack word at the address (AVMA). A failed read is `CouldNotReadStack` of it.

@@ -2,6 +2,7 @@
 use Rattle.std.specs.Prelude.{◌≡◌, ℕ, ◌*◌, ◌<◌, ◌≤◌, ℤ, pos, ◌+ℤ◌, ◌*ℤ◌, Bool, true, false, not, ◌&&◌, ◌||◌, ◌==◌, if◌then◌else◌, nat_le, OnSome, IfOk, Option, Result, Ok}
 use Rattle.framehop_core.specs.Memory.{Memory}
 use Rattle.framehop_core.specs.Outcome.{Outcome, answered, root, refused, after, and_then, address_at, word_at}
+use Rattle.framehop_core.specs.Runs.{IsWithinRise}
 use Rattle.framehop_core.specs.Aarch64.Registers.{Registers, strip_ptr_auth}
 use Rattle.framehop_core.specs.declared.error.Error.{Error}
 use Rattle.framehop_core.specs.declared.error.Error.TheVariants.{DidNotAdvance, FramepointerUnwindingMovedBackwards}
@@ -100,3 +101,11 @@ pub record Advances (first : Bool) (callee caller : Registers) : Type 0 where
 -- where a call has answered an address, the registers have advanced
 abbrev pub AdvancesWhereAnswered : Bool → Result (Option ℕ) Error → Registers → Registers → Type 0
 AdvancesWhereAnswered first result old new = IfOk result (λ answer. OnSome answer (Advances first old new))
+
+-- so many steps lead from these registers to those: one to the registers behind the first step, and then no more than
+-- sp has risen since
+pub record IsBoundedRun (count : ℕ) (start end : Registers) : Type 0 where
+  pub first : Registers
+  pub step : 0 < count → Advances true start first
+  pub not_below : first.sp ≤ end.sp
+  pub within : IsWithinRise count first.sp end.sp

@@ -1,10 +1,13 @@
-ghost use Rattle.std.specs.Prelude.{◌≡◌, ◌≤◌, MatchResult, IfNone};
-ghost use Rattle.framehop_core.specs.Aarch64.Rules.{finished, demanded, frame_pointer_rises, AdvancesWhereAnswered};
+ghost use Rattle.std.specs.Prelude.{◌≡◌, ◌≤◌, true};
+ghost use Rattle.framehop_core.specs.Memory.{Memory, AnswersAs};
+ghost use Rattle.framehop_core.specs.Runs.{run_of, after_first, IsWithinRise};
+ghost use Rattle.framehop_core.specs.Aarch64.Rules.{outcome, IsBoundedRun, finished, demanded, frame_pointer_rises, AdvancesWhereAnswered};
 ghost use Rattle.framehop_core.specs.Outcome.{answer_of, registers_after};
 
 use super::unwindregs::UnwindRegsAarch64;
 use crate::error::Error;
-use crate::unwind_rule::{UnwindRule, offset_address, read_stack_word, read_word_beside};
+use crate::unwind_rule;
+use crate::unwind_rule::{RunEnd, UnwindRule, offset_address, read_stack_word, read_word_beside};
 
 /// How to get from the registers of a frame to those of its caller, on aarch64.
 ///
@@ -183,6 +186,28 @@ impl UnwindRule for UnwindRuleAarch64 {
     fn executable(self) -> bool {
         true
     }
+}
+
+/// Runs rules one after another, each from the registers that the one before it leaves, the first
+/// one as a first frame. Answers how many answered an address, and why the run ended.
+///
+/// Each answered rule after the first raises the stack pointer, whatever the callback replies. So
+/// at most as many of them answer as the stack pointer has risen since the first one.
+pub fn run_rules<F: FnMut(u64) -> Result<u64, ()>>(
+    rules: &[UnwindRuleAarch64],
+    regs: &mut UnwindRegsAarch64,
+    read_stack: &mut F,
+) -> (usize, RunEnd)
+    requires { F.IsAlwaysCallable read_stack.old }
+    ensures callable { F.IsAlwaysCallable read_stack.new }
+    ensures bounded { IsBoundedRun result.0 regs.old regs.new }
+    ensures answers { (memory : Memory) → AnswersAs F.FnMut read_stack.old memory
+        → AnswersAs F.FnMut read_stack.new memory
+        × (run_of outcome true rules.now regs.old memory
+        ≡ record { count = result.0; end = result.1; registers = regs.new })
+        × IsWithinRise result.0 (after_first outcome rules.now regs.old memory).sp regs.new.sp }
+{
+    unwind_rule::run_rules(rules, regs, read_stack)
 }
 
 /// The last step of a rule that goes by a frame pointer: the caller's frame pointer is 0 at the

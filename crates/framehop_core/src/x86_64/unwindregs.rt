@@ -50,6 +50,13 @@ pub enum Reg {
     R15,
 }
 
+// A blank for the unused places of an `ArrayVec`.
+impl Default for Reg {
+    fn default() -> Self {
+        Reg::RAX
+    }
+}
+
 impl UnwindRegsX86_64 {
     /// Registers with an instruction pointer, a stack pointer and a frame pointer (AVMAs), the
     /// others being 0.

@@ -3,10 +3,10 @@ ghost use Rattle.framehop_core.specs.Memory.{memory_of_words, reply};
 ghost use Rattle.framehop_core.specs.Outcome.{answer_of, registers_after};
 ghost use Rattle.framehop_core.specs.Aarch64.Rules.{outcome};
 
-use super::UnwindRuleAarch64;
+use super::{UnwindRuleAarch64, run_rules};
 use crate::aarch64::unwindregs::{PtrAuthMask, UnwindRegsAarch64};
 use crate::error::Error;
-use crate::unwind_rule::UnwindRule;
+use crate::unwind_rule::{RunEnd, UnwindRule};
 use std::test::Fail;
 
 const STACK: [u64; 16] = [
@@ -167,4 +167,29 @@ fn refuses_with_the_registers_kept(rt: HostRuntime) {
         assert_eq!(rt; answer, want, "{rule:?}");
         assert_eq!(rt; regs, UnwindRegsAarch64::new(0x100300, sp, fp), "{rule:?}");
     }
+}
+
+#[test]
+fn runs_rules_to_the_root(rt: HostRuntime) {
+    let rules = [
+        UnwindRuleAarch64::NoOp,
+        UnwindRuleAarch64::UseFramePointer,
+        UnwindRuleAarch64::UseFramePointer,
+        UnwindRuleAarch64::UseFramePointer,
+    ];
+    let mut regs = UnwindRegsAarch64::new(0x100300, 0x10, 0x20);
+    let mut read_stack = |address: u64| -> Result<u64, ()> {
+        STACK.get((address / 8) as usize).copied().ok_or(())
+    };
+    assert_eq!(rt;
+        run_rules(&rules, &mut regs, &mut read_stack),
+        (3, RunEnd::Root)
+    );
+    assert_eq!(rt; regs, UnwindRegsAarch64::new(0x100100, 0x50, 0x70));
+    let mut regs = UnwindRegsAarch64::new(0x100300, 0x10, 0x20);
+    assert_eq!(rt;
+        run_rules(&rules[..2], &mut regs, &mut read_stack),
+        (2, RunEnd::All)
+    );
+    assert_eq!(rt; regs, UnwindRegsAarch64::new(0x100200, 0x30, 0x40));
 }

@@ -1,0 +1,449 @@
+-- The orderings of registers: each list of distinct registers among the eight has a least number, and its ordering
+-- is the list.
+use Rattle.std.proofs.Common.{◌≡◌, ◌≢◌, ℕ, zero, suc, ◌+◌, ◌-◌, ◌*◌, ◌/◌, ◌%◌, ◌<◌, ◌≤◌, List, [], ◌∷◌, ◌++◌, length, take, drop, get_or, set, refl, sym, ap, ◌∙◌, subst, arith, get_or-set_same, get_or-set_other, length-set, zero-add, suc-add, add-one, inl, inr, ◌⊎◌, Contains, All, AllPairs}
+use Rattle.std.specs.List.{swap}
+use Rattle.std.proofs.lemmas.List.{set-get_or, get_or_default, drop_more, drop-drop, length-drop, take-append-drop, take_all, drop_all}
+use Rattle.std.proofs.lemmas.List.Edits.{swap_is, length-swap}
+use Rattle.std.proofs.lemmas.Bool.{cases_eq}
+use Rattle.std.proofs.lemmas.Nat.{div-mul-add, mod-mul-add, mod_below, div-add-mod'}
+use Rattle.std.proofs.Math.Nat.{mul-le-mul_left, mul-le-mul_right, mul_assoc}
+use Rattle.framehop_core.specs.declared.x86_64.unwindregs.Reg.{Reg}
+use Rattle.framehop_core.specs.declared.x86_64.unwindregs.Reg.TheVariants.{RBX, RBP, RDI, RSI, R12, R13, R14, R15}
+use Rattle.framehop_core.specs.X86_64.Ordering.{eight, exchanges, ordering, IsArrangement, IsEncoding}
+
+-- ---- one exchange
+
+-- what is left of a pool when the element at the digit is taken, the first standing in its place
+abbrev pub remaining : {X : Type 0} → List X → ℕ → List X
+remaining pool digit = drop 1 (swap pool 0 digit)
+
+front : {X : Type 0} (x : X) (xs : List X) (digit : ℕ) (tail : List X) → take 1 (swap (x ∷ xs) 0 digit) ++ tail ≡ get_or (x ∷ xs) digit x ∷ tail
+front x xs zero tail = refl
+front x xs (suc digit) tail = refl
+
+-- one more place: the element at the digit, then the places behind it
+pub exchanges-suc : {X : Type 0} (k n : ℕ) (x : X) (xs : List X) → exchanges (suc k) n (x ∷ xs) ≡ get_or (x ∷ xs) (n % suc k) x ∷ exchanges k (n / suc k) (remaining (x ∷ xs) (n % suc k))
+unfolding exchanges
+exchanges-suc k n x xs = front x xs (n % suc k) (exchanges k (n / suc k) (remaining (x ∷ xs) (n % suc k)))
+
+pub length-remaining : {X : Type 0} (x : X) (xs : List X) (digit : ℕ) → length (remaining (x ∷ xs) digit) ≡ length xs
+length-remaining x xs zero = refl
+length-remaining x xs (suc digit) = length-set xs digit x
+
+-- where the element at i of what is left stood before
+record Stood {X : Type 0} (pool : List X) (digit i : ℕ) : Type 0 where
+  at : ℕ
+  within : at < length pool
+  same : (z : X) → get_or (remaining pool digit) i z ≡ get_or pool at z
+  place : ((suc i ≡ digit) × (at ≡ 0)) ⊎ ((suc i ≢ digit) × (at ≡ suc i))
+
+stood_behind : {X : Type 0} (x : X) (xs : List X) (digit i : ℕ) → digit < length xs → i < length xs → (i ≡ digit) ⊎ (i ≢ digit) → Stood (x ∷ xs) (suc digit) i
+stood_behind x xs digit i h within (inl e) = record {
+  at = 0;
+  within = omega arith;
+  same = λ z. rw e (get_or-set_same xs digit x z h);
+  place = inl (ap suc e, refl);
+}
+stood_behind x xs digit i h within (inr e) = record {
+  at = suc i;
+  within = omega arith;
+  same = λ z. get_or-set_other xs digit i x z e;
+  place = inr (omega arith, refl);
+}
+
+stood : {X : Type 0} (x : X) (xs : List X) (digit i : ℕ) → digit < suc (length xs) → i < length xs → Stood (x ∷ xs) digit i
+stood x xs zero i h within = record {
+  at = suc i;
+  within = omega arith;
+  same = λ z. refl;
+  place = inr (omega arith, refl);
+}
+stood x xs (suc digit) i h within = stood_behind x xs digit i (omega arith) within (cases_eq i digit)
+
+-- no element stands in the list twice
+pub record IsInjective {X : Type 0} (xs : List X) : Type 0 where
+  pub unique : (i j : ℕ) (z : X) → i < length xs → j < length xs → get_or xs i z ≡ get_or xs j z → i ≡ j
+
+pub IsInjective-remaining : {X : Type 0} (x : X) (xs : List X) (digit : ℕ) → digit < suc (length xs) → IsInjective (x ∷ xs) → IsInjective (remaining (x ∷ xs) digit)
+IsInjective-remaining x xs digit h injective = record {
+  unique = λ i j z hi hj e.
+      let n = length-remaining x xs digit in
+      let a = stood x xs digit i h (omega arith) in
+      let b = stood x xs digit j h (omega arith) in
+      let same = injective.unique a.at b.at z a.within b.within (sym (a.same z) ∙ e ∙ b.same z) in
+      omega (arith, a.place, b.place);
+}
+
+-- what stands elsewhere in the pool is left
+left_at : {X : Type 0} (x : X) (xs : List X) (digit j : ℕ) (z : X) → digit < suc (length xs) → j < suc (length xs) → j ≢ digit → (i : ℕ) × (i < length xs) × (get_or (remaining (x ∷ xs) digit) i z ≡ get_or (x ∷ xs) j z)
+left_at x xs zero zero z h within apart = absurd (apart refl)
+left_at x xs zero (suc j) z h within apart = (j, omega arith, refl)
+left_at x xs (suc digit) zero z h within apart = (digit, omega arith, get_or-set_same xs digit x z (omega arith))
+left_at x xs (suc digit) (suc j) z h within apart = (j, omega arith, get_or-set_other xs digit j x z (omega arith))
+
+pub Contains-remaining : {X : Type 0} (x : X) (xs : List X) (digit : ℕ) (y : X) → digit < suc (length xs) → get_or (x ∷ xs) digit y ≢ y → Contains (x ∷ xs) y → Contains (remaining (x ∷ xs) digit) y
+Contains-remaining x xs digit y h other (j, within, is) =
+    let apart : j ≢ digit = λ e. other (rw (← e) is) in
+    let left = left_at x xs digit j y h within apart in
+    (left.0, rw (length-remaining x xs digit) left.1, left.2 ∙ is)
+
+-- ---- numbers and orderings
+
+-- a digit below a radix, and a number above it
+digit_of : (k m digit : ℕ) → digit < suc k → (m * suc k + digit) % suc k ≡ digit
+digit_of k m digit h = mod-mul-add m (suc k) digit h
+
+above_digit : (k m digit : ℕ) → digit < suc k → (m * suc k + digit) / suc k ≡ m
+above_digit k m digit h = div-mul-add m (suc k) digit h
+
+pub exchanges-digit : {X : Type 0} (m digit : ℕ) (x : X) (xs : List X) → digit < suc (length xs) → exchanges (suc (length xs)) (m * suc (length xs) + digit) (x ∷ xs) ≡ get_or (x ∷ xs) digit x ∷ exchanges (length xs) m (remaining (x ∷ xs) digit)
+exchanges-digit m digit x xs h =
+    exchanges-suc (length xs) (m * suc (length xs) + digit) x xs
+    ∙ rw (digit_of (length xs) m digit h, above_digit (length xs) m digit h)
+
+-- ---- an exchange inside a longer list
+
+swap-cons : {X : Type 0} (x : X) (xs : List X) (i j : ℕ) → i < length xs → j < length xs → swap (x ∷ xs) (suc i) (suc j) ≡ x ∷ swap xs i j
+swap-cons x xs i j hi hj = ap (λ ys. x ∷ ys) (swap_is xs i j x hi hj)
+
+pub swap-same : {X : Type 0} (xs : List X) (i : ℕ) → i < length xs → swap xs i i ≡ xs
+swap-same [] i h = absurd (omega arith)
+swap-same (x ∷ xs) i h =
+    sym (swap_is (x ∷ xs) i i x h h) ∙ ap (λ ys. set ys i (get_or (x ∷ xs) i x)) (set-get_or (x ∷ xs) i x) ∙ set-get_or (x ∷ xs) i x
+
+-- the places up to one, then the exchanges of the others: one more place is exchanged
+abbrev pub exchanged_from : {X : Type 0} → ℕ → ℕ → ℕ → List X → List X
+exchanged_from place k n xs = take place xs ++ exchanges k n (drop place xs)
+
+pub exchanged_from-suc : {X : Type 0} (xs : List X) (place k n : ℕ) → place + suc k ≡ length xs → exchanged_from place (suc k) n xs ≡ exchanged_from (suc place) k (n / suc k) (swap xs place (place + n % suc k))
+unfolding exchanges
+exchanged_from-suc xs zero k n e = rw (zero-add (n % suc k)) refl
+exchanged_from-suc [] (suc place) k n e = absurd (omega arith)
+exchanged_from-suc (x ∷ xs) (suc place) k n e =
+    let below : n % suc k < suc k = mod_below n (suc k) (omega arith) in
+    let moved : swap (x ∷ xs) (suc place) (suc place + n % suc k) ≡ x ∷ swap xs place (place + n % suc k) = rw suc-add (swap-cons x xs place (place + n % suc k) (omega arith) (omega arith)) in
+    ap (λ ys. x ∷ ys) (exchanged_from-suc xs place k n (omega arith)) ∙ sym (ap (exchanged_from (suc (suc place)) k (n / suc k)) moved)
+
+-- the same with its digit and its quotient given
+exchanges-at : {X : Type 0} (k n digit quotient : ℕ) (x : X) (xs : List X) → n % suc k ≡ digit → n / suc k ≡ quotient → exchanges (suc k) n (x ∷ xs) ≡ get_or (x ∷ xs) digit x ∷ exchanges k quotient (remaining (x ∷ xs) digit)
+exchanges-at k n digit quotient x xs d q = exchanges-suc k n x xs ∙ rw (d, q)
+
+pub exchanges-zero : {X : Type 0} (k : ℕ) (xs : List X) → k ≤ length xs → exchanges k 0 xs ≡ xs
+unfolding exchanges
+exchanges-zero zero xs h = refl
+exchanges-zero (suc k) [] h = absurd (omega arith)
+exchanges-zero (suc k) (x ∷ xs) h =
+    exchanges-at k 0 0 0 x xs (omega arith) (omega arith) ∙ ap (λ ys. x ∷ ys) (exchanges-zero k xs (omega arith))
+
+-- the step of the loop of `decode`
+pub exchanged_from-more : {X : Type 0} (xs next all : List X) (place k radix rest digit : ℕ) → place + radix ≡ length xs → radix ≡ suc k → digit ≡ rest % radix → next ≡ swap xs place (place + digit) → exchanged_from place radix rest xs ≡ all → (length next ≡ length xs) × (exchanged_from (place + 1) k (rest / radix) next ≡ all)
+exchanged_from-more xs next all place k radix rest digit fits radix_is digit_is next_is old =
+    let more = exchanged_from-suc xs place k rest (omega arith) in (
+      ap length next_is ∙ length-swap xs place (place + digit),
+      rw (next_is, digit_is, radix_is, add-one) (sym more ∙ rw radix_is at old),
+    )
+
+-- and its end: at the last place, or where no digit is left
+pub exchanged_from-all : {X : Type 0} (xs : List X) (place k rest : ℕ) → place + k ≡ length xs → (k ≡ 0) ⊎ (rest ≡ 0) → exchanged_from place k rest xs ≡ xs
+unfolding exchanges
+exchanged_from-all xs place k rest fits (inl e) = rw e (take-append-drop place xs)
+exchanged_from-all xs place k rest fits (inr e) =
+    rw e (ap (λ ys. take place xs ++ ys) (exchanges-zero k (drop place xs) (omega (arith, length-drop place xs))) ∙ take-append-drop place xs)
+
+-- ---- each list of distinct elements of a pool has a number
+
+All-tail : {X : Type 0} (P : X → Type 0) (x : X) (xs : List X) → All P (x ∷ xs) → All P xs
+All-tail P x xs h = λ k d within. h (suc k) d (omega arith)
+
+Contains-tail : {X : Type 0} (x : X) (xs : List X) (digit : ℕ) (r : X) (rs : List X) → digit < suc (length xs) → get_or (x ∷ xs) digit r ≡ r → AllPairs (λ a b. a ≢ b) (r ∷ rs) → All (Contains (x ∷ xs)) (r ∷ rs) → All (Contains (remaining (x ∷ xs) digit)) rs
+Contains-tail x xs digit r rs h is distinct among = λ k d within.
+    let y = get_or rs k d in
+    let other : get_or (x ∷ xs) digit y ≢ y = λ e. distinct 0 (suc k) d (omega arith) (omega arith) (sym is ∙ get_or_default (x ∷ xs) digit r y h ∙ e) in
+    Contains-remaining x xs digit y h other (among (suc k) d (omega arith))
+
+-- a number orders a pool so that these come first
+abbrev pub Orders : {X : Type 0} → ℕ → List X → List X → Type 0
+Orders n pool xs = take (length xs) (exchanges (length pool) n pool) ≡ xs
+
+-- one more in front, by its digit
+Orders-cons : {X : Type 0} (x : X) (xs : List X) (digit m : ℕ) (r : X) (rs : List X) → digit < suc (length xs) → get_or (x ∷ xs) digit r ≡ r → Orders m (remaining (x ∷ xs) digit) rs → Orders (m * suc (length xs) + digit) (x ∷ xs) (r ∷ rs)
+Orders-cons x xs digit m r rs h is orders =
+    let tail : take (length rs) (exchanges (length xs) m (remaining (x ∷ xs) digit)) ≡ rs = subst (λ k. take (length rs) (exchanges k m (remaining (x ∷ xs) digit)) ≡ rs) (length-remaining x xs digit) orders in
+    let first : get_or (x ∷ xs) digit x ≡ r = get_or_default (x ∷ xs) digit x r h ∙ is in
+    ap (take (suc (length rs))) (exchanges-digit m digit x xs h) ∙ ap (λ y. y ∷ take (length rs) (exchanges (length xs) m (remaining (x ∷ xs) digit))) first ∙ ap (λ ys. r ∷ ys) tail
+
+-- and the way back: the first is the element at the number's digit
+record IsFrontOf {X : Type 0} (n : ℕ) (x : X) (xs : List X) (r : X) (rs : List X) : Type 0 where
+  first : get_or (x ∷ xs) (n % suc (length xs)) r ≡ r
+  others : Orders (n / suc (length xs)) (remaining (x ∷ xs) (n % suc (length xs))) rs
+
+IsFrontOf-cons : {X : Type 0} (n : ℕ) (x : X) (xs : List X) (r : X) (rs : List X) → Orders n (x ∷ xs) (r ∷ rs) → IsFrontOf n x xs r rs
+IsFrontOf-cons n x xs r rs orders =
+    let digit = n % suc (length xs) in
+    let below : digit < suc (length xs) = mod_below n (suc (length xs)) (omega arith) in
+    let m = n / suc (length xs) in
+    let both : get_or (x ∷ xs) digit x ∷ take (length rs) (exchanges (length xs) m (remaining (x ∷ xs) digit)) ≡ r ∷ rs = sym (ap (take (suc (length rs))) (exchanges-suc (length xs) n x xs)) ∙ orders in
+    let first : get_or (x ∷ xs) digit x ≡ r = cc in
+    let tail : take (length rs) (exchanges (length xs) m (remaining (x ∷ xs) digit)) ≡ rs = cc in
+    record {
+      first = get_or_default (x ∷ xs) digit r x below ∙ first;
+      others = subst (λ k. take (length rs) (exchanges k m (remaining (x ∷ xs) digit)) ≡ rs) (sym (length-remaining x xs digit)) tail;
+    }
+
+record IsNumbered {X : Type 0} (pool xs : List X) : Type 0 where
+  number : ℕ
+  orders : Orders number pool xs
+  fits : length xs ≤ length pool
+
+numbered : {X : Type 0} (pool xs : List X) → AllPairs (λ a b. a ≢ b) xs → All (Contains pool) xs → IsNumbered pool xs
+numbered pool [] distinct among = record { number = 0; orders = refl; fits = omega arith }
+numbered [] (r ∷ rs) distinct among = absurd (omega (arith, (among 0 r (omega arith)).1))
+numbered (x ∷ xs) (r ∷ rs) distinct among =
+    let (digit, h, is) = among 0 r (omega arith) in
+    let tail = numbered (remaining (x ∷ xs) digit) rs (λ i j d a b. distinct (suc i) (suc j) d (omega arith) (omega arith)) (Contains-tail x xs digit r rs h is distinct among) in
+    let n = length-remaining x xs digit in
+    record {
+      number = tail.number * suc (length xs) + digit;
+      orders = Orders-cons x xs digit tail.number r rs h is tail.orders;
+      fits = omega (arith, tail.fits);
+    }
+
+-- ---- what a number orders is distinct, and of the pool
+
+All-cons : {X : Type 0} (P : X → Type 0) (x : X) (xs : List X) → P x → All P xs → All P (x ∷ xs)
+All-cons P x xs here rest zero d h = here
+All-cons P x xs here rest (suc k) d h = rest k d (omega arith)
+
+AllPairs-cons : {X : Type 0} (x : X) (xs : List X) → All (λ y. x ≢ y) xs → AllPairs (λ a b. a ≢ b) xs → AllPairs (λ a b. a ≢ b) (x ∷ xs)
+AllPairs-cons x xs here rest zero zero d less h = absurd (omega arith)
+AllPairs-cons x xs here rest (suc i) zero d less h = absurd (omega arith)
+AllPairs-cons x xs here rest zero (suc j) d less h = here j d (omega arith)
+AllPairs-cons x xs here rest (suc i) (suc j) d less h = rest i j d (omega arith) (omega arith)
+
+record IsArranged {X : Type 0} (pool xs : List X) : Type 0 where
+  distinct : AllPairs (λ a b. a ≢ b) xs
+  among : All (Contains pool) xs
+
+-- an element of what is left stands in the pool, and is not the one taken
+Contains-back : {X : Type 0} (x : X) (xs : List X) (digit : ℕ) (y : X) → digit < suc (length xs) → IsInjective (x ∷ xs) → Contains (remaining (x ∷ xs) digit) y → Contains (x ∷ xs) y × (get_or (x ∷ xs) digit x ≢ y)
+Contains-back x xs digit y h injective (i, within, is) =
+    let n = length-remaining x xs digit in
+    let place = stood x xs digit i h (omega arith) in
+    let at : get_or (x ∷ xs) place.at y ≡ y = sym (place.same y) ∙ is in (
+      (place.at, place.within, at),
+      λ e. let same = injective.unique digit place.at y h place.within (get_or_default (x ∷ xs) digit y x h ∙ e ∙ sym at) in absurd (omega (arith, place.place)),
+    )
+
+arranged : {X : Type 0} (count n k : ℕ) (pool : List X) → k ≡ length pool → IsInjective pool → IsArranged pool (take count (exchanges k n pool))
+unfolding exchanges
+arranged zero n k pool e injective = record { distinct = λ i j d less h. absurd (omega arith); among = λ i d h. absurd (omega arith) }
+arranged (suc count) n zero [] e injective = record { distinct = λ i j d less h. absurd (omega arith); among = λ i d h. absurd (omega arith) }
+arranged (suc count) n zero (x ∷ xs) e injective = absurd (omega arith)
+arranged (suc count) n (suc k) [] e injective = absurd (omega arith)
+arranged (suc count) n (suc k) (x ∷ xs) e injective =
+    let digit = n % suc k in
+    let below : digit < suc (length xs) = omega (arith, mod_below n (suc k) (omega arith)) in
+    let pool' = remaining (x ∷ xs) digit in
+    let rest = arranged count (n / suc k) k pool' (omega (arith, length-remaining x xs digit)) (IsInjective-remaining x xs digit below injective) in
+    let tail = take count (exchanges k (n / suc k) pool') in
+    let is = ap (take (suc count)) (exchanges-suc k n x xs) in
+    let old : All (λ y. Contains (x ∷ xs) y × (get_or (x ∷ xs) digit x ≢ y)) tail = λ i d h. Contains-back x xs digit (get_or tail i d) below injective (rest.among i d h) in
+    subst (IsArranged (x ∷ xs)) (sym is) (record {
+      distinct = AllPairs-cons (get_or (x ∷ xs) digit x) tail (λ i d h. (old i d h).1) rest.distinct;
+      among = All-cons (Contains (x ∷ xs)) (get_or (x ∷ xs) digit x) tail (digit, below, get_or_default (x ∷ xs) digit (get_or (x ∷ xs) digit x) x below) (λ i d h. (old i d h).0);
+    })
+
+-- ---- encoding, register by register
+
+pub factorial : ℕ → ℕ
+factorial zero = 1
+factorial (suc k) = suc k * factorial k
+
+factorial-at_least : (k : ℕ) → (1 ≤ factorial k) × (k ≤ factorial k)
+unfolding factorial
+factorial-at_least zero = (omega arith, omega arith)
+factorial-at_least (suc k) =
+    let before = factorial-at_least k in
+    let product : suc k * 1 ≤ suc k * factorial k = mul-le-mul_left (suc k) before.0 in
+    (omega arith, omega arith)
+
+-- After some registers: the others are to be ordered in what is left of the eight, by a number m, and the whole list
+-- is then the ordering of encoded + m * scale.
+pub record Encodes (registers pool others : List Reg) (encoded scale : ℕ) : Type 0 where
+  pub completes : (m : ℕ) → Orders m pool others → ordering (length registers) (encoded + m * scale) ≡ registers
+  pub only : (n : ℕ) → ordering (length registers) n ≡ registers → (m : ℕ) × (n ≡ encoded + m * scale) × Orders m pool others
+  pub room : scale * factorial (length pool) ≡ 40320
+  pub below : encoded < scale
+  pub injective : IsInjective pool
+
+-- where a register stands among the eight
+place_of : Reg → ℕ
+place_of RBX = 0
+place_of RBP = 1
+place_of RDI = 2
+place_of RSI = 3
+place_of R12 = 4
+place_of R13 = 5
+place_of R14 = 6
+place_of R15 = 7
+place_of _ = 8
+
+place_of-eight : (i : ℕ) (z : Reg) → i < 8 → place_of (get_or eight i z) ≡ i
+unfolding place_of
+place_of-eight zero z h = refl
+place_of-eight (suc zero) z h = refl
+place_of-eight (suc (suc zero)) z h = refl
+place_of-eight (suc (suc (suc zero))) z h = refl
+place_of-eight (suc (suc (suc (suc zero)))) z h = refl
+place_of-eight (suc (suc (suc (suc (suc zero))))) z h = refl
+place_of-eight (suc (suc (suc (suc (suc (suc zero)))))) z h = refl
+place_of-eight (suc (suc (suc (suc (suc (suc (suc zero))))))) z h = refl
+place_of-eight (suc (suc (suc (suc (suc (suc (suc (suc i)))))))) z h = absurd (omega arith)
+
+IsInjective-eight : IsInjective eight
+IsInjective-eight = record { unique = λ i j z hi hj e. sym (place_of-eight i z hi) ∙ ap place_of e ∙ place_of-eight j z hj }
+
+ordering-at : (registers : List Reg) (n m : ℕ) → m ≡ n → Orders n eight registers → ordering (length registers) m ≡ registers
+unfolding ordering
+ordering-at registers n m e orders = rw e orders
+
+pub Encodes-start : (registers : List Reg) → Encodes registers eight registers 0 1
+unfolding ordering factorial
+Encodes-start registers = record {
+  completes = λ m orders. ordering-at registers m (0 + m * 1) (omega arith) orders;
+  only = λ n e. (n, omega arith, e);
+  room = refl;
+  below = omega arith;
+  injective = IsInjective-eight;
+}
+
+numbers : (encoded scale radix quotient digit : ℕ) → encoded + digit * scale + quotient * (scale * radix) ≡ encoded + (quotient * radix + digit) * scale
+numbers encoded scale radix quotient digit = omega arith
+
+pub Encodes-more : (registers : List Reg) (x : Reg) (xs : List Reg) (r : Reg) (others : List Reg) (encoded scale digit : ℕ) → Encodes registers (x ∷ xs) (r ∷ others) encoded scale → digit < suc (length xs) → get_or (x ∷ xs) digit r ≡ r → Encodes registers (remaining (x ∷ xs) digit) others (encoded + digit * scale) (scale * suc (length xs))
+unfolding factorial
+Encodes-more registers x xs r others encoded scale digit old h is = record {
+  completes = λ m orders.
+      ap (ordering (length registers)) (numbers encoded scale (suc (length xs)) m digit)
+      ∙ old.completes (m * suc (length xs) + digit) (Orders-cons x xs digit m r others h is orders);
+  only = λ n e.
+      let (m, n_is, orders) = old.only n e in
+      let front = IsFrontOf-cons m x xs r others orders in
+      let below : m % suc (length xs) < suc (length xs) = mod_below m (suc (length xs)) (omega arith) in
+      let same : m % suc (length xs) ≡ digit = old.injective.unique (m % suc (length xs)) digit r below h (front.first ∙ sym is) in
+      let m_is : m ≡ m / suc (length xs) * suc (length xs) + digit = sym (div-add-mod' m (suc (length xs))) ∙ ap (λ d. m / suc (length xs) * suc (length xs) + d) same in (
+        m / suc (length xs),
+        n_is ∙ ap (λ k. encoded + k * scale) m_is ∙ sym (numbers encoded scale (suc (length xs)) (m / suc (length xs)) digit),
+        subst (λ d. Orders (m / suc (length xs)) (remaining (x ∷ xs) d) others) same front.others,
+      );
+  room = ap (λ k. scale * suc (length xs) * factorial k) (length-remaining x xs digit) ∙ mul_assoc scale (suc (length xs)) (factorial (length xs)) ∙ old.room;
+  below =
+      let step : digit * scale ≤ length xs * scale = mul-le-mul_right scale (omega arith) in
+      omega (arith, old.below, step);
+  injective = IsInjective-remaining x xs digit h old.injective;
+}
+
+-- the scale is a part of the product of all radices
+pub Encodes-scale : (registers pool others : List Reg) (encoded scale : ℕ) → Encodes registers pool others encoded scale → (scale ≤ 40320) × (scale * length pool ≤ 40320)
+Encodes-scale registers pool others encoded scale e =
+    let least = factorial-at_least (length pool) in
+    let one : scale * 1 ≤ scale * factorial (length pool) = mul-le-mul_left scale least.0 in
+    let many : scale * length pool ≤ scale * factorial (length pool) = mul-le-mul_left scale least.1 in
+    (omega (arith, e.room), omega (arith, e.room))
+
+drop-swap : {X : Type 0} (xs : List X) (place digit : ℕ) → place + digit < length xs → drop place (swap xs place (place + digit)) ≡ swap (drop place xs) 0 digit
+drop-swap xs zero digit h = rw (zero-add digit) refl
+drop-swap [] (suc place) digit h = absurd (omega arith)
+drop-swap (x ∷ xs) (suc place) digit h =
+    let moved : swap (x ∷ xs) (suc place) (suc place + digit) ≡ x ∷ swap xs place (place + digit) = rw suc-add (swap-cons x xs place (place + digit) (omega arith) (omega arith)) in
+    ap (drop (suc place)) moved ∙ drop-swap xs place digit (omega arith)
+
+Encodes-step : (registers pool pool' left others : List Reg) (x : Reg) (xs : List Reg) (r : Reg) (encoded scale digit radix : ℕ) → pool ≡ x ∷ xs → left ≡ r ∷ others → pool' ≡ remaining pool digit → radix ≡ suc (length xs) → digit < radix → get_or pool digit r ≡ r → Encodes registers pool left encoded scale → Encodes registers pool' others (encoded + digit * scale) (scale * radix)
+Encodes-step registers pool pool' left others x xs r encoded scale digit radix pool_is left_is pool'_is radix_is below is old =
+    let before = rw (pool_is, left_is) at old in
+    let stands = rw pool_is at is in
+    let more = Encodes-more registers x xs r others encoded scale digit before (omega arith) stands in
+    rw (pool'_is, pool_is, radix_is) more
+
+-- all registers are encoded: the number is the least one of their ordering
+pub Encodes-end : (registers pool : List Reg) (encoded scale : ℕ) → Encodes registers pool [] encoded scale → (ordering (length registers) encoded ≡ registers) × ((n : ℕ) → ordering (length registers) n ≡ registers → encoded ≤ n) × (encoded < 40320)
+Encodes-end registers pool encoded scale e = (
+  ap (ordering (length registers)) (omega arith) ∙ e.completes 0 refl,
+  λ n is. let (m, n_is, orders) = e.only n is in omega arith,
+  omega (arith, e.below, (Encodes-scale registers pool [] encoded scale e).0),
+)
+
+-- a register that is not among what is left: no number orders the list
+pub Encodes-absent : (registers pool : List Reg) (r : Reg) (others : List Reg) (encoded scale : ℕ) → Encodes registers pool (r ∷ others) encoded scale → All (λ y. y ≢ r) pool → (n : ℕ) → ordering (length registers) n ≡ registers → ⊥
+unfolding exchanges
+Encodes-absent registers [] r others encoded scale e absent n is =
+    let (m, n_is, orders) = e.only n is in
+    cc
+Encodes-absent registers (x ∷ xs) r others encoded scale e absent n is =
+    let (m, n_is, orders) = e.only n is in
+    let front = IsFrontOf-cons m x xs r others orders in
+    absent (m % suc (length xs)) r (mod_below m (suc (length xs)) (omega arith)) front.first
+
+-- ---- the lists that have an ordering
+
+-- an arrangement has a number, and at most eight registers
+pub IsArrangement-number : (registers : List Reg) → IsArrangement registers → (n : ℕ) × (ordering (length registers) n ≡ registers) × (length registers ≤ 8)
+unfolding ordering
+IsArrangement-number registers h =
+    let numbered = numbered eight registers h.distinct h.among in
+    (numbered.number, numbered.orders, numbered.fits)
+
+-- whatever the number, an ordering is an arrangement
+pub IsArrangement-ordering : (count n : ℕ) → IsArrangement (ordering count n)
+unfolding ordering
+IsArrangement-ordering count n =
+    let arranged = arranged count n 8 eight refl IsInjective-eight in
+    record { distinct = arranged.distinct; among = arranged.among }
+
+-- The loop of `encode` at a place, with the order that the eight then stand in.
+module _ (registers order : List Reg) (place encoded scale : ℕ) (z : Reg) (n : length order ≡ 8) (within : place < length registers) (room : place < 8) (old : Encodes registers (drop place order) (drop place registers) encoded scale) where
+  whole : take (8 - place) (drop place order) ≡ drop place order
+  whole = take_all (8 - place) (drop place order) (omega (arith, length-drop place order))
+
+  others_is : drop place registers ≡ get_or registers place z ∷ drop (place + 1) registers
+  others_is = drop_more registers place z within
+
+  -- its numbers fit 16 bits
+  pub Encodes-fits : (digit : ℕ) → digit < length (take (8 - place) (drop place order)) → (digit * scale ≤ 40320) × (encoded + digit * scale ≤ 40320) × (scale * (8 - place) ≤ 40320)
+  Encodes-fits digit below =
+      let size : length (drop place order) ≡ 8 - place = omega (arith, length-drop place order) in
+      let digit_below : suc digit ≤ 8 - place = omega (arith, ap length whole, size, below) in
+      let product : suc digit * scale ≤ (8 - place) * scale = mul-le-mul_right scale digit_below in
+      let all : scale * (8 - place) ≤ 40320 = rw size at (Encodes-scale registers (drop place order) (drop place registers) encoded scale old).1 in
+      let swapped : (8 - place) * scale ≡ scale * (8 - place) = omega arith in
+      let first : encoded < scale = old.below in
+      (omega arith, omega arith, all)
+
+  pub Encodes-place : (next : List Reg) (digit : ℕ) → digit < length (take (8 - place) (drop place order)) → get_or (take (8 - place) (drop place order)) digit (get_or registers place z) ≡ get_or registers place z → next ≡ swap order place (place + digit) → (length next ≡ 8) × Encodes registers (drop (place + 1) next) (drop (place + 1) registers) (encoded + digit * scale) (scale * (8 - place))
+  Encodes-place next digit below is next_is =
+      let r = get_or registers place z in
+      let size = length-drop place order in
+      let digit_below : digit < 8 - place = omega (arith, ap length whole) in
+      let stands : get_or (drop place order) digit r ≡ r = rw whole at is in
+      let pool : drop place order ≡ get_or order place r ∷ drop (place + 1) order = drop_more order place r (omega arith) in
+      let moved : drop (place + 1) next ≡ remaining (drop place order) digit = ap (drop (place + 1)) next_is ∙ sym (drop-drop 1 place (swap order place (place + digit))) ∙ ap (drop 1) (drop-swap order place digit (omega arith)) in
+      let radix : suc (length (drop (place + 1) order)) ≡ 8 - place = omega (arith, length-drop (place + 1) order) in (
+        ap length next_is ∙ length-swap order place (place + digit) ∙ n,
+        Encodes-step registers (drop place order) (drop (place + 1) next) (drop place registers) (drop (place + 1) registers) (get_or order place r) (drop (place + 1) order) r encoded scale digit (8 - place) pool others_is moved (sym radix) digit_below stands old,
+      )
+
+  -- a register that is not among those left is in no ordering
+  pub Encodes-refused : All (λ y. y ≢ get_or registers place z) (take (8 - place) (drop place order)) → IsArrangement registers → ⊥
+  Encodes-refused absent arrangement =
+      let number = IsArrangement-number registers arrangement in
+      Encodes-absent registers (drop place order) (get_or registers place z) (drop (place + 1) registers) encoded scale (rw others_is at old) (rw whole at absent) number.0 number.1
+
+-- after the last register
+pub IsEncoding-end : (registers pool : List Reg) (place encoded scale : ℕ) → length registers ≤ place → Encodes registers pool (drop place registers) encoded scale → IsEncoding registers (length registers) encoded
+IsEncoding-end registers pool place encoded scale last e =
+    let end = Encodes-end registers pool encoded scale (rw (drop_all place registers last) at e) in
+    record { counted = refl; below = end.2; orders = end.0; least = end.1 }
+
+-- what is encoded is an arrangement
+pub IsArrangement-encoding : (registers : List Reg) (count n : ℕ) → IsEncoding registers count n → IsArrangement registers
+IsArrangement-encoding registers count n e = subst IsArrangement e.orders (IsArrangement-ordering count n)

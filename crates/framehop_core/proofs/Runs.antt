@@ -1,0 +1,85 @@
+-- Runs of rules: what one more rule adds.
+use Rattle.std.proofs.Common.{◌≡◌, ℕ, suc, ◌+◌, ◌-◌, ◌<◌, ◌≤◌, Bool, true, false, nat_eq, List, [], ◌∷◌, drop, get_or, length, Some, None, Ok, Err, refl, sym, ap, ◌∙◌, add_assoc, zero-add, add-zero, arith}
+use Rattle.std.proofs.lemmas.Bool.Decides.{nat_tests}
+use Rattle.std.proofs.lemmas.List.{drop_more}
+use Rattle.framehop_core.specs.Memory.{Memory}
+use Rattle.framehop_core.specs.Outcome.{Outcome, answered, root, refused, answer_of, registers_after}
+use Rattle.framehop_core.specs.Runs.{Run, later, run_on, run_of, after_first, StepsBy}
+use Rattle.framehop_core.specs.declared.error.Error.{Error}
+
+-- ---- what an answer says of the outcome
+
+pub answered-answer_of : {R : Type 0} (old : R) (o : Outcome R) (address : ℕ) → answer_of o ≡ Ok (Some address) → o ≡ answered address (registers_after old o)
+answered-answer_of old (answered a new) address e = ap (λ b. answered b new) cc
+answered-answer_of old root address e = cc
+answered-answer_of old (refused error) address e = cc
+
+pub root-answer_of : {R : Type 0} (o : Outcome R) → answer_of o ≡ Ok None → o ≡ root
+root-answer_of (answered a new) e = cc
+root-answer_of root e = refl
+root-answer_of (refused error) e = cc
+
+pub refused-answer_of : {R : Type 0} (o : Outcome R) (error : Error) → answer_of o ≡ Err error → o ≡ refused error
+refused-answer_of (answered a new) error e = cc
+refused-answer_of root error e = cc
+refused-answer_of (refused other) error e = ap refused cc
+
+-- ---- the run
+
+later-later : {R : Type 0} (m n : ℕ) (run : Run R) → later m (later n run) ≡ later (m + n) run
+later-later m n run = ap (λ k. record { count = k; end = run.end; registers = run.registers }) (sym (add_assoc m n run.count))
+
+later-zero : {R : Type 0} (run : Run R) → later 0 run ≡ run
+later-zero run = ap (λ k. record { count = k; end = run.end; registers = run.registers }) (zero-add run.count)
+
+module _ {U R : Type 0} (outcome : U → Bool → R → Memory → Outcome R) (memory : Memory) (rules : List U) (n : ℕ) (first : Bool) (r : R) (all : Run R) (so_far : later n (run_of outcome first (drop n rules) r memory) ≡ all) where
+  -- a rule that answers: the run goes on behind it
+  pub run_of-more : (rule : U) (address : ℕ) (new : R) → n < length rules → rule ≡ get_or rules n rule → outcome rule first r memory ≡ answered address new → later (n + 1) (run_of outcome false (drop (n + 1) rules) new memory) ≡ all
+  run_of-more rule address new within is o =
+      let split : drop n rules ≡ rule ∷ drop (n + 1) rules = drop_more rules n rule within ∙ ap (λ u. u ∷ drop (n + 1) rules) (sym is) in
+      sym (later-later n 1 (run_of outcome false (drop (n + 1) rules) new memory)) ∙ ap (later n) (sym (ap (λ us. run_of outcome first us r memory) split ∙ ap (λ p. run_on r p (λ s. run_of outcome false (drop (n + 1) rules) s memory)) o)) ∙ so_far
+
+later_first : (k : ℕ) → nat_eq (k + 1) 0 ≡ false
+later_first k = grind (arith, nat_tests)
+
+-- one more step
+pub StepsBy-more : {R : Type 0} (advances : Bool → R → R → Type 0) (k n : ℕ) (start old next new : R) → ((n : ℕ) (new : R) → StepsBy advances (nat_eq k 0) n old new → StepsBy advances true (k + n) start new) → advances (nat_eq k 0) old next → StepsBy advances (nat_eq (k + 1) 0) n next new → StepsBy advances true (k + 1 + n) start new
+StepsBy-more advances k n start old next new so_far step steps =
+    let rest : StepsBy advances false n next new = rw later_first at steps in
+    let count : k + suc n ≡ k + 1 + n = omega arith in
+    rw count at (so_far (suc n) new (next, step, rest))
+
+-- no more steps
+pub StepsBy-end : {R : Type 0} (advances : Bool → R → R → Type 0) (first : Bool) (k : ℕ) (start old new : R) → ((n : ℕ) (new : R) → StepsBy advances first n old new → StepsBy advances true (k + n) start new) → new ≡ old → StepsBy advances true k start new
+StepsBy-end advances first k start old new so_far same = rw add-zero at (so_far 0 new (sym same))
+
+module _ {U R : Type 0} (outcome : U → Bool → R → Memory → Outcome R) (memory : Memory) (rules : List U) (n : ℕ) (r new : R) (all : Run R) where
+  -- the same over what a call of a rule has done
+  pub run_of-answered : (rule : U) (address : ℕ) → later n (run_of outcome (nat_eq n 0) (drop n rules) r memory) ≡ all → n < length rules → rule ≡ get_or rules n rule → Ok (Some address) ≡ answer_of (outcome rule (nat_eq n 0) r memory) → new ≡ registers_after r (outcome rule (nat_eq n 0) r memory) → later (n + 1) (run_of outcome (nat_eq (n + 1) 0) (drop (n + 1) rules) new memory) ≡ all
+  run_of-answered rule address so_far within is answer registers =
+      let o = answered-answer_of r (outcome rule (nat_eq n 0) r memory) address (sym answer) ∙ ap (answered address) (sym registers) in
+      rw later_first (run_of-more outcome memory rules n (nat_eq n 0) r all so_far rule address new within is o)
+
+-- ---- the bound: each answered step after the first raises the stack pointer
+module _ {U R : Type 0} (outcome : U → Bool → R → Memory → Outcome R) (memory : Memory) (sp : R → ℕ) (Behind : R → Type 0) (leads : (rule : U) (first : Bool) (r : R) (address : ℕ) (new : R) → outcome rule first r memory ≡ answered address new → Behind new) (rises : (rule : U) (r : R) (address : ℕ) (new : R) → Behind r → outcome rule false r memory ≡ answered address new → sp r < sp new) where
+  rise_on : (rule : U) (r : R) (next : R → Run R) → Behind r → ((new : R) → Behind new → (next new).count + sp new ≤ sp (next new).registers) → (o : Outcome R) → outcome rule false r memory ≡ o → (run_on r o next).count + sp r ≤ sp (run_on r o next).registers
+  rise_on rule r next behind more (answered address new) e =
+      omega (arith, more new (leads rule false r address new e), rises rule r address new behind e)
+  rise_on rule r next behind more root e = omega arith
+  rise_on rule r next behind more (refused error) e = omega arith
+
+  pub run_of-rise : (rules : List U) (r : R) → Behind r → (run_of outcome false rules r memory).count + sp r ≤ sp (run_of outcome false rules r memory).registers
+  run_of-rise [] r behind = omega arith
+  run_of-rise (rule ∷ rules) r behind =
+      rise_on rule r (λ new. run_of outcome false rules new memory) behind (λ new b. run_of-rise rules new b) (outcome rule false r memory) refl
+
+  bound_on : (rule : U) (r : R) (next : R → Run R) → ((new : R) → Behind new → (next new).count + sp new ≤ sp (next new).registers) → (o : Outcome R) → outcome rule true r memory ≡ o → (run_on r o next).count - 1 ≤ sp (run_on r o next).registers - sp (registers_after r o)
+  bound_on rule r next more (answered address new) e =
+      omega (arith, more new (leads rule true r address new e))
+  bound_on rule r next more root e = omega arith
+  bound_on rule r next more (refused error) e = omega arith
+
+  pub run_of-bound : (rules : List U) (r : R) → (run_of outcome true rules r memory).count - 1 ≤ sp (run_of outcome true rules r memory).registers - sp (after_first outcome rules r memory)
+  run_of-bound [] r = omega arith
+  run_of-bound (rule ∷ rules) r =
+      bound_on rule r (λ new. run_of outcome false rules new memory) (λ new b. run_of-rise rules new b) (outcome rule true r memory) refl

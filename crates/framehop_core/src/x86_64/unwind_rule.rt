@@ -1,0 +1,418 @@
+ghost use Rattle.std.specs.Prelude.{◌≡◌, ◌≢◌, ℕ, ◌<◌, ◌≤◌, pos, ◌-ℤ◌, true, List, length, All, MatchResult, OnOk, MatchOption, IfSome};
+ghost use Rattle.std.specs.Iterator.{IsFinite, AlwaysYields};
+ghost use Rattle.framehop_core.specs.Memory.{Memory, AnswersAs};
+ghost use Rattle.framehop_core.specs.Outcome.{KeptUnlessAnswered, HasDone, address_at};
+ghost use Rattle.framehop_core.specs.Runs.{run_of, after_first, IsWithinRise};
+ghost use Rattle.framehop_core.specs.X86_64.Rules.{outcome, NotBelowWhereAnswered, outcome_of_line, frame_pointer_line, beside, restored_at, value_from, popped, return_address, finished, is_executable, offset_and_pops_of, IsRuleOfOperations};
+
+use super::register_ordering;
+use super::unwindregs::{Reg, UnwindRegsX86_64};
+use crate::error::Error;
+use crate::unwind_rule;
+use crate::unwind_rule::{RunEnd, UnwindRule, address_beside, offset_address, read_stack_word};
+use arrayvec::ArrayVec;
+
+/// How to get from the registers of a frame to those of its caller, on x86_64.
+///
+/// The return address is the word below the caller's stack pointer, for each of these rules. A
+/// field whose name ends in `by_8` counts units of 8 bytes: here `x` stands for the offset of sp
+/// and `y` for that of the stored bp, in bytes.
+#[derive(Clone, Copy, Debug, PartialEq, Eq)]
+pub enum UnwindRuleX86_64 {
+    /// There is no caller.
+    EndOfStack,
+
+    /// `(sp, bp) = (sp + 8, bp)`
+    JustReturn,
+
+    /// `(sp, bp) = (sp + 8, bp)` in a first frame, else `(bp + 16, *bp)`.
+    ///
+    /// This serves an address inside a module for which the unwind data has nothing.
+    JustReturnIfFirstFrameOtherwiseFp,
+
+    /// `(sp, bp) = (sp + x, bp)`
+    OffsetSp {
+        sp_offset_by_8: u16,
+    },
+
+    /// `(sp, bp) = (sp + x, *(sp + y))`
+    OffsetSpAndRestoreBp {
+        sp_offset_by_8: u16,
+        bp_storage_offset_from_sp_by_8: i16,
+    },
+
+    /// `(sp, bp) = (bp + 16, *bp)`
+    ///
+    /// A function with a frame pointer pushes the caller's bp behind the return address, and sets
+    /// bp to the address of that word.
+    UseFramePointer,
+
+    /// `sp + x`, then up to 8 registers are popped from there, and sp stands behind them and the
+    /// return address.
+    OffsetSpAndPopRegisters {
+        /// The offset of the first popped register from sp, in units of 8 bytes.
+        sp_offset_by_8: u16,
+        /// How many registers are popped.
+        register_count: u8,
+        /// The number of their ordering, see `register_ordering`.
+        encoded_registers_to_pop: u16,
+    },
+}
+
+/// An operation that unwinding has to do: an offset of the stack pointer, in units of 8 bytes, or
+/// a pop of a register, or something else.
+#[derive(Clone, Copy, Debug, PartialEq, Eq)]
+pub enum OffsetOrPop {
+    None,
+    OffsetBy8(u16),
+    Pop(Reg),
+}
+
+impl UnwindRuleX86_64 {
+    /// The rule that does these operations: at most one offset first, then pops alone, of distinct
+    /// registers among the eight that can be ordered. Other operations have no rule.
+    pub fn for_sequence_of_offset_or_pop<I>(operations: I) -> Option<Self>
+    where
+        I: Iterator<Item = OffsetOrPop> + Drop,
+        requires can { I.can_next operations }
+        requires ends { IsFinite (I.remaining operations) }
+        ensures rule { (given : List OffsetOrPop) → AlwaysYields I.next_gives (λ operation. operation) operations given
+            → IsRuleOfOperations given result }
+        ensures executable { IfSome result (λ rule. is_executable rule ≡ true) }
+    {
+        let (sp_offset_by_8, registers) = offset_and_pops(operations)?;
+        if sp_offset_by_8 == 0 && registers.is_empty() {
+            return Some(Self::JustReturn);
+        }
+        let (register_count, encoded_registers_to_pop) = register_ordering::encode(
+            registers.as_slice(),
+        )?;
+        Some(Self::OffsetSpAndPopRegisters {
+            sp_offset_by_8,
+            register_count,
+            encoded_registers_to_pop,
+        })
+    }
+}
+
+/// The offset and the registers of operations that are at most one offset, then at most 8 pops.
+fn offset_and_pops<I>(operations: I) -> Option<(u16, ArrayVec<Reg, 8>)>
+where
+    I: Iterator<Item = OffsetOrPop> + Drop,
+    requires can { I.can_next operations }
+    requires ends { IsFinite (I.remaining operations) }
+    ensures given { (given : List OffsetOrPop) → AlwaysYields I.next_gives (λ operation. operation) operations given
+        → MatchOption result
+        ((x : ℕ) (registers : List Reg) → offset_and_pops_of given ≡ Some (x, registers) → 8 < length registers)
+        (λ found. offset_and_pops_of given ≡ Some (found.0, found.1.items)) }
+    ensures few { IfSome result (λ found. length found.1.items ≤ 8) }
+{
+    let mut sp_offset_by_8 = 0;
+    let mut registers = ArrayVec::new();
+    let mut is_first = true;
+    for operation in operations {
+        match operation {
+            OffsetOrPop::OffsetBy8(offset) if is_first => sp_offset_by_8 = offset,
+            OffsetOrPop::Pop(register) if !registers.is_full() => registers.push(register),
+            _ => return None,
+        }
+        is_first = false;
+    }
+    Some((sp_offset_by_8, registers))
+}
+
+impl UnwindRule for UnwindRuleX86_64 {
+    ghost use Rattle.std.specs.Prelude.{refl};
+    ghost use Rattle.framehop_core.specs.X86_64.Rules.{outcome, Advances, is_executable};
+    ghost use Rattle.framehop_core.specs.declared.x86_64.unwind_rule.UnwindRuleX86_64.TheVariants.{JustReturn, UseFramePointer};
+
+    type UnwindRegs = UnwindRegsX86_64;
+
+    ghost outcome = { outcome };
+
+    ghost advances = { Advances };
+
+    ghost executable = { is_executable };
+
+    ghost stub_rule = { JustReturn };
+
+    ghost function_start_rule = { JustReturn };
+
+    ghost fallback = { UseFramePointer };
+
+    ghost stub_rule_executable = { refl };
+
+    ghost function_start_rule_executable = { refl };
+
+    ghost fallback_executable = { refl };
+
+    fn exec<F>(
+        self,
+        is_first_frame: bool,
+        regs: &mut UnwindRegsX86_64,
+        read_stack: &mut F,
+    ) -> Result<Option<u64>, Error>
+    where
+        F: FnMut(u64) -> Result<u64, ()>,
+    {
+        let sp = regs.sp();
+        let bp = regs.bp();
+        match self {
+            UnwindRuleX86_64::EndOfStack => Ok(None),
+            UnwindRuleX86_64::JustReturn => {
+                let new_sp = offset_address(sp, 8)?;
+                finish(regs, read_stack, new_sp, bp)
+            }
+            UnwindRuleX86_64::JustReturnIfFirstFrameOtherwiseFp => {
+                if !is_first_frame {
+                    return exec_frame_pointer(regs, read_stack);
+                }
+                let new_sp = offset_address(sp, 8)?;
+                finish(regs, read_stack, new_sp, bp)
+            }
+            UnwindRuleX86_64::OffsetSp { sp_offset_by_8 } => {
+                let new_sp = offset_address(sp, u64::from(sp_offset_by_8) * 8)?;
+                finish(regs, read_stack, new_sp, bp)
+            }
+            UnwindRuleX86_64::OffsetSpAndRestoreBp {
+                sp_offset_by_8,
+                bp_storage_offset_from_sp_by_8,
+            } => {
+                let new_sp = offset_address(sp, u64::from(sp_offset_by_8) * 8)?;
+                let new_bp = read_bp_beside(
+                    is_first_frame,
+                    regs,
+                    read_stack,
+                    bp_storage_offset_from_sp_by_8,
+                )?;
+                finish(regs, read_stack, new_sp, new_bp)
+            }
+            UnwindRuleX86_64::UseFramePointer => {
+                if bp == 0 {
+                    return Ok(None);
+                }
+                exec_frame_pointer(regs, read_stack)
+            }
+            UnwindRuleX86_64::OffsetSpAndPopRegisters {
+                sp_offset_by_8,
+                register_count,
+                encoded_registers_to_pop,
+            } => {
+                let first = offset_address(sp, u64::from(sp_offset_by_8) * 8)?;
+                let registers = register_ordering::decode(register_count, encoded_registers_to_pop);
+                let mut caller = *regs;
+                pop_registers(&mut caller, read_stack, first, registers.as_slice())?;
+                finish_with(regs, read_stack, caller)
+            }
+        }
+    }
+
+    fn rule_for_stub_functions() -> Self {
+        UnwindRuleX86_64::JustReturn
+    }
+
+    fn rule_for_function_start() -> Self {
+        UnwindRuleX86_64::JustReturn
+    }
+
+    fn fallback_rule() -> Self {
+        UnwindRuleX86_64::UseFramePointer
+    }
+
+    fn executable(self) -> bool {
+        match self {
+            UnwindRuleX86_64::OffsetSpAndPopRegisters {
+                sp_offset_by_8: _,
+                register_count,
+                encoded_registers_to_pop,
+            } => register_ordering::is_ordering(register_count, encoded_registers_to_pop),
+            _ => true,
+        }
+    }
+}
+
+/// Runs rules one after another, each from the registers that the one before it leaves, the first
+/// one as a first frame. Answers how many answered an address, and why the run ended.
+///
+/// No answered rule lowers the stack pointer. With a callback that answers as one memory each
+/// after the first raises it: then at most as many of them answer as the stack pointer has risen
+/// since the first one.
+pub fn run_rules<F: FnMut(u64) -> Result<u64, ()>>(
+    rules: &[UnwindRuleX86_64],
+    regs: &mut UnwindRegsX86_64,
+    read_stack: &mut F,
+) -> (usize, RunEnd)
+    requires can_run { All (λ rule. is_executable rule ≡ true) rules.now }
+    requires can_read { F.IsAlwaysCallable read_stack.old }
+    ensures callable { F.IsAlwaysCallable read_stack.new }
+    ensures not_below { regs.old.rsp ≤ regs.new.rsp }
+    ensures answers { (memory : Memory) → AnswersAs F.FnMut read_stack.old memory
+        → AnswersAs F.FnMut read_stack.new memory
+        × (run_of outcome true rules.now regs.old memory
+        ≡ record { count = result.0; end = result.1; registers = regs.new })
+        × IsWithinRise result.0 (after_first outcome rules.now regs.old memory).rsp regs.new.rsp }
+{
+    unwind_rule::run_rules(rules, regs, read_stack)
+}
+
+/// The step by the frame pointer, `(sp, bp) = (bp + 16, *bp)`, where the stack pointer must rise.
+fn exec_frame_pointer<F: FnMut(u64) -> Result<u64, ()>>(
+    regs: &mut UnwindRegsX86_64,
+    read_stack: &mut F,
+) -> Result<Option<u64>, Error>
+    requires { F.IsAlwaysCallable read_stack.old }
+    ensures callable { F.IsAlwaysCallable read_stack.new }
+    ensures no_memory_taken { result ≢ Err Error.OutOfMemory }
+    ensures kept { KeptUnlessAnswered result regs.old regs.new }
+    ensures not_below { NotBelowWhereAnswered result regs.old regs.new }
+    ensures answers { (memory : Memory) → AnswersAs F.FnMut read_stack.old memory
+        → AnswersAs F.FnMut read_stack.new memory
+        × HasDone (outcome_of_line (frame_pointer_line regs.old) regs.old memory) result regs.old regs.new }
+{
+    let bp = regs.bp();
+    let new_sp = offset_address(bp, 16)?;
+    if new_sp <= regs.sp() {
+        return Err(Error::FramepointerUnwindingMovedBackwards);
+    }
+    let new_bp = read_stack_word(read_stack, bp)?;
+    finish(regs, read_stack, new_sp, new_bp)
+}
+
+/// Reads the caller's bp in the word at this many words of 8 bytes from sp. In a first frame a
+/// word below sp may be unreadable: then bp is taken to be restored already.
+#[inline(always)]
+fn read_bp_beside<F: FnMut(u64) -> Result<u64, ()>>(
+    is_first_frame: bool,
+    regs: &UnwindRegsX86_64,
+    read_stack: &mut F,
+    offset_from_sp_by_8: i16,
+) -> Result<u64, Error>
+    requires { F.IsAlwaysCallable read_stack.old }
+    ensures callable { F.IsAlwaysCallable read_stack.new }
+    ensures no_memory_taken { result ≢ Err Error.OutOfMemory }
+    ensures answers { (memory : Memory) → AnswersAs F.FnMut read_stack.old memory
+        → AnswersAs F.FnMut read_stack.new memory
+        × (result ≡ value_from memory regs.now.rbp
+        (restored_at is_first_frame offset_from_sp_by_8 (beside regs.now.rsp offset_from_sp_by_8))) }
+{
+    let location = address_beside(regs.sp(), offset_from_sp_by_8)?;
+    match read_stack_word(read_stack, location) {
+        Ok(bp) => Ok(bp),
+        Err(_) if is_first_frame && offset_from_sp_by_8 < 0 => Ok(regs.bp()),
+        Err(error) => Err(error),
+    }
+}
+
+/// Pops registers off the stack, the first one at the address (AVMA), and sets sp behind them and
+/// the return address.
+fn pop_registers<F: FnMut(u64) -> Result<u64, ()>>(
+    regs: &mut UnwindRegsX86_64,
+    read_stack: &mut F,
+    first: u64,
+    registers: &[Reg],
+) -> Result<(), Error>
+    requires { F.IsAlwaysCallable read_stack.old }
+    ensures callable { F.IsAlwaysCallable read_stack.new }
+    ensures no_memory_taken { result ≢ Err Error.OutOfMemory }
+    ensures not_below { OnOk result (first ≤ regs.new.rsp) }
+    ensures answers { (memory : Memory) → AnswersAs F.FnMut read_stack.old memory
+        → AnswersAs F.FnMut read_stack.new memory
+        × MatchResult result (λ _. popped memory first registers.now regs.old ≡ Ok regs.new)
+        (λ error. popped memory first registers.now regs.old ≡ Err error) }
+{
+    let mut address = first;
+    for register in registers {
+        let value = read_stack_word(read_stack, address)?;
+        address = offset_address(address, 8)?;
+        regs.set(*register, value);
+    }
+    regs.set_sp(offset_address(address, 8)?);
+    Ok(())
+}
+
+/// The last step of each rule but pops: reads the return address and writes the caller's registers,
+/// unless the address is 0 (the root) or the step would give the same frame again.
+#[inline(always)]
+fn finish<F: FnMut(u64) -> Result<u64, ()>>(
+    regs: &mut UnwindRegsX86_64,
+    read_stack: &mut F,
+    new_sp: u64,
+    new_bp: u64,
+) -> Result<Option<u64>, Error>
+    requires { F.IsAlwaysCallable read_stack.old }
+    ensures callable { F.IsAlwaysCallable read_stack.new }
+    ensures no_memory_taken { result ≢ Err Error.OutOfMemory }
+    ensures kept { KeptUnlessAnswered result regs.old regs.new }
+    ensures not_below { regs.old.rsp ≤ new_sp → NotBelowWhereAnswered result regs.old regs.new }
+    ensures answers { (memory : Memory) → AnswersAs F.FnMut read_stack.old memory
+        → AnswersAs F.FnMut read_stack.new memory
+        × HasDone (finished regs.old (record regs.old { rsp = new_sp; rbp = new_bp }) memory) result regs.old regs.new }
+{
+    let Some(address) = read_return_address(regs, read_stack, new_sp)? else {
+        return Ok(None);
+    };
+    regs.set_ip(address);
+    regs.set_sp(new_sp);
+    regs.set_bp(new_bp);
+    Ok(Some(address))
+}
+
+/// The last step behind pops: as `finish`, with the caller's registers but for ip.
+#[inline(always)]
+fn finish_with<F: FnMut(u64) -> Result<u64, ()>>(
+    regs: &mut UnwindRegsX86_64,
+    read_stack: &mut F,
+    caller: UnwindRegsX86_64,
+) -> Result<Option<u64>, Error>
+    requires { F.IsAlwaysCallable read_stack.old }
+    ensures callable { F.IsAlwaysCallable read_stack.new }
+    ensures no_memory_taken { result ≢ Err Error.OutOfMemory }
+    ensures kept { KeptUnlessAnswered result regs.old regs.new }
+    ensures not_below { regs.old.rsp ≤ caller.rsp → NotBelowWhereAnswered result regs.old regs.new }
+    ensures answers { (memory : Memory) → AnswersAs F.FnMut read_stack.old memory
+        → AnswersAs F.FnMut read_stack.new memory
+        × HasDone (finished regs.old caller memory) result regs.old regs.new }
+{
+    let Some(address) = read_return_address(regs, read_stack, caller.sp())? else {
+        return Ok(None);
+    };
+    *regs = caller;
+    regs.set_ip(address);
+    Ok(Some(address))
+}
+
+/// Reads the return address below the caller's stack pointer: `None` where it is 0, and
+/// `DidNotAdvance` where neither it nor the stack pointer changes.
+#[inline(always)]
+fn read_return_address<F: FnMut(u64) -> Result<u64, ()>>(
+    regs: &UnwindRegsX86_64,
+    read_stack: &mut F,
+    new_sp: u64,
+) -> Result<Option<u64>, Error>
+    requires { F.IsAlwaysCallable read_stack.old }
+    ensures callable { F.IsAlwaysCallable read_stack.new }
+    ensures no_memory_taken { result ≢ Err Error.OutOfMemory }
+    ensures answers { (memory : Memory) → AnswersAs F.FnMut read_stack.old memory
+        → AnswersAs F.FnMut read_stack.new memory × (result ≡ return_address regs.now new_sp memory) }
+{
+    let location = word_below(new_sp)?;
+    let address = read_stack_word(read_stack, location)?;
+    if address == 0 {
+        return Ok(None);
+    }
+    if new_sp == regs.sp() && address == regs.ip() {
+        return Err(Error::DidNotAdvance);
+    }
+    Ok(Some(address))
+}
+
+/// The address of the word below a stack pointer. `IntegerOverflow` where that lies below 0.
+#[inline(always)]
+fn word_below(sp: u64) -> Result<u64, Error>
+    ensures { result ≡ address_at (pos sp -ℤ pos 8) }
+{
+    sp.checked_sub(8).ok_or(Error::IntegerOverflow)
+}
+
+#[cfg(test)]
+mod tests;
