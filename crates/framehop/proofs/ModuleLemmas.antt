@@ -1,9 +1,10 @@
 -- The modules in order of start, around the place of an address.
-use Rattle.std.proofs.Common.{◌≡◌, ℕ, zero, suc, ◌+◌, ◌-◌, ◌<◌, ◌≤◌, Bool, true, false, not, cond, List, [], ◌∷◌, length, take, drop, filter, slice_index_or, Option, Some, None, refl, ap, sym, ◌∙◌, arith, length-take, insert, leb-true, leb-false}
+use Rattle.std.proofs.Common.{◌≡◌, ℕ, zero, suc, ◌+◌, ◌-◌, ◌<◌, ◌≤◌, Bool, true, false, not, cond, List, [], ◌∷◌, length, take, drop, filter, slice_index_or, Option, Some, None, refl, ap, sym, ◌∙◌, arith, length-take, insert, remove, leb-true, leb-false, eq-eqb, ne_eqb, ◌==◌, ◌||◌, ⊎_elim}
+use Rattle.std.proofs.lemmas.Bool.{cases_lt}
 use Rattle.std.specs.List.{slice_get, AllWithin}
 use Rattle.std.specs.List.Sorted.{IsPartitionPoint}
 use Rattle.std.proofs.lemmas.List.Sorted.{IsNonDecreasingBy-insert}
-use Rattle.framehop.specs.Modules.{ModuleView, AreInOrder, last_of, starts_by, starting_by, starting_above}
+use Rattle.framehop.specs.Modules.{ModuleView, AreInOrder, last_of, has_start, without_module, starts_by, starting_by, starting_above}
 
 -- ---- a list that a test divides at a place
 
@@ -66,3 +67,55 @@ AreInOrder-inserted modules i m ordered within point =
     IsNonDecreasingBy-insert (λ n. n.start) modules i m ordered within
       (λ k d h. leb-true _ _ (point.0 k d (omega arith) h))
       (λ k d low h. let above = leb-false _ _ (point.1 k d low h) in omega arith)
+
+-- ---- the last module of a start
+
+either-true : (a b : Bool) → b ≡ true → (a || b) ≡ true
+either-true true b e = refl
+either-true false b e = e
+
+-- no module has the start
+absent-start : (start : ℕ) (modules : List ModuleView) → ((k : ℕ) (d : ModuleView) → k < length modules → (slice_index_or modules k d).start ≡ start → ⊥) → has_start start modules ≡ false
+absent-start start [] none = refl
+absent-start start (m ∷ modules) none =
+    let here : (m.start == start) ≡ false = ne_eqb _ _ (none 0 m (omega arith)) in
+    let rest = absent-start start modules (λ k d within. none (suc k) d (omega arith)) in
+    rw (here, rest) refl
+
+-- the module at a place has the start, and none behind it
+pub last-start : (start : ℕ) (modules : List ModuleView) (i : ℕ) (d : ModuleView) → i < length modules → (slice_index_or modules i d).start ≡ start → ((k : ℕ) (d : ModuleView) → i < k → k < length modules → (slice_index_or modules k d).start ≡ start → ⊥) → (has_start start modules ≡ true) × (remove modules i ≡ without_module start modules)
+last-start start [] i d within is none = absurd (omega arith)
+last-start start (m ∷ modules) zero d within is none =
+    let here : (m.start == start) ≡ true = eq-eqb _ _ is in
+    let rest : has_start start modules ≡ false = absent-start start modules (λ k e inside. none (suc k) e (omega arith) (omega arith)) in
+    (rw here refl, rw (rest, here) refl)
+last-start start (m ∷ modules) (suc i) d within is none =
+    let rest = last-start start modules i d (omega arith) is (λ k e behind inside. none (suc k) e (omega arith) (omega arith)) in
+    (either-true (m.start == start) (has_start start modules) rest.0, rw rest.0 (ap (λ others. m ∷ others) rest.1))
+
+module _ (start : ℕ) (modules : List ModuleView) (i : ℕ) (point : IsPartitionPoint (λ m. starts_by start m ≡ true) (λ m. starts_by start m ≡ false) modules i) where
+  -- behind the place no module has the start
+  above-start : (k : ℕ) (d : ModuleView) → i ≤ k → k < length modules → (slice_index_or modules k d).start ≡ start → ⊥
+  above-start k d behind within is = let above = leb-false _ _ (point.1 k d behind within) in absurd (omega arith)
+
+  pub no-start : i ≡ 0 → has_start start modules ≡ false
+  no-start none = absent-start start modules (λ k d within is. above-start k d (omega arith) within is)
+
+  pub start-at : (j : ℕ) (d : ModuleView) → j + 1 ≡ i → j < length modules → (slice_index_or modules j d).start ≡ start → (has_start start modules ≡ true) × (remove modules j ≡ without_module start modules)
+  start-at j d last within is =
+      last-start start modules j d within is (λ k e behind inside. above-start k e (omega arith) inside)
+
+  -- before the last module that starts by it, no module has the start unless that one does
+  below-start : AreInOrder modules → (j k : ℕ) (d : ModuleView) → j + 1 ≡ i → j < length modules → ((d : ModuleView) → (slice_index_or modules j d).start ≡ start → ⊥) → k ≤ j → (slice_index_or modules k d).start ≡ start → ⊥
+  below-start ordered j k d last within other front is =
+      let reached = leb-true _ _ (point.0 j d (omega arith) (omega arith)) in
+      let risen = ordered k j d front within in
+      other d (omega arith)
+
+  pub start-nowhere : AreInOrder modules → (j : ℕ) → j + 1 ≡ i → j < length modules → ((d : ModuleView) → (slice_index_or modules j d).start ≡ start → ⊥) → has_start start modules ≡ false
+  start-nowhere ordered j last within other =
+      absent-start start modules (λ k d inside is.
+        ⊎_elim
+          (λ (behind : j < k). above-start k d (omega arith) inside is)
+          (λ (front : k ≤ j). below-start ordered j k d last within other front is)
+          (cases_lt j k))

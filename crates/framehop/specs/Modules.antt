@@ -1,5 +1,6 @@
 -- The modules of an unwinder, in order of start (framehop 0.16.0, `Module` and `Unwinder::add_module`).
 use Rattle.std.specs.Prelude.{ℕ, ◌-◌, ◌^◌, Bool, not, ◌&&◌, ◌||◌, ◌==◌, nat_le, nat_lt, if◌then◌else◌, max, List, [], ◌∷◌, ◌++◌, length, filter, slice_get, Option, Some, None, option_and_then}
+use Rattle.std.specs.List.{list_any}
 use Rattle.std.specs.List.Sorted.{IsNonDecreasingBy}
 
 -- what unwind data a module has
@@ -35,6 +36,17 @@ starting_above address modules = filter (λ m. not (starts_by address m)) module
 -- the list with one more module, behind those of equal start
 abbrev pub with_module : ModuleView → List ModuleView → List ModuleView
 with_module m modules = starting_by m.start modules ++ m ∷ starting_above m.start modules
+
+-- whether a module has this start
+abbrev pub has_start : ℕ → List ModuleView → Bool
+has_start start modules = list_any (λ m. m.start == start) modules
+
+-- the list without the last module of this start, if there is one
+abbrev pub without_module : ℕ → List ModuleView → List ModuleView
+without_module start [] = []
+without_module start (m ∷ modules) =
+    if has_start start modules then m ∷ without_module start modules
+    else (if m.start == start then modules else m ∷ modules)
 
 -- the modules stand in order of start
 abbrev pub AreInOrder : List ModuleView → Type 0

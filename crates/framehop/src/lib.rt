@@ -8,6 +8,7 @@ pub mod generations;
 pub mod rule_cache;
 pub mod session;
 pub mod unwinder;
+pub mod x86_64;
 
 pub use cache::{AllocationPolicy, MayAllocateDuringUnwind, MustNotAllocateDuringUnwind};
 pub use framehop_core::{Error, FrameAddress};

@@ -1,4 +1,4 @@
-ghost use Rattle.std.specs.Prelude.{◌≡◌, ◌≢◌, ℕ, ◌+◌, ◌-◌, ◌^◌, ◌<◌, ◌↔◌, Bool, true, false, IfOk, IfErr, IfSome, IfNone, OnOk, OnSome, IsErrAnd, MatchOption, MatchResult, SomeIff, string_bytes, slice_get, length, take, drop, ◌≤◌, Option, []};
+ghost use Rattle.std.specs.Prelude.{◌≡◌, ◌≢◌, ℕ, ◌+◌, ◌-◌, ◌^◌, ◌<◌, ◌↔◌, Bool, true, false, IfOk, IfErr, IfSome, IfNone, IsOk, OnOk, OnSome, IsErrAnd, remove, slice_index_or, MatchOption, MatchResult, SomeIff, string_bytes, slice_get, length, take, drop, ◌≤◌, Option, []};
 ghost use Rattle.framehop.specs.Memory.{Memory, AnswersAs};
 ghost use Rattle.framehop.specs.Outcome.{Outcome, answer_of, registers_after};
 ghost use Rattle.framehop.specs.CodeAddress.{Place, place_of, is_first_frame};
@@ -8,7 +8,7 @@ ghost use Rattle.framehop.specs.Cache.{found, counted, ways};
 ghost use Rattle.framehop.specs.CacheResult.{result_of, HitRuns};
 ghost use Rattle.framehop.specs.Soundness.{key_of};
 ghost use Rattle.std.specs.List.Sorted.{IsPartitionPoint};
-ghost use Rattle.framehop.specs.Modules.{ModuleView, UnwinderView, no_unwind_data, starting_by, starting_above, with_module, starts_by, covers, covering, greatest_end};
+ghost use Rattle.framehop.specs.Modules.{ModuleView, UnwinderView, AreInOrder, no_unwind_data, starting_by, starting_above, with_module, has_start, without_module, starts_by, covers, covering, greatest_end};
 
 use crate::cache::{AllocationPolicy, Cache};
 use crate::generations::Generations;
@@ -87,6 +87,26 @@ pub trait Unwinder: Clone {
             × (generations.new ≡ generations.old)) }
         ensures exhausted { (generations.old ≡ 2 ^ 64 - 1)
             ↔ IsErrAnd result (λ back. back.cause ≡ ModuleListError.GenerationsExhausted) };
+
+    /// Removes the module that starts at the address (AVMA), the newest of those, and takes the next
+    /// generation. Without such a module nothing happens; with one, the counter's end is the only
+    /// refusal, and changes nothing. It takes no memory.
+    fn remove_module(
+        &mut self,
+        module_avma_range_start: u64,
+        generations: &mut Generations,
+    ) -> Result<(), ModuleListError>
+        ensures absent { has_start module_avma_range_start (unwinder_view self.old).modules ≡ false →
+            IsOk result × (self.new ≡ self.old) × (generations.new ≡ generations.old) }
+        ensures removed { has_start module_avma_range_start (unwinder_view self.old).modules ≡ true → generations.old < 2 ^ 64 - 1 →
+            IsOk result
+            × (unwinder_view self.new ≡ record {
+                modules = without_module module_avma_range_start (unwinder_view self.old).modules;
+                generation = generations.old;
+            })
+            × (generations.new ≡ generations.old + 1) }
+        ensures exhausted { has_start module_avma_range_start (unwinder_view self.old).modules ≡ true → generations.old ≡ 2 ^ 64 - 1 →
+            (result ≡ Err ModuleListError.GenerationsExhausted) × (self.new ≡ self.old) × (generations.new ≡ generations.old) };
 
     /// The greatest end of a module (AVMA), or 0 without modules. It serves to guess a mask for
     /// pointer authentication.
@@ -461,6 +481,29 @@ impl<D: SectionBytes + Drop, A: Arch, P: AllocationPolicy> UnwinderInternal<D, A
             .partition_point(|module| module.starts_by(address))
     }
 
+    // the start of the module at an index
+    fn module_start(&self, index: usize) -> u64
+        requires { index < length self.now.modules }
+        ensures start { (m : ModuleView) → result ≡ (slice_index_or self.now.modules index m).start }
+        ensures ordered { AreInOrder self.now.modules }
+    {
+        self.modules[index].avma_range.start
+    }
+
+    // the index of the last module with this start
+    fn last_with_start(&self, start: u64) -> Option<usize>
+        ensures { MatchOption result (has_start start self.now.modules ≡ false)
+            (λ index. (index < length self.now.modules) × (has_start start self.now.modules ≡ true)
+                × (remove self.now.modules index ≡ without_module start self.now.modules)) }
+    {
+        let index = self.place_behind(start).checked_sub(1)?;
+        if self.module_start(index) == start {
+            Some(index)
+        } else {
+            None
+        }
+    }
+
     // the covering module of an address: its index, and the relative address
     fn find_module_for_address(&self, address: u64) -> Option<(usize, u32)>
         ensures { MatchOption result (covering self.now.modules address ≡ None)
@@ -547,6 +590,22 @@ impl<D: SectionBytes + Drop, A: Arch, P: AllocationPolicy> Unwinder for Unwinder
         if let Some(generation) = generations.next() {
             self.modules_generation = generation;
         }
+        Ok(())
+    }
+
+    fn remove_module(
+        &mut self,
+        module_avma_range_start: u64,
+        generations: &mut Generations,
+    ) -> Result<(), ModuleListError> {
+        let Some(index) = self.last_with_start(module_avma_range_start) else {
+            return Ok(());
+        };
+        let Some(generation) = generations.next() else {
+            return Err(ModuleListError::GenerationsExhausted);
+        };
+        self.modules.remove(index);
+        self.modules_generation = generation;
         Ok(())
     }
 

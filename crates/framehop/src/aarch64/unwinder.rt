@@ -79,6 +79,14 @@ impl<D: SectionBytes + Drop, P: AllocationPolicy> Unwinder for UnwinderAarch64<D
         self.0.add_module(module, generations)
     }
 
+    fn remove_module(
+        &mut self,
+        module_avma_range_start: u64,
+        generations: &mut Generations,
+    ) -> Result<(), ModuleListError> {
+        self.0.remove_module(module_avma_range_start, generations)
+    }
+
     fn max_known_code_address(&self) -> u64 {
         self.0.max_known_code_address()
     }

@@ -1,0 +1,38 @@
+ghost use Rattle.std.specs.Prelude.{◌≡◌, IfOk};
+ghost use Rattle.framehop.specs.Cache.{empty_cache};
+
+use crate::cache::{AllocationPolicy, Cache, MayAllocateDuringUnwind};
+use crate::rule_cache::CacheStats;
+use framehop_core::x86_64::UnwindRuleX86_64;
+use std::alloc::{AllocError, Global};
+
+/// The unwinder cache for x86_64.
+#[derive(Drop)]
+pub struct CacheX86_64<P: AllocationPolicy = MayAllocateDuringUnwind>(
+    pub Cache<UnwindRuleX86_64, P>,
+);
+
+impl CacheX86_64<MayAllocateDuringUnwind> {
+    /// An empty cache for unwinding that may take memory. Refused where the memory for it is.
+    pub fn new(alloc: Global) -> Result<Self, AllocError>
+        ensures { IfOk result (λ cache. cache.0 ≡ empty_cache) }
+    {
+        Ok(CacheX86_64(Cache::new(alloc)?))
+    }
+}
+
+impl<P: AllocationPolicy> CacheX86_64<P> {
+    /// An empty cache of any policy. Refused where the memory for it is.
+    pub fn new_in(alloc: Global) -> Result<Self, AllocError>
+        ensures { IfOk result (λ cache. cache.0 ≡ empty_cache) }
+    {
+        Ok(CacheX86_64(Cache::new(alloc)?))
+    }
+
+    /// The counts of the lookups.
+    pub fn stats(&self) -> CacheStats
+        ensures { result ≡ self.now.0.stats }
+    {
+        self.0.stats()
+    }
+}

@@ -1,0 +1,106 @@
+ghost use Rattle.std.specs.Prelude.{◌≡◌, ◌+◌, ◌-◌, ◌^◌, ◌<◌, [], MatchResult};
+
+use crate::x86_64::cache::CacheX86_64;
+use crate::cache::{AllocationPolicy, MayAllocateDuringUnwind};
+use crate::generations::Generations;
+use crate::unwinder::{Module, ModuleListError, RefusedModule, Unwinder, UnwinderInternal};
+use framehop_cfi::section::SectionBytes;
+use framehop_core::x86_64::{ArchX86_64, UnwindRegsX86_64};
+use framehop_core::{Error, FrameAddress};
+use std::alloc::{AllocError, Global};
+use std::marker::Model;
+
+/// The unwinder for x86_64.
+#[derive(Drop)]
+pub struct UnwinderX86_64<D: SectionBytes, P: AllocationPolicy = MayAllocateDuringUnwind>(
+    UnwinderInternal<D, ArchX86_64, P>,
+);
+
+impl<D: SectionBytes, P: AllocationPolicy> Model for UnwinderX86_64<D, P> {
+    ghost use Rattle.framehop.specs.Modules.{UnwinderView};
+
+    ghost Value = { UnwinderView };
+
+    ghost view = { λ u. u.0 };
+}
+
+impl<D: SectionBytes + Drop, P: AllocationPolicy> Clone for UnwinderX86_64<D, P> {
+    ghost is_clone = { λ u copy. copy ≡ u };
+
+    fn clone(&self) -> Result<Self, AllocError> {
+        Ok(UnwinderX86_64(self.0.clone()?))
+    }
+}
+
+impl<D: SectionBytes + Drop, P: AllocationPolicy> UnwinderX86_64<D, P> {
+    /// An unwinder without modules, of the next generation. It takes no memory, and is refused at
+    /// the counter's end alone.
+    pub fn new(alloc: Global, generations: &mut Generations) -> Result<Self, ModuleListError>
+        ensures { MatchResult result
+            (λ made. (made ≡ record { modules = []; generation = generations.old })
+                × (generations.new ≡ generations.old + 1) × (generations.old < 2 ^ 64 - 1))
+            (λ error. (error ≡ ModuleListError.GenerationsExhausted)
+                × (generations.old ≡ 2 ^ 64 - 1) × (generations.new ≡ generations.old)) }
+    {
+        Ok(UnwinderX86_64(UnwinderInternal::new(alloc, generations)?))
+    }
+}
+
+impl<D: SectionBytes + Drop, P: AllocationPolicy> Unwinder for UnwinderX86_64<D, P> {
+    ghost use Rattle.framehop.specs.Fresh.{step};
+    ghost use Rattle.framehop.specs.Soundness.{IsSound, cache_after};
+    ghost use Rattle.framehop_core.specs.X86_64.Registers.{Registers};
+    ghost use Rattle.framehop_core.specs.X86_64.Rules.{outcome, Advances};
+    ghost use Rattle.framehop_core.specs.declared.x86_64.unwind_rule.UnwindRuleX86_64.TheVariants.{UseFramePointer};
+
+    type UnwindRegs = UnwindRegsX86_64;
+
+    type Cache = CacheX86_64<P>;
+
+    type Module = Module<D>;
+
+    ghost unwinder_view = { λ u. u };
+
+    ghost module_view = { λ m. m };
+
+    ghost step = { λ u place regs memory. step outcome UseFramePointer u.modules place regs memory };
+
+    ghost advances = { Advances };
+
+    ghost is_sound = { λ u cache. IsSound Registers UseFramePointer u cache.0.sets };
+
+    ghost cache_after = { λ u cache place. record { 0 = cache_after Registers UseFramePointer u cache.0 place } };
+
+    fn add_module(
+        &mut self,
+        module: Module<D>,
+        generations: &mut Generations,
+    ) -> Result<(), RefusedModule<Module<D>>> {
+        self.0.add_module(module, generations)
+    }
+
+    fn remove_module(
+        &mut self,
+        module_avma_range_start: u64,
+        generations: &mut Generations,
+    ) -> Result<(), ModuleListError> {
+        self.0.remove_module(module_avma_range_start, generations)
+    }
+
+    fn max_known_code_address(&self) -> u64 {
+        self.0.max_known_code_address()
+    }
+
+    fn unwind_frame<F>(
+        &self,
+        address: FrameAddress,
+        regs: &mut UnwindRegsX86_64,
+        cache: &mut CacheX86_64<P>,
+        read_stack: &mut F,
+    ) -> Result<Option<u64>, Error>
+    where
+        F: FnMut(u64) -> Result<u64, ()>,
+    {
+        self.0.unwind_frame(address, regs, &mut cache.0, read_stack)
+    }
+}
