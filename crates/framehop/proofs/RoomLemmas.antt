@@ -1,21 +1,21 @@
 -- A room stays transparent through each command, and its replies are the world's.
-use Rattle.std.proofs.Common.{◌≡◌, ℕ, zero, suc, ◌+◌, ◌-◌, ◌*◌, ◌^◌, ◌<◌, ◌≤◌, Bool, true, false, cond, ◌==◌, ◌⊎◌, List, [], ◌∷◌, ◌++◌, map, length, replicate, slice_index_or, slice_set, Option, Some, None, Result, Ok, Err, refl, sym, ap, ◌∙◌, subst, inl, inr, ⊎_elim, arith, nat_lt, ltb-true, lt-ltb, ne_eqb}
+use Rattle.std.proofs.Common.{◌≡◌, ℕ, zero, suc, ◌+◌, ◌-◌, ◌*◌, ◌^◌, ◌<◌, ◌≤◌, Bool, true, false, cond, ◌==◌, ◌⊎◌, List, [], ◌∷◌, ◌++◌, map, length, replicate, slice_index_or, slice_set, Option, Some, None, Result, Ok, Err, refl, sym, ap, ◌∙◌, subst, inl, inr, ⊎_elim, arith, nat_lt, ltb-true, lt-ltb, ne_eqb, eq-eqb}
 use Rattle.std.proofs.lemmas.List.{length-map}
 use Rattle.framehop_core.specs.Memory.{Memory}
 use Rattle.framehop_core.specs.Outcome.{Outcome, answered, root, refused}
-use Rattle.framehop_core.specs.CodeAddress.{Place, at_instruction_pointer, at_return_address}
+use Rattle.framehop_core.specs.CodeAddress.{Place, place_of, at_instruction_pointer, at_return_address}
 use Rattle.framehop.specs.Cache.{Entry, CacheView, Sets, empty_cache}
-use Rattle.framehop.specs.Modules.{ModuleView, UnwinderView, with_module}
+use Rattle.framehop.specs.Modules.{ModuleView, UnwinderView, with_module, has_start, without_module}
 use Rattle.framehop.specs.Soundness.{Among, Stands, IsFresh, IsSound, Extends, cache_after}
 use Rattle.framehop.specs.Walk.{onward_cache, cache_after_callers, cache_after_walk}
 use Rattle.framehop.specs.Room.{Room, empty_room, world_of, unwinder_at, cache_at, step_of, room_after}
 use Rattle.framehop.specs.Transparent.{IsTransparent}
-use Rattle.framehop.specs.World.{memory_of, refusal_of, needs_unwinder, needs_cache, needs_generation}
+use Rattle.framehop.specs.World.{memory_of, refusal_of, needs_unwinder, needs_cache, needs_generation, modules_of}
 use Rattle.framehop.specs.declared.rule_cache.TheConstants.{CACHE_ENTRY_COUNT}
 use Rattle.framehop.specs.declared.session.Command.{Command}
-use Rattle.framehop.specs.declared.session.Command.TheVariants.{New, Add, Walk as WalkCommand, Stats}
+use Rattle.framehop.specs.declared.session.Command.TheVariants.{New, Clone, Add, Remove, Step as StepCommand, Walk as WalkCommand, Stats}
 use Rattle.framehop.specs.declared.session.SessionError.{SessionError}
-use Rattle.framehop.specs.declared.session.SessionError.TheVariants.{NoSuchUnwinder, NoSuchCache}
+use Rattle.framehop.specs.declared.session.SessionError.TheVariants.{NoSuchUnwinder, NoSuchCache, GenerationsExhausted}
 use Rattle.framehop.proofs.SoundnessLemmas.{Extends-after, IsSound-extended}
 
 -- ---- what is among a list that grew, or of which one was replaced
@@ -92,6 +92,17 @@ walk-within room unwinder cache e =
     let inner = needs-none (nat_lt cache (length room.caches)) None NoSuchCache outer.1 in
     (omega (arith, ltb-true _ _ outer.0, length-map room.unwinders (λ (u : UnwinderView). u.modules)), ltb-true _ _ inner.0)
 
+clone-within : {R : Type 0} (room : Room R) (unwinder : ℕ) → needs_unwinder (world_of room) unwinder None ≡ None → unwinder < length room.unwinders
+clone-within room unwinder e =
+    let outer = needs-none (nat_lt unwinder (length (world_of room).unwinders)) None NoSuchUnwinder e in
+    omega (arith, ltb-true _ _ outer.0, length-map room.unwinders (λ (u : UnwinderView). u.modules))
+
+-- an unwinder that is there refuses nothing of its own
+pub unwinder-allowed : {R : Type 0} (room : Room R) (unwinder : ℕ) (other : Option SessionError) → unwinder < length room.unwinders → other ≡ None → needs_unwinder (world_of room) unwinder other ≡ None
+unwinder-allowed room unwinder other within none =
+    let there : nat_lt unwinder (length (world_of room).unwinders) ≡ true = lt-ltb _ _ (omega (arith, length-map room.unwinders (λ (u : UnwinderView). u.modules))) in
+    rw (there, none) refl
+
 -- an unwinder that is there and a counter that is not at its end refuse nothing
 pub adds-allowed : {R : Type 0} (room : Room R) (unwinder : ℕ) → unwinder < length room.unwinders → room.next < 2 ^ 64 - 1 → needs_unwinder (world_of room) unwinder (needs_generation (world_of room)) ≡ None
 adds-allowed room unwinder within left =
@@ -108,6 +119,66 @@ walks-allowed room unwinder cache within in_caches =
 
 pub Room-equal : {R : Type 0} (a b : Room R) → a.unwinders ≡ b.unwinders → a.next ≡ b.next → a.caches ≡ b.caches → a ≡ b
 Room-equal a b p q r = λ i. record { unwinders = p i; next = q i; caches = r i }
+
+pub modules-at : (us : List UnwinderView) (i : ℕ) → slice_index_or (map (λ (u : UnwinderView). u.modules) us) i [] ≡ (slice_index_or us i (record { modules = []; generation = 0 })).modules
+modules-at [] i = refl
+modules-at (u ∷ us) zero = refl
+modules-at (u ∷ us) (suc i) = modules-at us i
+
+set-same : {A : Type 0} (xs : List A) (i : ℕ) (d : A) → slice_set xs i (slice_index_or xs i d) ≡ xs
+set-same [] i d = refl
+set-same (x ∷ xs) zero d = refl
+set-same (x ∷ xs) (suc i) d = ap (x ∷◌) (set-same xs i d)
+
+-- a removal from an unwinder that is there, by whether it has such a module
+module _ {R : Type 0} (room : Room R) (unwinder start : ℕ) (within : unwinder < length room.unwinders) where
+  abbrev pub refusal-of-removal : Option SessionError
+  refusal-of-removal = needs_unwinder (world_of room) unwinder (cond (has_start start (modules_of (world_of room) unwinder)) (needs_generation (world_of room)) None)
+
+  abbrev pub removal-by : Bool → Option SessionError
+  removal-by b = needs_unwinder (world_of room) unwinder (cond b (needs_generation (world_of room)) None)
+
+  abbrev pub after-removal : Bool → Room R
+  after-removal b = cond b (record room { unwinders = slice_set room.unwinders unwinder (record { modules = without_module start (unwinder_at room unwinder).modules; generation = room.next }); next = room.next + 1 }) room
+
+  module _ (old : UnwinderView) (same : old ≡ unwinder_at room unwinder) where
+    removal-started : (b : Bool) → has_start start old.modules ≡ b → refusal-of-removal ≡ removal-by b
+    removal-started b e = ap removal-by (ap (has_start start) (modules-at room.unwinders unwinder ∙ sym (ap (λ (u : UnwinderView). u.modules) same)) ∙ e)
+
+    pub removal-exhausted : has_start start old.modules ≡ true → room.next ≡ 2 ^ 64 - 1 → refusal-of-removal ≡ Some GenerationsExhausted
+    removal-exhausted e last =
+        let there : nat_lt unwinder (length (world_of room).unwinders) ≡ true = lt-ltb _ _ (omega (arith, length-map room.unwinders (λ (u : UnwinderView). u.modules))) in
+        let none : ((2 ^ 64 - 1) - room.next == 0) ≡ true = eq-eqb _ _ (omega (arith, last)) in
+        removal-started true e ∙ rw (there, none) refl
+
+    module _ (new : UnwinderView) (next : ℕ) (absent : has_start start old.modules ≡ false → (new ≡ old) × (next ≡ room.next))
+      (removed : has_start start old.modules ≡ true → (room.next < 2 ^ 64 - 1) × (new ≡ record { modules = without_module start old.modules; generation = room.next }) × (next ≡ room.next + 1)) where
+      served-by : (b : Bool) → has_start start old.modules ≡ b → (refusal-of-removal ≡ None) × (record room { unwinders = slice_set room.unwinders unwinder new; next = next } ≡ after-removal b)
+      served-by true e =
+          let facts = removed e in
+          (
+            removal-started true e ∙ adds-allowed room unwinder within facts.0,
+            Room-equal _ _
+              (ap (slice_set room.unwinders unwinder) (facts.1 ∙ ap (λ (u : UnwinderView). record { modules = without_module start u.modules; generation = room.next }) same))
+              facts.2
+              refl,
+          )
+      served-by false e =
+          let facts = absent e in
+          (
+            removal-started false e ∙ unwinder-allowed room unwinder None within refl,
+            Room-equal _ _ (ap (slice_set room.unwinders unwinder) (facts.0 ∙ same) ∙ set-same room.unwinders unwinder _) facts.1 refl,
+          )
+
+      pub removal-served : (refusal-of-removal ≡ None) × (record room { unwinders = slice_set room.unwinders unwinder new; next = next } ≡ after-removal (has_start start (unwinder_at room unwinder).modules))
+      removal-served = served-by (has_start start (unwinder_at room unwinder).modules) (ap (λ (u : UnwinderView). has_start start u.modules) same)
+
+      drawn-by : (b : Bool) → has_start start old.modules ≡ b → room.next ≤ next
+      drawn-by true e = omega (arith, (removed e).2)
+      drawn-by false e = omega (arith, (absent e).1)
+
+      pub removal-drawn : room.next ≤ next
+      removal-drawn = drawn-by (has_start start old.modules) refl
 
 -- ---- a room stays transparent
 
@@ -159,6 +230,21 @@ module _ {R : Type 0} (Regs : Type 0) (fallback : R) where
         stored = λ c entry among stands. let below = old.stored c entry among stands in omega arith
       }
 
+    -- with another unwinder that is like one of them
+    pub transparent-shared : (unwinders : List UnwinderView) → ((u : UnwinderView) → Among u unwinders → Among u room.unwinders) → IsTransparent Regs fallback (record room { unwinders = unwinders })
+    transparent-shared unwinders known = record {
+        sound = λ u c among in_caches. old.sound u c (known u among) in_caches;
+        apart = λ u v among_u among_v same. old.apart u v (known u among_u) (known v among_v) same;
+        drawn = λ u among. old.drawn u (known u among);
+        stored = old.stored
+      }
+
+    -- with an unwinder without a module, where there is that module
+    pub transparent-removed : (unwinder start : ℕ) (b : Bool) → IsTransparent Regs fallback (cond b (record room { unwinders = slice_set room.unwinders unwinder (record { modules = without_module start (unwinder_at room unwinder).modules; generation = room.next }); next = room.next + 1 }) room)
+    transparent-removed unwinder start true =
+        transparent-grown _ (record { modules = without_module start (unwinder_at room unwinder).modules; generation = room.next }) refl (λ u h. Among-set u _ room.unwinders unwinder h)
+    transparent-removed unwinder start false = old
+
     -- with a cache that an unwinder's steps extended
     pub transparent-cached : (caches : List (CacheView R)) (u : UnwinderView) (before after : CacheView R) → Among u room.unwinders → Among before room.caches → Extends Regs fallback u before.sets after.sets → ((c : CacheView R) → Among c caches → Among c room.caches ⊎ (after ≡ c)) → IsTransparent Regs fallback (record room { caches = caches })
     transparent-cached caches u before after among_u among_before extends replaced = record {
@@ -186,6 +272,23 @@ module _ {R : Type 0} (Regs : Type 0) (fallback : R) where
       transparent-grown room old _ (record { modules = []; generation = room.next }) refl (λ u h. Among-push u _ room.unwinders h)
   transparent-after outcome room (Add unwinder added) allowed old =
       transparent-grown room old _ (record { modules = with_module added (unwinder_at room unwinder).modules; generation = room.next }) refl (λ u h. Among-set u _ room.unwinders unwinder h)
+  transparent-after outcome room (Clone unwinder) allowed old =
+      let within = clone-within room unwinder allowed in
+      transparent-shared room old _ (λ u h.
+        ⊎_elim
+          (λ before. before)
+          (λ e. subst (λ v. Among v room.unwinders) e (Among-index room.unwinders unwinder _ within))
+          (Among-push u _ room.unwinders h))
+  transparent-after outcome room (Remove unwinder start) allowed old =
+      transparent-removed room old unwinder start (has_start start (unwinder_at room unwinder).modules)
+  transparent-after outcome room (StepCommand unwinder cache address regs memory) allowed old =
+      let stepper = unwinder_at room unwinder in
+      let within = walk-within room unwinder cache allowed in
+      transparent-cached room old _ stepper (cache_at room cache) _
+        (Among-index room.unwinders unwinder _ within.0)
+        (Among-index room.caches cache _ within.1)
+        (Extends-after Regs fallback stepper (cache_at room cache) (place_of address))
+        (λ c h. Among-set c _ room.caches cache h)
   transparent-after outcome room (WalkCommand unwinder cache pc regs memory limit) allowed old =
       let walker = unwinder_at room unwinder in
       let within = walk-within room unwinder cache allowed in

@@ -1,17 +1,17 @@
 -- What a list of commands answers over caches, with the counts of their lookups: the world's replies, and those of `Stats`.
-use Rattle.std.specs.Prelude.{ℕ, Bool, ◌+◌, ◌-◌, ◌^◌, List, [], ◌∷◌, ◌++◌, map, length, slice_set, slice_index_or, Option, Some, None, Result, Ok, Err, replicate}
+use Rattle.std.specs.Prelude.{ℕ, Bool, if◌then◌else◌, ◌+◌, ◌-◌, ◌^◌, List, [], ◌∷◌, ◌++◌, map, length, slice_set, slice_index_or, Option, Some, None, Result, Ok, Err, replicate}
 use Rattle.framehop_core.specs.Memory.{Memory}
-use Rattle.framehop_core.specs.Outcome.{Outcome}
-use Rattle.framehop_core.specs.CodeAddress.{Place}
+use Rattle.framehop_core.specs.Outcome.{Outcome, answer_of, registers_after}
+use Rattle.framehop_core.specs.CodeAddress.{Place, place_of}
 use Rattle.framehop.specs.Cache.{CacheView, empty_cache}
-use Rattle.framehop.specs.Modules.{ModuleView, UnwinderView, with_module}
+use Rattle.framehop.specs.Modules.{ModuleView, UnwinderView, with_module, has_start, without_module}
 use Rattle.framehop.specs.Fresh.{step}
 use Rattle.framehop.specs.Soundness.{cache_after}
 use Rattle.framehop.specs.Walk.{walk_from, cache_after_walk}
-use Rattle.framehop.specs.World.{World, WorldReply, made, done, walked, memory_of, refusal_of, unless_refused}
+use Rattle.framehop.specs.World.{World, WorldReply, made, done, stepped, walked, memory_of, refusal_of, unless_refused}
 use Rattle.framehop.specs.declared.rule_cache.CacheStats.{CacheStats}
 use Rattle.framehop.specs.declared.session.Command.{Command}
-use Rattle.framehop.specs.declared.session.Command.TheVariants.{New, Add, Walk as WalkCommand, Stats}
+use Rattle.framehop.specs.declared.session.Command.TheVariants.{New, Clone, Add, Remove, Step as StepCommand, Walk as WalkCommand, Stats}
 use Rattle.framehop.specs.declared.session.SessionError.{SessionError}
 
 -- unwinders with their generations, the next generation, and caches
@@ -44,11 +44,16 @@ step_of outcome fallback unwinder memory place regs = step outcome fallback unwi
 abbrev pub room_reply : {D R Regs : Type 0} → (R → Bool → Regs → Memory → Outcome Regs) → R → Room R → Command D Regs → RoomReply Regs
 room_reply outcome fallback room New = of_world (made (length room.unwinders))
 room_reply outcome fallback room (Add unwinder added) = of_world done
+room_reply outcome fallback room (Clone unwinder) = of_world (made (length room.unwinders))
+room_reply outcome fallback room (Remove unwinder start) = of_world done
+room_reply outcome fallback room (StepCommand unwinder cache address regs memory) =
+    let stepping = step_of outcome fallback (unwinder_at room unwinder) (memory_of memory) (place_of address) regs in
+    of_world (stepped (answer_of stepping) (registers_after regs stepping))
 room_reply outcome fallback room (WalkCommand unwinder cache pc regs memory limit) =
     of_world (walked (walk_from (step_of outcome fallback (unwinder_at room unwinder) (memory_of memory)) limit pc regs))
 room_reply outcome fallback room (Stats cache) = counts (cache_at room cache).stats
 
--- the room after it: a walk looks up each frame in its cache
+-- the room after it: a step and a walk look up each frame in their cache, and a clone has its original's generation
 abbrev pub room_after : {D R Regs : Type 0} → (R → Bool → Regs → Memory → Outcome Regs) → R → Room R → Command D Regs → Room R
 room_after outcome fallback room New =
     record room { unwinders = room.unwinders ++ (record { modules = []; generation = room.next }) ∷ []; next = room.next + 1 }
@@ -58,6 +63,15 @@ room_after outcome fallback room (Add unwinder added) =
         modules = with_module added (unwinder_at room unwinder).modules; generation = room.next });
       next = room.next + 1
     }
+room_after outcome fallback room (Clone unwinder) = record room { unwinders = room.unwinders ++ unwinder_at room unwinder ∷ [] }
+room_after outcome fallback room (Remove unwinder start) =
+    if has_start start (unwinder_at room unwinder).modules then record room {
+      unwinders = slice_set room.unwinders unwinder (record {
+        modules = without_module start (unwinder_at room unwinder).modules; generation = room.next });
+      next = room.next + 1 }
+    else room
+room_after {D} {R} {Regs} outcome fallback room (StepCommand unwinder cache address regs memory) =
+    record room { caches = slice_set room.caches cache (cache_after Regs fallback (unwinder_at room unwinder) (cache_at room cache) (place_of address)) }
 room_after {D} {R} {Regs} outcome fallback room (WalkCommand unwinder cache pc regs memory limit) =
     let walker = unwinder_at room unwinder in
     record room {

@@ -5,10 +5,10 @@ use Rattle.std.specs.declared.vec.Vec.{Vec}
 use Rattle.framehop_core.specs.CodeAddress.{place_of}
 use Rattle.framehop_core.specs.declared.code_address.FrameAddress.{FrameAddress}
 use Rattle.framehop.specs.Walk.{Walk, End, at_root, at_refusal, at_limit}
-use Rattle.framehop.specs.World.{made, done, walked}
+use Rattle.framehop.specs.World.{made, done, stepped, walked}
 use Rattle.framehop.specs.Room.{RoomReply, of_world, counts}
 use Rattle.framehop.specs.declared.session.Reply.{Reply}
-use Rattle.framehop.specs.declared.session.Reply.TheVariants.{Made, Done, Walk as WalkReply, Stats}
+use Rattle.framehop.specs.declared.session.Reply.TheVariants.{Made, Done, Step as StepReply, Walk as WalkReply, Stats}
 use Rattle.framehop.specs.declared.session.SessionError.{SessionError}
 use Rattle.framehop.specs.declared.session.WalkEnd.{WalkEnd}
 use Rattle.framehop.specs.declared.session.WalkEnd.TheVariants.{Root, Refused, Limit}
@@ -26,6 +26,7 @@ walk_of frames end regs = record { frames = map place_of frames; end = end_of en
 abbrev pub reply_view : {Regs : Type 0} → Reply Regs → RoomReply Regs
 reply_view (Made unwinder) = of_world (made unwinder)
 reply_view Done = of_world done
+reply_view (StepReply result regs) = of_world (stepped result regs)
 reply_view (WalkReply frames end regs) = of_world (walked (walk_of frames.items end regs))
 reply_view (Stats stats) = counts stats
 

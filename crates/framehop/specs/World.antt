@@ -2,13 +2,14 @@
 -- how many generations are left.
 use Rattle.std.specs.Prelude.{ℕ, ◌-◌, ◌^◌, Bool, if◌then◌else◌, ◌==◌, nat_le, nat_lt, ◌&&◌, ◌/◌, ◌%◌, List, [], ◌∷◌, ◌++◌, map, length, slice_get, slice_set, slice_index_or, Option, Some, None, Result, Ok, Err}
 use Rattle.framehop_core.specs.Memory.{Memory}
-use Rattle.framehop_core.specs.Outcome.{Outcome}
-use Rattle.framehop_core.specs.CodeAddress.{Place}
-use Rattle.framehop.specs.Modules.{ModuleView, with_module}
+use Rattle.framehop_core.specs.Outcome.{Outcome, answer_of, registers_after}
+use Rattle.framehop_core.specs.CodeAddress.{Place, place_of}
+use Rattle.framehop.specs.Modules.{ModuleView, with_module, has_start, without_module}
 use Rattle.framehop.specs.Walk.{Walk, walk_from}
+use Rattle.framehop_core.specs.declared.error.Error.{Error}
 use Rattle.framehop.specs.declared.session.Memory.{Memory as StackWords}
 use Rattle.framehop.specs.declared.session.Command.{Command}
-use Rattle.framehop.specs.declared.session.Command.TheVariants.{New, Add, Walk as WalkCommand, Stats}
+use Rattle.framehop.specs.declared.session.Command.TheVariants.{New, Clone, Add, Remove, Step as StepCommand, Walk as WalkCommand, Stats}
 use Rattle.framehop.specs.declared.session.SessionError.{SessionError}
 use Rattle.framehop.specs.declared.session.SessionError.TheVariants.{NoSuchUnwinder, NoSuchCache, GenerationsExhausted}
 
@@ -20,6 +21,7 @@ pub record World : Type 0 where
 pub data WorldReply (Regs : Type 0) : Type 0 where
   made : ℕ → WorldReply Regs
   done : WorldReply Regs
+  stepped : Result (Option ℕ) Error → Regs → WorldReply Regs
   walked : Walk Regs → WorldReply Regs
 
 -- the memory of words of eight bytes from a base on
@@ -38,16 +40,20 @@ needs_cache caches cache other = if nat_lt cache caches then other else Some NoS
 abbrev pub needs_generation : World → Option SessionError
 needs_generation world = if world.left == 0 then Some GenerationsExhausted else None
 
+-- the modules of an unwinder
+abbrev pub modules_of : World → ℕ → List ModuleView
+modules_of world unwinder = slice_index_or world.unwinders unwinder []
+
 -- why a command is refused, if it is: the number of an unwinder is tested first, then that of a cache, then all else
 abbrev pub refusal_of : {D Regs : Type 0} → ℕ → World → Command D Regs → Option SessionError
 refusal_of caches world New = needs_generation world
 refusal_of caches world (Add unwinder added) = needs_unwinder world unwinder (needs_generation world)
+refusal_of caches world (Clone unwinder) = needs_unwinder world unwinder None
+refusal_of caches world (Remove unwinder start) =
+    needs_unwinder world unwinder (if has_start start (modules_of world unwinder) then needs_generation world else None)
+refusal_of caches world (StepCommand unwinder cache address regs memory) = needs_unwinder world unwinder (needs_cache caches cache None)
 refusal_of caches world (WalkCommand unwinder cache pc regs memory limit) = needs_unwinder world unwinder (needs_cache caches cache None)
 refusal_of caches world (Stats cache) = needs_cache caches cache None
-
--- the modules of an unwinder
-abbrev pub modules_of : World → ℕ → List ModuleView
-modules_of world unwinder = slice_index_or world.unwinders unwinder []
 
 -- one step by a list of modules, at a place, over registers and memory
 abbrev pub StepBy : Type 0 → Type 0
@@ -56,7 +62,12 @@ StepBy Regs = List ModuleView → Place → Regs → Memory → Outcome Regs
 -- the reply to a command that is not refused; `Stats` has none, since the world knows no cache
 abbrev pub reply_to : {D Regs : Type 0} → StepBy Regs → World → Command D Regs → Option (WorldReply Regs)
 reply_to step world New = Some (made (length world.unwinders))
+reply_to step world (Clone unwinder) = Some (made (length world.unwinders))
 reply_to step world (Add unwinder added) = Some done
+reply_to step world (Remove unwinder start) = Some done
+reply_to step world (StepCommand unwinder cache address regs memory) =
+    let outcome = step (modules_of world unwinder) (place_of address) regs (memory_of memory) in
+    Some (stepped (answer_of outcome) (registers_after regs outcome))
 reply_to step world (WalkCommand unwinder cache pc regs memory limit) =
     Some (walked (walk_from (λ place old. step (modules_of world unwinder) place old (memory_of memory)) limit pc regs))
 reply_to step world (Stats cache) = None
@@ -66,6 +77,12 @@ abbrev pub world_after : {D Regs : Type 0} → World → Command D Regs → Worl
 world_after world New = record { unwinders = world.unwinders ++ [] ∷ []; left = world.left - 1 }
 world_after world (Add unwinder added) =
     record { unwinders = slice_set world.unwinders unwinder (with_module added (modules_of world unwinder)); left = world.left - 1 }
+world_after world (Clone unwinder) = record world { unwinders = world.unwinders ++ modules_of world unwinder ∷ [] }
+world_after world (Remove unwinder start) =
+    if has_start start (modules_of world unwinder) then record {
+      unwinders = slice_set world.unwinders unwinder (without_module start (modules_of world unwinder)); left = world.left - 1 }
+    else world
+world_after world (StepCommand unwinder cache address regs memory) = world
 world_after world (WalkCommand unwinder cache pc regs memory limit) = world
 world_after world (Stats cache) = world
 

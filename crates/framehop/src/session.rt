@@ -10,8 +10,8 @@ ghost use Rattle.framehop.specs.Room.{Room, step_of, empty_room, room_replies, n
 ghost use Rattle.framehop.specs.Fresh.{step};
 ghost use Rattle.framehop.specs.Transparent.{IsTransparent, Serves};
 ghost use Rattle.framehop.specs.Cache.{empty_cache};
-ghost use Rattle.framehop.specs.CodeAddress.{Place};
-ghost use Rattle.framehop.specs.Outcome.{Outcome};
+ghost use Rattle.framehop.specs.CodeAddress.{Place, place_of};
+ghost use Rattle.framehop.specs.Outcome.{Outcome, answer_of, registers_after};
 
 use crate::cache::{AllocationPolicy, Cache};
 use crate::generations::Generations;
@@ -51,8 +51,23 @@ pub enum Command<D: SectionBytes, R> {
     /// Makes an unwinder without modules.
     New,
 
+    /// Makes a clone of an unwinder.
+    Clone { unwinder: usize },
+
     /// Adds a module to an unwinder.
     Add { unwinder: usize, module: Module<D> },
+
+    /// Removes the newest module of an unwinder that starts at the address (AVMA), if there is one.
+    Remove { unwinder: usize, start: u64 },
+
+    /// Unwinds a single frame.
+    Step {
+        unwinder: usize,
+        cache: usize,
+        address: FrameAddress,
+        regs: R,
+        memory: Memory,
+    },
 
     /// Walks a stack from an instruction pointer (AVMA) and initial registers on, by at most
     /// `limit` frames.
@@ -90,6 +105,12 @@ pub enum Reply<R> {
 
     /// The command was carried out.
     Done,
+
+    /// What a step answered, and the registers behind it.
+    Step {
+        result: Result<Option<u64>, Error>,
+        regs: R,
+    },
 
     /// The frames of a walk, how it ended, and the registers there.
     Walk {
@@ -188,6 +209,28 @@ fn walk_stack<D: SectionBytes + Drop, A: Arch, P: AllocationPolicy>(
     Ok((frames, end, regs))
 }
 
+/// Unwinds a frame over the words of a stack: what the step answers, and the registers behind it.
+fn step_stack<D: SectionBytes + Drop, A: Arch, P: AllocationPolicy>(
+    unwinder: &UnwinderInternal<D, A, P>,
+    cache: &mut Cache<A::UnwindRule, P>,
+    address: FrameAddress,
+    regs: A::UnwindRegs,
+    memory: &Memory,
+) -> (Result<Option<u64>, Error>, A::UnwindRegs)
+    ensures no_memory_taken { result.0 ≢ Err Error.OutOfMemory }
+    ensures cached { cache.new ≡ cache_after A.UnwindRegs A.UnwindRule.fallback unwinder.now cache.old (place_of address) }
+    ensures answers { IsSound A.UnwindRegs A.UnwindRule.fallback unwinder.now cache.old.sets →
+        let stepping = step_of A.UnwindRule.outcome A.UnwindRule.fallback unwinder.now (memory_of memory.now) (place_of address) regs in
+        (result.0 ≡ answer_of stepping) × (result.1 ≡ registers_after regs stepping) }
+{
+    let mut read_stack = |address: u64| -> Result<u64, ()>
+        ensures { result ≡ reply (memory_of memory.entry.now address) }
+    { memory.read(address) };
+    let mut regs = regs;
+    let result = unwinder.unwind_frame(address, &mut regs, cache, &mut read_stack);
+    (result, regs)
+}
+
 /// Unwinders and the caches that they share.
 #[derive(Drop)]
 struct Session<D: SectionBytes, A: Arch, P: AllocationPolicy> {
@@ -264,6 +307,74 @@ impl<D: SectionBytes + Drop, A: Arch, P: AllocationPolicy> Session<D, A, P> {
         }
     }
 
+    fn clone_unwinder(&mut self, unwinder: usize) -> Result<Reply<A::UnwindRegs>, SessionError>
+        ensures { (next : ℕ) → let old : Room A.UnwindRule = record { unwinders = self.old.unwinders.items; next = next; caches = self.old.caches.items } in
+            let command : Command D A.UnwindRegs = Command.Clone unwinder in
+            Serves A.UnwindRule.outcome A.UnwindRule.fallback old command result
+                (record { unwinders = self.new.unwinders.items; next = next; caches = self.new.caches.items }) }
+    {
+        let number = self.unwinders.len();
+        if unwinder >= number {
+            return Err(SessionError::NoSuchUnwinder);
+        }
+        let Ok(copy) = self.unwinders[unwinder].clone() else {
+            return Err(SessionError::OutOfMemory);
+        };
+        if self.unwinders.push(copy).is_err() {
+            return Err(SessionError::OutOfMemory);
+        }
+        Ok(Reply::Made(number))
+    }
+
+    fn remove_module(
+        &mut self,
+        unwinder: usize,
+        start: u64,
+        generations: &mut Generations,
+    ) -> Result<Reply<A::UnwindRegs>, SessionError>
+        ensures drawn { generations.old ≤ generations.new }
+        ensures served { let old : Room A.UnwindRule = record { unwinders = self.old.unwinders.items; next = generations.old; caches = self.old.caches.items } in
+            let command : Command D A.UnwindRegs = Command.Remove unwinder start in
+            Serves A.UnwindRule.outcome A.UnwindRule.fallback old command result
+                (record { unwinders = self.new.unwinders.items; next = generations.new; caches = self.new.caches.items }) }
+    {
+        if unwinder >= self.unwinders.len() {
+            return Err(SessionError::NoSuchUnwinder);
+        }
+        let target = &mut self.unwinders[unwinder];
+        match target.remove_module(start, generations) {
+            Ok(()) => Ok(Reply::Done),
+            Err(ModuleListError::OutOfMemory) => Err(SessionError::OutOfMemory),
+            Err(ModuleListError::GenerationsExhausted) => Err(SessionError::GenerationsExhausted),
+        }
+    }
+
+    fn step(
+        &mut self,
+        unwinder: usize,
+        cache: usize,
+        address: FrameAddress,
+        regs: A::UnwindRegs,
+        memory: Memory,
+    ) -> Result<Reply<A::UnwindRegs>, SessionError>
+        ensures { (next : ℕ) → let old : Room A.UnwindRule = record { unwinders = self.old.unwinders.items; next = next; caches = self.old.caches.items } in
+            let command : Command D A.UnwindRegs = Command.Step unwinder cache address regs memory in
+            IsTransparent A.UnwindRegs A.UnwindRule.fallback old →
+            Serves A.UnwindRule.outcome A.UnwindRule.fallback old command result
+                (record { unwinders = self.new.unwinders.items; next = next; caches = self.new.caches.items }) }
+    {
+        if unwinder >= self.unwinders.len() {
+            return Err(SessionError::NoSuchUnwinder);
+        }
+        if cache >= self.caches.len() {
+            return Err(SessionError::NoSuchCache);
+        }
+        let stepper = &self.unwinders[unwinder];
+        let shared = &mut self.caches[cache];
+        let (result, regs) = step_stack(stepper, shared, address, regs, &memory);
+        Ok(Reply::Step { result, regs })
+    }
+
     fn stats(&self, cache: usize) -> Result<Reply<A::UnwindRegs>, SessionError>
         ensures { (next : ℕ) → let room : Room A.UnwindRule = record { unwinders = self.now.unwinders.items; next = next; caches = self.now.caches.items } in
             let command : Command D A.UnwindRegs = Command.Stats cache in
@@ -317,7 +428,16 @@ impl<D: SectionBytes + Drop, A: Arch, P: AllocationPolicy> Session<D, A, P> {
     {
         match command {
             Command::New => self.make_unwinder(generations),
+            Command::Clone { unwinder } => self.clone_unwinder(unwinder),
             Command::Add { unwinder, module } => self.add_module(unwinder, module, generations),
+            Command::Remove { unwinder, start } => self.remove_module(unwinder, start, generations),
+            Command::Step {
+                unwinder,
+                cache,
+                address,
+                regs,
+                memory,
+            } => self.step(unwinder, cache, address, regs, memory),
             Command::Walk {
                 unwinder,
                 cache,

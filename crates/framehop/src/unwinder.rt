@@ -98,15 +98,19 @@ pub trait Unwinder: Clone {
     ) -> Result<(), ModuleListError>
         ensures absent { has_start module_avma_range_start (unwinder_view self.old).modules ≡ false →
             IsOk result × (self.new ≡ self.old) × (generations.new ≡ generations.old) }
-        ensures removed { has_start module_avma_range_start (unwinder_view self.old).modules ≡ true → generations.old < 2 ^ 64 - 1 →
-            IsOk result
+        ensures removed { has_start module_avma_range_start (unwinder_view self.old).modules ≡ true → IfOk result (λ done.
+            (generations.old < 2 ^ 64 - 1)
             × (unwinder_view self.new ≡ record {
                 modules = without_module module_avma_range_start (unwinder_view self.old).modules;
                 generation = generations.old;
             })
-            × (generations.new ≡ generations.old + 1) }
-        ensures exhausted { has_start module_avma_range_start (unwinder_view self.old).modules ≡ true → generations.old ≡ 2 ^ 64 - 1 →
-            (result ≡ Err ModuleListError.GenerationsExhausted) × (self.new ≡ self.old) × (generations.new ≡ generations.old) };
+            × (generations.new ≡ generations.old + 1)) }
+        ensures exhausted { IfErr result (λ error.
+            (error ≡ ModuleListError.GenerationsExhausted)
+            × (has_start module_avma_range_start (unwinder_view self.old).modules ≡ true)
+            × (generations.old ≡ 2 ^ 64 - 1)
+            × (self.new ≡ self.old)
+            × (generations.new ≡ generations.old)) };
 
     /// The greatest end of a module (AVMA), or 0 without modules. It serves to guess a mask for
     /// pointer authentication.
