@@ -123,7 +123,8 @@ pub fn read_stack_word<F: FnMut(u64) -> Result<u64, ()>>(
 ) -> Result<u64, Error>
     requires { F.IsAlwaysCallable read_stack.old }
     ensures callable { F.IsAlwaysCallable read_stack.new }
-    ensures read { (reply : Result ℕ (Unit {0})) × F.step read_stack.old address reply read_stack.new
+    ensures read { (reply : Result ℕ (Unit {0}))
+        × F.step read_stack.old address reply read_stack.new
         × (result ≡ read_of address reply) }
     ensures answers { (memory : Memory) → AnswersAs F.FnMut read_stack.old memory
         → AnswersAs F.FnMut read_stack.new memory × (result ≡ word_at memory address) }

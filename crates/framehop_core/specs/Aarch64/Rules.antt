@@ -79,6 +79,10 @@ finished first r sp lr fp =
     else (if not first && (sp == r.sp) then refused DidNotAdvance
     else answered address (record r { lr = address; sp = sp; fp = fp }))
 
+-- the last step of a line that asks the frame pointer to rise
+abbrev pub finished_at_frame_pointer : Bool → Registers → ℕ → ℕ → ℕ → Outcome Registers
+finished_at_frame_pointer first r sp lr fp = demanded frame_pointer_rises r sp fp (finished first r sp lr fp)
+
 -- what a line of the table gives, its parts taken in order: sp, lr, fp, the demand, the last step
 abbrev pub outcome_of_line : Line → Bool → Registers → Memory → Outcome Registers
 outcome_of_line no_advance first r memory = refused DidNotAdvance
