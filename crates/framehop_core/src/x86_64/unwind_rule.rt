@@ -1,9 +1,9 @@
 ghost use Rattle.std.specs.Prelude.{◌≡◌, ℕ, ◌<◌, ◌≤◌, pos, ◌-ℤ◌, true, List, length, All, MatchResult, OnOk, MatchOption, IfSome};
 ghost use Rattle.std.specs.Iterator.{IsFinite, AlwaysYields};
 ghost use Rattle.framehop_core.specs.Memory.{Memory, AnswersAs};
-ghost use Rattle.framehop_core.specs.Outcome.{KeptUnlessAnswered, HasDone, address_at};
+ghost use Rattle.framehop_core.specs.Outcome.{KeptUnlessAnswered, HasDone, address_at, beside};
 ghost use Rattle.framehop_core.specs.Runs.{run_of, after_first, IsWithinRise};
-ghost use Rattle.framehop_core.specs.X86_64.Rules.{outcome, NotBelowWhereAnswered, outcome_of_line, frame_pointer_line, beside, restored_at, value_from, popped, return_address, finished, is_executable, offset_and_pops_of, IsRuleOfOperations};
+ghost use Rattle.framehop_core.specs.X86_64.Rules.{outcome, NotBelowWhereAnswered, outcome_of_line, frame_pointer_line, restored_at, value_from, popped, return_address, finished, is_executable, offset_and_pops_of, IsRuleOfOperations};
 
 use super::register_ordering;
 use super::unwindregs::{Reg, UnwindRegsX86_64};
