@@ -2,9 +2,9 @@
 use Rattle.std.proofs.Common.{◌≡◌, ◌≢◌, ℕ, zero, suc, ◌^◌, ◌<◌, ◌≤◌, ℤ, pos, ◌-ℤ◌, Bool, true, false, ◌&&◌, nat_eq, nat_le, cond, List, [], ◌∷◌, Option, Some, None, Result, Ok, Err, refl, sym, ap, ◌∙◌, arith}
 use Rattle.std.proofs.lemmas.Bool.Decides.{nat_tests}
 use Rattle.framehop_core.specs.Memory.{Memory}
-use Rattle.framehop_core.specs.Outcome.{Outcome, answered, address_at, word_at}
+use Rattle.framehop_core.specs.Outcome.{Outcome, answered, address_at, word_at, word_from, above}
 use Rattle.framehop_core.specs.X86_64.Registers.{Registers, register, with_register}
-use Rattle.framehop_core.specs.X86_64.Rules.{Source, Demand, nothing_more, stack_pointer_rises, value_from, word_from, demanded, popped, return_address, returned, finished, Line, caller, pops, stack_end, outcome_of_line, line_of, frame_pointer_line, above, outcome, Advances}
+use Rattle.framehop_core.specs.X86_64.Rules.{Source, Demand, nothing_more, stack_pointer_rises, value_from, demanded, popped, return_address, returned, finished, Line, caller, pops, stack_end, outcome_of_line, line_of, frame_pointer_line, outcome, Advances}
 use Rattle.framehop_core.specs.declared.error.Error.{Error}
 use Rattle.framehop_core.specs.declared.error.Error.TheVariants.{DidNotAdvance, FramepointerUnwindingMovedBackwards}
 use Rattle.framehop_core.specs.declared.x86_64.unwindregs.Reg.{Reg}

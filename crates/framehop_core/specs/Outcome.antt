@@ -1,5 +1,5 @@
 -- What one unwind rule does to one frame: the vocabulary of the rule tables.
-use Rattle.std.specs.Prelude.{◌≡◌, ℕ, ◌^◌, ℤ, pos, negsuc, if◌then◌else◌, nat_lt, Option, Some, None, IfNone, Result, Ok, Err, MatchResult}
+use Rattle.std.specs.Prelude.{◌≡◌, ℕ, ◌^◌, ℤ, pos, negsuc, ◌+ℤ◌, ◌*ℤ◌, if◌then◌else◌, nat_lt, Option, Some, None, IfNone, Result, Ok, Err, MatchResult}
 use Rattle.framehop_core.specs.Memory.{Memory, reply}
 use Rattle.framehop_core.specs.declared.error.Error.{Error}
 use Rattle.framehop_core.specs.declared.error.Error.TheVariants.{CouldNotReadStack, IntegerOverflow}
@@ -45,6 +45,18 @@ read_of address (Err _) = Err (CouldNotReadStack address)
 -- the word that the memory has at an address of 64 bits
 abbrev pub word_at : Memory → ℕ → Result ℕ Error
 word_at memory address = read_of address (reply (memory address))
+
+-- the word at an address that is computed in whole numbers
+abbrev pub word_from : Memory → ℤ → Result ℕ Error
+word_from memory address = and_then (address_at address) (word_at memory)
+
+-- the address at this many bytes above a register's value
+abbrev pub above : ℕ → ℕ → ℤ
+above register bytes = pos register +ℤ pos bytes
+
+-- the address at this many words of eight bytes from a register's value
+abbrev pub beside : ℕ → ℤ → ℤ
+beside register words = pos register +ℤ words *ℤ pos 8
 
 -- where a call has not answered an address, the registers are as they were
 abbrev pub KeptUnlessAnswered : {R : Type 0} → Result (Option ℕ) Error → R → R → Type 0

@@ -1,7 +1,7 @@
-ghost use Rattle.std.specs.Prelude.{◌≡◌, ◌≢◌, ℕ, ◌≤◌, ◌+ℤ◌, ◌*ℤ◌, pos, Bool, true, IsTrue, All, MatchResult, IfOk, OnSome, IfNone, Result};
+ghost use Rattle.std.specs.Prelude.{◌≡◌, ◌≢◌, ℕ, ◌≤◌, Bool, true, IsTrue, All, MatchResult, IfOk, OnSome, IfNone, Result};
 ghost use Rattle.framehop_core.specs.Memory.{Memory, AnswersAs};
 ghost use Rattle.framehop_core.specs.Runs.{run_of, StepsBy};
-ghost use Rattle.framehop_core.specs.Outcome.{Outcome, answer_of, registers_after, and_then, address_at, word_at, read_of};
+ghost use Rattle.framehop_core.specs.Outcome.{Outcome, answer_of, registers_after, address_at, word_at, word_from, read_of, above, beside};
 
 use crate::add_signed::checked_add_signed;
 use crate::error::Error;
@@ -124,7 +124,8 @@ pub fn read_stack_word<F: FnMut(u64) -> Result<u64, ()>>(
 ) -> Result<u64, Error>
     requires { F.IsAlwaysCallable read_stack.old }
     ensures callable { F.IsAlwaysCallable read_stack.new }
-    ensures read { (reply : Result ℕ (Unit {0})) × F.step read_stack.old address reply read_stack.new
+    ensures read { (reply : Result ℕ (Unit {0}))
+        × F.step read_stack.old address reply read_stack.new
         × (result ≡ read_of address reply) }
     ensures no_memory_taken { result ≢ Err Error.OutOfMemory }
     ensures answers { (memory : Memory) → AnswersAs F.FnMut read_stack.old memory
@@ -139,7 +140,7 @@ pub fn read_stack_word<F: FnMut(u64) -> Result<u64, ()>>(
 /// The address at this many bytes above another. `IntegerOverflow` where it does not fit 64 bits.
 #[inline(always)]
 pub(crate) fn offset_address(base: u64, offset: u64) -> Result<u64, Error>
-    ensures address { result ≡ address_at (pos base +ℤ pos offset) }
+    ensures address { result ≡ address_at (above base offset) }
     ensures not_below { IfOk result (λ address. base ≤ address) }
 {
     base.checked_add(offset).ok_or(Error::IntegerOverflow)
@@ -149,7 +150,7 @@ pub(crate) fn offset_address(base: u64, offset: u64) -> Result<u64, Error>
 /// fit 64 bits.
 #[inline(always)]
 pub(crate) fn address_beside(base: u64, offset_by_8: i16) -> Result<u64, Error>
-    ensures { result ≡ address_at (pos base +ℤ offset_by_8 *ℤ pos 8) }
+    ensures { result ≡ address_at (beside base offset_by_8) }
 {
     checked_add_signed(base, i64::from(offset_by_8) * 8).ok_or(Error::IntegerOverflow)
 }
@@ -166,7 +167,7 @@ pub(crate) fn read_word_beside<F: FnMut(u64) -> Result<u64, ()>>(
     ensures no_memory_taken { result ≢ Err Error.OutOfMemory }
     ensures answers { (memory : Memory) → AnswersAs F.FnMut read_stack.old memory
         → AnswersAs F.FnMut read_stack.new memory
-        × (result ≡ and_then (address_at (pos base +ℤ offset_by_8 *ℤ pos 8)) (word_at memory)) }
+        × (result ≡ word_from memory (beside base offset_by_8)) }
 {
     read_stack_word(read_stack, address_beside(base, offset_by_8)?)
 }

@@ -1,7 +1,7 @@
 -- What the unwind rules of aarch64 do, as a table (framehop 0.16.0, documentation of `UnwindRuleAarch64`).
-use Rattle.std.specs.Prelude.{◌≡◌, ℕ, ◌*◌, ◌<◌, ◌≤◌, ℤ, pos, ◌+ℤ◌, ◌*ℤ◌, Bool, true, false, not, ◌&&◌, ◌||◌, ◌==◌, if◌then◌else◌, nat_le, OnSome, IfOk, Option, Result, Ok}
+use Rattle.std.specs.Prelude.{◌≡◌, ℕ, ◌*◌, ◌<◌, ◌≤◌, ℤ, pos, Bool, true, false, not, ◌&&◌, ◌||◌, ◌==◌, if◌then◌else◌, nat_le, OnSome, IfOk, Option, Result, Ok}
 use Rattle.framehop_core.specs.Memory.{Memory}
-use Rattle.framehop_core.specs.Outcome.{Outcome, answered, root, refused, after, and_then, address_at, word_at}
+use Rattle.framehop_core.specs.Outcome.{Outcome, answered, root, refused, after, address_at, word_from, above, beside}
 use Rattle.framehop_core.specs.Runs.{IsWithinRise}
 use Rattle.framehop_core.specs.Aarch64.Registers.{Registers, strip_ptr_auth}
 use Rattle.framehop_core.specs.declared.error.Error.{Error}
@@ -27,13 +27,6 @@ pub data Line : Type 0 where
   stack_end : Line
   caller : ℤ → Source → Source → Demand → Line
 
--- the address at this many bytes, or words of eight bytes, from a register
-abbrev pub above : ℕ → ℕ → ℤ
-above register bytes = pos register +ℤ pos bytes
-
-abbrev pub beside : ℕ → ℤ → ℤ
-beside register words = pos register +ℤ words *ℤ pos 8
-
 -- the table: of a rule in a first frame (`true`) or another, over the registers
 abbrev pub line_of : UnwindRuleAarch64 → Bool → Registers → Line
 line_of NoOp true r = caller (pos r.sp) (kept r.lr) (kept r.fp) nothing_more
@@ -58,7 +51,7 @@ line_of (UseFramepointerWithOffsets x y z) first r =
 -- the value from a source: a stack word is read at its address
 abbrev pub value_from : Memory → Source → Result ℕ Error
 value_from memory (kept value) = Ok value
-value_from memory (stored_at address) = and_then (address_at address) (word_at memory)
+value_from memory (stored_at address) = word_from memory address
 
 -- the test of a demand, before what follows it
 abbrev pub demanded : Demand → Registers → ℕ → ℕ → Outcome Registers → Outcome Registers
@@ -78,6 +71,10 @@ finished first r sp lr fp =
     if address == 0 then root
     else (if not first && (sp == r.sp) then refused DidNotAdvance
     else answered address (record r { lr = address; sp = sp; fp = fp }))
+
+-- the last step of a line that asks the frame pointer to rise
+abbrev pub finished_at_frame_pointer : Bool → Registers → ℕ → ℕ → ℕ → Outcome Registers
+finished_at_frame_pointer first r sp lr fp = demanded frame_pointer_rises r sp fp (finished first r sp lr fp)
 
 -- what a line of the table gives, its parts taken in order: sp, lr, fp, the demand, the last step
 abbrev pub outcome_of_line : Line → Bool → Registers → Memory → Outcome Registers

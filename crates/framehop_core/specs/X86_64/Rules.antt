@@ -1,7 +1,7 @@
 -- What the unwind rules of x86_64 do, as a table (framehop 0.16.0, documentation of `UnwindRuleX86_64`).
-use Rattle.std.specs.Prelude.{◌≡◌, ℕ, ◌*◌, ◌≤◌, ℤ, pos, negsuc, ◌+ℤ◌, ◌-ℤ◌, ◌*ℤ◌, Bool, true, false, ◌&&◌, ◌==◌, if◌then◌else◌, nat_le, List, [], ◌∷◌, Option, Some, None, option_map, OnSome, IfOk, unwrap_or, Result, Ok, Err}
+use Rattle.std.specs.Prelude.{◌≡◌, ℕ, ◌*◌, ◌≤◌, ℤ, pos, negsuc, ◌-ℤ◌, Bool, true, false, ◌&&◌, ◌==◌, if◌then◌else◌, nat_le, List, [], ◌∷◌, Option, Some, None, option_map, OnSome, IfOk, unwrap_or, Result, Ok, Err}
 use Rattle.framehop_core.specs.Memory.{Memory}
-use Rattle.framehop_core.specs.Outcome.{Outcome, answered, root, refused, after, and_then, address_at, word_at}
+use Rattle.framehop_core.specs.Outcome.{Outcome, answered, root, refused, after, and_then, address_at, word_at, word_from, above, beside}
 use Rattle.framehop_core.specs.X86_64.Registers.{Registers, with_register}
 use Rattle.framehop_core.specs.X86_64.Ordering.{ordering, is_ordering, IsArrangement, IsEncoding}
 use Rattle.framehop_core.specs.declared.error.Error.{Error}
@@ -30,13 +30,6 @@ pub data Line : Type 0 where
   stack_end : Line
   caller : ℤ → Demand → Source → Line
   pops : ℤ → List Reg → Line
-
--- the address at this many bytes, or words of eight bytes, from a register
-abbrev pub above : ℕ → ℕ → ℤ
-above register bytes = pos register +ℤ pos bytes
-
-abbrev pub beside : ℕ → ℤ → ℤ
-beside register words = pos register +ℤ words *ℤ pos 8
 
 -- A word that is restored in a first frame from below the stack pointer may be unreadable: a function's end can have
 -- popped it already, and unwind data often does not say so.
@@ -70,10 +63,6 @@ is_executable JustReturnIfFirstFrameOtherwiseFp = true
 is_executable (OffsetSp x) = true
 is_executable (OffsetSpAndRestoreBp x y) = true
 is_executable UseFramePointer = true
-
--- the word at an address that is computed in whole numbers
-abbrev pub word_from : Memory → ℤ → Result ℕ Error
-word_from memory address = and_then (address_at address) (word_at memory)
 
 -- the value from a source, for a register that has this value now
 abbrev pub value_from : Memory → ℕ → Source → Result ℕ Error

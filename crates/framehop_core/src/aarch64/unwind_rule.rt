@@ -1,8 +1,8 @@
 ghost use Rattle.std.specs.Prelude.{◌≡◌, ◌≤◌, true};
 ghost use Rattle.framehop_core.specs.Memory.{Memory, AnswersAs};
 ghost use Rattle.framehop_core.specs.Runs.{run_of, after_first, IsWithinRise};
-ghost use Rattle.framehop_core.specs.Aarch64.Rules.{outcome, IsBoundedRun, finished, demanded, frame_pointer_rises, AdvancesWhereAnswered};
-ghost use Rattle.framehop_core.specs.Outcome.{answer_of, registers_after};
+ghost use Rattle.framehop_core.specs.Aarch64.Rules.{outcome, IsBoundedRun, finished, finished_at_frame_pointer, AdvancesWhereAnswered};
+ghost use Rattle.framehop_core.specs.Outcome.{HasDone};
 
 use super::unwindregs::UnwindRegsAarch64;
 use crate::error::Error;
@@ -220,8 +220,8 @@ fn finish_at_frame_pointer(
     new_lr: u64,
     new_fp: u64,
 ) -> Result<Option<u64>, Error>
-    ensures answer { result ≡ answer_of (demanded frame_pointer_rises regs.old new_sp new_fp (finished is_first_frame regs.old new_sp new_lr new_fp)) }
-    ensures registers { regs.new ≡ registers_after regs.old (demanded frame_pointer_rises regs.old new_sp new_fp (finished is_first_frame regs.old new_sp new_lr new_fp)) }
+    ensures done { HasDone (finished_at_frame_pointer is_first_frame regs.old new_sp new_lr new_fp)
+        result regs.old regs.new }
     ensures advances { AdvancesWhereAnswered is_first_frame result regs.old regs.new }
 {
     if new_fp == 0 {
@@ -243,9 +243,10 @@ fn finish(
     new_lr: u64,
     new_fp: u64,
 ) -> Result<Option<u64>, Error>
-    ensures answer { result ≡ answer_of (finished is_first_frame regs.old new_sp new_lr new_fp) }
-    ensures registers { regs.new ≡ registers_after regs.old (finished is_first_frame regs.old new_sp new_lr new_fp) }
-    ensures advances { regs.old.sp ≤ new_sp → AdvancesWhereAnswered is_first_frame result regs.old regs.new }
+    ensures done { HasDone (finished is_first_frame regs.old new_sp new_lr new_fp)
+        result regs.old regs.new }
+    ensures advances { regs.old.sp ≤ new_sp
+        → AdvancesWhereAnswered is_first_frame result regs.old regs.new }
 {
     let return_address = regs.lr_mask().strip_ptr_auth(new_lr);
     if return_address == 0 {

@@ -79,7 +79,8 @@ fn exchange(registers: &mut [Reg], place: usize, digit: usize)
 /// The first place of a register in a list.
 fn position_of(registers: &[Reg], register: Reg) -> Option<usize>
     ensures { MatchOption result (All (λ r. r ≢ register) registers.now)
-        (λ place. (place < length registers.now) × (slice_index_or registers.now place register ≡ register)) }
+        (λ place. (place < length registers.now)
+        × (slice_index_or registers.now place register ≡ register)) }
 {
     for (place, at_place) in registers.iter().enumerate() {
         if *at_place == register {

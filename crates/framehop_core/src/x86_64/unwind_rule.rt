@@ -1,9 +1,9 @@
 ghost use Rattle.std.specs.Prelude.{◌≡◌, ◌≢◌, ℕ, ◌<◌, ◌≤◌, pos, ◌-ℤ◌, true, List, length, All, MatchResult, OnOk, MatchOption, IfSome};
 ghost use Rattle.std.specs.Iterator.{IsFinite, AlwaysYields};
 ghost use Rattle.framehop_core.specs.Memory.{Memory, AnswersAs};
-ghost use Rattle.framehop_core.specs.Outcome.{KeptUnlessAnswered, HasDone, address_at};
+ghost use Rattle.framehop_core.specs.Outcome.{KeptUnlessAnswered, HasDone, address_at, beside};
 ghost use Rattle.framehop_core.specs.Runs.{run_of, after_first, IsWithinRise};
-ghost use Rattle.framehop_core.specs.X86_64.Rules.{outcome, NotBelowWhereAnswered, outcome_of_line, frame_pointer_line, beside, restored_at, value_from, popped, return_address, finished, is_executable, offset_and_pops_of, IsRuleOfOperations};
+ghost use Rattle.framehop_core.specs.X86_64.Rules.{outcome, NotBelowWhereAnswered, outcome_of_line, frame_pointer_line, restored_at, value_from, popped, return_address, finished, is_executable, offset_and_pops_of, IsRuleOfOperations};
 
 use super::register_ordering;
 use super::unwindregs::{Reg, UnwindRegsX86_64};
@@ -76,7 +76,8 @@ impl UnwindRuleX86_64 {
         I: Iterator<Item = OffsetOrPop> + Drop,
         requires can { I.can_next operations }
         requires ends { IsFinite (I.remaining operations) }
-        ensures rule { (given : List OffsetOrPop) → AlwaysYields I.next_gives (λ operation. operation) operations given
+        ensures rule { (given : List OffsetOrPop)
+            → AlwaysYields I.next_gives (λ operation. operation) operations given
             → IsRuleOfOperations given result }
         ensures executable { IfSome result (λ rule. is_executable rule ≡ true) }
     {
@@ -101,9 +102,11 @@ where
     I: Iterator<Item = OffsetOrPop> + Drop,
     requires can { I.can_next operations }
     requires ends { IsFinite (I.remaining operations) }
-    ensures given { (given : List OffsetOrPop) → AlwaysYields I.next_gives (λ operation. operation) operations given
+    ensures given { (given : List OffsetOrPop)
+        → AlwaysYields I.next_gives (λ operation. operation) operations given
         → MatchOption result
-        ((x : ℕ) (registers : List Reg) → offset_and_pops_of given ≡ Some (x, registers) → 8 < length registers)
+        ((x : ℕ) (registers : List Reg) → offset_and_pops_of given ≡ Some (x, registers)
+        → 8 < length registers)
         (λ found. offset_and_pops_of given ≡ Some (found.0, found.1.items)) }
     ensures few { IfSome result (λ found. length found.1.items ≤ 8) }
 {
@@ -267,7 +270,8 @@ fn exec_frame_pointer<F: FnMut(u64) -> Result<u64, ()>>(
     ensures not_below { NotBelowWhereAnswered result regs.old regs.new }
     ensures answers { (memory : Memory) → AnswersAs F.FnMut read_stack.old memory
         → AnswersAs F.FnMut read_stack.new memory
-        × HasDone (outcome_of_line (frame_pointer_line regs.old) regs.old memory) result regs.old regs.new }
+        × HasDone (outcome_of_line (frame_pointer_line regs.old) regs.old memory)
+        result regs.old regs.new }
 {
     let bp = regs.bp();
     let new_sp = offset_address(bp, 16)?;
@@ -346,7 +350,8 @@ fn finish<F: FnMut(u64) -> Result<u64, ()>>(
     ensures not_below { regs.old.rsp ≤ new_sp → NotBelowWhereAnswered result regs.old regs.new }
     ensures answers { (memory : Memory) → AnswersAs F.FnMut read_stack.old memory
         → AnswersAs F.FnMut read_stack.new memory
-        × HasDone (finished regs.old (record regs.old { rsp = new_sp; rbp = new_bp }) memory) result regs.old regs.new }
+        × HasDone (finished regs.old (record regs.old { rsp = new_sp; rbp = new_bp }) memory)
+        result regs.old regs.new }
 {
     let Some(address) = read_return_address(regs, read_stack, new_sp)? else {
         return Ok(None);
@@ -393,7 +398,8 @@ fn read_return_address<F: FnMut(u64) -> Result<u64, ()>>(
     ensures callable { F.IsAlwaysCallable read_stack.new }
     ensures no_memory_taken { result ≢ Err Error.OutOfMemory }
     ensures answers { (memory : Memory) → AnswersAs F.FnMut read_stack.old memory
-        → AnswersAs F.FnMut read_stack.new memory × (result ≡ return_address regs.now new_sp memory) }
+        → AnswersAs F.FnMut read_stack.new memory
+        × (result ≡ return_address regs.now new_sp memory) }
 {
     let location = word_below(new_sp)?;
     let address = read_stack_word(read_stack, location)?;

@@ -52,6 +52,11 @@ pub enum Reg {
 
 // A blank for the unused places of an `ArrayVec`.
 impl Default for Reg {
+    ghost use Rattle.std.specs.Prelude.{◌≡◌};
+    ghost use Rattle.framehop_core.specs.declared.x86_64.unwindregs.Reg.TheVariants.{RAX};
+
+    ghost is_default = { λ register. register ≡ RAX };
+
     fn default() -> Self {
         Reg::RAX
     }
@@ -100,7 +105,8 @@ impl UnwindRegsX86_64 {
     pub fn set(&mut self, reg: Reg, value: u64)
         ensures { self.new ≡ with_register self.old reg value }
     {
-        self.regs[reg as usize] = value;
+        let place = reg as usize;
+        self.regs[place] = value;
     }
 
     /// The instruction pointer, rip.
@@ -162,8 +168,8 @@ impl fmt::Debug for UnwindRegsX86_64 {
             .field("rbx", &HexNum(self.get(Reg::RBX)))
             .field("rsi", &HexNum(self.get(Reg::RSI)))
             .field("rdi", &HexNum(self.get(Reg::RDI)))
-            .field("rbp", &HexNum(self.get(Reg::RBP)))
-            .field("rsp", &HexNum(self.get(Reg::RSP)))
+            .field("rbp", &HexNum(self.bp()))
+            .field("rsp", &HexNum(self.sp()))
             .field("r8", &HexNum(self.get(Reg::R8)))
             .field("r9", &HexNum(self.get(Reg::R9)))
             .field("r10", &HexNum(self.get(Reg::R10)))

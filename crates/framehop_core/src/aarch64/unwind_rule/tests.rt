@@ -193,3 +193,13 @@ fn runs_rules_to_the_root(rt: HostRuntime) {
     );
     assert_eq!(rt; regs, UnwindRegsAarch64::new(0x100200, 0x30, 0x40));
 }
+
+#[test]
+fn has_rules_without_unwind_data(rt: HostRuntime) {
+    let no_op = UnwindRuleAarch64::NoOp;
+    assert_eq!(rt; UnwindRuleAarch64::rule_for_stub_functions(), no_op);
+    assert_eq!(rt; UnwindRuleAarch64::rule_for_function_start(), no_op);
+    let use_fp = UnwindRuleAarch64::UseFramePointer;
+    assert_eq!(rt; UnwindRuleAarch64::fallback_rule(), use_fp);
+    assert!(rt; no_op.executable() && use_fp.executable());
+}

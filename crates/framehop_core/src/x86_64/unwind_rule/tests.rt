@@ -205,3 +205,25 @@ fn runs_rules_up_to_a_refusal(rt: HostRuntime) {
     assert_eq!(rt; run, (1, RunEnd::Refused(Error::DidNotAdvance)));
     assert_eq!(rt; regs, UnwindRegsX86_64::new(0x2000, 0x20, 0));
 }
+
+#[test]
+fn has_rules_without_unwind_data(rt: HostRuntime) {
+    let just_return = UnwindRuleX86_64::JustReturn;
+    assert_eq!(rt; UnwindRuleX86_64::rule_for_stub_functions(), just_return);
+    assert_eq!(rt; UnwindRuleX86_64::rule_for_function_start(), just_return);
+    let use_fp = UnwindRuleX86_64::UseFramePointer;
+    assert_eq!(rt; UnwindRuleX86_64::fallback_rule(), use_fp);
+    assert!(rt; just_return.executable() && use_fp.executable());
+    for (register_count, encoded_registers_to_pop, want) in [
+        (8, 40319, true),
+        (8, 40320, false),
+        (9, 0, false),
+    ] {
+        let rule = UnwindRuleX86_64::OffsetSpAndPopRegisters {
+            sp_offset_by_8: 0,
+            register_count,
+            encoded_registers_to_pop,
+        };
+        assert_eq!(rt; rule.executable(), want);
+    }
+}
