@@ -2,6 +2,10 @@
 #![tactic(auto)]
 
 #[cfg(test)]
+mod commands;
+#[cfg(test)]
+mod library;
+#[cfg(test)]
 mod sections;
 #[cfg(test)]
 mod walk;
