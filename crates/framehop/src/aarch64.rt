@@ -3,5 +3,7 @@ pub mod cache;
 pub mod unwinder;
 
 pub use cache::CacheAarch64;
-pub use framehop_core::aarch64::{ArchAarch64, PtrAuthMask, UnwindRegsAarch64, UnwindRuleAarch64};
+pub use framehop_core::aarch64::{
+    ArchAarch64, PtrAuthMask, UnwindRegsAarch64, UnwindRuleAarch64, run_rules,
+};
 pub use unwinder::UnwinderAarch64;

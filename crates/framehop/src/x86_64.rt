@@ -3,5 +3,7 @@ pub mod cache;
 pub mod unwinder;
 
 pub use cache::CacheX86_64;
-pub use framehop_core::x86_64::{ArchX86_64, Reg, UnwindRegsX86_64, UnwindRuleX86_64};
+pub use framehop_core::x86_64::{
+    ArchX86_64, OffsetOrPop, Reg, UnwindRegsX86_64, UnwindRuleX86_64, register_ordering, run_rules,
+};
 pub use unwinder::UnwinderX86_64;
