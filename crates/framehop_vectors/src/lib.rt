@@ -6,6 +6,8 @@ mod commands;
 #[cfg(test)]
 mod library;
 #[cfg(test)]
+mod program;
+#[cfg(test)]
 mod sections;
 #[cfg(test)]
 mod walk;

@@ -1,0 +1,412 @@
+ghost use Rattle.std.specs.Prelude.{◌≡◌, None};
+ghost use Rattle.std.specs.Io.{ReadsAtMost, WritesAtMost};
+
+use framehop_walk::{Output, Refusal, refuse, section_bytes, walk_program};
+use hex::FromHexError;
+use std::alloc::Global;
+use std::io;
+use std::io::{Read, Write};
+use std::test::Fail;
+
+const FRAME_POINTER_WALK: &str = r#"{"arch":"aarch64","policy":"may","caches":1,"commands":[
+{"do":"new"},
+{"do":"add","unwinder":0,"name":"mybinary","start":"1003fc000",
+ "end":"100634000","base":"1003fc000","base_svma":"100000000",
+ "sections":[{"name":"__unwind_info","data":""}],"segments":[]},
+{"do":"walk","unwinder":0,"cache":0,"pc":"1005252c0",
+ "regs":{"lr":"1004e0830","sp":"10","fp":"20"},
+ "memory":{"base":"0","words":["1","2","3","4","40","1004fcdc4","5",
+ "6","70","100528a28","7","8","9","a","0","0"]},"limit":LIMIT},
+{"do":"stats","cache":0}]}"#;
+
+/// What a run of the program answers and writes.
+#[derive(Drop)]
+struct Finished {
+    status: u8,
+    out: Vec<u8>,
+    err: Vec<u8>,
+}
+
+fn run(alloc: Global, input: &str) -> Finished {
+    let mut reader = input.as_bytes();
+    let mut out = Output::new(Vec::new(alloc));
+    let mut err = Vec::new(alloc);
+    let status = walk_program(alloc, &mut reader, &mut out, &mut err);
+    Finished {
+        status,
+        out: out.writer,
+        err,
+    }
+}
+
+#[test]
+fn walks_by_frame_pointers(rt: HostRuntime) -> Result<(), Fail> {
+    let alloc = rt.alloc();
+    for (limit, want) in [
+        (
+            "10",
+            "new 0\nadd\nip 1005252c0\nra 1004fcdc4\nra 100528a28\nend\nregs lr=100528a28 sp=50 fp=70\nstats hits=0 empty=3 modules=0 address=0\n",
+        ),
+        (
+            "2",
+            "new 0\nadd\nip 1005252c0\nra 1004fcdc4\nlimit\nregs lr=1004fcdc4 sp=30 fp=40\nstats hits=0 empty=1 modules=0 address=0\n",
+        ),
+    ] {
+        let input = FRAME_POINTER_WALK.replace(alloc, "LIMIT", limit)?;
+        let run = run(alloc, input.as_str());
+        assert_eq!(rt; run.status, 0);
+        assert_eq!(rt; run.out.as_slice(), want.as_bytes());
+        assert!(rt; run.err.is_empty());
+    }
+    Ok(())
+}
+
+/// Each input is refused by its one line, and nothing is printed.
+#[test]
+fn refuses_inputs(rt: HostRuntime) -> Result<(), Fail> {
+    let alloc = rt.alloc();
+    for (input, line) in [
+        ("", "not JSON"),
+        ("{", "not JSON"),
+        ("{} {}", "not JSON"),
+        ("1e999", "not JSON"),
+        ("{\"arch\":1.5}", "bad number"),
+        ("{\"unknown\":[{\"deep\":1.0}]}", "bad number"),
+        ("{\"caches\":18446744073709551616}", "bad number"),
+        ("{\"caches\":-9223372036854775809}", "bad number"),
+        ("{\"caches\":-0}", "bad number"),
+        ("[]", "bad field arch"),
+        ("{}", "bad field arch"),
+        ("{\"arch\":64}", "bad field arch"),
+        ("{\"arch\":\"x86\"}", "bad field arch"),
+        ("{\"arch\":\"aarch64\"}", "bad field policy"),
+        (
+            "{\"arch\":\"aarch64\",\"policy\":\"maybe\"}",
+            "bad field policy",
+        ),
+    ] {
+        assert!(rt; is_refused(alloc, input, line)?, "{line} in {input}");
+    }
+    Ok(())
+}
+
+/// The fields behind `policy`: those of all commands are read before the first is carried out, in
+/// their order.
+#[test]
+fn refuses_fields(rt: HostRuntime) -> Result<(), Fail> {
+    let alloc = rt.alloc();
+    for (fields, line) in [
+        ("\"unknown\":0", "bad field caches"),
+        ("\"caches\":\"1\"", "bad field caches"),
+        ("\"caches\":-1", "bad field caches"),
+        ("\"caches\":65536", "bad field caches"),
+        ("\"caches\":1,\"caches\":65536", "bad field caches"),
+        ("\"caches\":65535", "bad field commands"),
+        ("\"caches\":1,\"commands\":{}", "bad field commands"),
+        ("\"caches\":1,\"commands\":[7]", "bad field do"),
+        ("\"caches\":1,\"commands\":[{}]", "bad field do"),
+        (
+            "\"caches\":1,\"commands\":[{\"do\":\"run\"}]",
+            "bad field do",
+        ),
+        (
+            "\"caches\":1,\"commands\":[{\"do\":\"stats\",\"cache\":1},{\"do\":\"stats\"}]",
+            "bad field cache",
+        ),
+        (
+            "\"caches\":1,\"commands\":[{\"do\":\"stats\",\"cache\":1}]",
+            "no such cache",
+        ),
+        (
+            "\"caches\":0,\"commands\":[{\"do\":\"stats\",\"cache\":18446744073709551615}]",
+            "no such cache",
+        ),
+    ] {
+        let input = format!(in alloc; "{{\"arch\":\"aarch64\",\"policy\":\"must\",{fields}}}")?;
+        assert!(rt;
+            is_refused(alloc, input.as_str(), line)?,
+            "{line} in {input}"
+        );
+    }
+    Ok(())
+}
+
+/// Whether the input is refused by this line alone.
+fn is_refused(alloc: Global, input: &str, line: &str) -> Result<bool, Fail> {
+    let run = run(alloc, input);
+    let want = format!(in alloc; "framehop-walk: input refused: {line}\n")?;
+    Ok(run.status == 1 && run.out.is_empty() && run.err.as_slice() == want.as_bytes())
+}
+
+/// The fields of a module, each taken out or made wrong.
+#[test]
+fn refuses_modules(rt: HostRuntime) -> Result<(), Fail> {
+    let alloc = rt.alloc();
+    for (old, new, line) in [
+        ("\"unwinder\":0", "\"unwinder\":\"0\"", "bad field unwinder"),
+        ("\"unwinder\":0", "\"unwinder\":1", "no such unwinder"),
+        ("\"name\":\"a\"", "\"other\":\"a\"", "bad field name"),
+        ("\"start\":\"1000\"", "\"start\":1000", "bad field start"),
+        ("\"start\":\"1000\"", "\"start\":\"\"", "bad field start"),
+        (
+            "\"start\":\"1000\"",
+            "\"start\":\"0x10\"",
+            "bad field start",
+        ),
+        ("\"start\":\"1000\"", "\"start\":\"+1\"", "bad field start"),
+        (
+            "\"end\":\"2000\"",
+            "\"end\":\"00000000000002000\"",
+            "bad field end",
+        ),
+        ("\"base\":\"1000\"", "\"base\":null", "bad field base"),
+        (
+            "\"base_svma\":\"0\"",
+            "\"base_svma\":\"g\"",
+            "bad field base_svma",
+        ),
+        ("\"sections\":[]", "\"sections\":null", "bad field sections"),
+        ("\"sections\":[]", "\"sections\":[1]", "bad field name"),
+        (
+            "\"sections\":[]",
+            "\"sections\":[{\"name\":\"x\",\"svma\":[\"0\"]}]",
+            "bad field svma",
+        ),
+        (
+            "\"sections\":[]",
+            "\"sections\":[{\"name\":\"x\",\"svma\":[\"0\",1]}]",
+            "bad field svma",
+        ),
+        (
+            "\"sections\":[]",
+            "\"sections\":[{\"name\":\"x\",\"data\":\"123\"}]",
+            "bad field data",
+        ),
+        (
+            "\"sections\":[]",
+            "\"sections\":[{\"name\":\"x\",\"data\":\"xy\"}]",
+            "bad field data",
+        ),
+        (
+            "\"sections\":[]",
+            "\"sections\":[{\"name\":\"x\"},{\"name\":\"x\",\"data\":1}]",
+            "bad field name",
+        ),
+        ("\"segments\":[]", "\"segments\":{}", "bad field segments"),
+    ] {
+        let input = MODULE.replace(alloc, old, new)?;
+        assert!(rt;
+            is_refused(alloc, input.as_str(), line)?,
+            "{line} in {input}"
+        );
+    }
+    Ok(())
+}
+
+const MODULE: &str = r#"{"arch":"aarch64","policy":"must","caches":0,"commands":[{"do":"new"},
+{"do":"add","unwinder":0,"name":"a","start":"1000","end":"2000","base":"1000","base_svma":"0","sections":[],"segments":[]}]}"#;
+
+/// Sections and segments with ranges and data, digits of both cases, sixteen digits, unknown keys,
+/// and a key that stands twice, of which the last counts.
+#[test]
+fn reads_modules(rt: HostRuntime) -> Result<(), Fail> {
+    let alloc = rt.alloc();
+    for (old, new) in [
+        ("\"sections\":[]", "\"sections\":[]"),
+        (
+            "\"sections\":[]",
+            "\"sections\":[{\"name\":\"__text\",\"svma\":[\"1aF0\",\"0\"],\"data\":\"aBcD\"},{\"name\":\"\",\"x\":null}]",
+        ),
+        (
+            "\"segments\":[]",
+            "\"segments\":[{\"name\":\"__TEXT\",\"data\":\"\"}],\"unknown\":[true,-1]",
+        ),
+        ("\"end\":\"2000\"", "\"end\":\"0000000000002000\""),
+        ("\"end\":\"2000\"", "\"end\":\"ffffffffffffffff\""),
+        ("\"end\":\"2000\"", "\"end\":7,\"end\":\"2000\""),
+    ] {
+        let input = MODULE.replace(alloc, old, new)?;
+        let run = run(alloc, input.as_str());
+        assert_eq!(rt; run.out.as_slice(), "new 0\nadd\n".as_bytes(), "{new}");
+        assert_eq!(rt; run.status, 0);
+        assert!(rt; run.err.is_empty());
+    }
+    Ok(())
+}
+
+/// The fields of a walk, each made wrong.
+#[test]
+fn refuses_walks(rt: HostRuntime) -> Result<(), Fail> {
+    let alloc = rt.alloc();
+    for (old, new, line) in [
+        (
+            "\"unwinder\":0,\"cache\"",
+            "\"cache\"",
+            "bad field unwinder",
+        ),
+        ("\"cache\":0,\"pc\"", "\"pc\"", "bad field cache"),
+        ("\"pc\":\"1005252c0\"", "\"pc\":0", "bad field pc"),
+        (
+            "\"regs\":{\"lr\":\"1004e0830\",\"sp\":\"10\",\"fp\":\"20\"}",
+            "\"regs\":[]",
+            "bad field regs",
+        ),
+        ("\"lr\":\"1004e0830\",", "", "bad field lr"),
+        ("\"sp\":\"10\"", "\"sp\":\"\"", "bad field sp"),
+        ("\"fp\":\"20\"", "\"mask\":\"1\"", "bad field fp"),
+        (
+            "\"fp\":\"20\"",
+            "\"fp\":\"20\",\"mask\":null",
+            "bad field mask",
+        ),
+        ("\"memory\"", "\"words\"", "bad field memory"),
+        ("\"base\":\"0\"", "\"base\":0", "bad field base"),
+        ("\"words\"", "\"word\"", "bad field words"),
+        ("\"words\":[\"1\"", "\"words\":[1", "bad field words"),
+        ("\"limit\":LIMIT", "\"limit\":4294967296", "bad field limit"),
+        ("\"limit\":LIMIT", "\"limit\":\"1\"", "bad field limit"),
+        (
+            "\"unwinder\":0,\"cache\":0,\"pc\"",
+            "\"unwinder\":1,\"cache\":1,\"pc\"",
+            "no such unwinder",
+        ),
+        ("\"cache\":0,\"pc\"", "\"cache\":1,\"pc\"", "no such cache"),
+    ] {
+        let changed = FRAME_POINTER_WALK.replace(alloc, old, new)?;
+        let input = changed.as_str().replace(alloc, "LIMIT", "10")?;
+        assert!(rt;
+            is_refused(alloc, input.as_str(), line)?,
+            "{line} in {input}"
+        );
+    }
+    Ok(())
+}
+
+/// A mask strips the link register, and a walk that can't read its stack stops.
+#[test]
+fn strips_and_stops(rt: HostRuntime) -> Result<(), Fail> {
+    let input = r#"{"arch":"aarch64","policy":"may","caches":1,"commands":[{"do":"new"},
+{"do":"walk","unwinder":0,"cache":0,"pc":"1000","regs":{"lr":"ab00000000001000","sp":"10","fp":"20","mask":"ffffffffff"},
+"memory":{"base":"0","words":[]},"limit":4294967295}]}"#;
+    let run = run(rt.alloc(), input);
+    let want =
+        "new 0\nip 1000\nstopped: Could not read stack memory at 0x28\nregs lr=1000 sp=10 fp=20\n";
+    assert_eq!(rt; run.out.as_slice(), want.as_bytes());
+    assert_eq!(rt; run.status, 0);
+    Ok(())
+}
+
+/// A reader that gives seven bytes a read, and fails behind so many reads.
+#[derive(Drop)]
+struct FailingReader<'i> {
+    rest: &'i [u8],
+    reads_left: usize,
+}
+
+impl Read for FailingReader<'_> {
+    fn read(&mut self, buf: &mut [u8]) -> io::Result<usize> {
+        if self.reads_left == 0 {
+            return Err(io::Error::from(io::ErrorKind::Other));
+        }
+        self.reads_left -= 1;
+        let end = buf.len().min(7);
+        self.rest.read(&mut buf[..end])
+    }
+}
+
+#[test]
+fn stops_at_a_failed_read(rt: HostRuntime) -> Result<(), Fail> {
+    let input = r#"{"arch":"aarch64","policy":"may","caches":0,"commands":[]}"#;
+    let reads = input.len().div_ceil(7) + 1;
+    for reads_left in 0..reads + 1 {
+        let mut reader = FailingReader {
+            rest: input.as_bytes(),
+            reads_left,
+        };
+        let mut out = Output::new(Vec::new(rt.alloc()));
+        let mut err = Vec::new(rt.alloc());
+        let status = walk_program(rt.alloc(), &mut reader, &mut out, &mut err);
+        assert!(rt; out.writer.is_empty());
+        if reads_left < reads {
+            let want = "framehop-walk: cannot read input\n";
+            assert_eq!(rt; err.as_slice(), want.as_bytes());
+            assert_eq!(rt; status, 1);
+        } else {
+            assert!(rt; err.is_empty());
+            assert_eq!(rt; status, 0);
+        }
+    }
+    Ok(())
+}
+
+/// A writer that refuses every write.
+#[derive(Drop)]
+struct FailingWriter;
+
+impl Write for FailingWriter {
+    fn write(&mut self, _buf: &[u8]) -> io::Result<usize> {
+        Err(io::Error::from(io::ErrorKind::Other))
+    }
+
+    fn flush(&mut self) -> io::Result<()> {
+        Ok(())
+    }
+}
+
+#[test]
+fn stops_at_a_failed_write(rt: HostRuntime) -> Result<(), Fail> {
+    let mut reader = MODULE.as_bytes();
+    let mut out = Output::new(FailingWriter);
+    let mut err = Vec::new(rt.alloc());
+    assert_eq!(rt;
+        walk_program(rt.alloc(), &mut reader, &mut out, &mut err),
+        1
+    );
+    assert!(rt; out.has_failed);
+    assert!(rt; err.is_empty());
+    Ok(())
+}
+
+#[test]
+fn prints_refusals(rt: HostRuntime) -> Result<(), Fail> {
+    for (refusal, status, line) in [
+        (
+            Refusal::Usage,
+            1,
+            "framehop-walk: usage: framehop-walk [FILE]\n",
+        ),
+        (Refusal::OutOfMemory, 2, "framehop-walk: out of memory\n"),
+        (
+            Refusal::GenerationsExhausted,
+            2,
+            "framehop-walk: generations exhausted\n",
+        ),
+    ] {
+        let mut err = Vec::new(rt.alloc());
+        assert_eq!(rt; refuse(&mut err, refusal), status);
+        assert_eq!(rt; err.as_slice(), line.as_bytes());
+    }
+    Ok(())
+}
+
+#[test]
+fn decodes_section_bytes(rt: HostRuntime) -> Result<(), Fail> {
+    let alloc = rt.alloc();
+    assert_eq!(rt;
+        section_bytes(alloc, "00fFa5")?.as_slice(),
+        [0, 255, 0xa5].as_slice()
+    );
+    assert!(rt; section_bytes(alloc, "")?.is_empty());
+    match section_bytes(alloc, "123") {
+        Err(error) => assert_eq!(rt; error, FromHexError::OddLength),
+        Ok(_) => assert!(rt; false, "an odd number of digits"),
+    }
+    match section_bytes(alloc, "0g") {
+        Err(error) => assert_eq!(rt;
+            error,
+            FromHexError::InvalidHexCharacter { c: 'g', index: 1 }
+        ),
+        Ok(_) => assert!(rt; false, "no digit"),
+    }
+    Ok(())
+}

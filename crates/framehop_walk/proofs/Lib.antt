@@ -1,0 +1,2 @@
+pub mod NamedSections
+pub mod Readings

@@ -1,0 +1,13 @@
+-- What is read of the bytes that a reader told.
+use Rattle.std.proofs.Common.{◌≡◌, ℕ, List, Option, Some, None, Result, Ok, Err, IfOk, OnOk, IfSome, subst}
+use Rattle.serde_json.specs.Read.{read}
+use Rattle.serde_json.specs.View.{view}
+use Rattle.serde_json.specs.declared.value.Value.{Value}
+use Rattle.framehop_walk.specs.Reading.{HasReading}
+
+-- where the bytes are those that the reader told, their reading is one of what it told
+pub reading_of-told : {E : Type 0} (told : Option (List ℕ)) (bytes : List ℕ) (result : Result Value E)
+    → IfSome told (λ text. bytes ≡ text) → IfOk result (λ value. read bytes ≡ Some (view value)) → OnOk result (IfSome told HasReading)
+reading_of-told None bytes (Ok value) same is_read = tt
+reading_of-told (Some text) bytes (Ok value) same is_read = subst HasReading same (view value, is_read)
+reading_of-told told bytes (Err e) same is_read = tt

@@ -1,0 +1,104 @@
+// Reads the fields of JSON objects. A field that is missing or of another kind is refused by its
+// name.
+
+use crate::refusal::Refusal;
+use serde_json::{Map, Value};
+
+pub fn field<'v>(object: &'v Value, name: &'static str) -> Result<&'v Value, Refusal> {
+    object.get(name).ok_or(Refusal::BadField(name))
+}
+
+pub fn text<'v>(object: &'v Value, name: &'static str) -> Result<&'v str, Refusal> {
+    field(object, name)?.as_str().ok_or(Refusal::BadField(name))
+}
+
+pub fn list<'v>(object: &'v Value, name: &'static str) -> Result<&'v Vec<Value>, Refusal> {
+    field(object, name)?
+        .as_array()
+        .ok_or(Refusal::BadField(name))
+}
+
+/// A field that is an object.
+pub fn group<'v>(object: &'v Value, name: &'static str) -> Result<&'v Value, Refusal> {
+    let inner = field(object, name)?;
+    if !inner.is_object() {
+        return Err(Refusal::BadField(name));
+    }
+    Ok(inner)
+}
+
+/// A whole number below 2^64.
+pub fn count(object: &Value, name: &'static str) -> Result<u64, Refusal> {
+    field(object, name)?.as_u64().ok_or(Refusal::BadField(name))
+}
+
+/// The number of an unwinder or a cache.
+pub fn number(object: &Value, name: &'static str) -> Result<usize, Refusal> {
+    Ok(count(object, name)? as usize)
+}
+
+/// An address, a register or a word: a text of hexadecimal digits.
+pub fn hexadecimal(object: &Value, name: &'static str) -> Result<u64, Refusal> {
+    hexadecimal_value(field(object, name)?).ok_or(Refusal::BadField(name))
+}
+
+/// An address that may be left out.
+pub fn optional_hexadecimal(object: &Value, name: &'static str) -> Result<Option<u64>, Refusal> {
+    match object.get(name) {
+        None => Ok(None),
+        Some(value) => match hexadecimal_value(value) {
+            Some(number) => Ok(Some(number)),
+            None => Err(Refusal::BadField(name)),
+        },
+    }
+}
+
+pub fn hexadecimal_value(value: &Value) -> Option<u64> {
+    parse_hexadecimal(value.as_str()?)
+}
+
+/// The number of 1 to 16 hexadecimal digits, of either case.
+fn parse_hexadecimal(digits: &str) -> Option<u64> {
+    if digits.is_empty() || digits.len() > 16 {
+        return None;
+    }
+    let mut number = 0u64;
+    for byte in digits.as_bytes() {
+        let digit = char::from(*byte).to_digit(16)?;
+        number = (number << 4) | u64::from(digit);
+    }
+    Some(number)
+}
+
+/// Whether a number stands in the value, at any depth, that is not whole or does not fit 64 bits.
+#[cycle(has_bad_number)]
+pub fn has_bad_number(value: &Value) -> bool {
+    match value {
+        Value::Null => false,
+        Value::Bool(_) => false,
+        Value::Number(number) => number.as_u64().is_none() && number.as_i64().is_none(),
+        Value::String(_) => false,
+        Value::Array(items) => any_bad_number(items),
+        Value::Object(members) => any_bad_member(members),
+    }
+}
+
+#[cycle(has_bad_number)]
+fn any_bad_number(items: &Vec<Value>) -> bool {
+    for item in items {
+        if has_bad_number(item) {
+            return true;
+        }
+    }
+    false
+}
+
+#[cycle(has_bad_number)]
+fn any_bad_member(members: &Map<String, Value>) -> bool {
+    for (_name, member) in members.iter() {
+        if has_bad_number(member) {
+            return true;
+        }
+    }
+    false
+}

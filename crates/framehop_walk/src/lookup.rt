@@ -1,0 +1,52 @@
+// Looks for a section by its name.
+ghost use Rattle.std.specs.Prelude.{◌≡◌, slice_get, option_map};
+ghost use Rattle.std.specs.List.{position, find};
+ghost use Rattle.std.specs.Option.{option_copied};
+ghost use Rattle.framehop_cfi.specs.SectionTable.{range_of, data_of, entry_of, without_data};
+ghost use Rattle.framehop_walk.specs.Sections.{entries_view, entry_view, is_named};
+
+use crate::sections::Section;
+use std::ops::Range;
+
+// the place of the first section of that name
+fn place_of(name: &[u8], sections: &[Section]) -> Option<usize>
+    ensures { result ≡ position (is_named name.now) sections.now }
+{
+    sections
+        .iter()
+        .position(|section| section.name.as_bytes() == name)
+}
+
+// the first section of that name
+fn section_of<'s>(name: &[u8], sections: &'s [Section]) -> Option<&'s Section>
+    ensures { option_copied result ≡ find (is_named name.now) sections.entry.now }
+{
+    sections
+        .iter()
+        .find(|section| section.name.as_bytes() == name)
+}
+
+/// Where the section of that name lies, as SVMAs.
+pub fn range_under(name: &[u8], sections: &[Section]) -> Option<Range<u64>>
+    ensures { result ≡ range_of name.now (entries_view sections.now) }
+{
+    match section_of(name, sections) {
+        Some(section) => match &section.svma {
+            Some(range) => Some(range.start..range.end),
+            None => None,
+        },
+        None => None,
+    }
+}
+
+/// Takes out the bytes of the section of that name.
+pub fn take_bytes(name: &[u8], sections: &mut Vec<Section>) -> Option<Vec<u8>>
+    ensures answer { result ≡ data_of name.now (entries_view sections.old.items) }
+    ensures taken { entries_view sections.new.items
+        ≡ without_data name.now (entries_view sections.old.items) }
+{
+    match place_of(name, sections.as_slice()) {
+        Some(index) => sections[index].bytes.take(),
+        None => None,
+    }
+}
