@@ -26,8 +26,8 @@ pub fn print_reply<A: Registers>(
     }
 }
 
-fn print_step(result: Result<Option<u64>, Error>, out: &mut String) -> Result<(), AllocError> {
-    match result {
+fn print_step(answer: Result<Option<u64>, Error>, out: &mut String) -> Result<(), AllocError> {
+    match answer {
         Ok(Some(address)) => writeln!(out, "step {address:x}"),
         Ok(None) => writeln!(out, "step end"),
         Err(error) => writeln!(out, "step stopped: {error}"),
