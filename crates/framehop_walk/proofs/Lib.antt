@@ -1,2 +1,4 @@
+pub mod Hexadecimal
+pub mod Lines
 pub mod NamedSections
 pub mod Readings

@@ -1,5 +1,7 @@
 // Reads the fields of JSON objects. A field that is missing or of another kind is refused by its
 // name.
+ghost use Rattle.std.specs.Prelude.{◌≡◌, ◌≤◌, length, SomeIff};
+ghost use Rattle.std.specs.Str.Parse.{IsNumeral, digits_value};
 
 use crate::refusal::Refusal;
 use serde_json::{Map, Value};
@@ -58,16 +60,14 @@ pub fn hexadecimal_value(value: &Value) -> Option<u64> {
 }
 
 /// The number of 1 to 16 hexadecimal digits, of either case.
-fn parse_hexadecimal(digits: &str) -> Option<u64> {
-    if digits.is_empty() || digits.len() > 16 {
+fn parse_hexadecimal(digits: &str) -> Option<u64>
+    ensures { SomeIff result (IsNumeral 16 digits.now × (length digits.now ≤ 16)) (digits_value 16 digits.now) }
+{
+    let bytes = digits.as_bytes();
+    if bytes.is_empty() || bytes.len() > 16 || bytes[0] == b'+' {
         return None;
     }
-    let mut number = 0u64;
-    for byte in digits.as_bytes() {
-        let digit = char::from(*byte).to_digit(16)?;
-        number = (number << 4) | u64::from(digit);
-    }
-    Some(number)
+    u64::from_str_radix(digits, 16).ok()
 }
 
 /// Whether a number stands in the value, at any depth, that is not whole or does not fit 64 bits.

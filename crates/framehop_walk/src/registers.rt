@@ -1,3 +1,6 @@
+ghost use Rattle.std.specs.Prelude.{◌≡◌, ◌++◌, ℕ, List, OnOk, string_bytes};
+ghost use Rattle.framehop_walk.specs.Text.{aarch64_text, register_text, named_registers_text, numbered_registers_text, x86_64_text};
+
 use crate::fields::{hexadecimal, optional_hexadecimal};
 use crate::refusal::Refusal;
 use framehop::aarch64::{ArchAarch64, PtrAuthMask, UnwindRegsAarch64};
@@ -8,14 +11,20 @@ use std::alloc::AllocError;
 
 /// An architecture whose registers are read from JSON and printed.
 pub trait Registers: Arch {
+    // what is printed of the registers
+    ghost text: { Self.UnwindRegs → List ℕ };
+
     /// Reads the field `regs` of a command.
     fn read(regs: &Value) -> Result<Self::UnwindRegs, Refusal>;
 
     /// Prints the registers, each behind a blank, in hexadecimal.
-    fn print(regs: &Self::UnwindRegs, out: &mut String) -> Result<(), AllocError>;
+    fn print(regs: &Self::UnwindRegs, out: &mut String) -> Result<(), AllocError>
+        ensures { OnOk result (string_bytes out.new ≡ string_bytes out.old ++ text regs.now) };
 }
 
 impl Registers for ArchAarch64 {
+    ghost text = { aarch64_text };
+
     fn read(regs: &Value) -> Result<UnwindRegsAarch64, Refusal> {
         let lr = hexadecimal(regs, "lr")?;
         let sp = hexadecimal(regs, "sp")?;
@@ -33,7 +42,10 @@ impl Registers for ArchAarch64 {
     }
 }
 
+#[tactic(auto, unfolding(crate::specs::Text::x86_64_text))]
 impl Registers for ArchX86_64 {
+    ghost text = { x86_64_text };
+
     fn read(regs: &Value) -> Result<UnwindRegsX86_64, Refusal> {
         let ip = hexadecimal(regs, "ip")?;
         let sp = hexadecimal(regs, "sp")?;
@@ -63,27 +75,41 @@ impl Registers for ArchX86_64 {
     }
 
     fn print(regs: &UnwindRegsX86_64, out: &mut String) -> Result<(), AllocError> {
-        write!(out, " ip={:x}", regs.ip())?;
-        for (name, reg) in [
-            ("rax", Reg::RAX),
-            ("rdx", Reg::RDX),
-            ("rcx", Reg::RCX),
-            ("rbx", Reg::RBX),
-            ("rsi", Reg::RSI),
-            ("rdi", Reg::RDI),
-            ("rbp", Reg::RBP),
-            ("rsp", Reg::RSP),
-            ("r8", Reg::R8),
-            ("r9", Reg::R9),
-            ("r10", Reg::R10),
-            ("r11", Reg::R11),
-            ("r12", Reg::R12),
-            ("r13", Reg::R13),
-            ("r14", Reg::R14),
-            ("r15", Reg::R15),
-        ] {
-            write!(out, " {name}={:x}", regs.get(reg))?;
-        }
-        Ok(())
+        print_named_registers(regs, out)?;
+        print_numbered_registers(regs, out)
     }
+}
+
+fn print_named_registers(regs: &UnwindRegsX86_64, out: &mut String) -> Result<(), AllocError>
+    ensures { OnOk result (string_bytes out.new ≡ string_bytes out.old ++ named_registers_text regs.now) }
+{
+    print_register("ip", regs.ip(), out)?;
+    print_register("rax", regs.get(Reg::RAX), out)?;
+    print_register("rdx", regs.get(Reg::RDX), out)?;
+    print_register("rcx", regs.get(Reg::RCX), out)?;
+    print_register("rbx", regs.get(Reg::RBX), out)?;
+    print_register("rsi", regs.get(Reg::RSI), out)?;
+    print_register("rdi", regs.get(Reg::RDI), out)?;
+    print_register("rbp", regs.bp(), out)?;
+    print_register("rsp", regs.sp(), out)
+}
+
+fn print_numbered_registers(regs: &UnwindRegsX86_64, out: &mut String) -> Result<(), AllocError>
+    ensures { OnOk result (string_bytes out.new ≡ string_bytes out.old ++ numbered_registers_text regs.now) }
+{
+    print_register("r8", regs.get(Reg::R8), out)?;
+    print_register("r9", regs.get(Reg::R9), out)?;
+    print_register("r10", regs.get(Reg::R10), out)?;
+    print_register("r11", regs.get(Reg::R11), out)?;
+    print_register("r12", regs.get(Reg::R12), out)?;
+    print_register("r13", regs.get(Reg::R13), out)?;
+    print_register("r14", regs.get(Reg::R14), out)?;
+    print_register("r15", regs.get(Reg::R15), out)
+}
+
+#[tactic(auto, unfolding(crate::specs::Text::register_text))]
+fn print_register(name: &str, value: u64, out: &mut String) -> Result<(), AllocError>
+    ensures { OnOk result (string_bytes out.new ≡ string_bytes out.old ++ register_text name.now value) }
+{
+    write!(out, " {name}={value:x}")
 }

@@ -1,3 +1,8 @@
+ghost use Rattle.std.specs.Prelude.{◌≡◌, ◌++◌, OnOk, string_bytes, map};
+ghost use Rattle.framehop.specs.CodeAddress.{place_of};
+ghost use Rattle.framehop.specs.SessionView.{end_of, reply_view};
+ghost use Rattle.framehop_walk.specs.Text.{frame_line, frame_lines, end_line, step_line, count_text, stats_line, registers_line, reply_lines};
+
 use crate::registers::Registers;
 use framehop::session::{Reply, WalkEnd};
 use framehop::{CacheStats, Error, FrameAddress};
@@ -9,7 +14,10 @@ pub fn print_reply<A: Registers>(
     verb: &str,
     reply: &Reply<A::UnwindRegs>,
     out: &mut String,
-) -> Result<(), AllocError> {
+) -> Result<(), AllocError>
+    ensures { OnOk result (string_bytes out.new
+        ≡ string_bytes out.old ++ reply_lines A.text verb.now (reply_view reply.now)) }
+{
     match reply {
         Reply::Made(unwinder) => writeln!(out, "{verb} {unwinder}"),
         Reply::Done => writeln!(out, "{verb}"),
@@ -26,7 +34,9 @@ pub fn print_reply<A: Registers>(
     }
 }
 
-fn print_step(answer: Result<Option<u64>, Error>, out: &mut String) -> Result<(), AllocError> {
+fn print_step(answer: Result<Option<u64>, Error>, out: &mut String) -> Result<(), AllocError>
+    ensures { OnOk result (string_bytes out.new ≡ string_bytes out.old ++ step_line answer) }
+{
     match answer {
         Ok(Some(address)) => writeln!(out, "step {address:x}"),
         Ok(None) => writeln!(out, "step end"),
@@ -34,19 +44,32 @@ fn print_step(answer: Result<Option<u64>, Error>, out: &mut String) -> Result<()
     }
 }
 
-fn print_frames(frames: &Vec<FrameAddress>, out: &mut String) -> Result<(), AllocError> {
+fn print_frames(frames: &Vec<FrameAddress>, out: &mut String) -> Result<(), AllocError>
+    ensures { OnOk result (string_bytes out.new
+        ≡ string_bytes out.old ++ frame_lines (map place_of frames.now.items)) }
+{
     for frame in frames {
-        let address = frame.address();
-        if frame.is_return_address() {
-            writeln!(out, "ra {address:x}")?;
-        } else {
-            writeln!(out, "ip {address:x}")?;
-        }
+        print_frame(*frame, out)?;
     }
     Ok(())
 }
 
-fn print_end(end: WalkEnd, out: &mut String) -> Result<(), AllocError> {
+fn print_frame(frame: FrameAddress, out: &mut String) -> Result<(), AllocError>
+    ensures { OnOk result (string_bytes out.new
+        ≡ string_bytes out.old ++ frame_line (place_of frame)) }
+{
+    match frame {
+        FrameAddress::InstructionPointer(address) => writeln!(out, "ip {address:x}"),
+        FrameAddress::ReturnAddress(address) => {
+            let address = address.get();
+            writeln!(out, "ra {address:x}")
+        }
+    }
+}
+
+fn print_end(end: WalkEnd, out: &mut String) -> Result<(), AllocError>
+    ensures { OnOk result (string_bytes out.new ≡ string_bytes out.old ++ end_line (end_of end)) }
+{
     match end {
         WalkEnd::Root => writeln!(out, "end"),
         WalkEnd::Refused(error) => writeln!(out, "stopped: {error}"),
@@ -54,21 +77,30 @@ fn print_end(end: WalkEnd, out: &mut String) -> Result<(), AllocError> {
     }
 }
 
-fn print_registers<A: Registers>(regs: &A::UnwindRegs, out: &mut String) -> Result<(), AllocError> {
+fn print_registers<A: Registers>(regs: &A::UnwindRegs, out: &mut String) -> Result<(), AllocError>
+    ensures { OnOk result (string_bytes out.new
+        ≡ string_bytes out.old ++ registers_line (A.text regs.now)) }
+{
     write!(out, "regs")?;
     A::print(regs, out)?;
     writeln!(out, "")
 }
 
-fn print_stats(stats: &CacheStats, out: &mut String) -> Result<(), AllocError> {
-    let CacheStats {
-        hit_count,
-        miss_empty_slot_count,
-        miss_wrong_modules_count,
-        miss_wrong_address_count,
-    } = *stats;
-    writeln!(
-        out,
-        "stats hits={hit_count} empty={miss_empty_slot_count} modules={miss_wrong_modules_count} address={miss_wrong_address_count}"
-    )
+fn print_stats(stats: &CacheStats, out: &mut String) -> Result<(), AllocError>
+    ensures { OnOk result (string_bytes out.new ≡ string_bytes out.old ++ stats_line stats.now) }
+{
+    write!(out, "stats")?;
+    print_count("hits", stats.hit_count, out)?;
+    print_count("empty", stats.miss_empty_slot_count, out)?;
+    print_count("modules", stats.miss_wrong_modules_count, out)?;
+    print_count("address", stats.miss_wrong_address_count, out)?;
+    writeln!(out, "")
+}
+
+#[tactic(auto, unfolding(crate::specs::Text::count_text))]
+fn print_count(name: &str, count: u64, out: &mut String) -> Result<(), AllocError>
+    ensures { OnOk result (string_bytes out.new
+        ≡ string_bytes out.old ++ count_text name.now count) }
+{
+    write!(out, " {name}={count}")
 }
