@@ -1,1 +1,3 @@
+pub mod Bytes
+pub mod Leb128
 pub mod SectionTable

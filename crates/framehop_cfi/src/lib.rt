@@ -1,4 +1,7 @@
 //! Readers of the DWARF call frame sections, and the traits by which a module lends its sections.
 #![tactic(auto)]
 
+pub mod bytes;
+pub mod leb128;
+pub mod read_error;
 pub mod section;
