@@ -3,5 +3,6 @@
 
 pub mod bytes;
 pub mod leb128;
+pub mod pointer;
 pub mod read_error;
 pub mod section;
