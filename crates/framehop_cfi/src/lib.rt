@@ -2,7 +2,9 @@
 #![tactic(auto)]
 
 pub mod bytes;
+pub mod entry;
 pub mod leb128;
 pub mod pointer;
 pub mod read_error;
 pub mod section;
+pub mod span;

@@ -1,0 +1,196 @@
+-- The two kinds of entries of a call frame section (DWARF 5 section 6.4.1; LSB, ".eh_frame").
+use Rattle.std.specs.Prelude.{ℕ, ◌+◌, ◌-◌, ◌≤◌, List, [], ◌∷◌, length, take, drop, slice_range, position, Bool, true, false, Option, Some, None, Result, Ok, Err, ◌==◌, ◌||◌, nat_le, if◌then◌else◌}
+use Rattle.framehop_cfi.specs.Bytes.{Reading, ◌>>=◌, u8_at, u32_at, u64_at}
+use Rattle.framehop_cfi.specs.Leb128.{uleb_at, sleb_at}
+use Rattle.framehop_cfi.specs.Raw.{raw_at, format_of}
+use Rattle.framehop_cfi.specs.Pointer.{pointer_at}
+use Rattle.framehop_cfi.specs.Span.{span_at, is_zero_length}
+use Rattle.framehop_cfi.specs.declared.span.Span.{Span}
+use Rattle.framehop_cfi.specs.declared.pointer.SectionBaseAddresses.{SectionBaseAddresses}
+use Rattle.framehop_cfi.specs.declared.entry.UnwindSectionType.{UnwindSectionType}
+use Rattle.framehop_cfi.specs.declared.entry.UnwindSectionType.TheVariants.{EhFrame, DebugFrame}
+use Rattle.framehop_cfi.specs.declared.entry.EntryHead.{EntryHead}
+use Rattle.framehop_cfi.specs.declared.entry.EntryHead.TheVariants.{ZeroLength, Cie, Fde}
+use Rattle.framehop_cfi.specs.declared.entry.CommonInformationEntry.{CommonInformationEntry}
+use Rattle.framehop_cfi.specs.declared.entry.FrameDescriptionEntry.{FrameDescriptionEntry}
+use Rattle.framehop_cfi.specs.declared.read_error.ReadError.{ReadError}
+use Rattle.framehop_cfi.specs.declared.read_error.ReadError.TheVariants.{Eof, BadEncoding, NotCie, NotFde, UnknownVersion, UnknownAugmentation, NumberTooBig}
+
+-- In `.eh_frame` a CIE's id is 0 in 4 bytes, and an FDE's CIE lies so many bytes before the field.
+unfoldable pub eh_frame_id : List ℕ → Span → Result EntryHead ReadError
+eh_frame_id bytes span = do
+  id ← u32_at bytes span.contents
+  if id.0 == 0 then Ok (Cie id.1 span.end)
+    else (if nat_le id.0 span.contents then Ok (Fde (span.contents - id.0) id.1 span.end) else Err NumberTooBig)
+
+-- In `.debug_frame` a CIE's id is all ones, and an FDE's CIE lies at the offset in the field, of 4 or 8 bytes.
+unfoldable pub short_id : List ℕ → Span → Result EntryHead ReadError
+short_id bytes span = do
+  id ← u32_at bytes span.contents
+  if id.0 == 0xFFFFFFFF then Ok (Cie id.1 span.end) else Ok (Fde id.0 id.1 span.end)
+
+unfoldable pub long_id : List ℕ → Span → Result EntryHead ReadError
+long_id bytes span = do
+  id ← u64_at bytes span.contents
+  if id.0 == 0xFFFFFFFFFFFFFFFF then Ok (Cie id.1 span.end) else Ok (Fde id.0 id.1 span.end)
+
+abbrev pub debug_frame_id : List ℕ → Span → Result EntryHead ReadError
+debug_frame_id bytes span = if span.offset_size == 4 then short_id bytes span else long_id bytes span
+
+-- an entry's id, by its section
+abbrev pub id_at : UnwindSectionType → List ℕ → Span → Result EntryHead ReadError
+id_at EhFrame bytes span = eh_frame_id bytes span
+id_at DebugFrame bytes span = debug_frame_id bytes span
+
+-- what stands at an offset: a zero length, or which kind of entry, and where its fields begin and end
+unfoldable pub head_at : UnwindSectionType → List ℕ → ℕ → Result EntryHead ReadError
+head_at kind bytes at = do
+  span ← span_at bytes at
+  if is_zero_length span then Ok ZeroLength else id_at kind (take span.end bytes) span
+
+-- where the zero byte stands that ends a text
+abbrev pub found_at : ℕ → Option ℕ → Result ℕ ReadError
+found_at at (Some n) = Ok (at + n)
+found_at at None = Err Eof
+
+unfoldable pub terminator_at : List ℕ → ℕ → Result ℕ ReadError
+terminator_at bytes at = found_at at (position (λ byte. byte == 0) (drop at bytes))
+
+-- the place behind so many bytes of data, whose count stands in front of them
+unfoldable pub counted_at : List ℕ → ℕ → Reading ℕ
+counted_at bytes at = do
+  count ← uleb_at bytes at
+  if nat_le (count.1 + count.0) (length bytes) then Ok (count.1, count.1 + count.0) else Err Eof
+
+-- a value that is read past, with another one in its place
+abbrev pub behind : {A : Type 0} → ℕ → Reading A → Reading ℕ
+behind value reading = reading >>= λ read. Ok (value, read.1)
+
+-- a personality routine's encoding and pointer; encoding FF has no pointer
+unfoldable pub personality_at : SectionBaseAddresses → List ℕ → ℕ → Reading ℕ
+personality_at bases bytes at = do
+  encoding ← u8_at bytes at
+  if encoding.0 == 255 then Ok (0, encoding.1) else pointer_at bases encoding.0 bytes encoding.1
+
+-- one letter of an augmentation text: the pointer encoding of the FDEs after it, and the place behind its data
+abbrev pub letter_at : SectionBaseAddresses → ℕ → List ℕ → ℕ → ℕ → Reading ℕ
+letter_at bases letter bytes at encoding =
+    if letter == 82 then u8_at bytes at
+    else (if letter == 76 then behind encoding (u8_at bytes at)
+    else (if letter == 80 then behind encoding (personality_at bases bytes at)
+    else (if (letter == 83) || (letter == 66) || (letter == 71) then Ok (encoding, at)
+    else Err UnknownAugmentation)))
+
+-- the letters one after another: the pointer encoding that they leave
+abbrev pub letters_at : SectionBaseAddresses → List ℕ → List ℕ → ℕ → ℕ → Result ℕ ReadError
+letters_at bases [] bytes at encoding = Ok encoding
+letters_at bases (letter ∷ letters) bytes at encoding =
+    letter_at bases letter bytes at encoding >>= λ read. letters_at bases letters bytes read.1 read.0
+
+-- what an augmentation tells: the FDEs' pointer encoding, whether the entries have augmentation data, and the place behind it
+pub record Augmentation : Type 0 where
+  pub encoding : ℕ
+  pub has_data : Bool
+  pub behind : ℕ
+
+-- an empty text has no data; another begins with `z`, and its data has a count
+unfoldable pub augmentation_data : SectionBaseAddresses → List ℕ → List ℕ → ℕ → Result Augmentation ReadError
+augmentation_data bases letters bytes at = do
+  place ← counted_at bytes at
+  encoding ← letters_at bases letters (take place.1 bytes) place.0 0
+  Ok (record { encoding = encoding; has_data = true; behind = place.1 })
+
+abbrev pub augmentation_at : SectionBaseAddresses → List ℕ → List ℕ → ℕ → Result Augmentation ReadError
+augmentation_at bases [] bytes at = Ok (record { encoding = 0; has_data = false; behind = at })
+augmentation_at bases (first ∷ letters) bytes at =
+    if first == 122 then augmentation_data bases letters bytes at else Err UnknownAugmentation
+
+-- The size of addresses and of segment selectors, which version 4 has in `.debug_frame`: the place behind.
+unfoldable pub sizes_at : List ℕ → ℕ → Result ℕ ReadError
+sizes_at bytes at = do
+  address ← u8_at bytes at
+  segment ← u8_at bytes address.1
+  if address.0 == 8 then (if segment.0 == 0 then Ok segment.1 else Err BadEncoding) else Err BadEncoding
+
+abbrev pub sizes_of : UnwindSectionType → ℕ → List ℕ → ℕ → Result ℕ ReadError
+sizes_of EhFrame version bytes at = Ok at
+sizes_of DebugFrame version bytes at = if version == 4 then sizes_at bytes at else Ok at
+
+-- the return register, which is not used: a byte in version 1, else a ULEB
+abbrev pub return_register_at : ℕ → List ℕ → ℕ → Reading ℕ
+return_register_at version bytes at = if version == 1 then u8_at bytes at else uleb_at bytes at
+
+-- a CIE's fields behind the augmentation text
+unfoldable pub alignments_at : SectionBaseAddresses → ℕ → List ℕ → List ℕ → ℕ → ℕ → Result CommonInformationEntry ReadError
+alignments_at bases version letters bytes at end = do
+  code ← uleb_at bytes at
+  data' ← sleb_at bytes code.1
+  register ← return_register_at version bytes data'.1
+  augmentation ← augmentation_at bases letters bytes register.1
+  Ok (record {
+    code_alignment_factor = code.0;
+    data_alignment_factor = data'.0;
+    fde_pointer_encoding = augmentation.encoding;
+    has_augmentation_data = augmentation.has_data;
+    instructions = augmentation.behind;
+    end = end
+  })
+
+unfoldable pub versioned_fields : UnwindSectionType → SectionBaseAddresses → ℕ → List ℕ → ℕ → ℕ → Result CommonInformationEntry ReadError
+versioned_fields kind bases version bytes at end = do
+  terminator ← terminator_at bytes at
+  sizes ← sizes_of kind version bytes (terminator + 1)
+  alignments_at bases version (slice_range bytes at terminator) bytes sizes end
+
+-- a CIE's fields behind its id; the bytes end with the entry
+unfoldable pub cie_fields : UnwindSectionType → SectionBaseAddresses → List ℕ → ℕ → ℕ → Result CommonInformationEntry ReadError
+cie_fields kind bases bytes at end = do
+  version ← u8_at bytes at
+  if (version.0 == 1) || (version.0 == 3) || (version.0 == 4) then versioned_fields kind bases version.0 bytes version.1 end
+    else Err UnknownVersion
+
+-- the CIE at an offset
+abbrev pub cie_of_head : UnwindSectionType → SectionBaseAddresses → List ℕ → EntryHead → Result CommonInformationEntry ReadError
+cie_of_head kind bases bytes ZeroLength = Err NotCie
+cie_of_head kind bases bytes (Fde cie at end) = Err NotCie
+cie_of_head kind bases bytes (Cie at end) = cie_fields kind bases (take end bytes) at end
+
+unfoldable pub cie_at : UnwindSectionType → SectionBaseAddresses → List ℕ → ℕ → Result CommonInformationEntry ReadError
+cie_at kind bases bytes at = do
+  head ← head_at kind bytes at
+  cie_of_head kind bases bytes head
+
+-- the place behind an FDE's augmentation data, which it has where its CIE says so
+abbrev pub skipped_at : Bool → List ℕ → ℕ → Result ℕ ReadError
+skipped_at true bytes at = counted_at bytes at >>= λ place. Ok place.1
+skipped_at false bytes at = Ok at
+
+unfoldable pub fde_range : SectionBaseAddresses → CommonInformationEntry → List ℕ → ℕ → ℕ → Result FrameDescriptionEntry ReadError
+fde_range bases cie bytes at end = do
+  start ← pointer_at bases cie.fde_pointer_encoding bytes at
+  len ← raw_at (format_of cie.fde_pointer_encoding) bytes start.1
+  instructions ← skipped_at cie.has_augmentation_data bytes len.1
+  Ok (record { cie = cie; initial_address = start.0; address_range = len.0; instructions = instructions; end = end })
+
+-- an FDE's fields behind its CIE's offset; the bytes end with the entry
+abbrev pub fde_fields : SectionBaseAddresses → CommonInformationEntry → List ℕ → ℕ → ℕ → Result FrameDescriptionEntry ReadError
+fde_fields bases cie bytes at end =
+    if nat_le 128 cie.fde_pointer_encoding then Err BadEncoding else fde_range bases cie bytes at end
+
+-- the FDE at an offset, with the CIE at the offset that it names
+abbrev pub fde_of_head : UnwindSectionType → SectionBaseAddresses → List ℕ → EntryHead → Result FrameDescriptionEntry ReadError
+fde_of_head kind bases bytes ZeroLength = Err NotFde
+fde_of_head kind bases bytes (Cie at end) = Err NotFde
+fde_of_head kind bases bytes (Fde named at end) =
+    cie_at kind bases bytes named >>= λ cie. fde_fields bases cie (take end bytes) at end
+
+unfoldable pub fde_at : UnwindSectionType → SectionBaseAddresses → List ℕ → ℕ → Result FrameDescriptionEntry ReadError
+fde_at kind bases bytes at = do
+  head ← head_at kind bytes at
+  fde_of_head kind bases bytes head
+
+-- the entry ends in the bytes
+abbrev pub EndsWithin : List ℕ → EntryHead → Type 0
+EndsWithin bytes ZeroLength = Unit {0}
+EndsWithin bytes (Cie at end) = end ≤ length bytes
+EndsWithin bytes (Fde named at end) = end ≤ length bytes
