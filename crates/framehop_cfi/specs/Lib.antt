@@ -1,3 +1,4 @@
+pub mod Augmentation
 pub mod Bytes
 pub mod Entry
 pub mod Leb128

@@ -1,11 +1,12 @@
 //! The entries of a call frame section: CIEs and FDEs (DWARF 5 section 6.4.1; LSB, `.eh_frame`).
 ghost use Rattle.std.specs.Prelude.{◌≡◌, ◌≤◌, ◌<◌, IfOk, length, take};
 ghost use Rattle.framehop_cfi.specs.Span.{IsWithin};
-ghost use Rattle.framehop_cfi.specs.Entry.{eh_frame_id, debug_frame_id, id_at, head_at, cie_at, fde_at, cie_fields, fde_fields, terminator_at, counted_at, letter_at, letters_at, augmentation_at, augmentation_data, sizes_at, sizes_of, return_register_at, alignments_at, skipped_at, EndsWithin};
+ghost use Rattle.framehop_cfi.specs.Entry.{eh_frame_id, debug_frame_id, id_at, head_at, cie_at, fde_at, cie_fields, fde_fields, sizes_at, sizes_of, return_register_at, alignments_at, skipped_at, EndsWithin};
 
 use crate::bytes::{read_u8, read_u32, read_u64};
 use crate::leb128::{read_sleb128, read_uleb128};
 use crate::pointer::{DW_EH_PE_INDIRECT, DW_EH_PE_OMIT, SectionBaseAddresses, read_raw_pointer};
+use crate::augmentation::{find_terminator, read_counted};
 use crate::read_error::ReadError;
 use crate::span::{Span, read_span};
 

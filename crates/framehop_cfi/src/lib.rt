@@ -1,6 +1,7 @@
 //! Readers of the DWARF call frame sections, and the traits by which a module lends its sections.
 #![tactic(auto)]
 
+pub mod augmentation;
 pub mod bytes;
 pub mod entry;
 pub mod leb128;
