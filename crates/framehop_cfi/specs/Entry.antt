@@ -60,25 +60,32 @@ abbrev pub sizes_of : UnwindSectionType → ℕ → List ℕ → ℕ → Result 
 sizes_of EhFrame version bytes at = Ok at
 sizes_of DebugFrame version bytes at = if version == 4 then sizes_at bytes at else Ok at
 
--- the return register, which is not used: a byte in version 1, else a ULEB
-abbrev pub return_register_at : ℕ → List ℕ → ℕ → Reading ℕ
-return_register_at version bytes at = if version == 1 then u8_at bytes at else uleb_at bytes at
+-- the place behind the return register, which is not used: a byte in version 1, else a ULEB
+abbrev pub place_behind : {A : Type 0} → Reading A → Result ℕ ReadError
+place_behind reading = reading >>= λ read. Ok read.1
+
+abbrev pub return_register_at : ℕ → List ℕ → ℕ → Result ℕ ReadError
+return_register_at version bytes at = if version == 1 then place_behind (u8_at bytes at) else place_behind (uleb_at bytes at)
 
 -- a CIE's fields behind the augmentation text
 unfoldable pub alignments_at : SectionBaseAddresses → ℕ → List ℕ → List ℕ → ℕ → ℕ → Result CommonInformationEntry ReadError
 alignments_at bases version letters bytes at end = do
   code ← uleb_at bytes at
-  data' ← sleb_at bytes code.1
-  register ← return_register_at version bytes data'.1
-  augmentation ← augmentation_at bases letters bytes register.1
+  factor ← sleb_at bytes code.1
+  register ← return_register_at version bytes factor.1
+  augmentation ← augmentation_at bases letters bytes register
   Ok (record {
     code_alignment_factor = code.0;
-    data_alignment_factor = data'.0;
+    data_alignment_factor = factor.0;
     fde_pointer_encoding = augmentation.encoding;
     has_augmentation_data = augmentation.has_data;
     instructions = augmentation.behind;
     end = end
   })
+
+-- the versions that are read here
+abbrev pub is_known_version : ℕ → Bool
+is_known_version version = (version == 1) || (version == 3) || (version == 4)
 
 unfoldable pub versioned_fields : UnwindSectionType → SectionBaseAddresses → ℕ → List ℕ → ℕ → ℕ → Result CommonInformationEntry ReadError
 versioned_fields kind bases version bytes at end = do
@@ -90,7 +97,7 @@ versioned_fields kind bases version bytes at end = do
 unfoldable pub cie_fields : UnwindSectionType → SectionBaseAddresses → List ℕ → ℕ → ℕ → Result CommonInformationEntry ReadError
 cie_fields kind bases bytes at end = do
   version ← u8_at bytes at
-  if (version.0 == 1) || (version.0 == 3) || (version.0 == 4) then versioned_fields kind bases version.0 bytes version.1 end
+  if is_known_version version.0 then versioned_fields kind bases version.0 bytes version.1 end
     else Err UnknownVersion
 
 -- the CIE at an offset

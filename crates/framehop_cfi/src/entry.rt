@@ -1,7 +1,7 @@
 //! The entries of a call frame section: CIEs and FDEs (DWARF 5 section 6.4.1; LSB, `.eh_frame`).
 ghost use Rattle.std.specs.Prelude.{◌≡◌, ◌≤◌, ◌<◌, IfOk, length, take};
 ghost use Rattle.framehop_cfi.specs.Span.{IsWithin};
-ghost use Rattle.framehop_cfi.specs.Entry.{eh_frame_id, debug_frame_id, id_at, head_at, cie_at, fde_at, cie_fields, fde_fields, sizes_at, sizes_of, return_register_at, alignments_at, skipped_at, EndsWithin};
+ghost use Rattle.framehop_cfi.specs.Entry.{eh_frame_id, debug_frame_id, id_at, head_at, cie_at, fde_at, cie_fields, fde_fields, sizes_at, sizes_of, return_register_at, alignments_at, skipped_at, EndsWithin, is_known_version, versioned_fields, fde_range};
 
 use crate::bytes::{read_u8, read_u32, read_u64};
 use crate::leb128::{read_sleb128, read_uleb128};
@@ -125,4 +125,185 @@ fn read_debug_frame_id(entry: &[u8], span: &Span) -> Result<EntryHead, ReadError
         return Ok(EntryHead::Cie(next, span.end));
     }
     Ok(EntryHead::Fde(id as usize, next, span.end))
+}
+
+/// Whether the CIE's version is one that is read here.
+fn is_known_version(version: u8) -> bool
+    ensures { result ≡ is_known_version version }
+{
+    version == 1 || version == 3 || version == 4
+}
+
+/// The sizes of addresses and of segment selectors: the offset behind them.
+#[tactic(auto, unfolding(crate::specs::Entry::sizes_at))]
+fn read_sizes(bytes: &[u8], at: usize) -> Result<usize, ReadError>
+    ensures { result ≡ sizes_at bytes.now at }
+{
+    let (address_size, next) = read_u8(bytes, at)?;
+    let (segment_size, next) = read_u8(bytes, next)?;
+    if address_size != 8 || segment_size != 0 {
+        return Err(ReadError::BadEncoding);
+    }
+    Ok(next)
+}
+
+/// The return register, which is not used: the offset behind it.
+fn skip_return_register(version: u8, bytes: &[u8], at: usize) -> Result<usize, ReadError>
+    ensures { result ≡ return_register_at version bytes.now at }
+{
+    if version == 1 {
+        let (_, next) = read_u8(bytes, at)?;
+        return Ok(next);
+    }
+    let (_, next) = read_uleb128(bytes, at)?;
+    Ok(next)
+}
+
+impl<'a> UnwindSection<'a> {
+    /// The CIE at an offset.
+    ///
+    /// An offset of an FDE or of a zero length is refused by `NotCie`.
+    #[tactic(auto, unfolding(crate::specs::Entry::cie_at))]
+    pub fn cie_from_offset(&self, at: usize) -> Result<CommonInformationEntry, ReadError>
+        ensures { result ≡ cie_at self.now.section_type self.now.bases self.now.bytes.now at }
+    {
+        match self.head_at(at)? {
+            EntryHead::Cie(fields, end) => self.read_cie(fields, end),
+            _ => Err(ReadError::NotCie),
+        }
+    }
+
+    /// The CIE whose fields begin behind its id and end with the entry.
+    #[tactic(auto, unfolding(crate::specs::Entry::cie_fields))]
+    pub fn read_cie(&self, fields: usize, end: usize) -> Result<CommonInformationEntry, ReadError>
+        requires { end ≤ length self.now.bytes.now }
+        ensures { result ≡ cie_fields self.now.section_type self.now.bases (take end self.now.bytes.now) fields end }
+    {
+        let entry = &self.bytes[..end];
+        let (version, next) = read_u8(entry, fields)?;
+        if !is_known_version(version) {
+            return Err(ReadError::UnknownVersion);
+        }
+        self.read_versioned(version, entry, next, end)
+    }
+
+    /// The fields behind a CIE's version.
+    #[tactic(auto, unfolding(crate::specs::Entry::versioned_fields))]
+    fn read_versioned(
+        &self,
+        version: u8,
+        entry: &[u8],
+        at: usize,
+        end: usize,
+    ) -> Result<CommonInformationEntry, ReadError>
+        ensures { result ≡ versioned_fields self.now.section_type self.now.bases version entry.now at end }
+    {
+        let terminator = find_terminator(entry, at)?;
+        let sizes = self.skip_sizes(version, entry, terminator + 1)?;
+        self.read_alignments(version, &entry[at..terminator], entry, sizes, end)
+    }
+
+    /// The sizes of addresses and of segment selectors, which version 4 has in `.debug_frame`: the
+    /// offset behind them.
+    fn skip_sizes(&self, version: u8, entry: &[u8], at: usize) -> Result<usize, ReadError>
+        ensures { result ≡ sizes_of self.now.section_type version entry.now at }
+    {
+        match self.section_type {
+            UnwindSectionType::DebugFrame if version == 4 => read_sizes(entry, at),
+            _ => Ok(at),
+        }
+    }
+
+    /// The fields behind a CIE's augmentation text.
+    #[tactic(auto, unfolding(crate::specs::Entry::alignments_at))]
+    fn read_alignments(
+        &self,
+        version: u8,
+        letters: &[u8],
+        entry: &[u8],
+        at: usize,
+        end: usize,
+    ) -> Result<CommonInformationEntry, ReadError>
+        ensures { result ≡ alignments_at self.now.bases version letters.now entry.now at end }
+    {
+        let (code_alignment_factor, next) = read_uleb128(entry, at)?;
+        let (data_alignment_factor, next) = read_sleb128(entry, next)?;
+        let next = skip_return_register(version, entry, next)?;
+        let augmentation = self.bases.read_augmentation(letters, entry, next)?;
+        Ok(CommonInformationEntry {
+            code_alignment_factor,
+            data_alignment_factor,
+            fde_pointer_encoding: augmentation.encoding,
+            has_augmentation_data: augmentation.has_data,
+            instructions: augmentation.behind,
+            end,
+        })
+    }
+
+    /// The FDE at an offset, with the CIE at the offset that it names.
+    ///
+    /// An offset of a CIE or of a zero length is refused by `NotFde`.
+    #[tactic(auto, unfolding(crate::specs::Entry::fde_at))]
+    pub fn fde_from_offset(&self, at: usize) -> Result<FrameDescriptionEntry, ReadError>
+        ensures { result ≡ fde_at self.now.section_type self.now.bases self.now.bytes.now at }
+    {
+        match self.head_at(at)? {
+            EntryHead::Fde(named, fields, end) => {
+                let cie = self.cie_from_offset(named)?;
+                self.read_fde(&cie, fields, end)
+            }
+            _ => Err(ReadError::NotFde),
+        }
+    }
+
+    /// The FDE of that CIE whose fields begin behind its CIE's offset and end with the entry.
+    pub fn read_fde(
+        &self,
+        cie: &CommonInformationEntry,
+        fields: usize,
+        end: usize,
+    ) -> Result<FrameDescriptionEntry, ReadError>
+        requires { end ≤ length self.now.bytes.now }
+        ensures { result ≡ fde_fields self.now.bases cie.now (take end self.now.bytes.now) fields end }
+    {
+        if cie.fde_pointer_encoding >= DW_EH_PE_INDIRECT {
+            return Err(ReadError::BadEncoding);
+        }
+        self.read_range(cie, &self.bytes[..end], fields, end)
+    }
+
+    /// An FDE's range, and what stands behind it.
+    #[tactic(auto, unfolding(crate::specs::Entry::fde_range))]
+    fn read_range(
+        &self,
+        cie: &CommonInformationEntry,
+        entry: &[u8],
+        at: usize,
+        end: usize,
+    ) -> Result<FrameDescriptionEntry, ReadError>
+        ensures { result ≡ fde_range self.now.bases cie.now entry.now at end }
+    {
+        let encoding = cie.fde_pointer_encoding;
+        let (initial_address, next) = self.bases.read_pointer(entry, at, encoding)?;
+        let (address_range, next) = read_raw_pointer(entry, next, encoding)?;
+        let instructions = skip_augmentation_data(cie.has_augmentation_data, entry, next)?;
+        Ok(FrameDescriptionEntry {
+            cie: *cie,
+            initial_address,
+            address_range,
+            instructions,
+            end,
+        })
+    }
+}
+
+/// The offset behind an FDE's augmentation data, if it has any.
+fn skip_augmentation_data(has_data: bool, entry: &[u8], at: usize) -> Result<usize, ReadError>
+    ensures { result ≡ skipped_at has_data entry.now at }
+{
+    if !has_data {
+        return Ok(at);
+    }
+    let (_, end) = read_counted(entry, at)?;
+    Ok(end)
 }
