@@ -1,6 +1,7 @@
 pub mod Augmentation
 pub mod Bytes
 pub mod Entry
+pub mod Instruction
 pub mod Leb128
 pub mod Pointer
 pub mod Raw

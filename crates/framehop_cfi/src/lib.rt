@@ -4,8 +4,10 @@
 pub mod augmentation;
 pub mod bytes;
 pub mod entry;
+pub mod instruction;
 pub mod leb128;
 pub mod pointer;
 pub mod read_error;
+pub mod rule;
 pub mod section;
 pub mod span;
