@@ -45,7 +45,7 @@ fn first_zero(bytes: &[u8]) -> Option<usize>
 #[tactic(auto, unfolding(crate::specs::Augmentation::counted_at))]
 pub fn read_counted(bytes: &[u8], at: usize) -> Result<(usize, usize), ReadError>
     ensures exact { result ≡ counted_at bytes.now at }
-    ensures within { IfOk result (λ place. (place.0 ≤ place.1) × (place.1 ≤ length bytes.now)) }
+    ensures within { IfOk result (λ place. (at < place.0) × (place.0 ≤ place.1) × (place.1 ≤ length bytes.now)) }
 {
     let (length, start) = read_uleb128(bytes, at)?;
     if start > bytes.len() || length > (bytes.len() - start) as u64 {

@@ -2,7 +2,7 @@
 //!
 //! A reader is given the section's bytes and an offset into them, and answers what stands there
 //! with the offset behind it. It reads nothing past the end of the bytes that it is given.
-ghost use Rattle.std.specs.Prelude.{◌≡◌};
+ghost use Rattle.std.specs.Prelude.{◌≡◌, ◌<◌, IfOk};
 ghost use Rattle.framehop_cfi.specs.Bytes.{u8_at, u16_at, u32_at, u64_at};
 
 use crate::read_error::ReadError;
@@ -11,7 +11,8 @@ use crate::read_error::ReadError;
 #[inline]
 #[tactic(auto, unfolding(crate::specs::Bytes::u8_at))]
 pub fn read_u8(bytes: &[u8], at: usize) -> Result<(u8, usize), ReadError>
-    ensures { result ≡ u8_at bytes.now at }
+    ensures exact { result ≡ u8_at bytes.now at }
+    ensures forward { IfOk result (λ read. at < read.1) }
 {
     if at < bytes.len() {
         Ok((bytes[at], at + 1))
@@ -24,7 +25,8 @@ pub fn read_u8(bytes: &[u8], at: usize) -> Result<(u8, usize), ReadError>
 #[inline]
 #[tactic(auto, unfolding(crate::specs::Bytes::u16_at))]
 pub fn read_u16(bytes: &[u8], at: usize) -> Result<(u16, usize), ReadError>
-    ensures { result ≡ u16_at bytes.now at }
+    ensures exact { result ≡ u16_at bytes.now at }
+    ensures forward { IfOk result (λ read. at < read.1) }
 {
     if bytes.len() < 2 || at > bytes.len() - 2 {
         return Err(ReadError::Eof);
@@ -37,7 +39,8 @@ pub fn read_u16(bytes: &[u8], at: usize) -> Result<(u16, usize), ReadError>
 #[inline]
 #[tactic(auto, unfolding(crate::specs::Bytes::u32_at))]
 pub fn read_u32(bytes: &[u8], at: usize) -> Result<(u32, usize), ReadError>
-    ensures { result ≡ u32_at bytes.now at }
+    ensures exact { result ≡ u32_at bytes.now at }
+    ensures forward { IfOk result (λ read. at < read.1) }
 {
     if bytes.len() < 4 || at > bytes.len() - 4 {
         return Err(ReadError::Eof);
@@ -50,7 +53,8 @@ pub fn read_u32(bytes: &[u8], at: usize) -> Result<(u32, usize), ReadError>
 #[inline]
 #[tactic(auto, unfolding(crate::specs::Bytes::u64_at, crate::specs::Bytes::u32_at))]
 pub fn read_u64(bytes: &[u8], at: usize) -> Result<(u64, usize), ReadError>
-    ensures { result ≡ u64_at bytes.now at }
+    ensures exact { result ≡ u64_at bytes.now at }
+    ensures forward { IfOk result (λ read. at < read.1) }
 {
     if bytes.len() < 8 || at > bytes.len() - 8 {
         return Err(ReadError::Eof);

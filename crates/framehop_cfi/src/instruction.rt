@@ -38,7 +38,8 @@ pub enum CallFrameInstruction {
 /// A register's number.
 #[tactic(auto, unfolding(crate::specs::Instruction::register_at))]
 fn read_register(bytes: &[u8], at: usize) -> Result<(Register, usize), ReadError>
-    ensures { result ≡ register_at bytes.now at }
+    ensures exact { result ≡ register_at bytes.now at }
+    ensures forward { IfOk result (λ read. at < read.1) }
 {
     let (number, next) = read_uleb128(bytes, at)?;
     match u16::try_from(number) {
@@ -60,7 +61,8 @@ fn checked(number: i128) -> Result<i64, ReadError>
 /// An unsigned number times the data alignment.
 #[tactic(auto, unfolding(crate::specs::Instruction::factored_at))]
 fn read_factored(alignment: i64, bytes: &[u8], at: usize) -> Result<(i64, usize), ReadError>
-    ensures { result ≡ factored_at alignment bytes.now at }
+    ensures exact { result ≡ factored_at alignment bytes.now at }
+    ensures forward { IfOk result (λ read. at < read.1) }
 {
     let (number, next) = read_uleb128(bytes, at)?;
     let product = checked(i128::from(number) * i128::from(alignment))?;
@@ -70,7 +72,8 @@ fn read_factored(alignment: i64, bytes: &[u8], at: usize) -> Result<(i64, usize)
 /// A signed number times the data alignment.
 #[tactic(auto, unfolding(crate::specs::Instruction::factored_signed_at))]
 fn read_factored_signed(alignment: i64, bytes: &[u8], at: usize) -> Result<(i64, usize), ReadError>
-    ensures { result ≡ factored_signed_at alignment bytes.now at }
+    ensures exact { result ≡ factored_signed_at alignment bytes.now at }
+    ensures forward { IfOk result (λ read. at < read.1) }
 {
     let (number, next) = read_sleb128(bytes, at)?;
     let product = checked(i128::from(number) * i128::from(alignment))?;
@@ -80,7 +83,8 @@ fn read_factored_signed(alignment: i64, bytes: &[u8], at: usize) -> Result<(i64,
 /// An offset that is not factored.
 #[tactic(auto, unfolding(crate::specs::Instruction::offset_at))]
 fn read_offset(bytes: &[u8], at: usize) -> Result<(i64, usize), ReadError>
-    ensures { result ≡ offset_at bytes.now at }
+    ensures exact { result ≡ offset_at bytes.now at }
+    ensures forward { IfOk result (λ read. at < read.1) }
 {
     let (number, next) = read_uleb128(bytes, at)?;
     let offset = checked(i128::from(number))?;
@@ -90,7 +94,8 @@ fn read_offset(bytes: &[u8], at: usize) -> Result<(i64, usize), ReadError>
 /// An expression, behind its length.
 #[tactic(auto, unfolding(crate::specs::Instruction::expression_at))]
 fn read_expression(bytes: &[u8], at: usize) -> Result<(Expression, usize), ReadError>
-    ensures { result ≡ expression_at bytes.now at }
+    ensures exact { result ≡ expression_at bytes.now at }
+    ensures forward { IfOk result (λ read. at < read.1) }
 {
     let (start, end) = read_counted(bytes, at)?;
     Ok((Expression { start, end }, end))
@@ -103,7 +108,8 @@ fn read_rule(
     bytes: &[u8],
     at: usize,
 ) -> Result<(RegisterRule, usize), ReadError>
-    ensures { result ≡ rule_at alignment code bytes.now at }
+    ensures exact { result ≡ rule_at alignment code bytes.now at }
+    ensures forward { IfOk result (λ read. at ≤ read.1) }
 {
     match code {
         0x05 => {
@@ -148,7 +154,8 @@ fn read_set_rule(
     bytes: &[u8],
     at: usize,
 ) -> Result<(CallFrameInstruction, usize), ReadError>
-    ensures { result ≡ set_rule_at alignment code bytes.now at }
+    ensures exact { result ≡ set_rule_at alignment code bytes.now at }
+    ensures forward { IfOk result (λ read. at < read.1) }
 {
     let (register, next) = read_register(bytes, at)?;
     let (rule, next) = read_rule(alignment, code, bytes, next)?;
@@ -158,7 +165,8 @@ fn read_set_rule(
 /// The CFA as a register plus an offset that is not factored.
 #[tactic(auto, unfolding(crate::specs::Instruction::def_cfa_at))]
 fn read_def_cfa(bytes: &[u8], at: usize) -> Result<(CallFrameInstruction, usize), ReadError>
-    ensures { result ≡ def_cfa_at bytes.now at }
+    ensures exact { result ≡ def_cfa_at bytes.now at }
+    ensures forward { IfOk result (λ read. at < read.1) }
 {
     let (register, next) = read_register(bytes, at)?;
     let (offset, next) = read_offset(bytes, next)?;
@@ -173,7 +181,8 @@ fn read_def_cfa_factored(
     bytes: &[u8],
     at: usize,
 ) -> Result<(CallFrameInstruction, usize), ReadError>
-    ensures { result ≡ def_cfa_factored_at alignment bytes.now at }
+    ensures exact { result ≡ def_cfa_factored_at alignment bytes.now at }
+    ensures forward { IfOk result (λ read. at < read.1) }
 {
     let (register, next) = read_register(bytes, at)?;
     let (offset, next) = read_factored_signed(alignment, bytes, next)?;
@@ -188,7 +197,8 @@ fn read_cfa(
     bytes: &[u8],
     at: usize,
 ) -> Result<(CallFrameInstruction, usize), ReadError>
-    ensures { result ≡ cfa_at alignment code bytes.now at }
+    ensures exact { result ≡ cfa_at alignment code bytes.now at }
+    ensures forward { IfOk result (λ read. at < read.1) }
 {
     match code {
         0x0c => read_def_cfa(bytes, at),
@@ -223,7 +233,8 @@ impl CommonInformationEntry {
         bytes: &[u8],
         at: usize,
     ) -> Result<(CallFrameInstruction, usize), ReadError>
-        ensures { result ≡ instruction_at self.now bases.now bytes.now at }
+        ensures exact { result ≡ instruction_at self.now bases.now bytes.now at }
+        ensures forward { IfOk result (λ read. at < read.1) }
     {
         let (code, next) = read_u8(bytes, at)?;
         self.read_operands(bases, code, bytes, next)
@@ -237,7 +248,8 @@ impl CommonInformationEntry {
         bytes: &[u8],
         at: usize,
     ) -> Result<(CallFrameInstruction, usize), ReadError>
-        ensures { result ≡ operands_at self.now bases.now code bytes.now at }
+        ensures exact { result ≡ operands_at self.now bases.now code bytes.now at }
+        ensures forward { IfOk result (λ read. at ≤ read.1) }
     {
         if code >= 0xc0 {
             let register = Register(u16::from(code - 0xc0));
@@ -264,7 +276,8 @@ impl CommonInformationEntry {
         bytes: &[u8],
         at: usize,
     ) -> Result<(CallFrameInstruction, usize), ReadError>
-        ensures { result ≡ coded_at self.now bases.now code bytes.now at }
+        ensures exact { result ≡ coded_at self.now bases.now code bytes.now at }
+        ensures forward { IfOk result (λ read. at ≤ read.1) }
     {
         match code {
             0x00 | 0x2d => Ok((CallFrameInstruction::Nop, at)),
@@ -296,7 +309,8 @@ fn read_advance(
     bytes: &[u8],
     at: usize,
 ) -> Result<(CallFrameInstruction, usize), ReadError>
-    ensures { result ≡ advance_at code bytes.now at }
+    ensures exact { result ≡ advance_at code bytes.now at }
+    ensures forward { IfOk result (λ read. at < read.1) }
 {
     match code {
         0x02 => {

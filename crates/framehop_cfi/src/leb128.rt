@@ -8,7 +8,8 @@ use crate::read_error::ReadError;
 /// bits they have.
 fn read_groups(bytes: &[u8], at: usize) -> Result<((u128, u32), usize), ReadError>
     ensures exact { result ≡ groups_at bytes.now at }
-    ensures bits { IfOk result (λ r. (0 < r.0.1) × (r.0.1 ≤ 70) × (r.0.0 < 2 ^ r.0.1)) }
+    ensures bits { IfOk result (λ read. (0 < read.0.1) × (read.0.1 ≤ 70) × (read.0.0 < 2 ^ read.0.1)) }
+    ensures forward { IfOk result (λ read. at < read.1) }
 {
     let mut sum = 0u128;
     let mut next = at;
@@ -30,7 +31,8 @@ fn read_groups(bytes: &[u8], at: usize) -> Result<((u128, u32), usize), ReadErro
 #[inline]
 #[tactic(auto, unfolding(crate::specs::Leb128::uleb_at))]
 pub fn read_uleb128(bytes: &[u8], at: usize) -> Result<(u64, usize), ReadError>
-    ensures { result ≡ uleb_at bytes.now at }
+    ensures exact { result ≡ uleb_at bytes.now at }
+    ensures forward { IfOk result (λ read. at < read.1) }
 {
     let ((sum, _bits), next) = read_groups(bytes, at)?;
     match u64::try_from(sum) {
@@ -43,7 +45,8 @@ pub fn read_uleb128(bytes: &[u8], at: usize) -> Result<(u64, usize), ReadError>
 #[inline]
 #[tactic(auto, unfolding(crate::specs::Leb128::sleb_at))]
 pub fn read_sleb128(bytes: &[u8], at: usize) -> Result<(i64, usize), ReadError>
-    ensures { result ≡ sleb_at bytes.now at }
+    ensures exact { result ≡ sleb_at bytes.now at }
+    ensures forward { IfOk result (λ read. at < read.1) }
 {
     let ((sum, bits), next) = read_groups(bytes, at)?;
     match signed(sum, bits) {

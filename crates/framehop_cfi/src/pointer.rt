@@ -1,5 +1,5 @@
 //! Encoded pointers, and the addresses that they count from (LSB, "DWARF Exception Header Encoding").
-ghost use Rattle.std.specs.Prelude.{◌≡◌};
+ghost use Rattle.std.specs.Prelude.{◌≡◌, ◌<◌, IfOk};
 ghost use Rattle.framehop_cfi.specs.Raw.{raw_at, format_of, sign_extended};
 
 use crate::bytes::{read_u16, read_u32, read_u64};
@@ -39,7 +39,8 @@ pub const DW_EH_PE_INDIRECT: u8 = 0x80;
 /// A pointer by its format alone (the encoding's low four bits), as a number of 64 bits.
 #[tactic(auto, unfolding(crate::specs::Raw::raw_at))]
 pub fn read_raw_pointer(bytes: &[u8], at: usize, encoding: u8) -> Result<(u64, usize), ReadError>
-    ensures { result ≡ raw_at (format_of encoding) bytes.now at }
+    ensures exact { result ≡ raw_at (format_of encoding) bytes.now at }
+    ensures forward { IfOk result (λ read. at < read.1) }
 {
     match encoding % 16 {
         0x0 | 0x4 | 0xc => read_u64(bytes, at),
@@ -83,7 +84,6 @@ fn sign_extend_32(number: u32) -> u64
 }
 
 impl SectionBaseAddresses {
-    ghost use Rattle.std.specs.Prelude.{◌≡◌};
     ghost use Rattle.framehop_cfi.specs.Pointer.{base_of, application_of, pointer_at};
 
     /// What a pointer at that offset counts from.
@@ -107,7 +107,8 @@ impl SectionBaseAddresses {
         at: usize,
         encoding: u8,
     ) -> Result<(u64, usize), ReadError>
-        ensures { result ≡ pointer_at self.now encoding bytes.now at }
+        ensures exact { result ≡ pointer_at self.now encoding bytes.now at }
+        ensures forward { IfOk result (λ read. at < read.1) }
     {
         let base = self.base(at, encoding)?;
         let (raw, next) = read_raw_pointer(bytes, at, encoding)?;
