@@ -3,7 +3,9 @@ pub mod Bytes
 pub mod Entry
 pub mod Instruction
 pub mod Leb128
+pub mod Outcome
 pub mod Pointer
 pub mod Raw
+pub mod Row
 pub mod SectionTable
 pub mod Span

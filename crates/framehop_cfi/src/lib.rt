@@ -8,6 +8,8 @@ pub mod instruction;
 pub mod leb128;
 pub mod pointer;
 pub mod read_error;
+pub mod row;
 pub mod rule;
 pub mod section;
 pub mod span;
+pub mod storage;
