@@ -1,8 +1,10 @@
 pub mod Augmentation
 pub mod Bytes
+pub mod Context
 pub mod Entry
 pub mod Instruction
 pub mod Leb128
+pub mod Machine
 pub mod Outcome
 pub mod Pointer
 pub mod Raw

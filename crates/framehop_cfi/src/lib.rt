@@ -3,6 +3,7 @@
 
 pub mod augmentation;
 pub mod bytes;
+pub mod context;
 pub mod entry;
 pub mod instruction;
 pub mod leb128;
