@@ -9,5 +9,6 @@ pub mod Outcome
 pub mod Pointer
 pub mod Raw
 pub mod Row
+pub mod RowAt
 pub mod SectionTable
 pub mod Span

@@ -1,5 +1,5 @@
 //! The augmentation of a CIE (LSB, `.eh_frame`).
-ghost use Rattle.std.specs.Prelude.{◌≡◌, ◌≤◌, ◌<◌, ◌==◌, position, IfOk, IfSome, length, take, drop};
+ghost use Rattle.std.specs.Prelude.{◌≡◌, ◌≢◌, Err, ◌≤◌, ◌<◌, ◌==◌, position, IfOk, IfSome, length, take, drop};
 ghost use Rattle.framehop_cfi.specs.Augmentation.{terminator_at, counted_at, letter_at, letters_at, augmentation_at, augmentation_data, personality_at};
 
 use crate::bytes::read_u8;
@@ -46,6 +46,7 @@ fn first_zero(bytes: &[u8]) -> Option<usize>
 pub fn read_counted(bytes: &[u8], at: usize) -> Result<(usize, usize), ReadError>
     ensures exact { result ≡ counted_at bytes.now at }
     ensures within { IfOk result (λ place. (at < place.0) × (place.0 ≤ place.1) × (place.1 ≤ length bytes.now)) }
+    ensures memory { result ≢ Err ReadError.OutOfMemory }
 {
     let (length, start) = read_uleb128(bytes, at)?;
     if start > bytes.len() || length > (bytes.len() - start) as u64 {

@@ -1,8 +1,9 @@
 //! The row of an address: the instructions of a CIE and of an FDE, run up to it (DWARF 5 section 6.4.3).
-ghost use Rattle.std.specs.Prelude.{◌≡◌, ◌≢◌, ◌<◌, ◌≤◌, ◌+◌, [], length, IfOk, IfSome, IfErr, OnOk, OnErr, IsErrOf, None, Err, vec_len};
+ghost use Rattle.std.specs.Prelude.{◌≡◌, ◌≢◌, ◌≤◌, ◌*◌, length, IfOk, IfSome, IfErr, OnOk, OnErr, IsErrOf, None, Err, vec_len};
 ghost use Rattle.framehop_cfi.specs.Row.{empty_row, rule_of, with_rule, without_rule};
 ghost use Rattle.framehop_cfi.specs.Machine.{effect, setting, restoring, restoring_to, remembering, recalling, with_cfa};
 ghost use Rattle.framehop_cfi.specs.Outcome.{Becomes};
+ghost use Rattle.framehop_cfi.specs.RowAt.{location_after, risen, is_beyond, run_from, machine_at, start, begun, covers};
 
 use std::alloc::{AllocError, Global};
 use std::marker::Model;
@@ -194,4 +195,150 @@ fn spare_rows<S: UnwindContextStorage>(
         rows.push(row)?;
     }
     Ok(rows)
+}
+
+/// The location that an instruction leaves. A CIE has no address that is looked for, and its
+/// instructions do not move the location.
+fn location_after(
+    cie: &CommonInformationEntry,
+    address: Option<u64>,
+    location: u64,
+    instruction: CallFrameInstruction,
+) -> Result<u64, ReadError>
+    ensures exact { result ≡ location_after cie.now address location instruction }
+    ensures memory { result ≢ Err ReadError.OutOfMemory }
+{
+    match instruction {
+        CallFrameInstruction::SetLoc { address: target } => {
+            if address.is_none() || target < location {
+                return Err(ReadError::InvalidContext);
+            }
+            Ok(target)
+        }
+        CallFrameInstruction::AdvanceLoc { delta } => {
+            if address.is_none() {
+                return Err(ReadError::InvalidContext);
+            }
+            risen(location, delta, cie.code_alignment_factor)
+        }
+        _ => Ok(location),
+    }
+}
+
+/// The location after an advance of `delta` times the code alignment.
+fn risen(location: u64, delta: u32, code_alignment_factor: u64) -> Result<u64, ReadError>
+    ensures exact { result ≡ risen location (delta * code_alignment_factor) }
+    ensures memory { result ≢ Err ReadError.OutOfMemory }
+{
+    let bytes = u128::from(delta) * u128::from(code_alignment_factor);
+    let moved = u128::from(location) + bytes;
+    if bytes >= 1 << 63 {
+        return Err(ReadError::NumberTooBig);
+    }
+    match u64::try_from(moved) {
+        Ok(moved) => Ok(moved),
+        Err(_) => Err(ReadError::NumberTooBig),
+    }
+}
+
+/// Whether the location lies beyond the address that is looked for.
+fn is_beyond(address: Option<u64>, location: u64) -> bool
+    ensures { result ≡ is_beyond address location }
+{
+    match address {
+        Some(address) => address < location,
+        None => false,
+    }
+}
+
+impl<S: UnwindContextStorage> UnwindContext<S> {
+    /// Runs the instructions from an offset on, up to the end of the bytes or to the first move beyond
+    /// the address.
+    fn run(
+        &mut self,
+        cie: &CommonInformationEntry,
+        bases: &SectionBaseAddresses,
+        bytes: &[u8],
+        at: usize,
+        start: u64,
+        address: Option<u64>,
+    ) -> Result<(), ReadError>
+        ensures exact { Becomes result self.new (run_from S.limits (record { cie = cie.now; bases = bases.now; bytes = bytes.now; address = address }) at start self.old) }
+        ensures memory { IsErrOf result ReadError.OutOfMemory → S.limits ≡ None }
+    {
+        let mut location = start;
+        let mut next = at;
+        while next < bytes.len() {
+            let (instruction, behind) = cie.read_instruction(bases, bytes, next)?;
+            let moved = location_after(cie, address, location, instruction)?;
+            if is_beyond(address, moved) {
+                return Ok(());
+            }
+            self.execute(instruction)?;
+            location = moved;
+            next = behind;
+        }
+        Ok(())
+    }
+
+    /// Makes the row of an address, an SVMA, by the instructions of the FDE and of its CIE.
+    ///
+    /// An address that the FDE does not cover is refused by `NoRow`. After a refusal the row is any.
+    #[tactic(auto, unfolding(crate::specs::RowAt::machine_at))]
+    pub fn evaluate(
+        &mut self,
+        section: &UnwindSection,
+        fde: &FrameDescriptionEntry,
+        address: u64,
+    ) -> Result<(), ReadError>
+        requires cie { fde.now.cie.end ≤ length section.now.bytes.now }
+        requires fde { fde.now.end ≤ length section.now.bytes.now }
+        ensures exact { Becomes result self.new (machine_at S.limits section.now.bases section.now.bytes.now fde.now address) }
+        ensures memory { IsErrOf result ReadError.OutOfMemory → S.limits ≡ None }
+    {
+        if !covers(fde, address) {
+            return Err(ReadError::NoRow);
+        }
+        self.clear();
+        let cie = &fde.cie;
+        let bytes = &section.bytes[..cie.end];
+        self.run(cie, &section.bases, bytes, cie.instructions, 0, None)?;
+        self.begin_fde()?;
+        let bytes = &section.bytes[..fde.end];
+        self.run(
+            cie,
+            &section.bases,
+            bytes,
+            fde.instructions,
+            fde.initial_address,
+            Some(address),
+        )
+    }
+
+    /// Forgets all rows.
+    fn clear(&mut self)
+        ensures { self.new ≡ start }
+    {
+        self.has_initial = false;
+        self.count = 0;
+        self.row.clear();
+    }
+
+    /// Keeps the row as the one that the CIE left.
+    fn begin_fde(&mut self) -> Result<(), ReadError>
+        ensures ok { OnOk result (self.new ≡ begun self.old) }
+        ensures error { IfErr result (λ error. error ≡ ReadError.OutOfMemory) }
+        ensures memory { OnErr result (S.limits ≡ None) }
+    {
+        self.initial.copy_from(&self.row)?;
+        self.has_initial = true;
+        Ok(())
+    }
+}
+
+/// Whether the FDE covers the address.
+fn covers(fde: &FrameDescriptionEntry, address: u64) -> bool
+    ensures { result ≡ covers fde.now address }
+{
+    fde.initial_address <= address && address - fde.initial_address < fde.address_range
 }

@@ -1,5 +1,5 @@
 //! Call frame instructions (DWARF 5 section 6.4.2).
-ghost use Rattle.std.specs.Prelude.{◌≡◌, ℤ, pos, ◌*ℤ◌, ◌≤◌, ◌<◌, IfOk};
+ghost use Rattle.std.specs.Prelude.{◌≡◌, ◌≢◌, Err, ℤ, pos, ◌*ℤ◌, ◌≤◌, ◌<◌, IfOk};
 ghost use Rattle.framehop_cfi.specs.Instruction.{instruction_at, operands_at, coded_at, advance_at, cfa_at, def_cfa_at, def_cfa_factored_at, set_rule_at, rule_at, expression_at, offset_at, factored_at, factored_signed_at, checked_i64, register_at};
 
 use crate::augmentation::read_counted;
@@ -40,6 +40,7 @@ pub enum CallFrameInstruction {
 fn read_register(bytes: &[u8], at: usize) -> Result<(Register, usize), ReadError>
     ensures exact { result ≡ register_at bytes.now at }
     ensures forward { IfOk result (λ read. at < read.1) }
+    ensures memory { result ≢ Err ReadError.OutOfMemory }
 {
     let (number, next) = read_uleb128(bytes, at)?;
     match u16::try_from(number) {
@@ -50,7 +51,8 @@ fn read_register(bytes: &[u8], at: usize) -> Result<(Register, usize), ReadError
 
 /// The number, if it fits 64 bits with a sign.
 fn checked(number: i128) -> Result<i64, ReadError>
-    ensures { result ≡ checked_i64 number }
+    ensures exact { result ≡ checked_i64 number }
+    ensures memory { result ≢ Err ReadError.OutOfMemory }
 {
     match i64::try_from(number) {
         Ok(number) => Ok(number),
@@ -63,6 +65,7 @@ fn checked(number: i128) -> Result<i64, ReadError>
 fn read_factored(alignment: i64, bytes: &[u8], at: usize) -> Result<(i64, usize), ReadError>
     ensures exact { result ≡ factored_at alignment bytes.now at }
     ensures forward { IfOk result (λ read. at < read.1) }
+    ensures memory { result ≢ Err ReadError.OutOfMemory }
 {
     let (number, next) = read_uleb128(bytes, at)?;
     let product = checked(i128::from(number) * i128::from(alignment))?;
@@ -74,6 +77,7 @@ fn read_factored(alignment: i64, bytes: &[u8], at: usize) -> Result<(i64, usize)
 fn read_factored_signed(alignment: i64, bytes: &[u8], at: usize) -> Result<(i64, usize), ReadError>
     ensures exact { result ≡ factored_signed_at alignment bytes.now at }
     ensures forward { IfOk result (λ read. at < read.1) }
+    ensures memory { result ≢ Err ReadError.OutOfMemory }
 {
     let (number, next) = read_sleb128(bytes, at)?;
     let product = checked(i128::from(number) * i128::from(alignment))?;
@@ -85,6 +89,7 @@ fn read_factored_signed(alignment: i64, bytes: &[u8], at: usize) -> Result<(i64,
 fn read_offset(bytes: &[u8], at: usize) -> Result<(i64, usize), ReadError>
     ensures exact { result ≡ offset_at bytes.now at }
     ensures forward { IfOk result (λ read. at < read.1) }
+    ensures memory { result ≢ Err ReadError.OutOfMemory }
 {
     let (number, next) = read_uleb128(bytes, at)?;
     let offset = checked(i128::from(number))?;
@@ -96,6 +101,7 @@ fn read_offset(bytes: &[u8], at: usize) -> Result<(i64, usize), ReadError>
 fn read_expression(bytes: &[u8], at: usize) -> Result<(Expression, usize), ReadError>
     ensures exact { result ≡ expression_at bytes.now at }
     ensures forward { IfOk result (λ read. at < read.1) }
+    ensures memory { result ≢ Err ReadError.OutOfMemory }
 {
     let (start, end) = read_counted(bytes, at)?;
     Ok((Expression { start, end }, end))
@@ -110,6 +116,7 @@ fn read_rule(
 ) -> Result<(RegisterRule, usize), ReadError>
     ensures exact { result ≡ rule_at alignment code bytes.now at }
     ensures forward { IfOk result (λ read. at ≤ read.1) }
+    ensures memory { result ≢ Err ReadError.OutOfMemory }
 {
     match code {
         0x05 => {
@@ -156,6 +163,7 @@ fn read_set_rule(
 ) -> Result<(CallFrameInstruction, usize), ReadError>
     ensures exact { result ≡ set_rule_at alignment code bytes.now at }
     ensures forward { IfOk result (λ read. at < read.1) }
+    ensures memory { result ≢ Err ReadError.OutOfMemory }
 {
     let (register, next) = read_register(bytes, at)?;
     let (rule, next) = read_rule(alignment, code, bytes, next)?;
@@ -167,6 +175,7 @@ fn read_set_rule(
 fn read_def_cfa(bytes: &[u8], at: usize) -> Result<(CallFrameInstruction, usize), ReadError>
     ensures exact { result ≡ def_cfa_at bytes.now at }
     ensures forward { IfOk result (λ read. at < read.1) }
+    ensures memory { result ≢ Err ReadError.OutOfMemory }
 {
     let (register, next) = read_register(bytes, at)?;
     let (offset, next) = read_offset(bytes, next)?;
@@ -183,6 +192,7 @@ fn read_def_cfa_factored(
 ) -> Result<(CallFrameInstruction, usize), ReadError>
     ensures exact { result ≡ def_cfa_factored_at alignment bytes.now at }
     ensures forward { IfOk result (λ read. at < read.1) }
+    ensures memory { result ≢ Err ReadError.OutOfMemory }
 {
     let (register, next) = read_register(bytes, at)?;
     let (offset, next) = read_factored_signed(alignment, bytes, next)?;
@@ -199,6 +209,7 @@ fn read_cfa(
 ) -> Result<(CallFrameInstruction, usize), ReadError>
     ensures exact { result ≡ cfa_at alignment code bytes.now at }
     ensures forward { IfOk result (λ read. at < read.1) }
+    ensures memory { result ≢ Err ReadError.OutOfMemory }
 {
     match code {
         0x0c => read_def_cfa(bytes, at),
@@ -235,6 +246,7 @@ impl CommonInformationEntry {
     ) -> Result<(CallFrameInstruction, usize), ReadError>
         ensures exact { result ≡ instruction_at self.now bases.now bytes.now at }
         ensures forward { IfOk result (λ read. at < read.1) }
+        ensures memory { result ≢ Err ReadError.OutOfMemory }
     {
         let (code, next) = read_u8(bytes, at)?;
         self.read_operands(bases, code, bytes, next)
@@ -250,6 +262,7 @@ impl CommonInformationEntry {
     ) -> Result<(CallFrameInstruction, usize), ReadError>
         ensures exact { result ≡ operands_at self.now bases.now code bytes.now at }
         ensures forward { IfOk result (λ read. at ≤ read.1) }
+        ensures memory { result ≢ Err ReadError.OutOfMemory }
     {
         if code >= 0xc0 {
             let register = Register(u16::from(code - 0xc0));
@@ -278,6 +291,7 @@ impl CommonInformationEntry {
     ) -> Result<(CallFrameInstruction, usize), ReadError>
         ensures exact { result ≡ coded_at self.now bases.now code bytes.now at }
         ensures forward { IfOk result (λ read. at ≤ read.1) }
+        ensures memory { result ≢ Err ReadError.OutOfMemory }
     {
         match code {
             0x00 | 0x2d => Ok((CallFrameInstruction::Nop, at)),
@@ -311,6 +325,7 @@ fn read_advance(
 ) -> Result<(CallFrameInstruction, usize), ReadError>
     ensures exact { result ≡ advance_at code bytes.now at }
     ensures forward { IfOk result (λ read. at < read.1) }
+    ensures memory { result ≢ Err ReadError.OutOfMemory }
 {
     match code {
         0x02 => {
