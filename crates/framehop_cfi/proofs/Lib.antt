@@ -1,2 +1,3 @@
 pub mod Leb
 pub mod Rows
+pub mod Run
