@@ -1,3 +1,4 @@
 pub mod Leb
 pub mod Rows
 pub mod Run
+pub mod Table

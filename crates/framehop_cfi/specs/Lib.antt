@@ -2,10 +2,12 @@ pub mod Augmentation
 pub mod Bytes
 pub mod Context
 pub mod Entry
+pub mod Header
 pub mod Instruction
 pub mod Leb128
 pub mod Machine
 pub mod Outcome
+pub mod Place
 pub mod Pointer
 pub mod Raw
 pub mod Row
