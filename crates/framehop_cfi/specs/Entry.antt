@@ -1,5 +1,5 @@
 -- The two kinds of entries of a call frame section (DWARF 5 section 6.4.1; LSB, ".eh_frame").
-use Rattle.std.specs.Prelude.{ℕ, ◌+◌, ◌-◌, ◌≤◌, List, [], ◌∷◌, length, take, drop, slice_range, position, Bool, true, false, Option, Some, None, Result, Ok, Err, ◌==◌, ◌||◌, nat_le, if◌then◌else◌}
+use Rattle.std.specs.Prelude.{ℕ, ◌+◌, ◌-◌, ◌≤◌, ◌<◌, List, [], ◌∷◌, length, take, drop, slice_range, position, Bool, true, false, Option, Some, None, Result, Ok, Err, ◌==◌, ◌||◌, nat_le, if◌then◌else◌}
 use Rattle.framehop_cfi.specs.Bytes.{Reading, ◌>>=◌, u8_at, u32_at, u64_at}
 use Rattle.framehop_cfi.specs.Leb128.{uleb_at, sleb_at}
 use Rattle.framehop_cfi.specs.Raw.{raw_at, format_of}
@@ -7,6 +7,7 @@ use Rattle.framehop_cfi.specs.Augmentation.{terminator_at, counted_at, augmentat
 use Rattle.framehop_cfi.specs.Pointer.{pointer_at}
 use Rattle.framehop_cfi.specs.Span.{span_at, is_zero_length}
 use Rattle.framehop_cfi.specs.declared.span.Span.{Span}
+use Rattle.framehop_cfi.specs.declared.pointer.BaseAddresses.{BaseAddresses}
 use Rattle.framehop_cfi.specs.declared.pointer.SectionBaseAddresses.{SectionBaseAddresses}
 use Rattle.framehop_cfi.specs.declared.entry.UnwindSectionType.{UnwindSectionType}
 use Rattle.framehop_cfi.specs.declared.entry.UnwindSectionType.TheVariants.{EhFrame, DebugFrame}
@@ -47,7 +48,7 @@ id_at DebugFrame bytes span = debug_frame_id bytes span
 unfoldable pub head_at : UnwindSectionType → List ℕ → ℕ → Result EntryHead ReadError
 head_at kind bytes at = do
   span ← span_at bytes at
-  if is_zero_length span then Ok ZeroLength else id_at kind (take span.end bytes) span
+  if is_zero_length span then Ok (ZeroLength span.end) else id_at kind (take span.end bytes) span
 
 -- The size of addresses and of segment selectors, which version 4 has in `.debug_frame`: the place behind.
 unfoldable pub sizes_at : List ℕ → ℕ → Result ℕ ReadError
@@ -102,7 +103,7 @@ cie_fields kind bases bytes at end = do
 
 -- the CIE at an offset
 abbrev pub cie_of_head : UnwindSectionType → SectionBaseAddresses → List ℕ → EntryHead → Result CommonInformationEntry ReadError
-cie_of_head kind bases bytes ZeroLength = Err NotCie
+cie_of_head kind bases bytes (ZeroLength end) = Err NotCie
 cie_of_head kind bases bytes (Fde cie at end) = Err NotCie
 cie_of_head kind bases bytes (Cie at end) = cie_fields kind bases (take end bytes) at end
 
@@ -130,7 +131,7 @@ fde_fields bases cie bytes at end =
 
 -- the FDE at an offset, with the CIE at the offset that it names
 abbrev pub fde_of_head : UnwindSectionType → SectionBaseAddresses → List ℕ → EntryHead → Result FrameDescriptionEntry ReadError
-fde_of_head kind bases bytes ZeroLength = Err NotFde
+fde_of_head kind bases bytes (ZeroLength end) = Err NotFde
 fde_of_head kind bases bytes (Cie at end) = Err NotFde
 fde_of_head kind bases bytes (Fde named at end) =
     cie_at kind bases bytes named >>= λ cie. fde_fields bases cie (take end bytes) at end
@@ -140,8 +141,16 @@ fde_at kind bases bytes at = do
   head ← head_at kind bytes at
   fde_of_head kind bases bytes head
 
--- the entry ends in the bytes
-abbrev pub EndsWithin : List ℕ → EntryHead → Type 0
-EndsWithin bytes ZeroLength = Unit {0}
-EndsWithin bytes (Cie at end) = end ≤ length bytes
-EndsWithin bytes (Fde named at end) = end ≤ length bytes
+-- the entry ends in the bytes, behind the offset
+abbrev pub EndsWithin : List ℕ → ℕ → EntryHead → Type 0
+EndsWithin bytes at (ZeroLength end) = (at < end) × (end ≤ length bytes)
+EndsWithin bytes at (Cie fields end) = (at < end) × (end ≤ length bytes)
+EndsWithin bytes at (Fde named fields end) = (at < end) × (end ≤ length bytes)
+
+-- what a section's pointers count from; the start of `.debug_frame` counts as 0
+abbrev pub section_start : UnwindSectionType → BaseAddresses → ℕ
+section_start EhFrame bases = bases.eh_frame
+section_start DebugFrame bases = 0
+
+abbrev pub bases_of : UnwindSectionType → BaseAddresses → SectionBaseAddresses
+bases_of kind bases = record { section = section_start kind bases; text = bases.text; «data» = bases.got }

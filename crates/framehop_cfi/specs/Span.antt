@@ -1,5 +1,5 @@
 -- Where an entry of a call frame section begins and ends (DWARF 5 sections 6.4.1 and 7.4).
-use Rattle.std.specs.Prelude.{ℕ, ◌+◌, ◌≤◌, List, length, Bool, Result, Ok, Err, ◌==◌, ◌&&◌, nat_lt, nat_le, if◌then◌else◌}
+use Rattle.std.specs.Prelude.{ℕ, ◌+◌, ◌≤◌, ◌<◌, List, length, Bool, Result, Ok, Err, ◌==◌, ◌&&◌, nat_lt, nat_le, if◌then◌else◌}
 use Rattle.framehop_cfi.specs.Bytes.{Reading, ◌>>=◌, u32_at, u64_at}
 use Rattle.framehop_cfi.specs.declared.span.Span.{Span}
 use Rattle.framehop_cfi.specs.declared.read_error.ReadError.{ReadError}
@@ -27,7 +27,8 @@ span_at bytes at = do
 abbrev pub is_zero_length : Span → Bool
 is_zero_length span = (span.offset_size == 4) && (span.contents == span.end)
 
--- the contents lie in the bytes
-pub record IsWithin (bytes : List ℕ) (span : Span) : Type 0 where
+-- the contents lie in the bytes, behind the offset
+pub record IsWithin (bytes : List ℕ) (at : ℕ) (span : Span) : Type 0 where
+  pub behind : at < span.contents
   pub ordered : span.contents ≤ span.end
   pub held : span.end ≤ length bytes

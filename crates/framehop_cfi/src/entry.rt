@@ -1,11 +1,11 @@
 //! The entries of a call frame section: CIEs and FDEs (DWARF 5 section 6.4.1; LSB, `.eh_frame`).
-ghost use Rattle.std.specs.Prelude.{◌≡◌, ◌≤◌, ◌<◌, IfOk, length, take};
+ghost use Rattle.std.specs.Prelude.{◌≡◌, ◌≤◌, ◌<◌, ℕ, IfOk, length, take};
 ghost use Rattle.framehop_cfi.specs.Span.{IsWithin};
-ghost use Rattle.framehop_cfi.specs.Entry.{eh_frame_id, debug_frame_id, id_at, head_at, cie_at, fde_at, cie_fields, fde_fields, sizes_at, sizes_of, return_register_at, alignments_at, skipped_at, EndsWithin, is_known_version, versioned_fields, fde_range};
+ghost use Rattle.framehop_cfi.specs.Entry.{eh_frame_id, debug_frame_id, id_at, head_at, cie_at, fde_at, cie_fields, fde_fields, sizes_at, sizes_of, return_register_at, alignments_at, skipped_at, EndsWithin, bases_of, is_known_version, versioned_fields, fde_range};
 
 use crate::bytes::{read_u8, read_u32, read_u64};
 use crate::leb128::{read_sleb128, read_uleb128};
-use crate::pointer::{DW_EH_PE_INDIRECT, DW_EH_PE_OMIT, SectionBaseAddresses, read_raw_pointer};
+use crate::pointer::{BaseAddresses, DW_EH_PE_INDIRECT, SectionBaseAddresses, read_raw_pointer};
 use crate::augmentation::{find_terminator, read_counted};
 use crate::read_error::ReadError;
 use crate::span::{Span, read_span};
@@ -20,8 +20,8 @@ pub enum UnwindSectionType {
 /// What stands at an offset of a section.
 #[derive(Clone, Copy)]
 pub enum EntryHead {
-    /// A length of 0.
-    ZeroLength,
+    /// A length of 0: the offset behind it.
+    ZeroLength(usize),
     /// A CIE: where its fields begin behind its id, and where it ends.
     Cie(usize, usize),
     /// An FDE: where its CIE is, where its fields begin behind that, and where it ends.
@@ -72,15 +72,40 @@ pub struct UnwindSection<'a> {
 }
 
 impl<'a> UnwindSection<'a> {
+    /// The section of these bytes, in a module that lies at these addresses.
+    pub fn new(
+        bytes: &'a [u8],
+        section_type: UnwindSectionType,
+        bases: &BaseAddresses,
+    ) -> UnwindSection<'a>
+        ensures bytes { result.bytes.now ≡ bytes.now }
+        ensures section_type { result.section_type ≡ section_type }
+        ensures bases { result.bases ≡ bases_of section_type bases.now }
+    {
+        let section = match section_type {
+            UnwindSectionType::EhFrame => bases.eh_frame,
+            UnwindSectionType::DebugFrame => 0,
+        };
+        UnwindSection {
+            bytes,
+            section_type,
+            bases: SectionBaseAddresses {
+                section,
+                text: bases.text,
+                data: bases.got,
+            },
+        }
+    }
+
     /// What stands at an offset.
     #[tactic(auto, unfolding(crate::specs::Entry::head_at))]
     pub fn head_at(&self, at: usize) -> Result<EntryHead, ReadError>
         ensures exact { result ≡ head_at self.now.section_type self.now.bytes.now at }
-        ensures within { IfOk result (EndsWithin self.now.bytes.now) }
+        ensures within { IfOk result (EndsWithin self.now.bytes.now at) }
     {
         let span = read_span(self.bytes, at)?;
         if span.is_zero_length() {
-            return Ok(EntryHead::ZeroLength);
+            return Ok(EntryHead::ZeroLength(span.end));
         }
         let entry = &self.bytes[..span.end];
         match self.section_type {
@@ -94,7 +119,7 @@ impl<'a> UnwindSection<'a> {
 #[tactic(auto, unfolding(crate::specs::Entry::eh_frame_id))]
 fn read_eh_frame_id(entry: &[u8], span: &Span) -> Result<EntryHead, ReadError>
     ensures exact { result ≡ eh_frame_id entry.now span.now }
-    ensures within { span.now.end ≤ length entry.now → IfOk result (EndsWithin entry.now) }
+    ensures within { (at : ℕ) → at < span.now.end → span.now.end ≤ length entry.now → IfOk result (EndsWithin entry.now at) }
 {
     let (id, next) = read_u32(entry, span.contents)?;
     let distance = id as usize;
@@ -111,7 +136,7 @@ fn read_eh_frame_id(entry: &[u8], span: &Span) -> Result<EntryHead, ReadError>
 #[tactic(auto, unfolding(crate::specs::Entry::short_id, crate::specs::Entry::long_id))]
 fn read_debug_frame_id(entry: &[u8], span: &Span) -> Result<EntryHead, ReadError>
     ensures exact { result ≡ debug_frame_id entry.now span.now }
-    ensures within { span.now.end ≤ length entry.now → IfOk result (EndsWithin entry.now) }
+    ensures within { (at : ℕ) → at < span.now.end → span.now.end ≤ length entry.now → IfOk result (EndsWithin entry.now at) }
 {
     if span.offset_size == 4 {
         let (id, next) = read_u32(entry, span.contents)?;

@@ -1,5 +1,5 @@
 //! Where an entry of a call frame section begins and ends (DWARF 5 section 7.4).
-ghost use Rattle.std.specs.Prelude.{◌≡◌, ◌≤◌, IfOk, length};
+ghost use Rattle.std.specs.Prelude.{◌≡◌, ◌<◌, ℕ, IfOk};
 ghost use Rattle.framehop_cfi.specs.Span.{span_at, held, is_zero_length, IsWithin};
 
 use crate::bytes::{read_u32, read_u64};
@@ -20,7 +20,7 @@ pub struct Span {
 #[tactic(auto, unfolding(crate::specs::Span::span_at, crate::specs::Span::long_span))]
 pub fn read_span(bytes: &[u8], at: usize) -> Result<Span, ReadError>
     ensures exact { result ≡ span_at bytes.now at }
-    ensures within { IfOk result (IsWithin bytes.now) }
+    ensures within { IfOk result (IsWithin bytes.now at) }
 {
     let (length, next) = read_u32(bytes, at)?;
     if length < 0xffff_fff0 {
@@ -41,7 +41,7 @@ fn held_span(
     length: u64,
 ) -> Result<Span, ReadError>
     ensures exact { result ≡ held bytes.now offset_size contents length }
-    ensures within { IfOk result (IsWithin bytes.now) }
+    ensures within { (at : ℕ) → at < contents → IfOk result (IsWithin bytes.now at) }
 {
     if contents > bytes.len() || length > (bytes.len() - contents) as u64 {
         return Err(ReadError::Eof);
