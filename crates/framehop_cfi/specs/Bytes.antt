@@ -5,7 +5,7 @@ use Rattle.framehop_cfi.specs.declared.read_error.ReadError.TheVariants.{Eof}
 
 -- read one thing, then what comes behind it; the first refusal stands
 infixl 10 ◌>>=◌
-abbrev pub ◌>>=◌ : {A B : Type 0} → Result A ReadError → (A → Result B ReadError) → Result B ReadError
+abbrev pub ◌>>=◌ : {A B E : Type 0} → Result A E → (A → Result B E) → Result B E
 (Ok x) >>= f = f x
 (Err e) >>= f = Err e
 

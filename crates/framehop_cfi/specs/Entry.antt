@@ -13,6 +13,8 @@ use Rattle.framehop_cfi.specs.declared.entry.UnwindSectionType.{UnwindSectionTyp
 use Rattle.framehop_cfi.specs.declared.entry.UnwindSectionType.TheVariants.{EhFrame, DebugFrame}
 use Rattle.framehop_cfi.specs.declared.entry.EntryHead.{EntryHead}
 use Rattle.framehop_cfi.specs.declared.entry.EntryHead.TheVariants.{ZeroLength, Cie, Fde}
+use Rattle.framehop_cfi.specs.declared.entry.CieOrFde.{CieOrFde}
+use Rattle.framehop_cfi.specs.declared.entry.CieOrFde.TheVariants as or
 use Rattle.framehop_cfi.specs.declared.entry.CommonInformationEntry.{CommonInformationEntry}
 use Rattle.framehop_cfi.specs.declared.entry.FrameDescriptionEntry.{FrameDescriptionEntry}
 use Rattle.framehop_cfi.specs.declared.read_error.ReadError.{ReadError}
@@ -141,6 +143,12 @@ fde_at kind bases bytes at = do
   head ← head_at kind bytes at
   fde_of_head kind bases bytes head
 
+-- the entry that begins with a head
+abbrev pub entry_of_head : UnwindSectionType → SectionBaseAddresses → List ℕ → EntryHead → Result CieOrFde ReadError
+entry_of_head kind bases bytes (ZeroLength end) = Err NotFde
+entry_of_head kind bases bytes (Cie at end) = cie_fields kind bases (take end bytes) at end >>= λ cie. Ok (or.Cie cie)
+entry_of_head kind bases bytes (Fde named at end) = fde_of_head kind bases bytes (Fde named at end) >>= λ fde. Ok (or.Fde fde)
+
 -- the entry ends in the bytes, behind the offset
 abbrev pub EndsWithin : List ℕ → ℕ → EntryHead → Type 0
 EndsWithin bytes at (ZeroLength end) = (at < end) × (end ≤ length bytes)
@@ -154,3 +162,9 @@ section_start DebugFrame bases = 0
 
 abbrev pub bases_of : UnwindSectionType → BaseAddresses → SectionBaseAddresses
 bases_of kind bases = record { section = section_start kind bases; text = bases.text; «data» = bases.got }
+
+-- the entry ends in the bytes
+abbrev pub EndsBefore : List ℕ → EntryHead → Type 0
+EndsBefore bytes (ZeroLength end) = end ≤ length bytes
+EndsBefore bytes (Cie fields end) = end ≤ length bytes
+EndsBefore bytes (Fde named fields end) = end ≤ length bytes

@@ -1,6 +1,7 @@
 pub mod Augmentation
 pub mod Bytes
 pub mod Context
+pub mod Entries
 pub mod Entry
 pub mod Header
 pub mod Instruction

@@ -1,7 +1,7 @@
 //! The entries of a call frame section: CIEs and FDEs (DWARF 5 section 6.4.1; LSB, `.eh_frame`).
 ghost use Rattle.std.specs.Prelude.{◌≡◌, ◌≤◌, ◌<◌, ℕ, IfOk, length, take};
 ghost use Rattle.framehop_cfi.specs.Span.{IsWithin};
-ghost use Rattle.framehop_cfi.specs.Entry.{eh_frame_id, debug_frame_id, id_at, head_at, cie_at, fde_at, cie_fields, fde_fields, sizes_at, sizes_of, return_register_at, alignments_at, skipped_at, EndsWithin, bases_of, is_known_version, versioned_fields, fde_range};
+ghost use Rattle.framehop_cfi.specs.Entry.{eh_frame_id, debug_frame_id, id_at, head_at, cie_at, fde_at, cie_fields, fde_fields, sizes_at, sizes_of, return_register_at, alignments_at, skipped_at, EndsWithin, EndsBefore, entry_of_head, bases_of, is_known_version, versioned_fields, fde_range};
 
 use crate::bytes::{read_u8, read_u32, read_u64};
 use crate::leb128::{read_sleb128, read_uleb128};
@@ -58,6 +58,13 @@ pub struct FrameDescriptionEntry {
     pub instructions: usize,
     /// The offset behind the entry.
     pub end: usize,
+}
+
+/// An entry of a section.
+#[derive(Clone, Copy, Debug, PartialEq, Eq)]
+pub enum CieOrFde {
+    Cie(CommonInformationEntry),
+    Fde(FrameDescriptionEntry),
 }
 
 /// A call frame section.
@@ -263,6 +270,25 @@ impl<'a> UnwindSection<'a> {
             instructions: augmentation.behind,
             end,
         })
+    }
+
+    /// The entry at an offset that begins with a head.
+    pub fn entry_of_head(&self, head: EntryHead) -> Result<CieOrFde, ReadError>
+        requires { EndsBefore self.now.bytes.now head }
+        ensures { result ≡ entry_of_head self.now.section_type self.now.bases self.now.bytes.now head }
+    {
+        match head {
+            EntryHead::ZeroLength(_) => Err(ReadError::NotFde),
+            EntryHead::Cie(fields, end) => {
+                let cie = self.read_cie(fields, end)?;
+                Ok(CieOrFde::Cie(cie))
+            }
+            EntryHead::Fde(named, fields, end) => {
+                let cie = self.cie_from_offset(named)?;
+                let fde = self.read_fde(&cie, fields, end)?;
+                Ok(CieOrFde::Fde(fde))
+            }
+        }
     }
 
     /// The FDE at an offset, with the CIE at the offset that it names.
