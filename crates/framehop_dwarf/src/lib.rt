@@ -1,0 +1,4 @@
+//! DWARF call frame information: an index of a section's FDEs.
+#![tactic(auto)]
+
+pub mod index;
