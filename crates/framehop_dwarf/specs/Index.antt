@@ -1,5 +1,5 @@
 -- The FDE of an address, among all FDEs of a section.
-use Rattle.std.specs.Prelude.{ℕ, ◌+◌, ◌-◌, ◌^◌, ◌<◌, ◌≤◌, ◌≡◌, ◌≢◌, Bool, List, [], ◌∷◌, Option, Some, None, option_map, Result, Ok, Err, nat_le, nat_lt, ◌==◌, ◌||◌, ◌&&◌, if◌then◌else◌}
+use Rattle.std.specs.Prelude.{ℕ, ◌+◌, ◌-◌, ◌^◌, ◌<◌, ◌≤◌, ◌≡◌, ◌≢◌, Bool, IsTrue, length, slice_index, List, [], ◌∷◌, Option, Some, None, option_map, Result, Ok, Err, nat_le, nat_lt, ◌==◌, ◌||◌, ◌&&◌, if◌then◌else◌}
 use Rattle.framehop_cfi.specs.Bytes.{◌>>=◌}
 use Rattle.framehop_cfi.specs.Entry.{cie_at, fde_of_head}
 use Rattle.framehop_cfi.specs.Entries.{Section, refused_by, walk_all}
@@ -60,3 +60,8 @@ IsKnown section (Some known) = cie_at section.kind section.bases section.bytes k
 abbrev pub Gives : {X Y : Type 0} → (X → Y) → Result X DwarfCfiIndexError → Result Y DwarfCfiIndexError → Type 0
 Gives view (Ok made) wanted = wanted ≡ Ok (view made)
 Gives view (Err error) wanted = error ≢ Gimli OutOfMemory → wanted ≡ Err error
+
+-- a table in order: as many starts as offsets, and no row behind a later one
+pub record IsTable (starts offsets : List ℕ) : Type 0 where
+  pub same : length starts ≡ length offsets
+  pub ordered : (i j : ℕ) → i ≤ j → j < length starts → IsTrue (is_before (slice_index starts i, slice_index offsets i) (slice_index starts j, slice_index offsets j))

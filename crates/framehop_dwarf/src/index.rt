@@ -1,15 +1,18 @@
 //! An index of a section's FDEs by their starts, for a section that has no table of its own.
 ghost use Rattle.std.specs.Prelude.{◌≡◌, ◌≢◌, ◌<◌, ◌≤◌, length, take, IfOk, IfErr, OnOk, Ok, Err};
+ghost use Rattle.std.specs.Prelude.{IsPermutation, ℕ, map};
 ghost use Rattle.framehop_cfi.specs.Entry.{cie_at, bases_of};
 ghost use Rattle.framehop_cfi.specs.Entries.{Section};
 ghost use Rattle.framehop_dwarf.specs.Index.{row_of, rows_of, row_at, fde_offset_at, read_row_of, IsKnown, Gives};
 ghost use Rattle.framehop_cfi.specs.declared.entry.EntryHead.TheVariants.{Fde};
 
 use std::alloc::{AllocError, Global};
+use std::marker::Model;
 
 use framehop_cfi::entry::{
     CommonInformationEntry, EntryHead, FrameDescriptionEntry, UnwindSection, UnwindSectionType,
 };
+use framehop_cfi::place::{Starts, place};
 use framehop_cfi::pointer::BaseAddresses;
 use framehop_cfi::read_error::ReadError;
 use thiserror::Error;
@@ -136,4 +139,87 @@ fn read_rows(
         }
     }
     Ok(rows)
+}
+
+/// An index of a section's FDEs: their starts in order, and the offset of each.
+#[derive(Drop)]
+pub struct DwarfCfiIndex {
+    /// The FDEs' starts relative to the base address, in order.
+    sorted_fde_pc_starts: Vec<u32>,
+    /// The offset of the FDE that begins at the start of the same index. Among equal starts these are in
+    /// order too, so the last of them stands last in the section.
+    fde_offsets: Vec<u32>,
+}
+
+impl Model for DwarfCfiIndex {
+    ghost use Rattle.std.specs.Prelude.{List, ℕ};
+    ghost use Rattle.std.specs.List.{zip};
+    ghost use Rattle.framehop_dwarf.specs.Index.{IsTable};
+
+    ghost Value = { List (ℕ × ℕ) };
+
+    ghost view = { λ index. zip index.sorted_fde_pc_starts.items index.fde_offsets.items };
+
+    ghost invariant = { λ index. IsTable index.sorted_fde_pc_starts.items index.fde_offsets.items };
+}
+
+/// The starts of an index, as a table.
+#[derive(Clone, Copy)]
+struct SortedStarts<'a>(&'a [u32]);
+
+impl<'a> Starts for SortedStarts<'a> {
+    ghost starts = { λ table. table.0.now };
+
+    fn count(&self) -> usize {
+        self.0.len()
+    }
+
+    fn start(&self, index: usize) -> u64 {
+        u64::from(self.0[index])
+    }
+}
+
+impl DwarfCfiIndex {
+    /// The offset of the FDE with the greatest start at or below a relative address; among equal starts
+    /// that of the last in the section.
+    pub fn fde_offset_for_relative_address(&self, rel_lookup_address: u32) -> Option<u32>
+        ensures { result ≡ fde_offset_at self.now rel_lookup_address }
+    {
+        let starts = self.sorted_fde_pc_starts.as_slice();
+        if starts.is_empty() {
+            return None;
+        }
+        let index = place(&SortedStarts(starts), u64::from(rel_lookup_address));
+        if starts[index] > rel_lookup_address {
+            return None;
+        }
+        Some(self.fde_offsets[index])
+    }
+
+    /// The index of rows that are read.
+    fn from_rows(alloc: Global, mut rows: Vec<(u32, u32)>) -> Result<Self, AllocError>
+        ensures { IfOk result (λ index. IsPermutation rows.items index) }
+    {
+        rows.sort_unstable();
+        let sorted_fde_pc_starts = starts_of(alloc, &rows)?;
+        let fde_offsets = offsets_of(alloc, &rows)?;
+        Ok(DwarfCfiIndex {
+            sorted_fde_pc_starts,
+            fde_offsets,
+        })
+    }
+}
+
+/// The rows' starts.
+fn starts_of(alloc: Global, rows: &[(u32, u32)]) -> Result<Vec<u32>, AllocError>
+    ensures { IfOk result (λ starts. starts.items ≡ map (λ (row : ℕ × ℕ). row.0) rows.now) }
+{
+    rows.iter().map(|row| row.0).collect(alloc)
+}
+
+/// The rows' offsets.
+fn offsets_of(alloc: Global, rows: &[(u32, u32)]) -> Result<Vec<u32>, AllocError>
+    ensures { IfOk result (λ offsets. offsets.items ≡ map (λ (row : ℕ × ℕ). row.1) rows.now) }
+{
+    rows.iter().map(|row| row.1).collect(alloc)
 }
