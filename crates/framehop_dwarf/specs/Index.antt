@@ -65,3 +65,12 @@ Gives view (Err error) wanted = error ≢ Gimli OutOfMemory → wanted ≡ Err e
 pub record IsTable (starts offsets : List ℕ) : Type 0 where
   pub same : length starts ≡ length offsets
   pub ordered : (i j : ℕ) → i ≤ j → j < length starts → IsTrue (is_before (slice_index starts i, slice_index offsets i) (slice_index starts j, slice_index offsets j))
+
+-- what an index is of the rows that were wanted: it has the same row for each address; a refusal is the one that was wanted, unless memory was refused
+abbrev pub IsIndexOf : Result (List (ℕ × ℕ)) DwarfCfiIndexError → List (ℕ × ℕ) → Type 0
+IsIndexOf wanted index =
+    (rows : List (ℕ × ℕ)) × (wanted ≡ Ok rows) × ((address : ℕ) → fde_offset_at index address ≡ fde_offset_at rows address)
+
+abbrev pub Indexes : Result (List (ℕ × ℕ)) DwarfCfiIndexError → Result (List (ℕ × ℕ)) DwarfCfiIndexError → Type 0
+Indexes (Ok index) wanted = IsIndexOf wanted index
+Indexes (Err error) wanted = error ≢ Gimli OutOfMemory → wanted ≡ Err error

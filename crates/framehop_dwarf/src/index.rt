@@ -3,7 +3,9 @@ ghost use Rattle.std.specs.Prelude.{◌≡◌, ◌≢◌, ◌<◌, ◌≤◌, le
 ghost use Rattle.std.specs.Prelude.{IsPermutation, ℕ, map};
 ghost use Rattle.framehop_cfi.specs.Entry.{cie_at, bases_of};
 ghost use Rattle.framehop_cfi.specs.Entries.{Section};
-ghost use Rattle.framehop_dwarf.specs.Index.{row_of, rows_of, row_at, fde_offset_at, read_row_of, IsKnown, Gives};
+ghost use Rattle.framehop_dwarf.specs.Index.{row_of, rows_of, row_at, fde_offset_at, read_row_of, IsKnown, Gives, Indexes};
+ghost use Rattle.framehop_dwarf.specs.Bases.{base_addresses_of};
+ghost use Rattle.framehop_cfi.specs.declared.entry.UnwindSectionType.TheVariants.{EhFrame, DebugFrame};
 ghost use Rattle.framehop_cfi.specs.declared.entry.EntryHead.TheVariants.{Fde};
 
 use std::alloc::{AllocError, Global};
@@ -15,7 +17,10 @@ use framehop_cfi::entry::{
 use framehop_cfi::place::{Starts, place};
 use framehop_cfi::pointer::BaseAddresses;
 use framehop_cfi::read_error::ReadError;
+use framehop_cfi::section::ModuleSectionInfo;
 use thiserror::Error;
+
+use crate::bases::base_addresses_for_sections;
 
 /// Why a section has no index.
 #[derive(Clone, Copy, Debug, PartialEq, Eq, Error)]
@@ -180,6 +185,56 @@ impl<'a> Starts for SortedStarts<'a> {
 }
 
 impl DwarfCfiIndex {
+    /// The index of a section, whose pointers count from these addresses. Starts are taken relative to
+    /// `base_svma`.
+    ///
+    /// The first entry in the section that can't be read, or whose start or offset does not fit, is the
+    /// error.
+    pub fn try_new(
+        alloc: Global,
+        section: &[u8],
+        section_type: UnwindSectionType,
+        bases: &BaseAddresses,
+        base_svma: u64,
+    ) -> Result<Self, DwarfCfiIndexError>
+        ensures { Indexes result (rows_of (record { kind = section_type; bases = bases_of section_type bases.now; bytes = section.now }) base_svma) }
+    {
+        let section = UnwindSection::new(section, section_type, bases);
+        let rows = read_rows(alloc, &section, base_svma)?;
+        match Self::from_rows(alloc, rows) {
+            Ok(index) => Ok(index),
+            Err(_) => Err(DwarfCfiIndexError::Gimli(ReadError::OutOfMemory)),
+        }
+    }
+
+    /// The index of an `.eh_frame` section, by the base addresses of its module.
+    pub fn try_new_eh_frame<D, I: ModuleSectionInfo<D>>(
+        alloc: Global,
+        eh_frame_data: &[u8],
+        section_info: &mut I,
+    ) -> Result<Self, DwarfCfiIndexError>
+        ensures index { Indexes result (rows_of (record { kind = EhFrame; bases = bases_of EhFrame (base_addresses_of (I.table section_info.old).sections); bytes = eh_frame_data.now }) (I.table section_info.old).base_svma) }
+        ensures kept { I.table section_info.new ≡ I.table section_info.old }
+    {
+        let bases = base_addresses_for_sections(section_info);
+        let base_svma = section_info.base_svma();
+        Self::try_new(alloc, eh_frame_data, UnwindSectionType::EhFrame, &bases, base_svma)
+    }
+
+    /// The index of a `.debug_frame` section, by the base addresses of its module.
+    pub fn try_new_debug_frame<D, I: ModuleSectionInfo<D>>(
+        alloc: Global,
+        debug_frame_data: &[u8],
+        section_info: &mut I,
+    ) -> Result<Self, DwarfCfiIndexError>
+        ensures index { Indexes result (rows_of (record { kind = DebugFrame; bases = bases_of DebugFrame (base_addresses_of (I.table section_info.old).sections); bytes = debug_frame_data.now }) (I.table section_info.old).base_svma) }
+        ensures kept { I.table section_info.new ≡ I.table section_info.old }
+    {
+        let bases = base_addresses_for_sections(section_info);
+        let base_svma = section_info.base_svma();
+        Self::try_new(alloc, debug_frame_data, UnwindSectionType::DebugFrame, &bases, base_svma)
+    }
+
     /// The offset of the FDE with the greatest start at or below a relative address; among equal starts
     /// that of the last in the section.
     pub fn fde_offset_for_relative_address(&self, rel_lookup_address: u32) -> Option<u32>

@@ -1,4 +1,5 @@
 //! DWARF call frame information: an index of a section's FDEs.
 #![tactic(auto)]
 
+pub mod bases;
 pub mod index;
