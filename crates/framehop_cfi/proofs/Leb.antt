@@ -1,12 +1,12 @@
 -- The groups of a LEB128 number, byte by byte.
-use Rattle.std.proofs.Common.{◌≡◌, ℕ, zero, suc, ◌+◌, ◌*◌, ◌^◌, ◌%◌, ◌<◌, ◌≤◌, List, [], ◌∷◌, length, drop, get_or, take, cond, leb, true, false, Ok, Err, refl, ap, sym, ◌∙◌, arith, rules, tests, slice_index, get_or-drop, add-one, add-suc}
+use Rattle.std.proofs.Common.{◌≡◌, ℕ, zero, suc, ◌+◌, ◌*◌, ◌^◌, ◌%◌, ◌<◌, ◌≤◌, List, [], ◌∷◌, length, drop, get_or, take, cond, leb, true, false, Ok, Err, refl, ap, sym, ◌∙◌, arith, rules, tests, slice_index, get_or-drop, add-one, add-zero, IsTrue, ℤ}
 use Rattle.std.proofs.lemmas.Bool.Decides.{nat_tests}
 use Rattle.std.proofs.lemmas.List.{get_or_past}
 use Rattle.std.proofs.lemmas.Nat.{and_mask, shl_whole, pow-add}
 use Rattle.std.proofs.Math.Nat.{mul-le-mul_right}
 use Rattle.std.specs.Prelude.{bit_and}
 use Rattle.framehop_cfi.specs.Bytes.{Reading}
-use Rattle.framehop_cfi.specs.Leb128.{continued, sum_of_groups, groups_at}
+use Rattle.framehop_cfi.specs.Leb128.{continued, sum_of_groups, groups_at, uleb_at, sleb_at, with_sign, fits_i64}
 use Rattle.framehop_cfi.specs.declared.read_error.ReadError.TheVariants.{Eof, BadLeb}
 
 -- so many bytes say that more follow, and the next one doesn't
@@ -72,3 +72,18 @@ module _ (bytes : List ℕ) (at count next sum low : ℕ) (few : count < 10) (pl
   pub below-after : sum < 2 ^ (7 * count) → sum + low * 2 ^ (7 * count) % 2 ^ 128 < 2 ^ (7 * (count + 1))
   below-after below =
       rw (read, shifted (get_or bytes next 0) count few) (below-more sum (get_or bytes next 0) count below)
+
+-- a number of one byte
+module _ (bytes : List ℕ) (at : ℕ) (within : at < length bytes) (last : get_or bytes at 0 < 128) where
+  one-group : (n : ℕ) → n ≡ get_or bytes at 0 → Ok ((n, 7), at + 1) ≡ groups_at bytes at
+  one-group n is =
+      let e : get_or bytes at 0 ≡ sum_of_groups bytes at (0 + 1) = rw add-zero (omega arith) in
+      groups-last bytes at 0 (λ k below. absurd (omega arith)) (omega arith) (omega arith) (rw add-zero last) n 7 (at + 1) (is ∙ e) refl (omega arith)
+
+  pub uleb-short : (n : ℕ) → n ≡ get_or bytes at 0 → Ok (n, at + 1) ≡ uleb_at bytes at
+  unfolding uleb_at
+  uleb-short n is = rw (← one-group n is) (grind (arith, nat_tests))
+
+  pub sleb-short : (n : ℕ) (z : ℤ) → n ≡ get_or bytes at 0 → z ≡ with_sign n 7 → IsTrue (fits_i64 z) → Ok (z, at + 1) ≡ sleb_at bytes at
+  unfolding sleb_at
+  sleb-short n z is signed fits = rw (← one-group n is) (grind (arith, nat_tests))

@@ -1,5 +1,5 @@
 //! LEB128 numbers: groups of seven bits, the lowest first (DWARF 5 section 7.6).
-ghost use Rattle.std.specs.Prelude.{◌≡◌, ◌≢◌, Err, ◌+◌, ◌*◌, ◌<◌, ◌≤◌, ◌^◌, IfOk, Some, None, if◌then◌else◌};
+ghost use Rattle.std.specs.Prelude.{◌≡◌, ◌≢◌, Err, ◌+◌, ◌*◌, ◌<◌, ◌≤◌, ◌^◌, IfOk, IsTrue, Some, None, if◌then◌else◌};
 ghost use Rattle.framehop_cfi.specs.Leb128.{groups_at, uleb_at, sleb_at, with_sign, fits_i64};
 
 use crate::read_error::ReadError;
@@ -36,6 +36,9 @@ pub fn read_uleb128(bytes: &[u8], at: usize) -> Result<(u64, usize), ReadError>
     ensures forward { IfOk result (λ read. at < read.1) }
     ensures memory { result ≢ Err ReadError.OutOfMemory }
 {
+    if at < bytes.len() && bytes[at] < 0x80 {
+        return Ok((u64::from(bytes[at]), at + 1));
+    }
     let ((sum, _bits), next) = read_groups(bytes, at)?;
     match u64::try_from(sum) {
         Ok(number) => Ok((number, next)),
@@ -51,6 +54,9 @@ pub fn read_sleb128(bytes: &[u8], at: usize) -> Result<(i64, usize), ReadError>
     ensures forward { IfOk result (λ read. at < read.1) }
     ensures memory { result ≢ Err ReadError.OutOfMemory }
 {
+    if at < bytes.len() && bytes[at] < 0x80 {
+        return Ok((short_signed(bytes[at]), at + 1));
+    }
     let ((sum, bits), next) = read_groups(bytes, at)?;
     match signed(sum, bits) {
         Some(number) => Ok((number, next)),
@@ -74,5 +80,18 @@ fn signed(sum: u128, bits: u32) -> Option<i64>
     match i64::try_from(value) {
         Ok(number) => Some(number),
         Err(_) => None,
+    }
+}
+
+/// The signed number of one group.
+fn short_signed(group: u8) -> i64
+    requires { group < 128 }
+    ensures signed { result ≡ with_sign group 7 }
+    ensures fits { IsTrue (fits_i64 result) }
+{
+    if group < 0x40 {
+        i64::from(group)
+    } else {
+        i64::from(group) - 0x80
     }
 }
