@@ -5,6 +5,7 @@ pub mod Entries
 pub mod Entry
 pub mod Header
 pub mod Instruction
+pub mod Layout
 pub mod Leb128
 pub mod Machine
 pub mod Outcome

@@ -1,7 +1,9 @@
 //! The binary search table of `.eh_frame_hdr` (LSB, `.eh_frame_hdr`), read in place.
-ghost use Rattle.std.specs.Prelude.{◌≡◌, ◌<◌, ◌≤◌, ◌+◌, ◌*◌, length, IfOk, IfSome, IfNone, IsErr, Ok};
-ghost use Rattle.framehop_cfi.specs.Header.{size_of_format, table_size, held_rows, encoded_at, checked_at, encodings_at, layout_of, start_of_row, fde_of_row, starts_of, offset_from, fde_offset_of, value_of, HoldsRows};
+ghost use Rattle.std.specs.Prelude.{◌≡◌, ◌<◌, ◌≤◌, ◌+◌, ◌*◌, ◌^◌, IfOk, IfSome, IfNone, IsErr, Ok};
+ghost use Rattle.framehop_cfi.specs.Header.{size_of_format, table_size, held_rows, encoded_at, checked_at, encodings_at, layout_of, start_of_row, fde_of_row, starts_of, offset_from, fde_offset_of, value_of};
 ghost use Rattle.framehop_cfi.specs.Pointer.{pointer_at};
+
+use std::marker::Model;
 
 use crate::bytes::read_u8;
 use crate::place::{Starts, place};
@@ -9,18 +11,48 @@ use crate::pointer::{SectionBaseAddresses, read_raw_pointer};
 use crate::read_error::ReadError;
 
 /// Where the header's table lies, and how it is encoded.
-#[derive(Clone, Copy, Debug, PartialEq, Eq)]
+#[derive(Clone, Copy)]
 pub struct TableLayout {
     /// Where `.eh_frame` begins, an SVMA.
-    pub eh_frame_pointer: u64,
+    eh_frame_pointer: u64,
     /// The encoding of the table's addresses.
-    pub encoding: u8,
+    encoding: u8,
     /// The size of each of them in bytes.
-    pub size: usize,
+    size: usize,
     /// How many rows there are.
-    pub count: usize,
+    count: usize,
     /// The offset of the first row.
-    pub rows: usize,
+    rows: usize,
+}
+
+impl Model for TableLayout {
+    ghost use Rattle.framehop_cfi.specs.Layout.{Layout, HasRows};
+
+    ghost Value = { Layout };
+
+    ghost view = { λ layout. record {
+        eh_frame_pointer = layout.eh_frame_pointer;
+        encoding = layout.encoding;
+        size = layout.size;
+        count = layout.count;
+        rows = layout.rows
+    } };
+
+    ghost invariant = { λ layout. HasRows (record {
+        eh_frame_pointer = layout.eh_frame_pointer;
+        encoding = layout.encoding;
+        size = layout.size;
+        count = layout.count;
+        rows = layout.rows
+    }) };
+
+    ghost inverse = { λ layout. record {
+        eh_frame_pointer = layout.eh_frame_pointer;
+        encoding = layout.encoding;
+        size = layout.size;
+        count = layout.count;
+        rows = layout.rows
+    } };
 }
 
 /// The size of a table's numbers, by their format.
@@ -43,14 +75,51 @@ impl TableLayout {
     /// The layout that a header tells. Anything that is not read here is an error.
     #[tactic(auto, unfolding(crate::specs::Header::layout_of))]
     pub fn parse(bytes: &[u8], bases: &SectionBaseAddresses) -> Result<TableLayout, ReadError>
-        ensures exact { result ≡ layout_of bases.now bytes.now }
-        ensures holds { IfOk result (λ layout. HoldsRows layout bytes.now) }
+        ensures { result ≡ layout_of bases.now bytes.now }
     {
         let (version, next) = read_u8(bytes, 0)?;
         if version != 1 {
             return Err(ReadError::UnknownVersion);
         }
         TableLayout::parse_encodings(bytes, next, bases)
+    }
+
+    /// Where `.eh_frame` begins, an SVMA.
+    pub fn eh_frame_pointer(&self) -> u64
+        ensures { result ≡ self.now.eh_frame_pointer }
+    {
+        self.eh_frame_pointer
+    }
+
+    /// The encoding of the table's addresses.
+    pub fn encoding(&self) -> u8
+        ensures { result ≡ self.now.encoding }
+    {
+        self.encoding
+    }
+
+    /// The size of the table's addresses in bytes.
+    pub fn size(&self) -> usize
+        ensures { result ≡ self.now.size }
+    {
+        self.size
+    }
+
+    /// How many rows there are: one at least.
+    pub fn count(&self) -> usize
+        ensures count { result ≡ self.now.count }
+        ensures some { 0 < result }
+    {
+        self.count
+    }
+
+    /// The offset of a row.
+    pub fn row(&self, index: usize) -> usize
+        requires { index < self.now.count }
+        ensures row { result ≡ self.now.rows + 2 * self.now.size * index }
+        ensures fits { result + self.now.size < 2 ^ 64 }
+    {
+        self.rows + 2 * self.size * index
     }
 
     /// The encodings behind the version.
@@ -60,8 +129,7 @@ impl TableLayout {
         at: usize,
         bases: &SectionBaseAddresses,
     ) -> Result<TableLayout, ReadError>
-        ensures exact { result ≡ encodings_at bases.now bytes.now at }
-        ensures holds { IfOk result (λ layout. HoldsRows layout bytes.now) }
+        ensures { result ≡ encodings_at bases.now bytes.now at }
     {
         let (pointer_encoding, next) = read_u8(bytes, at)?;
         let (count_encoding, next) = read_u8(bytes, next)?;
@@ -89,8 +157,7 @@ impl TableLayout {
         count_encoding: u8,
         table_encoding: u8,
     ) -> Result<TableLayout, ReadError>
-        ensures exact { result ≡ encoded_at bases.now pointer_encoding count_encoding table_encoding bytes.now at }
-        ensures holds { IfOk result (λ layout. HoldsRows layout bytes.now) }
+        ensures { result ≡ encoded_at bases.now pointer_encoding count_encoding table_encoding bytes.now at }
     {
         let (eh_frame_pointer, next) = bases.read_pointer(bytes, at, pointer_encoding)?;
         let (count, rows) = read_raw_pointer(bytes, next, count_encoding)?;
@@ -118,7 +185,6 @@ pub struct EhFrameHdr<'a> {
     pub bases: SectionBaseAddresses,
     /// What the header tells.
     pub layout: TableLayout,
-    ghost holds: { HoldsRows layout bytes.now },
 }
 
 impl<'a> EhFrameHdr<'a> {
@@ -143,15 +209,15 @@ impl<'a> EhFrameHdr<'a> {
         requires { index < self.now.layout.count }
         ensures { result ≡ fde_of_row self.now.bases self.now.layout self.now.bytes.now index }
     {
-        let row = self.layout.rows + 2 * self.layout.size * index;
-        self.number_at(row + self.layout.size)
+        let row = self.layout.row(index);
+        self.number_at(row + self.layout.size())
     }
 
     /// The address that stands at an offset of the table.
     fn number_at(&self, at: usize) -> u64
         ensures { result ≡ value_of (pointer_at self.now.bases self.now.layout.encoding self.now.bytes.now at) }
     {
-        match self.bases.read_pointer(self.bytes, at, self.layout.encoding) {
+        match self.bases.read_pointer(self.bytes, at, self.layout.encoding()) {
             Ok((address, _)) => address,
             Err(_) => 0,
         }
@@ -162,8 +228,10 @@ impl<'a> EhFrameHdr<'a> {
     pub fn fde_offset_for_address(&self, address: u64) -> Option<u32>
         ensures { result ≡ fde_offset_of self.now.bases self.now.layout self.now.bytes.now address }
     {
+        let rows = self.layout.count();
+        prove!(rows > 0);
         let fde = self.fde_address(place(self, address));
-        let offset = fde.checked_sub(self.layout.eh_frame_pointer)?;
+        let offset = fde.checked_sub(self.layout.eh_frame_pointer())?;
         u32::try_from(offset).ok()
     }
 }
@@ -173,11 +241,11 @@ impl<'a> Starts for EhFrameHdr<'a> {
 
     #[tactic(auto, unfolding(crate::specs::Header::starts_of))]
     fn count(&self) -> usize {
-        self.layout.count
+        self.layout.count()
     }
 
     #[tactic(auto, unfolding(crate::specs::Header::starts_of, crate::specs::Header::start_of_row))]
     fn start(&self, index: usize) -> u64 {
-        self.number_at(self.layout.rows + 2 * self.layout.size * index)
+        self.number_at(self.layout.row(index))
     }
 }

@@ -3,3 +3,4 @@
 
 pub mod bases;
 pub mod index;
+pub mod unwinder;

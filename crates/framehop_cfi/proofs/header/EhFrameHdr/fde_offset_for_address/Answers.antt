@@ -5,7 +5,7 @@ use Rattle.framehop_cfi.proofs.header.EhFrameHdr.fde_offset_for_address.Goals as
 pub place-requires : goal.place-requires
 place-requires c =
     let header = c.args.self.now in
-    omega (arith, length-starts_of header.bases header.layout header.bytes.now, header.holds.some)
+    omega (arith, length-starts_of header.bases header.layout header.bytes.now, c.count-rows.ensures.count, c.count-rows.ensures.some)
 
 pub fde_address-fde-requires : goal.fde_address-fde-requires
 fde_address-fde-requires c =

@@ -1,0 +1,67 @@
+//! What unwinds by the call frame information of a module.
+ghost use Rattle.std.specs.Prelude.{◌≡◌, ◌+◌, ◌^◌, ◌≤◌, MatchOption, IsErr};
+ghost use Rattle.framehop_cfi.specs.Entry.{bases_of};
+ghost use Rattle.framehop_cfi.specs.Header.{layout_of, fde_offset_of};
+ghost use Rattle.framehop_dwarf.specs.Unwinder.{header_bases};
+
+use std::marker::PhantomData;
+
+use framehop_cfi::context::UnwindContext;
+use framehop_cfi::entry::{UnwindSection, UnwindSectionType};
+use framehop_cfi::header::EhFrameHdr;
+use framehop_cfi::pointer::{BaseAddresses, SectionBaseAddresses};
+use framehop_cfi::storage::UnwindContextStorage;
+
+/// What a header's pointers count from.
+pub fn header_bases(bases: &BaseAddresses) -> SectionBaseAddresses
+    ensures { result ≡ header_bases bases.now }
+{
+    SectionBaseAddresses {
+        section: bases.eh_frame_hdr,
+        text: bases.text,
+        data: bases.eh_frame_hdr,
+    }
+}
+
+/// Finds FDEs and makes rows for the addresses of one module.
+pub struct DwarfUnwinder<'a, A, S: UnwindContextStorage> {
+    /// The module's call frame section.
+    pub section: UnwindSection<'a>,
+    /// Its table, if it has one that can be read.
+    pub eh_frame_hdr: Option<EhFrameHdr<'a>>,
+    /// The room for rows.
+    pub unwind_context: &'a mut UnwindContext<S>,
+    /// The module's base, an SVMA.
+    pub base_svma: u64,
+    arch: PhantomData<A>,
+}
+
+impl<'a, A, S: UnwindContextStorage> DwarfUnwinder<'a, A, S> {
+    /// An unwinder over a module's sections.
+    pub fn new(
+        unwind_section_data: &'a [u8],
+        unwind_section_type: UnwindSectionType,
+        eh_frame_hdr_data: Option<&'a [u8]>,
+        unwind_context: &'a mut UnwindContext<S>,
+        bases: BaseAddresses,
+        base_svma: u64,
+    ) -> Self
+        ensures bytes { result.section.bytes.now ≡ unwind_section_data.now }
+        ensures section_type { result.section.section_type ≡ unwind_section_type }
+        ensures bases { result.section.bases ≡ bases_of unwind_section_type bases }
+        ensures base { result.base_svma ≡ base_svma }
+    {
+        let section = UnwindSection::new(unwind_section_data, unwind_section_type, &bases);
+        let eh_frame_hdr = match eh_frame_hdr_data {
+            Some(bytes) => EhFrameHdr::parse(bytes, header_bases(&bases)),
+            None => None,
+        };
+        DwarfUnwinder {
+            section,
+            eh_frame_hdr,
+            unwind_context,
+            base_svma,
+            arch: PhantomData,
+        }
+    }
+}
