@@ -1,5 +1,5 @@
 //! What unwinds by the call frame information of a module.
-ghost use Rattle.std.specs.Prelude.{◌≡◌, ◌+◌, ◌^◌, ◌≤◌, MatchOption, IsErr};
+ghost use Rattle.std.specs.Prelude.{◌≡◌, ◌+◌, MatchOption, IsErr, Ok, None};
 ghost use Rattle.framehop_cfi.specs.Entry.{bases_of};
 ghost use Rattle.framehop_cfi.specs.Header.{layout_of, fde_offset_of};
 ghost use Rattle.framehop_dwarf.specs.Unwinder.{header_bases};
@@ -50,6 +50,9 @@ impl<'a, A, S: UnwindContextStorage> DwarfUnwinder<'a, A, S> {
         ensures section_type { result.section.section_type ≡ unwind_section_type }
         ensures bases { result.section.bases ≡ bases_of unwind_section_type bases }
         ensures base { result.base_svma ≡ base_svma }
+        ensures header { MatchOption eh_frame_hdr_data.entry (result.eh_frame_hdr ≡ None) (λ bytes.
+            MatchOption result.eh_frame_hdr (IsErr (layout_of (header_bases bases) bytes.now)) (λ header.
+                (layout_of (header_bases bases) bytes.now ≡ Ok header.layout) × (header.bases ≡ header_bases bases) × (header.bytes.now ≡ bytes.now))) }
     {
         let section = UnwindSection::new(unwind_section_data, unwind_section_type, &bases);
         let eh_frame_hdr = match eh_frame_hdr_data {
@@ -62,6 +65,21 @@ impl<'a, A, S: UnwindContextStorage> DwarfUnwinder<'a, A, S> {
             unwind_context,
             base_svma,
             arch: PhantomData,
+        }
+    }
+
+    /// The offset in `.eh_frame` of the FDE that the table names for a relative address. The FDE may not
+    /// cover the address. Without a table there is none.
+    pub fn get_fde_offset_for_relative_address(&self, rel_lookup_address: u32) -> Option<u32>
+        ensures { MatchOption self.now.eh_frame_hdr (result ≡ None) (λ header.
+            result ≡ fde_offset_of header.bases header.layout header.bytes.now (self.now.base_svma + rel_lookup_address)) }
+    {
+        match &self.eh_frame_hdr {
+            Some(header) => {
+                let address = self.base_svma.saturating_add(u64::from(rel_lookup_address));
+                header.fde_offset_for_address(address)
+            }
+            None => None,
         }
     }
 }
