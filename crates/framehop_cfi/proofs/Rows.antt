@@ -11,5 +11,5 @@ recalling-front initial row rows count spare latest some within is =
     let n : length (take count rows) ≡ count = length-take-le count rows within in
     let below : count - 1 < count = omega arith in
     let here : slice_get (take count rows) (count - 1) ≡ Some latest =
-      slice_get_read (take count rows) count (count - 1) latest (sym n) below (is ∙ sym (get_or-take count rows (count - 1) latest below)) in
+    slice_get_read (take count rows) count (count - 1) latest (sym n) below (is ∙ sym (get_or-take count rows (count - 1) latest below)) in
     rw (n, here) (rw (n, take-take (count - 1) count rows (omega arith), take-set rows (count - 1) spare) refl)

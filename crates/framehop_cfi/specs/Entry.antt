@@ -25,7 +25,7 @@ unfoldable pub eh_frame_id : List ℕ → Span → Result EntryHead ReadError
 eh_frame_id bytes span = do
   id ← u32_at bytes span.contents
   if id.0 == 0 then Ok (Cie id.1 span.end)
-    else (if nat_le id.0 span.contents then Ok (Fde (span.contents - id.0) id.1 span.end) else Err NumberTooBig)
+      else (if nat_le id.0 span.contents then Ok (Fde (span.contents - id.0) id.1 span.end) else Err NumberTooBig)
 
 -- In `.debug_frame` a CIE's id is all ones, and an FDE's CIE lies at the offset in the field, of 4 or 8 bytes.
 unfoldable pub short_id : List ℕ → Span → Result EntryHead ReadError
@@ -83,7 +83,7 @@ alignments_at bases version letters bytes at end = do
     fde_pointer_encoding = augmentation.encoding;
     has_augmentation_data = augmentation.has_data;
     instructions = augmentation.behind;
-    end = end
+    end = end;
   })
 
 -- the versions that are read here
@@ -101,7 +101,7 @@ unfoldable pub cie_fields : UnwindSectionType → SectionBaseAddresses → List 
 cie_fields kind bases bytes at end = do
   version ← u8_at bytes at
   if is_known_version version.0 then versioned_fields kind bases version.0 bytes version.1 end
-    else Err UnknownVersion
+      else Err UnknownVersion
 
 -- the CIE at an offset
 abbrev pub cie_of_head : UnwindSectionType → SectionBaseAddresses → List ℕ → EntryHead → Result CommonInformationEntry ReadError

@@ -7,8 +7,8 @@ halved starts address zero low high = low
 halved starts address (suc n) low high =
     if nat_le (high - low) 1 then low
     else (let middle = low + (high - low) / 2 in
-      if nat_le (slice_index starts middle) address then halved starts address n middle high
-      else halved starts address n low middle)
+    if nat_le (slice_index starts middle) address then halved starts address n middle high
+    else halved starts address n low middle)
 
 -- the place of an address in a table of starts
 unfoldable pub place_of : List ℕ → ℕ → ℕ

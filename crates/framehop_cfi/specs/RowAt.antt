@@ -44,9 +44,9 @@ run limits program zero at location machine = Ok machine
 run limits program (suc n) at location machine =
     if nat_le (length program.bytes) at then Ok machine
     else (instruction_at program.cie program.bases program.bytes at >>= λ read.
-      location_after program.cie program.address location read.0 >>= λ moved.
-      if is_beyond program.address moved then Ok machine
-      else (effect limits read.0 machine >>= run limits program n read.1 moved))
+    location_after program.cie program.address location read.0 >>= λ moved.
+    if is_beyond program.address moved then Ok machine
+    else (effect limits read.0 machine >>= run limits program n read.1 moved))
 
 -- all the instructions from an offset on
 unfoldable pub run_from : Option StorageLimits → Program → ℕ → ℕ → Machine → Result Machine ReadError
@@ -74,6 +74,6 @@ covers fde address = nat_le fde.initial_address address && nat_lt address (fde.i
 unfoldable pub machine_at : Option StorageLimits → SectionBaseAddresses → List ℕ → FrameDescriptionEntry → ℕ → Result Machine ReadError
 machine_at limits bases bytes fde address =
     if covers fde address then (
-      run_from limits (program_of_cie bases bytes fde.cie) fde.cie.instructions 0 start >>= λ machine.
-      run_from limits (program_of_fde bases bytes fde address) fde.instructions fde.initial_address (begun machine))
+    run_from limits (program_of_cie bases bytes fde.cie) fde.cie.instructions 0 start >>= λ machine.
+    run_from limits (program_of_fde bases bytes fde address) fde.instructions fde.initial_address (begun machine))
     else Err NoRow

@@ -21,7 +21,7 @@ unfoldable pub span_at : List ℕ → ℕ → Result Span ReadError
 span_at bytes at = do
   short ← u32_at bytes at
   if nat_lt short.0 0xFFFFFFF0 then held bytes 4 short.1 short.0
-    else (if short.0 == 0xFFFFFFFF then long_span bytes short.1 else Err BadLength)
+      else (if short.0 == 0xFFFFFFFF then long_span bytes short.1 else Err BadLength)
 
 -- a length of 0 in 4 bytes, which is no entry
 abbrev pub is_zero_length : Span → Bool

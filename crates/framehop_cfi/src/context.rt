@@ -5,10 +5,6 @@ ghost use Rattle.framehop_cfi.specs.Machine.{effect, setting, restoring, restori
 ghost use Rattle.framehop_cfi.specs.Outcome.{Becomes};
 ghost use Rattle.framehop_cfi.specs.RowAt.{location_after, risen, is_beyond, run_from, machine_at, start, begun, covers};
 
-use std::alloc::{AllocError, Global};
-use std::marker::Model;
-use std::mem;
-
 use crate::entry::{CommonInformationEntry, FrameDescriptionEntry, UnwindSection};
 use crate::instruction::CallFrameInstruction;
 use crate::pointer::SectionBaseAddresses;
@@ -16,6 +12,9 @@ use crate::read_error::ReadError;
 use crate::row::UnwindTableRow;
 use crate::rule::{CfaRule, Register, RegisterRule};
 use crate::storage::UnwindContextStorage;
+use std::alloc::{AllocError, Global};
+use std::marker::Model;
+use std::mem;
 
 /// The room in which rows are made. It is made once and used for any number of rows.
 #[derive(Drop)]
@@ -123,7 +122,8 @@ impl<S: UnwindContextStorage> UnwindContext<S> {
     {
         match *self.row.cfa() {
             CfaRule::RegisterAndOffset { offset, .. } => {
-                self.row.set_cfa(CfaRule::RegisterAndOffset { register, offset });
+                self.row
+                    .set_cfa(CfaRule::RegisterAndOffset { register, offset });
                 Ok(())
             }
             CfaRule::Expression(_) => Err(ReadError::InvalidContext),
@@ -136,7 +136,8 @@ impl<S: UnwindContextStorage> UnwindContext<S> {
     {
         match *self.row.cfa() {
             CfaRule::RegisterAndOffset { register, .. } => {
-                self.row.set_cfa(CfaRule::RegisterAndOffset { register, offset });
+                self.row
+                    .set_cfa(CfaRule::RegisterAndOffset { register, offset });
                 Ok(())
             }
             CfaRule::Expression(_) => Err(ReadError::InvalidContext),

@@ -3,10 +3,10 @@ ghost use Rattle.std.specs.Prelude.{◌≡◌, ◌≤◌, ◌<◌, ℕ, IfOk, le
 ghost use Rattle.framehop_cfi.specs.Span.{IsWithin};
 ghost use Rattle.framehop_cfi.specs.Entry.{eh_frame_id, debug_frame_id, id_at, head_at, cie_at, fde_at, cie_fields, fde_fields, sizes_at, sizes_of, return_register_at, alignments_at, skipped_at, EndsWithin, EndsBefore, entry_of_head, bases_of, is_known_version, versioned_fields, fde_range};
 
+use crate::augmentation::{find_terminator, read_counted};
 use crate::bytes::{read_u8, read_u32, read_u64};
 use crate::leb128::{read_sleb128, read_uleb128};
 use crate::pointer::{BaseAddresses, DW_EH_PE_INDIRECT, SectionBaseAddresses, read_raw_pointer};
-use crate::augmentation::{find_terminator, read_counted};
 use crate::read_error::ReadError;
 use crate::span::{Span, read_span};
 
@@ -197,7 +197,8 @@ impl<'a> UnwindSection<'a> {
     /// An offset of an FDE or of a zero length is refused by `NotCie`.
     #[tactic(auto, unfolding(crate::specs::Entry::cie_at))]
     pub fn cie_from_offset(&self, at: usize) -> Result<CommonInformationEntry, ReadError>
-        ensures { result ≡ cie_at self.now.section_type self.now.bases self.now.bytes.now at }
+        ensures exact { result ≡ cie_at self.now.section_type self.now.bases self.now.bytes.now at }
+        ensures within { IfOk result (λ cie. cie.end ≤ length self.now.bytes.now) }
     {
         match self.head_at(at)? {
             EntryHead::Cie(fields, end) => self.read_cie(fields, end),
@@ -209,7 +210,8 @@ impl<'a> UnwindSection<'a> {
     #[tactic(auto, unfolding(crate::specs::Entry::cie_fields))]
     pub fn read_cie(&self, fields: usize, end: usize) -> Result<CommonInformationEntry, ReadError>
         requires { end ≤ length self.now.bytes.now }
-        ensures { result ≡ cie_fields self.now.section_type self.now.bases (take end self.now.bytes.now) fields end }
+        ensures exact { result ≡ cie_fields self.now.section_type self.now.bases (take end self.now.bytes.now) fields end }
+        ensures end { IfOk result (λ cie. cie.end ≡ end) }
     {
         let entry = &self.bytes[..end];
         let (version, next) = read_u8(entry, fields)?;
@@ -228,7 +230,8 @@ impl<'a> UnwindSection<'a> {
         at: usize,
         end: usize,
     ) -> Result<CommonInformationEntry, ReadError>
-        ensures { result ≡ versioned_fields self.now.section_type self.now.bases version entry.now at end }
+        ensures exact { result ≡ versioned_fields self.now.section_type self.now.bases version entry.now at end }
+        ensures end { IfOk result (λ cie. cie.end ≡ end) }
     {
         let terminator = find_terminator(entry, at)?;
         let sizes = self.skip_sizes(version, entry, terminator + 1)?;
@@ -256,7 +259,8 @@ impl<'a> UnwindSection<'a> {
         at: usize,
         end: usize,
     ) -> Result<CommonInformationEntry, ReadError>
-        ensures { result ≡ alignments_at self.now.bases version letters.now entry.now at end }
+        ensures exact { result ≡ alignments_at self.now.bases version letters.now entry.now at end }
+        ensures end { IfOk result (λ cie. cie.end ≡ end) }
     {
         let (code_alignment_factor, next) = read_uleb128(entry, at)?;
         let (data_alignment_factor, next) = read_sleb128(entry, next)?;
@@ -296,7 +300,8 @@ impl<'a> UnwindSection<'a> {
     /// An offset of a CIE or of a zero length is refused by `NotFde`.
     #[tactic(auto, unfolding(crate::specs::Entry::fde_at))]
     pub fn fde_from_offset(&self, at: usize) -> Result<FrameDescriptionEntry, ReadError>
-        ensures { result ≡ fde_at self.now.section_type self.now.bases self.now.bytes.now at }
+        ensures exact { result ≡ fde_at self.now.section_type self.now.bases self.now.bytes.now at }
+        ensures within { IfOk result (λ fde. (fde.end ≤ length self.now.bytes.now) × (fde.cie.end ≤ length self.now.bytes.now)) }
     {
         match self.head_at(at)? {
             EntryHead::Fde(named, fields, end) => {
@@ -315,7 +320,8 @@ impl<'a> UnwindSection<'a> {
         end: usize,
     ) -> Result<FrameDescriptionEntry, ReadError>
         requires { end ≤ length self.now.bytes.now }
-        ensures { result ≡ fde_fields self.now.bases cie.now (take end self.now.bytes.now) fields end }
+        ensures exact { result ≡ fde_fields self.now.bases cie.now (take end self.now.bytes.now) fields end }
+        ensures end { IfOk result (λ fde. (fde.end ≡ end) × (fde.cie ≡ cie.now)) }
     {
         if cie.fde_pointer_encoding >= DW_EH_PE_INDIRECT {
             return Err(ReadError::BadEncoding);
@@ -332,7 +338,8 @@ impl<'a> UnwindSection<'a> {
         at: usize,
         end: usize,
     ) -> Result<FrameDescriptionEntry, ReadError>
-        ensures { result ≡ fde_range self.now.bases cie.now entry.now at end }
+        ensures exact { result ≡ fde_range self.now.bases cie.now entry.now at end }
+        ensures end { IfOk result (λ fde. (fde.end ≡ end) × (fde.cie ≡ cie.now)) }
     {
         let encoding = cie.fde_pointer_encoding;
         let (initial_address, next) = self.bases.read_pointer(entry, at, encoding)?;

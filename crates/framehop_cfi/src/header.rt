@@ -3,12 +3,11 @@ ghost use Rattle.std.specs.Prelude.{◌≡◌, ◌<◌, ◌≤◌, ◌+◌, ◌*
 ghost use Rattle.framehop_cfi.specs.Header.{size_of_format, table_size, held_rows, encoded_at, checked_at, encodings_at, layout_of, start_of_row, fde_of_row, starts_of, offset_from, fde_offset_of, value_of};
 ghost use Rattle.framehop_cfi.specs.Pointer.{pointer_at};
 
-use std::marker::Model;
-
 use crate::bytes::read_u8;
 use crate::place::{Starts, place};
 use crate::pointer::{SectionBaseAddresses, read_raw_pointer};
 use crate::read_error::ReadError;
+use std::marker::Model;
 
 /// Where the header's table lies, and how it is encoded.
 #[derive(Clone, Copy)]
@@ -31,27 +30,27 @@ impl Model for TableLayout {
     ghost Value = { Layout };
 
     ghost view = { λ layout. record {
-        eh_frame_pointer = layout.eh_frame_pointer;
-        encoding = layout.encoding;
-        size = layout.size;
-        count = layout.count;
-        rows = layout.rows
+      eh_frame_pointer = layout.eh_frame_pointer;
+      encoding = layout.encoding;
+      size = layout.size;
+      count = layout.count;
+      rows = layout.rows;
     } };
 
     ghost invariant = { λ layout. HasRows (record {
-        eh_frame_pointer = layout.eh_frame_pointer;
-        encoding = layout.encoding;
-        size = layout.size;
-        count = layout.count;
-        rows = layout.rows
+      eh_frame_pointer = layout.eh_frame_pointer;
+      encoding = layout.encoding;
+      size = layout.size;
+      count = layout.count;
+      rows = layout.rows;
     }) };
 
     ghost inverse = { λ layout. record {
-        eh_frame_pointer = layout.eh_frame_pointer;
-        encoding = layout.encoding;
-        size = layout.size;
-        count = layout.count;
-        rows = layout.rows
+      eh_frame_pointer = layout.eh_frame_pointer;
+      encoding = layout.encoding;
+      size = layout.size;
+      count = layout.count;
+      rows = layout.rows;
     } };
 }
 
@@ -217,7 +216,10 @@ impl<'a> EhFrameHdr<'a> {
     fn number_at(&self, at: usize) -> u64
         ensures { result ≡ value_of (pointer_at self.now.bases self.now.layout.encoding self.now.bytes.now at) }
     {
-        match self.bases.read_pointer(self.bytes, at, self.layout.encoding()) {
+        match self
+            .bases
+            .read_pointer(self.bytes, at, self.layout.encoding())
+        {
             Ok((address, _)) => address,
             Err(_) => 0,
         }

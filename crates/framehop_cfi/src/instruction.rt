@@ -16,13 +16,22 @@ pub enum CallFrameInstruction {
     /// Nothing that a row tells.
     Nop,
     /// The location is that address, an SVMA.
-    SetLoc { address: u64 },
+    SetLoc {
+        address: u64,
+    },
     /// The location rises by `delta` times the code alignment.
-    AdvanceLoc { delta: u32 },
+    AdvanceLoc {
+        delta: u32,
+    },
     /// The register has that rule.
-    SetRule { register: Register, rule: RegisterRule },
+    SetRule {
+        register: Register,
+        rule: RegisterRule,
+    },
     /// The register has the rule that the CIE gave it.
-    Restore { register: Register },
+    Restore {
+        register: Register,
+    },
     /// The row is remembered.
     RememberState,
     /// The row is the one that was remembered last.
@@ -30,9 +39,13 @@ pub enum CallFrameInstruction {
     /// The CFA has that rule.
     DefCfa(CfaRule),
     /// The CFA counts from that register.
-    DefCfaRegister { register: Register },
+    DefCfaRegister {
+        register: Register,
+    },
     /// The CFA has that offset.
-    DefCfaOffset { offset: i64 },
+    DefCfaOffset {
+        offset: i64,
+    },
 }
 
 /// A register's number.

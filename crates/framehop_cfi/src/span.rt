@@ -34,12 +34,7 @@ pub fn read_span(bytes: &[u8], at: usize) -> Result<Span, ReadError>
 }
 
 /// Contents of that length, if the section holds them.
-fn held_span(
-    bytes: &[u8],
-    offset_size: u8,
-    contents: usize,
-    length: u64,
-) -> Result<Span, ReadError>
+fn held_span(bytes: &[u8], offset_size: u8, contents: usize, length: u64) -> Result<Span, ReadError>
     ensures exact { result ≡ held bytes.now offset_size contents length }
     ensures within { (at : ℕ) → at < contents → IfOk result (IsWithin bytes.now at) }
 {

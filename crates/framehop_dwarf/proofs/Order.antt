@@ -56,15 +56,17 @@ module _ (x : ℕ × ℕ) (rows : List (ℕ × ℕ)) (address : ℕ) where
   near-greatest None near rest = near-none near rest
   near-greatest (Some row) near rest =
       elim (cases_Bool (is_before x row)) as (λ _. Greatest (x ∷ rows) address (Some (if is_before x row then row else x))) [
-        inl e ↦ rw e (near-later row e rest)
-      | inr e ↦ rw e (near-earlier row e rest) ]
+        | inl e ↦ rw e (near-later row e rest)
+        | inr e ↦ rw e (near-earlier row e rest)
+      ]
 
   near-among : (o : Option (ℕ × ℕ)) → x.0 ≤ address → Among rows address o → Among (x ∷ rows) address (Some (later x o))
   near-among None near rest = (zero, omega arith, refl, near)
   near-among (Some row) near rest =
       elim (cases_Bool (is_before x row)) as (λ _. Among (x ∷ rows) address (Some (if is_before x row then row else x))) [
-        inl e ↦ rw e (moved row rest)
-      | inr e ↦ rw e (zero, omega arith, refl, near) ]
+        | inl e ↦ rw e (moved row rest)
+        | inr e ↦ rw e (zero, omega arith, refl, near)
+      ]
 
   far-greatest : (o : Option (ℕ × ℕ)) → address < x.0 → Greatest rows address o → Greatest (x ∷ rows) address o
   far-greatest None far rest = far-none far rest
@@ -78,15 +80,17 @@ pub greatest : (rows : List (ℕ × ℕ)) (address : ℕ) → Greatest rows addr
 greatest [] address = λ k d below. absurd (omega arith)
 greatest (x ∷ rows) address =
     elim (cases_lt address x.0) as (λ _. Greatest (x ∷ rows) address (row_at (x ∷ rows) address)) [
-      inl far ↦ rw (lt-leb x.0 address far) (far-greatest x rows address (row_at rows address) far (greatest rows address))
-    | inr near ↦ rw (le-leb x.0 address near) (near-greatest x rows address (row_at rows address) near (greatest rows address)) ]
+      | inl far ↦ rw (lt-leb x.0 address far) (far-greatest x rows address (row_at rows address) far (greatest rows address))
+      | inr near ↦ rw (le-leb x.0 address near) (near-greatest x rows address (row_at rows address) near (greatest rows address))
+    ]
 
 pub among : (rows : List (ℕ × ℕ)) (address : ℕ) → Among rows address (row_at rows address)
 among [] address = tt
 among (x ∷ rows) address =
     elim (cases_lt address x.0) as (λ _. Among (x ∷ rows) address (row_at (x ∷ rows) address)) [
-      inl far ↦ rw (lt-leb x.0 address far) (far-among x rows address (row_at rows address) (among rows address))
-    | inr near ↦ rw (le-leb x.0 address near) (near-among x rows address (row_at rows address) near (among rows address)) ]
+      | inl far ↦ rw (lt-leb x.0 address far) (far-among x rows address (row_at rows address) (among rows address))
+      | inr near ↦ rw (le-leb x.0 address near) (near-among x rows address (row_at rows address) near (among rows address))
+    ]
 
 -- two lists with the same elements
 abbrev pub Holds : List (ℕ × ℕ) → List (ℕ × ℕ) → Type 0

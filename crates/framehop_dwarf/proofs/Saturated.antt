@@ -29,7 +29,7 @@ halved-past starts a b (suc n) low high fit past over =
     let middle = low + (high - low) / 2 in
     let here = fit middle in
     rw (le-leb (get_or starts middle 0) a (omega arith), le-leb (get_or starts middle 0) b (omega arith))
-      (ap (λ place. if leb (high - low) 1 then low else place) (halved-past starts a b n middle high fit past over))
+    (ap (λ place. if leb (high - low) 1 then low else place) (halved-past starts a b n middle high fit past over))
 
 pub place_of-past : (starts : List ℕ) (a b : ℕ) → ((i : ℕ) → get_or starts i 0 < 2 ^ 64) → 2 ^ 64 ≤ a + 1 → 2 ^ 64 ≤ b + 1 → place_of starts a ≡ place_of starts b
 unfolding place_of
@@ -39,12 +39,14 @@ starts-fit : (bases : SectionBaseAddresses) (layout : Layout) (bytes : List ℕ)
 unfolding start_of_row
 starts-fit bases layout bytes i =
     elim (cases_lt i layout.count) as (λ _. get_or (starts_of bases layout bytes) i 0 < 2 ^ 64) [
-      inl below ↦ rw (get_or-starts_of bases layout bytes i below) (value_of-pointer_at bases layout.encoding bytes (layout.rows + 2 * layout.size * i))
-    | inr past ↦ (let long = length-starts_of bases layout bytes in let e = get_or_past (starts_of bases layout bytes) i 0 (omega arith) in omega arith) ]
+      | inl below ↦ rw (get_or-starts_of bases layout bytes i below) (value_of-pointer_at bases layout.encoding bytes (layout.rows + 2 * layout.size * i))
+      | inr past ↦ (let long = length-starts_of bases layout bytes in let e = get_or_past (starts_of bases layout bytes) i 0 (omega arith) in omega arith)
+    ]
 
 -- the FDE of an address is that of the address cut to 64 bits
 pub fde_offset_of-cut : (bases : SectionBaseAddresses) (layout : Layout) (bytes : List ℕ) (address cut : ℕ) → cut ≡ min address (2 ^ 64 - 1) → fde_offset_of bases layout bytes cut ≡ fde_offset_of bases layout bytes address
 fde_offset_of-cut bases layout bytes address cut is =
     elim (cases_lt address (2 ^ 64)) as (λ _. fde_offset_of bases layout bytes cut ≡ fde_offset_of bases layout bytes address) [
-      inl fits ↦ (let e : cut ≡ address = omega arith in rw e refl)
-    | inr beyond ↦ (let e = place_of-past (starts_of bases layout bytes) cut address (starts-fit bases layout bytes) (omega arith) (omega arith) in rw e refl) ]
+      | inl fits ↦ (let e : cut ≡ address = omega arith in rw e refl)
+      | inr beyond ↦ (let e = place_of-past (starts_of bases layout bytes) cut address (starts-fit bases layout bytes) (omega arith) (omega arith) in rw e refl)
+    ]

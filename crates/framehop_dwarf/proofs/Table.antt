@@ -77,9 +77,9 @@ module _ (starts offsets : List ℕ) (table : IsTable starts offsets) (address :
       let it : ℕ × ℕ = (get_or starts i 0, get_or offsets i 0) in
       let rows = zip starts offsets in
       let g : Greatest rows address (Some it) = λ k d under at.
-        let within : k < length starts = omega (arith, as-long) in
-        let e = row-of k d within in
-        subst (λ r. is_before r it ≡ true) (sym e) (table.ordered k i (last k within (subst (λ (r : ℕ × ℕ). r.0 ≤ address) e at)) below) in
+      let within : k < length starts = omega (arith, as-long) in
+      let e = row-of k d within in
+      subst (λ r. is_before r it ≡ true) (sym e) (table.ordered k i (last k within (subst (λ (r : ℕ × ℕ). r.0 ≤ address) e at)) below) in
       let a : Among rows address (Some it) = (i, omega (arith, as-long), row-of i it below, near) in
       ap (λ o. option_map (λ (r : ℕ × ℕ). r.1) o) (one-row_at rows rows address (Some it) (row_at rows address) (IsPermutation-refl rows) g a (greatest rows address) (among rows address))
 
@@ -87,9 +87,9 @@ module _ (starts offsets : List ℕ) (table : IsTable starts offsets) (address :
   row-missing far =
       let rows = zip starts offsets in
       let g : Greatest rows address None = λ k d under.
-        let within : k < length starts = omega (arith, as-long) in
-        let e = row-of k d within in
-        subst (λ (r : ℕ × ℕ). address < r.0) (sym e) (far k within) in
+      let within : k < length starts = omega (arith, as-long) in
+      let e = row-of k d within in
+      subst (λ (r : ℕ × ℕ). address < r.0) (sym e) (far k within) in
       ap (λ o. option_map (λ (r : ℕ × ℕ). r.1) o) (one-row_at rows rows address None (row_at rows address) (IsPermutation-refl rows) g tt (greatest rows address) (among rows address))
 
   -- where the start at the place lies above the address, all do

@@ -18,5 +18,5 @@ base_addresses_of sections = record {
   eh_frame = start_of sections (codes "__eh_frame") (codes ".eh_frame");
   eh_frame_hdr = start_of sections (codes "__eh_frame_hdr") (codes ".eh_frame_hdr");
   text = start_of sections (codes "__text") (codes ".text");
-  got = start_of sections (codes "__got") (codes ".got")
+  got = start_of sections (codes "__got") (codes ".got");
 }

@@ -8,9 +8,7 @@ ghost use Rattle.framehop_dwarf.specs.Bases.{base_addresses_of};
 ghost use Rattle.framehop_cfi.specs.declared.entry.UnwindSectionType.TheVariants.{EhFrame, DebugFrame};
 ghost use Rattle.framehop_cfi.specs.declared.entry.EntryHead.TheVariants.{Fde};
 
-use std::alloc::{AllocError, Global};
-use std::marker::Model;
-
+use crate::bases::base_addresses_for_sections;
 use framehop_cfi::entry::{
     CommonInformationEntry, EntryHead, FrameDescriptionEntry, UnwindSection, UnwindSectionType,
 };
@@ -18,9 +16,9 @@ use framehop_cfi::place::{Starts, place};
 use framehop_cfi::pointer::BaseAddresses;
 use framehop_cfi::read_error::ReadError;
 use framehop_cfi::section::ModuleSectionInfo;
+use std::alloc::{AllocError, Global};
+use std::marker::Model;
 use thiserror::Error;
-
-use crate::bases::base_addresses_for_sections;
 
 /// Why a section has no index.
 #[derive(Clone, Copy, Debug, PartialEq, Eq, Error)]
@@ -218,7 +216,13 @@ impl DwarfCfiIndex {
     {
         let bases = base_addresses_for_sections(section_info);
         let base_svma = section_info.base_svma();
-        Self::try_new(alloc, eh_frame_data, UnwindSectionType::EhFrame, &bases, base_svma)
+        Self::try_new(
+            alloc,
+            eh_frame_data,
+            UnwindSectionType::EhFrame,
+            &bases,
+            base_svma,
+        )
     }
 
     /// The index of a `.debug_frame` section, by the base addresses of its module.
@@ -232,7 +236,13 @@ impl DwarfCfiIndex {
     {
         let bases = base_addresses_for_sections(section_info);
         let base_svma = section_info.base_svma();
-        Self::try_new(alloc, debug_frame_data, UnwindSectionType::DebugFrame, &bases, base_svma)
+        Self::try_new(
+            alloc,
+            debug_frame_data,
+            UnwindSectionType::DebugFrame,
+            &bases,
+            base_svma,
+        )
     }
 
     /// The offset of the FDE with the greatest start at or below a relative address; among equal starts

@@ -3,4 +3,6 @@
 
 pub mod bases;
 pub mod index;
+#[cfg(test)]
+mod tests;
 pub mod unwinder;

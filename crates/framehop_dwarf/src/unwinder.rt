@@ -4,13 +4,12 @@ ghost use Rattle.framehop_cfi.specs.Entry.{bases_of};
 ghost use Rattle.framehop_cfi.specs.Header.{layout_of, fde_offset_of};
 ghost use Rattle.framehop_dwarf.specs.Unwinder.{header_bases};
 
-use std::marker::PhantomData;
-
 use framehop_cfi::context::UnwindContext;
 use framehop_cfi::entry::{UnwindSection, UnwindSectionType};
 use framehop_cfi::header::EhFrameHdr;
 use framehop_cfi::pointer::{BaseAddresses, SectionBaseAddresses};
 use framehop_cfi::storage::UnwindContextStorage;
+use std::marker::PhantomData;
 
 /// What a header's pointers count from.
 pub fn header_bases(bases: &BaseAddresses) -> SectionBaseAddresses
@@ -24,6 +23,7 @@ pub fn header_bases(bases: &BaseAddresses) -> SectionBaseAddresses
 }
 
 /// Finds FDEs and makes rows for the addresses of one module.
+#[derive(Drop)]
 pub struct DwarfUnwinder<'a, A, S: UnwindContextStorage> {
     /// The module's call frame section.
     pub section: UnwindSection<'a>,
@@ -52,7 +52,7 @@ impl<'a, A, S: UnwindContextStorage> DwarfUnwinder<'a, A, S> {
         ensures base { result.base_svma ≡ base_svma }
         ensures header { MatchOption eh_frame_hdr_data.entry (result.eh_frame_hdr ≡ None) (λ bytes.
             MatchOption result.eh_frame_hdr (IsErr (layout_of (header_bases bases) bytes.now)) (λ header.
-                (layout_of (header_bases bases) bytes.now ≡ Ok header.layout) × (header.bases ≡ header_bases bases) × (header.bytes.now ≡ bytes.now))) }
+            (layout_of (header_bases bases) bytes.now ≡ Ok header.layout) × (header.bases ≡ header_bases bases) × (header.bytes.now ≡ bytes.now))) }
     {
         let section = UnwindSection::new(unwind_section_data, unwind_section_type, &bases);
         let eh_frame_hdr = match eh_frame_hdr_data {

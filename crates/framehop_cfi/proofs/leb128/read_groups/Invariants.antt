@@ -7,5 +7,5 @@ invariant-loop-count l = record {
   place : l.next ≡ l.at + l.count;
   continued : (k : ℕ) → k < l.count → 128 ≤ get_or l.bytes (l.at + k) 0;
   sum_so_far : l.sum ≡ sum_of_groups l.bytes l.at l.count;
-  below : l.sum < 2 ^ (7 * l.count)
+  below : l.sum < 2 ^ (7 * l.count);
 }

@@ -10,4 +10,4 @@ pub returns-then-bytes-at-lt128-clause-exact : goal.returns-then-bytes-at-lt128-
 returns-then-bytes-at-lt128-clause-exact c =
     let fits : SFits w64 c.short_signed.result = search rules in
     rw (to_z-of_z w64 c.short_signed.result fits)
-      (sleb-short c.args.bytes.now c.args.at c.if-at-bytes.true c.if-bytes-at-lt128.true _ c.short_signed.result refl c.short_signed.ensures.signed c.short_signed.ensures.fits)
+    (sleb-short c.args.bytes.now c.args.at c.if-at-bytes.true c.if-bytes-at-lt128.true _ c.short_signed.result refl c.short_signed.ensures.signed c.short_signed.ensures.fits)

@@ -23,21 +23,21 @@ loop-at-preserved-in-DebugFrame c =
     let inv = c.loop-at.invariant.rest in
     let head = rw c.in-ZeroLength.is at c.in-Ok.ensures in
     let on = past-zero _ c.args.base_svma c.loop-at.rows.items inv.0 c.loop-at.at c.in-ZeroLength.end (inv.1, c.loop-at-test.true) head.within.0 (sym head.exact) c.in-DebugFrame.is in
-    record { known = c.loop-at.invariant.known; rest = (on.0, on.1, on.2 ∙ inv.2); }
+    record { known = c.loop-at.invariant.known; rest = (on.0, on.1, on.2 ∙ inv.2) }
 
 pub returns-in-Err-read_cie : goal.returns-in-Err-read_cie
 returns-in-Err-read_cie c =
     let inv = c.loop-at.invariant.rest in
     let head = rw c.in-Cie.is at c.in-Ok.ensures in
-    λ kept. sym inv.2 ∙ cie-refused _ c.args.base_svma c.loop-at.rows.items inv.0 c.loop-at.at c.in-Cie.fields c.in-Cie.end _ (inv.1, c.loop-at-test.true) (sym head.exact) (sym c.in-Err-read_cie.ensures)
+    λ kept. sym inv.2 ∙ cie-refused _ c.args.base_svma c.loop-at.rows.items inv.0 c.loop-at.at c.in-Cie.fields c.in-Cie.end _ (inv.1, c.loop-at-test.true) (sym head.exact) (sym c.in-Err-read_cie.ensures.exact)
 
 pub loop-at-preserved-in-Cie : goal.loop-at-preserved-in-Cie
 loop-at-preserved-in-Cie c =
     let inv = c.loop-at.invariant.rest in
     let head = rw c.in-Cie.is at c.in-Ok.ensures in
-    let on = past-cie _ c.args.base_svma c.loop-at.rows.items inv.0 c.loop-at.at c.in-Cie.fields c.in-Cie.end _ (inv.1, c.loop-at-test.true) head.within.0 (sym head.exact) (sym c.in-Ok-read_cie.ensures) in
+    let on = past-cie _ c.args.base_svma c.loop-at.rows.items inv.0 c.loop-at.at c.in-Cie.fields c.in-Cie.end _ (inv.1, c.loop-at-test.true) head.within.0 (sym head.exact) (sym c.in-Ok-read_cie.ensures.exact) in
     record {
-      known = is-known _ c.args.base_svma c.loop-at.rows.items c.loop-at.at c.in-Cie.fields c.in-Cie.end _ (sym head.exact) (sym c.in-Ok-read_cie.ensures);
+      known = is-known _ c.args.base_svma c.loop-at.rows.items c.loop-at.at c.in-Cie.fields c.in-Cie.end _ (sym head.exact) (sym c.in-Ok-read_cie.ensures.exact);
       rest = (on.0, on.1, on.2 ∙ inv.2);
     }
 

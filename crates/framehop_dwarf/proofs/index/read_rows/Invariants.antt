@@ -8,9 +8,9 @@ use Rattle.framehop_dwarf.proofs.index.read_rows.Given as goal
 abbrev pub invariant-loop-at : goal.invariant-loop-at
 invariant-loop-at l =
     let section : Section = record { kind = l.section.section_type; bases = l.section.bases; bytes = l.section.bytes.now } in record {
-  known : IsKnown section l.known;
-  rest : (n : ℕ) × (length section.bytes < n + l.at) × ((walk Gimli (rows_of_entry l.base_svma) section n l.at >>= λ others. Ok (l.rows.items ++ others)) ≡ rows_of section l.base_svma)
-}
+      known : IsKnown section l.known;
+      rest : (n : ℕ) × (length section.bytes < n + l.at) × ((walk Gimli (rows_of_entry l.base_svma) section n l.at >>= λ others. Ok (l.rows.items ++ others)) ≡ rows_of section l.base_svma);
+    }
 
 abbrev pub decreases-loop-at : goal.decreases-loop-at
 decreases-loop-at l = length l.section.bytes.now - l.at

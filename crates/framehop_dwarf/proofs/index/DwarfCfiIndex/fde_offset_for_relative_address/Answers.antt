@@ -10,7 +10,7 @@ returns-then-starts-index c =
     let law = rw (same, c.from.ensures) at c.place-index.ensures.law in
     let above = rw same at c.if-starts-index.true in
     rw (← c.self.view_is) (row-missing starts t.fde_offsets.items c.self.invariant c.args.rel_lookup_address
-      (all-above starts t.fde_offsets.items c.self.invariant c.args.rel_lookup_address c.place-index.result law above))
+    (all-above starts t.fde_offsets.items c.self.invariant c.args.rel_lookup_address c.place-index.result law above))
 
 pub returns : goal.returns
 returns c =
@@ -24,5 +24,5 @@ returns c =
     let table = c.self.invariant in
     let found = row-found starts offsets table c.args.rel_lookup_address c.place-index.result law.within near (last (starts-ordered starts offsets table c.args.rel_lookup_address)) in
     let read : c.index.result.now ≡ get_or offsets c.place-index.result 0 =
-      c.index.ensures ∙ get_or-any offsets c.place-index.result c.index.result.now 0 (omega (arith, law.within, table.same)) in
+    c.index.ensures ∙ get_or-any offsets c.place-index.result c.index.result.now 0 (omega (arith, law.within, table.same)) in
     rw (← c.self.view_is) (ap Some read ∙ found)
