@@ -2,3 +2,4 @@ pub mod Leb
 pub mod Rows
 pub mod Run
 pub mod Table
+pub mod Forward
