@@ -3,3 +3,4 @@ pub mod Rows
 pub mod Run
 pub mod Table
 pub mod Forward
+pub mod RowMeaning

@@ -14,5 +14,6 @@ pub mod Pointer
 pub mod Raw
 pub mod Row
 pub mod RowAt
+pub mod RowMeaning
 pub mod SectionTable
 pub mod Span

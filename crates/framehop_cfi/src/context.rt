@@ -1,8 +1,9 @@
 //! The row of an address: the instructions of a CIE and of an FDE, run up to it (DWARF 5 section 6.4.3).
 ghost use Rattle.std.specs.Prelude.{◌≡◌, ◌≢◌, ◌≤◌, ◌*◌, length, IfOk, IfSome, IfErr, OnOk, OnErr, IsErrOf, None, Err, vec_len};
 ghost use Rattle.framehop_cfi.specs.Row.{empty_row, rule_of, with_rule, without_rule};
-ghost use Rattle.framehop_cfi.specs.Machine.{effect, setting, restoring, restoring_to, remembering, recalling, with_cfa};
+ghost use Rattle.framehop_cfi.specs.Machine.{Machine, effect, setting, restoring, restoring_to, remembering, recalling, with_cfa};
 ghost use Rattle.framehop_cfi.specs.Outcome.{Becomes};
+ghost use Rattle.framehop_cfi.specs.RowMeaning.{IsMachineAt};
 ghost use Rattle.framehop_cfi.specs.RowAt.{location_after, risen, is_beyond, run_from, machine_at, start, begun, covers};
 
 use crate::entry::{CommonInformationEntry, FrameDescriptionEntry, UnwindSection};
@@ -282,11 +283,30 @@ impl<S: UnwindContextStorage> UnwindContext<S> {
         Ok(())
     }
 
-    /// Makes the row of an address, an SVMA, by the instructions of the FDE and of its CIE.
+    /// Makes the row of an address, an SVMA: the effects of the instructions of the FDE's CIE, and of its own
+    /// before the first move of the location beyond the address.
     ///
     /// An address that the FDE does not cover is refused by `NoRow`. After a refusal the row is any.
-    #[tactic(auto, unfolding(crate::specs::RowAt::machine_at))]
     pub fn evaluate(
+        &mut self,
+        section: &UnwindSection,
+        fde: &FrameDescriptionEntry,
+        address: u64,
+    ) -> Result<(), ReadError>
+        requires cie { fde.now.cie.end ≤ length section.now.bytes.now }
+        requires fde { fde.now.end ≤ length section.now.bytes.now }
+        ensures row { OnOk result (IsMachineAt S.limits section.now.bases section.now.bytes.now fde.now address self.new) }
+        ensures none { IfErr result (λ error. error ≢ ReadError.OutOfMemory →
+            (machine : Machine) → IsMachineAt S.limits section.now.bases section.now.bytes.now fde.now address machine → ⊥) }
+        ensures exact { Becomes result self.new (machine_at S.limits section.now.bases section.now.bytes.now fde.now address) }
+        ensures memory { IsErrOf result ReadError.OutOfMemory → S.limits ≡ None }
+    {
+        self.run_fde(section, fde, address)
+    }
+
+    /// Runs the instructions of the FDE's CIE, and then its own up to the address.
+    #[tactic(auto, unfolding(crate::specs::RowAt::machine_at))]
+    fn run_fde(
         &mut self,
         section: &UnwindSection,
         fde: &FrameDescriptionEntry,
