@@ -1,5 +1,5 @@
 -- An instruction ends behind the place where it begins.
-use Rattle.std.proofs.Common.{◌≡◌, ℕ, zero, suc, ◌+◌, ◌-◌, ◌*◌, ◌<◌, ◌≤◌, Bool, true, false, List, length, drop, Result, Ok, Err, refl, arith, if◌then◌else◌, ◌==◌, ◌||◌, ◌&&◌, leb, ltb, ℤ, pos, ◌*ℤ◌, ◌^◌}
+use Rattle.std.proofs.Common.{◌≡◌, ℕ, suc, ◌+◌, ◌-◌, ◌<◌, ◌≤◌, Bool, true, false, List, length, drop, Result, Ok, Err, arith, if◌then◌else◌, ◌==◌, ◌||◌, ◌&&◌, leb, ltb, ℤ, pos, ◌*ℤ◌, ◌^◌}
 use Rattle.framehop_cfi.specs.Bytes.{Reading, ◌>>=◌, sized_at, u8_at, u16_at, u32_at, u64_at}
 use Rattle.framehop_cfi.specs.Leb128.{continued, groups_at, uleb_at, sleb_at, with_sign, fits_i64}
 use Rattle.framehop_cfi.specs.Raw.{raw_at, format_of}
@@ -75,18 +75,18 @@ module _ (bytes : List ℕ) (at : ℕ) where
   unfolding raw_at
   raw-reaches format =
       choose (suc at) ((format == 0) || (format == 4) || (format == 12)) _ _ u64-reaches
-        (choose (suc at) (format == 1) _ _ uleb-reaches
-        (choose (suc at) (format == 2) _ _ u16-reaches
-        (choose (suc at) (format == 3) _ _ u32-reaches
-        (choose (suc at) (format == 9) _ _ (behind (suc at) (sleb_at bytes at) _ sleb-reaches (λ read past. past))
-        (choose (suc at) (format == 10) _ _ (behind (suc at) (u16_at bytes at) _ u16-reaches (λ read past. past))
-        (choose (suc at) (format == 11) _ _ (behind (suc at) (u32_at bytes at) _ u32-reaches (λ read past. past)) tt))))))
+      (choose (suc at) (format == 1) _ _ uleb-reaches
+      (choose (suc at) (format == 2) _ _ u16-reaches
+      (choose (suc at) (format == 3) _ _ u32-reaches
+      (choose (suc at) (format == 9) _ _ (behind (suc at) (sleb_at bytes at) _ sleb-reaches (λ read past. past))
+      (choose (suc at) (format == 10) _ _ (behind (suc at) (u16_at bytes at) _ u16-reaches (λ read past. past))
+      (choose (suc at) (format == 11) _ _ (behind (suc at) (u32_at bytes at) _ u32-reaches (λ read past. past)) tt))))))
 
   pointer-reaches : (bases : SectionBaseAddresses) (encoding : ℕ) → Reaches (suc at) (pointer_at bases encoding bytes at)
   unfolding pointer_at
   pointer-reaches bases encoding =
       after (suc at) (base_of bases at (application_of encoding)) _ (λ base.
-        behind (suc at) (raw_at (format_of encoding) bytes at) _ (raw-reaches (format_of encoding)) (λ read past. past))
+      behind (suc at) (raw_at (format_of encoding) bytes at) _ (raw-reaches (format_of encoding)) (λ read past. past))
 
   counted-reaches : Reaches (suc at) (counted_at bytes at)
   unfolding counted_at
@@ -131,72 +131,72 @@ module _ (bytes : List ℕ) (at : ℕ) (alignment : ℤ) where
       let factored-value = less at (suc at) _ (omega arith) (mapped-reaches (suc at) rule.ValOffset _ (factored-reaches bytes at alignment)) in
       let signed-value = less at (suc at) _ (omega arith) (mapped-reaches (suc at) rule.ValOffset _ (factored-signed-reaches bytes at alignment)) in
       choose at (code == 0x05) _ _ factored
-        (choose at (code == 0x07) _ _ (omega arith)
-        (choose at (code == 0x08) _ _ (omega arith)
-        (choose at (code == 0x09) _ _ register
-        (choose at (code == 0x10) _ _ expression
-        (choose at (code == 0x11) _ _ signed
-        (choose at (code == 0x14) _ _ factored-value
-        (choose at (code == 0x15) _ _ signed-value
-        (choose at (code == 0x16) _ _ value tt))))))))
+      (choose at (code == 0x07) _ _ (omega arith)
+      (choose at (code == 0x08) _ _ (omega arith)
+      (choose at (code == 0x09) _ _ register
+      (choose at (code == 0x10) _ _ expression
+      (choose at (code == 0x11) _ _ signed
+      (choose at (code == 0x14) _ _ factored-value
+      (choose at (code == 0x15) _ _ signed-value
+      (choose at (code == 0x16) _ _ value tt))))))))
 
   def-cfa-reaches : Reaches (suc at) (def_cfa_at bytes at)
   unfolding def_cfa_at
   def-cfa-reaches =
       behind (suc at) (register_at bytes at) _ (register-reaches bytes at) (λ register past.
-        behind (suc at) (offset_at bytes register.1) _ (less (suc at) (suc register.1) _ (omega arith) (offset-reaches bytes register.1)) (λ offset end. end))
+      behind (suc at) (offset_at bytes register.1) _ (less (suc at) (suc register.1) _ (omega arith) (offset-reaches bytes register.1)) (λ offset end. end))
 
   def-cfa-factored-reaches : Reaches (suc at) (def_cfa_factored_at alignment bytes at)
   unfolding def_cfa_factored_at
   def-cfa-factored-reaches =
       behind (suc at) (register_at bytes at) _ (register-reaches bytes at) (λ register past.
-        behind (suc at) (factored_signed_at alignment bytes register.1) _ (less (suc at) (suc register.1) _ (omega arith) (factored-signed-reaches bytes register.1 alignment)) (λ offset end. end))
+      behind (suc at) (factored_signed_at alignment bytes register.1) _ (less (suc at) (suc register.1) _ (omega arith) (factored-signed-reaches bytes register.1 alignment)) (λ offset end. end))
 
   cfa-reaches : (code : ℕ) → Reaches (suc at) (cfa_at alignment code bytes at)
   cfa-reaches code =
       choose (suc at) (code == 0x0C) _ _ def-cfa-reaches
-        (choose (suc at) (code == 0x0D) _ _ (mapped-reaches (suc at) DefCfaRegister _ (register-reaches bytes at))
-        (choose (suc at) (code == 0x0E) _ _ (mapped-reaches (suc at) DefCfaOffset _ (offset-reaches bytes at))
-        (choose (suc at) (code == 0x0F) _ _ (mapped-reaches (suc at) (λ expression. DefCfa (cfa.Expression expression)) _ (expression-reaches bytes at))
-        (choose (suc at) (code == 0x12) _ _ def-cfa-factored-reaches
-        (choose (suc at) (code == 0x13) _ _ (mapped-reaches (suc at) DefCfaOffset _ (factored-signed-reaches bytes at alignment)) tt)))))
+      (choose (suc at) (code == 0x0D) _ _ (mapped-reaches (suc at) DefCfaRegister _ (register-reaches bytes at))
+      (choose (suc at) (code == 0x0E) _ _ (mapped-reaches (suc at) DefCfaOffset _ (offset-reaches bytes at))
+      (choose (suc at) (code == 0x0F) _ _ (mapped-reaches (suc at) (λ expression. DefCfa (cfa.Expression expression)) _ (expression-reaches bytes at))
+      (choose (suc at) (code == 0x12) _ _ def-cfa-factored-reaches
+      (choose (suc at) (code == 0x13) _ _ (mapped-reaches (suc at) DefCfaOffset _ (factored-signed-reaches bytes at alignment)) tt)))))
 
 set-rule-reaches : (bytes : List ℕ) (at : ℕ) (alignment : ℤ) (code : ℕ) → Reaches (suc at) (set_rule_at alignment code bytes at)
 unfolding set_rule_at
 set-rule-reaches bytes at alignment code =
     behind (suc at) (register_at bytes at) _ (register-reaches bytes at) (λ register past.
-      behind (suc at) (rule_at alignment code bytes register.1) _ (less (suc at) register.1 _ past (rule-reaches bytes register.1 alignment code)) (λ found end. end))
+    behind (suc at) (rule_at alignment code bytes register.1) _ (less (suc at) register.1 _ past (rule-reaches bytes register.1 alignment code)) (λ found end. end))
 
 module _ (cie : CommonInformationEntry) (bases : SectionBaseAddresses) (bytes : List ℕ) (at : ℕ) where
   advance-reaches : (code : ℕ) → Reaches at (advance_at code bytes at)
   advance-reaches code =
       choose at (code == 0x02) _ _ (less at (suc at) _ (omega arith) (mapped-reaches (suc at) AdvanceLoc _ (u8-reaches bytes at)))
-        (choose at (code == 0x03) _ _ (less at (suc at) _ (omega arith) (mapped-reaches (suc at) AdvanceLoc _ (u16-reaches bytes at)))
-        (less at (suc at) _ (omega arith) (mapped-reaches (suc at) AdvanceLoc _ (u32-reaches bytes at))))
+      (choose at (code == 0x03) _ _ (less at (suc at) _ (omega arith) (mapped-reaches (suc at) AdvanceLoc _ (u16-reaches bytes at)))
+      (less at (suc at) _ (omega arith) (mapped-reaches (suc at) AdvanceLoc _ (u32-reaches bytes at))))
 
   coded-reaches : (code : ℕ) → Reaches at (coded_at cie bases code bytes at)
   coded-reaches code =
       choose at ((code == 0x00) || (code == 0x2D)) _ _ (omega arith)
-        (choose at (code == 0x01) _ _ (less at (suc at) _ (omega arith) (mapped-reaches (suc at) SetLoc _ (pointer-reaches bytes at bases cie.fde_pointer_encoding)))
-        (choose at (leb 0x02 code && leb code 0x04) _ _ (advance-reaches code)
-        (choose at (code == 0x06) _ _ (less at (suc at) _ (omega arith) (mapped-reaches (suc at) Restore _ (register-reaches bytes at)))
-        (choose at (code == 0x0A) _ _ (omega arith)
-        (choose at (code == 0x0B) _ _ (omega arith)
-        (choose at (code == 0x2E) _ _ (less at (suc at) _ (omega arith) (mapped-reaches (suc at) (λ size. Nop) _ (uleb-reaches bytes at)))
-        (choose at ((leb 0x0C code && leb code 0x0F) || (code == 0x12) || (code == 0x13)) _ _ (less at (suc at) _ (omega arith) (cfa-reaches bytes at cie.data_alignment_factor code))
-        (choose at (leb code 0x16) _ _ (less at (suc at) _ (omega arith) (set-rule-reaches bytes at cie.data_alignment_factor code)) tt))))))))
+      (choose at (code == 0x01) _ _ (less at (suc at) _ (omega arith) (mapped-reaches (suc at) SetLoc _ (pointer-reaches bytes at bases cie.fde_pointer_encoding)))
+      (choose at (leb 0x02 code && leb code 0x04) _ _ (advance-reaches code)
+      (choose at (code == 0x06) _ _ (less at (suc at) _ (omega arith) (mapped-reaches (suc at) Restore _ (register-reaches bytes at)))
+      (choose at (code == 0x0A) _ _ (omega arith)
+      (choose at (code == 0x0B) _ _ (omega arith)
+      (choose at (code == 0x2E) _ _ (less at (suc at) _ (omega arith) (mapped-reaches (suc at) (λ size. Nop) _ (uleb-reaches bytes at)))
+      (choose at ((leb 0x0C code && leb code 0x0F) || (code == 0x12) || (code == 0x13)) _ _ (less at (suc at) _ (omega arith) (cfa-reaches bytes at cie.data_alignment_factor code))
+      (choose at (leb code 0x16) _ _ (less at (suc at) _ (omega arith) (set-rule-reaches bytes at cie.data_alignment_factor code)) tt))))))))
 
   operands-reaches : (code : ℕ) → Reaches at (operands_at cie bases code bytes at)
   operands-reaches code =
       choose at (leb 0xC0 code) _ _ (omega arith)
-        (choose at (leb 0x80 code) _ _ (less at (suc at) _ (omega arith) (mapped-reaches (suc at) (λ offset. SetRule (record { 0 = code - 0x80 }) (rule.Offset offset)) _ (factored-reaches bytes at cie.data_alignment_factor)))
-        (choose at (leb 0x40 code) _ _ (omega arith) (coded-reaches code)))
+      (choose at (leb 0x80 code) _ _ (less at (suc at) _ (omega arith) (mapped-reaches (suc at) (λ offset. SetRule (record { 0 = code - 0x80 }) (rule.Offset offset)) _ (factored-reaches bytes at cie.data_alignment_factor)))
+      (choose at (leb 0x40 code) _ _ (omega arith) (coded-reaches code)))
 
 instruction-reaches : (cie : CommonInformationEntry) (bases : SectionBaseAddresses) (bytes : List ℕ) (at : ℕ) → Reaches (suc at) (instruction_at cie bases bytes at)
 unfolding instruction_at
 instruction-reaches cie bases bytes at =
     behind (suc at) (u8_at bytes at) _ (u8-reaches bytes at) (λ code past.
-      less (suc at) code.1 _ past (operands-reaches cie bases bytes code.1 code.0))
+    less (suc at) code.1 _ past (operands-reaches cie bases bytes code.1 code.0))
 
 -- an instruction that is read ends behind the place where it begins
 pub instruction-forward : (cie : CommonInformationEntry) (bases : SectionBaseAddresses) (bytes : List ℕ) (at : ℕ) (read : CallFrameInstruction × ℕ) → instruction_at cie bases bytes at ≡ Ok read → at < read.1

@@ -1,11 +1,10 @@
 -- The groups of a LEB128 number, byte by byte.
-use Rattle.std.proofs.Common.{◌≡◌, ℕ, zero, suc, ◌+◌, ◌*◌, ◌^◌, ◌%◌, ◌<◌, ◌≤◌, List, [], ◌∷◌, length, drop, get_or, take, cond, leb, true, false, Ok, Err, refl, ap, sym, ◌∙◌, arith, rules, tests, slice_index, get_or-drop, add-one, add-zero, IsTrue, ℤ}
+use Rattle.std.proofs.Common.{◌≡◌, ℕ, zero, suc, ◌+◌, ◌*◌, ◌^◌, ◌%◌, ◌<◌, ◌≤◌, List, [], ◌∷◌, length, drop, get_or, Ok, Err, refl, ap, ◌∙◌, arith, get_or-drop, add-one, add-zero, IsTrue, ℤ}
 use Rattle.std.proofs.lemmas.Bool.Decides.{nat_tests}
 use Rattle.std.proofs.lemmas.List.{get_or_past}
 use Rattle.std.proofs.lemmas.Nat.{and_mask, shl_whole, pow-add}
 use Rattle.std.proofs.Math.Nat.{mul-le-mul_right}
 use Rattle.std.specs.Prelude.{bit_and}
-use Rattle.framehop_cfi.specs.Bytes.{Reading}
 use Rattle.framehop_cfi.specs.Leb128.{continued, sum_of_groups, groups_at, uleb_at, sleb_at, with_sign, fits_i64}
 use Rattle.framehop_cfi.specs.declared.read_error.ReadError.TheVariants.{Eof, BadLeb}
 

@@ -1,6 +1,6 @@
 -- Running instructions one at a time gives the effects of the whole list.
-use Rattle.std.proofs.Common.{◌≡◌, ◌≢◌, ℕ, zero, suc, ◌+◌, ◌-◌, ◌<◌, ◌≤◌, Bool, true, false, List, [], ◌∷◌, length, Option, Result, Ok, Err, refl, ap, sym, subst, ◌∙◌, arith, ◌⊎◌, inl, inr, leb, if◌then◌else◌}
-use Rattle.std.proofs.lemmas.Bool.{lt-leb, le-leb, leb-false, leb-true, cases_Bool, cases_lt, false≢true}
+use Rattle.std.proofs.Common.{◌≡◌, ◌≢◌, ℕ, zero, suc, ◌+◌, ◌-◌, ◌<◌, ◌≤◌, false, List, [], ◌∷◌, length, Option, Result, Ok, Err, refl, ap, sym, subst, ◌∙◌, arith, inl, inr}
+use Rattle.std.proofs.lemmas.Bool.{lt-leb, le-leb, cases_Bool, cases_lt}
 use Rattle.framehop_cfi.specs.Bytes.{◌>>=◌}
 use Rattle.framehop_cfi.specs.Instruction.{instruction_at}
 use Rattle.framehop_cfi.specs.Machine.{Machine, effect, effects}
@@ -27,37 +27,48 @@ module _ (limits : Option StorageLimits) (program : Program) where
   -- what a list of instructions gives, an instruction at a time
   nothing : (at location : ℕ) (before after : Machine) → Ends program at location → before ≡ after → HasEffect limits program at location before after
   nothing at location before after ends is = record {
-    instructions = []; end = at; last = location; lists = (refl, refl); ends = ends; effect = ap Ok is
+    instructions = [];
+    end = at;
+    last = location;
+    lists = (refl, refl);
+    ends = ends;
+    effect = ap Ok is;
   }
 
   one-more : (at location next moved : ℕ) (instruction : CallFrameInstruction) (before middle after : Machine) → Stands program at location instruction next moved → is_beyond program.address moved ≡ false → effect limits instruction before ≡ Ok middle → HasEffect limits program next moved middle after → HasEffect limits program at location before after
   one-more at location next moved instruction before middle after stands near does rest = record {
-    instructions = instruction ∷ rest.instructions; end = rest.end; last = rest.last;
-    lists = (next, moved, stands, near, rest.lists); ends = rest.ends; effect = rw does rest.effect
+    instructions = instruction ∷ rest.instructions;
+    end = rest.end;
+    last = rest.last;
+    lists = (next, moved, stands, near, rest.lists);
+    ends = rest.ends;
+    effect = rw does rest.effect;
   }
 
   run-effect : (n at location : ℕ) (before after : Machine) → length program.bytes < n + at → run limits program n at location before ≡ Ok after → HasEffect limits program at location before after
   run-effect zero at location before after enough is = nothing at location before after (inl (omega arith)) (same before after is)
   run-effect (suc n) at location before after enough is =
       elim (cases_lt at (length program.bytes)) [
-        inl inside ↦
-          let e = rw (lt-leb (length program.bytes) at inside) at is in
-          let read = bind_ok (instruction_at program.cie program.bases program.bytes at) _ after e in
-          let moved = bind_ok (location_after program.cie program.address location read.0.0) _ after read.2 in
-          let stands : Stands program at location read.0.0 read.0.1 moved.0 = record { inside = inside; reads = read.1; moves = moved.1 } in
-          let past = instruction-forward program.cie program.bases program.bytes at read.0 read.1 in
-          elim (cases_Bool (is_beyond program.address moved.0)) [
-            inl beyond ↦
-              let done = rw beyond at moved.2 in
-              nothing at location before after (inr (read.0.0, read.0.1, moved.0, stands, beyond)) (same before after done)
-          | inr near ↦
-              let goes = rw near at moved.2 in
-              let done = bind_ok (effect limits read.0.0 before) _ after goes in
-              one-more at location read.0.1 moved.0 read.0.0 before done.0 after stands near done.1
-                (run-effect n read.0.1 moved.0 done.0 after (omega arith) done.2) ]
-      | inr past ↦
-          let e = rw (le-leb (length program.bytes) at past) at is in
-          nothing at location before after (inl past) (same before after e) ]
+        | inl inside ↦
+            let e = rw (lt-leb (length program.bytes) at inside) at is in
+            let read = bind_ok (instruction_at program.cie program.bases program.bytes at) _ after e in
+            let moved = bind_ok (location_after program.cie program.address location read.0.0) _ after read.2 in
+            let stands : Stands program at location read.0.0 read.0.1 moved.0 = record { inside = inside; reads = read.1; moves = moved.1 } in
+            let past = instruction-forward program.cie program.bases program.bytes at read.0 read.1 in
+            elim (cases_Bool (is_beyond program.address moved.0)) [
+              | inl beyond ↦
+                  let done = rw beyond at moved.2 in
+                  nothing at location before after (inr (read.0.0, read.0.1, moved.0, stands, beyond)) (same before after done)
+              | inr near ↦
+                  let goes = rw near at moved.2 in
+                  let done = bind_ok (effect limits read.0.0 before) _ after goes in
+                  one-more at location read.0.1 moved.0 read.0.0 before done.0 after stands near done.1
+                  (run-effect n read.0.1 moved.0 done.0 after (omega arith) done.2)
+            ]
+        | inr past ↦
+            let e = rw (le-leb (length program.bytes) at past) at is in
+            nothing at location before after (inl past) (same before after e)
+      ]
 
   -- a list has no more instructions than bytes are left
   short : (instructions : List CallFrameInstruction) (at location end last : ℕ) → Lists program at location instructions end last → length instructions ≤ length program.bytes - at
@@ -103,23 +114,24 @@ module _ (limits : Option StorageLimits) (bases : SectionBaseAddresses) (bytes :
   unfolding machine_at
   machine_at-means is =
       elim (cases_Bool (covers fde address)) [
-        inl covered ↦
-          let e = rw covered at is in
-          let middle = bind_ok (run_from limits (program_of_cie bases bytes fde.cie) fde.cie.instructions 0 start) _ machine e in
-          record {
-            covered = covered;
-            middle = middle.0;
-            by_cie = run_from-effect limits (program_of_cie bases bytes fde.cie) fde.cie.instructions 0 start middle.0 middle.1;
-            by_fde = run_from-effect limits (program_of_fde bases bytes fde address) fde.instructions fde.initial_address (begun middle.0) machine middle.2
-          }
-      | inr not-covered ↦ (let e = rw not-covered at is in cc) ]
+        | inl covered ↦
+            let e = rw covered at is in
+            let middle = bind_ok (run_from limits (program_of_cie bases bytes fde.cie) fde.cie.instructions 0 start) _ machine e in
+            record {
+              covered = covered;
+              middle = middle.0;
+              by_cie = run_from-effect limits (program_of_cie bases bytes fde.cie) fde.cie.instructions 0 start middle.0 middle.1;
+              by_fde = run_from-effect limits (program_of_fde bases bytes fde address) fde.instructions fde.initial_address (begun middle.0) machine middle.2;
+            }
+        | inr not-covered ↦ (let e = rw not-covered at is in cc)
+      ]
 
   -- the machine of the address is what the definition by steps gives
   pub means-machine_at : IsMachineAt limits bases bytes fde address machine → machine_at limits bases bytes fde address ≡ Ok machine
   unfolding machine_at
   means-machine_at m =
       rw m.covered (rw (effect-run_from limits (program_of_cie bases bytes fde.cie) fde.cie.instructions 0 start m.middle m.by_cie)
-        (effect-run_from limits (program_of_fde bases bytes fde address) fde.instructions fde.initial_address (begun m.middle) machine m.by_fde))
+      (effect-run_from limits (program_of_fde bases bytes fde address) fde.instructions fde.initial_address (begun m.middle) machine m.by_fde))
 
 module _ (limits : Option StorageLimits) (bases : SectionBaseAddresses) (bytes : List ℕ) (fde : FrameDescriptionEntry) (address : ℕ) where
   -- a row is answered only where the address has one

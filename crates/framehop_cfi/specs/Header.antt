@@ -1,9 +1,9 @@
 -- The binary search table of `.eh_frame_hdr` (LSB, ".eh_frame_hdr").
-use Rattle.std.specs.Prelude.{ℕ, ◌+◌, ◌-◌, ◌*◌, ◌^◌, ◌≤◌, ◌<◌, List, length, map, Option, Some, None, Result, Ok, Err, ◌==◌, ◌||◌, ◌&&◌, nat_le, nat_lt, if◌then◌else◌}
+use Rattle.std.specs.Prelude.{ℕ, ◌+◌, ◌-◌, ◌*◌, ◌^◌, List, length, map, Option, Some, None, Result, Ok, Err, ◌==◌, ◌||◌, ◌&&◌, nat_le, nat_lt, if◌then◌else◌}
 use Rattle.std.specs.List.{range_with_len}
 use Rattle.framehop_cfi.specs.Bytes.{Reading, ◌>>=◌, u8_at}
 use Rattle.framehop_cfi.specs.Raw.{raw_at, format_of}
-use Rattle.framehop_cfi.specs.Pointer.{pointer_at, application_of}
+use Rattle.framehop_cfi.specs.Pointer.{pointer_at}
 use Rattle.framehop_cfi.specs.Place.{place_of}
 use Rattle.framehop_cfi.specs.declared.pointer.SectionBaseAddresses.{SectionBaseAddresses}
 use Rattle.framehop_cfi.specs.Layout.{Layout}

@@ -1,5 +1,5 @@
 -- Call frame instructions (DWARF 5 section 6.4.2).
-use Rattle.std.specs.Prelude.{ℕ, ◌-◌, ◌%◌, ◌^◌, List, Result, Ok, Err, ℤ, pos, ◌*ℤ◌, ◌==◌, ◌||◌, ◌&&◌, nat_le, nat_lt, if◌then◌else◌}
+use Rattle.std.specs.Prelude.{ℕ, ◌-◌, List, Result, Ok, Err, ℤ, pos, ◌*ℤ◌, ◌==◌, ◌||◌, ◌&&◌, nat_le, nat_lt, if◌then◌else◌}
 use Rattle.framehop_cfi.specs.Bytes.{Reading, ◌>>=◌, u8_at, u16_at, u32_at}
 use Rattle.framehop_cfi.specs.Leb128.{uleb_at, sleb_at, fits_i64}
 use Rattle.framehop_cfi.specs.Augmentation.{counted_at}

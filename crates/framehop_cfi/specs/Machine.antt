@@ -1,5 +1,5 @@
 -- What call frame instructions do to a row (DWARF 5 sections 6.4.2 and 6.4.3).
-use Rattle.std.specs.Prelude.{ℕ, ◌+◌, ◌-◌, ◌*◌, ◌^◌, ◌<◌, ◌≤◌, Bool, false, List, [], ◌∷◌, ◌++◌, length, take, slice_get, Option, Some, None, Result, Ok, Err, ℤ, nat_le, nat_lt, if◌then◌else◌}
+use Rattle.std.specs.Prelude.{ℕ, ◌-◌, Bool, false, List, [], ◌∷◌, ◌++◌, length, take, slice_get, Option, Some, None, Result, Ok, Err, ℤ, nat_le, if◌then◌else◌}
 use Rattle.framehop_cfi.specs.Bytes.{◌>>=◌}
 use Rattle.framehop_cfi.specs.Row.{Row, rule_of, with_rule, without_rule}
 use Rattle.framehop_cfi.specs.declared.rule.Register.{Register}
@@ -7,11 +7,10 @@ use Rattle.framehop_cfi.specs.declared.rule.CfaRule.{CfaRule}
 use Rattle.framehop_cfi.specs.declared.rule.CfaRule.TheVariants.{RegisterAndOffset, Expression}
 use Rattle.framehop_cfi.specs.declared.rule.RegisterRule.{RegisterRule}
 use Rattle.framehop_cfi.specs.declared.storage.StorageLimits.{StorageLimits}
-use Rattle.framehop_cfi.specs.declared.entry.CommonInformationEntry.{CommonInformationEntry}
 use Rattle.framehop_cfi.specs.declared.instruction.CallFrameInstruction.{CallFrameInstruction}
 use Rattle.framehop_cfi.specs.declared.instruction.CallFrameInstruction.TheVariants.{Nop, SetLoc, AdvanceLoc, SetRule, Restore, RememberState, RestoreState, DefCfa, DefCfaRegister, DefCfaOffset}
 use Rattle.framehop_cfi.specs.declared.read_error.ReadError.{ReadError}
-use Rattle.framehop_cfi.specs.declared.read_error.ReadError.TheVariants.{InvalidContext, NumberTooBig, TooManyRows, NothingRemembered}
+use Rattle.framehop_cfi.specs.declared.read_error.ReadError.TheVariants.{InvalidContext, TooManyRows, NothingRemembered}
 
 -- what the instructions work on: the row, those that were remembered (the latest last), and, in an FDE, the row that the CIE left
 pub record Machine : Type 0 where

@@ -1,5 +1,5 @@
 -- Rows of a call frame table (DWARF 5 section 6.4.1).
-use Rattle.std.specs.Prelude.{ℕ, ◌+◌, ◌≤◌, Bool, false, List, [], ◌∷◌, ◌++◌, length, slice_set, remove, position, find, Option, Some, None, option_map, Result, Ok, Err, ◌==◌, nat_le, pos, if◌then◌else◌}
+use Rattle.std.specs.Prelude.{ℕ, ◌≤◌, Bool, false, List, [], ◌∷◌, ◌++◌, length, slice_set, remove, position, find, Option, Some, None, option_map, Result, Ok, Err, ◌==◌, nat_le, pos, if◌then◌else◌}
 use Rattle.framehop_cfi.specs.declared.rule.Register.{Register}
 use Rattle.framehop_cfi.specs.declared.rule.CfaRule.{CfaRule}
 use Rattle.framehop_cfi.specs.declared.rule.CfaRule.TheVariants.{RegisterAndOffset}

@@ -1,5 +1,5 @@
 -- What the row of an address is, by whole lists of instructions (DWARF 5 sections 6.4.2 and 6.4.3).
-use Rattle.std.specs.Prelude.{ℕ, ◌<◌, ◌≤◌, ◌≡◌, ◌⊎◌, true, false, IsTrue, List, [], ◌∷◌, length, Option, Ok, Err}
+use Rattle.std.specs.Prelude.{ℕ, ◌<◌, ◌≤◌, ◌≡◌, ◌⊎◌, true, false, List, [], ◌∷◌, length, Option, Ok}
 use Rattle.framehop_cfi.specs.Instruction.{instruction_at}
 use Rattle.framehop_cfi.specs.Machine.{Machine, effects}
 use Rattle.framehop_cfi.specs.RowAt.{Program, location_after, is_beyond, start, begun, program_of_cie, program_of_fde, covers}

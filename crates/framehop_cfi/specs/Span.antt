@@ -1,6 +1,6 @@
 -- Where an entry of a call frame section begins and ends (DWARF 5 sections 6.4.1 and 7.4).
 use Rattle.std.specs.Prelude.{ℕ, ◌+◌, ◌≤◌, ◌<◌, List, length, Bool, Result, Ok, Err, ◌==◌, ◌&&◌, nat_lt, nat_le, if◌then◌else◌}
-use Rattle.framehop_cfi.specs.Bytes.{Reading, ◌>>=◌, u32_at, u64_at}
+use Rattle.framehop_cfi.specs.Bytes.{◌>>=◌, u32_at, u64_at}
 use Rattle.framehop_cfi.specs.declared.span.Span.{Span}
 use Rattle.framehop_cfi.specs.declared.read_error.ReadError.{ReadError}
 use Rattle.framehop_cfi.specs.declared.read_error.ReadError.TheVariants.{Eof, BadLength}

@@ -1,4 +1,4 @@
-use Rattle.std.proofs.Common.{◌<◌, arith, below_more, refl}
+use Rattle.std.proofs.Common.{arith, below_more, refl}
 use Rattle.framehop_cfi.proofs.Leb.{groups-end, groups-last, groups-long, sum-more, below-after}
 use Rattle.framehop_cfi.proofs.leb128.read_groups.Goals as goal
 

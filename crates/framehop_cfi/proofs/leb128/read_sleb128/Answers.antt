@@ -1,6 +1,5 @@
-use Rattle.std.proofs.Common.{refl, rules, IsTrue, ◌≡◌}
+use Rattle.std.proofs.Common.{refl, rules}
 use Rattle.std.proofs.lemmas.Int.{to_z-of_z}
-use Rattle.framehop_cfi.specs.Leb128.{fits_i64}
 use Rattle.framehop_cfi.proofs.Leb.{sleb-short}
 use Rattle.framehop_cfi.proofs.leb128.read_sleb128.Goals as goal
 use mir.Val.{SFits}

@@ -1,4 +1,3 @@
-use Rattle.std.proofs.Common.{◌≡◌, get_or, arith, ◌-◌, refl}
 use Rattle.framehop_cfi.specs.Context.{initial_of}
 use Rattle.framehop_cfi.proofs.Rows.{recalling-front}
 use Rattle.framehop_cfi.proofs.context.UnwindContext.recall.Goals as goal

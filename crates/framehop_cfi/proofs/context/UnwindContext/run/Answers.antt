@@ -1,4 +1,4 @@
-use Rattle.std.proofs.Common.{◌≡◌, ◌+◌, suc, length, refl, sym, ◌∙◌, arith}
+use Rattle.std.proofs.Common.{suc, length, refl, sym, ◌∙◌, arith}
 use Rattle.std.proofs.lemmas.Result.{err_from_is_err_and}
 use Rattle.framehop_cfi.specs.RowAt.{run_from}
 use Rattle.framehop_cfi.proofs.Run.{run-unread, run-unmoved, run-refused}
