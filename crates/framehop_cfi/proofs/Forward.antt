@@ -49,11 +49,11 @@ module _ (bytes : List ℕ) (at : ℕ) where
   unfolding u16_at
   u16-reaches = sized-reaches _ 2 bytes at (omega arith)
 
-  u32-reaches : Reaches (suc at) (u32_at bytes at)
+  pub u32-reaches : Reaches (suc at) (u32_at bytes at)
   unfolding u32_at
   u32-reaches = sized-reaches _ 4 bytes at (omega arith)
 
-  u64-reaches : Reaches (suc at) (u64_at bytes at)
+  pub u64-reaches : Reaches (suc at) (u64_at bytes at)
   unfolding u64_at
   u64-reaches = sized-reaches _ 8 bytes at (omega arith)
 

@@ -4,3 +4,4 @@ pub mod Run
 pub mod Table
 pub mod Forward
 pub mod RowMeaning
+pub mod EntryList

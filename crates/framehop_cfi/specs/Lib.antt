@@ -3,6 +3,7 @@ pub mod Bytes
 pub mod Context
 pub mod Entries
 pub mod Entry
+pub mod EntryList
 pub mod Header
 pub mod Instruction
 pub mod Layout

@@ -46,7 +46,9 @@ impl<S: UnwindContextStorage> Model for UnwindContext<S> {
 
 impl<S: UnwindContextStorage> UnwindContext<S> {
     /// Makes the room, which is all the memory that a context with limits takes.
-    pub fn new_in(alloc: Global) -> Result<Self, AllocError> {
+    pub fn new_in(alloc: Global) -> Result<Self, AllocError>
+        ensures { IfOk result (λ context. context ≡ start) }
+    {
         let initial = UnwindTableRow::new(alloc)?;
         let row = UnwindTableRow::new(alloc)?;
         let spare = match S::limits() {
