@@ -2,3 +2,4 @@ pub mod Walk
 pub mod Order
 pub mod Table
 pub mod Saturated
+pub mod Entries

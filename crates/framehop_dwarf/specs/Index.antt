@@ -3,6 +3,7 @@ use Rattle.std.specs.Prelude.{ℕ, ◌+◌, ◌-◌, ◌^◌, ◌<◌, ◌≤◌
 use Rattle.framehop_cfi.specs.Bytes.{◌>>=◌}
 use Rattle.framehop_cfi.specs.Entry.{cie_at, fde_of_head}
 use Rattle.framehop_cfi.specs.Entries.{Section, refused_by, walk_all}
+use Rattle.framehop_cfi.specs.EntryList.{AreEntries, visits}
 use Rattle.framehop_cfi.specs.declared.entry.EntryHead.{EntryHead}
 use Rattle.framehop_cfi.specs.declared.read_error.ReadError.TheVariants.{OutOfMemory}
 use Rattle.framehop_cfi.specs.declared.entry.CieOrFde.{CieOrFde}
@@ -74,3 +75,13 @@ IsIndexOf wanted index =
 abbrev pub Indexes : Result (List (ℕ × ℕ)) DwarfCfiIndexError → Result (List (ℕ × ℕ)) DwarfCfiIndexError → Type 0
 Indexes (Ok index) wanted = IsIndexOf wanted index
 Indexes (Err error) wanted = error ≢ Gimli OutOfMemory → wanted ≡ Err error
+
+-- an index of the entries of a section: of each address it has the row that the entries have
+abbrev pub IsIndexOfEntries : Section → ℕ → List (ℕ × ℕ) → Type 0
+IsIndexOfEntries section base index =
+    (entries : List (ℕ × CieOrFde)) × AreEntries section 0 entries × IsIndexOf (visits (rows_of_entry base) entries) index
+
+-- no list of entries of the section has rows: an entry can't be read, or an FDE's start or offset does not fit
+abbrev pub HasNoIndex : Section → ℕ → Type 0
+HasNoIndex section base =
+    (entries : List (ℕ × CieOrFde)) (rows : List (ℕ × ℕ)) → AreEntries section 0 entries → visits (rows_of_entry base) entries ≡ Ok rows → ⊥

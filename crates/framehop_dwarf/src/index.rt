@@ -3,7 +3,9 @@ ghost use Rattle.std.specs.Prelude.{◌≡◌, ◌≢◌, ◌<◌, ◌≤◌, le
 ghost use Rattle.std.specs.Prelude.{IsPermutation, ℕ, map};
 ghost use Rattle.framehop_cfi.specs.Entry.{cie_at, bases_of};
 ghost use Rattle.framehop_cfi.specs.Entries.{Section};
-ghost use Rattle.framehop_dwarf.specs.Index.{row_of, rows_of, row_at, fde_offset_at, read_row_of, IsKnown, Gives, Indexes};
+ghost use Rattle.framehop_dwarf.specs.Index.{row_of, rows_of, row_at, fde_offset_at, read_row_of, IsKnown, Gives, Indexes, IsIndexOfEntries, HasNoIndex};
+ghost use Rattle.framehop_dwarf.specs.declared.index.DwarfCfiIndexError.TheVariants.{Gimli};
+ghost use Rattle.framehop_cfi.specs.declared.read_error.ReadError.TheVariants.{OutOfMemory};
 ghost use Rattle.framehop_dwarf.specs.Bases.{base_addresses_of};
 ghost use Rattle.framehop_cfi.specs.declared.entry.UnwindSectionType.TheVariants.{EhFrame, DebugFrame};
 ghost use Rattle.framehop_cfi.specs.declared.entry.EntryHead.TheVariants.{Fde};
@@ -189,6 +191,21 @@ impl DwarfCfiIndex {
     /// The first entry in the section that can't be read, or whose start or offset does not fit, is the
     /// error.
     pub fn try_new(
+        alloc: Global,
+        section: &[u8],
+        section_type: UnwindSectionType,
+        bases: &BaseAddresses,
+        base_svma: u64,
+    ) -> Result<Self, DwarfCfiIndexError>
+        ensures found { IfOk result (IsIndexOfEntries (record { kind = section_type; bases = bases_of section_type bases.now; bytes = section.now }) base_svma) }
+        ensures refused { IfErr result (λ error. error ≢ Gimli OutOfMemory → HasNoIndex (record { kind = section_type; bases = bases_of section_type bases.now; bytes = section.now }) base_svma) }
+        ensures first { Indexes result (rows_of (record { kind = section_type; bases = bases_of section_type bases.now; bytes = section.now }) base_svma) }
+    {
+        Self::read(alloc, section, section_type, bases, base_svma)
+    }
+
+    /// The index of the rows that are read in the section's order.
+    fn read(
         alloc: Global,
         section: &[u8],
         section_type: UnwindSectionType,

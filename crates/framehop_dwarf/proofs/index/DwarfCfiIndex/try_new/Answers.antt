@@ -1,11 +1,14 @@
-use Rattle.std.proofs.Common.{ap, sym}
-use Rattle.std.specs.Prelude.{option_map, ℕ}
-use Rattle.std.proofs.lemmas.List.Sorted.{IsPermutation-sym}
-use Rattle.framehop_dwarf.proofs.Order.{row_at-permutation}
+use Rattle.framehop_cfi.specs.Entries.{Section}
+use Rattle.framehop_cfi.specs.Entry.{bases_of}
+use Rattle.framehop_dwarf.proofs.Entries.{answered, refused}
 use Rattle.framehop_dwarf.proofs.index.DwarfCfiIndex.try_new.Goals as goal
 
-pub returns-in-Ok : goal.returns-in-Ok
-returns-in-Ok c =
-    let rows = c.in_ok-rows.rows.items in
-    let read = rw (c.new-section.ensures.section_type, c.new-section.ensures.bases, c.new-section.ensures.bytes) at c.in_ok-rows.ensures in
-    (rows, read, λ address. ap (λ o. option_map (λ (row : ℕ × ℕ). row.1) o) (sym (row_at-permutation rows c.in-Ok.index address c.in-Ok.ensures)))
+pub returns-clause-found : goal.returns-clause-found
+returns-clause-found c =
+    let section : Section = record { kind = c.args.section_type; bases = bases_of c.args.section_type c.args.bases.now; bytes = c.args.section.now } in
+    answered section c.args.base_svma c.read.result c.read.ensures
+
+pub returns-clause-refused : goal.returns-clause-refused
+returns-clause-refused c =
+    let section : Section = record { kind = c.args.section_type; bases = bases_of c.args.section_type c.args.bases.now; bytes = c.args.section.now } in
+    refused section c.args.base_svma c.read.result c.read.ensures
