@@ -1,5 +1,5 @@
 -- An index of a section is one of its list of entries.
-use Rattle.std.proofs.Common.{◌≡◌, ◌≢◌, ℕ, List, Result, Ok, Err}
+use Rattle.std.proofs.Common.{◌≢◌, ℕ, List, Result, Ok, Err}
 use Rattle.std.specs.Prelude.{IfOk, IfErr}
 use Rattle.framehop_cfi.specs.Entries.{Section}
 use Rattle.framehop_cfi.proofs.EntryList.{walked, entries-walked}

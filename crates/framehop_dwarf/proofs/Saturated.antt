@@ -1,5 +1,5 @@
 -- An address beyond 64 bits has the place of the last one of 64 bits.
-use Rattle.std.proofs.Common.{◌≡◌, ℕ, zero, suc, ◌+◌, ◌-◌, ◌*◌, ◌/◌, ◌<◌, ◌≤◌, ◌^◌, ◌%◌, min, List, length, get_or, refl, ap, sym, ◌∙◌, arith, Result, Ok, Err, true, false, leb, if◌then◌else◌, ◌⊎◌, inl, inr, map, Some, None, Option}
+use Rattle.std.proofs.Common.{◌≡◌, ℕ, zero, suc, ◌+◌, ◌-◌, ◌*◌, ◌/◌, ◌<◌, ◌≤◌, ◌^◌, ◌%◌, min, List, length, get_or, refl, ap, arith, Result, Ok, Err, leb, if◌then◌else◌, inl, inr}
 use Rattle.std.proofs.lemmas.Bool.{le-leb, cases_lt}
 use Rattle.framehop_cfi.specs.Bytes.{Reading, ◌>>=◌}
 use Rattle.framehop_cfi.specs.Raw.{raw_at, format_of}

@@ -1,15 +1,15 @@
 -- The table of an index, and the rows that it was made of.
-use Rattle.std.proofs.Common.{◌≡◌, ℕ, zero, suc, ◌+◌, ◌-◌, ◌<◌, ◌≤◌, Bool, true, false, List, [], ◌∷◌, length, map, get_or, Option, Some, None, refl, ap, sym, subst, add-zero, Ordering, ◌∙◌, arith, ◌⊎◌, inl, inr}
+use Rattle.std.proofs.Common.{◌≡◌, ℕ, zero, suc, ◌+◌, ◌-◌, ◌<◌, ◌≤◌, true, false, List, [], ◌∷◌, length, map, get_or, Some, None, refl, ap, sym, subst, add-zero, Ordering, ◌∙◌, arith, inl, inr}
 use Rattle.std.specs.List.{zip}
 use Rattle.std.specs.Prelude.{option_map}
 use Rattle.std.proofs.lemmas.Slice.Zip.{length-zip, get_or-zip}
-use Rattle.std.specs.List.Sorted.{IsPermutation, IsSorted}
+use Rattle.std.specs.List.Sorted.{IsSorted}
 use Rattle.std.specs.Ordering.{is_lt, nat_cmp, ordering_then}
 use Rattle.std.proofs.lemmas.Bool.{cases_lt}
 use Rattle.std.proofs.lemmas.Bool.Decides.{nat_tests}
 use Rattle.std.proofs.lemmas.List.{get_or-map, length-map}
 use Rattle.std.proofs.lemmas.List.Sorted.{IsPermutation-refl}
-use Rattle.framehop_cfi.specs.Place.{IsPlace, AreOrdered}
+use Rattle.framehop_cfi.specs.Place.{IsPlace}
 use Rattle.framehop_dwarf.specs.Index.{is_before, row_at, fde_offset_at, IsTable}
 use Rattle.framehop_dwarf.proofs.Order.{before-refl, before-trans, Greatest, Among, one-row_at, greatest, among}
 

@@ -1,5 +1,5 @@
 -- The FDE of an address, among all FDEs of a section.
-use Rattle.std.specs.Prelude.{ℕ, ◌+◌, ◌-◌, ◌^◌, ◌<◌, ◌≤◌, ◌≡◌, ◌≢◌, Bool, IsTrue, length, slice_index, List, [], ◌∷◌, Option, Some, None, option_map, Result, Ok, Err, nat_le, nat_lt, ◌==◌, ◌||◌, ◌&&◌, if◌then◌else◌}
+use Rattle.std.specs.Prelude.{ℕ, ◌-◌, ◌^◌, ◌<◌, ◌≤◌, ◌≡◌, ◌≢◌, Bool, IsTrue, length, slice_index, List, [], ◌∷◌, Option, Some, None, option_map, Result, Ok, Err, nat_le, nat_lt, ◌==◌, ◌||◌, ◌&&◌, if◌then◌else◌}
 use Rattle.framehop_cfi.specs.Bytes.{◌>>=◌}
 use Rattle.framehop_cfi.specs.Entry.{cie_at, fde_of_head}
 use Rattle.framehop_cfi.specs.Entries.{Section, refused_by, walk_all}

@@ -122,7 +122,8 @@ fn rule_text(alloc: Global, rule: RegisterRule) -> Result<String, AllocError> {
     }
 }
 
-/// A row as `readelf` writes it, with the registers' numbers.
+/// A row as `readelf` writes it, with the registers' numbers. It writes an undefined register as one
+/// without a rule.
 fn row_text<S: UnwindContextStorage>(
     alloc: Global,
     row: &UnwindTableRow<S>,
@@ -134,8 +135,10 @@ fn row_text<S: UnwindContextStorage>(
         }
         CfaRule::Expression(_) => format!(in alloc; "exp")?,
     };
-    for register in 0..17u16 {
-        if let Some(rule) = row.register(Register(register)) {
+    for register in 0..33u16 {
+        if let Some(rule) = row.register(Register(register))
+            && rule != RegisterRule::Undefined
+        {
             let rule = rule_text(alloc, rule)?;
             write!(text, " {register}={rule}")?;
         }
@@ -197,8 +200,13 @@ fn refused_indexes(rt: HostRuntime) -> Result<(), Fail> {
         Some(DwarfCfiIndexError::CouldNotSubtractBaseAddress)
     );
 
-    let text = "14000000 00000000 02 7a5200 01 78 10 01 1b 0c0708 9001 0000 00000000";
-    let section = bytes(rt.alloc(), text)?;
+    let mut section = bytes(rt.alloc(), ONE_FDE)?;
+    assert!(rt; section.len() > 8);
+    section[8] = 2;
+    let mut sections = Sections {
+        base_svma: 0,
+        eh_frame: 0x2000,
+    };
     let index = DwarfCfiIndex::try_new_eh_frame(rt.alloc(), section.bytes(), &mut sections);
     let unknown = DwarfCfiIndexError::Gimli(ReadError::UnknownVersion);
     assert_eq!(rt; index.err(), Some(unknown));
@@ -275,20 +283,15 @@ fn fdes_by_the_header(rt: HostRuntime) -> Result<(), Fail> {
 /// Reads the FDEs of a real section, and compares each with what `readelf` says of it.
 fn compare<S: UnwindContextStorage>(
     rt: &(impl std::process::Abort + AllocGlobal),
+    section_type: UnwindSectionType,
     text: &str,
     address: u64,
     fdes: &[(u32, u64, u64)],
     rows: &[(u32, u64, &str)],
 ) -> Result<(), Fail> {
     let data = bytes(rt.alloc(), text)?;
-    let section = UnwindSection::new(data.bytes(), UnwindSectionType::EhFrame, &at(address));
-    let index = DwarfCfiIndex::try_new(
-        rt.alloc(),
-        data.bytes(),
-        UnwindSectionType::EhFrame,
-        &at(address),
-        0,
-    )?;
+    let section = UnwindSection::new(data.bytes(), section_type, &at(address));
+    let index = DwarfCfiIndex::try_new(rt.alloc(), data.bytes(), section_type, &at(address), 0)?;
     for (offset, start, length) in fdes {
         let fde = section.fde_from_offset(*offset as usize)?;
         assert_eq!(rt; fde.initial_address, *start);
@@ -311,21 +314,19 @@ fn compare<S: UnwindContextStorage>(
 
 #[test]
 fn rows_of_libgcc(rt: HostRuntime) -> Result<(), Fail> {
-    compare::<StoreOnStack>(
-        &rt,
-        LIBGCC_BYTES,
-        LIBGCC_ADDRESS,
-        &LIBGCC_FDES,
-        &LIBGCC_ROWS,
-    )
+    let (text, address) = (LIBGCC_BYTES, LIBGCC_ADDRESS);
+    let eh_frame = UnwindSectionType::EhFrame;
+    compare::<StoreOnStack>(&rt, eh_frame, text, address, &LIBGCC_FDES, &LIBGCC_ROWS)
 }
 
 #[test]
 fn rows_of_libstdcxx(rt: HostRuntime) -> Result<(), Fail> {
-    let address = LIBSTDCXX_ADDRESS;
+    let (text, address) = (LIBSTDCXX_BYTES, LIBSTDCXX_ADDRESS);
+    let eh_frame = UnwindSectionType::EhFrame;
     compare::<StoreOnHeap>(
         &rt,
-        LIBSTDCXX_BYTES,
+        eh_frame,
+        text,
         address,
         &LIBSTDCXX_FDES,
         &LIBSTDCXX_ROWS,
@@ -334,7 +335,107 @@ fn rows_of_libstdcxx(rt: HostRuntime) -> Result<(), Fail> {
 
 #[test]
 fn rows_of_libc(rt: HostRuntime) -> Result<(), Fail> {
-    compare::<StoreOnStack>(&rt, LIBC_BYTES, LIBC_ADDRESS, &LIBC_FDES, &LIBC_ROWS)
+    let eh_frame = UnwindSectionType::EhFrame;
+    compare::<StoreOnStack>(
+        &rt,
+        eh_frame,
+        LIBC_BYTES,
+        LIBC_ADDRESS,
+        &LIBC_FDES,
+        &LIBC_ROWS,
+    )
+}
+
+#[test]
+fn rows_of_directives(rt: HostRuntime) -> Result<(), Fail> {
+    let (text, address) = (ASSEMBLED_BYTES, ASSEMBLED_ADDRESS);
+    let eh_frame = UnwindSectionType::EhFrame;
+    compare::<StoreOnStack>(
+        &rt,
+        eh_frame,
+        text,
+        address,
+        &ASSEMBLED_FDES,
+        &ASSEMBLED_ROWS,
+    )
+}
+
+#[test]
+fn rows_of_debug_frame(rt: HostRuntime) -> Result<(), Fail> {
+    let (text, address) = (COMPILED_BYTES, COMPILED_ADDRESS);
+    let debug_frame = UnwindSectionType::DebugFrame;
+    compare::<StoreOnStack>(
+        &rt,
+        debug_frame,
+        text,
+        address,
+        &COMPILED_FDES,
+        &COMPILED_ROWS,
+    )
+}
+
+/// The row of the first address of an FDE that begins with so many instructions that remember the row.
+fn remembered<S: UnwindContextStorage>(
+    rt: &(impl std::process::Abort + AllocGlobal),
+    text: &str,
+) -> Result<Option<ReadError>, Fail> {
+    let data = bytes(rt.alloc(), text)?;
+    let section = UnwindSection::new(data.bytes(), UnwindSectionType::EhFrame, &at(0x2000));
+    let fde = section.fde_from_offset(24)?;
+    let mut context = UnwindContext::<S>::new_in(rt.alloc())?;
+    Ok(context.evaluate(&section, &fde, 0x1000).err())
+}
+
+#[test]
+fn remembered_rows(rt: HostRuntime) -> Result<(), Fail> {
+    let three = "14000000 00000000 01 7a5200 01 78 10 01 1b 0c0708 9001 0000 \
+         14000000 1c000000 e0efffff 20000000 00 0a0a0a 0b0b0b 00 00000000";
+    let four = "14000000 00000000 01 7a5200 01 78 10 01 1b 0c0708 9001 0000 \
+         14000000 1c000000 e0efffff 20000000 00 0a0a0a0a 000000 00000000";
+    let none = "14000000 00000000 01 7a5200 01 78 10 01 1b 0c0708 9001 0000 \
+         14000000 1c000000 e0efffff 20000000 00 0a0b0b 00000000 00000000";
+    assert_eq!(rt; remembered::<StoreOnStack>(&rt, three)?, None);
+    assert_eq!(rt;
+        remembered::<StoreOnStack>(&rt, four)?,
+        Some(ReadError::TooManyRows)
+    );
+    assert_eq!(rt; remembered::<StoreOnHeap>(&rt, four)?, None);
+    assert_eq!(rt;
+        remembered::<StoreOnHeap>(&rt, none)?,
+        Some(ReadError::NothingRemembered)
+    );
+    Ok(())
+}
+
+/// The refusal of an FDE for 0x1000 to 0x1020 that gives rules to so many registers beside the return
+/// address, none of which has one yet.
+fn with_rules<S: UnwindContextStorage>(
+    rt: &(impl std::process::Abort + AllocGlobal),
+    count: u8,
+) -> Result<Option<ReadError>, Fail> {
+    let cie = "14000000 00000000 01 7a5200 01 78 10 01 1b 0c0708 9001 0000";
+    let mut data = bytes(rt.alloc(), cie)?;
+    let length = 13 + 3 * u32::from(count);
+    data.extend_from_slice(&length.to_le_bytes())?;
+    data.extend_from_slice(&[0x1c, 0, 0, 0, 0xe0, 0xef, 0xff, 0xff, 0x20, 0, 0, 0, 0])?;
+    for register in 0..count {
+        data.extend_from_slice(&[0x07, 128 + register % 128, 1 + register / 128])?;
+    }
+    let section = UnwindSection::new(data.bytes(), UnwindSectionType::EhFrame, &at(0x2000));
+    let fde = section.fde_from_offset(24)?;
+    let mut context = UnwindContext::<S>::new_in(rt.alloc())?;
+    Ok(context.evaluate(&section, &fde, 0x1000).err())
+}
+
+#[test]
+fn rules_of_a_row(rt: HostRuntime) -> Result<(), Fail> {
+    assert_eq!(rt; with_rules::<StoreOnStack>(&rt, 191)?, None);
+    assert_eq!(rt;
+        with_rules::<StoreOnStack>(&rt, 192)?,
+        Some(ReadError::TooManyRules)
+    );
+    assert_eq!(rt; with_rules::<StoreOnHeap>(&rt, 192)?, None);
+    Ok(())
 }
 
 /// A part of the `.eh_frame` of libgcc.
@@ -763,3 +864,60 @@ const LIBC_ROWS: [(u32, u64, &str); 1] = [(
     0x3c04f,
     "exp 0=exp 1=exp 2=exp 3=exp 4=exp 5=exp 6=exp 7=exp 8=exp 9=exp 10=exp 11=exp 12=exp 13=exp 14=exp 15=exp 16=exp",
 )];
+
+/// A part of the `.eh_frame` of assembled directives.
+const ASSEMBLED_BYTES: &str = "\
+     1800000000000000017a5200017810011b0c070890010c07080000004c00000020000000bcdffefff5120100\
+     00430e20860202460d06090308032c010a070c080d140e0304701101000bc6150f7e442e10110d0212077f44\
+     137d0f02770810030276004416060276000520041400000000000000017a525300017810011b0c0708900100\
+     100000001c00000049f2ffff0a00000000450e10";
+
+const ASSEMBLED_ADDRESS: u64 = 0x13020;
+
+/// Its FDEs: offset, first address and length.
+const ASSEMBLED_FDES: [(u32, u64, u64); 2] = [(0x1c, 0x1000, 0x112f5), (0x84, 0x122f5, 0xa)];
+
+/// Their rows: the FDE, the first address of the row, and the row.
+const ASSEMBLED_ROWS: [(u32, u64, &str); 10] = [
+    (0x1c, 0x1000, "r7+8 16=c-8"),
+    (0x1c, 0x1003, "r7+32 6=c-16 16=c-8"),
+    (0x1c, 0x1049, "r6+32 3=r8 6=c-16 16=c-8"),
+    (0x1c, 0x1175, "r6+32 3=r8 6=c-16 13=s 14=v-24 16=c-8"),
+    (0x1c, 0x122e5, "r6+32 3=r8 15=v+16 16=c-8"),
+    (0x1c, 0x122e9, "r7+8 3=r8 13=c-16 15=v+16 16=c-8"),
+    (0x1c, 0x122ed, "exp 3=exp 13=c-16 15=v+16 16=c-8"),
+    (
+        0x1c,
+        0x122f1,
+        "exp 3=exp 6=vexp 13=c-16 15=v+16 16=c-8 32=c-32",
+    ),
+    (0x84, 0x122f5, "r7+8 16=c-8"),
+    (0x84, 0x122fa, "r7+16 16=c-8"),
+];
+
+/// A part of the `.debug_frame` of two compiled functions.
+const COMPILED_BYTES: &str = "\
+     14000000ffffffff01000178100c07089001000000000000240000000000000030100000000000001d000000\
+     00000000410e108302490eb0014f0e10430e08002c0000000000000050100000000000002000000000000000\
+     410e108602430e188303440e20520e18440e10410e080000";
+
+const COMPILED_ADDRESS: u64 = 0x0;
+
+/// Its FDEs: offset, first address and length.
+const COMPILED_FDES: [(u32, u64, u64); 2] = [(0x18, 0x1030, 0x1d), (0x40, 0x1050, 0x20)];
+
+/// Their rows: the FDE, the first address of the row, and the row.
+const COMPILED_ROWS: [(u32, u64, &str); 12] = [
+    (0x18, 0x1030, "r7+8 16=c-8"),
+    (0x18, 0x1031, "r7+16 3=c-16 16=c-8"),
+    (0x18, 0x103a, "r7+176 3=c-16 16=c-8"),
+    (0x18, 0x1049, "r7+16 3=c-16 16=c-8"),
+    (0x18, 0x104c, "r7+8 3=c-16 16=c-8"),
+    (0x40, 0x1050, "r7+8 16=c-8"),
+    (0x40, 0x1051, "r7+16 6=c-16 16=c-8"),
+    (0x40, 0x1054, "r7+24 3=c-24 6=c-16 16=c-8"),
+    (0x40, 0x1058, "r7+32 3=c-24 6=c-16 16=c-8"),
+    (0x40, 0x106a, "r7+24 3=c-24 6=c-16 16=c-8"),
+    (0x40, 0x106e, "r7+16 3=c-24 6=c-16 16=c-8"),
+    (0x40, 0x106f, "r7+8 3=c-24 6=c-16 16=c-8"),
+];

@@ -1,4 +1,4 @@
-use Rattle.std.proofs.Common.{◌≡◌, ◌+◌, ◌∙◌, ◌∷◌, ◌++◌, [], suc, length, refl, sym, ap, arith}
+use Rattle.std.proofs.Common.{◌∙◌, suc, length, sym, arith}
 use Rattle.std.proofs.lemmas.Result.{err_from_is_err_and}
 use Rattle.framehop_cfi.specs.Entries.{Section}
 use Rattle.framehop_dwarf.proofs.Walk.{head-refused, past-zero, past-cie, past-fde, cie-refused, fde-refused, is-known, begins, pushed}

@@ -1,4 +1,4 @@
-use Rattle.std.proofs.Common.{◌≡◌, ◌<◌, ◌≤◌, length, get_or, arith, refl, sym, ap, ◌∙◌, Some}
+use Rattle.std.proofs.Common.{◌≡◌, get_or, arith, ap, ◌∙◌, Some}
 use Rattle.framehop_dwarf.proofs.Table.{row-found, row-missing, starts-ordered, all-above, get_or-any}
 use Rattle.framehop_dwarf.proofs.index.DwarfCfiIndex.fde_offset_for_relative_address.Goals as goal
 

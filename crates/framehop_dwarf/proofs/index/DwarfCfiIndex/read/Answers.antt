@@ -1,6 +1,5 @@
 use Rattle.std.proofs.Common.{ap, sym}
 use Rattle.std.specs.Prelude.{option_map, ℕ}
-use Rattle.std.proofs.lemmas.List.Sorted.{IsPermutation-sym}
 use Rattle.framehop_dwarf.proofs.Order.{row_at-permutation}
 use Rattle.framehop_dwarf.proofs.index.DwarfCfiIndex.read.Goals as goal
 
