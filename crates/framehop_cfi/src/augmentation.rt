@@ -23,6 +23,7 @@ pub struct Augmentation {
 pub fn find_terminator(bytes: &[u8], at: usize) -> Result<usize, ReadError>
     ensures exact { result ≡ terminator_at bytes.now at }
     ensures within { IfOk result (λ terminator. (at ≤ terminator) × (terminator < length bytes.now)) }
+    ensures memory { result ≢ Err ReadError.OutOfMemory }
 {
     if at > bytes.len() {
         return Err(ReadError::Eof);
@@ -63,7 +64,8 @@ impl SectionBaseAddresses {
         bytes: &[u8],
         at: usize,
     ) -> Result<Augmentation, ReadError>
-        ensures { result ≡ augmentation_at self.now letters.now bytes.now at }
+        ensures exact { result ≡ augmentation_at self.now letters.now bytes.now at }
+        ensures memory { result ≢ Err ReadError.OutOfMemory }
     {
         match letters {
             [] => Ok(Augmentation {
@@ -84,7 +86,8 @@ impl SectionBaseAddresses {
         bytes: &[u8],
         at: usize,
     ) -> Result<Augmentation, ReadError>
-        ensures { result ≡ augmentation_data self.now letters.now bytes.now at }
+        ensures exact { result ≡ augmentation_data self.now letters.now bytes.now at }
+        ensures memory { result ≢ Err ReadError.OutOfMemory }
     {
         let (start, end) = read_counted(bytes, at)?;
         let encoding = self.read_letters(letters, &bytes[..end], start)?;
@@ -97,7 +100,8 @@ impl SectionBaseAddresses {
 
     /// The data of the letters, one after another: the pointer encoding that they leave.
     fn read_letters(&self, letters: &[u8], bytes: &[u8], at: usize) -> Result<u8, ReadError>
-        ensures { result ≡ letters_at self.now letters.now bytes.now at 0 }
+        ensures exact { result ≡ letters_at self.now letters.now bytes.now at 0 }
+        ensures memory { result ≢ Err ReadError.OutOfMemory }
     {
         let mut encoding = 0;
         let mut next = at;
@@ -115,7 +119,8 @@ impl SectionBaseAddresses {
         at: usize,
         encoding: u8,
     ) -> Result<(u8, usize), ReadError>
-        ensures { result ≡ letter_at self.now letter bytes.now at encoding }
+        ensures exact { result ≡ letter_at self.now letter bytes.now at encoding }
+        ensures memory { result ≢ Err ReadError.OutOfMemory }
     {
         match letter {
             b'R' => read_u8(bytes, at),
@@ -135,7 +140,8 @@ impl SectionBaseAddresses {
     /// The personality routine's address, which is not used, and the offset behind it.
     #[tactic(auto, unfolding(crate::specs::Augmentation::personality_at))]
     fn read_personality(&self, bytes: &[u8], at: usize) -> Result<(u64, usize), ReadError>
-        ensures { result ≡ personality_at self.now bytes.now at }
+        ensures exact { result ≡ personality_at self.now bytes.now at }
+        ensures memory { result ≢ Err ReadError.OutOfMemory }
     {
         let (encoding, next) = read_u8(bytes, at)?;
         if encoding == DW_EH_PE_OMIT {

@@ -1,5 +1,5 @@
 //! The entries of a call frame section: CIEs and FDEs (DWARF 5 section 6.4.1; LSB, `.eh_frame`).
-ghost use Rattle.std.specs.Prelude.{◌≡◌, ◌≤◌, ◌<◌, ℕ, IfOk, length, take};
+ghost use Rattle.std.specs.Prelude.{◌≡◌, ◌≢◌, Err, ◌≤◌, ◌<◌, ℕ, IfOk, length, take};
 ghost use Rattle.framehop_cfi.specs.Span.{IsWithin};
 ghost use Rattle.framehop_cfi.specs.Entry.{eh_frame_id, debug_frame_id, id_at, head_at, cie_at, fde_at, cie_fields, fde_fields, sizes_at, sizes_of, return_register_at, alignments_at, skipped_at, EndsWithin, EndsBefore, entry_of_head, bases_of, is_known_version, versioned_fields, fde_range};
 
@@ -109,6 +109,7 @@ impl<'a> UnwindSection<'a> {
     pub fn head_at(&self, at: usize) -> Result<EntryHead, ReadError>
         ensures exact { result ≡ head_at self.now.section_type self.now.bytes.now at }
         ensures within { IfOk result (EndsWithin self.now.bytes.now at) }
+        ensures memory { result ≢ Err ReadError.OutOfMemory }
     {
         let span = read_span(self.bytes, at)?;
         if span.is_zero_length() {
@@ -127,6 +128,7 @@ impl<'a> UnwindSection<'a> {
 fn read_eh_frame_id(entry: &[u8], span: &Span) -> Result<EntryHead, ReadError>
     ensures exact { result ≡ eh_frame_id entry.now span.now }
     ensures within { (at : ℕ) → at < span.now.end → span.now.end ≤ length entry.now → IfOk result (EndsWithin entry.now at) }
+    ensures memory { result ≢ Err ReadError.OutOfMemory }
 {
     let (id, next) = read_u32(entry, span.contents)?;
     let distance = id as usize;
@@ -144,6 +146,7 @@ fn read_eh_frame_id(entry: &[u8], span: &Span) -> Result<EntryHead, ReadError>
 fn read_debug_frame_id(entry: &[u8], span: &Span) -> Result<EntryHead, ReadError>
     ensures exact { result ≡ debug_frame_id entry.now span.now }
     ensures within { (at : ℕ) → at < span.now.end → span.now.end ≤ length entry.now → IfOk result (EndsWithin entry.now at) }
+    ensures memory { result ≢ Err ReadError.OutOfMemory }
 {
     if span.offset_size == 4 {
         let (id, next) = read_u32(entry, span.contents)?;
@@ -169,7 +172,8 @@ fn is_known_version(version: u8) -> bool
 /// The sizes of addresses and of segment selectors: the offset behind them.
 #[tactic(auto, unfolding(crate::specs::Entry::sizes_at))]
 fn read_sizes(bytes: &[u8], at: usize) -> Result<usize, ReadError>
-    ensures { result ≡ sizes_at bytes.now at }
+    ensures exact { result ≡ sizes_at bytes.now at }
+    ensures memory { result ≢ Err ReadError.OutOfMemory }
 {
     let (address_size, next) = read_u8(bytes, at)?;
     let (segment_size, next) = read_u8(bytes, next)?;
@@ -181,7 +185,8 @@ fn read_sizes(bytes: &[u8], at: usize) -> Result<usize, ReadError>
 
 /// The return register, which is not used: the offset behind it.
 fn skip_return_register(version: u8, bytes: &[u8], at: usize) -> Result<usize, ReadError>
-    ensures { result ≡ return_register_at version bytes.now at }
+    ensures exact { result ≡ return_register_at version bytes.now at }
+    ensures memory { result ≢ Err ReadError.OutOfMemory }
 {
     if version == 1 {
         let (_, next) = read_u8(bytes, at)?;
@@ -199,6 +204,7 @@ impl<'a> UnwindSection<'a> {
     pub fn cie_from_offset(&self, at: usize) -> Result<CommonInformationEntry, ReadError>
         ensures exact { result ≡ cie_at self.now.section_type self.now.bases self.now.bytes.now at }
         ensures within { IfOk result (λ cie. cie.end ≤ length self.now.bytes.now) }
+        ensures memory { result ≢ Err ReadError.OutOfMemory }
     {
         match self.head_at(at)? {
             EntryHead::Cie(fields, end) => self.read_cie(fields, end),
@@ -212,6 +218,7 @@ impl<'a> UnwindSection<'a> {
         requires { end ≤ length self.now.bytes.now }
         ensures exact { result ≡ cie_fields self.now.section_type self.now.bases (take end self.now.bytes.now) fields end }
         ensures end { IfOk result (λ cie. cie.end ≡ end) }
+        ensures memory { result ≢ Err ReadError.OutOfMemory }
     {
         let entry = &self.bytes[..end];
         let (version, next) = read_u8(entry, fields)?;
@@ -232,6 +239,7 @@ impl<'a> UnwindSection<'a> {
     ) -> Result<CommonInformationEntry, ReadError>
         ensures exact { result ≡ versioned_fields self.now.section_type self.now.bases version entry.now at end }
         ensures end { IfOk result (λ cie. cie.end ≡ end) }
+        ensures memory { result ≢ Err ReadError.OutOfMemory }
     {
         let terminator = find_terminator(entry, at)?;
         let sizes = self.skip_sizes(version, entry, terminator + 1)?;
@@ -241,7 +249,8 @@ impl<'a> UnwindSection<'a> {
     /// The sizes of addresses and of segment selectors, which version 4 has in `.debug_frame`: the
     /// offset behind them.
     fn skip_sizes(&self, version: u8, entry: &[u8], at: usize) -> Result<usize, ReadError>
-        ensures { result ≡ sizes_of self.now.section_type version entry.now at }
+        ensures exact { result ≡ sizes_of self.now.section_type version entry.now at }
+        ensures memory { result ≢ Err ReadError.OutOfMemory }
     {
         match self.section_type {
             UnwindSectionType::DebugFrame if version == 4 => read_sizes(entry, at),
@@ -261,6 +270,7 @@ impl<'a> UnwindSection<'a> {
     ) -> Result<CommonInformationEntry, ReadError>
         ensures exact { result ≡ alignments_at self.now.bases version letters.now entry.now at end }
         ensures end { IfOk result (λ cie. cie.end ≡ end) }
+        ensures memory { result ≢ Err ReadError.OutOfMemory }
     {
         let (code_alignment_factor, next) = read_uleb128(entry, at)?;
         let (data_alignment_factor, next) = read_sleb128(entry, next)?;
@@ -279,7 +289,8 @@ impl<'a> UnwindSection<'a> {
     /// The entry at an offset that begins with a head.
     pub fn entry_of_head(&self, head: EntryHead) -> Result<CieOrFde, ReadError>
         requires { EndsBefore self.now.bytes.now head }
-        ensures { result ≡ entry_of_head self.now.section_type self.now.bases self.now.bytes.now head }
+        ensures exact { result ≡ entry_of_head self.now.section_type self.now.bases self.now.bytes.now head }
+        ensures memory { result ≢ Err ReadError.OutOfMemory }
     {
         match head {
             EntryHead::ZeroLength(_) => Err(ReadError::NotFde),
@@ -302,6 +313,7 @@ impl<'a> UnwindSection<'a> {
     pub fn fde_from_offset(&self, at: usize) -> Result<FrameDescriptionEntry, ReadError>
         ensures exact { result ≡ fde_at self.now.section_type self.now.bases self.now.bytes.now at }
         ensures within { IfOk result (λ fde. (fde.end ≤ length self.now.bytes.now) × (fde.cie.end ≤ length self.now.bytes.now)) }
+        ensures memory { result ≢ Err ReadError.OutOfMemory }
     {
         match self.head_at(at)? {
             EntryHead::Fde(named, fields, end) => {
@@ -322,6 +334,7 @@ impl<'a> UnwindSection<'a> {
         requires { end ≤ length self.now.bytes.now }
         ensures exact { result ≡ fde_fields self.now.bases cie.now (take end self.now.bytes.now) fields end }
         ensures end { IfOk result (λ fde. (fde.end ≡ end) × (fde.cie ≡ cie.now)) }
+        ensures memory { result ≢ Err ReadError.OutOfMemory }
     {
         if cie.fde_pointer_encoding >= DW_EH_PE_INDIRECT {
             return Err(ReadError::BadEncoding);
@@ -340,6 +353,7 @@ impl<'a> UnwindSection<'a> {
     ) -> Result<FrameDescriptionEntry, ReadError>
         ensures exact { result ≡ fde_range self.now.bases cie.now entry.now at end }
         ensures end { IfOk result (λ fde. (fde.end ≡ end) × (fde.cie ≡ cie.now)) }
+        ensures memory { result ≢ Err ReadError.OutOfMemory }
     {
         let encoding = cie.fde_pointer_encoding;
         let (initial_address, next) = self.bases.read_pointer(entry, at, encoding)?;
@@ -357,7 +371,8 @@ impl<'a> UnwindSection<'a> {
 
 /// The offset behind an FDE's augmentation data, if it has any.
 fn skip_augmentation_data(has_data: bool, entry: &[u8], at: usize) -> Result<usize, ReadError>
-    ensures { result ≡ skipped_at has_data entry.now at }
+    ensures exact { result ≡ skipped_at has_data entry.now at }
+    ensures memory { result ≢ Err ReadError.OutOfMemory }
 {
     if !has_data {
         return Ok(at);

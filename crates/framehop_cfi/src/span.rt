@@ -1,5 +1,5 @@
 //! Where an entry of a call frame section begins and ends (DWARF 5 section 7.4).
-ghost use Rattle.std.specs.Prelude.{◌≡◌, ◌<◌, ℕ, IfOk};
+ghost use Rattle.std.specs.Prelude.{◌≡◌, ◌≢◌, Err, ◌<◌, ℕ, IfOk};
 ghost use Rattle.framehop_cfi.specs.Span.{span_at, held, is_zero_length, IsWithin};
 
 use crate::bytes::{read_u32, read_u64};
@@ -21,6 +21,7 @@ pub struct Span {
 pub fn read_span(bytes: &[u8], at: usize) -> Result<Span, ReadError>
     ensures exact { result ≡ span_at bytes.now at }
     ensures within { IfOk result (IsWithin bytes.now at) }
+    ensures memory { result ≢ Err ReadError.OutOfMemory }
 {
     let (length, next) = read_u32(bytes, at)?;
     if length < 0xffff_fff0 {
@@ -37,6 +38,7 @@ pub fn read_span(bytes: &[u8], at: usize) -> Result<Span, ReadError>
 fn held_span(bytes: &[u8], offset_size: u8, contents: usize, length: u64) -> Result<Span, ReadError>
     ensures exact { result ≡ held bytes.now offset_size contents length }
     ensures within { (at : ℕ) → at < contents → IfOk result (IsWithin bytes.now at) }
+    ensures memory { result ≢ Err ReadError.OutOfMemory }
 {
     if contents > bytes.len() || length > (bytes.len() - contents) as u64 {
         return Err(ReadError::Eof);
