@@ -13,6 +13,7 @@ pub mod Outcome
 pub mod Place
 pub mod Pointer
 pub mod Raw
+pub mod Refusal
 pub mod Row
 pub mod RowAt
 pub mod RowMeaning

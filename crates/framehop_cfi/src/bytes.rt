@@ -2,7 +2,8 @@
 //!
 //! A reader is given the section's bytes and an offset into them, and answers what stands there
 //! with the offset behind it. It reads nothing past the end of the bytes that it is given.
-ghost use Rattle.std.specs.Prelude.{◌≡◌, ◌≢◌, Err, ◌<◌, IfOk};
+ghost use Rattle.std.specs.Prelude.{◌≡◌, ◌≢◌, Err, IfErr, ◌<◌, IfOk};
+ghost use Rattle.framehop_cfi.specs.Refusal.{IsSliceRefusal};
 ghost use Rattle.framehop_cfi.specs.Bytes.{u8_at, u16_at, u32_at, u64_at};
 
 use crate::read_error::ReadError;
@@ -13,6 +14,7 @@ use crate::read_error::ReadError;
 pub fn read_u8(bytes: &[u8], at: usize) -> Result<(u8, usize), ReadError>
     ensures exact { result ≡ u8_at bytes.now at }
     ensures forward { IfOk result (λ read. at < read.1) }
+    ensures refusal { IfErr result IsSliceRefusal }
     ensures memory { result ≢ Err ReadError.OutOfMemory }
 {
     if at < bytes.len() {
@@ -28,6 +30,7 @@ pub fn read_u8(bytes: &[u8], at: usize) -> Result<(u8, usize), ReadError>
 pub fn read_u16(bytes: &[u8], at: usize) -> Result<(u16, usize), ReadError>
     ensures exact { result ≡ u16_at bytes.now at }
     ensures forward { IfOk result (λ read. at < read.1) }
+    ensures refusal { IfErr result IsSliceRefusal }
     ensures memory { result ≢ Err ReadError.OutOfMemory }
 {
     if bytes.len() < 2 || at > bytes.len() - 2 {
@@ -43,6 +46,7 @@ pub fn read_u16(bytes: &[u8], at: usize) -> Result<(u16, usize), ReadError>
 pub fn read_u32(bytes: &[u8], at: usize) -> Result<(u32, usize), ReadError>
     ensures exact { result ≡ u32_at bytes.now at }
     ensures forward { IfOk result (λ read. at < read.1) }
+    ensures refusal { IfErr result IsSliceRefusal }
     ensures memory { result ≢ Err ReadError.OutOfMemory }
 {
     if bytes.len() < 4 || at > bytes.len() - 4 {
@@ -58,6 +62,7 @@ pub fn read_u32(bytes: &[u8], at: usize) -> Result<(u32, usize), ReadError>
 pub fn read_u64(bytes: &[u8], at: usize) -> Result<(u64, usize), ReadError>
     ensures exact { result ≡ u64_at bytes.now at }
     ensures forward { IfOk result (λ read. at < read.1) }
+    ensures refusal { IfErr result IsSliceRefusal }
     ensures memory { result ≢ Err ReadError.OutOfMemory }
 {
     if bytes.len() < 8 || at > bytes.len() - 8 {

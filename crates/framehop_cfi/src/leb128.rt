@@ -1,5 +1,6 @@
 //! LEB128 numbers: groups of seven bits, the lowest first (DWARF 5 section 7.6).
-ghost use Rattle.std.specs.Prelude.{◌≡◌, ◌≢◌, Err, ◌+◌, ◌*◌, ◌<◌, ◌≤◌, ◌^◌, IfOk, IsTrue, Some, None, if◌then◌else◌};
+ghost use Rattle.std.specs.Prelude.{◌≡◌, ◌≢◌, Err, IfErr, ◌+◌, ◌*◌, ◌<◌, ◌≤◌, ◌^◌, IfOk, IsTrue, Some, None, if◌then◌else◌};
+ghost use Rattle.framehop_cfi.specs.Refusal.{IsSliceRefusal};
 ghost use Rattle.framehop_cfi.specs.Leb128.{groups_at, uleb_at, sleb_at, with_sign, fits_i64};
 
 use crate::read_error::ReadError;
@@ -10,6 +11,7 @@ fn read_groups(bytes: &[u8], at: usize) -> Result<((u128, u32), usize), ReadErro
     ensures exact { result ≡ groups_at bytes.now at }
     ensures bits { IfOk result (λ read. (0 < read.0.1) × (read.0.1 ≤ 70) × (read.0.0 < 2 ^ read.0.1)) }
     ensures forward { IfOk result (λ read. at < read.1) }
+    ensures refusal { IfErr result IsSliceRefusal }
     ensures memory { result ≢ Err ReadError.OutOfMemory }
 {
     let mut sum = 0u128;
@@ -34,6 +36,7 @@ fn read_groups(bytes: &[u8], at: usize) -> Result<((u128, u32), usize), ReadErro
 pub fn read_uleb128(bytes: &[u8], at: usize) -> Result<(u64, usize), ReadError>
     ensures exact { result ≡ uleb_at bytes.now at }
     ensures forward { IfOk result (λ read. at < read.1) }
+    ensures refusal { IfErr result IsSliceRefusal }
     ensures memory { result ≢ Err ReadError.OutOfMemory }
 {
     if at < bytes.len() && bytes[at] < 0x80 {
@@ -52,6 +55,7 @@ pub fn read_uleb128(bytes: &[u8], at: usize) -> Result<(u64, usize), ReadError>
 pub fn read_sleb128(bytes: &[u8], at: usize) -> Result<(i64, usize), ReadError>
     ensures exact { result ≡ sleb_at bytes.now at }
     ensures forward { IfOk result (λ read. at < read.1) }
+    ensures refusal { IfErr result IsSliceRefusal }
     ensures memory { result ≢ Err ReadError.OutOfMemory }
 {
     if at < bytes.len() && bytes[at] < 0x80 {

@@ -1,5 +1,6 @@
 //! Encoded pointers, and the addresses that they count from (LSB, "DWARF Exception Header Encoding").
-ghost use Rattle.std.specs.Prelude.{◌≡◌, ◌≢◌, Err, ◌<◌, IfOk};
+ghost use Rattle.std.specs.Prelude.{◌≡◌, ◌≢◌, Err, IfErr, ◌<◌, IfOk};
+ghost use Rattle.framehop_cfi.specs.Refusal.{IsSliceRefusal};
 ghost use Rattle.framehop_cfi.specs.Raw.{raw_at, format_of, sign_extended};
 
 use crate::bytes::{read_u16, read_u32, read_u64};
@@ -41,6 +42,7 @@ pub const DW_EH_PE_INDIRECT: u8 = 0x80;
 pub fn read_raw_pointer(bytes: &[u8], at: usize, encoding: u8) -> Result<(u64, usize), ReadError>
     ensures exact { result ≡ raw_at (format_of encoding) bytes.now at }
     ensures forward { IfOk result (λ read. at < read.1) }
+    ensures refusal { IfErr result IsSliceRefusal }
     ensures memory { result ≢ Err ReadError.OutOfMemory }
 {
     match encoding % 16 {
@@ -90,6 +92,7 @@ impl SectionBaseAddresses {
     /// What a pointer at that offset counts from.
     fn base(&self, at: usize, encoding: u8) -> Result<u64, ReadError>
         ensures exact { result ≡ base_of self.now at (application_of encoding) }
+        ensures refusal { IfErr result IsSliceRefusal }
         ensures memory { result ≢ Err ReadError.OutOfMemory }
     {
         match encoding / 16 % 8 {
@@ -111,6 +114,7 @@ impl SectionBaseAddresses {
     ) -> Result<(u64, usize), ReadError>
         ensures exact { result ≡ pointer_at self.now encoding bytes.now at }
         ensures forward { IfOk result (λ read. at < read.1) }
+        ensures refusal { IfErr result IsSliceRefusal }
         ensures memory { result ≢ Err ReadError.OutOfMemory }
     {
         let base = self.base(at, encoding)?;
