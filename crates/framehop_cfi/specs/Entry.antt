@@ -1,0 +1,170 @@
+-- The two kinds of entries of a call frame section (DWARF 5 section 6.4.1; LSB, ".eh_frame").
+use Rattle.std.specs.Prelude.{ℕ, ◌+◌, ◌-◌, ◌≤◌, ◌<◌, List, length, take, slice_range, Bool, true, false, Result, Ok, Err, ◌==◌, ◌||◌, nat_le, if◌then◌else◌}
+use Rattle.framehop_cfi.specs.Bytes.{Reading, ◌>>=◌, u8_at, u32_at, u64_at}
+use Rattle.framehop_cfi.specs.Leb128.{uleb_at, sleb_at}
+use Rattle.framehop_cfi.specs.Raw.{raw_at, format_of}
+use Rattle.framehop_cfi.specs.Augmentation.{terminator_at, counted_at, augmentation_at}
+use Rattle.framehop_cfi.specs.Pointer.{pointer_at}
+use Rattle.framehop_cfi.specs.Span.{span_at, is_zero_length}
+use Rattle.framehop_cfi.specs.declared.span.Span.{Span}
+use Rattle.framehop_cfi.specs.declared.pointer.BaseAddresses.{BaseAddresses}
+use Rattle.framehop_cfi.specs.declared.pointer.SectionBaseAddresses.{SectionBaseAddresses}
+use Rattle.framehop_cfi.specs.declared.entry.UnwindSectionType.{UnwindSectionType}
+use Rattle.framehop_cfi.specs.declared.entry.UnwindSectionType.TheVariants.{EhFrame, DebugFrame}
+use Rattle.framehop_cfi.specs.declared.entry.EntryHead.{EntryHead}
+use Rattle.framehop_cfi.specs.declared.entry.EntryHead.TheVariants.{ZeroLength, Cie, Fde}
+use Rattle.framehop_cfi.specs.declared.entry.CieOrFde.{CieOrFde}
+use Rattle.framehop_cfi.specs.declared.entry.CieOrFde.TheVariants as or
+use Rattle.framehop_cfi.specs.declared.entry.CommonInformationEntry.{CommonInformationEntry}
+use Rattle.framehop_cfi.specs.declared.entry.FrameDescriptionEntry.{FrameDescriptionEntry}
+use Rattle.framehop_cfi.specs.declared.read_error.ReadError.{ReadError}
+use Rattle.framehop_cfi.specs.declared.read_error.ReadError.TheVariants.{BadEncoding, NotCie, NotFde, UnknownVersion, NumberTooBig}
+
+-- In `.eh_frame` a CIE's id is 0 in 4 bytes, and an FDE's CIE lies so many bytes before the field.
+unfoldable pub eh_frame_id : List ℕ → Span → Result EntryHead ReadError
+eh_frame_id bytes span = do
+  id ← u32_at bytes span.contents
+  if id.0 == 0 then Ok (Cie id.1 span.end)
+      else (if nat_le id.0 span.contents then Ok (Fde (span.contents - id.0) id.1 span.end) else Err NumberTooBig)
+
+-- In `.debug_frame` a CIE's id is all ones, and an FDE's CIE lies at the offset in the field, of 4 or 8 bytes.
+unfoldable pub short_id : List ℕ → Span → Result EntryHead ReadError
+short_id bytes span = do
+  id ← u32_at bytes span.contents
+  if id.0 == 0xFFFFFFFF then Ok (Cie id.1 span.end) else Ok (Fde id.0 id.1 span.end)
+
+unfoldable pub long_id : List ℕ → Span → Result EntryHead ReadError
+long_id bytes span = do
+  id ← u64_at bytes span.contents
+  if id.0 == 0xFFFFFFFFFFFFFFFF then Ok (Cie id.1 span.end) else Ok (Fde id.0 id.1 span.end)
+
+abbrev pub debug_frame_id : List ℕ → Span → Result EntryHead ReadError
+debug_frame_id bytes span = if span.offset_size == 4 then short_id bytes span else long_id bytes span
+
+-- an entry's id, by its section
+abbrev pub id_at : UnwindSectionType → List ℕ → Span → Result EntryHead ReadError
+id_at EhFrame bytes span = eh_frame_id bytes span
+id_at DebugFrame bytes span = debug_frame_id bytes span
+
+-- what stands at an offset: a zero length, or which kind of entry, and where its fields begin and end
+unfoldable pub head_at : UnwindSectionType → List ℕ → ℕ → Result EntryHead ReadError
+head_at kind bytes at = do
+  span ← span_at bytes at
+  if is_zero_length span then Ok (ZeroLength span.end) else id_at kind (take span.end bytes) span
+
+-- The size of addresses and of segment selectors, which version 4 has in `.debug_frame`: the place behind.
+unfoldable pub sizes_at : List ℕ → ℕ → Result ℕ ReadError
+sizes_at bytes at = do
+  address ← u8_at bytes at
+  segment ← u8_at bytes address.1
+  if address.0 == 8 then (if segment.0 == 0 then Ok segment.1 else Err BadEncoding) else Err BadEncoding
+
+abbrev pub sizes_of : UnwindSectionType → ℕ → List ℕ → ℕ → Result ℕ ReadError
+sizes_of EhFrame version bytes at = Ok at
+sizes_of DebugFrame version bytes at = if version == 4 then sizes_at bytes at else Ok at
+
+-- the place behind the return register, which is not used: a byte in version 1, else a ULEB
+abbrev pub place_behind : {A : Type 0} → Reading A → Result ℕ ReadError
+place_behind reading = reading >>= λ read. Ok read.1
+
+abbrev pub return_register_at : ℕ → List ℕ → ℕ → Result ℕ ReadError
+return_register_at version bytes at = if version == 1 then place_behind (u8_at bytes at) else place_behind (uleb_at bytes at)
+
+-- a CIE's fields behind the augmentation text
+unfoldable pub alignments_at : SectionBaseAddresses → ℕ → List ℕ → List ℕ → ℕ → ℕ → Result CommonInformationEntry ReadError
+alignments_at bases version letters bytes at end = do
+  code ← uleb_at bytes at
+  factor ← sleb_at bytes code.1
+  register ← return_register_at version bytes factor.1
+  augmentation ← augmentation_at bases letters bytes register
+  Ok (record {
+    code_alignment_factor = code.0;
+    data_alignment_factor = factor.0;
+    fde_pointer_encoding = augmentation.encoding;
+    has_augmentation_data = augmentation.has_data;
+    instructions = augmentation.behind;
+    end = end;
+  })
+
+-- the versions that are read here
+abbrev pub is_known_version : ℕ → Bool
+is_known_version version = (version == 1) || (version == 3) || (version == 4)
+
+unfoldable pub versioned_fields : UnwindSectionType → SectionBaseAddresses → ℕ → List ℕ → ℕ → ℕ → Result CommonInformationEntry ReadError
+versioned_fields kind bases version bytes at end = do
+  terminator ← terminator_at bytes at
+  sizes ← sizes_of kind version bytes (terminator + 1)
+  alignments_at bases version (slice_range bytes at terminator) bytes sizes end
+
+-- a CIE's fields behind its id; the bytes end with the entry
+unfoldable pub cie_fields : UnwindSectionType → SectionBaseAddresses → List ℕ → ℕ → ℕ → Result CommonInformationEntry ReadError
+cie_fields kind bases bytes at end = do
+  version ← u8_at bytes at
+  if is_known_version version.0 then versioned_fields kind bases version.0 bytes version.1 end
+      else Err UnknownVersion
+
+-- the CIE at an offset
+abbrev pub cie_of_head : UnwindSectionType → SectionBaseAddresses → List ℕ → EntryHead → Result CommonInformationEntry ReadError
+cie_of_head kind bases bytes (ZeroLength end) = Err NotCie
+cie_of_head kind bases bytes (Fde cie at end) = Err NotCie
+cie_of_head kind bases bytes (Cie at end) = cie_fields kind bases (take end bytes) at end
+
+unfoldable pub cie_at : UnwindSectionType → SectionBaseAddresses → List ℕ → ℕ → Result CommonInformationEntry ReadError
+cie_at kind bases bytes at = do
+  head ← head_at kind bytes at
+  cie_of_head kind bases bytes head
+
+-- the place behind an FDE's augmentation data, which it has where its CIE says so
+abbrev pub skipped_at : Bool → List ℕ → ℕ → Result ℕ ReadError
+skipped_at true bytes at = counted_at bytes at >>= λ place. Ok place.1
+skipped_at false bytes at = Ok at
+
+unfoldable pub fde_range : SectionBaseAddresses → CommonInformationEntry → List ℕ → ℕ → ℕ → Result FrameDescriptionEntry ReadError
+fde_range bases cie bytes at end = do
+  start ← pointer_at bases cie.fde_pointer_encoding bytes at
+  len ← raw_at (format_of cie.fde_pointer_encoding) bytes start.1
+  instructions ← skipped_at cie.has_augmentation_data bytes len.1
+  Ok (record { cie = cie; initial_address = start.0; address_range = len.0; instructions = instructions; end = end })
+
+-- an FDE's fields behind its CIE's offset; the bytes end with the entry
+abbrev pub fde_fields : SectionBaseAddresses → CommonInformationEntry → List ℕ → ℕ → ℕ → Result FrameDescriptionEntry ReadError
+fde_fields bases cie bytes at end =
+    if nat_le 128 cie.fde_pointer_encoding then Err BadEncoding else fde_range bases cie bytes at end
+
+-- the FDE at an offset, with the CIE at the offset that it names
+abbrev pub fde_of_head : UnwindSectionType → SectionBaseAddresses → List ℕ → EntryHead → Result FrameDescriptionEntry ReadError
+fde_of_head kind bases bytes (ZeroLength end) = Err NotFde
+fde_of_head kind bases bytes (Cie at end) = Err NotFde
+fde_of_head kind bases bytes (Fde named at end) =
+    cie_at kind bases bytes named >>= λ cie. fde_fields bases cie (take end bytes) at end
+
+unfoldable pub fde_at : UnwindSectionType → SectionBaseAddresses → List ℕ → ℕ → Result FrameDescriptionEntry ReadError
+fde_at kind bases bytes at = do
+  head ← head_at kind bytes at
+  fde_of_head kind bases bytes head
+
+-- the entry that begins with a head
+abbrev pub entry_of_head : UnwindSectionType → SectionBaseAddresses → List ℕ → EntryHead → Result CieOrFde ReadError
+entry_of_head kind bases bytes (ZeroLength end) = Err NotFde
+entry_of_head kind bases bytes (Cie at end) = cie_fields kind bases (take end bytes) at end >>= λ cie. Ok (or.Cie cie)
+entry_of_head kind bases bytes (Fde named at end) = fde_of_head kind bases bytes (Fde named at end) >>= λ fde. Ok (or.Fde fde)
+
+-- the entry ends in the bytes, behind the offset
+abbrev pub EndsWithin : List ℕ → ℕ → EntryHead → Type 0
+EndsWithin bytes at (ZeroLength end) = (at < end) × (end ≤ length bytes)
+EndsWithin bytes at (Cie fields end) = (at < end) × (end ≤ length bytes)
+EndsWithin bytes at (Fde named fields end) = (at < end) × (end ≤ length bytes)
+
+-- what a section's pointers count from; the start of `.debug_frame` counts as 0
+abbrev pub section_start : UnwindSectionType → BaseAddresses → ℕ
+section_start EhFrame bases = bases.eh_frame
+section_start DebugFrame bases = 0
+
+abbrev pub bases_of : UnwindSectionType → BaseAddresses → SectionBaseAddresses
+bases_of kind bases = record { section = section_start kind bases; text = bases.text; «data» = bases.got }
+
+-- the entry ends in the bytes
+abbrev pub EndsBefore : List ℕ → EntryHead → Type 0
+EndsBefore bytes (ZeroLength end) = end ≤ length bytes
+EndsBefore bytes (Cie fields end) = end ≤ length bytes
+EndsBefore bytes (Fde named fields end) = end ≤ length bytes

@@ -1,0 +1,140 @@
+-- Call frame instructions (DWARF 5 section 6.4.2).
+use Rattle.std.specs.Prelude.{ℕ, ◌-◌, List, Result, Ok, Err, ℤ, pos, ◌*ℤ◌, ◌==◌, ◌||◌, ◌&&◌, nat_le, nat_lt, if◌then◌else◌}
+use Rattle.framehop_cfi.specs.Bytes.{Reading, ◌>>=◌, u8_at, u16_at, u32_at}
+use Rattle.framehop_cfi.specs.Leb128.{uleb_at, sleb_at, fits_i64}
+use Rattle.framehop_cfi.specs.Augmentation.{counted_at}
+use Rattle.framehop_cfi.specs.Pointer.{pointer_at}
+use Rattle.framehop_cfi.specs.declared.pointer.SectionBaseAddresses.{SectionBaseAddresses}
+use Rattle.framehop_cfi.specs.declared.entry.CommonInformationEntry.{CommonInformationEntry}
+use Rattle.framehop_cfi.specs.declared.rule.Register.{Register}
+use Rattle.framehop_cfi.specs.declared.rule.Expression.{Expression}
+use Rattle.framehop_cfi.specs.declared.rule.CfaRule.TheVariants as cfa
+use Rattle.framehop_cfi.specs.declared.rule.RegisterRule.{RegisterRule}
+use Rattle.framehop_cfi.specs.declared.rule.RegisterRule.TheVariants as rule
+use Rattle.framehop_cfi.specs.declared.instruction.CallFrameInstruction.{CallFrameInstruction}
+use Rattle.framehop_cfi.specs.declared.instruction.CallFrameInstruction.TheVariants.{Nop, SetLoc, AdvanceLoc, SetRule, Restore, RememberState, RestoreState, DefCfa, DefCfaRegister, DefCfaOffset}
+use Rattle.framehop_cfi.specs.declared.read_error.ReadError.{ReadError}
+use Rattle.framehop_cfi.specs.declared.read_error.ReadError.TheVariants.{UnknownInstruction, NumberTooBig}
+
+-- what is read, put into another form
+abbrev pub mapped : {A B : Type 0} → (A → B) → Reading A → Reading B
+mapped f reading = reading >>= λ read. Ok (f read.0, read.1)
+
+-- a register's number, up to 65535
+unfoldable pub register_at : List ℕ → ℕ → Reading Register
+register_at bytes at = do
+  number ← uleb_at bytes at
+  if nat_lt number.0 65536 then Ok (record { 0 = number.0 }, number.1) else Err NumberTooBig
+
+-- a number that fits 64 bits with a sign
+abbrev pub checked_i64 : ℤ → Result ℤ ReadError
+checked_i64 number = if fits_i64 number then Ok number else Err NumberTooBig
+
+-- a number times the data alignment
+unfoldable pub factored_at : ℤ → List ℕ → ℕ → Reading ℤ
+factored_at alignment bytes at = do
+  number ← uleb_at bytes at
+  product ← checked_i64 (pos number.0 *ℤ alignment)
+  Ok (product, number.1)
+
+unfoldable pub factored_signed_at : ℤ → List ℕ → ℕ → Reading ℤ
+factored_signed_at alignment bytes at = do
+  number ← sleb_at bytes at
+  product ← checked_i64 (number.0 *ℤ alignment)
+  Ok (product, number.1)
+
+-- an offset that is not factored
+unfoldable pub offset_at : List ℕ → ℕ → Reading ℤ
+offset_at bytes at = do
+  number ← uleb_at bytes at
+  offset ← checked_i64 (pos number.0)
+  Ok (offset, number.1)
+
+-- an expression's bytes, behind their count
+unfoldable pub expression_at : List ℕ → ℕ → Reading Expression
+expression_at bytes at = do
+  place ← counted_at bytes at
+  Ok (record { start = place.0; end = place.1 }, place.1)
+
+-- the rule that an instruction gives to the register that it names, by its code
+abbrev pub rule_at : ℤ → ℕ → List ℕ → ℕ → Reading RegisterRule
+rule_at alignment code bytes at =
+    if code == 0x05 then mapped rule.Offset (factored_at alignment bytes at)
+    else (if code == 0x07 then Ok (rule.Undefined, at)
+    else (if code == 0x08 then Ok (rule.SameValue, at)
+    else (if code == 0x09 then mapped rule.Register (register_at bytes at)
+    else (if code == 0x10 then mapped rule.Expression (expression_at bytes at)
+    else (if code == 0x11 then mapped rule.Offset (factored_signed_at alignment bytes at)
+    else (if code == 0x14 then mapped rule.ValOffset (factored_at alignment bytes at)
+    else (if code == 0x15 then mapped rule.ValOffset (factored_signed_at alignment bytes at)
+    else (if code == 0x16 then mapped rule.ValExpression (expression_at bytes at)
+    else Err UnknownInstruction))))))))
+
+-- an instruction that names a register and gives it a rule
+unfoldable pub set_rule_at : ℤ → ℕ → List ℕ → ℕ → Reading CallFrameInstruction
+set_rule_at alignment code bytes at = do
+  register ← register_at bytes at
+  found ← rule_at alignment code bytes register.1
+  Ok (SetRule register.0 found.0, found.1)
+
+-- the CFA as a register plus an offset
+abbrev pub register_and_offset : Register → ℤ → CallFrameInstruction
+register_and_offset register offset = DefCfa (cfa.RegisterAndOffset register offset)
+
+unfoldable pub def_cfa_at : List ℕ → ℕ → Reading CallFrameInstruction
+def_cfa_at bytes at = do
+  register ← register_at bytes at
+  offset ← offset_at bytes register.1
+  Ok (register_and_offset register.0 offset.0, offset.1)
+
+unfoldable pub def_cfa_factored_at : ℤ → List ℕ → ℕ → Reading CallFrameInstruction
+def_cfa_factored_at alignment bytes at = do
+  register ← register_at bytes at
+  offset ← factored_signed_at alignment bytes register.1
+  Ok (register_and_offset register.0 offset.0, offset.1)
+
+-- an instruction on the CFA, by its code
+abbrev pub cfa_at : ℤ → ℕ → List ℕ → ℕ → Reading CallFrameInstruction
+cfa_at alignment code bytes at =
+    if code == 0x0C then def_cfa_at bytes at
+    else (if code == 0x0D then mapped DefCfaRegister (register_at bytes at)
+    else (if code == 0x0E then mapped DefCfaOffset (offset_at bytes at)
+    else (if code == 0x0F then mapped (λ expression. DefCfa (cfa.Expression expression)) (expression_at bytes at)
+    else (if code == 0x12 then def_cfa_factored_at alignment bytes at
+    else (if code == 0x13 then mapped DefCfaOffset (factored_signed_at alignment bytes at)
+    else Err UnknownInstruction)))))
+
+-- an advance of the location by one, two or four bytes
+abbrev pub advance_at : ℕ → List ℕ → ℕ → Reading CallFrameInstruction
+advance_at code bytes at =
+    if code == 0x02 then mapped AdvanceLoc (u8_at bytes at)
+    else (if code == 0x03 then mapped AdvanceLoc (u16_at bytes at)
+    else mapped AdvanceLoc (u32_at bytes at))
+
+-- an instruction with its own byte, by its code; 2D tells of pointer authentication, 2E of arguments, and neither changes a row
+abbrev pub coded_at : CommonInformationEntry → SectionBaseAddresses → ℕ → List ℕ → ℕ → Reading CallFrameInstruction
+coded_at cie bases code bytes at =
+    if (code == 0x00) || (code == 0x2D) then Ok (Nop, at)
+    else (if code == 0x01 then mapped SetLoc (pointer_at bases cie.fde_pointer_encoding bytes at)
+    else (if nat_le 0x02 code && nat_le code 0x04 then advance_at code bytes at
+    else (if code == 0x06 then mapped Restore (register_at bytes at)
+    else (if code == 0x0A then Ok (RememberState, at)
+    else (if code == 0x0B then Ok (RestoreState, at)
+    else (if code == 0x2E then mapped (λ size. Nop) (uleb_at bytes at)
+    else (if (nat_le 0x0C code && nat_le code 0x0F) || (code == 0x12) || (code == 0x13) then cfa_at cie.data_alignment_factor code bytes at
+    else (if nat_le code 0x16 then set_rule_at cie.data_alignment_factor code bytes at
+    else Err UnknownInstruction))))))))
+
+-- an instruction that has its first operand in the byte: from 40 on an advance, from 80 on an offset, from C0 on a restore
+abbrev pub operands_at : CommonInformationEntry → SectionBaseAddresses → ℕ → List ℕ → ℕ → Reading CallFrameInstruction
+operands_at cie bases code bytes at =
+    if nat_le 0xC0 code then Ok (Restore (record { 0 = code - 0xC0 }), at)
+    else (if nat_le 0x80 code then mapped (λ offset. SetRule (record { 0 = code - 0x80 }) (rule.Offset offset)) (factored_at cie.data_alignment_factor bytes at)
+    else (if nat_le 0x40 code then Ok (AdvanceLoc (code - 0x40), at)
+    else coded_at cie bases code bytes at))
+
+-- the instruction at an offset
+unfoldable pub instruction_at : CommonInformationEntry → SectionBaseAddresses → List ℕ → ℕ → Reading CallFrameInstruction
+instruction_at cie bases bytes at = do
+  code ← u8_at bytes at
+  operands_at cie bases code.0 bytes code.1

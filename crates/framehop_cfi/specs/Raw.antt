@@ -1,0 +1,32 @@
+-- The formats of encoded pointers (LSB, "DWARF Exception Header Encoding").
+use Rattle.std.specs.Prelude.{ℕ, ◌+◌, ◌-◌, ◌*◌, ◌%◌, ◌^◌, List, Ok, Err, ◌==◌, ◌||◌, nat_lt, if◌then◌else◌}
+use Rattle.std.specs.Int.{cast_unsigned, w64}
+use Rattle.framehop_cfi.specs.Bytes.{Reading, ◌>>=◌, u16_at, u32_at, u64_at}
+use Rattle.framehop_cfi.specs.Leb128.{uleb_at, sleb_at}
+use Rattle.framehop_cfi.specs.declared.read_error.ReadError.TheVariants.{BadEncoding}
+
+-- an encoding's low four bits
+abbrev pub format_of : ℕ → ℕ
+format_of encoding = encoding % 16
+
+-- a two's complement number of so many bits as one of 64 bits
+abbrev pub sign_extended : ℕ → ℕ → ℕ
+sign_extended bits number = if nat_lt (2 * number) (2 ^ bits) then number else number + (2 ^ 64 - 2 ^ bits)
+
+-- a pointer's value by its format alone, as a number of 64 bits
+unfoldable pub raw_at : ℕ → List ℕ → ℕ → Reading ℕ
+raw_at format bytes at =
+    if (format == 0) || (format == 4) || (format == 12) then u64_at bytes at
+    else (if format == 1 then uleb_at bytes at
+    else (if format == 2 then u16_at bytes at
+    else (if format == 3 then u32_at bytes at
+    else (if format == 9 then (do
+      number ← sleb_at bytes at
+      Ok (cast_unsigned w64 number.0, number.1))
+    else (if format == 10 then (do
+      number ← u16_at bytes at
+      Ok (sign_extended 16 number.0, number.1))
+    else (if format == 11 then (do
+      number ← u32_at bytes at
+      Ok (sign_extended 32 number.0, number.1))
+    else Err BadEncoding))))))

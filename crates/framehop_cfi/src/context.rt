@@ -1,0 +1,367 @@
+//! The row of an address: the instructions of a CIE and of an FDE, run up to it (DWARF 5 section 6.4.3).
+ghost use Rattle.std.specs.Prelude.{◌≡◌, ◌≢◌, ◌≤◌, ◌*◌, length, IfOk, IfSome, IfErr, OnOk, OnErr, IsErrOf, None, Err, vec_len};
+ghost use Rattle.framehop_cfi.specs.Row.{empty_row, rule_of, with_rule, without_rule};
+ghost use Rattle.framehop_cfi.specs.Machine.{Machine, effect, setting, restoring, restoring_to, remembering, recalling, with_cfa};
+ghost use Rattle.framehop_cfi.specs.Outcome.{Becomes};
+ghost use Rattle.framehop_cfi.specs.RowMeaning.{IsMachineAt};
+ghost use Rattle.framehop_cfi.specs.RowAt.{location_after, risen, is_beyond, run_from, machine_at, start, begun, covers};
+
+use crate::entry::{CommonInformationEntry, FrameDescriptionEntry, UnwindSection};
+use crate::instruction::CallFrameInstruction;
+use crate::pointer::SectionBaseAddresses;
+use crate::read_error::ReadError;
+use crate::row::UnwindTableRow;
+use crate::rule::{CfaRule, Register, RegisterRule};
+use crate::storage::UnwindContextStorage;
+use std::alloc::{AllocError, Global};
+use std::marker::Model;
+use std::mem;
+
+/// The room in which rows are made. It is made once and used for any number of rows.
+#[derive(Drop)]
+pub struct UnwindContext<S: UnwindContextStorage> {
+    /// The row after the CIE's instructions.
+    initial: UnwindTableRow<S>,
+    /// Whether the CIE's instructions have been run.
+    has_initial: bool,
+    row: UnwindTableRow<S>,
+    /// The rows that were remembered, and behind them rows to be used for the next ones.
+    remembered: Vec<UnwindTableRow<S>>,
+    /// How many rows are remembered.
+    count: usize,
+    alloc: Global,
+}
+
+impl<S: UnwindContextStorage> Model for UnwindContext<S> {
+    ghost use Rattle.framehop_cfi.specs.Machine.{Machine};
+    ghost use Rattle.framehop_cfi.specs.Context.{initial_of, HasRows};
+    ghost use Rattle.std.specs.Prelude.{vec_len, take};
+
+    ghost Value = { Machine };
+
+    ghost view = { λ context. record { initial = initial_of context.has_initial context.initial; row = context.row; remembered = take context.count context.remembered.items } };
+
+    ghost invariant = { λ context. HasRows S.limits context.count (vec_len context.remembered) };
+}
+
+impl<S: UnwindContextStorage> UnwindContext<S> {
+    /// Makes the room, which is all the memory that a context with limits takes.
+    pub fn new_in(alloc: Global) -> Result<Self, AllocError>
+        ensures { IfOk result (λ context. context ≡ start) }
+    {
+        let initial = UnwindTableRow::new(alloc)?;
+        let row = UnwindTableRow::new(alloc)?;
+        let spare = match S::limits() {
+            Some(limits) => limits.rows,
+            None => 0,
+        };
+        let remembered = spare_rows(alloc, spare)?;
+        Ok(UnwindContext {
+            initial,
+            has_initial: false,
+            row,
+            remembered,
+            count: 0,
+            alloc,
+        })
+    }
+
+    /// The row that was made last.
+    pub fn row(&self) -> &UnwindTableRow<S>
+        ensures { result.now ≡ self.now.row }
+    {
+        &self.row
+    }
+
+    /// Does what an instruction says, but for a move of the location.
+    fn execute(&mut self, instruction: CallFrameInstruction) -> Result<(), ReadError>
+        ensures exact { Becomes result self.new (effect S.limits instruction self.old) }
+        ensures memory { IsErrOf result ReadError.OutOfMemory → S.limits ≡ None }
+    {
+        match instruction {
+            CallFrameInstruction::Nop
+            | CallFrameInstruction::SetLoc { .. }
+            | CallFrameInstruction::AdvanceLoc { .. } => Ok(()),
+            CallFrameInstruction::SetRule { register, rule } => self.set_rule(register, rule),
+            CallFrameInstruction::Restore { register } => self.restore(register),
+            CallFrameInstruction::RememberState => self.remember(),
+            CallFrameInstruction::RestoreState => self.recall(),
+            CallFrameInstruction::DefCfa(rule) => {
+                self.row.set_cfa(rule);
+                Ok(())
+            }
+            CallFrameInstruction::DefCfaRegister { register } => self.set_cfa_register(register),
+            CallFrameInstruction::DefCfaOffset { offset } => self.set_cfa_offset(offset),
+        }
+    }
+
+    fn set_rule(&mut self, register: Register, rule: RegisterRule) -> Result<(), ReadError>
+        ensures exact { Becomes result self.new (setting S.limits register rule self.old) }
+        ensures memory { IsErrOf result ReadError.OutOfMemory → S.limits ≡ None }
+    {
+        self.row.set_rule(register, rule)
+    }
+
+    /// Gives a register the rule that the CIE gave it.
+    fn restore(&mut self, register: Register) -> Result<(), ReadError>
+        ensures exact { Becomes result self.new (restoring S.limits register self.old self.old.initial) }
+        ensures memory { IsErrOf result ReadError.OutOfMemory → S.limits ≡ None }
+    {
+        if !self.has_initial {
+            return Err(ReadError::InvalidContext);
+        }
+        match self.initial.register(register) {
+            Some(rule) => self.row.set_rule(register, rule),
+            None => {
+                self.row.remove_rule(register);
+                Ok(())
+            }
+        }
+    }
+
+    fn set_cfa_register(&mut self, register: Register) -> Result<(), ReadError>
+        ensures exact { Becomes result self.new (effect S.limits (CallFrameInstruction.DefCfaRegister register) self.old) }
+        ensures memory { result ≢ Err ReadError.OutOfMemory }
+    {
+        match *self.row.cfa() {
+            CfaRule::RegisterAndOffset { offset, .. } => {
+                self.row
+                    .set_cfa(CfaRule::RegisterAndOffset { register, offset });
+                Ok(())
+            }
+            CfaRule::Expression(_) => Err(ReadError::InvalidContext),
+        }
+    }
+
+    fn set_cfa_offset(&mut self, offset: i64) -> Result<(), ReadError>
+        ensures exact { Becomes result self.new (effect S.limits (CallFrameInstruction.DefCfaOffset offset) self.old) }
+        ensures memory { result ≢ Err ReadError.OutOfMemory }
+    {
+        match *self.row.cfa() {
+            CfaRule::RegisterAndOffset { register, .. } => {
+                self.row
+                    .set_cfa(CfaRule::RegisterAndOffset { register, offset });
+                Ok(())
+            }
+            CfaRule::Expression(_) => Err(ReadError::InvalidContext),
+        }
+    }
+
+    /// Remembers the row.
+    fn remember(&mut self) -> Result<(), ReadError>
+        ensures exact { Becomes result self.new (remembering S.limits self.old) }
+        ensures memory { IsErrOf result ReadError.OutOfMemory → S.limits ≡ None }
+    {
+        if let Some(limits) = S::limits()
+            && self.count >= limits.rows
+        {
+            return Err(ReadError::TooManyRows);
+        }
+        if self.count == self.remembered.len() {
+            let Ok(spare) = UnwindTableRow::new(self.alloc) else {
+                return Err(ReadError::OutOfMemory);
+            };
+            if self.remembered.push(spare).is_err() {
+                return Err(ReadError::OutOfMemory);
+            }
+        }
+        let spare = &mut self.remembered[self.count];
+        spare.copy_from(&self.row)?;
+        self.count += 1;
+        Ok(())
+    }
+
+    /// Makes the row the one that was remembered last, which is then not remembered any more.
+    fn recall(&mut self) -> Result<(), ReadError>
+        ensures exact { Becomes result self.new (recalling self.old) }
+        ensures memory { result ≢ Err ReadError.OutOfMemory }
+    {
+        if self.count == 0 {
+            return Err(ReadError::NothingRemembered);
+        }
+        self.count -= 1;
+        let latest = &mut self.remembered[self.count];
+        mem::swap(&mut self.row, latest);
+        Ok(())
+    }
+}
+
+/// So many empty rows.
+fn spare_rows<S: UnwindContextStorage>(
+    alloc: Global,
+    count: usize,
+) -> Result<Vec<UnwindTableRow<S>>, AllocError>
+    ensures { IfOk result (λ rows. vec_len rows ≡ count) }
+{
+    let mut rows = Vec::with_capacity(alloc, count)?;
+    for _made in 0..count {
+        let row = UnwindTableRow::new(alloc)?;
+        rows.push(row)?;
+    }
+    Ok(rows)
+}
+
+/// The location that an instruction leaves. A CIE has no address that is looked for, and its
+/// instructions do not move the location.
+fn location_after(
+    cie: &CommonInformationEntry,
+    address: Option<u64>,
+    location: u64,
+    instruction: CallFrameInstruction,
+) -> Result<u64, ReadError>
+    ensures exact { result ≡ location_after cie.now address location instruction }
+    ensures memory { result ≢ Err ReadError.OutOfMemory }
+{
+    match instruction {
+        CallFrameInstruction::SetLoc { address: target } => {
+            if address.is_none() || target < location {
+                return Err(ReadError::InvalidContext);
+            }
+            Ok(target)
+        }
+        CallFrameInstruction::AdvanceLoc { delta } => {
+            if address.is_none() {
+                return Err(ReadError::InvalidContext);
+            }
+            risen(location, delta, cie.code_alignment_factor)
+        }
+        _ => Ok(location),
+    }
+}
+
+/// The location after an advance of `delta` times the code alignment.
+fn risen(location: u64, delta: u32, code_alignment_factor: u64) -> Result<u64, ReadError>
+    ensures exact { result ≡ risen location (delta * code_alignment_factor) }
+    ensures memory { result ≢ Err ReadError.OutOfMemory }
+{
+    let bytes = u128::from(delta) * u128::from(code_alignment_factor);
+    let moved = u128::from(location) + bytes;
+    if bytes >= 1 << 63 {
+        return Err(ReadError::NumberTooBig);
+    }
+    match u64::try_from(moved) {
+        Ok(moved) => Ok(moved),
+        Err(_) => Err(ReadError::NumberTooBig),
+    }
+}
+
+/// Whether the location lies beyond the address that is looked for.
+fn is_beyond(address: Option<u64>, location: u64) -> bool
+    ensures { result ≡ is_beyond address location }
+{
+    match address {
+        Some(address) => address < location,
+        None => false,
+    }
+}
+
+impl<S: UnwindContextStorage> UnwindContext<S> {
+    /// Runs the instructions from an offset on, up to the end of the bytes or to the first move beyond
+    /// the address.
+    fn run(
+        &mut self,
+        cie: &CommonInformationEntry,
+        bases: &SectionBaseAddresses,
+        bytes: &[u8],
+        at: usize,
+        start: u64,
+        address: Option<u64>,
+    ) -> Result<(), ReadError>
+        ensures exact { Becomes result self.new (run_from S.limits (record { cie = cie.now; bases = bases.now; bytes = bytes.now; address = address }) at start self.old) }
+        ensures memory { IsErrOf result ReadError.OutOfMemory → S.limits ≡ None }
+    {
+        let mut location = start;
+        let mut next = at;
+        while next < bytes.len() {
+            let (instruction, behind) = cie.read_instruction(bases, bytes, next)?;
+            let moved = location_after(cie, address, location, instruction)?;
+            if is_beyond(address, moved) {
+                return Ok(());
+            }
+            self.execute(instruction)?;
+            location = moved;
+            next = behind;
+        }
+        Ok(())
+    }
+
+    /// Makes the row of an address, an SVMA: the effects of the instructions of the FDE's CIE, and of its own
+    /// before the first move of the location beyond the address.
+    ///
+    /// An address that the FDE does not cover is refused by `NoRow`. After a refusal the row is any.
+    pub fn evaluate(
+        &mut self,
+        section: &UnwindSection,
+        fde: &FrameDescriptionEntry,
+        address: u64,
+    ) -> Result<(), ReadError>
+        requires cie { fde.now.cie.end ≤ length section.now.bytes.now }
+        requires fde { fde.now.end ≤ length section.now.bytes.now }
+        ensures row { OnOk result (IsMachineAt S.limits section.now.bases section.now.bytes.now fde.now address self.new) }
+        ensures none { IfErr result (λ error. error ≢ ReadError.OutOfMemory →
+            (machine : Machine) → IsMachineAt S.limits section.now.bases section.now.bytes.now fde.now address machine → ⊥) }
+        ensures exact { Becomes result self.new (machine_at S.limits section.now.bases section.now.bytes.now fde.now address) }
+        ensures memory { IsErrOf result ReadError.OutOfMemory → S.limits ≡ None }
+    {
+        self.run_fde(section, fde, address)
+    }
+
+    /// Runs the instructions of the FDE's CIE, and then its own up to the address.
+    #[tactic(auto, unfolding(crate::specs::RowAt::machine_at))]
+    fn run_fde(
+        &mut self,
+        section: &UnwindSection,
+        fde: &FrameDescriptionEntry,
+        address: u64,
+    ) -> Result<(), ReadError>
+        requires cie { fde.now.cie.end ≤ length section.now.bytes.now }
+        requires fde { fde.now.end ≤ length section.now.bytes.now }
+        ensures exact { Becomes result self.new (machine_at S.limits section.now.bases section.now.bytes.now fde.now address) }
+        ensures memory { IsErrOf result ReadError.OutOfMemory → S.limits ≡ None }
+    {
+        if !covers(fde, address) {
+            return Err(ReadError::NoRow);
+        }
+        self.clear();
+        let cie = &fde.cie;
+        let bytes = &section.bytes[..cie.end];
+        self.run(cie, &section.bases, bytes, cie.instructions, 0, None)?;
+        self.begin_fde()?;
+        let bytes = &section.bytes[..fde.end];
+        self.run(
+            cie,
+            &section.bases,
+            bytes,
+            fde.instructions,
+            fde.initial_address,
+            Some(address),
+        )
+    }
+
+    /// Forgets all rows.
+    fn clear(&mut self)
+        ensures { self.new ≡ start }
+    {
+        self.has_initial = false;
+        self.count = 0;
+        self.row.clear();
+    }
+
+    /// Keeps the row as the one that the CIE left.
+    fn begin_fde(&mut self) -> Result<(), ReadError>
+        ensures ok { OnOk result (self.new ≡ begun self.old) }
+        ensures error { IfErr result (λ error. error ≡ ReadError.OutOfMemory) }
+        ensures memory { OnErr result (S.limits ≡ None) }
+    {
+        self.initial.copy_from(&self.row)?;
+        self.has_initial = true;
+        Ok(())
+    }
+}
+
+/// Whether the FDE covers the address.
+fn covers(fde: &FrameDescriptionEntry, address: u64) -> bool
+    ensures { result ≡ covers fde.now address }
+{
+    fde.initial_address <= address && address - fde.initial_address < fde.address_range
+}

@@ -1,0 +1,382 @@
+//! The entries of a call frame section: CIEs and FDEs (DWARF 5 section 6.4.1; LSB, `.eh_frame`).
+ghost use Rattle.std.specs.Prelude.{◌≡◌, ◌≢◌, Err, ◌≤◌, ◌<◌, ℕ, IfOk, length, take};
+ghost use Rattle.framehop_cfi.specs.Span.{IsWithin};
+ghost use Rattle.framehop_cfi.specs.Entry.{eh_frame_id, debug_frame_id, id_at, head_at, cie_at, fde_at, cie_fields, fde_fields, sizes_at, sizes_of, return_register_at, alignments_at, skipped_at, EndsWithin, EndsBefore, entry_of_head, bases_of, is_known_version, versioned_fields, fde_range};
+
+use crate::augmentation::{find_terminator, read_counted};
+use crate::bytes::{read_u8, read_u32, read_u64};
+use crate::leb128::{read_sleb128, read_uleb128};
+use crate::pointer::{BaseAddresses, DW_EH_PE_INDIRECT, SectionBaseAddresses, read_raw_pointer};
+use crate::read_error::ReadError;
+use crate::span::{Span, read_span};
+
+/// Which of the two call frame sections the bytes are.
+#[derive(Clone, Copy, Debug, PartialEq, Eq)]
+pub enum UnwindSectionType {
+    EhFrame,
+    DebugFrame,
+}
+
+/// What stands at an offset of a section.
+#[derive(Clone, Copy)]
+pub enum EntryHead {
+    /// A length of 0: the offset behind it.
+    ZeroLength(usize),
+    /// A CIE: where its fields begin behind its id, and where it ends.
+    Cie(usize, usize),
+    /// An FDE: where its CIE is, where its fields begin behind that, and where it ends.
+    Fde(usize, usize, usize),
+}
+
+/// A common information entry (CIE): what the FDEs that name it share.
+#[derive(Clone, Copy, Debug, PartialEq, Eq)]
+pub struct CommonInformationEntry {
+    /// What an advance of the location is multiplied by.
+    pub code_alignment_factor: u64,
+    /// What a factored offset is multiplied by.
+    pub data_alignment_factor: i64,
+    /// How its FDEs encode their addresses.
+    pub fde_pointer_encoding: u8,
+    /// Whether its FDEs have augmentation data.
+    pub has_augmentation_data: bool,
+    /// The offset of its instructions.
+    pub instructions: usize,
+    /// The offset behind the entry.
+    pub end: usize,
+}
+
+/// A frame description entry (FDE): a function's range and its instructions.
+#[derive(Clone, Copy, Debug, PartialEq, Eq)]
+pub struct FrameDescriptionEntry {
+    /// The CIE that it names.
+    pub cie: CommonInformationEntry,
+    /// The first address that it covers, an SVMA.
+    pub initial_address: u64,
+    /// How many bytes it covers.
+    pub address_range: u64,
+    /// The offset of its instructions.
+    pub instructions: usize,
+    /// The offset behind the entry.
+    pub end: usize,
+}
+
+/// An entry of a section.
+#[derive(Clone, Copy, Debug, PartialEq, Eq)]
+pub enum CieOrFde {
+    Cie(CommonInformationEntry),
+    Fde(FrameDescriptionEntry),
+}
+
+/// A call frame section.
+#[derive(Clone, Copy)]
+pub struct UnwindSection<'a> {
+    /// The section's bytes.
+    pub bytes: &'a [u8],
+    /// Which section this is.
+    pub section_type: UnwindSectionType,
+    /// What its pointers count from.
+    pub bases: SectionBaseAddresses,
+}
+
+impl<'a> UnwindSection<'a> {
+    /// The section of these bytes, in a module that lies at these addresses.
+    pub fn new(
+        bytes: &'a [u8],
+        section_type: UnwindSectionType,
+        bases: &BaseAddresses,
+    ) -> UnwindSection<'a>
+        ensures bytes { result.bytes.now ≡ bytes.now }
+        ensures section_type { result.section_type ≡ section_type }
+        ensures bases { result.bases ≡ bases_of section_type bases.now }
+    {
+        let section = match section_type {
+            UnwindSectionType::EhFrame => bases.eh_frame,
+            UnwindSectionType::DebugFrame => 0,
+        };
+        UnwindSection {
+            bytes,
+            section_type,
+            bases: SectionBaseAddresses {
+                section,
+                text: bases.text,
+                data: bases.got,
+            },
+        }
+    }
+
+    /// What stands at an offset.
+    #[tactic(auto, unfolding(crate::specs::Entry::head_at))]
+    pub fn head_at(&self, at: usize) -> Result<EntryHead, ReadError>
+        ensures exact { result ≡ head_at self.now.section_type self.now.bytes.now at }
+        ensures within { IfOk result (EndsWithin self.now.bytes.now at) }
+        ensures memory { result ≢ Err ReadError.OutOfMemory }
+    {
+        let span = read_span(self.bytes, at)?;
+        if span.is_zero_length() {
+            return Ok(EntryHead::ZeroLength(span.end));
+        }
+        let entry = &self.bytes[..span.end];
+        match self.section_type {
+            UnwindSectionType::EhFrame => read_eh_frame_id(entry, &span),
+            UnwindSectionType::DebugFrame => read_debug_frame_id(entry, &span),
+        }
+    }
+}
+
+/// The id of an entry of `.eh_frame`, where an FDE's CIE lies so many bytes before the field.
+#[tactic(auto, unfolding(crate::specs::Entry::eh_frame_id))]
+fn read_eh_frame_id(entry: &[u8], span: &Span) -> Result<EntryHead, ReadError>
+    ensures exact { result ≡ eh_frame_id entry.now span.now }
+    ensures within { (at : ℕ) → at < span.now.end → span.now.end ≤ length entry.now → IfOk result (EndsWithin entry.now at) }
+    ensures memory { result ≢ Err ReadError.OutOfMemory }
+{
+    let (id, next) = read_u32(entry, span.contents)?;
+    let distance = id as usize;
+    if distance == 0 {
+        return Ok(EntryHead::Cie(next, span.end));
+    }
+    if distance > span.contents {
+        return Err(ReadError::NumberTooBig);
+    }
+    Ok(EntryHead::Fde(span.contents - distance, next, span.end))
+}
+
+/// The id of an entry of `.debug_frame`, where an FDE's CIE lies at the offset in the field.
+#[tactic(auto, unfolding(crate::specs::Entry::short_id, crate::specs::Entry::long_id))]
+fn read_debug_frame_id(entry: &[u8], span: &Span) -> Result<EntryHead, ReadError>
+    ensures exact { result ≡ debug_frame_id entry.now span.now }
+    ensures within { (at : ℕ) → at < span.now.end → span.now.end ≤ length entry.now → IfOk result (EndsWithin entry.now at) }
+    ensures memory { result ≢ Err ReadError.OutOfMemory }
+{
+    if span.offset_size == 4 {
+        let (id, next) = read_u32(entry, span.contents)?;
+        if id == u32::MAX {
+            return Ok(EntryHead::Cie(next, span.end));
+        }
+        return Ok(EntryHead::Fde(id as usize, next, span.end));
+    }
+    let (id, next) = read_u64(entry, span.contents)?;
+    if id == u64::MAX {
+        return Ok(EntryHead::Cie(next, span.end));
+    }
+    Ok(EntryHead::Fde(id as usize, next, span.end))
+}
+
+/// Whether the CIE's version is one that is read here.
+fn is_known_version(version: u8) -> bool
+    ensures { result ≡ is_known_version version }
+{
+    version == 1 || version == 3 || version == 4
+}
+
+/// The sizes of addresses and of segment selectors: the offset behind them.
+#[tactic(auto, unfolding(crate::specs::Entry::sizes_at))]
+fn read_sizes(bytes: &[u8], at: usize) -> Result<usize, ReadError>
+    ensures exact { result ≡ sizes_at bytes.now at }
+    ensures memory { result ≢ Err ReadError.OutOfMemory }
+{
+    let (address_size, next) = read_u8(bytes, at)?;
+    let (segment_size, next) = read_u8(bytes, next)?;
+    if address_size != 8 || segment_size != 0 {
+        return Err(ReadError::BadEncoding);
+    }
+    Ok(next)
+}
+
+/// The return register, which is not used: the offset behind it.
+fn skip_return_register(version: u8, bytes: &[u8], at: usize) -> Result<usize, ReadError>
+    ensures exact { result ≡ return_register_at version bytes.now at }
+    ensures memory { result ≢ Err ReadError.OutOfMemory }
+{
+    if version == 1 {
+        let (_, next) = read_u8(bytes, at)?;
+        return Ok(next);
+    }
+    let (_, next) = read_uleb128(bytes, at)?;
+    Ok(next)
+}
+
+impl<'a> UnwindSection<'a> {
+    /// The CIE at an offset.
+    ///
+    /// An offset of an FDE or of a zero length is refused by `NotCie`.
+    #[tactic(auto, unfolding(crate::specs::Entry::cie_at))]
+    pub fn cie_from_offset(&self, at: usize) -> Result<CommonInformationEntry, ReadError>
+        ensures exact { result ≡ cie_at self.now.section_type self.now.bases self.now.bytes.now at }
+        ensures within { IfOk result (λ cie. cie.end ≤ length self.now.bytes.now) }
+        ensures memory { result ≢ Err ReadError.OutOfMemory }
+    {
+        match self.head_at(at)? {
+            EntryHead::Cie(fields, end) => self.read_cie(fields, end),
+            _ => Err(ReadError::NotCie),
+        }
+    }
+
+    /// The CIE whose fields begin behind its id and end with the entry.
+    #[tactic(auto, unfolding(crate::specs::Entry::cie_fields))]
+    pub fn read_cie(&self, fields: usize, end: usize) -> Result<CommonInformationEntry, ReadError>
+        requires { end ≤ length self.now.bytes.now }
+        ensures exact { result ≡ cie_fields self.now.section_type self.now.bases (take end self.now.bytes.now) fields end }
+        ensures end { IfOk result (λ cie. cie.end ≡ end) }
+        ensures memory { result ≢ Err ReadError.OutOfMemory }
+    {
+        let entry = &self.bytes[..end];
+        let (version, next) = read_u8(entry, fields)?;
+        if !is_known_version(version) {
+            return Err(ReadError::UnknownVersion);
+        }
+        self.read_versioned(version, entry, next, end)
+    }
+
+    /// The fields behind a CIE's version.
+    #[tactic(auto, unfolding(crate::specs::Entry::versioned_fields))]
+    fn read_versioned(
+        &self,
+        version: u8,
+        entry: &[u8],
+        at: usize,
+        end: usize,
+    ) -> Result<CommonInformationEntry, ReadError>
+        ensures exact { result ≡ versioned_fields self.now.section_type self.now.bases version entry.now at end }
+        ensures end { IfOk result (λ cie. cie.end ≡ end) }
+        ensures memory { result ≢ Err ReadError.OutOfMemory }
+    {
+        let terminator = find_terminator(entry, at)?;
+        let sizes = self.skip_sizes(version, entry, terminator + 1)?;
+        self.read_alignments(version, &entry[at..terminator], entry, sizes, end)
+    }
+
+    /// The sizes of addresses and of segment selectors, which version 4 has in `.debug_frame`: the
+    /// offset behind them.
+    fn skip_sizes(&self, version: u8, entry: &[u8], at: usize) -> Result<usize, ReadError>
+        ensures exact { result ≡ sizes_of self.now.section_type version entry.now at }
+        ensures memory { result ≢ Err ReadError.OutOfMemory }
+    {
+        match self.section_type {
+            UnwindSectionType::DebugFrame if version == 4 => read_sizes(entry, at),
+            _ => Ok(at),
+        }
+    }
+
+    /// The fields behind a CIE's augmentation text.
+    #[tactic(auto, unfolding(crate::specs::Entry::alignments_at))]
+    fn read_alignments(
+        &self,
+        version: u8,
+        letters: &[u8],
+        entry: &[u8],
+        at: usize,
+        end: usize,
+    ) -> Result<CommonInformationEntry, ReadError>
+        ensures exact { result ≡ alignments_at self.now.bases version letters.now entry.now at end }
+        ensures end { IfOk result (λ cie. cie.end ≡ end) }
+        ensures memory { result ≢ Err ReadError.OutOfMemory }
+    {
+        let (code_alignment_factor, next) = read_uleb128(entry, at)?;
+        let (data_alignment_factor, next) = read_sleb128(entry, next)?;
+        let next = skip_return_register(version, entry, next)?;
+        let augmentation = self.bases.read_augmentation(letters, entry, next)?;
+        Ok(CommonInformationEntry {
+            code_alignment_factor,
+            data_alignment_factor,
+            fde_pointer_encoding: augmentation.encoding,
+            has_augmentation_data: augmentation.has_data,
+            instructions: augmentation.behind,
+            end,
+        })
+    }
+
+    /// The entry at an offset that begins with a head.
+    pub fn entry_of_head(&self, head: EntryHead) -> Result<CieOrFde, ReadError>
+        requires { EndsBefore self.now.bytes.now head }
+        ensures exact { result ≡ entry_of_head self.now.section_type self.now.bases self.now.bytes.now head }
+        ensures memory { result ≢ Err ReadError.OutOfMemory }
+    {
+        match head {
+            EntryHead::ZeroLength(_) => Err(ReadError::NotFde),
+            EntryHead::Cie(fields, end) => {
+                let cie = self.read_cie(fields, end)?;
+                Ok(CieOrFde::Cie(cie))
+            }
+            EntryHead::Fde(named, fields, end) => {
+                let cie = self.cie_from_offset(named)?;
+                let fde = self.read_fde(&cie, fields, end)?;
+                Ok(CieOrFde::Fde(fde))
+            }
+        }
+    }
+
+    /// The FDE at an offset, with the CIE at the offset that it names.
+    ///
+    /// An offset of a CIE or of a zero length is refused by `NotFde`.
+    #[tactic(auto, unfolding(crate::specs::Entry::fde_at))]
+    pub fn fde_from_offset(&self, at: usize) -> Result<FrameDescriptionEntry, ReadError>
+        ensures exact { result ≡ fde_at self.now.section_type self.now.bases self.now.bytes.now at }
+        ensures within { IfOk result (λ fde. (fde.end ≤ length self.now.bytes.now) × (fde.cie.end ≤ length self.now.bytes.now)) }
+        ensures memory { result ≢ Err ReadError.OutOfMemory }
+    {
+        match self.head_at(at)? {
+            EntryHead::Fde(named, fields, end) => {
+                let cie = self.cie_from_offset(named)?;
+                self.read_fde(&cie, fields, end)
+            }
+            _ => Err(ReadError::NotFde),
+        }
+    }
+
+    /// The FDE of that CIE whose fields begin behind its CIE's offset and end with the entry.
+    pub fn read_fde(
+        &self,
+        cie: &CommonInformationEntry,
+        fields: usize,
+        end: usize,
+    ) -> Result<FrameDescriptionEntry, ReadError>
+        requires { end ≤ length self.now.bytes.now }
+        ensures exact { result ≡ fde_fields self.now.bases cie.now (take end self.now.bytes.now) fields end }
+        ensures end { IfOk result (λ fde. (fde.end ≡ end) × (fde.cie ≡ cie.now)) }
+        ensures memory { result ≢ Err ReadError.OutOfMemory }
+    {
+        if cie.fde_pointer_encoding >= DW_EH_PE_INDIRECT {
+            return Err(ReadError::BadEncoding);
+        }
+        self.read_range(cie, &self.bytes[..end], fields, end)
+    }
+
+    /// An FDE's range, and what stands behind it.
+    #[tactic(auto, unfolding(crate::specs::Entry::fde_range))]
+    fn read_range(
+        &self,
+        cie: &CommonInformationEntry,
+        entry: &[u8],
+        at: usize,
+        end: usize,
+    ) -> Result<FrameDescriptionEntry, ReadError>
+        ensures exact { result ≡ fde_range self.now.bases cie.now entry.now at end }
+        ensures end { IfOk result (λ fde. (fde.end ≡ end) × (fde.cie ≡ cie.now)) }
+        ensures memory { result ≢ Err ReadError.OutOfMemory }
+    {
+        let encoding = cie.fde_pointer_encoding;
+        let (initial_address, next) = self.bases.read_pointer(entry, at, encoding)?;
+        let (address_range, next) = read_raw_pointer(entry, next, encoding)?;
+        let instructions = skip_augmentation_data(cie.has_augmentation_data, entry, next)?;
+        Ok(FrameDescriptionEntry {
+            cie: *cie,
+            initial_address,
+            address_range,
+            instructions,
+            end,
+        })
+    }
+}
+
+/// The offset behind an FDE's augmentation data, if it has any.
+fn skip_augmentation_data(has_data: bool, entry: &[u8], at: usize) -> Result<usize, ReadError>
+    ensures exact { result ≡ skipped_at has_data entry.now at }
+    ensures memory { result ≢ Err ReadError.OutOfMemory }
+{
+    if !has_data {
+        return Ok(at);
+    }
+    let (_, end) = read_counted(entry, at)?;
+    Ok(end)
+}

@@ -1,0 +1,253 @@
+//! The binary search table of `.eh_frame_hdr` (LSB, `.eh_frame_hdr`), read in place.
+ghost use Rattle.std.specs.Prelude.{◌≡◌, ◌<◌, ◌≤◌, ◌+◌, ◌*◌, ◌^◌, IfOk, IfSome, IfNone, IsErr, Ok};
+ghost use Rattle.framehop_cfi.specs.Header.{size_of_format, table_size, held_rows, encoded_at, checked_at, encodings_at, layout_of, start_of_row, fde_of_row, starts_of, offset_from, fde_offset_of, value_of};
+ghost use Rattle.framehop_cfi.specs.Pointer.{pointer_at};
+
+use crate::bytes::read_u8;
+use crate::place::{Starts, place};
+use crate::pointer::{SectionBaseAddresses, read_raw_pointer};
+use crate::read_error::ReadError;
+use std::marker::Model;
+
+/// Where the header's table lies, and how it is encoded.
+#[derive(Clone, Copy)]
+pub struct TableLayout {
+    /// Where `.eh_frame` begins, an SVMA.
+    eh_frame_pointer: u64,
+    /// The encoding of the table's addresses.
+    encoding: u8,
+    /// The size of each of them in bytes.
+    size: usize,
+    /// How many rows there are.
+    count: usize,
+    /// The offset of the first row.
+    rows: usize,
+}
+
+impl Model for TableLayout {
+    ghost use Rattle.framehop_cfi.specs.Layout.{Layout, HasRows};
+
+    ghost Value = { Layout };
+
+    ghost view = { λ layout. record {
+      eh_frame_pointer = layout.eh_frame_pointer;
+      encoding = layout.encoding;
+      size = layout.size;
+      count = layout.count;
+      rows = layout.rows;
+    } };
+
+    ghost invariant = { λ layout. HasRows (record {
+      eh_frame_pointer = layout.eh_frame_pointer;
+      encoding = layout.encoding;
+      size = layout.size;
+      count = layout.count;
+      rows = layout.rows;
+    }) };
+
+    ghost inverse = { λ layout. record {
+      eh_frame_pointer = layout.eh_frame_pointer;
+      encoding = layout.encoding;
+      size = layout.size;
+      count = layout.count;
+      rows = layout.rows;
+    } };
+}
+
+/// The size of a table's numbers, by their format.
+fn size_of_format(encoding: u8) -> Result<usize, ReadError>
+    ensures exact { result ≡ table_size encoding }
+    ensures small { IfOk result (λ size. size ≤ 8) }
+{
+    if encoding >= 0x40 {
+        return Err(ReadError::BadEncoding);
+    }
+    match encoding % 16 {
+        0x2 | 0xa => Ok(2),
+        0x3 | 0xb => Ok(4),
+        0x4 | 0xc => Ok(8),
+        _ => Err(ReadError::BadEncoding),
+    }
+}
+
+impl TableLayout {
+    /// The layout that a header tells. Anything that is not read here is an error.
+    #[tactic(auto, unfolding(crate::specs::Header::layout_of))]
+    pub fn parse(bytes: &[u8], bases: &SectionBaseAddresses) -> Result<TableLayout, ReadError>
+        ensures { result ≡ layout_of bases.now bytes.now }
+    {
+        let (version, next) = read_u8(bytes, 0)?;
+        if version != 1 {
+            return Err(ReadError::UnknownVersion);
+        }
+        TableLayout::parse_encodings(bytes, next, bases)
+    }
+
+    /// Where `.eh_frame` begins, an SVMA.
+    pub fn eh_frame_pointer(&self) -> u64
+        ensures { result ≡ self.now.eh_frame_pointer }
+    {
+        self.eh_frame_pointer
+    }
+
+    /// The encoding of the table's addresses.
+    pub fn encoding(&self) -> u8
+        ensures { result ≡ self.now.encoding }
+    {
+        self.encoding
+    }
+
+    /// The size of the table's addresses in bytes.
+    pub fn size(&self) -> usize
+        ensures { result ≡ self.now.size }
+    {
+        self.size
+    }
+
+    /// How many rows there are: one at least.
+    pub fn count(&self) -> usize
+        ensures count { result ≡ self.now.count }
+        ensures some { 0 < result }
+    {
+        self.count
+    }
+
+    /// The offset of a row.
+    pub fn row(&self, index: usize) -> usize
+        requires { index < self.now.count }
+        ensures row { result ≡ self.now.rows + 2 * self.now.size * index }
+        ensures fits { result + self.now.size < 2 ^ 64 }
+    {
+        self.rows + 2 * self.size * index
+    }
+
+    /// The encodings behind the version.
+    #[tactic(auto, unfolding(crate::specs::Header::encodings_at))]
+    fn parse_encodings(
+        bytes: &[u8],
+        at: usize,
+        bases: &SectionBaseAddresses,
+    ) -> Result<TableLayout, ReadError>
+        ensures { result ≡ encodings_at bases.now bytes.now at }
+    {
+        let (pointer_encoding, next) = read_u8(bytes, at)?;
+        let (count_encoding, next) = read_u8(bytes, next)?;
+        let (table_encoding, next) = read_u8(bytes, next)?;
+        if pointer_encoding >= 0x80 || count_encoding >= 0x10 {
+            return Err(ReadError::BadEncoding);
+        }
+        TableLayout::parse_table(
+            bytes,
+            next,
+            bases,
+            pointer_encoding,
+            count_encoding,
+            table_encoding,
+        )
+    }
+
+    /// The pointer, the count and the table behind the encodings.
+    #[tactic(auto, unfolding(crate::specs::Header::encoded_at))]
+    fn parse_table(
+        bytes: &[u8],
+        at: usize,
+        bases: &SectionBaseAddresses,
+        pointer_encoding: u8,
+        count_encoding: u8,
+        table_encoding: u8,
+    ) -> Result<TableLayout, ReadError>
+        ensures { result ≡ encoded_at bases.now pointer_encoding count_encoding table_encoding bytes.now at }
+    {
+        let (eh_frame_pointer, next) = bases.read_pointer(bytes, at, pointer_encoding)?;
+        let (count, rows) = read_raw_pointer(bytes, next, count_encoding)?;
+        let size = size_of_format(table_encoding)?;
+        let count = count as usize;
+        if count == 0 || rows > bytes.len() || count > (bytes.len() - rows) / (2 * size) {
+            return Err(ReadError::Eof);
+        }
+        Ok(TableLayout {
+            eh_frame_pointer,
+            encoding: table_encoding,
+            size,
+            count,
+            rows,
+        })
+    }
+}
+
+/// A header and its table, over the section's bytes.
+#[derive(Clone, Copy)]
+pub struct EhFrameHdr<'a> {
+    /// The header's bytes.
+    pub bytes: &'a [u8],
+    /// What its pointers count from.
+    pub bases: SectionBaseAddresses,
+    /// What the header tells.
+    pub layout: TableLayout,
+}
+
+impl<'a> EhFrameHdr<'a> {
+    /// The header of a section, or `None` where it is not one that is read here.
+    pub fn parse(bytes: &'a [u8], bases: SectionBaseAddresses) -> Option<EhFrameHdr<'a>>
+        ensures read { IfSome result (λ header. (layout_of bases bytes.now ≡ Ok header.layout) × (header.bases ≡ bases) × (header.bytes.now ≡ bytes.now)) }
+        ensures none { IfNone result (IsErr (layout_of bases bytes.now)) }
+    {
+        match TableLayout::parse(bytes, &bases) {
+            Ok(layout) => Some(EhFrameHdr {
+                bytes,
+                bases,
+                layout,
+            }),
+            Err(_) => None,
+        }
+    }
+
+    /// The address of the FDE in a row, an SVMA.
+    #[tactic(auto, unfolding(crate::specs::Header::fde_of_row))]
+    fn fde_address(&self, index: usize) -> u64
+        requires { index < self.now.layout.count }
+        ensures { result ≡ fde_of_row self.now.bases self.now.layout self.now.bytes.now index }
+    {
+        let row = self.layout.row(index);
+        self.number_at(row + self.layout.size())
+    }
+
+    /// The address that stands at an offset of the table.
+    fn number_at(&self, at: usize) -> u64
+        ensures { result ≡ value_of (pointer_at self.now.bases self.now.layout.encoding self.now.bytes.now at) }
+    {
+        match self
+            .bases
+            .read_pointer(self.bytes, at, self.layout.encoding())
+        {
+            Ok((address, _)) => address,
+            Err(_) => 0,
+        }
+    }
+
+    /// The offset in `.eh_frame` of the FDE in the row at an address's place. The FDE may not cover
+    /// the address.
+    pub fn fde_offset_for_address(&self, address: u64) -> Option<u32>
+        ensures { result ≡ fde_offset_of self.now.bases self.now.layout self.now.bytes.now address }
+    {
+        let rows = self.layout.count();
+        prove!(rows > 0);
+        let fde = self.fde_address(place(self, address));
+        let offset = fde.checked_sub(self.layout.eh_frame_pointer())?;
+        u32::try_from(offset).ok()
+    }
+}
+
+impl<'a> Starts for EhFrameHdr<'a> {
+    ghost starts = { λ header. starts_of header.bases header.layout header.bytes.now };
+
+    #[tactic(auto, unfolding(crate::specs::Header::starts_of))]
+    fn count(&self) -> usize {
+        self.layout.count()
+    }
+
+    #[tactic(auto, unfolding(crate::specs::Header::starts_of, crate::specs::Header::start_of_row))]
+    fn start(&self, index: usize) -> u64 {
+        self.number_at(self.layout.row(index))
+    }
+}

@@ -1,0 +1,359 @@
+//! Call frame instructions (DWARF 5 section 6.4.2).
+ghost use Rattle.std.specs.Prelude.{◌≡◌, ◌≢◌, Err, ℤ, pos, ◌*ℤ◌, ◌≤◌, ◌<◌, IfOk};
+ghost use Rattle.framehop_cfi.specs.Instruction.{instruction_at, operands_at, coded_at, advance_at, cfa_at, def_cfa_at, def_cfa_factored_at, set_rule_at, rule_at, expression_at, offset_at, factored_at, factored_signed_at, checked_i64, register_at};
+
+use crate::augmentation::read_counted;
+use crate::bytes::{read_u8, read_u16, read_u32};
+use crate::entry::CommonInformationEntry;
+use crate::leb128::{read_sleb128, read_uleb128};
+use crate::pointer::SectionBaseAddresses;
+use crate::read_error::ReadError;
+use crate::rule::{CfaRule, Expression, Register, RegisterRule};
+
+/// A call frame instruction. Factored offsets are multiplied out.
+#[derive(Clone, Copy, Debug, PartialEq, Eq)]
+pub enum CallFrameInstruction {
+    /// Nothing that a row tells.
+    Nop,
+    /// The location is that address, an SVMA.
+    SetLoc {
+        address: u64,
+    },
+    /// The location rises by `delta` times the code alignment.
+    AdvanceLoc {
+        delta: u32,
+    },
+    /// The register has that rule.
+    SetRule {
+        register: Register,
+        rule: RegisterRule,
+    },
+    /// The register has the rule that the CIE gave it.
+    Restore {
+        register: Register,
+    },
+    /// The row is remembered.
+    RememberState,
+    /// The row is the one that was remembered last.
+    RestoreState,
+    /// The CFA has that rule.
+    DefCfa(CfaRule),
+    /// The CFA counts from that register.
+    DefCfaRegister {
+        register: Register,
+    },
+    /// The CFA has that offset.
+    DefCfaOffset {
+        offset: i64,
+    },
+}
+
+/// A register's number.
+#[tactic(auto, unfolding(crate::specs::Instruction::register_at))]
+fn read_register(bytes: &[u8], at: usize) -> Result<(Register, usize), ReadError>
+    ensures exact { result ≡ register_at bytes.now at }
+    ensures forward { IfOk result (λ read. at < read.1) }
+    ensures memory { result ≢ Err ReadError.OutOfMemory }
+{
+    let (number, next) = read_uleb128(bytes, at)?;
+    match u16::try_from(number) {
+        Ok(number) => Ok((Register(number), next)),
+        Err(_) => Err(ReadError::NumberTooBig),
+    }
+}
+
+/// The number, if it fits 64 bits with a sign.
+fn checked(number: i128) -> Result<i64, ReadError>
+    ensures exact { result ≡ checked_i64 number }
+    ensures memory { result ≢ Err ReadError.OutOfMemory }
+{
+    match i64::try_from(number) {
+        Ok(number) => Ok(number),
+        Err(_) => Err(ReadError::NumberTooBig),
+    }
+}
+
+/// An unsigned number times the data alignment.
+#[tactic(auto, unfolding(crate::specs::Instruction::factored_at))]
+fn read_factored(alignment: i64, bytes: &[u8], at: usize) -> Result<(i64, usize), ReadError>
+    ensures exact { result ≡ factored_at alignment bytes.now at }
+    ensures forward { IfOk result (λ read. at < read.1) }
+    ensures memory { result ≢ Err ReadError.OutOfMemory }
+{
+    let (number, next) = read_uleb128(bytes, at)?;
+    let product = checked(i128::from(number) * i128::from(alignment))?;
+    Ok((product, next))
+}
+
+/// A signed number times the data alignment.
+#[tactic(auto, unfolding(crate::specs::Instruction::factored_signed_at))]
+fn read_factored_signed(alignment: i64, bytes: &[u8], at: usize) -> Result<(i64, usize), ReadError>
+    ensures exact { result ≡ factored_signed_at alignment bytes.now at }
+    ensures forward { IfOk result (λ read. at < read.1) }
+    ensures memory { result ≢ Err ReadError.OutOfMemory }
+{
+    let (number, next) = read_sleb128(bytes, at)?;
+    let product = checked(i128::from(number) * i128::from(alignment))?;
+    Ok((product, next))
+}
+
+/// An offset that is not factored.
+#[tactic(auto, unfolding(crate::specs::Instruction::offset_at))]
+fn read_offset(bytes: &[u8], at: usize) -> Result<(i64, usize), ReadError>
+    ensures exact { result ≡ offset_at bytes.now at }
+    ensures forward { IfOk result (λ read. at < read.1) }
+    ensures memory { result ≢ Err ReadError.OutOfMemory }
+{
+    let (number, next) = read_uleb128(bytes, at)?;
+    let offset = checked(i128::from(number))?;
+    Ok((offset, next))
+}
+
+/// An expression, behind its length.
+#[tactic(auto, unfolding(crate::specs::Instruction::expression_at))]
+fn read_expression(bytes: &[u8], at: usize) -> Result<(Expression, usize), ReadError>
+    ensures exact { result ≡ expression_at bytes.now at }
+    ensures forward { IfOk result (λ read. at < read.1) }
+    ensures memory { result ≢ Err ReadError.OutOfMemory }
+{
+    let (start, end) = read_counted(bytes, at)?;
+    Ok((Expression { start, end }, end))
+}
+
+/// The rule that an instruction gives to the register that it names, by its code.
+fn read_rule(
+    alignment: i64,
+    code: u8,
+    bytes: &[u8],
+    at: usize,
+) -> Result<(RegisterRule, usize), ReadError>
+    ensures exact { result ≡ rule_at alignment code bytes.now at }
+    ensures forward { IfOk result (λ read. at ≤ read.1) }
+    ensures memory { result ≢ Err ReadError.OutOfMemory }
+{
+    match code {
+        0x05 => {
+            let (offset, next) = read_factored(alignment, bytes, at)?;
+            Ok((RegisterRule::Offset(offset), next))
+        }
+        0x07 => Ok((RegisterRule::Undefined, at)),
+        0x08 => Ok((RegisterRule::SameValue, at)),
+        0x09 => {
+            let (register, next) = read_register(bytes, at)?;
+            Ok((RegisterRule::Register(register), next))
+        }
+        0x10 => {
+            let (expression, next) = read_expression(bytes, at)?;
+            Ok((RegisterRule::Expression(expression), next))
+        }
+        0x11 => {
+            let (offset, next) = read_factored_signed(alignment, bytes, at)?;
+            Ok((RegisterRule::Offset(offset), next))
+        }
+        0x14 => {
+            let (offset, next) = read_factored(alignment, bytes, at)?;
+            Ok((RegisterRule::ValOffset(offset), next))
+        }
+        0x15 => {
+            let (offset, next) = read_factored_signed(alignment, bytes, at)?;
+            Ok((RegisterRule::ValOffset(offset), next))
+        }
+        0x16 => {
+            let (expression, next) = read_expression(bytes, at)?;
+            Ok((RegisterRule::ValExpression(expression), next))
+        }
+        _ => Err(ReadError::UnknownInstruction),
+    }
+}
+
+/// An instruction that names a register and gives it a rule.
+#[tactic(auto, unfolding(crate::specs::Instruction::set_rule_at))]
+fn read_set_rule(
+    alignment: i64,
+    code: u8,
+    bytes: &[u8],
+    at: usize,
+) -> Result<(CallFrameInstruction, usize), ReadError>
+    ensures exact { result ≡ set_rule_at alignment code bytes.now at }
+    ensures forward { IfOk result (λ read. at < read.1) }
+    ensures memory { result ≢ Err ReadError.OutOfMemory }
+{
+    let (register, next) = read_register(bytes, at)?;
+    let (rule, next) = read_rule(alignment, code, bytes, next)?;
+    Ok((CallFrameInstruction::SetRule { register, rule }, next))
+}
+
+/// The CFA as a register plus an offset that is not factored.
+#[tactic(auto, unfolding(crate::specs::Instruction::def_cfa_at))]
+fn read_def_cfa(bytes: &[u8], at: usize) -> Result<(CallFrameInstruction, usize), ReadError>
+    ensures exact { result ≡ def_cfa_at bytes.now at }
+    ensures forward { IfOk result (λ read. at < read.1) }
+    ensures memory { result ≢ Err ReadError.OutOfMemory }
+{
+    let (register, next) = read_register(bytes, at)?;
+    let (offset, next) = read_offset(bytes, next)?;
+    let rule = CfaRule::RegisterAndOffset { register, offset };
+    Ok((CallFrameInstruction::DefCfa(rule), next))
+}
+
+/// The CFA as a register plus a factored offset.
+#[tactic(auto, unfolding(crate::specs::Instruction::def_cfa_factored_at))]
+fn read_def_cfa_factored(
+    alignment: i64,
+    bytes: &[u8],
+    at: usize,
+) -> Result<(CallFrameInstruction, usize), ReadError>
+    ensures exact { result ≡ def_cfa_factored_at alignment bytes.now at }
+    ensures forward { IfOk result (λ read. at < read.1) }
+    ensures memory { result ≢ Err ReadError.OutOfMemory }
+{
+    let (register, next) = read_register(bytes, at)?;
+    let (offset, next) = read_factored_signed(alignment, bytes, next)?;
+    let rule = CfaRule::RegisterAndOffset { register, offset };
+    Ok((CallFrameInstruction::DefCfa(rule), next))
+}
+
+/// An instruction on the CFA, by its code.
+fn read_cfa(
+    alignment: i64,
+    code: u8,
+    bytes: &[u8],
+    at: usize,
+) -> Result<(CallFrameInstruction, usize), ReadError>
+    ensures exact { result ≡ cfa_at alignment code bytes.now at }
+    ensures forward { IfOk result (λ read. at < read.1) }
+    ensures memory { result ≢ Err ReadError.OutOfMemory }
+{
+    match code {
+        0x0c => read_def_cfa(bytes, at),
+        0x0d => {
+            let (register, next) = read_register(bytes, at)?;
+            Ok((CallFrameInstruction::DefCfaRegister { register }, next))
+        }
+        0x0e => {
+            let (offset, next) = read_offset(bytes, at)?;
+            Ok((CallFrameInstruction::DefCfaOffset { offset }, next))
+        }
+        0x0f => {
+            let (expression, next) = read_expression(bytes, at)?;
+            let rule = CfaRule::Expression(expression);
+            Ok((CallFrameInstruction::DefCfa(rule), next))
+        }
+        0x12 => read_def_cfa_factored(alignment, bytes, at),
+        0x13 => {
+            let (offset, next) = read_factored_signed(alignment, bytes, at)?;
+            Ok((CallFrameInstruction::DefCfaOffset { offset }, next))
+        }
+        _ => Err(ReadError::UnknownInstruction),
+    }
+}
+
+impl CommonInformationEntry {
+    /// The instruction at an offset, and the offset behind it.
+    #[tactic(auto, unfolding(crate::specs::Instruction::instruction_at))]
+    pub fn read_instruction(
+        &self,
+        bases: &SectionBaseAddresses,
+        bytes: &[u8],
+        at: usize,
+    ) -> Result<(CallFrameInstruction, usize), ReadError>
+        ensures exact { result ≡ instruction_at self.now bases.now bytes.now at }
+        ensures forward { IfOk result (λ read. at < read.1) }
+        ensures memory { result ≢ Err ReadError.OutOfMemory }
+    {
+        let (code, next) = read_u8(bytes, at)?;
+        self.read_operands(bases, code, bytes, next)
+    }
+
+    /// The operands behind an instruction's byte, which may hold the first of them.
+    fn read_operands(
+        &self,
+        bases: &SectionBaseAddresses,
+        code: u8,
+        bytes: &[u8],
+        at: usize,
+    ) -> Result<(CallFrameInstruction, usize), ReadError>
+        ensures exact { result ≡ operands_at self.now bases.now code bytes.now at }
+        ensures forward { IfOk result (λ read. at ≤ read.1) }
+        ensures memory { result ≢ Err ReadError.OutOfMemory }
+    {
+        if code >= 0xc0 {
+            let register = Register(u16::from(code - 0xc0));
+            return Ok((CallFrameInstruction::Restore { register }, at));
+        }
+        if code >= 0x80 {
+            let register = Register(u16::from(code - 0x80));
+            let (offset, next) = read_factored(self.data_alignment_factor, bytes, at)?;
+            let rule = RegisterRule::Offset(offset);
+            return Ok((CallFrameInstruction::SetRule { register, rule }, next));
+        }
+        if code >= 0x40 {
+            let delta = u32::from(code - 0x40);
+            return Ok((CallFrameInstruction::AdvanceLoc { delta }, at));
+        }
+        self.read_coded(bases, code, bytes, at)
+    }
+
+    /// The operands of an instruction whose byte is its code alone.
+    fn read_coded(
+        &self,
+        bases: &SectionBaseAddresses,
+        code: u8,
+        bytes: &[u8],
+        at: usize,
+    ) -> Result<(CallFrameInstruction, usize), ReadError>
+        ensures exact { result ≡ coded_at self.now bases.now code bytes.now at }
+        ensures forward { IfOk result (λ read. at ≤ read.1) }
+        ensures memory { result ≢ Err ReadError.OutOfMemory }
+    {
+        match code {
+            0x00 | 0x2d => Ok((CallFrameInstruction::Nop, at)),
+            0x01 => {
+                let (address, next) = bases.read_pointer(bytes, at, self.fde_pointer_encoding)?;
+                Ok((CallFrameInstruction::SetLoc { address }, next))
+            }
+            0x02..=0x04 => read_advance(code, bytes, at),
+            0x06 => {
+                let (register, next) = read_register(bytes, at)?;
+                Ok((CallFrameInstruction::Restore { register }, next))
+            }
+            0x0a => Ok((CallFrameInstruction::RememberState, at)),
+            0x0b => Ok((CallFrameInstruction::RestoreState, at)),
+            0x0c..=0x0f | 0x12 | 0x13 => read_cfa(self.data_alignment_factor, code, bytes, at),
+            0x2e => {
+                let (_, next) = read_uleb128(bytes, at)?;
+                Ok((CallFrameInstruction::Nop, next))
+            }
+            0x05..=0x16 => read_set_rule(self.data_alignment_factor, code, bytes, at),
+            _ => Err(ReadError::UnknownInstruction),
+        }
+    }
+}
+
+/// An advance of the location by one, two or four bytes, by its code.
+fn read_advance(
+    code: u8,
+    bytes: &[u8],
+    at: usize,
+) -> Result<(CallFrameInstruction, usize), ReadError>
+    ensures exact { result ≡ advance_at code bytes.now at }
+    ensures forward { IfOk result (λ read. at < read.1) }
+    ensures memory { result ≢ Err ReadError.OutOfMemory }
+{
+    match code {
+        0x02 => {
+            let (delta, next) = read_u8(bytes, at)?;
+            let delta = u32::from(delta);
+            Ok((CallFrameInstruction::AdvanceLoc { delta }, next))
+        }
+        0x03 => {
+            let (delta, next) = read_u16(bytes, at)?;
+            let delta = u32::from(delta);
+            Ok((CallFrameInstruction::AdvanceLoc { delta }, next))
+        }
+        _ => {
+            let (delta, next) = read_u32(bytes, at)?;
+            Ok((CallFrameInstruction::AdvanceLoc { delta }, next))
+        }
+    }
+}

@@ -1,0 +1,38 @@
+//! A place in a table of starts, found by halving in place.
+ghost use Rattle.std.specs.Prelude.{◌≡◌, ◌<◌, ◌≤◌, ℕ, List, length, slice_index};
+ghost use Rattle.framehop_cfi.specs.Place.{place_of, IsPlace, AreOrdered};
+
+/// A table whose rows begin at addresses.
+pub trait Starts {
+    ghost starts: { Self → List ℕ };
+
+    /// How many rows there are.
+    fn count(&self) -> usize
+        ensures { result ≡ length (starts self.now) };
+
+    /// Where a row begins.
+    fn start(&self, index: usize) -> u64
+        requires { index < length (starts self.now) }
+        ensures { result ≡ slice_index (starts self.now) index };
+}
+
+/// The place of an address in a table: the last row that begins at or below it, or the first row
+/// where none does. In a table that is not in order it is the place that halving reaches.
+pub fn place<T: Starts>(table: &T, address: u64) -> usize
+    requires { 0 < length (T.starts table.now) }
+    ensures reached { result ≡ place_of (T.starts table.now) address }
+    ensures law { IsPlace (T.starts table.now) address result }
+    ensures last { AreOrdered (T.starts table.now) → (j : ℕ) → j < length (T.starts table.now) → slice_index (T.starts table.now) j ≤ address → j ≤ result }
+{
+    let mut low = 0;
+    let mut high = table.count();
+    while high - low > 1 {
+        let middle = low + (high - low) / 2;
+        if table.start(middle) <= address {
+            low = middle;
+        } else {
+            high = middle;
+        }
+    }
+    low
+}

@@ -1,0 +1,124 @@
+//! Encoded pointers, and the addresses that they count from (LSB, "DWARF Exception Header Encoding").
+ghost use Rattle.std.specs.Prelude.{◌≡◌, ◌≢◌, Err, IfErr, ◌<◌, IfOk};
+ghost use Rattle.framehop_cfi.specs.Refusal.{IsSliceRefusal};
+ghost use Rattle.framehop_cfi.specs.Raw.{raw_at, format_of, sign_extended};
+
+use crate::bytes::{read_u16, read_u32, read_u64};
+use crate::leb128::{read_sleb128, read_uleb128};
+use crate::read_error::ReadError;
+
+/// Where a module's sections lie, as stated virtual memory addresses (SVMA); 0 for one that is not there.
+#[derive(Clone, Copy, Debug, Default, PartialEq, Eq)]
+pub struct BaseAddresses {
+    /// The start of `.eh_frame`.
+    pub eh_frame: u64,
+    /// The start of `.eh_frame_hdr`.
+    pub eh_frame_hdr: u64,
+    /// The start of the text.
+    pub text: u64,
+    /// The start of the global offset table.
+    pub got: u64,
+}
+
+/// The addresses that a section's pointers count from (SVMA).
+#[derive(Clone, Copy, Debug, PartialEq, Eq)]
+pub struct SectionBaseAddresses {
+    /// The section's first byte.
+    pub section: u64,
+    /// The text.
+    pub text: u64,
+    /// The data.
+    pub data: u64,
+}
+
+/// The encoding of a pointer that is not there.
+pub const DW_EH_PE_OMIT: u8 = 0xff;
+
+/// From this encoding on a pointer is not the value but the place of it.
+pub const DW_EH_PE_INDIRECT: u8 = 0x80;
+
+/// A pointer by its format alone (the encoding's low four bits), as a number of 64 bits.
+#[tactic(auto, unfolding(crate::specs::Raw::raw_at))]
+pub fn read_raw_pointer(bytes: &[u8], at: usize, encoding: u8) -> Result<(u64, usize), ReadError>
+    ensures exact { result ≡ raw_at (format_of encoding) bytes.now at }
+    ensures forward { IfOk result (λ read. at < read.1) }
+    ensures refusal { IfErr result IsSliceRefusal }
+    ensures memory { result ≢ Err ReadError.OutOfMemory }
+{
+    match encoding % 16 {
+        0x0 | 0x4 | 0xc => read_u64(bytes, at),
+        0x1 => read_uleb128(bytes, at),
+        0x2 => {
+            let (number, next) = read_u16(bytes, at)?;
+            Ok((u64::from(number), next))
+        }
+        0x3 => {
+            let (number, next) = read_u32(bytes, at)?;
+            Ok((u64::from(number), next))
+        }
+        0x9 => {
+            let (number, next) = read_sleb128(bytes, at)?;
+            Ok((number.cast_unsigned(), next))
+        }
+        0xa => {
+            let (number, next) = read_u16(bytes, at)?;
+            Ok((sign_extend_16(number), next))
+        }
+        0xb => {
+            let (number, next) = read_u32(bytes, at)?;
+            Ok((sign_extend_32(number), next))
+        }
+        _ => Err(ReadError::BadEncoding),
+    }
+}
+
+/// The signed number as one of 64 bits.
+fn sign_extend_16(number: u16) -> u64
+    ensures { result ≡ sign_extended 16 number }
+{
+    i64::from(number.cast_signed()).cast_unsigned()
+}
+
+/// The signed number as one of 64 bits.
+fn sign_extend_32(number: u32) -> u64
+    ensures { result ≡ sign_extended 32 number }
+{
+    i64::from(number.cast_signed()).cast_unsigned()
+}
+
+impl SectionBaseAddresses {
+    ghost use Rattle.framehop_cfi.specs.Pointer.{base_of, application_of, pointer_at};
+
+    /// What a pointer at that offset counts from.
+    fn base(&self, at: usize, encoding: u8) -> Result<u64, ReadError>
+        ensures exact { result ≡ base_of self.now at (application_of encoding) }
+        ensures refusal { IfErr result IsSliceRefusal }
+        ensures memory { result ≢ Err ReadError.OutOfMemory }
+    {
+        match encoding / 16 % 8 {
+            0 => Ok(0),
+            1 => Ok(self.section.wrapping_add(at as u64)),
+            2 => Ok(self.text),
+            3 => Ok(self.data),
+            _ => Err(ReadError::BadEncoding),
+        }
+    }
+
+    /// A pointer of that encoding. Whether it is indirect is not looked at.
+    #[tactic(auto, unfolding(crate::specs::Pointer::pointer_at))]
+    pub fn read_pointer(
+        &self,
+        bytes: &[u8],
+        at: usize,
+        encoding: u8,
+    ) -> Result<(u64, usize), ReadError>
+        ensures exact { result ≡ pointer_at self.now encoding bytes.now at }
+        ensures forward { IfOk result (λ read. at < read.1) }
+        ensures refusal { IfErr result IsSliceRefusal }
+        ensures memory { result ≢ Err ReadError.OutOfMemory }
+    {
+        let base = self.base(at, encoding)?;
+        let (raw, next) = read_raw_pointer(bytes, at, encoding)?;
+        Ok((base.wrapping_add(raw), next))
+    }
+}

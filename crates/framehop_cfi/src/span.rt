@@ -1,0 +1,62 @@
+//! Where an entry of a call frame section begins and ends (DWARF 5 section 7.4).
+ghost use Rattle.std.specs.Prelude.{◌≡◌, ◌≢◌, Err, ◌<◌, ℕ, IfOk};
+ghost use Rattle.framehop_cfi.specs.Span.{span_at, held, is_zero_length, IsWithin};
+
+use crate::bytes::{read_u32, read_u64};
+use crate::read_error::ReadError;
+
+/// Where an entry's contents stand, behind its length.
+#[derive(Clone, Copy)]
+pub struct Span {
+    /// The offset of the contents.
+    pub contents: usize,
+    /// The offset behind them.
+    pub end: usize,
+    /// The size of the entry's offsets into the section: 4 or 8 bytes.
+    pub offset_size: u8,
+}
+
+/// The span of the entry at an offset. Its length has 4 bytes, or 8 behind four bytes `FF`.
+#[tactic(auto, unfolding(crate::specs::Span::span_at, crate::specs::Span::long_span))]
+pub fn read_span(bytes: &[u8], at: usize) -> Result<Span, ReadError>
+    ensures exact { result ≡ span_at bytes.now at }
+    ensures within { IfOk result (IsWithin bytes.now at) }
+    ensures memory { result ≢ Err ReadError.OutOfMemory }
+{
+    let (length, next) = read_u32(bytes, at)?;
+    if length < 0xffff_fff0 {
+        return held_span(bytes, 4, next, u64::from(length));
+    }
+    if length == 0xffff_ffff {
+        let (length, next) = read_u64(bytes, next)?;
+        return held_span(bytes, 8, next, length);
+    }
+    Err(ReadError::BadLength)
+}
+
+/// Contents of that length, if the section holds them.
+fn held_span(bytes: &[u8], offset_size: u8, contents: usize, length: u64) -> Result<Span, ReadError>
+    ensures exact { result ≡ held bytes.now offset_size contents length }
+    ensures within { (at : ℕ) → at < contents → IfOk result (IsWithin bytes.now at) }
+    ensures memory { result ≢ Err ReadError.OutOfMemory }
+{
+    if contents > bytes.len() || length > (bytes.len() - contents) as u64 {
+        return Err(ReadError::Eof);
+    }
+    let end = contents + length as usize;
+    Ok(Span {
+        contents,
+        end,
+        offset_size,
+    })
+}
+
+impl Span {
+    /// Whether this is a length of 0 in 4 bytes, which is no entry.
+    #[inline]
+    pub fn is_zero_length(&self) -> bool
+        ensures { result ≡ is_zero_length self.now }
+    {
+        self.offset_size == 4 && self.contents == self.end
+    }
+}

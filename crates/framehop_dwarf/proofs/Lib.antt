@@ -1,0 +1,5 @@
+pub mod Walk
+pub mod Order
+pub mod Table
+pub mod Saturated
+pub mod Entries

@@ -1,0 +1,8 @@
+//! DWARF call frame information: an index of a section's FDEs.
+#![tactic(auto)]
+
+pub mod bases;
+pub mod index;
+#[cfg(test)]
+mod tests;
+pub mod unwinder;
