@@ -65,8 +65,8 @@ module _ (address : ℕ) (modules : List ModuleView) (i : ℕ) (point : IsPartit
 pub AreInOrder-inserted : (modules : List ModuleView) (i : ℕ) (m : ModuleView) → AreInOrder modules → i ≤ length modules → IsPartitionPoint (λ n. starts_by m.start n ≡ true) (λ n. starts_by m.start n ≡ false) modules i → AreInOrder (insert modules i m)
 AreInOrder-inserted modules i m ordered within point =
     IsNonDecreasingBy-insert (λ n. n.start) modules i m ordered within
-      (λ k d h. leb-true _ _ (point.0 k d (omega arith) h))
-      (λ k d low h. let above = leb-false _ _ (point.1 k d low h) in omega arith)
+    (λ k d h. leb-true _ _ (point.0 k d (omega arith) h))
+    (λ k d low h. let above = leb-false _ _ (point.1 k d low h) in omega arith)
 
 -- ---- the last module of a start
 
@@ -115,7 +115,7 @@ module _ (start : ℕ) (modules : List ModuleView) (i : ℕ) (point : IsPartitio
   pub start-nowhere : AreInOrder modules → (j : ℕ) → j + 1 ≡ i → j < length modules → ((d : ModuleView) → (slice_index_or modules j d).start ≡ start → ⊥) → has_start start modules ≡ false
   start-nowhere ordered j last within other =
       absent-start start modules (λ k d inside is.
-        ⊎_elim
-          (λ (behind : j < k). above-start k d (omega arith) inside is)
-          (λ (front : k ≤ j). below-start ordered j k d last within other front is)
-          (cases_lt j k))
+      ⊎_elim
+      (λ (behind : j < k). above-start k d (omega arith) inside is)
+      (λ (front : k ≤ j). below-start ordered j k d last within other front is)
+      (cases_lt j k))

@@ -53,8 +53,8 @@ none-stands entry (suc n) (inr h) = none-stands entry n h
 module _ {R Regs : Type 0} (fallback : R) (unwinder : UnwinderView) where
   Extends-trans : (a b c : Sets R) → Extends Regs fallback unwinder a b → Extends Regs fallback unwinder b c → Extends Regs fallback unwinder a c
   Extends-trans a b c ab bc = record {
-      each = λ entry h. ⊎_elim (λ between. ab.each entry between) (λ added. inr added) (bc.each entry h)
-    }
+    each = λ entry h. ⊎_elim (λ between. ab.each entry between) (λ added. inr added) (bc.each entry h);
+  }
 
   module _ (step : Place → Regs → Outcome Regs) where
     Extends-onward : (old : Sets R) (next : Place → Regs → CacheView R) (now : CacheView R) (outcome : Outcome Regs) → Extends Regs fallback unwinder old now.sets → ((place : Place) (regs : Regs) → Extends Regs fallback unwinder old (next place regs).sets) → Extends Regs fallback unwinder old (onward_cache next now outcome).sets
@@ -73,7 +73,7 @@ module _ {R Regs : Type 0} (fallback : R) (unwinder : UnwinderView) where
         let now = cache_after Regs fallback unwinder cache place in
         let here = Extends-after Regs fallback unwinder cache place in
         Extends-onward cache.sets (λ caller new. cache_after_callers step (cache_after Regs fallback unwinder) n caller new now) now (step place regs) here
-          (λ caller new. Extends-trans cache.sets now.sets _ here (Extends-callers n caller new now))
+        (λ caller new. Extends-trans cache.sets now.sets _ here (Extends-callers n caller new now))
 
     Extends-walk : (n pc : ℕ) (regs : Regs) (cache : CacheView R) → Extends Regs fallback unwinder cache.sets (cache_after_walk step (cache_after Regs fallback unwinder) n pc regs cache).sets
     unfolding cache_after_walk
@@ -152,20 +152,18 @@ module _ {R : Type 0} (room : Room R) (unwinder start : ℕ) (within : unwinder 
         removal-started true e ∙ rw (there, none) refl
 
     module _ (new : UnwinderView) (next : ℕ) (absent : has_start start old.modules ≡ false → (new ≡ old) × (next ≡ room.next))
-      (removed : has_start start old.modules ≡ true → (room.next < 2 ^ 64 - 1) × (new ≡ record { modules = without_module start old.modules; generation = room.next }) × (next ≡ room.next + 1)) where
+        (removed : has_start start old.modules ≡ true → (room.next < 2 ^ 64 - 1) × (new ≡ record { modules = without_module start old.modules; generation = room.next }) × (next ≡ room.next + 1)) where
       served-by : (b : Bool) → has_start start old.modules ≡ b → (refusal-of-removal ≡ None) × (record room { unwinders = slice_set room.unwinders unwinder new; next = next } ≡ after-removal b)
       served-by true e =
-          let facts = removed e in
-          (
+          let facts = removed e in (
             removal-started true e ∙ adds-allowed room unwinder within facts.0,
             Room-equal _ _
-              (ap (slice_set room.unwinders unwinder) (facts.1 ∙ ap (λ (u : UnwinderView). record { modules = without_module start u.modules; generation = room.next }) same))
-              facts.2
-              refl,
+                (ap (slice_set room.unwinders unwinder) (facts.1 ∙ ap (λ (u : UnwinderView). record { modules = without_module start u.modules; generation = room.next }) same))
+                facts.2
+                refl,
           )
       served-by false e =
-          let facts = absent e in
-          (
+          let facts = absent e in (
             removal-started false e ∙ unwinder-allowed room unwinder None within refl,
             Room-equal _ _ (ap (slice_set room.unwinders unwinder) (facts.0 ∙ same) ∙ set-same room.unwinders unwinder _) facts.1 refl,
           )
@@ -190,54 +188,54 @@ module _ {R : Type 0} (Regs : Type 0) (fallback : R) where
 
   pub transparent-start : (caches next : ℕ) → IsTransparent Regs fallback (empty_room {R = R} caches next)
   transparent-start caches next = record {
-      sound = λ u c among _. absurd among;
-      apart = λ u v among _ _. absurd among;
-      drawn = λ u among. absurd among;
-      stored = λ c entry among stands. absurd (no-entry caches next c entry among stands)
-    }
+    sound = λ u c among _. absurd among;
+    apart = λ u v among _ _. absurd among;
+    drawn = λ u among. absurd among;
+    stored = λ c entry among stands. absurd (no-entry caches next c entry among stands);
+  }
 
   -- a cache knows nothing of a generation that was just drawn
   sound-drawn : (room : Room R) → IsTransparent Regs fallback room → (u : UnwinderView) → u.generation ≡ room.next → (c : CacheView R) → Among c room.caches → IsSound Regs fallback u c.sets
   sound-drawn room old u drawn c among = record {
-      each = λ entry stands own. let below = old.stored c entry among stands in absurd (omega arith)
-    }
+    each = λ entry stands own. let below = old.stored c entry among stands in absurd (omega arith);
+  }
 
   module _ (room : Room R) (old : IsTransparent Regs fallback room) where
     -- with an unwinder of a generation that was just drawn
     pub transparent-grown : (unwinders : List UnwinderView) (added : UnwinderView) → added.generation ≡ room.next → ((u : UnwinderView) → Among u unwinders → Among u room.unwinders ⊎ (added ≡ u)) → IsTransparent Regs fallback (record room { unwinders = unwinders; next = room.next + 1 })
     transparent-grown unwinders added drawn grown = record {
-        sound = λ u c among in_caches.
+      sound = λ u c among in_caches.
           ⊎_elim
-            (λ before. old.sound u c before in_caches)
-            (λ e. sound-drawn room old u (ap (λ (v : UnwinderView). v.generation) (sym e) ∙ drawn) c in_caches)
-            (grown u among);
-        apart = λ u v among_u among_v same.
+          (λ before. old.sound u c before in_caches)
+          (λ e. sound-drawn room old u (ap (λ (v : UnwinderView). v.generation) (sym e) ∙ drawn) c in_caches)
+          (grown u among);
+      apart = λ u v among_u among_v same.
           ⊎_elim
-            (λ before_u. ⊎_elim
-              (λ before_v. old.apart u v before_u before_v same)
-              (λ e. let g = ap (λ (w : UnwinderView). w.generation) e in let below = old.drawn u before_u in absurd (omega arith))
-              (grown v among_v))
-            (λ e. ⊎_elim
-              (λ before_v. let g = ap (λ (w : UnwinderView). w.generation) e in let below = old.drawn v before_v in absurd (omega arith))
-              (λ f. ap (λ (w : UnwinderView). w.modules) (sym e ∙ f))
-              (grown v among_v))
-            (grown u among_u);
-        drawn = λ u among.
+          (λ before_u. ⊎_elim
+          (λ before_v. old.apart u v before_u before_v same)
+          (λ e. let g = ap (λ (w : UnwinderView). w.generation) e in let below = old.drawn u before_u in absurd (omega arith))
+          (grown v among_v))
+          (λ e. ⊎_elim
+          (λ before_v. let g = ap (λ (w : UnwinderView). w.generation) e in let below = old.drawn v before_v in absurd (omega arith))
+          (λ f. ap (λ (w : UnwinderView). w.modules) (sym e ∙ f))
+          (grown v among_v))
+          (grown u among_u);
+      drawn = λ u among.
           ⊎_elim
-            (λ before. let below = old.drawn u before in omega arith)
-            (λ e. let g = ap (λ (w : UnwinderView). w.generation) e in omega arith)
-            (grown u among);
-        stored = λ c entry among stands. let below = old.stored c entry among stands in omega arith
-      }
+          (λ before. let below = old.drawn u before in omega arith)
+          (λ e. let g = ap (λ (w : UnwinderView). w.generation) e in omega arith)
+          (grown u among);
+      stored = λ c entry among stands. let below = old.stored c entry among stands in omega arith;
+    }
 
     -- with another unwinder that is like one of them
     pub transparent-shared : (unwinders : List UnwinderView) → ((u : UnwinderView) → Among u unwinders → Among u room.unwinders) → IsTransparent Regs fallback (record room { unwinders = unwinders })
     transparent-shared unwinders known = record {
-        sound = λ u c among in_caches. old.sound u c (known u among) in_caches;
-        apart = λ u v among_u among_v same. old.apart u v (known u among_u) (known v among_v) same;
-        drawn = λ u among. old.drawn u (known u among);
-        stored = old.stored
-      }
+      sound = λ u c among in_caches. old.sound u c (known u among) in_caches;
+      apart = λ u v among_u among_v same. old.apart u v (known u among_u) (known v among_v) same;
+      drawn = λ u among. old.drawn u (known u among);
+      stored = old.stored;
+    }
 
     -- with an unwinder without a module, where there is that module
     pub transparent-removed : (unwinder start : ℕ) (b : Bool) → IsTransparent Regs fallback (cond b (record room { unwinders = slice_set room.unwinders unwinder (record { modules = without_module start (unwinder_at room unwinder).modules; generation = room.next }); next = room.next + 1 }) room)
@@ -248,23 +246,23 @@ module _ {R : Type 0} (Regs : Type 0) (fallback : R) where
     -- with a cache that an unwinder's steps extended
     pub transparent-cached : (caches : List (CacheView R)) (u : UnwinderView) (before after : CacheView R) → Among u room.unwinders → Among before room.caches → Extends Regs fallback u before.sets after.sets → ((c : CacheView R) → Among c caches → Among c room.caches ⊎ (after ≡ c)) → IsTransparent Regs fallback (record room { caches = caches })
     transparent-cached caches u before after among_u among_before extends replaced = record {
-        sound = λ v c among_v among.
+      sound = λ v c among_v among.
           ⊎_elim
-            (λ kept. old.sound v c among_v kept)
-            (λ e. subst (λ (d : CacheView R). IsSound Regs fallback v d.sets) e
-              (IsSound-extended Regs fallback u v before.sets after.sets (old.apart u v among_u among_v) extends (old.sound v before among_v among_before)))
-            (replaced c among);
-        apart = old.apart;
-        drawn = old.drawn;
-        stored = λ c entry among stands.
+          (λ kept. old.sound v c among_v kept)
+          (λ e. subst (λ (d : CacheView R). IsSound Regs fallback v d.sets) e
+          (IsSound-extended Regs fallback u v before.sets after.sets (old.apart u v among_u among_v) extends (old.sound v before among_v among_before)))
+          (replaced c among);
+      apart = old.apart;
+      drawn = old.drawn;
+      stored = λ c entry among stands.
           ⊎_elim
-            (λ kept. old.stored c entry kept stands)
-            (λ e. ⊎_elim
-              (λ there. old.stored before entry among_before there)
-              (λ added. let below = old.drawn u among_u in let g = added.generation in omega arith)
-              (extends.each entry (subst (λ (d : CacheView R). Stands entry d.sets) (sym e) stands)))
-            (replaced c among)
-      }
+          (λ kept. old.stored c entry kept stands)
+          (λ e. ⊎_elim
+          (λ there. old.stored before entry among_before there)
+          (λ added. let below = old.drawn u among_u in let g = added.generation in omega arith)
+          (extends.each entry (subst (λ (d : CacheView R). Stands entry d.sets) (sym e) stands)))
+          (replaced c among);
+    }
 
   -- a command that is not refused leaves a transparent room
   pub transparent-after : {D : Type 0} (outcome : R → Bool → Regs → Memory → Outcome Regs) (room : Room R) (command : Command D Regs) → refusal_of (length room.caches) (world_of room) command ≡ None → IsTransparent Regs fallback room → IsTransparent Regs fallback (room_after outcome fallback room command)
@@ -275,26 +273,26 @@ module _ {R : Type 0} (Regs : Type 0) (fallback : R) where
   transparent-after outcome room (Clone unwinder) allowed old =
       let within = clone-within room unwinder allowed in
       transparent-shared room old _ (λ u h.
-        ⊎_elim
-          (λ before. before)
-          (λ e. subst (λ v. Among v room.unwinders) e (Among-index room.unwinders unwinder _ within))
-          (Among-push u _ room.unwinders h))
+      ⊎_elim
+      (λ before. before)
+      (λ e. subst (λ v. Among v room.unwinders) e (Among-index room.unwinders unwinder _ within))
+      (Among-push u _ room.unwinders h))
   transparent-after outcome room (Remove unwinder start) allowed old =
       transparent-removed room old unwinder start (has_start start (unwinder_at room unwinder).modules)
   transparent-after outcome room (StepCommand unwinder cache address regs memory) allowed old =
       let stepper = unwinder_at room unwinder in
       let within = walk-within room unwinder cache allowed in
       transparent-cached room old _ stepper (cache_at room cache) _
-        (Among-index room.unwinders unwinder _ within.0)
-        (Among-index room.caches cache _ within.1)
-        (Extends-after Regs fallback stepper (cache_at room cache) (place_of address))
-        (λ c h. Among-set c _ room.caches cache h)
+      (Among-index room.unwinders unwinder _ within.0)
+      (Among-index room.caches cache _ within.1)
+      (Extends-after Regs fallback stepper (cache_at room cache) (place_of address))
+      (λ c h. Among-set c _ room.caches cache h)
   transparent-after outcome room (WalkCommand unwinder cache pc regs memory limit) allowed old =
       let walker = unwinder_at room unwinder in
       let within = walk-within room unwinder cache allowed in
       transparent-cached room old _ walker (cache_at room cache) _
-        (Among-index room.unwinders unwinder _ within.0)
-        (Among-index room.caches cache _ within.1)
-        (Extends-walk fallback walker (step_of outcome fallback walker (memory_of memory)) limit pc regs (cache_at room cache))
-        (λ c h. Among-set c _ room.caches cache h)
+      (Among-index room.unwinders unwinder _ within.0)
+      (Among-index room.caches cache _ within.1)
+      (Extends-walk fallback walker (step_of outcome fallback walker (memory_of memory)) limit pc regs (cache_at room cache))
+      (λ c h. Among-set c _ room.caches cache h)
   transparent-after outcome room (Stats cache) allowed old = old

@@ -35,17 +35,17 @@ module _ {D R Regs : Type 0} (outcome : R → Bool → Regs → Memory → Outco
     pub Continues-served : (new : Room R) (reply : RoomReply Regs) → refusal_of (length room.caches) (world_of room) command ≡ None → reply ≡ room_reply outcome fallback room command → new ≡ room_after outcome fallback room command → Continues new start (front ++ reply ∷ []) rest all
     unfolding room_replies next_after_all
     Continues-served new reply allowed is_reply is_room = record {
-        replies =
+      replies =
           sym (before-then front reply (room_replies outcome fallback new rest))
-            ∙ ap (λ r. replies_before front (reply_then r (room_replies outcome fallback new rest))) is_reply
-            ∙ ap (λ n. replies_before front (reply_then (room_reply outcome fallback room command) (room_replies outcome fallback n rest))) is_room
-            ∙ ap (λ o. replies_before front (unless_refused o (reply_then (room_reply outcome fallback room command) (room_replies outcome fallback (room_after outcome fallback room command) rest)))) (sym allowed)
-            ∙ old.replies;
-        next =
+          ∙ ap (λ r. replies_before front (reply_then r (room_replies outcome fallback new rest))) is_reply
+          ∙ ap (λ n. replies_before front (reply_then (room_reply outcome fallback room command) (room_replies outcome fallback n rest))) is_room
+          ∙ ap (λ o. replies_before front (unless_refused o (reply_then (room_reply outcome fallback room command) (room_replies outcome fallback (room_after outcome fallback room command) rest)))) (sym allowed)
+          ∙ old.replies;
+      next =
           ap (λ n. next_after_all outcome fallback n rest) is_room
-            ∙ ap (λ o. next_unless o room.next (next_after_all outcome fallback (room_after outcome fallback room command) rest)) (sym allowed)
-            ∙ old.next
-      }
+          ∙ ap (λ o. next_unless o room.next (next_after_all outcome fallback (room_after outcome fallback room command) rest)) (sym allowed)
+          ∙ old.next;
+    }
 
     -- a command that is refused
     pub refused-all : (error : SessionError) → refusal_of (length room.caches) (world_of room) command ≡ Some error → (◌≡◌ {A = Result (List (RoomReply Regs)) SessionError} (Err error) (room_replies outcome fallback start all)) × (room.next ≡ next_after_all outcome fallback start all)

@@ -68,9 +68,9 @@ Stands-inserted entry new sets h =
     let set = set_of sets new.key.address in
     let i = set_number new.key.address in
     ⊎_elim
-      (λ old. inl old)
-      (λ added. ⊎_elim (λ old. inl (Stands-index entry sets i old)) (λ e. inr e) (Among-inserted entry new set added))
-      (Stands-set entry sets i (inserted_in ways new set) h)
+    (λ old. inl old)
+    (λ added. ⊎_elim (λ old. inl (Stands-index entry sets i old)) (λ e. inr e) (Among-inserted entry new set added))
+    (Stands-set entry sets i (inserted_in ways new set) h)
 
 -- ---- keys
 
@@ -128,12 +128,12 @@ module _ {R : Type 0} (Regs : Type 0) (fallback : R) where
 
   Extends-miss : (unwinder : UnwinderView) (sets : Sets R) (place : Place) (answer : Fresh R Regs) → fresh fallback unwinder.modules (lookup_address place) (is_first_frame place) ≡ answer → Extends Regs fallback unwinder sets (sets_after_miss sets (key_of unwinder place) answer)
   Extends-miss unwinder sets place (by_rule rule) is = record {
-      each = λ entry h.
+    each = λ entry h.
         ⊎_elim
-          (λ old. inl old)
-          (λ e. inr (subst (IsFresh Regs fallback unwinder) e (record { generation = refl; rule = is })))
-          (Stands-inserted entry (record { key = key_of unwinder place; rule = rule }) sets h)
-    }
+        (λ old. inl old)
+        (λ e. inr (subst (IsFresh Regs fallback unwinder) e (record { generation = refl; rule = is })))
+        (Stands-inserted entry (record { key = key_of unwinder place; rule = rule }) sets h);
+  }
   Extends-miss unwinder sets place (direct values) is = Extends-refl unwinder sets
 
   Extends-found : (unwinder : UnwinderView) (sets : Sets R) (place : Place) (seen : Found R) → Extends Regs fallback unwinder sets (sets_after {Regs = Regs} sets (key_of unwinder place) seen (fresh fallback unwinder.modules (lookup_address place) (is_first_frame place)))
@@ -150,15 +150,15 @@ module _ {R : Type 0} (Regs : Type 0) (fallback : R) where
   -- a cache stays sound for each unwinder that has other modules only under another generation
   pub IsSound-extended : (unwinder other : UnwinderView) (old new : Sets R) → (unwinder.generation ≡ other.generation → unwinder.modules ≡ other.modules) → Extends Regs fallback unwinder old new → IsSound Regs fallback other old → IsSound Regs fallback other new
   IsSound-extended unwinder other old new apart extends sound = record {
-      each = λ entry h own.
+    each = λ entry h own.
         ⊎_elim
-          (λ before. sound.each entry before own)
-          (λ added. record {
-            generation = own;
-            rule = ap (λ modules. fresh {Regs = Regs} fallback modules entry.key.address entry.key.is_first_frame) (sym (apart (sym added.generation ∙ own))) ∙ added.rule
-          })
-          (extends.each entry h)
-    }
+        (λ before. sound.each entry before own)
+        (λ added. record {
+          generation = own;
+          rule = ap (λ modules. fresh {Regs = Regs} fallback modules entry.key.address entry.key.is_first_frame) (sym (apart (sym added.generation ∙ own))) ∙ added.rule;
+        })
+        (extends.each entry h);
+  }
 
   -- a cache stays sound for the unwinder that steps
   pub IsSound-step : (unwinder : UnwinderView) (cache : CacheView R) (place : Place) → IsSound Regs fallback unwinder cache.sets → IsSound Regs fallback unwinder (cache_after Regs fallback unwinder cache place).sets
@@ -189,7 +189,7 @@ module _ {R : Type 0} (Regs : Type 0) (fallback : R) where
         let s = hit-answered (key_of unwinder place) (found ways cache.sets (key_of unwinder place)) rule e in
         let answer : Fresh R Regs = fresh fallback unwinder.modules (lookup_address place) (is_first_frame place) in
         CacheView-equal new (cache_after Regs fallback unwinder cache place)
-          (kept ∙ sym (ap (λ f. sets_after cache.sets (key_of unwinder place) f answer) s)) counts
+        (kept ∙ sym (ap (λ f. sets_after cache.sets (key_of unwinder place) f answer) s)) counts
 
     -- a hit in a sound cache steps as the modules' bytes say
     pub step-hit : (outcome : R → Bool → Regs → Memory → Outcome Regs) (rule : R) (regs : Regs) (memory : Memory) → IsSound Regs fallback unwinder cache.sets → result_of (key_of unwinder place) (found ways cache.sets (key_of unwinder place)) ≡ Hit rule → outcome rule (is_first_frame place) regs memory ≡ step outcome fallback unwinder.modules place regs memory
@@ -205,10 +205,10 @@ module _ {R : Type 0} (Regs : Type 0) (fallback : R) where
         let key = key_of unwinder place in
         let m = miss-answered cache.sets key handle (found ways cache.sets key) answer e in
         let stored : inserted ways between.sets (record { key = handle; rule = rule }) ≡ inserted ways cache.sets (record { key = key; rule = rule }) =
-            ap (λ k. inserted ways between.sets (record { key = k; rule = rule })) (sym m.0) ∙ ap (λ sets. inserted ways sets (record { key = key; rule = rule })) kept in
+        ap (λ k. inserted ways between.sets (record { key = k; rule = rule })) (sym m.0) ∙ ap (λ sets. inserted ways sets (record { key = key; rule = rule })) kept in
         CacheView-equal new (cache_after Regs fallback unwinder cache place)
-          (ap (λ (c : CacheView R). c.sets) is ∙ stored ∙ sym (ap (sets_after_miss cache.sets key) known) ∙ sym m.1)
-          (ap (λ (c : CacheView R). c.stats) is ∙ counts)
+        (ap (λ (c : CacheView R). c.sets) is ∙ stored ∙ sym (ap (sets_after_miss cache.sets key) known) ∙ sym m.1)
+        (ap (λ (c : CacheView R). c.stats) is ∙ counts)
 
     pub step-miss : (outcome : R → Bool → Regs → Memory → Outcome Regs) (rule : R) (regs : Regs) (memory : Memory) → fresh {Regs = Regs} fallback unwinder.modules (lookup_address place) (is_first_frame place) ≡ by_rule rule → outcome rule (is_first_frame place) regs memory ≡ step outcome fallback unwinder.modules place regs memory
     unfolding step

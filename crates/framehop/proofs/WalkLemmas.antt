@@ -76,7 +76,7 @@ module _ {Regs : Type 0} (step : Place → Regs → Outcome Regs) where
           let now = called here left one_more (Ok (Some place)) is_answer so_far in
           record {
             walk = ap (λ frames. record (walk_on step left progress' regs') { frames = frames }) (append_assoc front (place ∷ []) (walk_on step left progress' regs').frames) ∙ now.0;
-            cached = now.1
+            cached = now.1;
           }
 
       pub WalksOn-root : (here left : ℕ) → here ≡ suc left → Ok None ≡ (next_of step progress regs).answer → WalksOn front here total progress start regs regs0 cache cache0 → (◌≡◌ {A = Walk Regs} (record { frames = front; end = at_root; regs = regs' }) (walk_on step total start regs0)) × (cache' ≡ cache_on step cache_after total start regs0 cache0)
@@ -104,8 +104,7 @@ module _ {Regs : Type 0} (step : Place → Regs → Outcome Regs) where
     pub WalksOn-limit : (front : List Place) (left total : ℕ) (progress start : Progress) (regs regs0 : Regs) (cache cache0 : Cache) → left ≡ 0 → WalksOn front left total progress start regs regs0 cache cache0 → (◌≡◌ {A = Walk Regs} (record { frames = front; end = at_limit; regs = regs }) (walk_on step total start regs0)) × (cache ≡ cache_on step cache_after total start regs0 cache0)
     WalksOn-limit front left total progress start regs regs0 cache cache0 none so_far =
         let walk = subst (λ n. frames_before front (walk_on step n progress regs) ≡ walk_on step total start regs0) none so_far.walk in
-        let cached = subst (λ n. cache_on step cache_after n progress regs cache ≡ cache_on step cache_after total start regs0 cache0) none so_far.cached in
-        (
+        let cached = subst (λ n. cache_on step cache_after n progress regs cache ≡ cache_on step cache_after total start regs0 cache0) none so_far.cached in (
           ap (λ frames. record { frames = frames; end = at_limit; regs = regs }) (sym (append-nil front)) ∙ sym (ap (frames_before front) (walk_on-zero progress regs)) ∙ walk,
           sym (cache_on-zero progress regs cache) ∙ cached,
         )

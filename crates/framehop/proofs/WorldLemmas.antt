@@ -42,16 +42,16 @@ module _ {R Regs : Type 0} (outcome : R → Bool → Regs → Memory → Outcome
   world-after room New = World-equal _ _ (map-push room.unwinders (record { modules = []; generation = room.next })) (one-less room.next)
   world-after room (Add unwinder added) =
       World-equal _ _
-        (map-set room.unwinders unwinder (record { modules = with_module added (unwinder_at room unwinder).modules; generation = room.next })
-          ∙ ap (λ modules. slice_set (world_of room).unwinders unwinder (with_module added modules)) (sym (modules-at room.unwinders unwinder)))
-        (one-less room.next)
+      (map-set room.unwinders unwinder (record { modules = with_module added (unwinder_at room unwinder).modules; generation = room.next })
+      ∙ ap (λ modules. slice_set (world_of room).unwinders unwinder (with_module added modules)) (sym (modules-at room.unwinders unwinder)))
+      (one-less room.next)
   world-after room (Clone unwinder) =
       World-equal _ _
-        (map-push room.unwinders (unwinder_at room unwinder) ∙ ap (λ modules. (world_of room).unwinders ++ modules ∷ []) (sym (modules-at room.unwinders unwinder)))
-        refl
+      (map-push room.unwinders (unwinder_at room unwinder) ∙ ap (λ modules. (world_of room).unwinders ++ modules ∷ []) (sym (modules-at room.unwinders unwinder)))
+      refl
   world-after room (Remove unwinder start) =
       removed-after room unwinder start (has_start start (unwinder_at room unwinder).modules)
-        ∙ ap (λ (modules : List ModuleView). cond (has_start start modules) (record { unwinders = slice_set (world_of room).unwinders unwinder (without_module start modules); left = (world_of room).left - 1 }) (world_of room)) (sym (modules-at room.unwinders unwinder))
+      ∙ ap (λ (modules : List ModuleView). cond (has_start start modules) (record { unwinders = slice_set (world_of room).unwinders unwinder (without_module start modules); left = (world_of room).left - 1 }) (world_of room)) (sym (modules-at room.unwinders unwinder))
   world-after room (StepCommand unwinder cache address regs memory) = refl
   world-after room (WalkCommand unwinder cache pc regs memory limit) = refl
   world-after room (Stats cache) = refl
@@ -92,10 +92,10 @@ module _ {R Regs : Type 0} (outcome : R → Bool → Regs → Memory → Outcome
   world-reply room (Remove unwinder start) rest = result-of_world done rest
   world-reply room (StepCommand unwinder cache address regs memory) rest =
       result-of_world _ rest
-        ∙ ap (λ (modules : List ModuleView). let stepping = step outcome fallback modules (place_of address) regs (memory_of memory) in reply_before (Some (stepped (answer_of stepping) (registers_after regs stepping))) (world_result rest)) (sym (modules-at room.unwinders unwinder))
+      ∙ ap (λ (modules : List ModuleView). let stepping = step outcome fallback modules (place_of address) regs (memory_of memory) in reply_before (Some (stepped (answer_of stepping) (registers_after regs stepping))) (world_result rest)) (sym (modules-at room.unwinders unwinder))
   world-reply room (WalkCommand unwinder cache pc regs memory limit) rest =
       result-of_world _ rest
-        ∙ ap (λ (modules : List ModuleView). reply_before (Some (walked (walk_from (λ place old. step outcome fallback modules place old (memory_of memory)) limit pc regs))) (world_result rest)) (sym (modules-at room.unwinders unwinder))
+      ∙ ap (λ (modules : List ModuleView). reply_before (Some (walked (walk_from (λ place old. step outcome fallback modules place old (memory_of memory)) limit pc regs))) (world_result rest)) (sym (modules-at room.unwinders unwinder))
   world-reply room (Stats cache) rest = result-counts _ rest
 
   result-refused : (o : Option SessionError) (rest : Result (List (RoomReply Regs)) SessionError) → world_result (unless_refused o rest) ≡ unless_refused o (world_result rest)
@@ -109,14 +109,14 @@ module _ {R Regs : Type 0} (outcome : R → Bool → Regs → Memory → Outcome
   world-replies room (command ∷ commands) =
       let later = room_after outcome fallback room command in
       let rest = world-replies later commands
-          ∙ ap (λ n. world_replies (step outcome fallback) n (world_of later) commands) (caches-stay room command)
-          ∙ ap (λ world. world_replies (step outcome fallback) (length room.caches) world commands) (world-after room command) in
+      ∙ ap (λ n. world_replies (step outcome fallback) n (world_of later) commands) (caches-stay room command)
+      ∙ ap (λ world. world_replies (step outcome fallback) (length room.caches) world commands) (world-after room command) in
       result-refused (refusal_of (length room.caches) (world_of room) command) _
-        ∙ ap (unless_refused (refusal_of (length room.caches) (world_of room) command))
-          (world-reply room command _ ∙ ap (reply_before (reply_to (step outcome fallback) (world_of room) command)) rest)
+      ∙ ap (unless_refused (refusal_of (length room.caches) (world_of room) command))
+      (world-reply room command _ ∙ ap (reply_before (reply_to (step outcome fallback) (world_of room) command)) rest)
 
   -- from so many empty caches and no unwinder
   pub world-replies-start : {D : Type 0} (caches next : ℕ) (commands : List (Command D Regs)) → world_result (room_replies outcome fallback (empty_room caches next) commands) ≡ world_replies (step outcome fallback) caches (empty_world next) commands
   world-replies-start caches next commands =
       world-replies (empty_room caches next) commands
-        ∙ ap (λ n. world_replies (step outcome fallback) n (empty_world next) commands) (length-replicate caches empty_cache)
+      ∙ ap (λ n. world_replies (step outcome fallback) n (empty_world next) commands) (length-replicate caches empty_cache)

@@ -56,9 +56,9 @@ hit_or None other = other
 abbrev pub found_in : {R : Type 0} → ℕ → List (Entry R) → Key → Found R
 found_in ways set key =
     hit_or (find (λ entry. same_key entry.key key) set)
-      (if nat_lt (length set) ways then empty_slot
-      else (if list_any (λ entry. entry.key.generation == key.generation) set then wrong_address
-      else wrong_modules))
+    (if nat_lt (length set) ways then empty_slot
+    else (if list_any (λ entry. entry.key.generation == key.generation) set then wrong_address
+    else wrong_modules))
 
 -- a lookup in the sets
 abbrev pub found : {R : Type 0} → ℕ → Sets R → Key → Found R

@@ -6,9 +6,9 @@ use Rattle.framehop.specs.declared.rule_cache.CacheEntry.{CacheEntry}
 -- the entry that a slot holds
 abbrev pub entry_of : {R : Type 0} → CacheEntry R → Entry R
 entry_of entry = record {
-    key = record { address = entry.address; generation = entry.modules_generation; is_first_frame = entry.is_first_frame };
-    rule = entry.unwind_rule
-  }
+  key = record { address = entry.address; generation = entry.modules_generation; is_first_frame = entry.is_first_frame };
+  rule = entry.unwind_rule;
+}
 
 -- the set that a slot is
 abbrev pub set_of_slot : {R : Type 0} → Option (CacheEntry R) → List (Entry R)

@@ -60,15 +60,20 @@ room_after outcome fallback room New =
 room_after outcome fallback room (Add unwinder added) =
     record room {
       unwinders = slice_set room.unwinders unwinder (record {
-        modules = with_module added (unwinder_at room unwinder).modules; generation = room.next });
-      next = room.next + 1
+        modules = with_module added (unwinder_at room unwinder).modules;
+        generation = room.next;
+      });
+      next = room.next + 1;
     }
 room_after outcome fallback room (Clone unwinder) = record room { unwinders = room.unwinders ++ unwinder_at room unwinder ∷ [] }
 room_after outcome fallback room (Remove unwinder start) =
     if has_start start (unwinder_at room unwinder).modules then record room {
       unwinders = slice_set room.unwinders unwinder (record {
-        modules = without_module start (unwinder_at room unwinder).modules; generation = room.next });
-      next = room.next + 1 }
+        modules = without_module start (unwinder_at room unwinder).modules;
+        generation = room.next;
+      });
+      next = room.next + 1;
+    }
     else room
 room_after {D} {R} {Regs} outcome fallback room (StepCommand unwinder cache address regs memory) =
     record room { caches = slice_set room.caches cache (cache_after Regs fallback (unwinder_at room unwinder) (cache_at room cache) (place_of address)) }
@@ -76,7 +81,7 @@ room_after {D} {R} {Regs} outcome fallback room (WalkCommand unwinder cache pc r
     let walker = unwinder_at room unwinder in
     record room {
       caches = slice_set room.caches cache
-        (cache_after_walk (step_of outcome fallback walker (memory_of memory)) (cache_after Regs fallback walker) limit pc regs (cache_at room cache))
+          (cache_after_walk (step_of outcome fallback walker (memory_of memory)) (cache_after Regs fallback walker) limit pc regs (cache_at room cache));
     }
 room_after outcome fallback room (Stats cache) = room
 
@@ -90,7 +95,7 @@ unfoldable pub room_replies : {D R Regs : Type 0} → (R → Bool → Regs → M
 room_replies outcome fallback room [] = Ok []
 room_replies outcome fallback room (command ∷ commands) =
     unless_refused (refusal_of (length room.caches) (world_of room) command)
-      (reply_then (room_reply outcome fallback room command) (room_replies outcome fallback (room_after outcome fallback room command) commands))
+    (reply_then (room_reply outcome fallback room command) (room_replies outcome fallback (room_after outcome fallback room command) commands))
 
 -- the next generation when all commands, or those before the first that is refused, are done
 abbrev pub next_unless : Option SessionError → ℕ → ℕ → ℕ
@@ -101,7 +106,7 @@ unfoldable pub next_after_all : {D R Regs : Type 0} → (R → Bool → Regs →
 next_after_all outcome fallback room [] = room.next
 next_after_all outcome fallback room (command ∷ commands) =
     next_unless (refusal_of (length room.caches) (world_of room) command) room.next
-      (next_after_all outcome fallback (room_after outcome fallback room command) commands)
+    (next_after_all outcome fallback (room_after outcome fallback room command) commands)
 
 -- so many empty caches, no unwinder, and the next generation
 abbrev pub empty_room : {R : Type 0} → ℕ → ℕ → Room R

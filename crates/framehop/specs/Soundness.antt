@@ -51,5 +51,5 @@ cache_after {R} Regs fallback unwinder cache place =
     let seen = found ways cache.sets key in
     record {
       sets = sets_after {Regs = Regs} cache.sets key seen (fresh fallback unwinder.modules (lookup_address place) (is_first_frame place));
-      stats = counted cache.stats seen
+      stats = counted cache.stats seen;
     }

@@ -25,7 +25,7 @@ pub record IsTransparent {R : Type 0} (Regs : Type 0) (fallback : R) (room : Roo
 abbrev pub Serves : {D R Regs : Type 0} → (R → Bool → Regs → Memory → Outcome Regs) → R → Room R → Command D Regs → Result (Reply Regs) SessionError → Room R → Type 0
 Serves outcome fallback room command result new =
     MatchResult result
-      (λ reply. (refusal_of (length room.caches) (world_of room) command ≡ None)
-        × (reply_view reply ≡ room_reply outcome fallback room command)
-        × (new ≡ room_after outcome fallback room command))
-      (λ error. error ≢ OutOfMemory → (refusal_of (length room.caches) (world_of room) command ≡ Some error) × (new.next ≡ room.next))
+    (λ reply. (refusal_of (length room.caches) (world_of room) command ≡ None)
+    × (reply_view reply ≡ room_reply outcome fallback room command)
+    × (new ≡ room_after outcome fallback room command))
+    (λ error. error ≢ OutOfMemory → (refusal_of (length room.caches) (world_of room) command ≡ Some error) × (new.next ≡ room.next))

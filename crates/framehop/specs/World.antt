@@ -80,7 +80,9 @@ world_after world (Add unwinder added) =
 world_after world (Clone unwinder) = record world { unwinders = world.unwinders ++ modules_of world unwinder ∷ [] }
 world_after world (Remove unwinder start) =
     if has_start start (modules_of world unwinder) then record {
-      unwinders = slice_set world.unwinders unwinder (without_module start (modules_of world unwinder)); left = world.left - 1 }
+      unwinders = slice_set world.unwinders unwinder (without_module start (modules_of world unwinder));
+      left = world.left - 1;
+    }
     else world
 world_after world (StepCommand unwinder cache address regs memory) = world
 world_after world (WalkCommand unwinder cache pc regs memory limit) = world
@@ -102,7 +104,7 @@ unfoldable pub world_replies : {D Regs : Type 0} → StepBy Regs → ℕ → Wor
 world_replies step caches world [] = Ok []
 world_replies step caches world (command ∷ commands) =
     unless_refused (refusal_of caches world command)
-      (reply_before (reply_to step world command) (world_replies step caches (world_after world command) commands))
+    (reply_before (reply_to step world command) (world_replies step caches (world_after world command) commands))
 
 -- the world with no unwinder, before the counter has given out this generation
 abbrev pub empty_world : ℕ → World

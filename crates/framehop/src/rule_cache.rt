@@ -67,8 +67,10 @@ impl<R: UnwindRule> RuleCache<R> {
         let slot = (address % CACHE_ENTRY_COUNT as u64) as u16;
         match &self.entries[slot as usize] {
             None => {
-                self.stats.miss_empty_slot_count =
-                    self.stats.miss_empty_slot_count.saturating_add(1);
+                self.stats.miss_empty_slot_count = self
+                    .stats
+                    .miss_empty_slot_count
+                    .saturating_add(1);
             }
             Some(entry) => {
                 if entry.modules_generation == modules_generation {
@@ -77,11 +79,15 @@ impl<R: UnwindRule> RuleCache<R> {
                         self.stats.hit_count = self.stats.hit_count.saturating_add(1);
                         return CacheResult::Hit(unwind_rule);
                     }
-                    self.stats.miss_wrong_address_count =
-                        self.stats.miss_wrong_address_count.saturating_add(1);
+                    self.stats.miss_wrong_address_count = self
+                        .stats
+                        .miss_wrong_address_count
+                        .saturating_add(1);
                 } else {
-                    self.stats.miss_wrong_modules_count =
-                        self.stats.miss_wrong_modules_count.saturating_add(1);
+                    self.stats.miss_wrong_modules_count = self
+                        .stats
+                        .miss_wrong_modules_count
+                        .saturating_add(1);
                 }
             }
         }

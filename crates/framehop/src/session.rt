@@ -52,13 +52,21 @@ pub enum Command<D: SectionBytes, R> {
     New,
 
     /// Makes a clone of an unwinder.
-    Clone { unwinder: usize },
+    Clone {
+        unwinder: usize,
+    },
 
     /// Adds a module to an unwinder.
-    Add { unwinder: usize, module: Module<D> },
+    Add {
+        unwinder: usize,
+        module: Module<D>,
+    },
 
     /// Removes the newest module of an unwinder that starts at the address (AVMA), if there is one.
-    Remove { unwinder: usize, start: u64 },
+    Remove {
+        unwinder: usize,
+        start: u64,
+    },
 
     /// Unwinds a single frame.
     Step {
@@ -81,7 +89,9 @@ pub enum Command<D: SectionBytes, R> {
     },
 
     /// Tells the counts of a cache.
-    Stats { cache: usize },
+    Stats {
+        cache: usize,
+    },
 }
 
 /// How a walk ended.
@@ -158,11 +168,11 @@ fn next_frames<U: Unwinder, F: FnMut(u64) -> Result<u64, ()>>(
     ensures answers { (memory : StackMemory) → AnswersAs F.FnMut unwinding.old.read_stack.now memory
         → U.is_sound unwinding.old.unwinder.now unwinding.old.cache.now
         → IfOk result (λ walk.
-            let step : Place → U.UnwindRegs → Outcome U.UnwindRegs = λ place regs. U.step unwinding.old.unwinder.now place regs memory in
-            (walk_of walk.0.items walk.1 unwinding.new.regs
-                ≡ walk_on step limit (progress_of unwinding.old.state) unwinding.old.regs)
-            × (unwinding.new.cache.now
-                ≡ cache_on step (U.cache_after unwinding.old.unwinder.now) limit (progress_of unwinding.old.state) unwinding.old.regs unwinding.old.cache.now)) }
+        let step : Place → U.UnwindRegs → Outcome U.UnwindRegs = λ place regs. U.step unwinding.old.unwinder.now place regs memory in
+        (walk_of walk.0.items walk.1 unwinding.new.regs
+        ≡ walk_on step limit (progress_of unwinding.old.state) unwinding.old.regs)
+        × (unwinding.new.cache.now
+        ≡ cache_on step (U.cache_after unwinding.old.unwinder.now) limit (progress_of unwinding.old.state) unwinding.old.regs unwinding.old.cache.now)) }
 {
     let mut frames = Vec::new(alloc);
     for _call in 0..limit {
@@ -270,7 +280,7 @@ impl<D: SectionBytes + Drop, A: Arch, P: AllocationPolicy> Session<D, A, P> {
         ensures served { let old : Room A.UnwindRule = record { unwinders = self.old.unwinders.items; next = generations.old; caches = self.old.caches.items } in
             let command : Command D A.UnwindRegs = Command.New in
             Serves A.UnwindRule.outcome A.UnwindRule.fallback old command result
-                (record { unwinders = self.new.unwinders.items; next = generations.new; caches = self.new.caches.items }) }
+            (record { unwinders = self.new.unwinders.items; next = generations.new; caches = self.new.caches.items }) }
     {
         let number = self.unwinders.len();
         let Ok(unwinder) = UnwinderInternal::new(self.alloc, generations) else {
@@ -292,7 +302,7 @@ impl<D: SectionBytes + Drop, A: Arch, P: AllocationPolicy> Session<D, A, P> {
         ensures served { let old : Room A.UnwindRule = record { unwinders = self.old.unwinders.items; next = generations.old; caches = self.old.caches.items } in
             let command : Command D A.UnwindRegs = Command.Add unwinder «module» in
             Serves A.UnwindRule.outcome A.UnwindRule.fallback old command result
-                (record { unwinders = self.new.unwinders.items; next = generations.new; caches = self.new.caches.items }) }
+            (record { unwinders = self.new.unwinders.items; next = generations.new; caches = self.new.caches.items }) }
     {
         if unwinder >= self.unwinders.len() {
             return Err(SessionError::NoSuchUnwinder);
@@ -311,7 +321,7 @@ impl<D: SectionBytes + Drop, A: Arch, P: AllocationPolicy> Session<D, A, P> {
         ensures { (next : ℕ) → let old : Room A.UnwindRule = record { unwinders = self.old.unwinders.items; next = next; caches = self.old.caches.items } in
             let command : Command D A.UnwindRegs = Command.Clone unwinder in
             Serves A.UnwindRule.outcome A.UnwindRule.fallback old command result
-                (record { unwinders = self.new.unwinders.items; next = next; caches = self.new.caches.items }) }
+            (record { unwinders = self.new.unwinders.items; next = next; caches = self.new.caches.items }) }
     {
         let number = self.unwinders.len();
         if unwinder >= number {
@@ -336,7 +346,7 @@ impl<D: SectionBytes + Drop, A: Arch, P: AllocationPolicy> Session<D, A, P> {
         ensures served { let old : Room A.UnwindRule = record { unwinders = self.old.unwinders.items; next = generations.old; caches = self.old.caches.items } in
             let command : Command D A.UnwindRegs = Command.Remove unwinder start in
             Serves A.UnwindRule.outcome A.UnwindRule.fallback old command result
-                (record { unwinders = self.new.unwinders.items; next = generations.new; caches = self.new.caches.items }) }
+            (record { unwinders = self.new.unwinders.items; next = generations.new; caches = self.new.caches.items }) }
     {
         if unwinder >= self.unwinders.len() {
             return Err(SessionError::NoSuchUnwinder);
@@ -361,7 +371,7 @@ impl<D: SectionBytes + Drop, A: Arch, P: AllocationPolicy> Session<D, A, P> {
             let command : Command D A.UnwindRegs = Command.Step unwinder cache address regs memory in
             IsTransparent A.UnwindRegs A.UnwindRule.fallback old →
             Serves A.UnwindRule.outcome A.UnwindRule.fallback old command result
-                (record { unwinders = self.new.unwinders.items; next = next; caches = self.new.caches.items }) }
+            (record { unwinders = self.new.unwinders.items; next = next; caches = self.new.caches.items }) }
     {
         if unwinder >= self.unwinders.len() {
             return Err(SessionError::NoSuchUnwinder);
@@ -399,7 +409,7 @@ impl<D: SectionBytes + Drop, A: Arch, P: AllocationPolicy> Session<D, A, P> {
             let command : Command D A.UnwindRegs = Command.Walk unwinder cache pc regs memory limit in
             IsTransparent A.UnwindRegs A.UnwindRule.fallback old →
             Serves A.UnwindRule.outcome A.UnwindRule.fallback old command result
-                (record { unwinders = self.new.unwinders.items; next = next; caches = self.new.caches.items }) }
+            (record { unwinders = self.new.unwinders.items; next = next; caches = self.new.caches.items }) }
     {
         if unwinder >= self.unwinders.len() {
             return Err(SessionError::NoSuchUnwinder);
@@ -409,8 +419,7 @@ impl<D: SectionBytes + Drop, A: Arch, P: AllocationPolicy> Session<D, A, P> {
         }
         let walker = &self.unwinders[unwinder];
         let shared = &mut self.caches[cache];
-        let (frames, end, regs) =
-            walk_stack(self.alloc, walker, shared, pc, regs, &memory, limit)?;
+        let (frames, end, regs) = walk_stack(self.alloc, walker, shared, pc, regs, &memory, limit)?;
         Ok(Reply::Walk { frames, end, regs })
     }
 
@@ -424,7 +433,7 @@ impl<D: SectionBytes + Drop, A: Arch, P: AllocationPolicy> Session<D, A, P> {
         ensures served { let old : Room A.UnwindRule = record { unwinders = self.old.unwinders.items; next = generations.old; caches = self.old.caches.items } in
             IsTransparent A.UnwindRegs A.UnwindRule.fallback old →
             Serves A.UnwindRule.outcome A.UnwindRule.fallback old command result
-                (record { unwinders = self.new.unwinders.items; next = generations.new; caches = self.new.caches.items }) }
+            (record { unwinders = self.new.unwinders.items; next = generations.new; caches = self.new.caches.items }) }
     {
         match command {
             Command::New => self.make_unwinder(generations),

@@ -13,10 +13,10 @@ ghost use Rattle.framehop.specs.Modules.{ModuleView, UnwinderView, AreInOrder, n
 use crate::cache::{AllocationPolicy, Cache};
 use crate::generations::Generations;
 use crate::rule_cache::CacheResult;
+use framehop_cfi::section::{ModuleSectionInfo, SectionBytes};
 use framehop_core::arch::Arch;
 use framehop_core::unwind_rule::UnwindRule;
 use framehop_core::{Error, FrameAddress};
-use framehop_cfi::section::{ModuleSectionInfo, SectionBytes};
 use std::alloc::{AllocError, Global};
 use std::marker::{Model, PhantomData};
 use std::ops::Range;
@@ -79,11 +79,11 @@ pub trait Unwinder: Clone {
     ) -> Result<(), RefusedModule<Self::Module>>
         ensures added { OnOk result (
             (unwinder_view self.new ≡ record {
-                modules = with_module (module_view «module») (unwinder_view self.old).modules;
-                generation = generations.old;
+              modules = with_module (module_view «module») (unwinder_view self.old).modules;
+              generation = generations.old;
             })
             × (generations.new ≡ generations.old + 1) × (generations.old < 2 ^ 64 - 1)) }
-        ensures refused { IfErr result (λ back. (back.module ≡ «module») × (self.new ≡ self.old)
+        ensures refused { IfErr result (λ back. (back.«module» ≡ «module») × (self.new ≡ self.old)
             × (generations.new ≡ generations.old)) }
         ensures exhausted { (generations.old ≡ 2 ^ 64 - 1)
             ↔ IsErrAnd result (λ back. back.cause ≡ ModuleListError.GenerationsExhausted) };
@@ -101,8 +101,8 @@ pub trait Unwinder: Clone {
         ensures removed { has_start module_avma_range_start (unwinder_view self.old).modules ≡ true → IfOk result (λ done.
             (generations.old < 2 ^ 64 - 1)
             × (unwinder_view self.new ≡ record {
-                modules = without_module module_avma_range_start (unwinder_view self.old).modules;
-                generation = generations.old;
+              modules = without_module module_avma_range_start (unwinder_view self.old).modules;
+              generation = generations.old;
             })
             × (generations.new ≡ generations.old + 1)) }
         ensures exhausted { IfErr result (λ error.
@@ -141,8 +141,8 @@ pub trait Unwinder: Clone {
         ensures stays_sound { is_sound self.now cache.old → is_sound self.now cache.new }
         ensures answers { (memory : Memory) → AnswersAs F.FnMut read_stack.old memory → is_sound self.now cache.old
             → AnswersAs F.FnMut read_stack.new memory
-                × (result ≡ answer_of (step self.now (place_of address) regs.old memory))
-                × (regs.new ≡ registers_after regs.old (step self.now (place_of address) regs.old memory)) };
+            × (result ≡ answer_of (step self.now (place_of address) regs.old memory))
+            × (regs.new ≡ registers_after regs.old (step self.now (place_of address) regs.old memory)) };
 
     /// An iterator over the frames of a stack, from the instruction pointer (AVMA) and the initial
     /// registers on.
@@ -256,9 +256,9 @@ impl<U: Unwinder, F: FnMut(u64) -> Result<u64, ()>> UnwindIterator<'_, '_, '_, U
         ensures answers { (memory : Memory) → AnswersAs F.FnMut self.old.read_stack.now memory
             → U.is_sound self.old.unwinder.now self.old.cache.now
             → let next = next_of (λ place regs. U.step self.old.unwinder.now place regs memory) (progress_of self.old.state) self.old.regs in
-                AnswersAs F.FnMut self.new.read_stack.now memory
-                × U.is_sound self.new.unwinder.now self.new.cache.now
-                × (place_answer result ≡ next.answer) × (progress_of self.new.state ≡ next.progress) × (self.new.regs ≡ next.regs) }
+            AnswersAs F.FnMut self.new.read_stack.now memory
+            × U.is_sound self.new.unwinder.now self.new.cache.now
+            × (place_answer result ≡ next.answer) × (progress_of self.new.state ≡ next.progress) × (self.new.regs ≡ next.regs) }
     {
         let next = match self.state {
             UnwindIteratorState::Initial(pc) => {
@@ -266,18 +266,16 @@ impl<U: Unwinder, F: FnMut(u64) -> Result<u64, ()>> UnwindIterator<'_, '_, '_, U
                 self.state = UnwindIteratorState::Unwinding(first);
                 return Ok(Some(first));
             }
-            UnwindIteratorState::Unwinding(address) => self.unwinder.unwind_frame(
-                address,
-                &mut self.regs,
-                self.cache,
-                self.read_stack,
-            )?,
+            UnwindIteratorState::Unwinding(address) => self
+                .unwinder
+                .unwind_frame(address, &mut self.regs, self.cache, self.read_stack)?,
             UnwindIteratorState::Done => return Ok(None),
         };
         match next {
             Some(return_address) => {
-                let return_address = FrameAddress::from_return_address(return_address)
-                    .ok_or(Error::ReturnAddressIsNull)?;
+                let return_address = FrameAddress::from_return_address(return_address).ok_or(
+                    Error::ReturnAddressIsNull,
+                )?;
                 self.state = UnwindIteratorState::Unwinding(return_address);
                 Ok(Some(return_address))
             }
@@ -322,12 +320,12 @@ impl<D: SectionBytes> Model for Module<D> {
     ghost use Rattle.framehop.specs.UnwindData.{unwind_data_of};
 
     ghost view = { λ m. record {
-        name = string_bytes m.name;
-        start = m.avma_range.start;
-        end = m.avma_range.end;
-        base_avma = m.base_avma;
-        base_svma = m.base_svma;
-        unwind_data = unwind_data_of m.unwind_data.value;
+      name = string_bytes m.name;
+      start = m.avma_range.start;
+      end = m.avma_range.end;
+      base_avma = m.base_avma;
+      base_svma = m.base_svma;
+      unwind_data = unwind_data_of m.unwind_data.value;
     } };
 }
 
@@ -357,12 +355,12 @@ impl<D: SectionBytes> Module<D> {
         section_info: I,
     ) -> Result<Self, ModuleListError>
         ensures made { IfOk result (λ made. made ≡ record {
-            name = string_bytes name;
-            start = avma_range.start;
-            end = avma_range.end;
-            base_avma = base_avma;
-            base_svma = (I.table section_info).base_svma;
-            unwind_data = no_unwind_data;
+          name = string_bytes name;
+          start = avma_range.start;
+          end = avma_range.end;
+          base_avma = base_avma;
+          base_svma = (I.table section_info).base_svma;
+          unwind_data = no_unwind_data;
         }) }
         ensures refused { IfErr result (λ error. error ≡ ModuleListError.OutOfMemory) }
     {
@@ -458,9 +456,9 @@ impl<D: SectionBytes + Drop, A: Arch, P: AllocationPolicy> UnwinderInternal<D, A
     pub fn new(alloc: Global, generations: &mut Generations) -> Result<Self, ModuleListError>
         ensures { MatchResult result
             (λ made. (made ≡ record { modules = []; generation = generations.old })
-                × (generations.new ≡ generations.old + 1) × (generations.old < 2 ^ 64 - 1))
+            × (generations.new ≡ generations.old + 1) × (generations.old < 2 ^ 64 - 1))
             (λ error. (error ≡ ModuleListError.GenerationsExhausted)
-                × (generations.old ≡ 2 ^ 64 - 1) × (generations.new ≡ generations.old)) }
+            × (generations.old ≡ 2 ^ 64 - 1) × (generations.new ≡ generations.old)) }
     {
         let Some(modules_generation) = generations.next() else {
             return Err(ModuleListError::GenerationsExhausted);
@@ -498,7 +496,7 @@ impl<D: SectionBytes + Drop, A: Arch, P: AllocationPolicy> UnwinderInternal<D, A
     fn last_with_start(&self, start: u64) -> Option<usize>
         ensures { MatchOption result (has_start start self.now.modules ≡ false)
             (λ index. (index < length self.now.modules) × (has_start start self.now.modules ≡ true)
-                × (remove self.now.modules index ≡ without_module start self.now.modules)) }
+            × (remove self.now.modules index ≡ without_module start self.now.modules)) }
     {
         let index = self.place_behind(start).checked_sub(1)?;
         if self.module_start(index) == start {
@@ -512,7 +510,7 @@ impl<D: SectionBytes + Drop, A: Arch, P: AllocationPolicy> UnwinderInternal<D, A
     fn find_module_for_address(&self, address: u64) -> Option<(usize, u32)>
         ensures { MatchOption result (covering self.now.modules address ≡ None)
             (λ found. (m : ModuleView) × (covering self.now.modules address ≡ Some m)
-                × (slice_get self.now.modules found.0 ≡ Some m) × (found.1 ≡ address - m.base_avma)) }
+            × (slice_get self.now.modules found.0 ≡ Some m) × (found.1 ≡ address - m.base_avma)) }
     {
         let index = self.place_behind(address).checked_sub(1)?;
         let relative_address = self.modules[index].relative_address(address)?;

@@ -141,7 +141,10 @@ fn answers_the_same_over_any_caches(rt: HostRuntime) -> Result<(), Fail> {
                 write!(steps, "{:x} {:x} {:x} ", regs.lr(), regs.sp(), regs.fp())?;
             }
         }
-        assert_eq!(rt; steps.as_str(), "100200 30 40 100200 30 40 100200 30 40 100200 30 40 ");
+        assert_eq!(rt;
+            steps.as_str(),
+            "100200 30 40 100200 30 40 100200 30 40 100200 30 40 "
+        );
         assert_eq!(rt; generations.next(), Some(4));
     }
     Ok(())

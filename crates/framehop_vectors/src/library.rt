@@ -1,9 +1,7 @@
 use crate::sections::NoSections;
 use framehop::aarch64::{CacheAarch64, UnwindRegsAarch64, UnwinderAarch64};
 use framehop::unwinder::{Module, ModuleListError, Unwinder};
-use framehop::{
-    FrameAddress, Generations, MayAllocateDuringUnwind, MustNotAllocateDuringUnwind,
-};
+use framehop::{FrameAddress, Generations, MayAllocateDuringUnwind, MustNotAllocateDuringUnwind};
 use std::alloc::Global;
 use std::test::Fail;
 
@@ -54,14 +52,20 @@ fn walks_with_an_iterator(rt: HostRuntime) -> Result<(), Fail> {
     let mut read = |address| read_stack(address);
     let regs = UnwindRegsAarch64::new(0x1004e0830, 0x10, 0x20);
     let mut frames = unwinder.iter_frames(0x1005252c0, regs, &mut cache, &mut read);
-    assert_eq!(rt; frames.next()?, Some(FrameAddress::from_instruction_pointer(0x1005252c0)));
+    assert_eq!(rt;
+        frames.next()?,
+        Some(FrameAddress::from_instruction_pointer(0x1005252c0))
+    );
     for caller in [0x1004fcdc4, 0x100528a28] {
         assert_eq!(rt; frames.next()?, FrameAddress::from_return_address(caller));
     }
     assert_eq!(rt; frames.next()?, None);
     assert_eq!(rt; frames.next()?, None);
     let regs = *frames.regs();
-    assert_eq!(rt; (regs.lr(), regs.sp(), regs.fp()), (0x100528a28, 0x50, 0x70));
+    assert_eq!(rt;
+        (regs.lr(), regs.sp(), regs.fp()),
+        (0x100528a28, 0x50, 0x70)
+    );
     drop(frames);
     assert_eq!(rt; (cache.stats().hits(), cache.stats().misses()), (0, 3));
     Ok(())
@@ -72,8 +76,10 @@ fn steps_where_no_memory_may_be_taken(rt: HostRuntime) -> Result<(), Fail> {
     let alloc = rt.alloc();
     let mut generations = Generations::new();
     let mut cache = CacheAarch64::<MustNotAllocateDuringUnwind>::new_in(alloc)?;
-    let unwinder: UnwinderAarch64<Vec<u8>, MustNotAllocateDuringUnwind> =
-        UnwinderAarch64::new(alloc, &mut generations)?;
+    let unwinder: UnwinderAarch64<Vec<u8>, MustNotAllocateDuringUnwind> = UnwinderAarch64::new(
+        alloc,
+        &mut generations,
+    )?;
     let mut read = |address| read_stack(address);
     let place = FrameAddress::from_instruction_pointer(0x1005252c0);
     for hits in [0, 1] {
@@ -92,7 +98,11 @@ fn tells_the_greatest_code_address(rt: HostRuntime) -> Result<(), Fail> {
     let mut unwinder: UnwinderAarch64<Vec<u8>> = UnwinderAarch64::new(alloc, &mut generations)?;
     assert_eq!(rt; unwinder.max_known_code_address(), 0);
     for (start, end, greatest) in [(10, 20, 20), (40, 60, 60), (20, 30, 60), (10, 70, 70)] {
-        assert!(rt; unwinder.add_module(module(alloc, "m", start, end)?, &mut generations).is_ok());
+        assert!(rt;
+            unwinder
+                .add_module(module(alloc, "m", start, end)?, &mut generations)
+                .is_ok()
+        );
         assert_eq!(rt; unwinder.max_known_code_address(), greatest);
     }
     // the last one that starts at 10 is the one that ends at 70
@@ -119,10 +129,17 @@ fn gives_a_module_back_at_the_end_of_the_counter(rt: HostRuntime) -> Result<(), 
         }
     }
     assert_eq!(rt; unwinder.max_known_code_address(), 0);
-    assert!(rt; unwinder.remove_module(0x1003fc000, &mut generations).is_ok());
+    assert!(rt;
+        unwinder
+            .remove_module(0x1003fc000, &mut generations)
+            .is_ok()
+    );
     let mut read = |address| read_stack(address);
     let mut regs = UnwindRegsAarch64::new(0x1004e0830, 0x10, 0x20);
     let place = FrameAddress::from_instruction_pointer(0x1005252c0);
-    assert_eq!(rt; unwinder.unwind_frame(place, &mut regs, &mut cache, &mut read)?, Some(0x1004fcdc4));
+    assert_eq!(rt;
+        unwinder.unwind_frame(place, &mut regs, &mut cache, &mut read)?,
+        Some(0x1004fcdc4)
+    );
     Ok(())
 }

@@ -82,8 +82,14 @@ fn refuses_commands(rt: HostRuntime) -> Result<(), Fail> {
     for (commands, field) in [
         (r#"{"do":"clone"}"#, "bad field unwinder"),
         (r#"{"do":"clone","unwinder":0}"#, "no such unwinder"),
-        (r#"{"do":"remove","unwinder":0,"start":0}"#, "bad field start"),
-        (r#"{"do":"remove","unwinder":0,"start":"0"}"#, "no such unwinder"),
+        (
+            r#"{"do":"remove","unwinder":0,"start":0}"#,
+            "bad field start",
+        ),
+        (
+            r#"{"do":"remove","unwinder":0,"start":"0"}"#,
+            "no such unwinder",
+        ),
         (r#"{"do":"step","unwinder":0}"#, "bad field cache"),
         (
             r#"{"do":"step","unwinder":0,"cache":0,"kind":"pc","address":"1"}"#,

@@ -38,9 +38,9 @@ impl<D: SectionBytes + Drop, P: AllocationPolicy> UnwinderAarch64<D, P> {
     pub fn new(alloc: Global, generations: &mut Generations) -> Result<Self, ModuleListError>
         ensures { MatchResult result
             (λ made. (made ≡ record { modules = []; generation = generations.old })
-                × (generations.new ≡ generations.old + 1) × (generations.old < 2 ^ 64 - 1))
+            × (generations.new ≡ generations.old + 1) × (generations.old < 2 ^ 64 - 1))
             (λ error. (error ≡ ModuleListError.GenerationsExhausted)
-                × (generations.old ≡ 2 ^ 64 - 1) × (generations.new ≡ generations.old)) }
+            × (generations.old ≡ 2 ^ 64 - 1) × (generations.new ≡ generations.old)) }
     {
         Ok(UnwinderAarch64(UnwinderInternal::new(alloc, generations)?))
     }

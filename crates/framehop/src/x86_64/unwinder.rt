@@ -1,9 +1,9 @@
 ghost use Rattle.std.specs.Prelude.{◌≡◌, ◌+◌, ◌-◌, ◌^◌, ◌<◌, [], MatchResult};
 
-use crate::x86_64::cache::CacheX86_64;
 use crate::cache::{AllocationPolicy, MayAllocateDuringUnwind};
 use crate::generations::Generations;
 use crate::unwinder::{Module, ModuleListError, RefusedModule, Unwinder, UnwinderInternal};
+use crate::x86_64::cache::CacheX86_64;
 use framehop_cfi::section::SectionBytes;
 use framehop_core::x86_64::{ArchX86_64, UnwindRegsX86_64};
 use framehop_core::{Error, FrameAddress};
@@ -38,9 +38,9 @@ impl<D: SectionBytes + Drop, P: AllocationPolicy> UnwinderX86_64<D, P> {
     pub fn new(alloc: Global, generations: &mut Generations) -> Result<Self, ModuleListError>
         ensures { MatchResult result
             (λ made. (made ≡ record { modules = []; generation = generations.old })
-                × (generations.new ≡ generations.old + 1) × (generations.old < 2 ^ 64 - 1))
+            × (generations.new ≡ generations.old + 1) × (generations.old < 2 ^ 64 - 1))
             (λ error. (error ≡ ModuleListError.GenerationsExhausted)
-                × (generations.old ≡ 2 ^ 64 - 1) × (generations.new ≡ generations.old)) }
+            × (generations.old ≡ 2 ^ 64 - 1) × (generations.new ≡ generations.old)) }
     {
         Ok(UnwinderX86_64(UnwinderInternal::new(alloc, generations)?))
     }

@@ -17,8 +17,7 @@ loop-command-init g c =
     let made = c.in_ok-session.ensures.made in
     let room : Room g.row.A-UnwindRule.Denot = record { unwinders = c.in_ok-session.session.unwinders.items; next = c.args.generations.now; caches = c.in_ok-session.session.caches.items } in
     let same : room ≡ start = Room-equal room start made.0 refl made.1 in
-    let given : into_iter_items c.into_iter-command-iterator.result ≡ c.args.commands.items = search rules in
-    (
+    let given : into_iter_items c.into_iter-command-iterator.result ≡ c.args.commands.items = search rules in (
       subst (IsTransparent _ _) (sym same) (transparent-start g.row.A-UnwindRegs.Denot g.A.UnwindRule.UnwindRule.fallback c.args.cache_count c.args.generations.now),
       rw (c.new-replies.ensures.items, same, given) (Continues-start g.A.UnwindRule.UnwindRule.outcome g.A.UnwindRule.UnwindRule.fallback start c.args.commands.items),
       omega arith,
@@ -55,8 +54,7 @@ loop-command-preserved g c =
     let taken : into_iter_items c.loop-command.command-iterator ≡ c.in-Some.command ∷ into_iter_items c.next.new.self = search rules in
     let served = c.in_ok-reply.ensures.served old.0 in
     let pushed : c.push.new.self.items ≡ c.loop-command.replies.items ++ c.in_ok-reply.reply ∷ [] = search rules in
-    let here = subst (λ commands. Continues g.A.UnwindRule.UnwindRule.outcome g.A.UnwindRule.UnwindRule.fallback room (empty_room c.args.cache_count c.args.generations.now) (map reply_view c.loop-command.replies.items) commands c.args.commands.items) taken old.1 in
-    (
+    let here = subst (λ commands. Continues g.A.UnwindRule.UnwindRule.outcome g.A.UnwindRule.UnwindRule.fallback room (empty_room c.args.cache_count c.args.generations.now) (map reply_view c.loop-command.replies.items) commands c.args.commands.items) taken old.1 in (
       subst (IsTransparent _ _) (sym served.2) (transparent-after g.row.A-UnwindRegs.Denot g.A.UnwindRule.UnwindRule.fallback g.A.UnwindRule.UnwindRule.outcome room c.in-Some.command served.0 old.0),
       rw (pushed, map-append) (Continues-served g.A.UnwindRule.UnwindRule.outcome g.A.UnwindRule.UnwindRule.fallback room _ _ c.in-Some.command _ _ here _ (reply_view c.in_ok-reply.reply) served.0 served.1 served.2),
       omega arith,

@@ -11,6 +11,6 @@ invariant-loop-command g l =
     let room : Room g.row.A-UnwindRule.Denot = record { unwinders = l.session.unwinders.items; next = l.generations; caches = l.session.caches.items } in
     IsTransparent g.row.A-UnwindRegs.Denot g.A.UnwindRule.UnwindRule.fallback room
     × Continues g.A.UnwindRule.UnwindRule.outcome g.A.UnwindRule.UnwindRule.fallback room (empty_room l.cache_count l.fn.generations)
-        (map reply_view l.replies.items) (into_iter_items l.command-iterator) l.fn.commands.items
+    (map reply_view l.replies.items) (into_iter_items l.command-iterator) l.fn.commands.items
     × (l.fn.generations ≤ l.generations)
     × (into_iter_len l.command-iterator ≡ length (into_iter_items l.command-iterator))

@@ -9,12 +9,11 @@ returns-in-Ok-clause-served g c =
     let unwinders = c.args.self.now.unwinders.items in
     let within : c.args.unwinder < length unwinders = search rules in
     let target = get_or_read unwinders c.args.unwinder _ within c.index_mut-target.ensures.value (record { modules = []; generation = 0 }) in
-    let added = c.in-Ok.ensures.added in
-    (
+    let added = c.in-Ok.ensures.added in (
       adds-allowed {R = g.row.A-UnwindRule.Denot} (record { unwinders = unwinders; next = c.args.generations.now; caches = c.args.self.now.caches.items }) c.args.unwinder within added.2,
       refl,
       Room-equal _ _
-        (ap (slice_set unwinders c.args.unwinder) (added.0 ∙ ap (λ (u : UnwinderView). record { modules = with_module c.args.module u.modules; generation = c.args.generations.now }) target))
-        added.1
-        refl,
+          (ap (slice_set unwinders c.args.unwinder) (added.0 ∙ ap (λ (u : UnwinderView). record { modules = with_module c.args.module u.modules; generation = c.args.generations.now }) target))
+          added.1
+          refl,
     )

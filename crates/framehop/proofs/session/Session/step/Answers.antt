@@ -17,8 +17,7 @@ returns g c = λ next old.
     let shared = get_or_read caches c.args.cache _ in_caches c.index_mut-shared.ensures.value empty_cache in
     let sound = old.sound _ _ (Among-index unwinders c.args.unwinder (record { modules = []; generation = 0 }) within) (Among-index caches c.args.cache empty_cache in_caches) in
     let ran = rw stepper at (c.step_stack-result.ensures.answers (rw (stepper, shared) sound)) in
-    let cached = rw (stepper, shared) at c.step_stack-result.ensures.cached in
-    (
+    let cached = rw (stepper, shared) at c.step_stack-result.ensures.cached in (
       walks-allowed room c.args.unwinder c.args.cache within in_caches,
       λ i. of_world (stepped (ran.0 i) (ran.1 i)),
       Room-equal _ _ refl refl (ap (slice_set caches c.args.cache) cached),

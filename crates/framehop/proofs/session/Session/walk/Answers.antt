@@ -16,8 +16,7 @@ returns g c = λ next old.
     let walker = get_or_read unwinders c.args.unwinder _ within c.index-walker.ensures (record { modules = []; generation = 0 }) in
     let shared = get_or_read caches c.args.cache _ in_caches c.index_mut-shared.ensures.value empty_cache in
     let sound = old.sound _ _ (Among-index unwinders c.args.unwinder (record { modules = []; generation = 0 }) within) (Among-index caches c.args.cache empty_cache in_caches) in
-    let walk = rw (walker, shared) at (c.in_ok-frames.ensures.answers (rw (walker, shared) sound)) in
-    (
+    let walk = rw (walker, shared) at (c.in_ok-frames.ensures.answers (rw (walker, shared) sound)) in (
       walks-allowed room c.args.unwinder c.args.cache within in_caches,
       ap (λ w. of_world (walked w)) walk.0,
       Room-equal _ _ refl refl (ap (slice_set caches c.args.cache) walk.1),
