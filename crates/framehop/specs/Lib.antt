@@ -7,6 +7,7 @@ pub mod Fresh
 pub mod Walk
 pub mod Soundness
 pub mod Iterator
+pub mod UnwindIterator
 pub mod World
 pub mod Room
 pub mod SessionView

@@ -1,7 +1,8 @@
 //! Lists of commands over unwinders that share caches.
 ghost use Rattle.std.specs.Prelude.{◌≡◌, ◌≢◌, ◌≤◌, ℕ, [], replicate, IfOk, IfErr};
 ghost use Rattle.framehop.specs.Memory.{Memory as StackMemory, AnswersAs, reply};
-ghost use Rattle.framehop.specs.Iterator.{progress_of, walk_on, cache_on};
+ghost use Rattle.framehop.specs.Iterator.{walk_on, cache_on};
+ghost use Rattle.framehop.specs.UnwindIterator.{unwinder_of, progress_in, regs_of, cache_of, read_stack_of};
 ghost use Rattle.framehop.specs.SessionView.{walk_of, result_view, reply_view};
 ghost use Rattle.framehop.specs.World.{memory_of, empty_world, world_replies};
 ghost use Rattle.framehop.specs.Walk.{walk_from, cache_after_walk};
@@ -159,20 +160,20 @@ fn next_frames<U: Unwinder, F: FnMut(u64) -> Result<u64, ()>>(
     unwinding: &mut UnwindIterator<'_, '_, '_, U, F>,
     limit: u32,
 ) -> Result<(Vec<FrameAddress>, WalkEnd), SessionError>
-    requires { F.IsAlwaysCallable unwinding.old.read_stack.now }
-    ensures callable { F.IsAlwaysCallable unwinding.new.read_stack.now }
-    ensures same_unwinder { unwinding.new.unwinder ≡ unwinding.old.unwinder }
-    ensures same_cache { unwinding.new.cache.ghost_name ≡ unwinding.old.cache.ghost_name }
-    ensures same_callback { unwinding.new.read_stack.ghost_name ≡ unwinding.old.read_stack.ghost_name }
+    requires { F.IsAlwaysCallable (read_stack_of unwinding.old).now }
+    ensures callable { F.IsAlwaysCallable (read_stack_of unwinding.new).now }
+    ensures same_unwinder { unwinder_of unwinding.new ≡ unwinder_of unwinding.old }
+    ensures same_cache { (cache_of unwinding.new).ghost_name ≡ (cache_of unwinding.old).ghost_name }
+    ensures same_callback { (read_stack_of unwinding.new).ghost_name ≡ (read_stack_of unwinding.old).ghost_name }
     ensures refused { IfErr result (λ error. error ≡ SessionError.OutOfMemory) }
-    ensures answers { (memory : StackMemory) → AnswersAs F.FnMut unwinding.old.read_stack.now memory
-        → U.is_sound unwinding.old.unwinder.now unwinding.old.cache.now
+    ensures answers { (memory : StackMemory) → AnswersAs F.FnMut (read_stack_of unwinding.old).now memory
+        → U.is_sound (unwinder_of unwinding.old).now (cache_of unwinding.old).now
         → IfOk result (λ walk.
-        let step : Place → U.UnwindRegs → Outcome U.UnwindRegs = λ place regs. U.step unwinding.old.unwinder.now place regs memory in
-        (walk_of walk.0.items walk.1 unwinding.new.regs
-        ≡ walk_on step limit (progress_of unwinding.old.state) unwinding.old.regs)
-        × (unwinding.new.cache.now
-        ≡ cache_on step (U.cache_after unwinding.old.unwinder.now) limit (progress_of unwinding.old.state) unwinding.old.regs unwinding.old.cache.now)) }
+        let step : Place → U.UnwindRegs → Outcome U.UnwindRegs = λ place regs. U.step (unwinder_of unwinding.old).now place regs memory in
+        (walk_of walk.0.items walk.1 (regs_of unwinding.new)
+        ≡ walk_on step limit (progress_in unwinding.old) (regs_of unwinding.old))
+        × ((cache_of unwinding.new).now
+        ≡ cache_on step (U.cache_after (unwinder_of unwinding.old).now) limit (progress_in unwinding.old) (regs_of unwinding.old) (cache_of unwinding.old).now)) }
 {
     let mut frames = Vec::new(alloc);
     for _call in 0..limit {

@@ -2,7 +2,8 @@ ghost use Rattle.std.specs.Prelude.{◌≡◌, ◌≢◌, ℕ, ◌+◌, ◌-◌,
 ghost use Rattle.framehop.specs.Memory.{Memory, AnswersAs};
 ghost use Rattle.framehop.specs.Outcome.{Outcome, answer_of, registers_after};
 ghost use Rattle.framehop.specs.CodeAddress.{Place, place_of, is_first_frame};
-ghost use Rattle.framehop.specs.Iterator.{progress_of, before};
+ghost use Rattle.framehop.specs.Iterator.{before};
+ghost use Rattle.framehop.specs.UnwindIterator.{unwinder_of, progress_in, regs_of, cache_of, read_stack_of};
 ghost use Rattle.framehop.specs.Fresh.{fresh, by_rule};
 ghost use Rattle.framehop.specs.Cache.{found, counted, ways};
 ghost use Rattle.framehop.specs.CacheResult.{result_of, HitRuns};
@@ -155,11 +156,11 @@ pub trait Unwinder: Clone {
     ) -> UnwindIterator<'u, 'c, 'r, Self, F>
     where
         F: FnMut(u64) -> Result<u64, ()>,
-        ensures progress { progress_of result.state ≡ before pc }
-        ensures unwinder { result.unwinder.now ≡ self.entry.now }
-        ensures regs { result.regs ≡ regs }
-        ensures cache { result.cache ≡ cache.entry }
-        ensures read_stack { result.read_stack ≡ read_stack.entry }
+        ensures progress { progress_in result ≡ before pc }
+        ensures unwinder { (unwinder_of result).now ≡ self.entry.now }
+        ensures regs { regs_of result ≡ regs }
+        ensures cache { cache_of result ≡ cache.entry }
+        ensures read_stack { read_stack_of result ≡ read_stack.entry }
     {
         UnwindIterator::new(self, pc, regs, cache, read_stack)
     }
@@ -184,11 +185,12 @@ pub struct UnwindIterator<'u, 'c, 'r, U: Unwinder, F: FnMut(u64) -> Result<u64, 
 
 impl<U: Unwinder, F: FnMut(u64) -> Result<u64, ()>> Drop for UnwindIterator<'_, '_, '_, U, F> {
     ghost use Rattle.std.specs.Prelude.{◌≡◌};
+    ghost use Rattle.framehop.specs.UnwindIterator.{cache_of, read_stack_of};
 
     // the cache and the callback stay as the last call left them
     fn drop(self)
-        ensures cache { self.exit.1.1.1.0.now ≡ self.entry.cache.now }
-        ensures read_stack { self.exit.1.1.1.1.0.now ≡ self.entry.read_stack.now }
+        ensures cache { self.exit.1.1.1.0.now ≡ (cache_of self.entry).now }
+        ensures read_stack { self.exit.1.1.1.1.0.now ≡ (read_stack_of self.entry).now }
     {
         let UnwindIterator {
             unwinder: _,
@@ -209,7 +211,8 @@ enum UnwindIteratorState {
 
 impl<'u, 'c, 'r, U: Unwinder, F: FnMut(u64) -> Result<u64, ()>> UnwindIterator<'u, 'c, 'r, U, F> {
     ghost use Rattle.std.specs.Prelude.{◌≡◌};
-    ghost use Rattle.framehop.specs.Iterator.{progress_of, before};
+    ghost use Rattle.framehop.specs.Iterator.{before};
+    ghost use Rattle.framehop.specs.UnwindIterator.{unwinder_of, progress_in, regs_of, cache_of, read_stack_of};
 
     /// An iterator from the instruction pointer (AVMA) on. [`Unwinder::iter_frames`] is the usual
     /// way to make one.
@@ -220,11 +223,11 @@ impl<'u, 'c, 'r, U: Unwinder, F: FnMut(u64) -> Result<u64, ()>> UnwindIterator<'
         cache: &'c mut U::Cache,
         read_stack: &'r mut F,
     ) -> Self
-        ensures progress { progress_of result.state ≡ before pc }
-        ensures unwinder { result.unwinder.now ≡ unwinder.entry.now }
-        ensures regs { result.regs ≡ regs }
-        ensures cache { result.cache ≡ cache.entry }
-        ensures read_stack { result.read_stack ≡ read_stack.entry }
+        ensures progress { progress_in result ≡ before pc }
+        ensures unwinder { (unwinder_of result).now ≡ unwinder.entry.now }
+        ensures regs { regs_of result ≡ regs }
+        ensures cache { cache_of result ≡ cache.entry }
+        ensures read_stack { read_stack_of result ≡ read_stack.entry }
     {
         UnwindIterator {
             unwinder,
@@ -238,7 +241,8 @@ impl<'u, 'c, 'r, U: Unwinder, F: FnMut(u64) -> Result<u64, ()>> UnwindIterator<'
 
 impl<U: Unwinder, F: FnMut(u64) -> Result<u64, ()>> UnwindIterator<'_, '_, '_, U, F> {
     ghost use Rattle.std.specs.Prelude.{◌≡◌, Result, Ok, Err, OnErr, OnOk};
-    ghost use Rattle.framehop.specs.Iterator.{progress_of, place_answer, next_of, cache_after_next};
+    ghost use Rattle.framehop.specs.Iterator.{place_answer, next_of, cache_after_next};
+    ghost use Rattle.framehop.specs.UnwindIterator.{unwinder_of, progress_in, regs_of, cache_of, read_stack_of};
     ghost use Rattle.framehop.specs.Memory.{Memory, AnswersAs};
 
     /// The next frame: the instruction pointer, then return addresses, and `Ok(None)` from the
@@ -246,19 +250,19 @@ impl<U: Unwinder, F: FnMut(u64) -> Result<u64, ()>> UnwindIterator<'_, '_, '_, U
     /// `ReturnAddressIsNull`, and the registers are the caller's by then.
     #[allow(clippy::should_implement_trait)]
     pub fn next(&mut self) -> Result<Option<FrameAddress>, Error>
-        requires { F.IsAlwaysCallable self.old.read_stack.now }
-        ensures callable { F.IsAlwaysCallable self.new.read_stack.now }
-        ensures same_unwinder { self.new.unwinder ≡ self.old.unwinder }
-        ensures same_cache { self.new.cache.ghost_name ≡ self.old.cache.ghost_name }
-        ensures same_callback { self.new.read_stack.ghost_name ≡ self.old.read_stack.ghost_name }
+        requires { F.IsAlwaysCallable (read_stack_of self.old).now }
+        ensures callable { F.IsAlwaysCallable (read_stack_of self.new).now }
+        ensures same_unwinder { unwinder_of self.new ≡ unwinder_of self.old }
+        ensures same_cache { (cache_of self.new).ghost_name ≡ (cache_of self.old).ghost_name }
+        ensures same_callback { (read_stack_of self.new).ghost_name ≡ (read_stack_of self.old).ghost_name }
         ensures no_memory_taken { result ≢ Err Error.OutOfMemory }
-        ensures cached { self.new.cache.now ≡ cache_after_next (U.cache_after self.old.unwinder.now) (progress_of self.old.state) self.old.cache.now }
-        ensures answers { (memory : Memory) → AnswersAs F.FnMut self.old.read_stack.now memory
-            → U.is_sound self.old.unwinder.now self.old.cache.now
-            → let next = next_of (λ place regs. U.step self.old.unwinder.now place regs memory) (progress_of self.old.state) self.old.regs in
-            AnswersAs F.FnMut self.new.read_stack.now memory
-            × U.is_sound self.new.unwinder.now self.new.cache.now
-            × (place_answer result ≡ next.answer) × (progress_of self.new.state ≡ next.progress) × (self.new.regs ≡ next.regs) }
+        ensures cached { (cache_of self.new).now ≡ cache_after_next (U.cache_after (unwinder_of self.old).now) (progress_in self.old) (cache_of self.old).now }
+        ensures answers { (memory : Memory) → AnswersAs F.FnMut (read_stack_of self.old).now memory
+            → U.is_sound (unwinder_of self.old).now (cache_of self.old).now
+            → let next = next_of (λ place regs. U.step (unwinder_of self.old).now place regs memory) (progress_in self.old) (regs_of self.old) in
+            AnswersAs F.FnMut (read_stack_of self.new).now memory
+            × U.is_sound (unwinder_of self.new).now (cache_of self.new).now
+            × (place_answer result ≡ next.answer) × (progress_in self.new ≡ next.progress) × (regs_of self.new ≡ next.regs) }
     {
         let next = match self.state {
             UnwindIteratorState::Initial(pc) => {
@@ -288,7 +292,7 @@ impl<U: Unwinder, F: FnMut(u64) -> Result<u64, ()>> UnwindIterator<'_, '_, '_, U
 
     /// The registers of the frame at which the iterator stands.
     pub fn regs(&self) -> &U::UnwindRegs
-        ensures { result.now ≡ self.now.regs }
+        ensures { result.now ≡ regs_of self.now }
     {
         &self.regs
     }
