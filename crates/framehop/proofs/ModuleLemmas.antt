@@ -1,7 +1,7 @@
 -- The modules in order of start, around the place of an address.
-use Rattle.std.proofs.Common.{◌≡◌, ℕ, zero, suc, ◌+◌, ◌-◌, ◌<◌, ◌≤◌, Bool, true, false, not, cond, List, [], ◌∷◌, length, take, drop, filter, slice_index_or, Option, Some, None, refl, ap, sym, ◌∙◌, arith, length-take, insert, remove, leb-true, leb-false, eq-eqb, ne_eqb, ◌==◌, ◌||◌, ⊎_elim}
+use Rattle.std.proofs.Common.{◌≡◌, ℕ, zero, suc, ◌+◌, ◌-◌, ◌<◌, ◌≤◌, Bool, true, false, not, List, [], ◌∷◌, length, take, drop, filter, slice_index_or, refl, ap, sym, ◌∙◌, arith, length-take, insert, remove, leb-true, leb-false, eq-eqb, ne_eqb, ◌==◌, ◌||◌, ⊎_elim}
 use Rattle.std.proofs.lemmas.Bool.{cases_lt}
-use Rattle.std.specs.List.{slice_get, AllWithin}
+use Rattle.std.specs.List.{slice_get}
 use Rattle.std.specs.List.Sorted.{IsPartitionPoint}
 use Rattle.std.proofs.lemmas.List.Sorted.{IsNonDecreasingBy-insert}
 use Rattle.framehop.specs.Modules.{ModuleView, AreInOrder, last_of, has_start, without_module, starts_by, starting_by, starting_above}

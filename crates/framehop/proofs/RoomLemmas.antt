@@ -1,12 +1,12 @@
 -- A room stays transparent through each command, and its replies are the world's.
-use Rattle.std.proofs.Common.{◌≡◌, ℕ, zero, suc, ◌+◌, ◌-◌, ◌*◌, ◌^◌, ◌<◌, ◌≤◌, Bool, true, false, cond, ◌==◌, ◌⊎◌, List, [], ◌∷◌, ◌++◌, map, length, replicate, slice_index_or, slice_set, Option, Some, None, Result, Ok, Err, refl, sym, ap, ◌∙◌, subst, inl, inr, ⊎_elim, arith, nat_lt, ltb-true, lt-ltb, ne_eqb, eq-eqb}
+use Rattle.std.proofs.Common.{◌≡◌, ℕ, zero, suc, ◌+◌, ◌-◌, ◌^◌, ◌<◌, ◌≤◌, Bool, true, false, cond, ◌==◌, ◌⊎◌, List, [], ◌∷◌, ◌++◌, map, length, replicate, slice_index_or, slice_set, Option, Some, None, refl, sym, ap, ◌∙◌, subst, inl, inr, ⊎_elim, arith, nat_lt, ltb-true, lt-ltb, ne_eqb, eq-eqb}
 use Rattle.std.proofs.lemmas.List.{length-map}
 use Rattle.framehop_core.specs.Memory.{Memory}
 use Rattle.framehop_core.specs.Outcome.{Outcome, answered, root, refused}
 use Rattle.framehop_core.specs.CodeAddress.{Place, place_of, at_instruction_pointer, at_return_address}
 use Rattle.framehop.specs.Cache.{Entry, CacheView, Sets, empty_cache}
-use Rattle.framehop.specs.Modules.{ModuleView, UnwinderView, with_module, has_start, without_module}
-use Rattle.framehop.specs.Soundness.{Among, Stands, IsFresh, IsSound, Extends, cache_after}
+use Rattle.framehop.specs.Modules.{UnwinderView, with_module, has_start, without_module}
+use Rattle.framehop.specs.Soundness.{Among, Stands, IsSound, Extends, cache_after}
 use Rattle.framehop.specs.Walk.{onward_cache, cache_after_callers, cache_after_walk}
 use Rattle.framehop.specs.Room.{Room, empty_room, world_of, unwinder_at, cache_at, step_of, room_after}
 use Rattle.framehop.specs.Transparent.{IsTransparent}

@@ -1,5 +1,5 @@
 -- A session, one command at a time.
-use Rattle.std.proofs.Common.{◌≡◌, ℕ, Bool, List, [], ◌∷◌, ◌++◌, Option, Some, None, Result, Ok, Err, refl, sym, ap, ◌∙◌, append_assoc, length, replicate}
+use Rattle.std.proofs.Common.{◌≡◌, Bool, List, [], ◌∷◌, ◌++◌, Some, None, Result, Ok, Err, refl, sym, ap, ◌∙◌, append_assoc, length}
 use Rattle.std.proofs.lemmas.List.{append-nil}
 use Rattle.framehop_core.specs.Memory.{Memory}
 use Rattle.framehop_core.specs.Outcome.{Outcome}

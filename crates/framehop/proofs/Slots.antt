@@ -1,8 +1,6 @@
 -- The slots of the cache, seen as sets.
-use Rattle.std.proofs.Common.{◌≡◌, ℕ, zero, suc, List, [], ◌∷◌, map, Option, Some, None, refl, ap, sym, ◌∙◌, slice_index_or, slice_set, Bool, true, replicate}
-use Rattle.std.specs.List.{slice_get}
-use Rattle.framehop.specs.Cache.{Entry, inserted, set_number}
-use Rattle.framehop.specs.CacheEntry.{entry_of, set_of_slot}
+use Rattle.std.proofs.Common.{◌≡◌, ℕ, zero, suc, List, [], ◌∷◌, map, Option, None, refl, ap, slice_index_or, slice_set}
+use Rattle.framehop.specs.CacheEntry.{set_of_slot}
 use Rattle.framehop.specs.declared.rule_cache.CacheEntry.{CacheEntry}
 
 -- the set at a slot

@@ -1,10 +1,10 @@
 -- A walk, one call of the iterator at a time.
-use Rattle.std.proofs.Common.{◌≡◌, ℕ, zero, suc, Bool, true, false, cond, ◌==◌, List, [], ◌∷◌, ◌++◌, Option, Some, None, Result, Ok, Err, refl, sym, ap, ◌∙◌, append_assoc, append-nil, subst}
+use Rattle.std.proofs.Common.{◌≡◌, ℕ, suc, Bool, true, false, cond, ◌==◌, List, [], ◌∷◌, ◌++◌, Option, Some, None, Result, Ok, Err, refl, sym, ap, ◌∙◌, append_assoc, append-nil, subst}
 use Rattle.framehop_core.specs.Outcome.{Outcome, answered, root, refused}
-use Rattle.framehop_core.specs.CodeAddress.{Place, at_instruction_pointer, at_return_address}
+use Rattle.framehop_core.specs.CodeAddress.{Place, at_return_address}
 use Rattle.framehop_core.specs.declared.error.Error.{Error}
 use Rattle.framehop_core.specs.declared.error.Error.TheVariants.{ReturnAddressIsNull}
-use Rattle.framehop.specs.Walk.{Walk, End, at_root, at_refusal, at_limit, frame_before, onward, onward_cache, callers, walk_from, cache_after_callers, cache_after_walk}
+use Rattle.framehop.specs.Walk.{Walk, at_root, at_refusal, at_limit, frame_before, onward, onward_cache, callers, walk_from, cache_after_callers, cache_after_walk}
 use Rattle.framehop.specs.Iterator.{Progress, before, at_frame, at_end, Next, next_of, next_after, walk_on, cache_on, cache_after_next}
 
 -- the frames so far before a walk

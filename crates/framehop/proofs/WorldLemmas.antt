@@ -1,16 +1,16 @@
 -- The replies of a room, without the counts of its caches, are those of the world.
-use Rattle.std.proofs.Common.{◌≡◌, ℕ, zero, suc, ◌+◌, ◌-◌, ◌^◌, Bool, true, false, cond, List, [], ◌∷◌, ◌++◌, map, length, slice_index_or, slice_set, Option, Some, None, Result, Ok, Err, refl, sym, ap, ◌∙◌, arith, length-set}
+use Rattle.std.proofs.Common.{◌≡◌, ℕ, zero, suc, ◌+◌, ◌-◌, ◌^◌, Bool, true, false, cond, List, [], ◌∷◌, ◌++◌, map, length, slice_set, Option, Some, None, Result, Ok, Err, refl, sym, ap, ◌∙◌, arith, length-set}
 use Rattle.std.proofs.Math.ListN.{length-replicate}
 use Rattle.std.proofs.lemmas.List.{length-map}
 use Rattle.framehop_core.specs.Memory.{Memory}
 use Rattle.framehop_core.specs.Outcome.{Outcome, answer_of, registers_after}
-use Rattle.framehop_core.specs.CodeAddress.{Place, place_of}
+use Rattle.framehop_core.specs.CodeAddress.{place_of}
 use Rattle.framehop.specs.Cache.{empty_cache}
 use Rattle.framehop.specs.Modules.{ModuleView, UnwinderView, with_module, has_start, without_module}
 use Rattle.framehop.specs.Fresh.{step}
 use Rattle.framehop.specs.Walk.{walk_from}
-use Rattle.framehop.specs.World.{World, WorldReply, made, done, stepped, walked, memory_of, refusal_of, unless_refused, reply_to, reply_before, world_after, world_replies, modules_of, empty_world}
-use Rattle.framehop.specs.Room.{Room, empty_room, RoomReply, of_world, counts, world_of, unwinder_at, step_of, room_reply, room_after, reply_then, room_replies, world_part, without_counts, world_result}
+use Rattle.framehop.specs.World.{World, WorldReply, made, done, stepped, walked, memory_of, refusal_of, unless_refused, reply_to, reply_before, world_after, world_replies, empty_world}
+use Rattle.framehop.specs.Room.{Room, empty_room, RoomReply, of_world, counts, world_of, unwinder_at, room_reply, room_after, reply_then, room_replies, without_counts, world_result}
 use Rattle.framehop.specs.declared.session.Command.{Command}
 use Rattle.framehop.specs.declared.session.Command.TheVariants.{New, Clone, Add, Remove, Step as StepCommand, Walk as WalkCommand, Stats}
 use Rattle.framehop.specs.declared.session.SessionError.{SessionError}

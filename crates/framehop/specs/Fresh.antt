@@ -1,10 +1,8 @@
 -- What unwinding gives where nothing is cached: the bytes of the loaded modules, read afresh.
-use Rattle.std.specs.Prelude.{ℕ, zero, suc, ◌-◌, Bool, if◌then◌else◌, ◌==◌, List, [], ◌∷◌, Option, Some, None, option_and_then, unwrap_or}
+use Rattle.std.specs.Prelude.{ℕ, ◌-◌, Bool, List, Option, Some, None, option_and_then, unwrap_or}
 use Rattle.framehop_core.specs.Memory.{Memory}
-use Rattle.framehop_core.specs.Outcome.{Outcome, answered, root, refused}
-use Rattle.framehop_core.specs.CodeAddress.{Place, at_instruction_pointer, at_return_address, lookup_address, is_first_frame}
-use Rattle.framehop_core.specs.declared.error.Error.{Error}
-use Rattle.framehop_core.specs.declared.error.Error.TheVariants.{ReturnAddressIsNull}
+use Rattle.framehop_core.specs.Outcome.{Outcome, answered}
+use Rattle.framehop_core.specs.CodeAddress.{Place, lookup_address, is_first_frame}
 use Rattle.framehop.specs.Modules.{ModuleView, UnwindData, no_unwind_data, covering}
 
 -- What modules give for an address: a rule, or values computed from registers and memory (a return address and the

@@ -1,5 +1,5 @@
 -- The frames of a stack, one at a time.
-use Rattle.framehop.specs.Walk.{Walk, End, at_root, at_refusal, at_limit, callers, walk_from, cache_after_callers, cache_after_walk}
+use Rattle.framehop.specs.Walk.{Walk, End, at_root, at_limit, callers, walk_from, cache_after_callers, cache_after_walk}
 use Rattle.std.specs.Prelude.{ℕ, zero, suc, [], if◌then◌else◌, ◌==◌, Option, Some, None, Result, Ok, Err}
 use Rattle.framehop_core.specs.Outcome.{Outcome, answered, root, refused}
 use Rattle.framehop_core.specs.CodeAddress.{Place, at_instruction_pointer, at_return_address, place_of}

@@ -4,7 +4,7 @@ use Rattle.framehop_core.specs.Memory.{Memory}
 use Rattle.framehop_core.specs.Outcome.{Outcome, answer_of, registers_after}
 use Rattle.framehop_core.specs.CodeAddress.{Place, place_of}
 use Rattle.framehop.specs.Cache.{CacheView, empty_cache}
-use Rattle.framehop.specs.Modules.{ModuleView, UnwinderView, with_module, has_start, without_module}
+use Rattle.framehop.specs.Modules.{UnwinderView, with_module, has_start, without_module}
 use Rattle.framehop.specs.Fresh.{step}
 use Rattle.framehop.specs.Soundness.{cache_after}
 use Rattle.framehop.specs.Walk.{walk_from, cache_after_walk}

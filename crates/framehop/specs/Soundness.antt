@@ -1,5 +1,5 @@
 -- When a cache that other steps have filled changes no answer.
-use Rattle.std.specs.Prelude.{◌≡◌, ℕ, ◌⊎◌, List, [], ◌∷◌}
+use Rattle.std.specs.Prelude.{◌≡◌, ◌⊎◌, List, [], ◌∷◌}
 use Rattle.framehop_core.specs.CodeAddress.{Place, lookup_address, is_first_frame}
 use Rattle.framehop.specs.Cache.{Key, Entry, Sets, CacheView, Found, hit, empty_slot, wrong_modules, wrong_address, found, counted, inserted, ways}
 use Rattle.framehop.specs.Fresh.{Fresh, by_rule, direct, fresh}

@@ -1,5 +1,5 @@
 -- Why the caches that unwinders share change no reply.
-use Rattle.std.specs.Prelude.{◌≡◌, ◌≢◌, ℕ, Bool, ◌<◌, length, Option, Some, None, Result, MatchResult}
+use Rattle.std.specs.Prelude.{◌≡◌, ◌≢◌, Bool, ◌<◌, length, Some, None, Result, MatchResult}
 use Rattle.framehop_core.specs.Memory.{Memory}
 use Rattle.framehop_core.specs.Outcome.{Outcome}
 use Rattle.framehop.specs.Cache.{Entry, CacheView}

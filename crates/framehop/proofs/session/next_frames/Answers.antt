@@ -1,8 +1,8 @@
-use Rattle.std.proofs.Common.{◌≡◌, ◌+◌, ◌-◌, suc, [], ◌∷◌, ◌++◌, map, Option, Some, None, Result, Ok, Err, refl, sym, ap, ◌∙◌, subst, arith, rules}
+use Rattle.std.proofs.Common.{◌≡◌, ◌+◌, ◌-◌, [], ◌∷◌, ◌++◌, map, Ok, sym, ap, ◌∙◌, arith, rules}
 use Rattle.std.proofs.lemmas.List.{map-append}
 use Rattle.framehop.specs.CodeAddress.{place_of}
 use Rattle.framehop.specs.Iterator.{place_answer, place_option, progress_of}
-use Rattle.framehop.proofs.WalkLemmas.{WalksOn, WalksOn-frame, WalksOn-root, WalksOn-refused, WalksOn-limit}
+use Rattle.framehop.proofs.WalkLemmas.{WalksOn-frame, WalksOn-root, WalksOn-refused, WalksOn-limit}
 use Rattle.framehop.proofs.session.next_frames.Goals as goal
 
 pub returns-in-Ok-None-clause-answers : goal.returns-in-Ok-None-clause-answers

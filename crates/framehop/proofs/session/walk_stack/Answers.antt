@@ -1,4 +1,4 @@
-use Rattle.std.proofs.Common.{◌≡◌, ap, sym, ◌∙◌, rules}
+use Rattle.std.proofs.Common.{ap, ◌∙◌, rules}
 use Rattle.framehop.specs.World.{memory_of}
 use Rattle.framehop.specs.SessionView.{walk_of}
 use Rattle.framehop_core.proofs.Callback.{AnswersAs-unchanged}

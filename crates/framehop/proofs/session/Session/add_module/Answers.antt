@@ -1,4 +1,4 @@
-use Rattle.std.proofs.Common.{◌≡◌, ◌<◌, [], length, refl, ap, sym, ◌∙◌, arith, rules, slice_set}
+use Rattle.std.proofs.Common.{◌<◌, [], length, refl, ap, ◌∙◌, rules, slice_set}
 use Rattle.std.proofs.lemmas.List.{get_or_read}
 use Rattle.framehop.specs.Modules.{UnwinderView, with_module}
 use Rattle.framehop.proofs.RoomLemmas.{adds-allowed, Room-equal}

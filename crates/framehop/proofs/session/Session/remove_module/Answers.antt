@@ -1,4 +1,4 @@
-use Rattle.std.proofs.Common.{◌≡◌, ◌<◌, ◌≤◌, ◌∙◌, [], length, refl, sym, arith, rules}
+use Rattle.std.proofs.Common.{◌<◌, [], length, refl, arith, rules}
 use Rattle.std.proofs.lemmas.List.{get_or_read}
 use Rattle.framehop.specs.Room.{Room}
 use Rattle.framehop.proofs.RoomLemmas.{removal-served, removal-drawn, removal-exhausted}

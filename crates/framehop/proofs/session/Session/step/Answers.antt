@@ -1,4 +1,4 @@
-use Rattle.std.proofs.Common.{◌≡◌, ◌<◌, [], length, refl, ap, sym, ◌∙◌, rules, slice_set}
+use Rattle.std.proofs.Common.{◌<◌, [], length, refl, ap, rules, slice_set}
 use Rattle.std.proofs.lemmas.List.{get_or_read}
 use Rattle.framehop.specs.Cache.{empty_cache}
 use Rattle.framehop.specs.World.{stepped}

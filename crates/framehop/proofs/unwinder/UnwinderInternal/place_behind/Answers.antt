@@ -1,7 +1,6 @@
-use Rattle.std.proofs.Common.{◌≡◌, true, false, rules, sym, subst, ap, ◌∙◌}
-use Rattle.std.specs.List.Sorted.{IsPartitionPoint}
+use Rattle.std.proofs.Common.{◌≡◌, rules}
 use Rattle.std.proofs.lemmas.List.Sorted.{IsPartitionPoint-from_clause, IsPartitionedBy-leb}
-use Rattle.framehop.specs.Modules.{UnwinderView, ModuleView, AreInOrder, starts_by}
+use Rattle.framehop.specs.Modules.{AreInOrder, starts_by}
 use Rattle.framehop.proofs.ModuleLemmas.{taken-starting_by, dropped-starting_above}
 use Rattle.framehop.proofs.unwinder.UnwinderInternal.place_behind.Goals as goal
 
