@@ -1,5 +1,5 @@
 -- The fields of a JSON object, each of one kind.
-use Rattle.std.specs.Prelude.{◌≡◌, ℕ, ◌≤◌, List, length, Option, Some, None, option_and_then}
+use Rattle.std.specs.Prelude.{◌≡◌, ℕ, ◌≤◌, List, length, Option, Some, option_and_then}
 use Rattle.serde_json.specs.Data.{Data, Items}
 use Rattle.serde_json.specs.Find.{get, as_number, as_str, as_array, as_u64}
 use Rattle.std.specs.Str.Parse.{IsNumeral, digits_value}

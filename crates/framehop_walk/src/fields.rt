@@ -9,6 +9,8 @@ ghost use Rattle.std.specs.Str.Parse.{IsNumeral, digits_value};
 use crate::refusal::Refusal;
 use serde_json::{Map, Value};
 
+const MAX_DIGITS: usize = 16;
+
 pub fn field<'v>(object: &'v Value, name: &'static str) -> Result<&'v Value, Refusal>
     ensures { MatchResult result
         (λ value. get name.entry.now (view object.entry.now) ≡ Some (view value.now))
@@ -77,7 +79,7 @@ pub fn hexadecimal(object: &Value, name: &'static str) -> Result<u64, Refusal>
     ensures { MatchResult result
         (λ number. IsAddressField name.entry.now (view object.now) number)
         (λ refusal. IsBadField name.entry.now refusal
-            × ((number : ℕ) → IsAddressField name.entry.now (view object.now) number → ⊥)) }
+        × ((number : ℕ) → IsAddressField name.entry.now (view object.now) number → ⊥)) }
 {
     match hexadecimal_value(field(object, name)?) {
         Some(number) => Ok(number),
@@ -113,7 +115,7 @@ fn parse_hexadecimal(digits: &str) -> Option<u64>
         (digits_value 16 digits.now) }
 {
     let bytes = digits.as_bytes();
-    if bytes.is_empty() || bytes.len() > 16 || bytes[0] == b'+' {
+    if bytes.is_empty() || bytes.len() > MAX_DIGITS || bytes[0] == b'+' {
         return None;
     }
     u64::from_str_radix(digits, 16).ok()
