@@ -2,7 +2,8 @@
 // name.
 ghost use Rattle.std.specs.Prelude.{◌≡◌, ◌≤◌, length, SomeIff, ℕ, MatchOption, MatchResult, Some, None};
 ghost use Rattle.serde_json.specs.Find.{get};
-ghost use Rattle.serde_json.specs.View.{view, items_view};
+ghost use Rattle.serde_json.specs.View.{view, items_view, members_view};
+ghost use Rattle.framehop_walk.specs.Numbers.{has_bad_number, any_bad_item, any_bad_member};
 ghost use Rattle.framehop_walk.specs.Fields.{IsBadField, text_field, list_field, count_field, IsAddress, IsAddressField};
 ghost use Rattle.std.specs.Str.Parse.{IsNumeral, digits_value};
 
@@ -123,19 +124,23 @@ fn parse_hexadecimal(digits: &str) -> Option<u64>
 
 /// Whether a number stands in the value, at any depth, that is not whole or does not fit 64 bits.
 #[cycle(has_bad_number)]
-pub fn has_bad_number(value: &Value) -> bool {
+pub fn has_bad_number(value: &Value) -> bool
+    ensures { result ≡ has_bad_number (view value.now) }
+{
     match value {
         Value::Null => false,
         Value::Bool(_) => false,
         Value::Number(number) => number.as_u64().is_none() && number.as_i64().is_none(),
         Value::String(_) => false,
-        Value::Array(items) => any_bad_number(items),
+        Value::Array(items) => any_bad_item(items),
         Value::Object(members) => any_bad_member(members),
     }
 }
 
 #[cycle(has_bad_number)]
-fn any_bad_number(items: &Vec<Value>) -> bool {
+fn any_bad_item(items: &Vec<Value>) -> bool
+    ensures { result ≡ any_bad_item (items_view items.now.items) }
+{
     for item in items {
         if has_bad_number(item) {
             return true;
@@ -145,7 +150,9 @@ fn any_bad_number(items: &Vec<Value>) -> bool {
 }
 
 #[cycle(has_bad_number)]
-fn any_bad_member(members: &Map<String, Value>) -> bool {
+fn any_bad_member(members: &Map<String, Value>) -> bool
+    ensures { result ≡ any_bad_member (members_view members.now.entries) }
+{
     for (_name, member) in members.iter() {
         if has_bad_number(member) {
             return true;
