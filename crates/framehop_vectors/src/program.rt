@@ -1,6 +1,3 @@
-ghost use Rattle.std.specs.Prelude.{◌≡◌, None};
-ghost use Rattle.std.specs.Io.{ReadsAtMost, WritesAtMost};
-
 use framehop_walk::{Output, Refusal, refuse, section_bytes, walk_program};
 use hex::FromHexError;
 use std::alloc::Global;

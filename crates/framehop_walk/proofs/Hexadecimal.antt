@@ -1,6 +1,9 @@
 -- Texts of at most sixteen hexadecimal digits.
-use Rattle.std.proofs.Common.{◌≡◌, ◌≢◌, ℕ, ◌<◌, ◌≤◌, ◌^◌, List, length, drop, get_or, cond, Result, Ok, Err, ap, subst, arith, inl, inr, SomeIff, lit<}
+use Rattle.std.proofs.Common.{◌≡◌, ◌≢◌, ℕ, ◌<◌, ◌≤◌, ◌^◌, List, length, drop, get_or, cond, Some, sym, ◌∙◌, Result, Ok, Err, ap, subst, arith, inl, inr, SomeIff, lit<}
 use Rattle.std.specs.Result.{OkIff, result_ok}
+use Rattle.serde_json.specs.Data.{Data}
+use Rattle.serde_json.specs.Find.{get}
+use Rattle.framehop_walk.specs.Fields.{IsAddress, IsAddressField}
 use Rattle.std.specs.Str.Parse.{IsNumeral, digits_value, without_leading_plus}
 use Rattle.std.proofs.Math.Nat.{pow-le-pow_right}
 use Rattle.std.proofs.lemmas.Int.Digits.{digits_value-lt}
@@ -34,3 +37,13 @@ pub parsed-short : {E : Type 0} (digits : List ℕ) (result : Result ℕ E)
 parsed-short digits result parsed plain short =
     let P : List ℕ → Type 0 = λ ds. OkIff result (IsNumeral 16 ds × (digits_value 16 ds < 2 ^ 64)) (digits_value 16 ds) in
     answer digits result (subst P (without_leading_plus-none digits plain) parsed) short
+
+some-same : (a b : Data) → Some a ≡ Some b → a ≡ b
+some-same a b same = cc
+
+-- a field whose value is no address
+pub address_field-none : (name : List ℕ) (fields value : Data) → get name fields ≡ Some value → ((number : ℕ) → IsAddress value number → ⊥)
+    → (number : ℕ) → IsAddressField name fields number → ⊥
+address_field-none name fields value stands none number field =
+    let same : field.value ≡ value = some-same field.value value (sym field.stands ∙ stands) in
+    none number (subst (λ v. IsAddress v number) same field.is_address)

@@ -1,23 +1,48 @@
 // Reads the fields of JSON objects. A field that is missing or of another kind is refused by its
 // name.
-ghost use Rattle.std.specs.Prelude.{◌≡◌, ◌≤◌, length, SomeIff};
+ghost use Rattle.std.specs.Prelude.{◌≡◌, ◌≤◌, length, SomeIff, ℕ, MatchOption, MatchResult, Some, None};
+ghost use Rattle.serde_json.specs.Find.{get};
+ghost use Rattle.serde_json.specs.View.{view, items_view, members_view};
+ghost use Rattle.framehop_walk.specs.Numbers.{has_bad_number, any_bad_item, any_bad_member};
+ghost use Rattle.framehop_walk.specs.Fields.{IsBadField, text_field, list_field, count_field, IsAddress, IsAddressField};
 ghost use Rattle.std.specs.Str.Parse.{IsNumeral, digits_value};
 
 use crate::refusal::Refusal;
 use serde_json::{Map, Value};
 
-pub fn field<'v>(object: &'v Value, name: &'static str) -> Result<&'v Value, Refusal> {
-    object.get(name).ok_or(Refusal::BadField(name))
+const MAX_DIGITS: usize = 16;
+
+pub fn field<'v>(object: &'v Value, name: &'static str) -> Result<&'v Value, Refusal>
+    ensures { MatchResult result
+        (λ value. get name.entry.now (view object.entry.now) ≡ Some (view value.now))
+        (λ refusal. IsBadField name.entry.now refusal × (get name.entry.now (view object.entry.now) ≡ None)) }
+{
+    match object.get(name) {
+        Some(value) => Ok(value),
+        None => Err(Refusal::BadField(name)),
+    }
 }
 
-pub fn text<'v>(object: &'v Value, name: &'static str) -> Result<&'v str, Refusal> {
-    field(object, name)?.as_str().ok_or(Refusal::BadField(name))
+pub fn text<'v>(object: &'v Value, name: &'static str) -> Result<&'v str, Refusal>
+    ensures { MatchResult result
+        (λ text. text_field name.entry.now (view object.entry.now) ≡ Some text.now)
+        (λ refusal. IsBadField name.entry.now refusal × (text_field name.entry.now (view object.entry.now) ≡ None)) }
+{
+    match field(object, name)?.as_str() {
+        Some(text) => Ok(text),
+        None => Err(Refusal::BadField(name)),
+    }
 }
 
-pub fn list<'v>(object: &'v Value, name: &'static str) -> Result<&'v Vec<Value>, Refusal> {
-    field(object, name)?
-        .as_array()
-        .ok_or(Refusal::BadField(name))
+pub fn list<'v>(object: &'v Value, name: &'static str) -> Result<&'v Vec<Value>, Refusal>
+    ensures { MatchResult result
+        (λ list. list_field name.entry.now (view object.entry.now) ≡ Some (items_view list.now.items))
+        (λ refusal. IsBadField name.entry.now refusal × (list_field name.entry.now (view object.entry.now) ≡ None)) }
+{
+    match field(object, name)?.as_array() {
+        Some(list) => Ok(list),
+        None => Err(Refusal::BadField(name)),
+    }
 }
 
 /// A field that is an object.
@@ -30,18 +55,37 @@ pub fn group<'v>(object: &'v Value, name: &'static str) -> Result<&'v Value, Ref
 }
 
 /// A whole number below 2^64.
-pub fn count(object: &Value, name: &'static str) -> Result<u64, Refusal> {
-    field(object, name)?.as_u64().ok_or(Refusal::BadField(name))
+pub fn count(object: &Value, name: &'static str) -> Result<u64, Refusal>
+    ensures { MatchResult result
+        (λ number. count_field name.entry.now (view object.now) ≡ Some number)
+        (λ refusal. IsBadField name.entry.now refusal × (count_field name.entry.now (view object.now) ≡ None)) }
+{
+    match field(object, name)?.as_u64() {
+        Some(number) => Ok(number),
+        None => Err(Refusal::BadField(name)),
+    }
 }
 
 /// The number of an unwinder or a cache.
-pub fn number(object: &Value, name: &'static str) -> Result<usize, Refusal> {
+pub fn number(object: &Value, name: &'static str) -> Result<usize, Refusal>
+    ensures { MatchResult result
+        (λ number. count_field name.entry.now (view object.now) ≡ Some number)
+        (λ refusal. IsBadField name.entry.now refusal × (count_field name.entry.now (view object.now) ≡ None)) }
+{
     Ok(count(object, name)? as usize)
 }
 
 /// An address, a register or a word: a text of hexadecimal digits.
-pub fn hexadecimal(object: &Value, name: &'static str) -> Result<u64, Refusal> {
-    hexadecimal_value(field(object, name)?).ok_or(Refusal::BadField(name))
+pub fn hexadecimal(object: &Value, name: &'static str) -> Result<u64, Refusal>
+    ensures { MatchResult result
+        (λ number. IsAddressField name.entry.now (view object.now) number)
+        (λ refusal. IsBadField name.entry.now refusal
+        × ((number : ℕ) → IsAddressField name.entry.now (view object.now) number → ⊥)) }
+{
+    match hexadecimal_value(field(object, name)?) {
+        Some(number) => Ok(number),
+        None => Err(Refusal::BadField(name)),
+    }
 }
 
 /// An address that may be left out.
@@ -55,16 +99,24 @@ pub fn optional_hexadecimal(object: &Value, name: &'static str) -> Result<Option
     }
 }
 
-pub fn hexadecimal_value(value: &Value) -> Option<u64> {
-    parse_hexadecimal(value.as_str()?)
+pub fn hexadecimal_value(value: &Value) -> Option<u64>
+    ensures { MatchOption result
+        ((number : ℕ) → IsAddress (view value.now) number → ⊥)
+        (λ number. IsAddress (view value.now) number) }
+{
+    match value.as_str() {
+        Some(text) => parse_hexadecimal(text),
+        None => None,
+    }
 }
 
 /// The number of 1 to 16 hexadecimal digits, of either case.
 fn parse_hexadecimal(digits: &str) -> Option<u64>
-    ensures { SomeIff result (IsNumeral 16 digits.now × (length digits.now ≤ 16)) (digits_value 16 digits.now) }
+    ensures { SomeIff result (IsNumeral 16 digits.now × (length digits.now ≤ 16))
+        (digits_value 16 digits.now) }
 {
     let bytes = digits.as_bytes();
-    if bytes.is_empty() || bytes.len() > 16 || bytes[0] == b'+' {
+    if bytes.is_empty() || bytes.len() > MAX_DIGITS || bytes[0] == b'+' {
         return None;
     }
     u64::from_str_radix(digits, 16).ok()
@@ -72,19 +124,23 @@ fn parse_hexadecimal(digits: &str) -> Option<u64>
 
 /// Whether a number stands in the value, at any depth, that is not whole or does not fit 64 bits.
 #[cycle(has_bad_number)]
-pub fn has_bad_number(value: &Value) -> bool {
+pub fn has_bad_number(value: &Value) -> bool
+    ensures { result ≡ has_bad_number (view value.now) }
+{
     match value {
         Value::Null => false,
         Value::Bool(_) => false,
         Value::Number(number) => number.as_u64().is_none() && number.as_i64().is_none(),
         Value::String(_) => false,
-        Value::Array(items) => any_bad_number(items),
+        Value::Array(items) => any_bad_item(items),
         Value::Object(members) => any_bad_member(members),
     }
 }
 
 #[cycle(has_bad_number)]
-fn any_bad_number(items: &Vec<Value>) -> bool {
+fn any_bad_item(items: &Vec<Value>) -> bool
+    ensures { result ≡ any_bad_item (items_view items.now.items) }
+{
     for item in items {
         if has_bad_number(item) {
             return true;
@@ -94,7 +150,9 @@ fn any_bad_number(items: &Vec<Value>) -> bool {
 }
 
 #[cycle(has_bad_number)]
-fn any_bad_member(members: &Map<String, Value>) -> bool {
+fn any_bad_member(members: &Map<String, Value>) -> bool
+    ensures { result ≡ any_bad_member (members_view members.now.entries) }
+{
     for (_name, member) in members.iter() {
         if has_bad_number(member) {
             return true;

@@ -2,7 +2,8 @@ ghost use Rattle.std.specs.Prelude.{◌≡◌, ◌≢◌, ◌≤◌, IfOk, IfErr
 ghost use Rattle.std.specs.Io.KnownBytes.{Keeps};
 ghost use Rattle.serde_json.specs.Read.{read};
 ghost use Rattle.serde_json.specs.View.{view};
-ghost use Rattle.framehop_walk.specs.Reading.{HasReading};
+ghost use Rattle.framehop_walk.specs.Numbers.{has_bad_number as has_bad};
+ghost use Rattle.framehop_walk.specs.Reading.{IsAccepted};
 
 use crate::commands::read_command;
 use crate::fields::{count, has_bad_number, list, text};
@@ -30,7 +31,7 @@ pub fn walk_program<R: Read, W: Write, E: Write>(
     out: &mut Output<W>,
     err: &mut E,
 ) -> u8
-    ensures read { result ≡ 0 → IfSome (R.remaining input.old) HasReading }
+    ensures read { result ≡ 0 → IfSome (R.remaining input.old) IsAccepted }
     ensures refused { result ≢ 0 → out.new.has_failed ≡ false
         → Keeps (W.contents out.old.writer) (W.contents out.new.writer) }
     ensures status { result ≤ 2 }
@@ -63,14 +64,15 @@ fn write_whole<W: Write>(out: &mut Output<W>, text: &[u8]) -> io::Result<()>
 
 // all replies to the input, as text
 fn replies_to_input<R: Read>(alloc: Global, input: &mut R) -> Result<String, Refusal>
-    ensures { OnOk result (IfSome (R.remaining input.old) HasReading) }
+    ensures { OnOk result (IfSome (R.remaining input.old) IsAccepted) }
 {
     let value = read_value(alloc, input)?;
     replies_to_value(alloc, &value)
 }
 
 fn read_value<R: Read>(alloc: Global, input: &mut R) -> Result<Value, Refusal>
-    ensures { OnOk result (IfSome (R.remaining input.old) HasReading) }
+    ensures { IfOk result (λ value.
+        IfSome (R.remaining input.old) (λ text. read text ≡ Some (view value))) }
 {
     let bytes = read_bytes(alloc, input)?;
     parse(alloc, bytes.as_slice())
@@ -83,10 +85,7 @@ fn read_bytes<R: Read>(alloc: Global, input: &mut R) -> Result<Vec<u8>, Refusal>
     let mut bytes = Vec::new(alloc);
     match input.read_to_end(&mut bytes) {
         Ok(_) => Ok(bytes),
-        Err(error) => Err(match error.kind() {
-            io::ErrorKind::OutOfMemory => Refusal::OutOfMemory,
-            _ => Refusal::CannotReadInput,
-        }),
+        Err(error) => Err(Refusal::from(error)),
     }
 }
 
@@ -104,7 +103,9 @@ fn parse(alloc: Global, text: &[u8]) -> Result<Value, Refusal>
     }
 }
 
-fn replies_to_value(alloc: Global, value: &Value) -> Result<String, Refusal> {
+fn replies_to_value(alloc: Global, value: &Value) -> Result<String, Refusal>
+    ensures { OnOk result (has_bad (view value.now) ≡ false) }
+{
     if has_bad_number(value) {
         return Err(Refusal::BadNumber);
     }

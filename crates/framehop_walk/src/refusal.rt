@@ -2,6 +2,7 @@ ghost use Rattle.std.specs.Prelude.{◌≡◌, ◌≢◌, ◌≤◌};
 
 use framehop::session::SessionError;
 use std::alloc::{AllocError, AllocFailed};
+use std::io;
 
 /// Why a run of the program was refused. The text is that of its error line, behind the
 /// program's name.
@@ -66,6 +67,15 @@ impl From<AllocError> for Refusal {
 impl<T: Drop> From<AllocFailed<T>> for Refusal {
     fn from(_error: AllocFailed<T>) -> Refusal {
         Refusal::OutOfMemory
+    }
+}
+
+impl From<io::Error> for Refusal {
+    fn from(error: io::Error) -> Refusal {
+        match error.kind() {
+            io::ErrorKind::OutOfMemory => Refusal::OutOfMemory,
+            _ => Refusal::CannotReadInput,
+        }
     }
 }
 

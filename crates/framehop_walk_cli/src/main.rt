@@ -13,8 +13,9 @@ fn main(rt: HostRuntime) -> ExitCode {
 
 /// The exit status of a run.
 fn run(rt: &HostRuntime) -> u8 {
-    let Ok(mut arguments) = env::args(rt) else {
-        return refuse(&mut rt.stderr(), Refusal::CannotReadInput);
+    let mut arguments = match env::args(rt) {
+        Ok(arguments) => arguments,
+        Err(error) => return refuse(&mut rt.stderr(), Refusal::from(error)),
     };
     let _program = arguments.next();
     let file = arguments.next();
@@ -24,7 +25,7 @@ fn run(rt: &HostRuntime) -> u8 {
     match file {
         Some(path) => match fs::open(rt, path.as_str()) {
             Ok(mut file) => walk(rt, &mut file),
-            Err(_) => refuse(&mut rt.stderr(), Refusal::CannotReadInput),
+            Err(error) => refuse(&mut rt.stderr(), Refusal::from(error)),
         },
         None => walk(rt, &mut rt.stdin()),
     }
