@@ -88,7 +88,7 @@ module _ (bytes : List ℕ) (span : Span) (head : EntryHead) where
         inl cie ↦ one-head (Cie id.0.1 span.end) head span.end (rw cie at id.2) refl
       | inr fde ↦ one-head (Fde id.0.0 id.0.1 span.end) head span.end (rw fde at id.2) refl ]
 
-  id-ends : (kind : UnwindSectionType) → id_at kind bytes span ≡ Ok head → end_of head ≡ span.end
+  pub id-ends : (kind : UnwindSectionType) → id_at kind bytes span ≡ Ok head → end_of head ≡ span.end
   id-ends EhFrame is = eh-frame-ends is
   id-ends DebugFrame is =
       elim (cases_Bool (span.offset_size == 4)) [
