@@ -1,16 +1,15 @@
 -- Reading an entry field by field gives the entry that stands there.
-use Rattle.std.proofs.Common.{◌≡◌, ℕ, ◌+◌, Bool, true, false, List, take, slice_range, Result, Ok, Err, refl, ap, sym, subst, ◌∙◌, ◌⊎◌, inl, inr, leb, if◌then◌else◌}
+use Rattle.std.proofs.Common.{◌≡◌, ℕ, ◌+◌, List, take, slice_range, Result, Ok, Err, refl, ap, sym, subst, inl, inr, leb}
 use Rattle.std.proofs.lemmas.Bool.{cases_Bool}
 use Rattle.std.specs.Prelude.{IfOk, IfErr}
-use Rattle.framehop_cfi.specs.Bytes.{◌>>=◌, u8_at}
+use Rattle.framehop_cfi.specs.Bytes.{u8_at}
 use Rattle.framehop_cfi.specs.Leb128.{uleb_at, sleb_at}
 use Rattle.framehop_cfi.specs.Raw.{raw_at, format_of}
 use Rattle.framehop_cfi.specs.Pointer.{pointer_at}
 use Rattle.framehop_cfi.specs.Augmentation.{terminator_at, augmentation_at}
 use Rattle.framehop_cfi.specs.Span.{span_at, is_zero_length}
-use Rattle.framehop_cfi.specs.Entry.{id_at, head_at, is_known_version, sizes_of, return_register_at, alignments_at, versioned_fields, cie_fields, cie_of_head, cie_at, skipped_at, fde_range, fde_fields, fde_of_head, fde_at}
+use Rattle.framehop_cfi.specs.Entry.{head_at, is_known_version, sizes_of, return_register_at, alignments_at, versioned_fields, cie_fields, cie_of_head, cie_at, skipped_at, fde_range, fde_fields, fde_of_head, fde_at}
 use Rattle.framehop_cfi.specs.EntryMeaning.{Begins, HasCieFields, IsCie, IsFde}
-use Rattle.framehop_cfi.specs.EntryList.{end_of}
 use Rattle.framehop_cfi.specs.declared.span.Span.{Span}
 use Rattle.framehop_cfi.specs.declared.pointer.SectionBaseAddresses.{SectionBaseAddresses}
 use Rattle.framehop_cfi.specs.declared.entry.UnwindSectionType.{UnwindSectionType}
@@ -37,32 +36,48 @@ module _ (kind : UnwindSectionType) (bases : SectionBaseAddresses) (entry : List
   fields-means fields is =
       let version = bind_ok (u8_at entry fields) _ cie is in
       elim (cases_Bool (is_known_version version.0.0)) [
-        inl known ↦
-          let e = rw known at version.2 in
-          let text = bind_ok (terminator_at entry version.0.1) _ cie e in
-          let sizes = bind_ok (sizes_of kind version.0.0 entry (text.0 + 1)) _ cie text.2 in
-          let code = bind_ok (uleb_at entry sizes.0) _ cie sizes.2 in
-          let factor = bind_ok (sleb_at entry code.0.1) _ cie code.2 in
-          let register = bind_ok (return_register_at version.0.0 entry factor.0.1) _ cie factor.2 in
-          let augmentation = bind_ok (augmentation_at bases (slice_range entry version.0.1 text.0) entry register.0) _ cie register.2 in
-          let made : CommonInformationEntry = record {
-            code_alignment_factor = code.0.0;
-            data_alignment_factor = factor.0.0;
-            fde_pointer_encoding = augmentation.0.encoding;
-            has_augmentation_data = augmentation.0.has_data;
-            instructions = augmentation.0.behind;
-            end = end
-          } in
-          let all : HasCieFields kind bases entry fields made × (made.end ≡ end) = (record {
-            version = version.0.0; text = version.0.1; text_end = text.0; alignments = sizes.0;
-            data_alignment = code.0.1; return_register = factor.0.1; augmentation_data = register.0;
-            is_version = version.1; known = known; is_text_end = text.1; is_sizes = sizes.1;
-            is_code_alignment = code.1; is_data_alignment = factor.1; is_return_register = register.1;
-            is_augmentation = augmentation.1
-          }, refl) in
-          let same : made ≡ cie = one-cie made cie augmentation.2 in
-          subst (λ c. HasCieFields kind bases entry fields c × (c.end ≡ end)) same all
-      | inr unknown ↦ (let e = rw unknown at version.2 in cc) ]
+        | inl known ↦
+            let e = rw known at version.2 in
+            let text = bind_ok (terminator_at entry version.0.1) _ cie e in
+            let sizes = bind_ok (sizes_of kind version.0.0 entry (text.0 + 1)) _ cie text.2 in
+            let code = bind_ok (uleb_at entry sizes.0) _ cie sizes.2 in
+            let factor = bind_ok (sleb_at entry code.0.1) _ cie code.2 in
+            let register = bind_ok (return_register_at version.0.0 entry factor.0.1) _ cie factor.2 in
+            let augmentation = bind_ok (augmentation_at bases (slice_range entry version.0.1 text.0) entry register.0) _ cie register.2 in
+            let made : CommonInformationEntry = record {
+              code_alignment_factor = code.0.0;
+              data_alignment_factor = factor.0.0;
+              fde_pointer_encoding = augmentation.0.encoding;
+              has_augmentation_data = augmentation.0.has_data;
+              instructions = augmentation.0.behind;
+              end = end;
+            } in
+            let all : HasCieFields kind bases entry fields made × (made.end ≡ end) = (
+              record {
+                version = version.0.0;
+                text = version.0.1;
+                text_end = text.0;
+                alignments = sizes.0;
+                data_alignment = code.0.1;
+                return_register = factor.0.1;
+                augmentation_data = register.0;
+                is_version = version.1;
+                known = known;
+                is_text_end = text.1;
+                is_sizes = sizes.1;
+                is_code_alignment = code.1;
+                is_data_alignment = factor.1;
+                is_return_register = register.1;
+                is_augmentation = augmentation.1;
+              },
+              refl,
+            ) in
+            let same : made ≡ cie = one-cie made cie augmentation.2 in
+            subst (λ c. HasCieFields kind bases entry fields c × (c.end ≡ end)) same all
+        | inr unknown ↦
+            let e = rw unknown at version.2 in
+            cc
+      ]
 
   means-fields : (fields : ℕ) → HasCieFields kind bases entry fields cie → cie.end ≡ end → cie_fields kind bases entry fields end ≡ Ok cie
   unfolding cie_fields versioned_fields alignments_at
@@ -76,8 +91,11 @@ module _ (kind : UnwindSectionType) (bases : SectionBaseAddresses) (bytes : List
   head-begins at head entry is =
       let span = bind_ok (span_at bytes at) _ head is in
       elim (cases_Bool (is_zero_length span.0)) [
-        inl zeros ↦ (let e = rw zeros at span.2 in absurd (entry span.0.end (sym (one-head (ZeroLength span.0.end) head e))))
-      | inr some ↦ (span.0, record { length = span.1; some = some; id = rw some at span.2 }) ]
+        | inl zeros ↦
+            let e = rw zeros at span.2 in
+            absurd (entry span.0.end (sym (one-head (ZeroLength span.0.end) head e)))
+        | inr some ↦ (span.0, record { length = span.1; some = some; id = rw some at span.2 })
+      ]
 
   begins-head : (at : ℕ) (span : Span) (head : EntryHead) → Begins kind bytes at span head → head_at kind bytes at ≡ Ok head
   unfolding head_at
@@ -91,9 +109,11 @@ module _ (kind : UnwindSectionType) (bases : SectionBaseAddresses) (bytes : List
       let there : end ≡ b.0.end = id-ends (take b.0.end bytes) b.0 (Cie fields end) kind b.1.id in
       let f = fields-means kind bases (take b.0.end bytes) b.0.end cie fields (subst (λ e. cie_fields kind bases (take e bytes) fields e ≡ Ok cie) there is) in
       record {
-        span = b.0; fields = fields;
+        span = b.0;
+        fields = fields;
         begins = subst (λ e. Begins kind bytes at b.0 (Cie fields e)) there b.1;
-        has_fields = f.0; ends = f.1
+        has_fields = f.0;
+        ends = f.1;
       }
 
   -- a CIE that is read stands there, and one that stands there is read
@@ -107,25 +127,38 @@ module _ (kind : UnwindSectionType) (bases : SectionBaseAddresses) (bytes : List
   unfolding cie_at
   means-cie_at at cie c =
       rw (begins-head at c.span (Cie c.fields c.span.end) c.begins)
-        (means-fields kind bases (take c.span.end bytes) c.span.end cie c.fields c.has_fields c.ends)
+      (means-fields kind bases (take c.span.end bytes) c.span.end cie c.fields c.has_fields c.ends)
 
   range-means : (at named fields : ℕ) (span : Span) (cie : CommonInformationEntry) (fde : FrameDescriptionEntry) → Begins kind bytes at span (Fde named fields span.end) → IsCie kind bases bytes named cie → fde_fields bases cie (take span.end bytes) fields span.end ≡ Ok fde → IsFde kind bases bytes at fde
   unfolding fde_range
   range-means at named fields span cie fde begins its is =
       elim (cases_Bool (leb 128 cie.fde_pointer_encoding)) [
-        inl indirect ↦ (let e = rw indirect at is in cc)
-      | inr direct ↦
-          let e = rw direct at is in
-          let entry = take span.end bytes in
-          let start = bind_ok (pointer_at bases cie.fde_pointer_encoding entry fields) _ fde e in
-          let range = bind_ok (raw_at (format_of cie.fde_pointer_encoding) entry start.0.1) _ fde start.2 in
-          let skipped = bind_ok (skipped_at cie.has_augmentation_data entry range.0.1) _ fde range.2 in
-          let made : FrameDescriptionEntry = record { cie = cie; initial_address = start.0.0; address_range = range.0.0; instructions = skipped.0; end = span.end } in
-          let all : IsFde kind bases bytes at made = record {
-            span = span; named = named; fields = fields; range = start.0.1; augmentation_data = range.0.1;
-            begins = begins; its_cie = its; direct = direct; is_start = start.1; is_range = range.1; is_augmentation = skipped.1; ends = refl
-          } in
-          subst (λ f. IsFde kind bases bytes at f) (one-fde made fde skipped.2) all ]
+        | inl indirect ↦
+            let e = rw indirect at is in
+            cc
+        | inr direct ↦
+            let e = rw direct at is in
+            let entry = take span.end bytes in
+            let start = bind_ok (pointer_at bases cie.fde_pointer_encoding entry fields) _ fde e in
+            let range = bind_ok (raw_at (format_of cie.fde_pointer_encoding) entry start.0.1) _ fde start.2 in
+            let skipped = bind_ok (skipped_at cie.has_augmentation_data entry range.0.1) _ fde range.2 in
+            let made : FrameDescriptionEntry = record { cie = cie; initial_address = start.0.0; address_range = range.0.0; instructions = skipped.0; end = span.end } in
+            let all : IsFde kind bases bytes at made = record {
+              span = span;
+              named = named;
+              fields = fields;
+              range = start.0.1;
+              augmentation_data = range.0.1;
+              begins = begins;
+              its_cie = its;
+              direct = direct;
+              is_start = start.1;
+              is_range = range.1;
+              is_augmentation = skipped.1;
+              ends = refl;
+            } in
+            subst (λ f. IsFde kind bases bytes at f) (one-fde made fde skipped.2) all
+      ]
 
   fde-of : (at : ℕ) (head : EntryHead) (fde : FrameDescriptionEntry) → head_at kind bytes at ≡ Ok head → fde_of_head kind bases bytes head ≡ Ok fde → IsFde kind bases bytes at fde
   fde-of at (ZeroLength end) fde begins is = cc
@@ -147,7 +180,7 @@ module _ (kind : UnwindSectionType) (bases : SectionBaseAddresses) (bytes : List
   unfolding fde_at fde_range
   means-fde_at at fde f =
       rw (begins-head at f.span (Fde f.named f.fields f.span.end) f.begins)
-        (rw (means-cie_at f.named fde.cie f.its_cie) (rw f.direct (rw f.is_start (rw f.is_range (rw f.is_augmentation (ap (λ e. Ok (record fde { end = e })) (sym f.ends)))))))
+      (rw (means-cie_at f.named fde.cie f.its_cie) (rw f.direct (rw f.is_start (rw f.is_range (rw f.is_augmentation (ap (λ e. Ok (record fde { end = e })) (sym f.ends)))))))
 
   -- an entry is answered where one stands, and refused where none does
   pub cie-found : (at : ℕ) (result : Result CommonInformationEntry ReadError) → result ≡ cie_at kind bases bytes at → IfOk result (IsCie kind bases bytes at)
