@@ -1,10 +1,10 @@
 -- Walking a section entry by entry goes over the list of its entries.
-use Rattle.std.proofs.Common.{◌≡◌, ℕ, zero, suc, ◌+◌, ◌-◌, ◌<◌, ◌≤◌, Bool, true, false, List, [], ◌∷◌, ◌++◌, length, take, Result, Ok, Err, refl, ap, sym, subst, ◌∙◌, arith, ◌⊎◌, inl, inr, leb, ltb, if◌then◌else◌, ◌==◌}
-use Rattle.std.proofs.lemmas.Bool.{lt-leb, le-leb, leb-true, cases_Bool, cases_lt}
-use Rattle.framehop_cfi.specs.Bytes.{Reading, ◌>>=◌, u32_at, u64_at}
+use Rattle.std.proofs.Common.{◌≡◌, ℕ, zero, suc, ◌+◌, ◌-◌, ◌<◌, ◌≤◌, List, [], ◌∷◌, ◌++◌, length, take, Result, Ok, Err, refl, ap, subst, ◌∙◌, arith, inl, inr, leb, ltb, ◌==◌}
+use Rattle.std.proofs.lemmas.Bool.{lt-leb, le-leb, cases_Bool, cases_lt}
+use Rattle.framehop_cfi.specs.Bytes.{◌>>=◌, u32_at, u64_at}
 use Rattle.framehop_cfi.specs.Span.{held, long_span, span_at, is_zero_length}
-use Rattle.framehop_cfi.specs.Entry.{eh_frame_id, short_id, long_id, debug_frame_id, id_at, head_at, entry_of_head}
-use Rattle.framehop_cfi.specs.Entries.{Section, refused_by, past_zero as past, visited, walk_head, walk, walk_all}
+use Rattle.framehop_cfi.specs.Entry.{eh_frame_id, short_id, long_id, id_at, head_at, entry_of_head}
+use Rattle.framehop_cfi.specs.Entries.{Section, refused_by, past_zero as past, walk_head, walk, walk_all}
 use Rattle.framehop_cfi.specs.EntryList.{end_of, StandsAt, AreEntries, at_end, at_mark, past_zero, one, visits}
 use Rattle.framehop_cfi.specs.declared.span.Span.{Span}
 use Rattle.framehop_cfi.specs.declared.entry.UnwindSectionType.{UnwindSectionType}
@@ -13,7 +13,7 @@ use Rattle.framehop_cfi.specs.declared.entry.EntryHead.{EntryHead}
 use Rattle.framehop_cfi.specs.declared.entry.EntryHead.TheVariants.{ZeroLength, Cie, Fde}
 use Rattle.framehop_cfi.specs.declared.entry.CieOrFde.{CieOrFde}
 use Rattle.framehop_cfi.specs.declared.read_error.ReadError.{ReadError}
-use Rattle.framehop_cfi.proofs.Forward.{Reaches, u32-reaches, u64-reaches}
+use Rattle.framehop_cfi.proofs.Forward.{u32-reaches, u64-reaches}
 
 pub bind_ok : {A B E : Type 0} (r : Result A E) (f : A → Result B E) (y : B) → (r >>= f) ≡ Ok y → (x : A) × (r ≡ Ok x) × (f x ≡ Ok y)
 bind_ok (Ok x) f y is = (x, refl, is)
@@ -95,7 +95,7 @@ module _ (bytes : List ℕ) (span : Span) (head : EntryHead) where
         | inr fde ↦ one-head (Fde id.0.0 id.0.1 span.end) head span.end (rw fde at id.2) refl
       ]
 
-  id-ends : (kind : UnwindSectionType) → id_at kind bytes span ≡ Ok head → end_of head ≡ span.end
+  pub id-ends : (kind : UnwindSectionType) → id_at kind bytes span ≡ Ok head → end_of head ≡ span.end
   id-ends EhFrame is = eh-frame-ends is
   id-ends DebugFrame is =
       elim (cases_Bool (span.offset_size == 4)) [

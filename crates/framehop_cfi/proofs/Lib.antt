@@ -5,3 +5,4 @@ pub mod Table
 pub mod Forward
 pub mod RowMeaning
 pub mod EntryList
+pub mod EntryMeaning

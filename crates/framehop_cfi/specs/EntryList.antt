@@ -1,5 +1,5 @@
 -- The list of a section's entries (DWARF 5 section 6.4.1; LSB, ".eh_frame").
-use Rattle.std.specs.Prelude.{ℕ, ◌≤◌, ◌≡◌, List, [], ◌∷◌, ◌++◌, length, Result, Ok, Err}
+use Rattle.std.specs.Prelude.{ℕ, ◌≤◌, ◌≡◌, List, [], ◌∷◌, ◌++◌, length, Result, Ok}
 use Rattle.framehop_cfi.specs.Bytes.{◌>>=◌}
 use Rattle.framehop_cfi.specs.Entry.{head_at, entry_of_head}
 use Rattle.framehop_cfi.specs.Entries.{Section}

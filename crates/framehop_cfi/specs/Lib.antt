@@ -4,6 +4,7 @@ pub mod Context
 pub mod Entries
 pub mod Entry
 pub mod EntryList
+pub mod EntryMeaning
 pub mod Header
 pub mod Instruction
 pub mod Layout

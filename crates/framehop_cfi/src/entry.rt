@@ -1,6 +1,7 @@
 //! The entries of a call frame section: CIEs and FDEs (DWARF 5 section 6.4.1; LSB, `.eh_frame`).
-ghost use Rattle.std.specs.Prelude.{◌≡◌, ◌≢◌, Err, ◌≤◌, ◌<◌, ℕ, IfOk, length, take};
+ghost use Rattle.std.specs.Prelude.{◌≡◌, ◌≢◌, Err, IfErr, ◌≤◌, ◌<◌, ℕ, IfOk, length, take};
 ghost use Rattle.framehop_cfi.specs.Span.{IsWithin};
+ghost use Rattle.framehop_cfi.specs.EntryMeaning.{IsCie, IsFde};
 ghost use Rattle.framehop_cfi.specs.Entry.{eh_frame_id, debug_frame_id, id_at, head_at, cie_at, fde_at, cie_fields, fde_fields, sizes_at, sizes_of, return_register_at, alignments_at, skipped_at, EndsWithin, EndsBefore, entry_of_head, bases_of, is_known_version, versioned_fields, fde_range};
 
 use crate::augmentation::{find_terminator, read_counted};
@@ -200,8 +201,19 @@ impl<'a> UnwindSection<'a> {
     /// The CIE at an offset.
     ///
     /// An offset of an FDE or of a zero length is refused by `NotCie`.
-    #[tactic(auto, unfolding(crate::specs::Entry::cie_at))]
     pub fn cie_from_offset(&self, at: usize) -> Result<CommonInformationEntry, ReadError>
+        ensures found { IfOk result (IsCie self.now.section_type self.now.bases self.now.bytes.now at) }
+        ensures none { IfErr result (λ _. (cie : CommonInformationEntry) → IsCie self.now.section_type self.now.bases self.now.bytes.now at cie → ⊥) }
+        ensures exact { result ≡ cie_at self.now.section_type self.now.bases self.now.bytes.now at }
+        ensures within { IfOk result (λ cie. cie.end ≤ length self.now.bytes.now) }
+        ensures memory { result ≢ Err ReadError.OutOfMemory }
+    {
+        self.read_cie_at(at)
+    }
+
+    /// The CIE at an offset, read field by field.
+    #[tactic(auto, unfolding(crate::specs::Entry::cie_at))]
+    fn read_cie_at(&self, at: usize) -> Result<CommonInformationEntry, ReadError>
         ensures exact { result ≡ cie_at self.now.section_type self.now.bases self.now.bytes.now at }
         ensures within { IfOk result (λ cie. cie.end ≤ length self.now.bytes.now) }
         ensures memory { result ≢ Err ReadError.OutOfMemory }
@@ -299,7 +311,7 @@ impl<'a> UnwindSection<'a> {
                 Ok(CieOrFde::Cie(cie))
             }
             EntryHead::Fde(named, fields, end) => {
-                let cie = self.cie_from_offset(named)?;
+                let cie = self.read_cie_at(named)?;
                 let fde = self.read_fde(&cie, fields, end)?;
                 Ok(CieOrFde::Fde(fde))
             }
@@ -309,15 +321,26 @@ impl<'a> UnwindSection<'a> {
     /// The FDE at an offset, with the CIE at the offset that it names.
     ///
     /// An offset of a CIE or of a zero length is refused by `NotFde`.
-    #[tactic(auto, unfolding(crate::specs::Entry::fde_at))]
     pub fn fde_from_offset(&self, at: usize) -> Result<FrameDescriptionEntry, ReadError>
+        ensures found { IfOk result (IsFde self.now.section_type self.now.bases self.now.bytes.now at) }
+        ensures none { IfErr result (λ _. (fde : FrameDescriptionEntry) → IsFde self.now.section_type self.now.bases self.now.bytes.now at fde → ⊥) }
+        ensures exact { result ≡ fde_at self.now.section_type self.now.bases self.now.bytes.now at }
+        ensures within { IfOk result (λ fde. (fde.end ≤ length self.now.bytes.now) × (fde.cie.end ≤ length self.now.bytes.now)) }
+        ensures memory { result ≢ Err ReadError.OutOfMemory }
+    {
+        self.read_fde_at(at)
+    }
+
+    /// The FDE at an offset, read field by field.
+    #[tactic(auto, unfolding(crate::specs::Entry::fde_at))]
+    fn read_fde_at(&self, at: usize) -> Result<FrameDescriptionEntry, ReadError>
         ensures exact { result ≡ fde_at self.now.section_type self.now.bases self.now.bytes.now at }
         ensures within { IfOk result (λ fde. (fde.end ≤ length self.now.bytes.now) × (fde.cie.end ≤ length self.now.bytes.now)) }
         ensures memory { result ≢ Err ReadError.OutOfMemory }
     {
         match self.head_at(at)? {
             EntryHead::Fde(named, fields, end) => {
-                let cie = self.cie_from_offset(named)?;
+                let cie = self.read_cie_at(named)?;
                 self.read_fde(&cie, fields, end)
             }
             _ => Err(ReadError::NotFde),

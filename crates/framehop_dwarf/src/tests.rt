@@ -280,6 +280,36 @@ fn fdes_by_the_header(rt: HostRuntime) -> Result<(), Fail> {
     Ok(())
 }
 
+#[test]
+fn names_of_errors(rt: HostRuntime) -> Result<(), Fail> {
+    let names = [
+        (ReadError::Eof, "Eof"),
+        (ReadError::BadLeb, "BadLeb"),
+        (ReadError::BadEncoding, "BadEncoding"),
+        (ReadError::BadLength, "BadLength"),
+        (ReadError::NotCie, "NotCie"),
+        (ReadError::NotFde, "NotFde"),
+        (ReadError::UnknownVersion, "UnknownVersion"),
+        (ReadError::UnknownAugmentation, "UnknownAugmentation"),
+        (ReadError::UnknownInstruction, "UnknownInstruction"),
+        (ReadError::InvalidContext, "InvalidContext"),
+        (ReadError::NumberTooBig, "NumberTooBig"),
+        (ReadError::NoRow, "NoRow"),
+        (ReadError::TooManyRules, "TooManyRules"),
+        (ReadError::TooManyRows, "TooManyRows"),
+        (ReadError::NothingRemembered, "NothingRemembered"),
+        (ReadError::OutOfMemory, "OutOfMemory"),
+    ];
+    for (error, name) in names {
+        let text = format!(in rt.alloc(); "{error}")?;
+        assert_eq!(rt; text.as_str(), name);
+    }
+    let error = DwarfCfiIndexError::from(ReadError::Eof);
+    let text = format!(in rt.alloc(); "{error}")?;
+    assert_eq!(rt; text.as_str(), "Gimli");
+    Ok(())
+}
+
 /// Reads the FDEs of a real section, and compares each with what `readelf` says of it.
 fn compare<S: UnwindContextStorage>(
     rt: &(impl std::process::Abort + AllocGlobal),
