@@ -6,3 +6,4 @@ mod WalkLemmas
 mod RoomLemmas
 mod WorldLemmas
 mod RunLemmas
+mod RiseLemmas

@@ -38,7 +38,7 @@ module _ {R Regs : Type 0} (outcome : R → Bool → Regs → Memory → Outcome
   removed-after room unwinder start false = refl
 
   -- the world after a command is that of the room after it
-  world-after : {D : Type 0} (room : Room R) (command : Command D Regs) → world_of (room_after outcome fallback room command) ≡ world_after (world_of room) command
+  pub world-after : {D : Type 0} (room : Room R) (command : Command D Regs) → world_of (room_after outcome fallback room command) ≡ world_after (world_of room) command
   world-after room New = World-equal _ _ (map-push room.unwinders (record { modules = []; generation = room.next })) (one-less room.next)
   world-after room (Add unwinder added) =
       World-equal _ _

@@ -1,8 +1,8 @@
 -- The frames of a stack, one at a time.
 use Rattle.framehop.specs.Walk.{Walk, End, at_root, at_limit, callers, walk_from, cache_after_callers, cache_after_walk}
-use Rattle.std.specs.Prelude.{ℕ, zero, suc, [], if◌then◌else◌, ◌==◌, Option, Some, None, Result, Ok, Err}
+use Rattle.std.specs.Prelude.{◌≡◌, ℕ, zero, suc, Bool, false, [], if◌then◌else◌, ◌==◌, Option, Some, None, Result, Ok, Err}
 use Rattle.framehop_core.specs.Outcome.{Outcome, answered, root, refused}
-use Rattle.framehop_core.specs.CodeAddress.{Place, at_instruction_pointer, at_return_address, place_of}
+use Rattle.framehop_core.specs.CodeAddress.{Place, at_instruction_pointer, at_return_address, is_first_frame, place_of}
 use Rattle.framehop_core.specs.declared.code_address.FrameAddress.{FrameAddress}
 use Rattle.framehop_core.specs.declared.error.Error.{Error}
 use Rattle.framehop_core.specs.declared.error.Error.TheVariants.{ReturnAddressIsNull}
@@ -50,6 +50,13 @@ next_of step (before pc) regs =
     record { answer = Ok (Some (at_instruction_pointer pc)); progress = at_frame (at_instruction_pointer pc); regs = regs }
 next_of step (at_frame place) regs = next_after place regs (step place regs)
 next_of step at_end regs = record { answer = Ok None; progress = at_end; regs = regs }
+
+-- A call that answers a frame, whatever the callback replies: the first one is the frame at the instruction pointer, with the
+-- registers as they are, and any other one a caller's, to which the registers have advanced.
+abbrev pub Moves : {Regs : Type 0} → (Bool → Regs → Regs → Type 0) → Progress → Regs → Place → Regs → Type 0
+Moves advances (before pc) old place new = (place ≡ at_instruction_pointer pc) × (new ≡ old)
+Moves advances (at_frame callee) old place new = (is_first_frame place ≡ false) × advances (is_first_frame callee) old new
+Moves advances at_end old place new = ⊥
 
 -- the cache after the next call
 abbrev pub cache_after_next : {Cache : Type 0} → (Cache → Place → Cache) → Progress → Cache → Cache

@@ -12,6 +12,7 @@ pub mod World
 pub mod Room
 pub mod SessionView
 pub mod Transparent
+pub mod Rise
 pub use Rattle.framehop_core.specs.Memory
 pub use Rattle.framehop_core.specs.Outcome
 pub use Rattle.framehop_core.specs.CodeAddress

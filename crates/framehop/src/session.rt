@@ -1,5 +1,5 @@
 //! Lists of commands over unwinders that share caches.
-ghost use Rattle.std.specs.Prelude.{◌≡◌, ◌≢◌, ◌≤◌, ℕ, [], replicate, IfOk, IfErr};
+ghost use Rattle.std.specs.Prelude.{◌≡◌, ◌≢◌, ◌≤◌, ℕ, [], map, replicate, IfOk, IfErr};
 ghost use Rattle.framehop.specs.Memory.{Memory as StackMemory, AnswersAs, reply};
 ghost use Rattle.framehop.specs.Iterator.{walk_on, cache_on};
 ghost use Rattle.framehop.specs.UnwindIterator.{unwinder_of, progress_in, regs_of, cache_of, read_stack_of};
@@ -10,6 +10,7 @@ ghost use Rattle.framehop.specs.Soundness.{IsSound, cache_after};
 ghost use Rattle.framehop.specs.Room.{Room, step_of, empty_room, room_replies, next_after_all, world_result};
 ghost use Rattle.framehop.specs.Fresh.{step};
 ghost use Rattle.framehop.specs.Transparent.{IsTransparent, Serves};
+ghost use Rattle.framehop.specs.Rise.{AreWithinRise};
 ghost use Rattle.framehop.specs.Cache.{empty_cache};
 ghost use Rattle.framehop.specs.CodeAddress.{Place, place_of};
 ghost use Rattle.framehop.specs.Outcome.{Outcome, answer_of, registers_after};
@@ -480,6 +481,8 @@ pub fn run<D: SectionBytes + Drop, A: Arch, P: AllocationPolicy>(
     ensures drawn { result ≢ Err SessionError.OutOfMemory → generations.new
         ≡ next_after_all A.UnwindRule.outcome A.UnwindRule.fallback (empty_room cache_count generations.old) commands.items }
     ensures never_back { generations.old ≤ generations.new }
+    ensures bounded { IfOk result (λ replies. AreWithinRise (step A.UnwindRule.outcome A.UnwindRule.fallback) A.UnwindRule.stack_pointer
+        (empty_world generations.old) commands.items (map reply_view replies.items)) }
 {
     let mut session: Session<D, A, P> = Session::new(alloc, cache_count)?;
     let mut replies = Vec::new(alloc);

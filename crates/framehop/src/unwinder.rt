@@ -240,8 +240,9 @@ impl<'u, 'c, 'r, U: Unwinder, F: FnMut(u64) -> Result<u64, ()>> UnwindIterator<'
 }
 
 impl<U: Unwinder, F: FnMut(u64) -> Result<u64, ()>> UnwindIterator<'_, '_, '_, U, F> {
-    ghost use Rattle.std.specs.Prelude.{◌≡◌, Result, Ok, Err, OnErr, OnOk};
-    ghost use Rattle.framehop.specs.Iterator.{place_answer, next_of, cache_after_next};
+    ghost use Rattle.std.specs.Prelude.{◌≡◌, Result, Ok, Err, IfOk, IfSome};
+    ghost use Rattle.framehop.specs.CodeAddress.{place_of};
+    ghost use Rattle.framehop.specs.Iterator.{at_frame, place_answer, next_of, Moves, cache_after_next};
     ghost use Rattle.framehop.specs.UnwindIterator.{unwinder_of, progress_in, regs_of, cache_of, read_stack_of};
     ghost use Rattle.framehop.specs.Memory.{Memory, AnswersAs};
 
@@ -255,6 +256,8 @@ impl<U: Unwinder, F: FnMut(u64) -> Result<u64, ()>> UnwindIterator<'_, '_, '_, U
         ensures same_unwinder { unwinder_of self.new ≡ unwinder_of self.old }
         ensures same_cache { (cache_of self.new).ghost_name ≡ (cache_of self.old).ghost_name }
         ensures same_callback { (read_stack_of self.new).ghost_name ≡ (read_stack_of self.old).ghost_name }
+        ensures moves { IfOk result (λ answer. IfSome answer (λ frame. (progress_in self.new ≡ at_frame (place_of frame))
+            × Moves U.advances (progress_in self.old) (regs_of self.old) (place_of frame) (regs_of self.new))) }
         ensures no_memory_taken { result ≢ Err Error.OutOfMemory }
         ensures cached { (cache_of self.new).now ≡ cache_after_next (U.cache_after (unwinder_of self.old).now) (progress_in self.old) (cache_of self.old).now }
         ensures answers { (memory : Memory) → AnswersAs F.FnMut (read_stack_of self.old).now memory

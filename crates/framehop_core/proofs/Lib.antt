@@ -1,6 +1,5 @@
-pub mod X86_64Outcomes
-pub mod Outcomes
-pub mod Aarch64Outcomes
+pub mod X86_64Runs
+pub mod Aarch64Runs
 pub mod Runs
 pub mod Sequences
 pub mod Orderings

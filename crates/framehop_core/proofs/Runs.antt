@@ -4,7 +4,7 @@ use Rattle.std.proofs.lemmas.Bool.Decides.{nat_tests}
 use Rattle.std.proofs.lemmas.List.{drop_more}
 use Rattle.framehop_core.specs.Memory.{Memory}
 use Rattle.framehop_core.specs.Outcome.{Outcome, answered, root, refused, answer_of, registers_after}
-use Rattle.framehop_core.specs.Runs.{Run, later, run_on, run_of, after_first, StepsBy}
+use Rattle.framehop_core.specs.Runs.{Run, later, run_on, run_of, after_first, StepsBy, Raises}
 use Rattle.framehop_core.specs.declared.error.Error.{Error}
 
 -- ---- what an answer says of the outcome
@@ -61,25 +61,25 @@ module _ {U R : Type 0} (outcome : U → Bool → R → Memory → Outcome R) (m
       rw later_first (run_of-more outcome memory rules n (nat_eq n 0) r all so_far rule address new within is o)
 
 -- ---- the bound: each answered step after the first raises the stack pointer
-module _ {U R : Type 0} (outcome : U → Bool → R → Memory → Outcome R) (memory : Memory) (sp : R → ℕ) (Behind : R → Type 0) (leads : (rule : U) (first : Bool) (r : R) (address : ℕ) (new : R) → outcome rule first r memory ≡ answered address new → Behind new) (rises : (rule : U) (r : R) (address : ℕ) (new : R) → Behind r → outcome rule false r memory ≡ answered address new → sp r < sp new) where
-  rise_on : (rule : U) (r : R) (next : R → Run R) → Behind r → ((new : R) → Behind new → (next new).count + sp new ≤ sp (next new).registers) → (o : Outcome R) → outcome rule false r memory ≡ o → (run_on r o next).count + sp r ≤ sp (run_on r o next).registers
-  rise_on rule r next behind more (answered address new) e =
-      omega (arith, more new (leads rule false r address new e), rises rule r address new behind e)
-  rise_on rule r next behind more root e = omega arith
-  rise_on rule r next behind more (refused error) e = omega arith
+module _ {U R : Type 0} (outcome : U → Bool → R → Memory → Outcome R) (sp : R → ℕ) (IsBehind : Memory → R → Type 0) (raises : Raises outcome sp IsBehind) where
+  rise_on : (rule : U) (r : R) (memory : Memory) (next : R → Run R) → IsBehind memory r → ((new : R) → IsBehind memory new → (next new).count + sp new ≤ sp (next new).registers) → (o : Outcome R) → outcome rule false r memory ≡ o → (run_on r o next).count + sp r ≤ sp (run_on r o next).registers
+  rise_on rule r memory next behind more (answered address new) e =
+      omega (arith, more new (raises.leads rule false r new memory address e), raises.rises rule r new memory address behind e)
+  rise_on rule r memory next behind more root e = omega arith
+  rise_on rule r memory next behind more (refused error) e = omega arith
 
-  pub run_of-rise : (rules : List U) (r : R) → Behind r → (run_of outcome false rules r memory).count + sp r ≤ sp (run_of outcome false rules r memory).registers
-  run_of-rise [] r behind = omega arith
-  run_of-rise (rule ∷ rules) r behind =
-      rise_on rule r (λ new. run_of outcome false rules new memory) behind (λ new b. run_of-rise rules new b) (outcome rule false r memory) refl
+  pub run_of-rise : (rules : List U) (r : R) (memory : Memory) → IsBehind memory r → (run_of outcome false rules r memory).count + sp r ≤ sp (run_of outcome false rules r memory).registers
+  run_of-rise [] r memory behind = omega arith
+  run_of-rise (rule ∷ rules) r memory behind =
+      rise_on rule r memory (λ new. run_of outcome false rules new memory) behind (λ new b. run_of-rise rules new memory b) (outcome rule false r memory) refl
 
-  bound_on : (rule : U) (r : R) (next : R → Run R) → ((new : R) → Behind new → (next new).count + sp new ≤ sp (next new).registers) → (o : Outcome R) → outcome rule true r memory ≡ o → (run_on r o next).count - 1 ≤ sp (run_on r o next).registers - sp (registers_after r o)
-  bound_on rule r next more (answered address new) e =
-      omega (arith, more new (leads rule true r address new e))
-  bound_on rule r next more root e = omega arith
-  bound_on rule r next more (refused error) e = omega arith
+  bound_on : (rule : U) (r : R) (memory : Memory) (next : R → Run R) → ((new : R) → IsBehind memory new → (next new).count + sp new ≤ sp (next new).registers) → (o : Outcome R) → outcome rule true r memory ≡ o → (run_on r o next).count - 1 ≤ sp (run_on r o next).registers - sp (registers_after r o)
+  bound_on rule r memory next more (answered address new) e =
+      omega (arith, more new (raises.leads rule true r new memory address e))
+  bound_on rule r memory next more root e = omega arith
+  bound_on rule r memory next more (refused error) e = omega arith
 
-  pub run_of-bound : (rules : List U) (r : R) → (run_of outcome true rules r memory).count - 1 ≤ sp (run_of outcome true rules r memory).registers - sp (after_first outcome rules r memory)
-  run_of-bound [] r = omega arith
-  run_of-bound (rule ∷ rules) r =
-      bound_on rule r (λ new. run_of outcome false rules new memory) (λ new b. run_of-rise rules new b) (outcome rule true r memory) refl
+  pub run_of-bound : (rules : List U) (r : R) (memory : Memory) → (run_of outcome true rules r memory).count - 1 ≤ sp (run_of outcome true rules r memory).registers - sp (after_first outcome rules r memory)
+  run_of-bound [] r memory = omega arith
+  run_of-bound (rule ∷ rules) r memory =
+      bound_on rule r memory (λ new. run_of outcome false rules new memory) (λ new b. run_of-rise rules new memory b) (outcome rule true r memory) refl

@@ -1,5 +1,5 @@
 -- Rules one after another: each starts from the registers that the one before it leaves.
-use Rattle.std.specs.Prelude.{◌≡◌, ℕ, zero, suc, ◌+◌, ◌-◌, ◌≤◌, Bool, true, false, List, [], ◌∷◌}
+use Rattle.std.specs.Prelude.{◌≡◌, ℕ, zero, suc, ◌+◌, ◌-◌, ◌<◌, ◌≤◌, Bool, true, false, List, [], ◌∷◌}
 use Rattle.framehop_core.specs.Memory.{Memory}
 use Rattle.framehop_core.specs.Outcome.{Outcome, answered, root, refused, registers_after}
 use Rattle.framehop_core.specs.declared.unwind_rule.RunEnd.{RunEnd}
@@ -37,6 +37,12 @@ module _ {U R : Type 0} (outcome : U → Bool → R → Memory → Outcome R) wh
 abbrev pub StepsBy : {R : Type 0} → (Bool → R → R → Type 0) → Bool → ℕ → R → R → Type 0
 StepsBy advances first zero old new = old ≡ new
 StepsBy {R} advances first (suc n) old new = (next : R) × advances first old next × StepsBy advances false n next new
+
+-- Over one memory: a step that answers leads to registers of a kind, and from such, in a frame that is not the first, the
+-- next one raises the stack pointer.
+pub record Raises {U R : Type 0} (outcome : U → Bool → R → Memory → Outcome R) (stack_pointer : R → ℕ) (IsBehind : Memory → R → Type 0) : Type 0 where
+  pub leads : (rule : U) (first : Bool) (old new : R) (memory : Memory) (address : ℕ) → outcome rule first old memory ≡ answered address new → IsBehind memory new
+  pub rises : (rule : U) (old new : R) (memory : Memory) (address : ℕ) → IsBehind memory old → outcome rule false old memory ≡ answered address new → stack_pointer old < stack_pointer new
 
 -- of so many answered steps each after the first has raised the stack pointer, which stood here behind the first
 abbrev pub IsWithinRise : ℕ → ℕ → ℕ → Type 0

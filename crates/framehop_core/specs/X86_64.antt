@@ -1,3 +1,4 @@
 pub mod Registers
 pub mod Ordering
 pub mod Rules
+pub mod RuleLaws

@@ -1,6 +1,6 @@
 ghost use Rattle.std.specs.Prelude.{◌≡◌, ◌≢◌, ℕ, ◌≤◌, Bool, true, IsTrue, All, MatchResult, IfOk, OnSome, IfNone, Result};
 ghost use Rattle.framehop_core.specs.Memory.{Memory, AnswersAs};
-ghost use Rattle.framehop_core.specs.Runs.{run_of, StepsBy};
+ghost use Rattle.framehop_core.specs.Runs.{run_of, StepsBy, Raises};
 ghost use Rattle.framehop_core.specs.Outcome.{Outcome, answer_of, registers_after, address_at, word_at, word_from, read_of, above, beside};
 
 use crate::add_signed::checked_add_signed;
@@ -19,6 +19,12 @@ pub trait UnwindRule: Copy + fmt::Debug {
     // what a step that answers an address does to the registers, whatever the callback replies:
     // of a first frame (`true`) or another, before and after
     ghost advances: { Bool → Self.UnwindRegs → Self.UnwindRegs → Type 0 };
+
+    // the stack pointer of registers
+    ghost stack_pointer: { Self.UnwindRegs → ℕ };
+
+    // what the registers behind a step meet, over the memory that it has read
+    ghost is_behind: { Memory → Self.UnwindRegs → Type 0 };
 
     // whether the rule can be run; the others are made by no function of this library
     ghost executable: { Self → Bool };
@@ -75,6 +81,9 @@ pub trait UnwindRule: Copy + fmt::Debug {
     ghost function_start_rule_executable: { executable function_start_rule ≡ true };
 
     ghost fallback_executable: { executable fallback ≡ true };
+
+    // over one memory, each step behind another one raises the stack pointer
+    ghost raises: { Raises outcome stack_pointer is_behind };
 }
 
 /// How a run of rules ends.

@@ -1,5 +1,5 @@
 -- What the unwind rules of aarch64 do, as a table (framehop 0.16.0, documentation of `UnwindRuleAarch64`).
-use Rattle.std.specs.Prelude.{◌≡◌, ℕ, ◌*◌, ◌<◌, ◌≤◌, ℤ, pos, Bool, true, false, not, ◌&&◌, ◌||◌, ◌==◌, if◌then◌else◌, nat_le, OnSome, IfOk, Option, Result, Ok}
+use Rattle.std.specs.Prelude.{◌≡◌, ℕ, ◌*◌, ◌^◌, ◌<◌, ◌≤◌, ℤ, pos, Bool, true, false, not, ◌&&◌, ◌||◌, ◌==◌, if◌then◌else◌, nat_le, OnSome, IfOk, Option, Result, Ok}
 use Rattle.framehop_core.specs.Memory.{Memory}
 use Rattle.framehop_core.specs.Outcome.{Outcome, answered, root, refused, after, address_at, word_from, above, beside}
 use Rattle.framehop_core.specs.Runs.{IsWithinRise}
@@ -90,10 +90,11 @@ outcome_of_line (caller sp lr fp demand) first r memory =
 abbrev pub outcome : UnwindRuleAarch64 → Bool → Registers → Memory → Outcome Registers
 outcome rule first r memory = outcome_of_line (line_of rule first r) first r memory
 
--- a step to the caller's frame: sp does not fall, and it rises in a frame that is not the first
+-- a step to the caller's frame: sp does not fall, and it rises in a frame that is not the first; it stays one of 64 bits
 pub record Advances (first : Bool) (callee caller : Registers) : Type 0 where
   pub not_below : callee.sp ≤ caller.sp
   pub rises : first ≡ false → callee.sp < caller.sp
+  pub fits : caller.sp < 2 ^ 64
 
 -- where a call has answered an address, the registers have advanced
 abbrev pub AdvancesWhereAnswered : Bool → Result (Option ℕ) Error → Registers → Registers → Type 0

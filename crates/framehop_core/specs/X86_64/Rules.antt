@@ -123,6 +123,10 @@ outcome rule first r memory = outcome_of_line (line_of rule first r) r memory
 pub record Advances (first : Bool) (callee caller : Registers) : Type 0 where
   pub not_below : callee.rsp ≤ caller.rsp
 
+-- the instruction pointer is the word below rsp, as it is behind a step
+abbrev pub StandsBehindReturn : Memory → Registers → Type 0
+StandsBehindReturn memory r = word_from memory (pos r.rsp -ℤ pos 8) ≡ Ok r.ip
+
 -- where a call has answered an address, rsp has not fallen
 abbrev pub NotBelowWhereAnswered : Result (Option ℕ) Error → Registers → Registers → Type 0
 NotBelowWhereAnswered result old new = IfOk result (λ answer. OnSome answer (old.rsp ≤ new.rsp))

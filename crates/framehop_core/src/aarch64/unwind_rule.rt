@@ -67,6 +67,7 @@ pub enum UnwindRuleAarch64 {
 impl UnwindRule for UnwindRuleAarch64 {
     ghost use Rattle.std.specs.Prelude.{true, refl};
     ghost use Rattle.framehop_core.specs.Aarch64.Rules.{outcome, Advances};
+    ghost use Rattle.framehop_core.specs.Aarch64.RuleLaws.{raises};
     ghost use Rattle.framehop_core.specs.declared.aarch64.unwind_rule.UnwindRuleAarch64.TheVariants.{NoOp, UseFramePointer};
 
     type UnwindRegs = UnwindRegsAarch64;
@@ -74,6 +75,10 @@ impl UnwindRule for UnwindRuleAarch64 {
     ghost outcome = { outcome };
 
     ghost advances = { Advances };
+
+    ghost stack_pointer = { λ r. r.sp };
+
+    ghost is_behind = { λ memory r. Unit {0} };
 
     ghost executable = { λ _. true };
 
@@ -88,6 +93,8 @@ impl UnwindRule for UnwindRuleAarch64 {
     ghost function_start_rule_executable = { refl };
 
     ghost fallback_executable = { refl };
+
+    ghost raises = { raises };
 
     fn exec<F>(
         self,

@@ -126,7 +126,8 @@ where
 
 impl UnwindRule for UnwindRuleX86_64 {
     ghost use Rattle.std.specs.Prelude.{refl};
-    ghost use Rattle.framehop_core.specs.X86_64.Rules.{outcome, Advances, is_executable};
+    ghost use Rattle.framehop_core.specs.X86_64.Rules.{outcome, Advances, StandsBehindReturn, is_executable};
+    ghost use Rattle.framehop_core.specs.X86_64.RuleLaws.{raises};
     ghost use Rattle.framehop_core.specs.declared.x86_64.unwind_rule.UnwindRuleX86_64.TheVariants.{JustReturn, UseFramePointer};
 
     type UnwindRegs = UnwindRegsX86_64;
@@ -134,6 +135,10 @@ impl UnwindRule for UnwindRuleX86_64 {
     ghost outcome = { outcome };
 
     ghost advances = { Advances };
+
+    ghost stack_pointer = { λ r. r.rsp };
+
+    ghost is_behind = { StandsBehindReturn };
 
     ghost executable = { is_executable };
 
@@ -148,6 +153,8 @@ impl UnwindRule for UnwindRuleX86_64 {
     ghost function_start_rule_executable = { refl };
 
     ghost fallback_executable = { refl };
+
+    ghost raises = { raises };
 
     fn exec<F>(
         self,

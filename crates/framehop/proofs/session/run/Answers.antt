@@ -9,6 +9,7 @@ use Rattle.framehop.specs.Transparent.{IsTransparent}
 use Rattle.framehop.proofs.RoomLemmas.{transparent-start, transparent-after, Room-equal}
 use Rattle.framehop.proofs.RunLemmas.{Continues, Continues-start, Continues-served, refused-all, done-all}
 use Rattle.framehop.proofs.WorldLemmas.{world-replies-start}
+use Rattle.framehop.proofs.RiseLemmas.{replies-rise}
 use Rattle.framehop.proofs.session.run.Goals as goal
 
 pub loop-command-init : goal.loop-command-init
@@ -74,3 +75,8 @@ pub returns-clause-drawn : goal.returns-clause-drawn
 returns-clause-drawn g c = λ other.
     let none : into_iter_items c.loop-command.command-iterator ≡ [] = nil_from_length _ (sym c.loop-command.invariant.3 ∙ c.in-None.ensures.steps.0) in
     (done-all g.A.UnwindRule.UnwindRule.outcome g.A.UnwindRule.UnwindRule.fallback _ _ _ _ _ none c.loop-command.invariant.1).1
+
+pub returns-clause-bounded : goal.returns-clause-bounded
+returns-clause-bounded g c =
+    replies-rise g.A.UnwindRule.UnwindRule.outcome g.A.UnwindRule.UnwindRule.fallback g.A.UnwindRule.UnwindRule.stack_pointer g.A.UnwindRule.UnwindRule.is_behind g.met.A.UnwindRule.UnwindRule.raises
+    (empty_room c.args.cache_count c.args.generations.now) c.args.commands.items (map reply_view c.loop-command.replies.items) (sym (returns-clause-counted g c (λ e. cc)))

@@ -2,7 +2,7 @@ use Rattle.std.proofs.Common.{subst}
 use Rattle.framehop_core.specs.Runs.{Run, after_first, IsWithinRise}
 use Rattle.framehop_core.specs.Aarch64.Registers.{Registers}
 use Rattle.framehop_core.specs.Aarch64.Rules.{outcome}
-use Rattle.framehop_core.proofs.Aarch64Outcomes.{IsBoundedRun-steps, run_of-within}
+use Rattle.framehop_core.proofs.Aarch64Runs.{IsBoundedRun-steps, run_of-within}
 use Rattle.framehop_core.proofs.aarch64.unwind_rule.run_rules.Goals as goal
 
 pub returns-clause-bounded : goal.returns-clause-bounded

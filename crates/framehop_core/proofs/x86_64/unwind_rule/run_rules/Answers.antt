@@ -2,7 +2,7 @@ use Rattle.std.proofs.Common.{subst, true}
 use Rattle.framehop_core.specs.Runs.{Run, after_first, IsWithinRise}
 use Rattle.framehop_core.specs.X86_64.Registers.{Registers}
 use Rattle.framehop_core.specs.X86_64.Rules.{outcome}
-use Rattle.framehop_core.proofs.X86_64Outcomes.{steps-not_below, run_of-within}
+use Rattle.framehop_core.proofs.X86_64Runs.{steps-not_below, run_of-within}
 use Rattle.framehop_core.proofs.x86_64.unwind_rule.run_rules.Goals as goal
 
 pub returns-clause-not_below : goal.returns-clause-not_below

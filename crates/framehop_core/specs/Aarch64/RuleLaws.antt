@@ -1,16 +1,15 @@
--- aarch64: what a rule's step to the caller has found, and that sp rises.
+-- aarch64: what a rule's step to the caller has found, and that sp rises. Lemmas: the law of `UnwindRule` cites the last one.
 use Rattle.std.proofs.Common.{◌≡◌, ◌≢◌, ℕ, zero, suc, ◌+◌, ◌^◌, ◌<◌, ◌≤◌, ℤ, pos, Bool, true, false, not, ◌&&◌, ◌||◌, nat_eq, nat_le, List, Ok, refl, sym, ap, ◌∙◌, arith}
 use Rattle.std.proofs.lemmas.Bool.Decides.{nat_tests}
 use Rattle.framehop_core.specs.Memory.{Memory}
 use Rattle.framehop_core.specs.Outcome.{Outcome, answered, address_at}
 use Rattle.framehop_core.specs.Aarch64.Registers.{Registers, strip_ptr_auth}
-use Rattle.framehop_core.specs.Aarch64.Rules.{Source, Demand, nothing_more, stack_pointer_rises, frame_pointer_rises, value_from, demanded, finished, Line, caller, no_advance, stack_end, outcome_of_line, line_of, outcome, Advances, IsBoundedRun}
+use Rattle.framehop_core.specs.Aarch64.Rules.{Source, Demand, nothing_more, stack_pointer_rises, frame_pointer_rises, value_from, demanded, finished, Line, caller, no_advance, stack_end, outcome_of_line, line_of, outcome, Advances}
 use Rattle.framehop_core.specs.declared.error.Error.TheVariants.{DidNotAdvance, FramepointerUnwindingMovedBackwards}
 use Rattle.framehop_core.specs.declared.aarch64.unwind_rule.UnwindRuleAarch64.{UnwindRuleAarch64}
 use Rattle.framehop_core.specs.declared.aarch64.unwind_rule.UnwindRuleAarch64.TheVariants.{NoOp, NoOpIfFirstFrameOtherwiseFp, OffsetSp, OffsetSpIfFirstFrameOtherwiseStackEndsHere, OffsetSpAndRestoreLr, OffsetSpAndRestoreFpAndLr, UseFramePointer, UseFramepointerWithOffsets}
-use Rattle.framehop_core.specs.Runs.{StepsBy, run_of, after_first, IsWithinRise}
-use Rattle.framehop_core.proofs.Runs.{run_of-bound}
-use Rattle.framehop_core.proofs.Outcomes.{after-answered, address_at-ok, root_unless, refused_unless, same-answered}
+use Rattle.framehop_core.specs.Runs.{Raises}
+use Rattle.framehop_core.specs.OutcomeLaws.{after-answered, address_at-ok, root_unless, refused_unless, same-answered}
 
 -- a demand is met by the caller's sp and fp
 abbrev pub Meets : Demand → Registers → ℕ → ℕ → Type 0
@@ -101,6 +100,7 @@ kept_or_raised sp lr fp demand first r memory address new least e =
     record {
       not_below = omega arith;
       rises = λ caller. let moved = c.end.moved caller in omega (arith, same);
+      fits = omega (arith, same, c.sp_fits);
     }
 
 -- a line whose caller's sp cannot lie below the callee's
@@ -133,21 +133,8 @@ pub outcome-Advances : (rule : UnwindRuleAarch64) (first : Bool) (r : Registers)
 outcome-Advances rule first r memory address new e =
     line-Advances (line_of rule first r) first r memory address new (IsUpward-line_of rule first r) e
 
--- ---- runs
-
-steps-rise : (n : ℕ) (old new : Registers) → StepsBy Advances false n old new → n + old.sp ≤ new.sp
-steps-rise zero old new e = let same : old.sp ≡ new.sp = ap (λ t. t.sp) e in omega arith
-steps-rise (suc n) old new (next, step, steps) = omega (arith, step.rises refl, steps-rise n next new steps)
-
-pub IsBoundedRun-steps : (n : ℕ) (old new : Registers) → StepsBy Advances true n old new → IsBoundedRun n old new
-IsBoundedRun-steps zero old new e =
-    let same : old.sp ≡ new.sp = ap (λ t. t.sp) e in
-    record { first = old; step = λ h. absurd (omega arith); not_below = omega arith; within = omega arith }
-IsBoundedRun-steps (suc n) old new (next, step, steps) =
-    let rise = steps-rise n next new steps in
-    record { first = next; step = λ h. step; not_below = omega arith; within = omega arith }
-
--- the run over a memory is within the rise of sp since its first rule
-pub run_of-within : (rules : List UnwindRuleAarch64) (r : Registers) (memory : Memory) → IsWithinRise (run_of outcome true rules r memory).count (after_first outcome rules r memory).sp (run_of outcome true rules r memory).registers.sp
-run_of-within rules r memory =
-    run_of-bound outcome memory (λ s. s.sp) (λ s. Unit {0}) (λ rule first s address new e. tt) (λ rule s address new behind e. (outcome-Advances rule false s memory address new e).rises refl) rules r
+pub raises : Raises outcome (λ r. r.sp) (λ memory r. Unit {0})
+raises = record {
+  leads = λ rule first old new memory address e. tt;
+  rises = λ rule old new memory address behind e. (outcome-Advances rule false old memory address new e).rises refl;
+}

@@ -1,18 +1,17 @@
--- x86_64: what a rule's step to the caller has found, and that rsp does not fall.
+-- x86_64: what a rule's step to the caller has found, and that rsp rises. Lemmas: the law of `UnwindRule` cites the last one.
 use Rattle.std.proofs.Common.{◌≡◌, ◌≢◌, ℕ, zero, suc, ◌^◌, ◌<◌, ◌≤◌, ℤ, pos, ◌-ℤ◌, Bool, true, false, ◌&&◌, nat_eq, nat_le, cond, List, [], ◌∷◌, Option, Some, None, Result, Ok, Err, refl, sym, ap, ◌∙◌, arith}
 use Rattle.std.proofs.lemmas.Bool.Decides.{nat_tests}
 use Rattle.framehop_core.specs.Memory.{Memory}
 use Rattle.framehop_core.specs.Outcome.{Outcome, answered, address_at, word_at, word_from, above}
 use Rattle.framehop_core.specs.X86_64.Registers.{Registers, register, with_register}
-use Rattle.framehop_core.specs.X86_64.Rules.{Source, Demand, nothing_more, stack_pointer_rises, value_from, demanded, popped, return_address, returned, finished, Line, caller, pops, stack_end, outcome_of_line, line_of, frame_pointer_line, outcome, Advances}
+use Rattle.framehop_core.specs.X86_64.Rules.{Source, Demand, nothing_more, stack_pointer_rises, value_from, demanded, popped, return_address, returned, finished, Line, caller, pops, stack_end, outcome_of_line, line_of, frame_pointer_line, outcome, StandsBehindReturn}
 use Rattle.framehop_core.specs.declared.error.Error.{Error}
 use Rattle.framehop_core.specs.declared.error.Error.TheVariants.{DidNotAdvance, FramepointerUnwindingMovedBackwards}
 use Rattle.framehop_core.specs.declared.x86_64.unwindregs.Reg.{Reg}
 use Rattle.framehop_core.specs.declared.x86_64.unwind_rule.UnwindRuleX86_64.{UnwindRuleX86_64}
 use Rattle.framehop_core.specs.declared.x86_64.unwind_rule.UnwindRuleX86_64.TheVariants.{EndOfStack, JustReturn, JustReturnIfFirstFrameOtherwiseFp, OffsetSp, OffsetSpAndRestoreBp, UseFramePointer, OffsetSpAndPopRegisters}
-use Rattle.framehop_core.specs.Runs.{StepsBy, run_of, after_first, IsWithinRise}
-use Rattle.framehop_core.proofs.Runs.{run_of-bound}
-use Rattle.framehop_core.proofs.Outcomes.{after-answered, and_then-ok, address_at-ok, refused_unless, same-answered}
+use Rattle.framehop_core.specs.Runs.{Raises}
+use Rattle.framehop_core.specs.OutcomeLaws.{after-answered, and_then-ok, address_at-ok, refused_unless, same-answered}
 
 -- a demand is met by the caller's rsp
 abbrev pub Meets : Demand → Registers → ℕ → Type 0
@@ -131,10 +130,6 @@ popped-above memory address (register ∷ registers) r restored e =
     let at = pos-same _ _ (address_at-ok (above address 8) b.0 b.1).0 in
     omega (arith, popped-above memory b.0 registers (with_register r register a.0) restored b.2)
 
--- the instruction pointer is the word below rsp, as it is behind a step
-abbrev pub StandsBehindReturn : Memory → Registers → Type 0
-StandsBehindReturn memory r = word_from memory (pos r.rsp -ℤ pos 8) ≡ Ok r.ip
-
 -- what a step of a rule that answers has done
 pub record IsReturn (r : Registers) (memory : Memory) (address : ℕ) (new : Registers) : Type 0 where
   pub not_below : r.rsp ≤ new.rsp
@@ -200,13 +195,8 @@ IsReturn-rises r memory address new step behind =
     let ip : new.ip ≡ r.ip = ok-same new.ip r.ip (sym word ∙ behind) in
     step.moved same ip)
 
--- ---- runs
-
-pub steps-not_below : (first : Bool) (n : ℕ) (old new : Registers) → StepsBy Advances first n old new → old.rsp ≤ new.rsp
-steps-not_below first zero old new e = let same : old.rsp ≡ new.rsp = ap (λ s. s.rsp) e in omega arith
-steps-not_below first (suc n) old new (next, step, steps) = omega (arith, step.not_below, steps-not_below false n next new steps)
-
--- the run over a memory is within the rise of rsp since its first rule
-pub run_of-within : (rules : List UnwindRuleX86_64) (r : Registers) (memory : Memory) → IsWithinRise (run_of outcome true rules r memory).count (after_first outcome rules r memory).rsp (run_of outcome true rules r memory).registers.rsp
-run_of-within rules r memory =
-    run_of-bound outcome memory (λ s. s.rsp) (StandsBehindReturn memory) (λ rule first s address new e. (outcome-IsReturn rule first s memory address new e).behind) (λ rule s address new behind e. IsReturn-rises s memory address new (outcome-IsReturn rule false s memory address new e) behind) rules r
+pub raises : Raises outcome (λ r. r.rsp) StandsBehindReturn
+raises = record {
+  leads = λ rule first old new memory address e. (outcome-IsReturn rule first old memory address new e).behind;
+  rises = λ rule old new memory address behind e. IsReturn-rises old memory address new (outcome-IsReturn rule false old memory address new e) behind;
+}
