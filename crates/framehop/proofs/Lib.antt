@@ -7,3 +7,4 @@ mod RoomLemmas
 mod WorldLemmas
 mod RunLemmas
 mod RiseLemmas
+mod EndingLemmas

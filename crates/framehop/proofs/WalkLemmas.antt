@@ -1,11 +1,13 @@
 -- A walk, one call of the iterator at a time.
-use Rattle.std.proofs.Common.{◌≡◌, ℕ, suc, Bool, true, false, cond, ◌==◌, List, [], ◌∷◌, ◌++◌, Option, Some, None, Result, Ok, Err, refl, sym, ap, ◌∙◌, append_assoc, append-nil, subst}
+use Rattle.std.proofs.Common.{◌≡◌, ℕ, suc, Bool, true, false, cond, ◌==◌, List, [], ◌∷◌, ◌++◌, Option, Some, None, option_map, Result, Ok, Err, refl, sym, ap, ◌∙◌, append_assoc, append-nil, subst}
 use Rattle.framehop_core.specs.Outcome.{Outcome, answered, root, refused}
 use Rattle.framehop_core.specs.CodeAddress.{Place, at_return_address}
 use Rattle.framehop_core.specs.declared.error.Error.{Error}
 use Rattle.framehop_core.specs.declared.error.Error.TheVariants.{ReturnAddressIsNull}
-use Rattle.framehop.specs.Walk.{Walk, at_root, at_refusal, at_limit, frame_before, onward, onward_cache, callers, walk_from, cache_after_callers, cache_after_walk}
-use Rattle.framehop.specs.Iterator.{Progress, before, at_frame, at_end, Next, next_of, next_after, walk_on, cache_on, cache_after_next}
+use Rattle.framehop.specs.Walk.{Walk, End, at_root, at_refusal, at_limit, frame_before, onward, onward_cache, callers, walk_from, cache_after_callers, cache_after_walk}
+use Rattle.framehop.specs.SessionView.{end_of}
+use Rattle.framehop.specs.declared.session.WalkEnd.{WalkEnd}
+use Rattle.framehop.specs.Iterator.{Progress, before, at_frame, at_end, Next, next_of, next_after, frames_in, end_in, walk_on, cache_on, cache_after_next}
 
 -- the frames so far before a walk
 abbrev pub frames_before : {Regs : Type 0} → List Place → Walk Regs → Walk Regs
@@ -22,6 +24,9 @@ abbrev pub answered_cache : {Cache : Type 0} → Result (Option Place) Error →
 answered_cache (Ok (Some place)) rest now = rest
 answered_cache (Ok None) rest now = now
 answered_cache (Err error) rest now = now
+
+same-end : (a b : End) → Some a ≡ Some b → b ≡ a
+same-end a b e = cc
 
 module _ {Regs : Type 0} (step : Place → Regs → Outcome Regs) where
   onward-next : (n : ℕ) (place : Place) (old : Regs) (outcome : Outcome Regs) → let next = next_after place old outcome in onward (callers step n) old outcome ≡ answered_walk next.answer (walk_on step n next.progress next.regs) next.regs
@@ -71,23 +76,34 @@ module _ {Regs : Type 0} (step : Place → Regs → Outcome Regs) where
           let by_cache = sym (cache_on-suc left progress regs cache) ∙ so_far.cached in
           (rw (is_answer, is_progress, is_regs) by_walk, rw (is_answer, is_progress, is_regs, is_cache) by_cache)
 
-      pub WalksOn-frame : (here left : ℕ) (place : Place) → here ≡ suc left → Ok (Some place) ≡ (next_of step progress regs).answer → WalksOn front here total progress start regs regs0 cache cache0 → WalksOn (front ++ place ∷ []) left total progress' start regs' regs0 cache' cache0
-      WalksOn-frame here left place one_more is_answer so_far =
+      -- the call answers a frame, and the walk goes on
+      frame-answered : (here left : ℕ) → here ≡ suc left → (answer : Result (Option Place) Error) → answer ≡ (next_of step progress regs).answer → end_in answer ≡ None → WalksOn front here total progress start regs regs0 cache cache0 → WalksOn (front ++ frames_in answer) left total progress' start regs' regs0 cache' cache0
+      frame-answered here left one_more (Ok (Some place)) is_answer none so_far =
           let now = called here left one_more (Ok (Some place)) is_answer so_far in
           record {
             walk = ap (λ frames. record (walk_on step left progress' regs') { frames = frames }) (append_assoc front (place ∷ []) (walk_on step left progress' regs').frames) ∙ now.0;
             cached = now.1;
           }
+      frame-answered here left one_more (Ok None) is_answer none so_far = cc
+      frame-answered here left one_more (Err error) is_answer none so_far = cc
 
-      pub WalksOn-root : (here left : ℕ) → here ≡ suc left → Ok None ≡ (next_of step progress regs).answer → WalksOn front here total progress start regs regs0 cache cache0 → (◌≡◌ {A = Walk Regs} (record { frames = front; end = at_root; regs = regs' }) (walk_on step total start regs0)) × (cache' ≡ cache_on step cache_after total start regs0 cache0)
-      WalksOn-root here left one_more is_answer so_far =
+      pub WalksOn-next : (here left : ℕ) → here ≡ suc left → (ended : Option WalkEnd) → option_map end_of ended ≡ end_in (next_of step progress regs).answer → ended ≡ None → (front' : List Place) → front' ≡ front ++ frames_in (next_of step progress regs).answer → WalksOn front here total progress start regs regs0 cache cache0 → WalksOn front' left total progress' start regs' regs0 cache' cache0
+      WalksOn-next here left one_more ended is_end none front' is_front so_far =
+          rw is_front (frame-answered here left one_more (next_of step progress regs).answer refl (sym is_end ∙ ap (option_map end_of) none) so_far)
+
+      -- the call answers an end, and the walk is done
+      end-answered : (here left : ℕ) → here ≡ suc left → (answer : Result (Option Place) Error) → answer ≡ (next_of step progress regs).answer → (end : End) → end_in answer ≡ Some end → WalksOn front here total progress start regs regs0 cache cache0 → (◌≡◌ {A = Walk Regs} (record { frames = front ++ frames_in answer; end = end; regs = regs' }) (walk_on step total start regs0)) × (cache' ≡ cache_on step cache_after total start regs0 cache0)
+      end-answered here left one_more (Ok (Some place)) is_answer end some so_far = cc
+      end-answered here left one_more (Ok None) is_answer end some so_far =
           let now = called here left one_more (Ok None) is_answer so_far in
-          (ap (λ frames. record { frames = frames; end = at_root; regs = regs' }) (sym (append-nil front)) ∙ now.0, now.1)
-
-      pub WalksOn-refused : (here left : ℕ) (error : Error) → here ≡ suc left → Err error ≡ (next_of step progress regs).answer → WalksOn front here total progress start regs regs0 cache cache0 → (◌≡◌ {A = Walk Regs} (record { frames = front; end = at_refusal error; regs = regs' }) (walk_on step total start regs0)) × (cache' ≡ cache_on step cache_after total start regs0 cache0)
-      WalksOn-refused here left error one_more is_answer so_far =
+          (ap (λ e. record { frames = front ++ []; end = e; regs = regs' }) (same-end at_root end some) ∙ now.0, now.1)
+      end-answered here left one_more (Err error) is_answer end some so_far =
           let now = called here left one_more (Err error) is_answer so_far in
-          (ap (λ frames. record { frames = frames; end = at_refusal error; regs = regs' }) (sym (append-nil front)) ∙ now.0, now.1)
+          (ap (λ e. record { frames = front ++ []; end = e; regs = regs' }) (same-end (at_refusal error) end some) ∙ now.0, now.1)
+
+      pub WalksOn-ended : (here left : ℕ) → here ≡ suc left → (ended : Option WalkEnd) → option_map end_of ended ≡ end_in (next_of step progress regs).answer → (end : WalkEnd) → ended ≡ Some end → (front' : List Place) → front' ≡ front ++ frames_in (next_of step progress regs).answer → WalksOn front here total progress start regs regs0 cache cache0 → (◌≡◌ {A = Walk Regs} (record { frames = front'; end = end_of end; regs = regs' }) (walk_on step total start regs0)) × (cache' ≡ cache_on step cache_after total start regs0 cache0)
+      WalksOn-ended here left one_more ended is_end end some front' is_front so_far =
+          rw is_front (end-answered here left one_more (next_of step progress regs).answer refl (end_of end) (sym is_end ∙ ap (option_map end_of) some) so_far)
 
     walk_on-zero : (progress : Progress) (regs : Regs) → walk_on step 0 progress regs ≡ record { frames = []; end = at_limit; regs = regs }
     unfolding callers walk_from

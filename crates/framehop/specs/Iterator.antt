@@ -1,6 +1,6 @@
 -- The frames of a stack, one at a time.
-use Rattle.framehop.specs.Walk.{Walk, End, at_root, at_limit, callers, walk_from, cache_after_callers, cache_after_walk}
-use Rattle.std.specs.Prelude.{◌≡◌, ℕ, zero, suc, Bool, false, [], if◌then◌else◌, ◌==◌, Option, Some, None, Result, Ok, Err}
+use Rattle.framehop.specs.Walk.{Walk, End, at_root, at_refusal, at_limit, callers, walk_from, cache_after_callers, cache_after_walk}
+use Rattle.std.specs.Prelude.{◌≡◌, ℕ, zero, suc, Bool, false, List, [], ◌∷◌, if◌then◌else◌, ◌==◌, Option, Some, None, Result, Ok, Err}
 use Rattle.framehop_core.specs.Outcome.{Outcome, answered, root, refused}
 use Rattle.framehop_core.specs.CodeAddress.{Place, at_instruction_pointer, at_return_address, is_first_frame, place_of}
 use Rattle.framehop_core.specs.declared.code_address.FrameAddress.{FrameAddress}
@@ -63,6 +63,18 @@ abbrev pub cache_after_next : {Cache : Type 0} → (Cache → Place → Cache) �
 cache_after_next cache_after (before pc) cache = cache
 cache_after_next cache_after (at_frame place) cache = cache_after cache place
 cache_after_next cache_after at_end cache = cache
+
+-- the frames of an answer, one or none
+abbrev pub frames_in : Result (Option Place) Error → List Place
+frames_in (Ok (Some place)) = place ∷ []
+frames_in (Ok None) = []
+frames_in (Err error) = []
+
+-- how it ends a walk, if it does
+abbrev pub end_in : Result (Option Place) Error → Option End
+end_in (Ok (Some place)) = None
+end_in (Ok None) = Some at_root
+end_in (Err error) = Some (at_refusal error)
 
 -- the end of at most so many calls behind the end of a walk
 abbrev pub end_after : ℕ → End

@@ -13,6 +13,7 @@ pub mod Room
 pub mod SessionView
 pub mod Transparent
 pub mod Rise
+pub mod Aarch64
 pub use Rattle.framehop_core.specs.Memory
 pub use Rattle.framehop_core.specs.Outcome
 pub use Rattle.framehop_core.specs.CodeAddress

@@ -1,20 +1,22 @@
 //! Lists of commands over unwinders that share caches.
-ghost use Rattle.std.specs.Prelude.{◌≡◌, ◌≢◌, ◌≤◌, ℕ, [], map, replicate, IfOk, IfErr};
+ghost use Rattle.std.specs.Prelude.{◌≡◌, ◌≢◌, ◌+◌, ◌^◌, ◌≤◌, ℕ, [], ◌∷◌, ◌++◌, map, option_map, replicate, IfOk, IfErr, IfSome, IfNone};
 ghost use Rattle.framehop.specs.Memory.{Memory as StackMemory, AnswersAs, reply};
-ghost use Rattle.framehop.specs.Iterator.{walk_on, cache_on};
+ghost use Rattle.framehop.specs.Iterator.{before, at_frame, next_of, Moves, frames_in, end_in, cache_after_next, walk_on, cache_on};
 ghost use Rattle.framehop.specs.UnwindIterator.{unwinder_of, progress_in, regs_of, cache_of, read_stack_of};
-ghost use Rattle.framehop.specs.SessionView.{walk_of, result_view, reply_view};
-ghost use Rattle.framehop.specs.World.{memory_of, empty_world, world_replies};
-ghost use Rattle.framehop.specs.Walk.{walk_from, cache_after_walk};
+ghost use Rattle.framehop.specs.SessionView.{end_of, walk_of, result_view, reply_view};
+ghost use Rattle.framehop.specs.World.{memory_of, walked, empty_world, world_replies};
+ghost use Rattle.framehop.specs.Walk.{at_limit, walk_from, cache_after_walk};
 ghost use Rattle.framehop.specs.Soundness.{IsSound, cache_after};
-ghost use Rattle.framehop.specs.Room.{Room, step_of, empty_room, room_replies, next_after_all, world_result};
+ghost use Rattle.framehop.specs.Room.{Room, of_world, step_of, empty_room, room_replies, next_after_all, world_result};
 ghost use Rattle.framehop.specs.Fresh.{step};
 ghost use Rattle.framehop.specs.Transparent.{IsTransparent, Serves};
 ghost use Rattle.framehop.specs.Rise.{AreWithinRise};
+ghost use Rattle.framehop.specs.Aarch64.{aarch64_step, aarch64_cache_after, IsSoundAarch64};
 ghost use Rattle.framehop.specs.Cache.{empty_cache};
 ghost use Rattle.framehop.specs.CodeAddress.{Place, place_of};
 ghost use Rattle.framehop.specs.Outcome.{Outcome, answer_of, registers_after};
 
+use crate::aarch64::{CacheAarch64, UnwindRegsAarch64, UnwinderAarch64};
 use crate::cache::{AllocationPolicy, Cache};
 use crate::generations::Generations;
 use crate::rule_cache::CacheStats;
@@ -155,6 +157,46 @@ pub enum SessionError {
     GenerationsExhausted,
 }
 
+/// Calls an iterator once: pushes the frame that it answers, or answers how the walk ended.
+fn push_next_frame<U: Unwinder, F: FnMut(u64) -> Result<u64, ()>>(
+    unwinding: &mut UnwindIterator<'_, '_, '_, U, F>,
+    frames: &mut Vec<FrameAddress>,
+) -> Result<Option<WalkEnd>, SessionError>
+    requires { F.IsAlwaysCallable (read_stack_of unwinding.old).now }
+    ensures callable { F.IsAlwaysCallable (read_stack_of unwinding.new).now }
+    ensures same_unwinder { unwinder_of unwinding.new ≡ unwinder_of unwinding.old }
+    ensures same_cache { (cache_of unwinding.new).ghost_name ≡ (cache_of unwinding.old).ghost_name }
+    ensures same_callback { (read_stack_of unwinding.new).ghost_name ≡ (read_stack_of unwinding.old).ghost_name }
+    ensures stays_sound { U.is_sound (unwinder_of unwinding.old).now (cache_of unwinding.old).now
+        → U.is_sound (unwinder_of unwinding.new).now (cache_of unwinding.new).now }
+    ensures refused { IfErr result (λ error. error ≡ SessionError.OutOfMemory) }
+    ensures moves { IfOk result (λ end. IfNone end ((frame : FrameAddress)
+        × (frames.new.items ≡ frames.old.items ++ frame ∷ []) × (progress_in unwinding.new ≡ at_frame (place_of frame))
+        × Moves U.advances (progress_in unwinding.old) (regs_of unwinding.old) (place_of frame) (regs_of unwinding.new))) }
+    ensures kept { IfOk result (λ end. IfSome end (λ _. frames.new.items ≡ frames.old.items)) }
+    ensures cached { (cache_of unwinding.new).now ≡ cache_after_next (U.cache_after (unwinder_of unwinding.old).now)
+        (progress_in unwinding.old) (cache_of unwinding.old).now }
+    ensures answers { (memory : StackMemory) → AnswersAs F.FnMut (read_stack_of unwinding.old).now memory
+        → U.is_sound (unwinder_of unwinding.old).now (cache_of unwinding.old).now
+        → let next = next_of (λ place regs. U.step (unwinder_of unwinding.old).now place regs memory) (progress_in unwinding.old) (regs_of unwinding.old) in
+        AnswersAs F.FnMut (read_stack_of unwinding.new).now memory
+        × IfOk result (λ end. (option_map end_of end ≡ end_in next.answer)
+        × (map place_of frames.new.items ≡ map place_of frames.old.items ++ frames_in next.answer)
+        × (progress_in unwinding.new ≡ next.progress) × (regs_of unwinding.new ≡ next.regs)) }
+{
+    match unwinding.next() {
+        Ok(Some(frame)) => match frames.push(frame) {
+            Ok(()) => Ok(None),
+            Err(_) => Err(SessionError::OutOfMemory),
+        },
+        Ok(None) => Ok(Some(WalkEnd::Root)),
+        Err(error) => match error {
+            Error::OutOfMemory => Err(SessionError::OutOfMemory),
+            refusal => Ok(Some(WalkEnd::Refused(refusal))),
+        },
+    }
+}
+
 /// The next frames of an iterator, at most so many, and how the walk ended.
 fn next_frames<U: Unwinder, F: FnMut(u64) -> Result<u64, ()>>(
     alloc: Global,
@@ -178,19 +220,8 @@ fn next_frames<U: Unwinder, F: FnMut(u64) -> Result<u64, ()>>(
 {
     let mut frames = Vec::new(alloc);
     for _call in 0..limit {
-        match unwinding.next() {
-            Ok(Some(frame)) => {
-                if frames.push(frame).is_err() {
-                    return Err(SessionError::OutOfMemory);
-                }
-            }
-            Ok(None) => return Ok((frames, WalkEnd::Root)),
-            Err(error) => {
-                return match error {
-                    Error::OutOfMemory => Err(SessionError::OutOfMemory),
-                    refusal => Ok((frames, WalkEnd::Refused(refusal))),
-                };
-            }
+        if let Some(end) = push_next_frame(unwinding, &mut frames)? {
+            return Ok((frames, end));
         }
     }
     Ok((frames, WalkEnd::Limit))
@@ -493,4 +524,43 @@ pub fn run<D: SectionBytes + Drop, A: Arch, P: AllocationPolicy>(
         }
     }
     Ok(replies)
+}
+
+/// Walks a stack on aarch64 to its end, from an instruction pointer (AVMA) and initial registers
+/// on: the `Walk` reply without a limit. `read_stack` reads the stack word at an address (AVMA).
+/// It is refused with `OutOfMemory` alone.
+///
+/// The walk ends whatever the callback replies: each frame behind the second raises the stack
+/// pointer.
+pub fn walk_to_end_aarch64<D: SectionBytes + Drop, P: AllocationPolicy, F>(
+    alloc: Global,
+    unwinder: &UnwinderAarch64<D, P>,
+    cache: &mut CacheAarch64<P>,
+    pc: u64,
+    regs: UnwindRegsAarch64,
+    read_stack: &mut F,
+) -> Result<Reply<UnwindRegsAarch64>, SessionError>
+where
+    F: FnMut(u64) -> Result<u64, ()>,
+    requires { F.IsAlwaysCallable read_stack.old }
+    ensures callable { F.IsAlwaysCallable read_stack.new }
+    ensures stays_sound { IsSoundAarch64 unwinder.now cache.old.0 → IsSoundAarch64 unwinder.now cache.new.0 }
+    ensures refused { IfErr result (λ error. error ≡ SessionError.OutOfMemory) }
+    ensures answers { (memory : StackMemory) → AnswersAs F.FnMut read_stack.old memory
+        → IsSoundAarch64 unwinder.now cache.old.0
+        → AnswersAs F.FnMut read_stack.new memory
+        × IfOk result (λ reply. (limit : ℕ) × (limit ≤ 2 ^ 64 + 2) ×
+        let step = aarch64_step unwinder.now memory in
+        let walk = walk_from step limit pc regs in
+        (walk.end ≢ at_limit) × (reply_view reply ≡ of_world (walked walk))
+        × (cache.new ≡ cache_after_walk step (aarch64_cache_after unwinder.now) limit pc regs cache.old)) }
+{
+    let mut frames = Vec::new(alloc);
+    let mut unwinding = unwinder.iter_frames(pc, regs, cache, read_stack);
+    loop {
+        if let Some(end) = push_next_frame(&mut unwinding, &mut frames)? {
+            let regs = *unwinding.regs();
+            return Ok(Reply::Walk { frames, end, regs });
+        }
+    }
 }

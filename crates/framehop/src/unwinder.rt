@@ -259,12 +259,13 @@ impl<U: Unwinder, F: FnMut(u64) -> Result<u64, ()>> UnwindIterator<'_, '_, '_, U
         ensures moves { IfOk result (λ answer. IfSome answer (λ frame. (progress_in self.new ≡ at_frame (place_of frame))
             × Moves U.advances (progress_in self.old) (regs_of self.old) (place_of frame) (regs_of self.new))) }
         ensures no_memory_taken { result ≢ Err Error.OutOfMemory }
+        ensures stays_sound { U.is_sound (unwinder_of self.old).now (cache_of self.old).now
+            → U.is_sound (unwinder_of self.new).now (cache_of self.new).now }
         ensures cached { (cache_of self.new).now ≡ cache_after_next (U.cache_after (unwinder_of self.old).now) (progress_in self.old) (cache_of self.old).now }
         ensures answers { (memory : Memory) → AnswersAs F.FnMut (read_stack_of self.old).now memory
             → U.is_sound (unwinder_of self.old).now (cache_of self.old).now
             → let next = next_of (λ place regs. U.step (unwinder_of self.old).now place regs memory) (progress_in self.old) (regs_of self.old) in
             AnswersAs F.FnMut (read_stack_of self.new).now memory
-            × U.is_sound (unwinder_of self.new).now (cache_of self.new).now
             × (place_answer result ≡ next.answer) × (progress_in self.new ≡ next.progress) × (regs_of self.new ≡ next.regs) }
     {
         let next = match self.state {

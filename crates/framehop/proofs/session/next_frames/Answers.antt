@@ -1,36 +1,19 @@
-use Rattle.std.proofs.Common.{◌≡◌, ◌+◌, ◌-◌, [], ◌∷◌, ◌++◌, map, Ok, sym, ap, ◌∙◌, arith, rules}
-use Rattle.std.proofs.lemmas.List.{map-append}
-use Rattle.framehop.specs.CodeAddress.{place_of}
-use Rattle.framehop.specs.Iterator.{place_answer, place_option, progress_of}
-use Rattle.framehop.proofs.WalkLemmas.{WalksOn-frame, WalksOn-root, WalksOn-refused, WalksOn-limit}
+use Rattle.std.proofs.Common.{◌+◌, ◌-◌, map, arith, rules}
+use Rattle.framehop.specs.CodeAddress.{Place, place_of}
+use Rattle.framehop.specs.Outcome.{Outcome}
+use Rattle.framehop.specs.Iterator.{progress_of}
+use Rattle.framehop.proofs.WalkLemmas.{WalksOn-next, WalksOn-ended, WalksOn-limit}
 use Rattle.framehop.proofs.session.next_frames.Goals as goal
 
-pub returns-in-Ok-None-clause-answers : goal.returns-in-Ok-None-clause-answers
-returns-in-Ok-None-clause-answers g c = λ memory h sound.
+pub returns-in-Some-clause-answers : goal.returns-in-Some-clause-answers
+returns-in-Some-clause-answers g c = λ memory h sound.
+    let step : Place → g.row.U-UnwindRegs.Denot → Outcome g.row.U-UnwindRegs.Denot = λ place regs. g.U.Unwinder.step c.args.unwinding.now.unwinder.now place regs memory in
     let before = c.loop-call.invariant.4 memory h sound in
-    let called = rw c.loop-call.invariant.1 at (c.next.ensures.answers memory before.0 before.1) in
-    let cached = rw c.loop-call.invariant.1 at c.next.ensures.cached in
-    let answer = ap (λ frame. Ok (place_option frame)) (sym c.in-Ok-None.field-0-is) ∙ ap place_answer (sym c.in-Ok-None.is) ∙ called.2 in
-    WalksOn-root
-    (λ place regs. g.U.Unwinder.step c.args.unwinding.now.unwinder.now place regs memory) (g.U.Unwinder.cache_after c.args.unwinding.now.unwinder.now) (map place_of c.loop-call.frames.items) c.args.limit (progress_of c.loop-call.unwinding.state) (progress_of c.args.unwinding.now.state) (progress_of c.next.new.self.state) c.loop-call.unwinding.regs c.args.unwinding.now.regs c.next.new.self.regs c.loop-call.unwinding.cache.now c.args.unwinding.now.cache.now c.next.new.self.cache.now
-    called.3 called.4 cached (c.args.limit - c.loop-call._call) (c.args.limit - (c.loop-call._call + 1)) (omega arith) answer before.2
-
-pub returns-in_default : goal.returns-in_default
-returns-in_default g c = record {
-  callable = search rules;
-  same_unwinder = search rules;
-  same_cache = search rules;
-  same_callback = search rules;
-  refused = search rules;
-  answers = λ memory h sound.
-      let before = c.loop-call.invariant.4 memory h sound in
-      let called = rw c.loop-call.invariant.1 at (c.next.ensures.answers memory before.0 before.1) in
-      let cached = rw c.loop-call.invariant.1 at c.next.ensures.cached in
-      let answer = ap place_answer (sym c.in-Err.is) ∙ called.2 in
-      WalksOn-refused
-      (λ place regs. g.U.Unwinder.step c.args.unwinding.now.unwinder.now place regs memory) (g.U.Unwinder.cache_after c.args.unwinding.now.unwinder.now) (map place_of c.loop-call.frames.items) c.args.limit (progress_of c.loop-call.unwinding.state) (progress_of c.args.unwinding.now.state) (progress_of c.next.new.self.state) c.loop-call.unwinding.regs c.args.unwinding.now.regs c.next.new.self.regs c.loop-call.unwinding.cache.now c.args.unwinding.now.cache.now c.next.new.self.cache.now
-      called.3 called.4 cached (c.args.limit - c.loop-call._call) (c.args.limit - (c.loop-call._call + 1)) c.in-Err.error (omega arith) answer before.2;
-}
+    let called = rw c.loop-call.invariant.1 at (c.in_ok-end.ensures.answers memory before.0 before.1) in
+    let cached = rw c.loop-call.invariant.1 at c.in_ok-end.ensures.cached in
+    WalksOn-ended
+    step (g.U.Unwinder.cache_after c.args.unwinding.now.unwinder.now) (map place_of c.loop-call.frames.items) c.args.limit (progress_of c.loop-call.unwinding.state) (progress_of c.args.unwinding.now.state) (progress_of c.push_next_frame.new.unwinding.state) c.loop-call.unwinding.regs c.args.unwinding.now.regs c.push_next_frame.new.unwinding.regs c.loop-call.unwinding.cache.now c.args.unwinding.now.cache.now c.push_next_frame.new.unwinding.cache.now
+    called.1.2 called.1.3 cached (c.args.limit - c.loop-call._call) (c.args.limit - (c.loop-call._call + 1)) (omega arith) c.in_ok-end.field-0 called.1.0 c.in-Some.end c.in-Some.is (map place_of c.push_next_frame.new.frames.items) called.1.1 before.2
 
 pub loop-call-preserved : goal.loop-call-preserved
 loop-call-preserved g c = (
@@ -39,15 +22,16 @@ loop-call-preserved g c = (
   search rules,
   search rules,
   λ memory h sound.
+      let step : Place → g.row.U-UnwindRegs.Denot → Outcome g.row.U-UnwindRegs.Denot = λ place regs. g.U.Unwinder.step c.args.unwinding.now.unwinder.now place regs memory in
       let before = c.loop-call.invariant.4 memory h sound in
-      let called = rw c.loop-call.invariant.1 at (c.next.ensures.answers memory before.0 before.1) in
-      let cached = rw c.loop-call.invariant.1 at c.next.ensures.cached in
-      let answer = ap (λ frame. Ok (place_option frame)) (sym c.in-Ok-Some.field-0-is) ∙ ap place_answer (sym c.in-Ok-Some.is) ∙ called.2 in
-      let pushed : c.push.new.self.items ≡ c.loop-call.frames.items ++ c.in-Ok-Some.frame ∷ [] = search rules in
-      let next = WalksOn-frame
-      (λ place regs. g.U.Unwinder.step c.args.unwinding.now.unwinder.now place regs memory) (g.U.Unwinder.cache_after c.args.unwinding.now.unwinder.now) (map place_of c.loop-call.frames.items) c.args.limit (progress_of c.loop-call.unwinding.state) (progress_of c.args.unwinding.now.state) (progress_of c.next.new.self.state) c.loop-call.unwinding.regs c.args.unwinding.now.regs c.next.new.self.regs c.loop-call.unwinding.cache.now c.args.unwinding.now.cache.now c.next.new.self.cache.now
-      called.3 called.4 cached (c.args.limit - c.loop-call._call) (c.args.limit - (c.loop-call._call + 1)) (place_of c.in-Ok-Some.frame) (omega arith) answer before.2 in
-      (called.0, called.1, rw (pushed, map-append) next),
+      let called = rw c.loop-call.invariant.1 at (c.in_ok-end.ensures.answers memory before.0 before.1) in
+      let cached = rw c.loop-call.invariant.1 at c.in_ok-end.ensures.cached in (
+        called.0,
+        c.in_ok-end.ensures.stays_sound before.1,
+        WalksOn-next
+        step (g.U.Unwinder.cache_after c.args.unwinding.now.unwinder.now) (map place_of c.loop-call.frames.items) c.args.limit (progress_of c.loop-call.unwinding.state) (progress_of c.args.unwinding.now.state) (progress_of c.push_next_frame.new.unwinding.state) c.loop-call.unwinding.regs c.args.unwinding.now.regs c.push_next_frame.new.unwinding.regs c.loop-call.unwinding.cache.now c.args.unwinding.now.cache.now c.push_next_frame.new.unwinding.cache.now
+        called.1.2 called.1.3 cached (c.args.limit - c.loop-call._call) (c.args.limit - (c.loop-call._call + 1)) (omega arith) c.in_ok-end.field-0 called.1.0 c.in_default.is (map place_of c.push_next_frame.new.frames.items) called.1.1 before.2,
+      ),
 )
 
 pub returns-clause-answers : goal.returns-clause-answers
