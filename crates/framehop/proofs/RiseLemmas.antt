@@ -1,5 +1,5 @@
 -- Each step of a walk behind the first raises the stack pointer, so the walk has few frames.
-use Rattle.std.proofs.Common.{◌≡◌, ℕ, zero, suc, ◌+◌, ◌-◌, ◌<◌, ◌≤◌, Bool, true, false, cond, ◌==◌, List, [], ◌∷◌, length, Option, Some, None, Result, Ok, Err, refl, sym, ap, ◌∙◌, subst, arith}
+use Rattle.std.proofs.Common.{◌≡◌, ℕ, zero, suc, ◌+◌, ◌-◌, ◌<◌, ◌≤◌, Bool, true, false, cond, ◌==◌, List, [], ◌∷◌, length, Option, Some, None, Result, Ok, Err, refl, sym, subst, arith}
 use Rattle.framehop_core.specs.Memory.{Memory}
 use Rattle.framehop_core.specs.Outcome.{Outcome, answered, root, refused, registers_after}
 use Rattle.framehop_core.specs.CodeAddress.{Place, at_instruction_pointer, at_return_address, is_first_frame, lookup_address}
@@ -8,7 +8,7 @@ use Rattle.framehop_core.specs.declared.error.Error.TheVariants.{ReturnAddressIs
 use Rattle.framehop.specs.Modules.{ModuleView}
 use Rattle.framehop.specs.Fresh.{step}
 use Rattle.framehop.specs.Walk.{Walk, at_refusal, frame_before, onward, callers, walk_from}
-use Rattle.framehop.specs.World.{World, memory_of, modules_of, refusal_of, unless_refused, world_after}
+use Rattle.framehop.specs.World.{memory_of, refusal_of, unless_refused}
 use Rattle.framehop.specs.Room.{Room, RoomReply, world_of, unwinder_at, room_reply, room_after, reply_then, room_replies}
 use Rattle.framehop.specs.Rise.{IsWithinRise, IsReplyWithinRise, AreWithinRise}
 use Rattle.framehop.specs.declared.session.Command.{Command}

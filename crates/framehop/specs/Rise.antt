@@ -1,5 +1,5 @@
 -- How long a walk can be: with each step behind the first one the stack pointer rises.
-use Rattle.std.specs.Prelude.{ℕ, ◌+◌, ◌-◌, ◌≤◌, List, [], ◌∷◌, length}
+use Rattle.std.specs.Prelude.{ℕ, ◌+◌, ◌-◌, ◌≤◌, List, ◌∷◌, length}
 use Rattle.framehop_core.specs.Outcome.{registers_after}
 use Rattle.framehop_core.specs.CodeAddress.{at_instruction_pointer}
 use Rattle.framehop.specs.Walk.{Walk}

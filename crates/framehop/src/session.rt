@@ -1,7 +1,7 @@
 //! Lists of commands over unwinders that share caches.
 ghost use Rattle.std.specs.Prelude.{◌≡◌, ◌≢◌, ◌+◌, ◌^◌, ◌≤◌, ℕ, [], ◌∷◌, ◌++◌, map, option_map, replicate, IfOk, IfErr, IfSome, IfNone};
 ghost use Rattle.framehop.specs.Memory.{Memory as StackMemory, AnswersAs, reply};
-ghost use Rattle.framehop.specs.Iterator.{before, at_frame, next_of, Moves, frames_in, end_in, cache_after_next, walk_on, cache_on};
+ghost use Rattle.framehop.specs.Iterator.{at_frame, next_of, Moves, frames_in, end_in, cache_after_next, walk_on, cache_on};
 ghost use Rattle.framehop.specs.UnwindIterator.{unwinder_of, progress_in, regs_of, cache_of, read_stack_of};
 ghost use Rattle.framehop.specs.SessionView.{end_of, walk_of, result_view, reply_view};
 ghost use Rattle.framehop.specs.World.{memory_of, walked, empty_world, world_replies};

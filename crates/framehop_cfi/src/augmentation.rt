@@ -1,5 +1,5 @@
 //! The augmentation of a CIE (LSB, `.eh_frame`).
-ghost use Rattle.std.specs.Prelude.{◌≡◌, ◌≢◌, Err, ◌≤◌, ◌<◌, ◌==◌, position, IfOk, IfSome, length, take, drop};
+ghost use Rattle.std.specs.Prelude.{◌≡◌, ◌≢◌, Err, ◌≤◌, ◌<◌, ◌==◌, position, IfOk, IfSome, length};
 ghost use Rattle.framehop_cfi.specs.Augmentation.{terminator_at, counted_at, letter_at, letters_at, augmentation_at, augmentation_data, personality_at};
 
 use crate::bytes::read_u8;

@@ -1,7 +1,6 @@
 //! The row of an address: the instructions of a CIE and of an FDE, run up to it (DWARF 5 section 6.4.3).
-ghost use Rattle.std.specs.Prelude.{◌≡◌, ◌≢◌, ◌≤◌, ◌*◌, length, IfOk, IfSome, IfErr, OnOk, OnErr, IsErrOf, None, Err, vec_len};
-ghost use Rattle.framehop_cfi.specs.Row.{empty_row, rule_of, with_rule, without_rule};
-ghost use Rattle.framehop_cfi.specs.Machine.{Machine, effect, setting, restoring, restoring_to, remembering, recalling, with_cfa};
+ghost use Rattle.std.specs.Prelude.{◌≡◌, ◌≢◌, ◌≤◌, ◌*◌, length, IfOk, IfErr, OnOk, OnErr, IsErrOf, None, Err, vec_len};
+ghost use Rattle.framehop_cfi.specs.Machine.{Machine, effect, setting, restoring, remembering, recalling};
 ghost use Rattle.framehop_cfi.specs.Outcome.{Becomes};
 ghost use Rattle.framehop_cfi.specs.RowMeaning.{IsMachineAt};
 ghost use Rattle.framehop_cfi.specs.RowAt.{location_after, risen, is_beyond, run_from, machine_at, start, begun, covers};

@@ -1,8 +1,7 @@
 //! The entries of a call frame section: CIEs and FDEs (DWARF 5 section 6.4.1; LSB, `.eh_frame`).
 ghost use Rattle.std.specs.Prelude.{◌≡◌, ◌≢◌, Err, IfErr, ◌≤◌, ◌<◌, ℕ, IfOk, length, take};
-ghost use Rattle.framehop_cfi.specs.Span.{IsWithin};
 ghost use Rattle.framehop_cfi.specs.EntryMeaning.{IsCie, IsFde};
-ghost use Rattle.framehop_cfi.specs.Entry.{eh_frame_id, debug_frame_id, id_at, head_at, cie_at, fde_at, cie_fields, fde_fields, sizes_at, sizes_of, return_register_at, alignments_at, skipped_at, EndsWithin, EndsBefore, entry_of_head, bases_of, is_known_version, versioned_fields, fde_range};
+ghost use Rattle.framehop_cfi.specs.Entry.{eh_frame_id, debug_frame_id, head_at, cie_at, fde_at, cie_fields, fde_fields, sizes_at, sizes_of, return_register_at, alignments_at, skipped_at, EndsWithin, EndsBefore, entry_of_head, bases_of, is_known_version, versioned_fields, fde_range};
 
 use crate::augmentation::{find_terminator, read_counted};
 use crate::bytes::{read_u8, read_u32, read_u64};

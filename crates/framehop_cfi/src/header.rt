@@ -1,6 +1,6 @@
 //! The binary search table of `.eh_frame_hdr` (LSB, `.eh_frame_hdr`), read in place.
 ghost use Rattle.std.specs.Prelude.{◌≡◌, ◌<◌, ◌≤◌, ◌+◌, ◌*◌, ◌^◌, IfOk, IfSome, IfNone, IsErr, Ok};
-ghost use Rattle.framehop_cfi.specs.Header.{size_of_format, table_size, held_rows, encoded_at, checked_at, encodings_at, layout_of, start_of_row, fde_of_row, starts_of, offset_from, fde_offset_of, value_of};
+ghost use Rattle.framehop_cfi.specs.Header.{size_of_format, table_size, encoded_at, encodings_at, layout_of, start_of_row, fde_of_row, starts_of, fde_offset_of, value_of};
 ghost use Rattle.framehop_cfi.specs.Pointer.{pointer_at};
 
 use crate::bytes::read_u8;

@@ -1,5 +1,5 @@
 //! Call frame instructions (DWARF 5 section 6.4.2).
-ghost use Rattle.std.specs.Prelude.{◌≡◌, ◌≢◌, Err, ℤ, pos, ◌*ℤ◌, ◌≤◌, ◌<◌, IfOk};
+ghost use Rattle.std.specs.Prelude.{◌≡◌, ◌≢◌, Err, ◌≤◌, ◌<◌, IfOk};
 ghost use Rattle.framehop_cfi.specs.Instruction.{instruction_at, operands_at, coded_at, advance_at, cfa_at, def_cfa_at, def_cfa_factored_at, set_rule_at, rule_at, expression_at, offset_at, factored_at, factored_signed_at, checked_i64, register_at};
 
 use crate::augmentation::read_counted;

@@ -1,5 +1,5 @@
 //! How a module lends the bytes of its sections, and tells where they lie.
-ghost use Rattle.std.specs.Prelude.{◌≡◌, ℕ, List, [], Option};
+ghost use Rattle.std.specs.Prelude.{◌≡◌, ℕ, List, Option};
 ghost use Rattle.framehop_cfi.specs.SectionTable.{SectionTable, range_of, data_of, without_data};
 
 use std::ops::Range;

@@ -1,9 +1,8 @@
 //! An index of a section's FDEs by their starts, for a section that has no table of its own.
-ghost use Rattle.std.specs.Prelude.{◌≡◌, ◌≢◌, ◌<◌, ◌≤◌, length, take, IfOk, IfErr, OnOk, Ok, Err};
+ghost use Rattle.std.specs.Prelude.{◌≡◌, ◌≢◌, ◌<◌, ◌≤◌, length, IfOk, IfErr, Ok, Err};
 ghost use Rattle.std.specs.Prelude.{IsPermutation, ℕ, map};
 ghost use Rattle.framehop_cfi.specs.Entry.{cie_at, bases_of};
-ghost use Rattle.framehop_cfi.specs.Entries.{Section};
-ghost use Rattle.framehop_dwarf.specs.Index.{row_of, rows_of, row_at, fde_offset_at, read_row_of, IsKnown, Gives, Indexes, IsIndexOfEntries, HasNoIndex};
+ghost use Rattle.framehop_dwarf.specs.Index.{row_of, rows_of, fde_offset_at, read_row_of, IsKnown, Gives, Indexes, IsIndexOfEntries, HasNoIndex};
 ghost use Rattle.framehop_dwarf.specs.declared.index.DwarfCfiIndexError.TheVariants.{Gimli};
 ghost use Rattle.framehop_cfi.specs.declared.read_error.ReadError.TheVariants.{OutOfMemory};
 ghost use Rattle.framehop_dwarf.specs.Bases.{base_addresses_of};

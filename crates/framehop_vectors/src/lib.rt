@@ -8,6 +8,8 @@ mod library;
 #[cfg(test)]
 mod program;
 #[cfg(test)]
+mod readme;
+#[cfg(test)]
 mod replies;
 #[cfg(test)]
 mod sections;

@@ -1,41 +1,8 @@
-use crate::sections::NoSections;
+use crate::readme::{module, read_stack};
 use framehop::aarch64::{CacheAarch64, UnwindRegsAarch64, UnwinderAarch64};
-use framehop::unwinder::{Module, ModuleListError, Unwinder};
+use framehop::unwinder::{ModuleListError, Unwinder};
 use framehop::{FrameAddress, Generations, MayAllocateDuringUnwind, MustNotAllocateDuringUnwind};
-use std::alloc::Global;
 use std::test::Fail;
-
-fn module(alloc: Global, name: &str, start: u64, end: u64) -> Result<Module<Vec<u8>>, Fail> {
-    let name = String::from_str(alloc, name)?;
-    let sections = NoSections {
-        base_svma: 0x100000000,
-    };
-    Ok(Module::new(alloc, name, start..end, start, sections)?)
-}
-
-const STACK: [u64; 16] = [
-    1,
-    2,
-    3,
-    4,
-    0x40,
-    0x1004fcdc4,
-    5,
-    6,
-    0x70,
-    0x100528a28,
-    7,
-    8,
-    9,
-    10,
-    0,
-    0,
-];
-
-/// The word of the stack at the address.
-fn read_stack(address: u64) -> Result<u64, ()> {
-    STACK.get((address / 8) as usize).copied().ok_or(())
-}
 
 #[test]
 fn walks_with_an_iterator(rt: HostRuntime) -> Result<(), Fail> {

@@ -1,41 +1,10 @@
-use crate::sections::NoSections;
-use framehop::aarch64::{
-    ArchAarch64, CacheAarch64, PtrAuthMask, UnwindRegsAarch64, UnwinderAarch64,
-};
-use framehop::session::{Command, Memory, Reply, WalkEnd, run};
-use framehop::unwinder::{Module, ModuleListError, Unwinder};
-use framehop::{
-    CacheStats, FrameAddress, Generations, MayAllocateDuringUnwind, MustNotAllocateDuringUnwind,
-};
+use crate::readme::{STACK, module, read_stack};
+use framehop::aarch64::{ArchAarch64, CacheAarch64, UnwindRegsAarch64, UnwinderAarch64};
+use framehop::session::{Command, Memory, Reply, WalkEnd, run, walk_to_end_aarch64};
+use framehop::unwinder::Unwinder;
+use framehop::{CacheStats, FrameAddress, Generations, MayAllocateDuringUnwind};
 use std::alloc::Global;
 use std::test::Fail;
-
-const STACK: [u64; 16] = [
-    1,
-    2,
-    3,
-    4,
-    0x40,
-    0x1004fcdc4,
-    5,
-    6,
-    0x70,
-    0x100528a28,
-    7,
-    8,
-    9,
-    10,
-    0,
-    0,
-];
-
-fn module(alloc: Global, start: u64, end: u64) -> Result<Module<Vec<u8>>, Fail> {
-    let name = String::from_str(alloc, "mybinary")?;
-    let sections = NoSections {
-        base_svma: 0x100000000,
-    };
-    Ok(Module::new(alloc, name, start..end, start, sections)?)
-}
 
 type Commands = Vec<Command<Vec<u8>, UnwindRegsAarch64>>;
 
@@ -45,7 +14,7 @@ fn walk_commands(alloc: Global, limit: u32) -> Result<Commands, Fail> {
     commands.push(Command::New)?;
     commands.push(Command::Add {
         unwinder: 0,
-        module: module(alloc, 0x1003fc000, 0x100634000)?,
+        module: module(alloc, "mybinary", 0x1003fc000, 0x100634000)?,
     })?;
     commands.push(Command::Walk {
         unwinder: 0,
@@ -127,6 +96,35 @@ fn walks_by_frame_pointers(rt: HostRuntime) -> Result<(), Fail> {
             _ => assert!(rt; false, "other replies"),
         }
     }
+    Ok(())
+}
+
+#[test]
+fn walks_to_the_end(rt: HostRuntime) -> Result<(), Fail> {
+    let alloc = rt.alloc();
+    let mut generations = Generations::new();
+    let mut cache = CacheAarch64::<MayAllocateDuringUnwind>::new(alloc)?;
+    let mut unwinder: UnwinderAarch64<Vec<u8>> = UnwinderAarch64::new(alloc, &mut generations)?;
+    let binary = module(alloc, "mybinary", 0x1003fc000, 0x100634000)?;
+    assert!(rt; unwinder.add_module(binary, &mut generations).is_ok());
+    let regs = UnwindRegsAarch64::new(0x1004e0830, 0x10, 0x20);
+    let mut read = |address| read_stack(address);
+    let reply = walk_to_end_aarch64(alloc, &unwinder, &mut cache, 0x1005252c0, regs, &mut read)?;
+    match reply {
+        Reply::Walk { frames, end, regs } => {
+            assert_eq!(rt;
+                lines(alloc, frames.as_slice())?.as_str(),
+                "ip 1005252c0 ra 1004fcdc4 ra 100528a28 "
+            );
+            assert_eq!(rt; end, WalkEnd::Root);
+            assert_eq!(rt;
+                (regs.lr(), regs.sp(), regs.fp()),
+                (0x100528a28, 0x50, 0x70)
+            );
+        }
+        _ => assert!(rt; false, "another reply"),
+    }
+    assert_eq!(rt; (cache.stats().hits(), cache.stats().misses()), (0, 3));
     Ok(())
 }
 

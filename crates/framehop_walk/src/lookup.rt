@@ -1,9 +1,9 @@
 // Looks for a section by its name.
-ghost use Rattle.std.specs.Prelude.{◌≡◌, slice_get, option_map};
+ghost use Rattle.std.specs.Prelude.{◌≡◌};
 ghost use Rattle.std.specs.List.{position, find};
 ghost use Rattle.std.specs.Option.{option_copied};
-ghost use Rattle.framehop_cfi.specs.SectionTable.{range_of, data_of, entry_of, without_data};
-ghost use Rattle.framehop_walk.specs.Sections.{entries_view, entry_view, is_named};
+ghost use Rattle.framehop_cfi.specs.SectionTable.{range_of, data_of, without_data};
+ghost use Rattle.framehop_walk.specs.Sections.{entries_view, is_named};
 
 use crate::sections::Section;
 use std::ops::Range;

@@ -29,8 +29,8 @@ loop-call-preserved g c = (
         called.0,
         c.in_ok-end.ensures.stays_sound before.1,
         WalksOn-next
-        step (g.U.Unwinder.cache_after c.args.unwinding.now.unwinder.now) (map place_of c.loop-call.frames.items) c.args.limit (progress_of c.loop-call.unwinding.state) (progress_of c.args.unwinding.now.state) (progress_of c.push_next_frame.new.unwinding.state) c.loop-call.unwinding.regs c.args.unwinding.now.regs c.push_next_frame.new.unwinding.regs c.loop-call.unwinding.cache.now c.args.unwinding.now.cache.now c.push_next_frame.new.unwinding.cache.now
-        called.1.2 called.1.3 cached (c.args.limit - c.loop-call._call) (c.args.limit - (c.loop-call._call + 1)) (omega arith) c.in_ok-end.field-0 called.1.0 c.in_default.is (map place_of c.push_next_frame.new.frames.items) called.1.1 before.2,
+            step (g.U.Unwinder.cache_after c.args.unwinding.now.unwinder.now) (map place_of c.loop-call.frames.items) c.args.limit (progress_of c.loop-call.unwinding.state) (progress_of c.args.unwinding.now.state) (progress_of c.push_next_frame.new.unwinding.state) c.loop-call.unwinding.regs c.args.unwinding.now.regs c.push_next_frame.new.unwinding.regs c.loop-call.unwinding.cache.now c.args.unwinding.now.cache.now c.push_next_frame.new.unwinding.cache.now
+            called.1.2 called.1.3 cached (c.args.limit - c.loop-call._call) (c.args.limit - (c.loop-call._call + 1)) (omega arith) c.in_ok-end.field-0 called.1.0 c.in_default.is (map place_of c.push_next_frame.new.frames.items) called.1.1 before.2,
       ),
 )
 

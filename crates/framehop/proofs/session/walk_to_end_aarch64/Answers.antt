@@ -26,8 +26,8 @@ loop-unwinding-preserved g c =
           let called = rw l.invariant.1 at (c.in_ok-end.ensures.answers memory so_far.0 (l.invariant.4 sound)) in (
             called.0,
             λ left. let total : length l.frames.items + suc left ≡ length n.frames.items + left = omega (arith, sooner.longer) in WalksOn-next
-            (aarch64_step c.args.unwinder.now memory) (aarch64_cache_after c.args.unwinder.now) (map place_of l.frames.items) (length n.frames.items + left) (progress_of l.unwinding.state) (before c.args.pc) (progress_of n.unwinding.state) l.unwinding.regs c.args.regs n.unwinding.regs l.unwinding.cache.now c.args.cache.now n.unwinding.cache.now
-            called.1.2 called.1.3 cached (suc left) left (omega arith) c.in_ok-end.field-0 called.1.0 c.in_default.is (map place_of n.frames.items) called.1.1 (rw total at (so_far.1 (suc left))),
+                (aarch64_step c.args.unwinder.now memory) (aarch64_cache_after c.args.unwinder.now) (map place_of l.frames.items) (length n.frames.items + left) (progress_of l.unwinding.state) (before c.args.pc) (progress_of n.unwinding.state) l.unwinding.regs c.args.regs n.unwinding.regs l.unwinding.cache.now c.args.cache.now n.unwinding.cache.now
+                called.1.2 called.1.3 cached (suc left) left (omega arith) c.in_ok-end.field-0 called.1.0 c.in_default.is (map place_of n.frames.items) called.1.1 (rw total at (so_far.1 (suc left))),
           ),
     )
 
