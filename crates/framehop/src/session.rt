@@ -1,17 +1,17 @@
 //! Lists of commands over unwinders that share caches.
-ghost use Rattle.std.specs.Prelude.{◌≡◌, ◌≢◌, ◌+◌, ◌^◌, ◌≤◌, ℕ, [], ◌∷◌, ◌++◌, map, option_map, replicate, IfOk, IfErr, IfSome, IfNone};
+ghost use Rattle.std.specs.Prelude.{◌≡◌, ◌≢◌, ◌+◌, ◌≤◌, ℕ, [], ◌∷◌, ◌++◌, map, option_map, replicate, IfOk, IfErr, IfSome, IfNone};
 ghost use Rattle.framehop.specs.Memory.{Memory as StackMemory, AnswersAs, reply};
 ghost use Rattle.framehop.specs.Iterator.{at_frame, next_of, Moves, frames_in, end_in, cache_after_next, walk_on, cache_on};
 ghost use Rattle.framehop.specs.UnwindIterator.{unwinder_of, progress_in, regs_of, cache_of, read_stack_of};
 ghost use Rattle.framehop.specs.SessionView.{end_of, walk_of, result_view, reply_view};
-ghost use Rattle.framehop.specs.World.{memory_of, walked, empty_world, world_replies};
-ghost use Rattle.framehop.specs.Walk.{at_limit, walk_from, cache_after_walk};
+ghost use Rattle.framehop.specs.World.{memory_of, empty_world, world_replies};
+ghost use Rattle.framehop.specs.Walk.{walk_from, cache_after_walk};
 ghost use Rattle.framehop.specs.Soundness.{IsSound, cache_after};
-ghost use Rattle.framehop.specs.Room.{Room, of_world, step_of, empty_room, room_replies, next_after_all, world_result};
+ghost use Rattle.framehop.specs.Room.{Room, step_of, empty_room, room_replies, next_after_all, world_result};
 ghost use Rattle.framehop.specs.Fresh.{step};
 ghost use Rattle.framehop.specs.Transparent.{IsTransparent, Serves};
 ghost use Rattle.framehop.specs.Rise.{AreWithinRise};
-ghost use Rattle.framehop.specs.Aarch64.{aarch64_step, aarch64_cache_after, IsSoundAarch64};
+ghost use Rattle.framehop.specs.Aarch64.{IsSoundAarch64, IsWalkToEnd};
 ghost use Rattle.framehop.specs.Cache.{empty_cache};
 ghost use Rattle.framehop.specs.CodeAddress.{Place, place_of};
 ghost use Rattle.framehop.specs.Outcome.{Outcome, answer_of, registers_after};
@@ -549,11 +549,7 @@ where
     ensures answers { (memory : StackMemory) → AnswersAs F.FnMut read_stack.old memory
         → IsSoundAarch64 unwinder.now cache.old.0
         → AnswersAs F.FnMut read_stack.new memory
-        × IfOk result (λ reply. (limit : ℕ) × (limit ≤ 2 ^ 64 + 2) ×
-        let step = aarch64_step unwinder.now memory in
-        let walk = walk_from step limit pc regs in
-        (walk.end ≢ at_limit) × (reply_view reply ≡ of_world (walked walk))
-        × (cache.new ≡ cache_after_walk step (aarch64_cache_after unwinder.now) limit pc regs cache.old)) }
+        × IfOk result (λ reply. IsWalkToEnd unwinder.now memory pc regs (reply_view reply) cache.old cache.new) }
 {
     let mut frames = Vec::new(alloc);
     let mut unwinding = unwinder.iter_frames(pc, regs, cache, read_stack);

@@ -42,13 +42,11 @@ returns-in-Some-clause-answers g c = λ memory h sound.
     (aarch64_step c.args.unwinder.now memory) (aarch64_cache_after c.args.unwinder.now) (map place_of l.frames.items) (length l.frames.items + 1) (progress_of l.unwinding.state) (before c.args.pc) (progress_of n.unwinding.state) l.unwinding.regs c.args.regs n.unwinding.regs l.unwinding.cache.now c.args.cache.now n.unwinding.cache.now
     called.1.2 called.1.3 cached 1 0 (omega arith) c.in_ok-end.field-0 called.1.0 c.in-Some.end c.in-Some.is (map place_of n.frames.items) called.1.1 (so_far.1 1) in (
       (let answers = called.0 in search (rules, answers)),
-      (
-        length l.frames.items + 1,
-        omega (arith, l.invariant.5.few, some-left (progress_of l.unwinding.state) l.unwinding.regs l.invariant.5.fits),
-        (
-          λ limit. ended-not-limit c.in_ok-end.field-0 _ called.1.0 c.in-Some.end c.in-Some.is (ap (λ w. w.end) walk.0 ∙ limit),
-          ap (λ w. of_world (walked w)) (ap (walk_of n.frames.items c.in-Some.end) c.regs-regs.ensures ∙ walk.0),
-          (let last = c.drop-unwinding-in-Some.ensures.cache ∙ walk.1 in search (rules, last)),
-        ),
-      ),
+      record {
+        limit = length l.frames.items + 1;
+        few = omega (arith, l.invariant.5.few, some-left (progress_of l.unwinding.state) l.unwinding.regs l.invariant.5.fits);
+        ended = λ limit. ended-not-limit c.in_ok-end.field-0 _ called.1.0 c.in-Some.end c.in-Some.is (ap (λ w. w.end) walk.0 ∙ limit);
+        reply_is = ap (λ w. of_world (walked w)) (ap (walk_of n.frames.items c.in-Some.end) c.regs-regs.ensures ∙ walk.0);
+        cached = (let last = c.drop-unwinding-in-Some.ensures.cache ∙ walk.1 in search (rules, last));
+      },
     )
