@@ -404,6 +404,13 @@ fn rows_of_debug_frame(rt: HostRuntime) -> Result<(), Fail> {
     )
 }
 
+#[test]
+fn rows_of_aarch64(rt: HostRuntime) -> Result<(), Fail> {
+    let (text, address) = (AARCH64_BYTES, AARCH64_ADDRESS);
+    let eh_frame = UnwindSectionType::EhFrame;
+    compare::<StoreOnStack>(&rt, eh_frame, text, address, &AARCH64_FDES, &AARCH64_ROWS)
+}
+
 /// The row of the first address of an FDE that begins with so many instructions that remember the row.
 fn remembered<S: UnwindContextStorage>(
     rt: &(impl std::process::Abort + AllocGlobal),
@@ -950,4 +957,36 @@ const COMPILED_ROWS: [(u32, u64, &str); 12] = [
     (0x40, 0x106a, "r7+24 3=c-24 6=c-16 16=c-8"),
     (0x40, 0x106e, "r7+16 3=c-24 6=c-16 16=c-8"),
     (0x40, 0x106f, "r7+8 3=c-24 6=c-16 16=c-8"),
+];
+
+/// The `.eh_frame` of three functions compiled for aarch64 with pointer authentication.
+const AARCH64_BYTES: &str = "\
+     1400000000000000017a5200017c1e011b0c1f00000000001c0000001c000000640001001c00000000442d48\
+     0c1d109e029d0400000000001c0000003c000000600001003800000000442d4c0c1d20930294049e069d0800\
+     240000005c000000780001007000000000442d580c1d4093029404950696089c0c9e0e9d1000000000000000";
+
+const AARCH64_ADDRESS: u64 = 0x438;
+
+/// Its FDEs: offset, first address and length.
+const AARCH64_FDES: [(u32, u64, u64); 3] = [
+    (0x18, 0x104bc, 0x1c),
+    (0x38, 0x104d8, 0x38),
+    (0x58, 0x10510, 0x70),
+];
+
+/// Their rows: the FDE, the first address of the row, and the row.
+const AARCH64_ROWS: [(u32, u64, &str); 9] = [
+    (0x18, 0x104bc, "r31+0"),
+    (0x18, 0x104c0, "r31+0"),
+    (0x18, 0x104c8, "r29+16 29=c-16 30=c-8"),
+    (0x38, 0x104d8, "r31+0"),
+    (0x38, 0x104dc, "r31+0"),
+    (0x38, 0x104e8, "r29+32 19=c-8 20=c-16 29=c-32 30=c-24"),
+    (0x58, 0x10510, "r31+0"),
+    (0x58, 0x10514, "r31+0"),
+    (
+        0x58,
+        0x1052c,
+        "r29+64 19=c-8 20=c-16 21=c-24 22=c-32 28=c-48 29=c-64 30=c-56",
+    ),
 ];
