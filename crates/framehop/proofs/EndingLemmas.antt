@@ -36,7 +36,7 @@ fewer-left (at_frame (at_return_address b)) (at_return_address a) old new fits m
     (moves.1.fits, omega (arith, moves.1.rises refl, fits))
 fewer-left at_end place old new fits moves = absurd moves
 
--- what a loop over an iterator keeps: it ends after at most 2^64 + 2 frames
+-- what a loop over an iterator keeps: it ends after at most 2^64 + 2 calls
 pub record StillEnds (frames : List FrameAddress) (progress : Progress) (regs : Registers) : Type 0 where
   pub fits : Fits progress regs
   pub few : length frames + calls_left progress regs ≤ 2 ^ 64 + 2
