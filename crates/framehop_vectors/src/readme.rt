@@ -4,7 +4,7 @@ use std::alloc::Global;
 use std::test::Fail;
 
 /// The words of the README's stack, from the address 0 on.
-pub const STACK: [u64; 16] = [
+pub(crate) const STACK: [u64; 16] = [
     1,
     2,
     3,
@@ -24,12 +24,17 @@ pub const STACK: [u64; 16] = [
 ];
 
 /// The word of the stack at the address.
-pub fn read_stack(address: u64) -> Result<u64, ()> {
+pub(crate) fn read_stack(address: u64) -> Result<u64, ()> {
     STACK.get((address / 8) as usize).copied().ok_or(())
 }
 
 /// A module without unwind data.
-pub fn module(alloc: Global, name: &str, start: u64, end: u64) -> Result<Module<Vec<u8>>, Fail> {
+pub(crate) fn module(
+    alloc: Global,
+    name: &str,
+    start: u64,
+    end: u64,
+) -> Result<Module<Vec<u8>>, Fail> {
     let name = String::from_str(alloc, name)?;
     let sections = NoSections {
         base_svma: 0x100000000,
