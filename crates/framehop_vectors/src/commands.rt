@@ -100,6 +100,54 @@ fn steps_x86_64_by_frame_pointers(rt: HostRuntime) -> Result<(), Fail> {
     Ok(())
 }
 
+#[test]
+fn steps_aarch64_by_frame_pointers(rt: HostRuntime) -> Result<(), Fail> {
+    let alloc = rt.alloc();
+    let Some(address) = FrameAddress::from_return_address(0x100400) else {
+        assert!(rt; false, "no return address");
+        return Ok(());
+    };
+    for (lr, sp, fp, answer, lr_behind, sp_behind, fp_behind) in [
+        (0x100300, 0x10, 0x20, Some(0x100200), 0x100200, 0x30, 0x40),
+        (0x100200, 0x30, 0x40, Some(0x100100), 0x100100, 0x50, 0x70),
+        (0x100100, 0x50, 0x70, None, 0x100100, 0x50, 0x70),
+    ] {
+        let words = [
+            1, 2, 3, 4, 0x40, 0x100200, 5, 6, 0x70, 0x100100, 7, 8, 9, 10, 0, 0,
+        ];
+        let mut commands: Commands = Vec::new(alloc);
+        commands.push(Command::New)?;
+        commands.push(Command::Step {
+            unwinder: 0,
+            cache: 0,
+            address,
+            regs: UnwindRegsAarch64::new(lr, sp, fp),
+            memory: Memory {
+                base: 0,
+                words: words.to_vec(alloc)?,
+            },
+        })?;
+        let mut generations = Generations::new();
+        let replies = run::<Vec<u8>, ArchAarch64, MayAllocateDuringUnwind>(
+            alloc,
+            commands,
+            1,
+            &mut generations,
+        )?;
+        match replies.as_slice() {
+            [Reply::Made(0), Reply::Step { result, regs }] => {
+                assert_eq!(rt; *result, Ok(answer));
+                assert_eq!(rt;
+                    (regs.lr(), regs.sp(), regs.fp()),
+                    (lr_behind, sp_behind, fp_behind)
+                );
+            }
+            _ => assert!(rt; false, "other replies"),
+        }
+    }
+    Ok(())
+}
+
 /// Adds, clones and removals between the steps of two unwinders; each step takes the cache whose
 /// number is the step's, by the bits of the last cache.
 fn world_commands(alloc: Global, last_cache: usize) -> Result<Commands, Fail> {
