@@ -1,12 +1,20 @@
 -- Why a walk on aarch64 ends: each frame behind the second raises sp, which stays below 2^64.
-use Rattle.std.proofs.Common.{◌≡◌, ◌≢◌, ℕ, ◌+◌, ◌-◌, ◌^◌, ◌<◌, ◌≤◌, List, [], ◌∷◌, ◌++◌, length, Option, Some, None, option_map, Result, Ok, Err, IfNone, refl, sym, ap, ◌∙◌, arith}
+use Rattle.std.proofs.Common.{◌≡◌, ◌≢◌, ℕ, ◌+◌, ◌-◌, ◌^◌, ◌<◌, ◌≤◌, List, [], ◌∷◌, ◌++◌, length, Option, Some, None, option_map, Result, Ok, Err, IfNone, inl, refl, sym, ap, ◌∙◌, arith}
 use Rattle.std.proofs.lemmas.List.{length_push}
 use Rattle.framehop_core.specs.CodeAddress.{Place, at_instruction_pointer, at_return_address, place_of}
 use Rattle.framehop_core.specs.declared.code_address.FrameAddress.{FrameAddress}
 use Rattle.framehop_core.specs.Aarch64.Registers.{Registers}
-use Rattle.framehop_core.specs.Aarch64.Rules.{Advances}
+use Rattle.framehop_core.specs.Memory.{Memory}
+use Rattle.framehop_core.specs.Outcome.{registers_after}
+use Rattle.framehop_core.specs.Aarch64.RuleLaws.{raises}
+use Rattle.framehop.specs.Policy.{Policy}
+use Rattle.framehop.specs.Modules.{UnwinderView}
+use Rattle.framehop.specs.Aarch64.{aarch64, aarch64_step, Ascends}
+use Rattle.framehop.specs.Laws.Aarch64.{rises-as-said}
+use Rattle.framehop.specs.Rise.{IsWithinRise}
+use Rattle.framehop.proofs.RiseLemmas.{walk-rise}
 use Rattle.framehop_core.specs.declared.error.Error.{Error}
-use Rattle.framehop.specs.Walk.{End, at_limit}
+use Rattle.framehop.specs.Walk.{End, at_limit, walk_from}
 use Rattle.framehop.specs.SessionView.{end_of}
 use Rattle.framehop.specs.declared.session.WalkEnd.{WalkEnd}
 use Rattle.framehop.specs.Iterator.{Progress, before, at_frame, at_end, Moves, end_in}
@@ -26,7 +34,7 @@ Fits (at_frame (at_return_address address)) regs = regs.sp < 2 ^ 64
 Fits at_end regs = Unit {0}
 
 -- one frame more, and fewer calls can follow
-pub fewer-left : (progress : Progress) (place : Place) (old new : Registers) → Fits progress old → Moves Advances progress old place new → Fits (at_frame place) new × (calls_left (at_frame place) new < calls_left progress old)
+pub fewer-left : (progress : Progress) (place : Place) (old new : Registers) → Fits progress old → Moves Ascends progress old place new → Fits (at_frame place) new × (calls_left (at_frame place) new < calls_left progress old)
 fewer-left (before pc) (at_instruction_pointer p) old new fits moves = (tt, omega arith)
 fewer-left (before pc) (at_return_address a) old new fits moves = absurd (let is = moves.0 in cc)
 fewer-left (at_frame callee) (at_instruction_pointer p) old new fits moves = cc
@@ -46,7 +54,7 @@ pub record EndsSooner (frames frames' : List FrameAddress) (progress progress' :
   pub fewer : calls_left progress' new < calls_left progress old
   pub still : StillEnds frames' progress' new
 
-pub StillEnds-next : (frames frames' : List FrameAddress) (progress progress' : Progress) (old new : Registers) (ended : Option WalkEnd) → ended ≡ None → IfNone ended ((frame : FrameAddress) × (frames' ≡ frames ++ frame ∷ []) × (progress' ≡ at_frame (place_of frame)) × Moves Advances progress old (place_of frame) new) → StillEnds frames progress old → EndsSooner frames frames' progress progress' old new
+pub StillEnds-next : (frames frames' : List FrameAddress) (progress progress' : Progress) (old new : Registers) (ended : Option WalkEnd) → ended ≡ None → IfNone ended ((frame : FrameAddress) × (frames' ≡ frames ++ frame ∷ []) × (progress' ≡ at_frame (place_of frame)) × Moves Ascends progress old (place_of frame) new) → StillEnds frames progress old → EndsSooner frames frames' progress progress' old new
 StillEnds-next frames frames' progress progress' old new (Some end) none moved so_far = cc
 StillEnds-next frames frames' progress progress' old new None none (frame, pushed, at, moves) so_far =
     let left = fewer-left progress (place_of frame) old new so_far.fits moves in
@@ -68,3 +76,9 @@ end_in-not-limit (Err error) end e = λ limit. cc
 
 pub ended-not-limit : (ended : Option WalkEnd) (answer : Result (Option Place) Error) → option_map end_of ended ≡ end_in answer → (end : WalkEnd) → ended ≡ Some end → end_of end ≢ at_limit
 ended-not-limit ended answer is_end end some = end_in-not-limit answer (end_of end) (sym (ap (option_map end_of) some) ∙ is_end)
+
+-- the walk of a limit is within the rise of sp since its first step
+pub walk-within : (policy : Policy) (unwinder : UnwinderView) (memory : Memory) (limit pc : ℕ) (regs : Registers) → IsWithinRise (λ (r : Registers). r.sp) (registers_after regs (aarch64_step policy unwinder memory (at_instruction_pointer pc) regs)) (walk_from (aarch64_step policy unwinder memory) limit pc regs)
+unfolding aarch64
+walk-within policy unwinder memory limit pc regs =
+    walk-rise (aarch64 policy) (λ memory r. Unit {0}) raises (rises-as-said policy) unwinder.modules memory limit pc regs (inl refl)

@@ -1,22 +1,21 @@
 -- A room stays transparent through each command, and its replies are the world's.
 use Rattle.std.proofs.Common.{◌≡◌, ℕ, zero, suc, ◌+◌, ◌-◌, ◌^◌, ◌<◌, ◌≤◌, Bool, true, false, cond, ◌==◌, ◌⊎◌, List, [], ◌∷◌, ◌++◌, map, length, replicate, slice_index_or, slice_set, Option, Some, None, refl, sym, ap, ◌∙◌, subst, inl, inr, ⊎_elim, arith, nat_lt, ltb-true, lt-ltb, ne_eqb, eq-eqb}
 use Rattle.std.proofs.lemmas.List.{length-map}
-use Rattle.framehop_core.specs.Memory.{Memory}
 use Rattle.framehop_core.specs.Outcome.{Outcome, answered, root, refused}
 use Rattle.framehop_core.specs.CodeAddress.{Place, place_of, at_instruction_pointer, at_return_address}
 use Rattle.framehop.specs.Cache.{Entry, CacheView, Sets, empty_cache}
 use Rattle.framehop.specs.Modules.{UnwinderView, with_module, has_start, without_module}
 use Rattle.framehop.specs.Soundness.{Among, Stands, IsSound, Extends, cache_after}
+use Rattle.framehop.specs.Unwinding.{Unwinding}
 use Rattle.framehop.specs.Walk.{onward_cache, cache_after_callers, cache_after_walk}
 use Rattle.framehop.specs.Room.{Room, empty_room, world_of, unwinder_at, cache_at, step_of, room_after}
 use Rattle.framehop.specs.Transparent.{IsTransparent}
 use Rattle.framehop.specs.World.{memory_of, refusal_of, needs_unwinder, needs_cache, needs_generation, modules_of}
-use Rattle.framehop.specs.declared.rule_cache.TheConstants.{CACHE_ENTRY_COUNT}
 use Rattle.framehop.specs.declared.session.Command.{Command}
 use Rattle.framehop.specs.declared.session.Command.TheVariants.{New, Clone, Add, Remove, Step as StepCommand, Walk as WalkCommand, Stats}
 use Rattle.framehop.specs.declared.session.SessionError.{SessionError}
 use Rattle.framehop.specs.declared.session.SessionError.TheVariants.{NoSuchUnwinder, NoSuchCache, GenerationsExhausted}
-use Rattle.framehop.proofs.SoundnessLemmas.{Extends-after, IsSound-extended}
+use Rattle.framehop.proofs.SoundnessLemmas.{Extends-after, IsSound-extended, empty-stands}
 
 -- ---- what is among a list that grew, or of which one was replaced
 
@@ -43,39 +42,34 @@ Among-replicate x y zero h = absurd h
 Among-replicate x y (suc n) (inl e) = e
 Among-replicate x y (suc n) (inr h) = Among-replicate x y n h
 
-none-stands : {R : Type 0} (entry : Entry R) (n : ℕ) → Stands entry (replicate n []) → ⊥
-none-stands entry zero h = h
-none-stands entry (suc n) (inl h) = h
-none-stands entry (suc n) (inr h) = none-stands entry n h
-
 -- ---- a walk extends its cache
 
-module _ {R Regs : Type 0} (fallback : R) (unwinder : UnwinderView) where
-  Extends-trans : (a b c : Sets R) → Extends Regs fallback unwinder a b → Extends Regs fallback unwinder b c → Extends Regs fallback unwinder a c
+module _ {R Regs : Type 0} (unwinding : Unwinding R Regs) (unwinder : UnwinderView) where
+  Extends-trans : (a b c : Sets R) → Extends unwinding unwinder a b → Extends unwinding unwinder b c → Extends unwinding unwinder a c
   Extends-trans a b c ab bc = record {
     each = λ entry h. ⊎_elim (λ between. ab.each entry between) (λ added. inr added) (bc.each entry h);
   }
 
   module _ (step : Place → Regs → Outcome Regs) where
-    Extends-onward : (old : Sets R) (next : Place → Regs → CacheView R) (now : CacheView R) (outcome : Outcome Regs) → Extends Regs fallback unwinder old now.sets → ((place : Place) (regs : Regs) → Extends Regs fallback unwinder old (next place regs).sets) → Extends Regs fallback unwinder old (onward_cache next now outcome).sets
+    Extends-onward : (old : Sets R) (next : Place → Regs → CacheView R) (now : CacheView R) (outcome : Outcome Regs) → Extends unwinding unwinder old now.sets → ((place : Place) (regs : Regs) → Extends unwinding unwinder old (next place regs).sets) → Extends unwinding unwinder old (onward_cache next now outcome).sets
     Extends-onward old next now (answered address new) here there = zero-or old next now address new here there (address == 0)
       where
-        zero-or : (old : Sets R) (next : Place → Regs → CacheView R) (now : CacheView R) (address : ℕ) (new : Regs) → Extends Regs fallback unwinder old now.sets → ((place : Place) (regs : Regs) → Extends Regs fallback unwinder old (next place regs).sets) → (b : Bool) → Extends Regs fallback unwinder old (cond b now (next (at_return_address address) new)).sets
+        zero-or : (old : Sets R) (next : Place → Regs → CacheView R) (now : CacheView R) (address : ℕ) (new : Regs) → Extends unwinding unwinder old now.sets → ((place : Place) (regs : Regs) → Extends unwinding unwinder old (next place regs).sets) → (b : Bool) → Extends unwinding unwinder old (cond b now (next (at_return_address address) new)).sets
         zero-or old next now address new here there true = here
         zero-or old next now address new here there false = there (at_return_address address) new
     Extends-onward old next now root here there = here
     Extends-onward old next now (refused error) here there = here
 
-    Extends-callers : (n : ℕ) (place : Place) (regs : Regs) (cache : CacheView R) → Extends Regs fallback unwinder cache.sets (cache_after_callers step (cache_after Regs fallback unwinder) n place regs cache).sets
+    Extends-callers : (n : ℕ) (place : Place) (regs : Regs) (cache : CacheView R) → Extends unwinding unwinder cache.sets (cache_after_callers step (cache_after unwinding unwinder) n place regs cache).sets
     unfolding cache_after_callers
     Extends-callers zero place regs cache = record { each = λ entry h. inl h }
     Extends-callers (suc n) place regs cache =
-        let now = cache_after Regs fallback unwinder cache place in
-        let here = Extends-after Regs fallback unwinder cache place in
-        Extends-onward cache.sets (λ caller new. cache_after_callers step (cache_after Regs fallback unwinder) n caller new now) now (step place regs) here
+        let now = cache_after unwinding unwinder cache place in
+        let here = Extends-after unwinding unwinder cache place in
+        Extends-onward cache.sets (λ caller new. cache_after_callers step (cache_after unwinding unwinder) n caller new now) now (step place regs) here
         (λ caller new. Extends-trans cache.sets now.sets _ here (Extends-callers n caller new now))
 
-    Extends-walk : (n pc : ℕ) (regs : Regs) (cache : CacheView R) → Extends Regs fallback unwinder cache.sets (cache_after_walk step (cache_after Regs fallback unwinder) n pc regs cache).sets
+    Extends-walk : (n pc : ℕ) (regs : Regs) (cache : CacheView R) → Extends unwinding unwinder cache.sets (cache_after_walk step (cache_after unwinding unwinder) n pc regs cache).sets
     unfolding cache_after_walk
     Extends-walk zero pc regs cache = record { each = λ entry h. inl h }
     Extends-walk (suc n) pc regs cache = Extends-callers n (at_instruction_pointer pc) regs cache
@@ -180,13 +174,13 @@ module _ {R : Type 0} (room : Room R) (unwinder start : ℕ) (within : unwinder 
 
 -- ---- a room stays transparent
 
-module _ {R : Type 0} (Regs : Type 0) (fallback : R) where
+module _ {R Regs : Type 0} (unwinding : Unwinding R Regs) where
   no-entry : (caches next : ℕ) (c : CacheView R) (entry : Entry R) → Among c (empty_room {R = R} caches next).caches → Stands entry c.sets → ⊥
   no-entry caches next c entry among stands =
       let same : empty_cache ≡ c = Among-replicate c empty_cache caches among in
-      none-stands entry CACHE_ENTRY_COUNT (subst (λ (d : CacheView R). Stands entry d.sets) (sym same) stands)
+      empty-stands entry (subst (λ (d : CacheView R). Stands entry d.sets) (sym same) stands)
 
-  pub transparent-start : (caches next : ℕ) → IsTransparent Regs fallback (empty_room {R = R} caches next)
+  pub transparent-start : (caches next : ℕ) → IsTransparent unwinding (empty_room {R = R} caches next)
   transparent-start caches next = record {
     sound = λ u c among _. absurd among;
     apart = λ u v among _ _. absurd among;
@@ -195,14 +189,14 @@ module _ {R : Type 0} (Regs : Type 0) (fallback : R) where
   }
 
   -- a cache knows nothing of a generation that was just drawn
-  sound-drawn : (room : Room R) → IsTransparent Regs fallback room → (u : UnwinderView) → u.generation ≡ room.next → (c : CacheView R) → Among c room.caches → IsSound Regs fallback u c.sets
+  sound-drawn : (room : Room R) → IsTransparent unwinding room → (u : UnwinderView) → u.generation ≡ room.next → (c : CacheView R) → Among c room.caches → IsSound unwinding u c.sets
   sound-drawn room old u drawn c among = record {
     each = λ entry stands own. let below = old.stored c entry among stands in absurd (omega arith);
   }
 
-  module _ (room : Room R) (old : IsTransparent Regs fallback room) where
+  module _ (room : Room R) (old : IsTransparent unwinding room) where
     -- with an unwinder of a generation that was just drawn
-    pub transparent-grown : (unwinders : List UnwinderView) (added : UnwinderView) → added.generation ≡ room.next → ((u : UnwinderView) → Among u unwinders → Among u room.unwinders ⊎ (added ≡ u)) → IsTransparent Regs fallback (record room { unwinders = unwinders; next = room.next + 1 })
+    pub transparent-grown : (unwinders : List UnwinderView) (added : UnwinderView) → added.generation ≡ room.next → ((u : UnwinderView) → Among u unwinders → Among u room.unwinders ⊎ (added ≡ u)) → IsTransparent unwinding (record room { unwinders = unwinders; next = room.next + 1 })
     transparent-grown unwinders added drawn grown = record {
       sound = λ u c among in_caches.
           ⊎_elim
@@ -229,7 +223,7 @@ module _ {R : Type 0} (Regs : Type 0) (fallback : R) where
     }
 
     -- with another unwinder that is like one of them
-    pub transparent-shared : (unwinders : List UnwinderView) → ((u : UnwinderView) → Among u unwinders → Among u room.unwinders) → IsTransparent Regs fallback (record room { unwinders = unwinders })
+    pub transparent-shared : (unwinders : List UnwinderView) → ((u : UnwinderView) → Among u unwinders → Among u room.unwinders) → IsTransparent unwinding (record room { unwinders = unwinders })
     transparent-shared unwinders known = record {
       sound = λ u c among in_caches. old.sound u c (known u among) in_caches;
       apart = λ u v among_u among_v same. old.apart u v (known u among_u) (known v among_v) same;
@@ -238,19 +232,19 @@ module _ {R : Type 0} (Regs : Type 0) (fallback : R) where
     }
 
     -- with an unwinder without a module, where there is that module
-    pub transparent-removed : (unwinder start : ℕ) (b : Bool) → IsTransparent Regs fallback (cond b (record room { unwinders = slice_set room.unwinders unwinder (record { modules = without_module start (unwinder_at room unwinder).modules; generation = room.next }); next = room.next + 1 }) room)
+    pub transparent-removed : (unwinder start : ℕ) (b : Bool) → IsTransparent unwinding (cond b (record room { unwinders = slice_set room.unwinders unwinder (record { modules = without_module start (unwinder_at room unwinder).modules; generation = room.next }); next = room.next + 1 }) room)
     transparent-removed unwinder start true =
         transparent-grown _ (record { modules = without_module start (unwinder_at room unwinder).modules; generation = room.next }) refl (λ u h. Among-set u _ room.unwinders unwinder h)
     transparent-removed unwinder start false = old
 
     -- with a cache that an unwinder's steps extended
-    pub transparent-cached : (caches : List (CacheView R)) (u : UnwinderView) (before after : CacheView R) → Among u room.unwinders → Among before room.caches → Extends Regs fallback u before.sets after.sets → ((c : CacheView R) → Among c caches → Among c room.caches ⊎ (after ≡ c)) → IsTransparent Regs fallback (record room { caches = caches })
+    pub transparent-cached : (caches : List (CacheView R)) (u : UnwinderView) (before after : CacheView R) → Among u room.unwinders → Among before room.caches → Extends unwinding u before.sets after.sets → ((c : CacheView R) → Among c caches → Among c room.caches ⊎ (after ≡ c)) → IsTransparent unwinding (record room { caches = caches })
     transparent-cached caches u before after among_u among_before extends replaced = record {
       sound = λ v c among_v among.
           ⊎_elim
           (λ kept. old.sound v c among_v kept)
-          (λ e. subst (λ (d : CacheView R). IsSound Regs fallback v d.sets) e
-          (IsSound-extended Regs fallback u v before.sets after.sets (old.apart u v among_u among_v) extends (old.sound v before among_v among_before)))
+          (λ e. subst (λ (d : CacheView R). IsSound unwinding v d.sets) e
+          (IsSound-extended unwinding u v before.sets after.sets (old.apart u v among_u among_v) extends (old.sound v before among_v among_before)))
           (replaced c among);
       apart = old.apart;
       drawn = old.drawn;
@@ -265,34 +259,34 @@ module _ {R : Type 0} (Regs : Type 0) (fallback : R) where
     }
 
   -- a command that is not refused leaves a transparent room
-  pub transparent-after : {D : Type 0} (outcome : R → Bool → Regs → Memory → Outcome Regs) (room : Room R) (command : Command D Regs) → refusal_of (length room.caches) (world_of room) command ≡ None → IsTransparent Regs fallback room → IsTransparent Regs fallback (room_after outcome fallback room command)
-  transparent-after outcome room New allowed old =
+  pub transparent-after : {D : Type 0} (room : Room R) (command : Command D Regs) → refusal_of (length room.caches) (world_of room) command ≡ None → IsTransparent unwinding room → IsTransparent unwinding (room_after unwinding room command)
+  transparent-after room New allowed old =
       transparent-grown room old _ (record { modules = []; generation = room.next }) refl (λ u h. Among-push u _ room.unwinders h)
-  transparent-after outcome room (Add unwinder added) allowed old =
+  transparent-after room (Add unwinder added) allowed old =
       transparent-grown room old _ (record { modules = with_module added (unwinder_at room unwinder).modules; generation = room.next }) refl (λ u h. Among-set u _ room.unwinders unwinder h)
-  transparent-after outcome room (Clone unwinder) allowed old =
+  transparent-after room (Clone unwinder) allowed old =
       let within = clone-within room unwinder allowed in
       transparent-shared room old _ (λ u h.
       ⊎_elim
       (λ before. before)
       (λ e. subst (λ v. Among v room.unwinders) e (Among-index room.unwinders unwinder _ within))
       (Among-push u _ room.unwinders h))
-  transparent-after outcome room (Remove unwinder start) allowed old =
+  transparent-after room (Remove unwinder start) allowed old =
       transparent-removed room old unwinder start (has_start start (unwinder_at room unwinder).modules)
-  transparent-after outcome room (StepCommand unwinder cache address regs memory) allowed old =
+  transparent-after room (StepCommand unwinder cache address regs memory) allowed old =
       let stepper = unwinder_at room unwinder in
       let within = walk-within room unwinder cache allowed in
       transparent-cached room old _ stepper (cache_at room cache) _
       (Among-index room.unwinders unwinder _ within.0)
       (Among-index room.caches cache _ within.1)
-      (Extends-after Regs fallback stepper (cache_at room cache) (place_of address))
+      (Extends-after unwinding stepper (cache_at room cache) (place_of address))
       (λ c h. Among-set c _ room.caches cache h)
-  transparent-after outcome room (WalkCommand unwinder cache pc regs memory limit) allowed old =
+  transparent-after room (WalkCommand unwinder cache pc regs memory limit) allowed old =
       let walker = unwinder_at room unwinder in
       let within = walk-within room unwinder cache allowed in
       transparent-cached room old _ walker (cache_at room cache) _
       (Among-index room.unwinders unwinder _ within.0)
       (Among-index room.caches cache _ within.1)
-      (Extends-walk fallback walker (step_of outcome fallback walker (memory_of memory)) limit pc regs (cache_at room cache))
+      (Extends-walk unwinding walker (step_of unwinding walker (memory_of memory)) limit pc regs (cache_at room cache))
       (λ c h. Among-set c _ room.caches cache h)
-  transparent-after outcome room (Stats cache) allowed old = old
+  transparent-after room (Stats cache) allowed old = old

@@ -1,15 +1,15 @@
 -- A lookup in a sound cache, and what an insert leaves standing.
-use Rattle.std.proofs.Common.{eqb-true, ◌≡◌, ℕ, zero, suc, Bool, true, false, not, cond, ◌&&◌, ◌==◌, ◌⊎◌, List, [], ◌∷◌, take, filter, find, slice_index_or, slice_set, Option, Some, None, refl, sym, ap, ◌∙◌, subst, inl, inr, ⊎_elim}
+use Rattle.std.proofs.Common.{eqb-true, ◌≡◌, ℕ, zero, suc, Bool, true, false, not, cond, ◌&&◌, ◌==◌, ◌⊎◌, List, [], ◌∷◌, take, filter, find, slice_index_or, slice_set, replicate, Option, Some, None, refl, sym, ap, ◌∙◌, subst, inl, inr, ⊎_elim}
 use mathlib.Core.Bool.{beq}
 use Rattle.framehop_core.specs.CodeAddress.{Place, lookup_address, is_first_frame}
-use Rattle.framehop.specs.Cache.{Key, Entry, Sets, CacheView, Found, hit, empty_slot, wrong_modules, wrong_address, found, hit_or, inserted, inserted_in, same_key, set_of, set_number, counted, ways}
+use Rattle.framehop.specs.Cache.{Key, Entry, Sets, CacheView, Found, hit, empty_slot, wrong_modules, wrong_address, found, hit_or, inserted, inserted_in, same_key, set_of, set_number, counted, ways, empty_cache, set_count}
 use Rattle.framehop_core.specs.Memory.{Memory}
-use Rattle.framehop_core.specs.Outcome.{Outcome}
 use Rattle.framehop.specs.CacheResult.{result_of}
 use Rattle.framehop.specs.declared.rule_cache.CacheResult.TheVariants.{Hit, Miss}
-use Rattle.framehop.specs.Fresh.{Fresh, by_rule, direct, fresh, step}
+use Rattle.framehop.specs.Unwinding.{Unwinding, Fresh, by_rule, direct}
+use Rattle.framehop.specs.Fresh.{fresh, step}
 use Rattle.framehop.specs.Modules.{ModuleView, UnwinderView}
-use Rattle.framehop.specs.Soundness.{Among, Stands, IsFresh, IsSound, Extends, key_of, sets_after, sets_after_miss, cache_after}
+use Rattle.framehop.specs.Soundness.{Among, Stands, IsFresh, IsSound, Extends, AreApart, key_of, sets_after, sets_after_miss, cache_after}
 
 -- ---- what is among a list
 
@@ -72,6 +72,15 @@ Stands-inserted entry new sets h =
     (λ added. ⊎_elim (λ old. inl (Stands-index entry sets i old)) (λ e. inr e) (Among-inserted entry new set added))
     (Stands-set entry sets i (inserted_in ways new set) h)
 
+none-stands : {R : Type 0} (entry : Entry R) (n : ℕ) → Stands entry (replicate n []) → ⊥
+none-stands entry zero h = h
+none-stands entry (suc n) (inl h) = h
+none-stands entry (suc n) (inr h) = none-stands entry n h
+
+-- nothing is stored in an empty cache
+pub empty-stands : {R : Type 0} (entry : Entry R) → Stands entry empty_cache.sets → ⊥
+empty-stands entry h = none-stands entry set_count h
+
 -- ---- keys
 
 both-true : (a b : Bool) → (a && b) ≡ true → (a ≡ true) × (b ≡ true)
@@ -114,54 +123,58 @@ hit-stands {R} sets key rule e =
     let among = Among-find there.0 test set there.1 in
     (there.0, Stands-index there.0 sets (set_number key.address) among.0, same_key-true there.0.key key among.1, there.2)
 
-module _ {R : Type 0} (Regs : Type 0) (fallback : R) where
+module _ {R Regs : Type 0} (unwinding : Unwinding R Regs) where
+  -- an empty cache is sound
+  pub IsSound-empty : (unwinder : UnwinderView) → IsSound unwinding unwinder empty_cache.sets
+  IsSound-empty unwinder = record { each = λ entry stands own. absurd (empty-stands entry stands) }
+
   -- in a sound cache a hit is what the modules give afresh
-  pub fresh-hit : (unwinder : UnwinderView) (sets : Sets R) (place : Place) (rule : R) → IsSound Regs fallback unwinder sets → found ways sets (key_of unwinder place) ≡ hit rule → fresh {Regs = Regs} fallback unwinder.modules (lookup_address place) (is_first_frame place) ≡ by_rule rule
+  pub fresh-hit : (unwinder : UnwinderView) (sets : Sets R) (place : Place) (rule : R) → IsSound unwinding unwinder sets → found ways sets (key_of unwinder place) ≡ hit rule → fresh unwinding unwinder.modules (lookup_address place) (is_first_frame place) ≡ by_rule rule
   fresh-hit unwinder sets place rule sound e =
       let there = hit-stands sets (key_of unwinder place) rule e in
       let own = ap (λ key. key.generation) there.2 in
       let known = (sound.each there.0 there.1 own).rule in
-      ap (λ key. fresh {Regs = Regs} fallback unwinder.modules key.address key.is_first_frame) (sym there.2) ∙ known ∙ ap by_rule there.3
+      ap (λ key. fresh unwinding unwinder.modules key.address key.is_first_frame) (sym there.2) ∙ known ∙ ap by_rule there.3
 
-  Extends-refl : (unwinder : UnwinderView) (sets : Sets R) → Extends Regs fallback unwinder sets sets
+  Extends-refl : (unwinder : UnwinderView) (sets : Sets R) → Extends unwinding unwinder sets sets
   Extends-refl unwinder sets = record { each = λ entry h. inl h }
 
-  Extends-miss : (unwinder : UnwinderView) (sets : Sets R) (place : Place) (answer : Fresh R Regs) → fresh fallback unwinder.modules (lookup_address place) (is_first_frame place) ≡ answer → Extends Regs fallback unwinder sets (sets_after_miss sets (key_of unwinder place) answer)
+  Extends-miss : (unwinder : UnwinderView) (sets : Sets R) (place : Place) (answer : Fresh R Regs) → fresh unwinding unwinder.modules (lookup_address place) (is_first_frame place) ≡ answer → Extends unwinding unwinder sets (sets_after_miss sets (key_of unwinder place) answer)
   Extends-miss unwinder sets place (by_rule rule) is = record {
     each = λ entry h.
         ⊎_elim
         (λ old. inl old)
-        (λ e. inr (subst (IsFresh Regs fallback unwinder) e (record { generation = refl; rule = is })))
+        (λ e. inr (subst (IsFresh unwinding unwinder) e (record { generation = refl; rule = is })))
         (Stands-inserted entry (record { key = key_of unwinder place; rule = rule }) sets h);
   }
   Extends-miss unwinder sets place (direct values) is = Extends-refl unwinder sets
 
-  Extends-found : (unwinder : UnwinderView) (sets : Sets R) (place : Place) (seen : Found R) → Extends Regs fallback unwinder sets (sets_after {Regs = Regs} sets (key_of unwinder place) seen (fresh fallback unwinder.modules (lookup_address place) (is_first_frame place)))
+  Extends-found : (unwinder : UnwinderView) (sets : Sets R) (place : Place) (seen : Found R) → Extends unwinding unwinder sets (sets_after sets (key_of unwinder place) seen (fresh unwinding unwinder.modules (lookup_address place) (is_first_frame place)))
   Extends-found unwinder sets place (hit rule) = Extends-refl unwinder sets
   Extends-found unwinder sets place empty_slot = Extends-miss unwinder sets place _ refl
   Extends-found unwinder sets place wrong_modules = Extends-miss unwinder sets place _ refl
   Extends-found unwinder sets place wrong_address = Extends-miss unwinder sets place _ refl
 
   -- a step extends the cache by what the modules give afresh
-  pub Extends-after : (unwinder : UnwinderView) (cache : CacheView R) (place : Place) → Extends Regs fallback unwinder cache.sets (cache_after Regs fallback unwinder cache place).sets
+  pub Extends-after : (unwinder : UnwinderView) (cache : CacheView R) (place : Place) → Extends unwinding unwinder cache.sets (cache_after unwinding unwinder cache place).sets
   unfolding cache_after
   Extends-after unwinder cache place = Extends-found unwinder cache.sets place (found ways cache.sets (key_of unwinder place))
 
   -- a cache stays sound for each unwinder that has other modules only under another generation
-  pub IsSound-extended : (unwinder other : UnwinderView) (old new : Sets R) → (unwinder.generation ≡ other.generation → unwinder.modules ≡ other.modules) → Extends Regs fallback unwinder old new → IsSound Regs fallback other old → IsSound Regs fallback other new
+  pub IsSound-extended : (unwinder other : UnwinderView) (old new : Sets R) → AreApart unwinder other → Extends unwinding unwinder old new → IsSound unwinding other old → IsSound unwinding other new
   IsSound-extended unwinder other old new apart extends sound = record {
     each = λ entry h own.
         ⊎_elim
         (λ before. sound.each entry before own)
         (λ added. record {
           generation = own;
-          rule = ap (λ modules. fresh {Regs = Regs} fallback modules entry.key.address entry.key.is_first_frame) (sym (apart (sym added.generation ∙ own))) ∙ added.rule;
+          rule = ap (λ modules. fresh unwinding modules entry.key.address entry.key.is_first_frame) (sym (apart (sym added.generation ∙ own))) ∙ added.rule;
         })
         (extends.each entry h);
   }
 
   -- a cache stays sound for the unwinder that steps
-  pub IsSound-step : (unwinder : UnwinderView) (cache : CacheView R) (place : Place) → IsSound Regs fallback unwinder cache.sets → IsSound Regs fallback unwinder (cache_after Regs fallback unwinder cache place).sets
+  pub IsSound-step : (unwinder : UnwinderView) (cache : CacheView R) (place : Place) → IsSound unwinding unwinder cache.sets → IsSound unwinding unwinder (cache_after unwinding unwinder cache place).sets
   IsSound-step unwinder cache place sound =
       IsSound-extended unwinder unwinder cache.sets _ (λ _. refl) (Extends-after unwinder cache place) sound
 
@@ -183,38 +196,38 @@ module _ {R : Type 0} (Regs : Type 0) (fallback : R) where
   miss-answered sets key handle wrong_address answer e = (cc, refl)
 
   module _ (unwinder : UnwinderView) (cache : CacheView R) (place : Place) where
-    pub cache_after-hit : (new : CacheView R) (rule : R) → new.sets ≡ cache.sets → new.stats ≡ counted cache.stats (found ways cache.sets (key_of unwinder place)) → result_of (key_of unwinder place) (found ways cache.sets (key_of unwinder place)) ≡ Hit rule → new ≡ cache_after Regs fallback unwinder cache place
+    pub cache_after-hit : (new : CacheView R) (rule : R) → new.sets ≡ cache.sets → new.stats ≡ counted cache.stats (found ways cache.sets (key_of unwinder place)) → result_of (key_of unwinder place) (found ways cache.sets (key_of unwinder place)) ≡ Hit rule → new ≡ cache_after unwinding unwinder cache place
     unfolding cache_after
     cache_after-hit new rule kept counts e =
         let s = hit-answered (key_of unwinder place) (found ways cache.sets (key_of unwinder place)) rule e in
-        let answer : Fresh R Regs = fresh fallback unwinder.modules (lookup_address place) (is_first_frame place) in
-        CacheView-equal new (cache_after Regs fallback unwinder cache place)
+        let answer : Fresh R Regs = fresh unwinding unwinder.modules (lookup_address place) (is_first_frame place) in
+        CacheView-equal new (cache_after unwinding unwinder cache place)
         (kept ∙ sym (ap (λ f. sets_after cache.sets (key_of unwinder place) f answer) s)) counts
 
     -- a hit in a sound cache steps as the modules' bytes say
-    pub step-hit : (outcome : R → Bool → Regs → Memory → Outcome Regs) (rule : R) (regs : Regs) (memory : Memory) → IsSound Regs fallback unwinder cache.sets → result_of (key_of unwinder place) (found ways cache.sets (key_of unwinder place)) ≡ Hit rule → outcome rule (is_first_frame place) regs memory ≡ step outcome fallback unwinder.modules place regs memory
+    pub step-hit : (rule : R) (regs : Regs) (memory : Memory) → IsSound unwinding unwinder cache.sets → result_of (key_of unwinder place) (found ways cache.sets (key_of unwinder place)) ≡ Hit rule → unwinding.outcome rule (is_first_frame place) regs memory ≡ step unwinding unwinder.modules place regs memory
     unfolding step
-    step-hit outcome rule regs memory sound e =
+    step-hit rule regs memory sound e =
         let known = fresh-hit unwinder cache.sets place rule sound (hit-answered (key_of unwinder place) (found ways cache.sets (key_of unwinder place)) rule e) in
         rw known refl
 
-    pub cache_after-miss : (between new : CacheView R) (handle : Key) (rule : R) → between.sets ≡ cache.sets → between.stats ≡ counted cache.stats (found ways cache.sets (key_of unwinder place)) → result_of (key_of unwinder place) (found ways cache.sets (key_of unwinder place)) ≡ Miss handle → fresh {Regs = Regs} fallback unwinder.modules (lookup_address place) (is_first_frame place) ≡ by_rule rule → new ≡ record between { sets = inserted ways between.sets (record { key = handle; rule = rule }) } → new ≡ cache_after Regs fallback unwinder cache place
+    pub cache_after-miss : (between new : CacheView R) (handle : Key) (rule : R) → between.sets ≡ cache.sets → between.stats ≡ counted cache.stats (found ways cache.sets (key_of unwinder place)) → result_of (key_of unwinder place) (found ways cache.sets (key_of unwinder place)) ≡ Miss handle → fresh unwinding unwinder.modules (lookup_address place) (is_first_frame place) ≡ by_rule rule → new ≡ record between { sets = inserted ways between.sets (record { key = handle; rule = rule }) } → new ≡ cache_after unwinding unwinder cache place
     unfolding cache_after
     cache_after-miss between new handle rule kept counts e known is =
-        let answer : Fresh R Regs = fresh fallback unwinder.modules (lookup_address place) (is_first_frame place) in
+        let answer : Fresh R Regs = fresh unwinding unwinder.modules (lookup_address place) (is_first_frame place) in
         let key = key_of unwinder place in
         let m = miss-answered cache.sets key handle (found ways cache.sets key) answer e in
         let stored : inserted ways between.sets (record { key = handle; rule = rule }) ≡ inserted ways cache.sets (record { key = key; rule = rule }) =
         ap (λ k. inserted ways between.sets (record { key = k; rule = rule })) (sym m.0) ∙ ap (λ sets. inserted ways sets (record { key = key; rule = rule })) kept in
-        CacheView-equal new (cache_after Regs fallback unwinder cache place)
+        CacheView-equal new (cache_after unwinding unwinder cache place)
         (ap (λ (c : CacheView R). c.sets) is ∙ stored ∙ sym (ap (sets_after_miss cache.sets key) known) ∙ sym m.1)
         (ap (λ (c : CacheView R). c.stats) is ∙ counts)
 
-    pub step-miss : (outcome : R → Bool → Regs → Memory → Outcome Regs) (rule : R) (regs : Regs) (memory : Memory) → fresh {Regs = Regs} fallback unwinder.modules (lookup_address place) (is_first_frame place) ≡ by_rule rule → outcome rule (is_first_frame place) regs memory ≡ step outcome fallback unwinder.modules place regs memory
+    pub step-miss : (rule : R) (regs : Regs) (memory : Memory) → fresh unwinding unwinder.modules (lookup_address place) (is_first_frame place) ≡ by_rule rule → unwinding.outcome rule (is_first_frame place) regs memory ≡ step unwinding unwinder.modules place regs memory
     unfolding step
-    step-miss outcome rule regs memory known = rw known refl
+    step-miss rule regs memory known = rw known refl
 
   -- the answer for an address and a kind that are those of a place
-  pub fresh-at : (modules : List ModuleView) (place : Place) (address : ℕ) (first : Bool) (rule : R) → address ≡ lookup_address place → first ≡ is_first_frame place → fresh {Regs = Regs} fallback modules address first ≡ by_rule rule → fresh {Regs = Regs} fallback modules (lookup_address place) (is_first_frame place) ≡ by_rule rule
+  pub fresh-at : (modules : List ModuleView) (place : Place) (address : ℕ) (first : Bool) (rule : R) → address ≡ lookup_address place → first ≡ is_first_frame place → fresh unwinding modules address first ≡ by_rule rule → fresh unwinding modules (lookup_address place) (is_first_frame place) ≡ by_rule rule
   fresh-at modules place address first rule at kind h =
-      ap (λ a. fresh {Regs = Regs} fallback modules a (is_first_frame place)) (sym at) ∙ ap (fresh {Regs = Regs} fallback modules address) (sym kind) ∙ h
+      ap (λ a. fresh unwinding modules a (is_first_frame place)) (sym at) ∙ ap (fresh unwinding modules address) (sym kind) ∙ h

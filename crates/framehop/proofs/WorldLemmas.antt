@@ -2,11 +2,11 @@
 use Rattle.std.proofs.Common.{◌≡◌, ℕ, zero, suc, ◌+◌, ◌-◌, ◌^◌, Bool, true, false, cond, List, [], ◌∷◌, ◌++◌, map, length, slice_set, Option, Some, None, Result, Ok, Err, refl, sym, ap, ◌∙◌, arith, length-set}
 use Rattle.std.proofs.Math.ListN.{length-replicate}
 use Rattle.std.proofs.lemmas.List.{length-map}
-use Rattle.framehop_core.specs.Memory.{Memory}
-use Rattle.framehop_core.specs.Outcome.{Outcome, answer_of, registers_after}
+use Rattle.framehop_core.specs.Outcome.{answer_of, registers_after}
 use Rattle.framehop_core.specs.CodeAddress.{place_of}
 use Rattle.framehop.specs.Cache.{empty_cache}
 use Rattle.framehop.specs.Modules.{ModuleView, UnwinderView, with_module, has_start, without_module}
+use Rattle.framehop.specs.Unwinding.{Unwinding}
 use Rattle.framehop.specs.Fresh.{step}
 use Rattle.framehop.specs.Walk.{walk_from}
 use Rattle.framehop.specs.World.{World, WorldReply, made, done, stepped, walked, memory_of, refusal_of, unless_refused, reply_to, reply_before, world_after, world_replies, empty_world}
@@ -31,14 +31,14 @@ one-less next = omega arith
 World-equal : (a b : World) → a.unwinders ≡ b.unwinders → a.left ≡ b.left → a ≡ b
 World-equal a b p q = λ i. record { unwinders = p i; left = q i }
 
-module _ {R Regs : Type 0} (outcome : R → Bool → Regs → Memory → Outcome Regs) (fallback : R) where
+module _ {R Regs : Type 0} (unwinding : Unwinding R Regs) where
   removed-after : (room : Room R) (unwinder start : ℕ) (b : Bool) → world_of (cond b (record room { unwinders = slice_set room.unwinders unwinder (record { modules = without_module start (unwinder_at room unwinder).modules; generation = room.next }); next = room.next + 1 }) room) ≡ cond b (record { unwinders = slice_set (world_of room).unwinders unwinder (without_module start (unwinder_at room unwinder).modules); left = (world_of room).left - 1 }) (world_of room)
   removed-after room unwinder start true =
       World-equal _ _ (map-set room.unwinders unwinder (record { modules = without_module start (unwinder_at room unwinder).modules; generation = room.next })) (one-less room.next)
   removed-after room unwinder start false = refl
 
   -- the world after a command is that of the room after it
-  pub world-after : {D : Type 0} (room : Room R) (command : Command D Regs) → world_of (room_after outcome fallback room command) ≡ world_after (world_of room) command
+  pub world-after : {D : Type 0} (room : Room R) (command : Command D Regs) → world_of (room_after unwinding room command) ≡ world_after (world_of room) command
   world-after room New = World-equal _ _ (map-push room.unwinders (record { modules = []; generation = room.next })) (one-less room.next)
   world-after room (Add unwinder added) =
       World-equal _ _
@@ -60,7 +60,7 @@ module _ {R Regs : Type 0} (outcome : R → Bool → Regs → Memory → Outcome
   caches-either room other true e = e
   caches-either room other false e = refl
 
-  caches-stay : {D : Type 0} (room : Room R) (command : Command D Regs) → length (room_after outcome fallback room command).caches ≡ length room.caches
+  caches-stay : {D : Type 0} (room : Room R) (command : Command D Regs) → length (room_after unwinding room command).caches ≡ length room.caches
   caches-stay room New = refl
   caches-stay room (Add unwinder added) = refl
   caches-stay room (Clone unwinder) = refl
@@ -85,17 +85,17 @@ module _ {R Regs : Type 0} (outcome : R → Bool → Regs → Memory → Outcome
   result-counts stats (Err error) = refl
 
   -- the reply of the world is that of the room
-  world-reply : {D : Type 0} (room : Room R) (command : Command D Regs) (rest : Result (List (RoomReply Regs)) SessionError) → world_result (reply_then (room_reply outcome fallback room command) rest) ≡ reply_before (reply_to (step outcome fallback) (world_of room) command) (world_result rest)
+  world-reply : {D : Type 0} (room : Room R) (command : Command D Regs) (rest : Result (List (RoomReply Regs)) SessionError) → world_result (reply_then (room_reply unwinding room command) rest) ≡ reply_before (reply_to (step unwinding) (world_of room) command) (world_result rest)
   world-reply room New rest = result-made _ _ rest (sym (length-map room.unwinders (λ (u : UnwinderView). u.modules)))
   world-reply room (Add unwinder added) rest = result-of_world done rest
   world-reply room (Clone unwinder) rest = result-made _ _ rest (sym (length-map room.unwinders (λ (u : UnwinderView). u.modules)))
   world-reply room (Remove unwinder start) rest = result-of_world done rest
   world-reply room (StepCommand unwinder cache address regs memory) rest =
       result-of_world _ rest
-      ∙ ap (λ (modules : List ModuleView). let stepping = step outcome fallback modules (place_of address) regs (memory_of memory) in reply_before (Some (stepped (answer_of stepping) (registers_after regs stepping))) (world_result rest)) (sym (modules-at room.unwinders unwinder))
+      ∙ ap (λ (modules : List ModuleView). let stepping = step unwinding modules (place_of address) regs (memory_of memory) in reply_before (Some (stepped (answer_of stepping) (registers_after regs stepping))) (world_result rest)) (sym (modules-at room.unwinders unwinder))
   world-reply room (WalkCommand unwinder cache pc regs memory limit) rest =
       result-of_world _ rest
-      ∙ ap (λ (modules : List ModuleView). reply_before (Some (walked (walk_from (λ place old. step outcome fallback modules place old (memory_of memory)) limit pc regs))) (world_result rest)) (sym (modules-at room.unwinders unwinder))
+      ∙ ap (λ (modules : List ModuleView). reply_before (Some (walked (walk_from (λ place old. step unwinding modules place old (memory_of memory)) limit pc regs))) (world_result rest)) (sym (modules-at room.unwinders unwinder))
   world-reply room (Stats cache) rest = result-counts _ rest
 
   result-refused : (o : Option SessionError) (rest : Result (List (RoomReply Regs)) SessionError) → world_result (unless_refused o rest) ≡ unless_refused o (world_result rest)
@@ -103,20 +103,20 @@ module _ {R Regs : Type 0} (outcome : R → Bool → Regs → Memory → Outcome
   result-refused None rest = refl
 
   -- all replies
-  pub world-replies : {D : Type 0} (room : Room R) (commands : List (Command D Regs)) → world_result (room_replies outcome fallback room commands) ≡ world_replies (step outcome fallback) (length room.caches) (world_of room) commands
+  pub world-replies : {D : Type 0} (room : Room R) (commands : List (Command D Regs)) → world_result (room_replies unwinding room commands) ≡ world_replies (step unwinding) (length room.caches) (world_of room) commands
   unfolding room_replies world_replies without_counts
   world-replies room [] = refl
   world-replies room (command ∷ commands) =
-      let later = room_after outcome fallback room command in
+      let later = room_after unwinding room command in
       let rest = world-replies later commands
-      ∙ ap (λ n. world_replies (step outcome fallback) n (world_of later) commands) (caches-stay room command)
-      ∙ ap (λ world. world_replies (step outcome fallback) (length room.caches) world commands) (world-after room command) in
+      ∙ ap (λ n. world_replies (step unwinding) n (world_of later) commands) (caches-stay room command)
+      ∙ ap (λ world. world_replies (step unwinding) (length room.caches) world commands) (world-after room command) in
       result-refused (refusal_of (length room.caches) (world_of room) command) _
       ∙ ap (unless_refused (refusal_of (length room.caches) (world_of room) command))
-      (world-reply room command _ ∙ ap (reply_before (reply_to (step outcome fallback) (world_of room) command)) rest)
+      (world-reply room command _ ∙ ap (reply_before (reply_to (step unwinding) (world_of room) command)) rest)
 
   -- from so many empty caches and no unwinder
-  pub world-replies-start : {D : Type 0} (caches next : ℕ) (commands : List (Command D Regs)) → world_result (room_replies outcome fallback (empty_room caches next) commands) ≡ world_replies (step outcome fallback) caches (empty_world next) commands
+  pub world-replies-start : {D : Type 0} (caches next : ℕ) (commands : List (Command D Regs)) → world_result (room_replies unwinding (empty_room caches next) commands) ≡ world_replies (step unwinding) caches (empty_world next) commands
   world-replies-start caches next commands =
       world-replies (empty_room caches next) commands
-      ∙ ap (λ n. world_replies (step outcome fallback) n (empty_world next) commands) (length-replicate caches empty_cache)
+      ∙ ap (λ n. world_replies (step unwinding) n (empty_world next) commands) (length-replicate caches empty_cache)

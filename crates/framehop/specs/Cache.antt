@@ -4,7 +4,6 @@ use Rattle.std.specs.Prelude.{ℕ, ◌+◌, ◌-◌, ◌^◌, ◌%◌, Bool, not
 use Rattle.std.specs.List.{list_any}
 use mathlib.Core.Bool.{beq}
 use Rattle.framehop.specs.declared.rule_cache.CacheStats.{CacheStats}
-use Rattle.framehop.specs.declared.rule_cache.TheConstants.{CACHE_ENTRY_COUNT}
 
 -- what a rule is stored under: the lookup address (AVMA), the generation of the unwinder's modules, and whether the
 -- frame is a first one
@@ -31,9 +30,13 @@ pub record CacheView (R : Type 0) : Type 0 where
 abbrev pub same_key : Key → Key → Bool
 same_key a b = (a.address == b.address) && (a.generation == b.generation) && beq a.is_first_frame b.is_first_frame
 
+-- how many sets there are (framehop 0.16.0, documentation of `RuleCache`)
+abbrev pub set_count : ℕ
+set_count = 509
+
 -- the number of the set in which an address has its entries
 abbrev pub set_number : ℕ → ℕ
-set_number address = address % CACHE_ENTRY_COUNT
+set_number address = address % set_count
 
 -- the set in which an address has its entries
 abbrev pub set_of : {R : Type 0} → Sets R → ℕ → List (Entry R)
@@ -99,4 +102,4 @@ abbrev pub no_stats : CacheStats
 no_stats = record { hit_count = 0; miss_empty_slot_count = 0; miss_wrong_modules_count = 0; miss_wrong_address_count = 0 }
 
 abbrev pub empty_cache : {R : Type 0} → CacheView R
-empty_cache = record { sets = replicate CACHE_ENTRY_COUNT []; stats = no_stats }
+empty_cache = record { sets = replicate set_count []; stats = no_stats }

@@ -58,6 +58,18 @@ Moves advances (before pc) old place new = (place ≡ at_instruction_pointer pc)
 Moves advances (at_frame callee) old place new = (is_first_frame place ≡ false) × advances (is_first_frame callee) old new
 Moves advances at_end old place new = ⊥
 
+-- the iterator is at a frame, and its place meets a condition
+abbrev pub AtFrame : (Place → Type 0) → Progress → Type 0
+AtFrame Holds (before pc) = ⊥
+AtFrame Holds (at_frame place) = Holds place
+AtFrame Holds at_end = ⊥
+
+-- the answers that need no step: the frame at the instruction pointer, and none after the end
+abbrev pub NeedsNoStep : Progress → Result (Option Place) Error → Type 0
+NeedsNoStep (before pc) answer = answer ≡ Ok (Some (at_instruction_pointer pc))
+NeedsNoStep (at_frame place) answer = Unit {0}
+NeedsNoStep at_end answer = answer ≡ Ok None
+
 -- the cache after the next call
 abbrev pub cache_after_next : {Cache : Type 0} → (Cache → Place → Cache) → Progress → Cache → Cache
 cache_after_next cache_after (before pc) cache = cache

@@ -3,6 +3,8 @@ pub mod CacheEntry
 pub mod CacheResult
 pub mod Modules
 pub mod UnwindData
+pub mod Policy
+pub mod Unwinding
 pub mod Fresh
 pub mod Walk
 pub mod Soundness
@@ -14,6 +16,8 @@ pub mod SessionView
 pub mod Transparent
 pub mod Rise
 pub mod Aarch64
+pub mod X86_64
+pub mod Laws
 pub use Rattle.framehop_core.specs.Memory
 pub use Rattle.framehop_core.specs.Outcome
 pub use Rattle.framehop_core.specs.CodeAddress

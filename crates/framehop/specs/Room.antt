@@ -5,6 +5,7 @@ use Rattle.framehop_core.specs.Outcome.{Outcome, answer_of, registers_after}
 use Rattle.framehop_core.specs.CodeAddress.{Place, place_of}
 use Rattle.framehop.specs.Cache.{CacheView, empty_cache}
 use Rattle.framehop.specs.Modules.{UnwinderView, with_module, has_start, without_module}
+use Rattle.framehop.specs.Unwinding.{Unwinding}
 use Rattle.framehop.specs.Fresh.{step}
 use Rattle.framehop.specs.Soundness.{cache_after}
 use Rattle.framehop.specs.Walk.{walk_from, cache_after_walk}
@@ -37,27 +38,27 @@ abbrev pub cache_at : {R : Type 0} → Room R → ℕ → CacheView R
 cache_at room cache = slice_index_or room.caches cache empty_cache
 
 -- the step of an unwinder over a memory
-abbrev pub step_of : {R Regs : Type 0} → (R → Bool → Regs → Memory → Outcome Regs) → R → UnwinderView → Memory → Place → Regs → Outcome Regs
-step_of outcome fallback unwinder memory place regs = step outcome fallback unwinder.modules place regs memory
+abbrev pub step_of : {R Regs : Type 0} → Unwinding R Regs → UnwinderView → Memory → Place → Regs → Outcome Regs
+step_of unwinding unwinder memory place regs = step unwinding unwinder.modules place regs memory
 
 -- the reply to a command that is not refused
-abbrev pub room_reply : {D R Regs : Type 0} → (R → Bool → Regs → Memory → Outcome Regs) → R → Room R → Command D Regs → RoomReply Regs
-room_reply outcome fallback room New = of_world (made (length room.unwinders))
-room_reply outcome fallback room (Add unwinder added) = of_world done
-room_reply outcome fallback room (Clone unwinder) = of_world (made (length room.unwinders))
-room_reply outcome fallback room (Remove unwinder start) = of_world done
-room_reply outcome fallback room (StepCommand unwinder cache address regs memory) =
-    let stepping = step_of outcome fallback (unwinder_at room unwinder) (memory_of memory) (place_of address) regs in
+abbrev pub room_reply : {D R Regs : Type 0} → Unwinding R Regs → Room R → Command D Regs → RoomReply Regs
+room_reply unwinding room New = of_world (made (length room.unwinders))
+room_reply unwinding room (Add unwinder added) = of_world done
+room_reply unwinding room (Clone unwinder) = of_world (made (length room.unwinders))
+room_reply unwinding room (Remove unwinder start) = of_world done
+room_reply unwinding room (StepCommand unwinder cache address regs memory) =
+    let stepping = step_of unwinding (unwinder_at room unwinder) (memory_of memory) (place_of address) regs in
     of_world (stepped (answer_of stepping) (registers_after regs stepping))
-room_reply outcome fallback room (WalkCommand unwinder cache pc regs memory limit) =
-    of_world (walked (walk_from (step_of outcome fallback (unwinder_at room unwinder) (memory_of memory)) limit pc regs))
-room_reply outcome fallback room (Stats cache) = counts (cache_at room cache).stats
+room_reply unwinding room (WalkCommand unwinder cache pc regs memory limit) =
+    of_world (walked (walk_from (step_of unwinding (unwinder_at room unwinder) (memory_of memory)) limit pc regs))
+room_reply unwinding room (Stats cache) = counts (cache_at room cache).stats
 
 -- the room after it: a step and a walk look up each frame in their cache, and a clone has its original's generation
-abbrev pub room_after : {D R Regs : Type 0} → (R → Bool → Regs → Memory → Outcome Regs) → R → Room R → Command D Regs → Room R
-room_after outcome fallback room New =
+abbrev pub room_after : {D R Regs : Type 0} → Unwinding R Regs → Room R → Command D Regs → Room R
+room_after unwinding room New =
     record room { unwinders = room.unwinders ++ (record { modules = []; generation = room.next }) ∷ []; next = room.next + 1 }
-room_after outcome fallback room (Add unwinder added) =
+room_after unwinding room (Add unwinder added) =
     record room {
       unwinders = slice_set room.unwinders unwinder (record {
         modules = with_module added (unwinder_at room unwinder).modules;
@@ -65,8 +66,8 @@ room_after outcome fallback room (Add unwinder added) =
       });
       next = room.next + 1;
     }
-room_after outcome fallback room (Clone unwinder) = record room { unwinders = room.unwinders ++ unwinder_at room unwinder ∷ [] }
-room_after outcome fallback room (Remove unwinder start) =
+room_after unwinding room (Clone unwinder) = record room { unwinders = room.unwinders ++ unwinder_at room unwinder ∷ [] }
+room_after unwinding room (Remove unwinder start) =
     if has_start start (unwinder_at room unwinder).modules then record room {
       unwinders = slice_set room.unwinders unwinder (record {
         modules = without_module start (unwinder_at room unwinder).modules;
@@ -75,15 +76,15 @@ room_after outcome fallback room (Remove unwinder start) =
       next = room.next + 1;
     }
     else room
-room_after {D} {R} {Regs} outcome fallback room (StepCommand unwinder cache address regs memory) =
-    record room { caches = slice_set room.caches cache (cache_after Regs fallback (unwinder_at room unwinder) (cache_at room cache) (place_of address)) }
-room_after {D} {R} {Regs} outcome fallback room (WalkCommand unwinder cache pc regs memory limit) =
+room_after unwinding room (StepCommand unwinder cache address regs memory) =
+    record room { caches = slice_set room.caches cache (cache_after unwinding (unwinder_at room unwinder) (cache_at room cache) (place_of address)) }
+room_after unwinding room (WalkCommand unwinder cache pc regs memory limit) =
     let walker = unwinder_at room unwinder in
     record room {
       caches = slice_set room.caches cache
-          (cache_after_walk (step_of outcome fallback walker (memory_of memory)) (cache_after Regs fallback walker) limit pc regs (cache_at room cache));
+          (cache_after_walk (step_of unwinding walker (memory_of memory)) (cache_after unwinding walker) limit pc regs (cache_at room cache));
     }
-room_after outcome fallback room (Stats cache) = room
+room_after unwinding room (Stats cache) = room
 
 -- a reply before the others
 abbrev pub reply_then : {Regs : Type 0} → RoomReply Regs → Result (List (RoomReply Regs)) SessionError → Result (List (RoomReply Regs)) SessionError
@@ -91,22 +92,22 @@ reply_then reply (Ok replies) = Ok (reply ∷ replies)
 reply_then reply (Err error) = Err error
 
 -- the replies to a list of commands, or the refusal of the first command that is refused
-unfoldable pub room_replies : {D R Regs : Type 0} → (R → Bool → Regs → Memory → Outcome Regs) → R → Room R → List (Command D Regs) → Result (List (RoomReply Regs)) SessionError
-room_replies outcome fallback room [] = Ok []
-room_replies outcome fallback room (command ∷ commands) =
+unfoldable pub room_replies : {D R Regs : Type 0} → Unwinding R Regs → Room R → List (Command D Regs) → Result (List (RoomReply Regs)) SessionError
+room_replies unwinding room [] = Ok []
+room_replies unwinding room (command ∷ commands) =
     unless_refused (refusal_of (length room.caches) (world_of room) command)
-    (reply_then (room_reply outcome fallback room command) (room_replies outcome fallback (room_after outcome fallback room command) commands))
+    (reply_then (room_reply unwinding room command) (room_replies unwinding (room_after unwinding room command) commands))
 
 -- the next generation when all commands, or those before the first that is refused, are done
 abbrev pub next_unless : Option SessionError → ℕ → ℕ → ℕ
 next_unless (Some error) next later = next
 next_unless None next later = later
 
-unfoldable pub next_after_all : {D R Regs : Type 0} → (R → Bool → Regs → Memory → Outcome Regs) → R → Room R → List (Command D Regs) → ℕ
-next_after_all outcome fallback room [] = room.next
-next_after_all outcome fallback room (command ∷ commands) =
+unfoldable pub next_after_all : {D R Regs : Type 0} → Unwinding R Regs → Room R → List (Command D Regs) → ℕ
+next_after_all unwinding room [] = room.next
+next_after_all unwinding room (command ∷ commands) =
     next_unless (refusal_of (length room.caches) (world_of room) command) room.next
-    (next_after_all outcome fallback (room_after outcome fallback room command) commands)
+    (next_after_all unwinding (room_after unwinding room command) commands)
 
 -- so many empty caches, no unwinder, and the next generation
 abbrev pub empty_room : {R : Type 0} → ℕ → ℕ → Room R

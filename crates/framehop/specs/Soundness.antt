@@ -1,36 +1,46 @@
 -- When a cache that other steps have filled changes no answer.
-use Rattle.std.specs.Prelude.{◌≡◌, ◌⊎◌, List, [], ◌∷◌}
+use Rattle.std.specs.Prelude.{◌≡◌, ◌≢◌, ◌-◌, ◌⊎◌, true, List, [], ◌∷◌, Some}
 use Rattle.framehop_core.specs.CodeAddress.{Place, lookup_address, is_first_frame}
 use Rattle.framehop.specs.Cache.{Key, Entry, Sets, CacheView, Found, hit, empty_slot, wrong_modules, wrong_address, found, counted, inserted, ways}
-use Rattle.framehop.specs.Fresh.{Fresh, by_rule, direct, fresh}
-use Rattle.framehop.specs.Modules.{UnwinderView}
+use Rattle.framehop.specs.Unwinding.{Unwinding, Fresh, by_rule, direct}
+use Rattle.framehop.specs.Fresh.{fresh}
+use Rattle.framehop.specs.Modules.{ModuleView, UnwinderView, covering}
 
 -- the entry is one of the list
 abbrev pub Among : {A : Type 0} → A → List A → Type 0
 Among x [] = ⊥
 Among x (y ∷ ys) = (y ≡ x) ⊎ Among x ys
 
--- the entry stands in one of the sets
+-- the entry is stored in one of the sets
 abbrev pub Stands : {R : Type 0} → Entry R → Sets R → Type 0
 Stands entry [] = ⊥
 Stands entry (set ∷ sets) = Among entry set ⊎ Stands entry sets
 
 -- the entry is what the unwinder's modules give for its address and kind, and has their generation
-pub record IsFresh {R : Type 0} (Regs : Type 0) (fallback : R) (unwinder : UnwinderView) (entry : Entry R) : Type 0 where
+pub record IsFresh {R Regs : Type 0} (unwinding : Unwinding R Regs) (unwinder : UnwinderView) (entry : Entry R) : Type 0 where
   pub generation : entry.key.generation ≡ unwinder.generation
-  pub rule : fresh {Rule = R} {Regs = Regs} fallback unwinder.modules entry.key.address entry.key.is_first_frame ≡ by_rule entry.rule
+  pub rule : fresh unwinding unwinder.modules entry.key.address entry.key.is_first_frame ≡ by_rule entry.rule
 
 -- A cache is sound for an unwinder: each entry of the unwinder's generation is what its modules give afresh.
-pub record IsSound {R : Type 0} (Regs : Type 0) (fallback : R) (unwinder : UnwinderView) (sets : Sets R) : Type 0 where
-  pub each : (entry : Entry R) → Stands entry sets → entry.key.generation ≡ unwinder.generation → IsFresh Regs fallback unwinder entry
+pub record IsSound {R Regs : Type 0} (unwinding : Unwinding R Regs) (unwinder : UnwinderView) (sets : Sets R) : Type 0 where
+  pub each : (entry : Entry R) → Stands entry sets → entry.key.generation ≡ unwinder.generation
+      → IsFresh unwinding unwinder entry
 
--- each entry stood there before, or is what the unwinder's modules give afresh
-pub record Extends {R : Type 0} (Regs : Type 0) (fallback : R) (unwinder : UnwinderView) (old new : Sets R) : Type 0 where
-  pub each : (entry : Entry R) → Stands entry new → Stands entry old ⊎ IsFresh Regs fallback unwinder entry
+-- each entry was stored before, or is what the unwinder's modules give afresh, under their generation
+pub record Extends {R Regs : Type 0} (unwinding : Unwinding R Regs) (unwinder : UnwinderView) (old new : Sets R) : Type 0 where
+  pub each : (entry : Entry R) → Stands entry new → Stands entry old ⊎ IsFresh unwinding unwinder entry
+
+-- unwinders of one generation have the same modules
+abbrev pub AreApart : UnwinderView → UnwinderView → Type 0
+AreApart unwinder other = unwinder.generation ≡ other.generation → unwinder.modules ≡ other.modules
 
 -- the key of the unwinder's frame at a place
 abbrev pub key_of : UnwinderView → Place → Key
-key_of unwinder place = record { address = lookup_address place; generation = unwinder.generation; is_first_frame = is_first_frame place }
+key_of unwinder place = record {
+  address = lookup_address place;
+  generation = unwinder.generation;
+  is_first_frame = is_first_frame place;
+}
 
 -- the sets after a miss: one insert exactly where the modules give a rule
 abbrev pub sets_after_miss : {R Regs : Type 0} → Sets R → Key → Fresh R Regs → Sets R
@@ -45,11 +55,24 @@ sets_after sets key wrong_modules answer = sets_after_miss sets key answer
 sets_after sets key wrong_address answer = sets_after_miss sets key answer
 
 -- the cache after a step at a place: one lookup, counted, and at most one insert
-unfoldable pub cache_after : {R : Type 0} (Regs : Type 0) → R → UnwinderView → CacheView R → Place → CacheView R
-cache_after {R} Regs fallback unwinder cache place =
+unfoldable pub cache_after : {R Regs : Type 0} → Unwinding R Regs → UnwinderView → CacheView R → Place → CacheView R
+cache_after unwinding unwinder cache place =
     let key = key_of unwinder place in
     let seen = found ways cache.sets key in
     record {
-      sets = sets_after {Regs = Regs} cache.sets key seen (fresh fallback unwinder.modules (lookup_address place) (is_first_frame place));
+      sets = sets_after cache.sets key seen (fresh unwinding unwinder.modules (lookup_address place) (is_first_frame place));
       stats = counted cache.stats seen;
     }
+
+-- the cache after a step at a place that ran out of memory: one lookup, counted
+unfoldable pub cache_after_lookup : {R : Type 0} → UnwinderView → CacheView R → Place → CacheView R
+cache_after_lookup unwinder cache place =
+    record cache { stats = counted cache.stats (found ways cache.sets (key_of unwinder place)) }
+
+-- A step at a place can run out of memory: its rule is not in the cache, and reading what the covering module has for the
+-- address takes memory.
+pub record MayRunOut {R Regs : Type 0} (unwinding : Unwinding R Regs) (unwinder : UnwinderView) (cache : CacheView R) (place : Place) : Type 0 where
+  pub missed : (rule : R) → found ways cache.sets (key_of unwinder place) ≢ hit rule
+  pub covered_by : ModuleView
+  pub covers : covering unwinder.modules (lookup_address place) ≡ Some covered_by
+  pub takes : unwinding.takes_memory covered_by (lookup_address place - covered_by.base_avma) (is_first_frame place) ≡ true

@@ -1,6 +1,11 @@
-ghost use Rattle.std.specs.Prelude.{◌≡◌, true, IfOk};
+ghost use Rattle.std.specs.Prelude.{◌≡◌, Bool, true, false, refl, IfOk};
 ghost use Rattle.framehop.specs.Cache.{Key, counted, empty_cache, found, inserted, ways};
 ghost use Rattle.framehop.specs.CacheResult.{result_of, HitRuns};
+ghost use Rattle.framehop.specs.Modules.{UnwinderView};
+ghost use Rattle.framehop.specs.Policy.{Policy, IsLimited, with_allocation, without_allocation};
+ghost use Rattle.framehop.specs.Laws.Policy.{limited-with_allocation, limited-without_allocation};
+ghost use Rattle.framehop.specs.Unwinding.{Unwinding};
+ghost use Rattle.framehop.specs.Soundness.{IsSound};
 
 use crate::rule_cache::{CacheHandle, CacheResult, CacheStats, RuleCache};
 use framehop_core::unwind_rule::UnwindRule;
@@ -10,6 +15,13 @@ use std::marker::{Model, PhantomData};
 /// Whether unwinding may take memory. The two policies are [`MustNotAllocateDuringUnwind`] and
 /// [`MayAllocateDuringUnwind`].
 pub trait AllocationPolicy {
+    ghost MAY_ALLOCATE: { Bool };
+
+    // what it lets unwinding use
+    ghost policy: { Policy };
+
+    ghost is_policy: { (policy.may_allocate ≡ MAY_ALLOCATE) × IsLimited policy };
+
     const MAY_ALLOCATE: bool;
 }
 
@@ -18,6 +30,12 @@ pub trait AllocationPolicy {
 pub struct MustNotAllocateDuringUnwind;
 
 impl AllocationPolicy for MustNotAllocateDuringUnwind {
+    ghost MAY_ALLOCATE = { false };
+
+    ghost policy = { without_allocation };
+
+    ghost is_policy = { (refl, limited-without_allocation) };
+
     const MAY_ALLOCATE: bool = false;
 }
 
@@ -26,6 +44,12 @@ impl AllocationPolicy for MustNotAllocateDuringUnwind {
 pub struct MayAllocateDuringUnwind;
 
 impl AllocationPolicy for MayAllocateDuringUnwind {
+    ghost MAY_ALLOCATE = { true };
+
+    ghost policy = { with_allocation };
+
+    ghost is_policy = { (refl, limited-with_allocation) };
+
     const MAY_ALLOCATE: bool = true;
 }
 
@@ -46,9 +70,11 @@ impl<R: UnwindRule, P: AllocationPolicy> Model for Cache<R, P> {
 }
 
 impl<R: UnwindRule, P: AllocationPolicy> Cache<R, P> {
-    /// An empty cache. Refused where the memory for it is.
+    /// An empty cache. Refused where the memory for it is. It changes no answer of any unwinder.
     pub fn new(alloc: Global) -> Result<Self, AllocError>
-        ensures { IfOk result (λ cache. cache ≡ empty_cache) }
+        ensures made { IfOk result (λ cache. cache ≡ empty_cache) }
+        ensures sound { IfOk result (λ cache. (unwinding : Unwinding R R.UnwindRegs) (unwinder : UnwinderView)
+            → IsSound unwinding unwinder cache.sets) }
     {
         Ok(Cache {
             rule_cache: RuleCache::new(alloc)?,

@@ -18,4 +18,6 @@ pub use framehop_core::{
 };
 pub use generations::Generations;
 pub use rule_cache::CacheStats;
-pub use unwinder::{Module, ModuleListError, RefusedModule, UnwindIterator, Unwinder};
+pub use unwinder::{
+    Module, ModuleListError, RefusedModule, UnwindIterator, Unwinder, Unwinding,
+};

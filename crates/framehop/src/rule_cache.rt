@@ -19,16 +19,15 @@ pub struct RuleCache<R: UnwindRule> {
 
 impl<R: UnwindRule> Model for RuleCache<R> {
     ghost use Rattle.std.specs.Prelude.{◌≡◌, ℕ, map, length, true, Some, slice_get};
-    ghost use Rattle.framehop.specs.Cache.{CacheView};
+    ghost use Rattle.framehop.specs.Cache.{CacheView, set_count};
 
     ghost Value = { CacheView R };
 
     ghost use Rattle.framehop.specs.CacheEntry.{set_of_slot};
-    ghost use Rattle.framehop.specs.declared.rule_cache.TheConstants.{CACHE_ENTRY_COUNT};
 
     ghost view = { λ c. record { sets = map set_of_slot c.entries.items; stats = c.stats } };
 
-    ghost invariant = { λ c. (length c.entries.items ≡ CACHE_ENTRY_COUNT)
+    ghost invariant = { λ c. (length c.entries.items ≡ set_count)
         × ((slot : ℕ) (entry : _) → slice_get c.entries.items slot ≡ Some (Some entry) → R.executable entry.unwind_rule ≡ true) };
 }
 

@@ -1,12 +1,12 @@
 //! Lists of commands over unwinders that share caches.
-ghost use Rattle.std.specs.Prelude.{◌≡◌, ◌≢◌, ◌+◌, ◌≤◌, ℕ, [], ◌∷◌, ◌++◌, map, option_map, replicate, IfOk, IfErr, IfSome, IfNone};
+ghost use Rattle.std.specs.Prelude.{◌≡◌, ◌≢◌, ◌+◌, ◌≤◌, ℕ, [], ◌∷◌, ◌++◌, map, option_map, replicate, IfOk, IfErr, IfSome, IfNone, OnOk, length};
 ghost use Rattle.framehop.specs.Memory.{Memory as StackMemory, AnswersAs, reply};
 ghost use Rattle.framehop.specs.Iterator.{at_frame, next_of, Moves, frames_in, end_in, cache_after_next, walk_on, cache_on};
 ghost use Rattle.framehop.specs.UnwindIterator.{unwinder_of, progress_in, regs_of, cache_of, read_stack_of};
 ghost use Rattle.framehop.specs.SessionView.{end_of, walk_of, result_view, reply_view};
 ghost use Rattle.framehop.specs.World.{memory_of, empty_world, world_replies};
 ghost use Rattle.framehop.specs.Walk.{walk_from, cache_after_walk};
-ghost use Rattle.framehop.specs.Soundness.{IsSound, cache_after};
+ghost use Rattle.framehop.specs.Soundness.{IsSound, MayRunOut, cache_after};
 ghost use Rattle.framehop.specs.Room.{Room, step_of, empty_room, room_replies, next_after_all, world_result};
 ghost use Rattle.framehop.specs.Fresh.{step};
 ghost use Rattle.framehop.specs.Transparent.{IsTransparent, Serves};
@@ -20,9 +20,10 @@ use crate::aarch64::{CacheAarch64, UnwindRegsAarch64, UnwinderAarch64};
 use crate::cache::{AllocationPolicy, Cache};
 use crate::generations::Generations;
 use crate::rule_cache::CacheStats;
-use crate::unwinder::{Module, ModuleListError, UnwindIterator, Unwinder, UnwinderInternal};
+use crate::unwinder::{
+    Module, ModuleListError, UnwindIterator, Unwinder, UnwinderInternal, Unwinding,
+};
 use framehop_cfi::section::SectionBytes;
-use framehop_core::arch::Arch;
 use framehop_core::{Error, FrameAddress};
 use std::alloc::Global;
 
@@ -174,8 +175,8 @@ fn push_next_frame<U: Unwinder, F: FnMut(u64) -> Result<u64, ()>>(
         × (frames.new.items ≡ frames.old.items ++ frame ∷ []) × (progress_in unwinding.new ≡ at_frame (place_of frame))
         × Moves U.advances (progress_in unwinding.old) (regs_of unwinding.old) (place_of frame) (regs_of unwinding.new))) }
     ensures kept { IfOk result (λ end. IfSome end (λ _. frames.new.items ≡ frames.old.items)) }
-    ensures cached { (cache_of unwinding.new).now ≡ cache_after_next (U.cache_after (unwinder_of unwinding.old).now)
-        (progress_in unwinding.old) (cache_of unwinding.old).now }
+    ensures cached { OnOk result ((cache_of unwinding.new).now ≡ cache_after_next (U.cache_after (unwinder_of unwinding.old).now)
+        (progress_in unwinding.old) (cache_of unwinding.old).now) }
     ensures answers { (memory : StackMemory) → AnswersAs F.FnMut (read_stack_of unwinding.old).now memory
         → U.is_sound (unwinder_of unwinding.old).now (cache_of unwinding.old).now
         → let next = next_of (λ place regs. U.step (unwinder_of unwinding.old).now place regs memory) (progress_in unwinding.old) (regs_of unwinding.old) in
@@ -228,7 +229,7 @@ fn next_frames<U: Unwinder, F: FnMut(u64) -> Result<u64, ()>>(
 }
 
 /// Walks a stack over its words: the frames, how the walk ended, and the registers there.
-fn walk_stack<D: SectionBytes + Drop, A: Arch, P: AllocationPolicy>(
+fn walk_stack<D: SectionBytes + Drop, A: Unwinding, P: AllocationPolicy>(
     alloc: Global,
     unwinder: &UnwinderInternal<D, A, P>,
     cache: &mut Cache<A::UnwindRule, P>,
@@ -238,10 +239,10 @@ fn walk_stack<D: SectionBytes + Drop, A: Arch, P: AllocationPolicy>(
     limit: u32,
 ) -> Result<(Vec<FrameAddress>, WalkEnd, A::UnwindRegs), SessionError>
     ensures refused { IfErr result (λ error. error ≡ SessionError.OutOfMemory) }
-    ensures answers { IsSound A.UnwindRegs A.UnwindRule.fallback unwinder.now cache.old.sets → IfOk result (λ walk.
-        let step = step_of A.UnwindRule.outcome A.UnwindRule.fallback unwinder.now (memory_of memory.now) in
+    ensures answers { IsSound (A.unwinding P.policy) unwinder.now cache.old.sets → IfOk result (λ walk.
+        let step = step_of (A.unwinding P.policy) unwinder.now (memory_of memory.now) in
         (walk_of walk.0.items walk.1 walk.2 ≡ walk_from step limit pc regs)
-        × (cache.new ≡ cache_after_walk step (cache_after A.UnwindRegs A.UnwindRule.fallback unwinder.now) limit pc regs cache.old)) }
+        × (cache.new ≡ cache_after_walk step (cache_after (A.unwinding P.policy) unwinder.now) limit pc regs cache.old)) }
 {
     let mut read_stack = |address: u64| -> Result<u64, ()>
         ensures { result ≡ reply (memory_of memory.entry.now address) }
@@ -252,37 +253,43 @@ fn walk_stack<D: SectionBytes + Drop, A: Arch, P: AllocationPolicy>(
     Ok((frames, end, regs))
 }
 
-/// Unwinds a frame over the words of a stack: what the step answers, and the registers behind it.
-fn step_stack<D: SectionBytes + Drop, A: Arch, P: AllocationPolicy>(
+/// Unwinds a frame over the words of a stack: what the step answers, and the registers after it.
+fn step_stack<D: SectionBytes + Drop, A: Unwinding, P: AllocationPolicy>(
     unwinder: &UnwinderInternal<D, A, P>,
     cache: &mut Cache<A::UnwindRule, P>,
     address: FrameAddress,
     regs: A::UnwindRegs,
     memory: &Memory,
-) -> (Result<Option<u64>, Error>, A::UnwindRegs)
-    ensures no_memory_taken { result.0 ≢ Err Error.OutOfMemory }
-    ensures cached { cache.new ≡ cache_after A.UnwindRegs A.UnwindRule.fallback unwinder.now cache.old (place_of address) }
-    ensures answers { IsSound A.UnwindRegs A.UnwindRule.fallback unwinder.now cache.old.sets →
-        let stepping = step_of A.UnwindRule.outcome A.UnwindRule.fallback unwinder.now (memory_of memory.now) (place_of address) regs in
-        (result.0 ≡ answer_of stepping) × (result.1 ≡ registers_after regs stepping) }
+) -> Result<(Result<Option<u64>, Error>, A::UnwindRegs), SessionError>
+    ensures refused { IfErr result (λ error. (error ≡ SessionError.OutOfMemory)
+        × MayRunOut (A.unwinding P.policy) unwinder.now cache.old (place_of address)) }
+    ensures cached { OnOk result (cache.new ≡ cache_after (A.unwinding P.policy) unwinder.now cache.old (place_of address)) }
+    ensures answers { IsSound (A.unwinding P.policy) unwinder.now cache.old.sets →
+        let stepping = step_of (A.unwinding P.policy) unwinder.now (memory_of memory.now) (place_of address) regs in
+        IfOk result (λ stepped. (stepped.0 ≡ answer_of stepping) × (stepped.1 ≡ registers_after regs stepping)) }
 {
     let mut read_stack = |address: u64| -> Result<u64, ()>
         ensures { result ≡ reply (memory_of memory.entry.now address) }
     { memory.read(address) };
     let mut regs = regs;
-    let result = unwinder.unwind_frame(address, &mut regs, cache, &mut read_stack);
-    (result, regs)
+    match unwinder.unwind_frame(address, &mut regs, cache, &mut read_stack) {
+        Ok(answer) => Ok((Ok(answer), regs)),
+        Err(error) => match error {
+            Error::OutOfMemory => Err(SessionError::OutOfMemory),
+            refusal => Ok((Err(refusal), regs)),
+        },
+    }
 }
 
 /// Unwinders and the caches that they share.
 #[derive(Drop)]
-struct Session<D: SectionBytes, A: Arch, P: AllocationPolicy> {
+struct Session<D: SectionBytes, A: Unwinding, P: AllocationPolicy> {
     alloc: Global,
     unwinders: Vec<UnwinderInternal<D, A, P>>,
     caches: Vec<Cache<A::UnwindRule, P>>,
 }
 
-impl<D: SectionBytes + Drop, A: Arch, P: AllocationPolicy> Session<D, A, P> {
+impl<D: SectionBytes + Drop, A: Unwinding, P: AllocationPolicy> Session<D, A, P> {
     /// No unwinder, and so many empty caches.
     fn new(alloc: Global, cache_count: usize) -> Result<Self, SessionError>
         ensures made { IfOk result (λ session.
@@ -310,9 +317,10 @@ impl<D: SectionBytes + Drop, A: Arch, P: AllocationPolicy> Session<D, A, P> {
         generations: &mut Generations,
     ) -> Result<Reply<A::UnwindRegs>, SessionError>
         ensures drawn { generations.old ≤ generations.new }
+        ensures drawn_at_most { generations.new ≤ generations.old + 1 }
         ensures served { let old : Room A.UnwindRule = record { unwinders = self.old.unwinders.items; next = generations.old; caches = self.old.caches.items } in
             let command : Command D A.UnwindRegs = Command.New in
-            Serves A.UnwindRule.outcome A.UnwindRule.fallback old command result
+            Serves (A.unwinding P.policy) old command result
             (record { unwinders = self.new.unwinders.items; next = generations.new; caches = self.new.caches.items }) }
     {
         let number = self.unwinders.len();
@@ -332,9 +340,10 @@ impl<D: SectionBytes + Drop, A: Arch, P: AllocationPolicy> Session<D, A, P> {
         generations: &mut Generations,
     ) -> Result<Reply<A::UnwindRegs>, SessionError>
         ensures drawn { generations.old ≤ generations.new }
+        ensures drawn_at_most { generations.new ≤ generations.old + 1 }
         ensures served { let old : Room A.UnwindRule = record { unwinders = self.old.unwinders.items; next = generations.old; caches = self.old.caches.items } in
             let command : Command D A.UnwindRegs = Command.Add unwinder «module» in
-            Serves A.UnwindRule.outcome A.UnwindRule.fallback old command result
+            Serves (A.unwinding P.policy) old command result
             (record { unwinders = self.new.unwinders.items; next = generations.new; caches = self.new.caches.items }) }
     {
         if unwinder >= self.unwinders.len() {
@@ -353,7 +362,7 @@ impl<D: SectionBytes + Drop, A: Arch, P: AllocationPolicy> Session<D, A, P> {
     fn clone_unwinder(&mut self, unwinder: usize) -> Result<Reply<A::UnwindRegs>, SessionError>
         ensures { (next : ℕ) → let old : Room A.UnwindRule = record { unwinders = self.old.unwinders.items; next = next; caches = self.old.caches.items } in
             let command : Command D A.UnwindRegs = Command.Clone unwinder in
-            Serves A.UnwindRule.outcome A.UnwindRule.fallback old command result
+            Serves (A.unwinding P.policy) old command result
             (record { unwinders = self.new.unwinders.items; next = next; caches = self.new.caches.items }) }
     {
         let number = self.unwinders.len();
@@ -376,9 +385,10 @@ impl<D: SectionBytes + Drop, A: Arch, P: AllocationPolicy> Session<D, A, P> {
         generations: &mut Generations,
     ) -> Result<Reply<A::UnwindRegs>, SessionError>
         ensures drawn { generations.old ≤ generations.new }
+        ensures drawn_at_most { generations.new ≤ generations.old + 1 }
         ensures served { let old : Room A.UnwindRule = record { unwinders = self.old.unwinders.items; next = generations.old; caches = self.old.caches.items } in
             let command : Command D A.UnwindRegs = Command.Remove unwinder start in
-            Serves A.UnwindRule.outcome A.UnwindRule.fallback old command result
+            Serves (A.unwinding P.policy) old command result
             (record { unwinders = self.new.unwinders.items; next = generations.new; caches = self.new.caches.items }) }
     {
         if unwinder >= self.unwinders.len() {
@@ -402,8 +412,8 @@ impl<D: SectionBytes + Drop, A: Arch, P: AllocationPolicy> Session<D, A, P> {
     ) -> Result<Reply<A::UnwindRegs>, SessionError>
         ensures { (next : ℕ) → let old : Room A.UnwindRule = record { unwinders = self.old.unwinders.items; next = next; caches = self.old.caches.items } in
             let command : Command D A.UnwindRegs = Command.Step unwinder cache address regs memory in
-            IsTransparent A.UnwindRegs A.UnwindRule.fallback old →
-            Serves A.UnwindRule.outcome A.UnwindRule.fallback old command result
+            IsTransparent (A.unwinding P.policy) old →
+            Serves (A.unwinding P.policy) old command result
             (record { unwinders = self.new.unwinders.items; next = next; caches = self.new.caches.items }) }
     {
         if unwinder >= self.unwinders.len() {
@@ -414,14 +424,14 @@ impl<D: SectionBytes + Drop, A: Arch, P: AllocationPolicy> Session<D, A, P> {
         }
         let stepper = &self.unwinders[unwinder];
         let shared = &mut self.caches[cache];
-        let (result, regs) = step_stack(stepper, shared, address, regs, &memory);
+        let (result, regs) = step_stack(stepper, shared, address, regs, &memory)?;
         Ok(Reply::Step { result, regs })
     }
 
     fn stats(&self, cache: usize) -> Result<Reply<A::UnwindRegs>, SessionError>
         ensures { (next : ℕ) → let room : Room A.UnwindRule = record { unwinders = self.now.unwinders.items; next = next; caches = self.now.caches.items } in
             let command : Command D A.UnwindRegs = Command.Stats cache in
-            Serves A.UnwindRule.outcome A.UnwindRule.fallback room command result room }
+            Serves (A.unwinding P.policy) room command result room }
     {
         if cache >= self.caches.len() {
             return Err(SessionError::NoSuchCache);
@@ -440,8 +450,8 @@ impl<D: SectionBytes + Drop, A: Arch, P: AllocationPolicy> Session<D, A, P> {
     ) -> Result<Reply<A::UnwindRegs>, SessionError>
         ensures { (next : ℕ) → let old : Room A.UnwindRule = record { unwinders = self.old.unwinders.items; next = next; caches = self.old.caches.items } in
             let command : Command D A.UnwindRegs = Command.Walk unwinder cache pc regs memory limit in
-            IsTransparent A.UnwindRegs A.UnwindRule.fallback old →
-            Serves A.UnwindRule.outcome A.UnwindRule.fallback old command result
+            IsTransparent (A.unwinding P.policy) old →
+            Serves (A.unwinding P.policy) old command result
             (record { unwinders = self.new.unwinders.items; next = next; caches = self.new.caches.items }) }
     {
         if unwinder >= self.unwinders.len() {
@@ -463,9 +473,10 @@ impl<D: SectionBytes + Drop, A: Arch, P: AllocationPolicy> Session<D, A, P> {
         generations: &mut Generations,
     ) -> Result<Reply<A::UnwindRegs>, SessionError>
         ensures drawn { generations.old ≤ generations.new }
+        ensures drawn_at_most { generations.new ≤ generations.old + 1 }
         ensures served { let old : Room A.UnwindRule = record { unwinders = self.old.unwinders.items; next = generations.old; caches = self.old.caches.items } in
-            IsTransparent A.UnwindRegs A.UnwindRule.fallback old →
-            Serves A.UnwindRule.outcome A.UnwindRule.fallback old command result
+            IsTransparent (A.unwinding P.policy) old →
+            Serves (A.unwinding P.policy) old command result
             (record { unwinders = self.new.unwinders.items; next = generations.new; caches = self.new.caches.items }) }
     {
         match command {
@@ -499,20 +510,21 @@ impl<D: SectionBytes + Drop, A: Arch, P: AllocationPolicy> Session<D, A, P> {
 /// The first command that names an unwinder or a cache that is not there, or that needs a
 /// generation where the counter is at its end, refuses the session, and so does want of memory.
 /// Then its unwinders and caches are gone, and the generations that it drew stay drawn.
-pub fn run<D: SectionBytes + Drop, A: Arch, P: AllocationPolicy>(
+pub fn run<D: SectionBytes + Drop, A: Unwinding, P: AllocationPolicy>(
     alloc: Global,
     commands: Vec<Command<D, A::UnwindRegs>>,
     cache_count: usize,
     generations: &mut Generations,
 ) -> Result<Vec<Reply<A::UnwindRegs>>, SessionError>
     ensures transparent { result ≢ Err SessionError.OutOfMemory → world_result (result_view result)
-        ≡ world_replies (step A.UnwindRule.outcome A.UnwindRule.fallback) cache_count (empty_world generations.old) commands.items }
+        ≡ world_replies (step (A.unwinding P.policy)) cache_count (empty_world generations.old) commands.items }
     ensures counted { result ≢ Err SessionError.OutOfMemory → result_view result
-        ≡ room_replies A.UnwindRule.outcome A.UnwindRule.fallback (empty_room cache_count generations.old) commands.items }
+        ≡ room_replies (A.unwinding P.policy) (empty_room cache_count generations.old) commands.items }
     ensures drawn { result ≢ Err SessionError.OutOfMemory → generations.new
-        ≡ next_after_all A.UnwindRule.outcome A.UnwindRule.fallback (empty_room cache_count generations.old) commands.items }
+        ≡ next_after_all (A.unwinding P.policy) (empty_room cache_count generations.old) commands.items }
     ensures never_back { generations.old ≤ generations.new }
-    ensures bounded { IfOk result (λ replies. AreWithinRise (step A.UnwindRule.outcome A.UnwindRule.fallback) A.UnwindRule.stack_pointer
+    ensures drawn_at_most { generations.new ≤ generations.old + length commands.items }
+    ensures bounded { IfOk result (λ replies. AreWithinRise (A.unwinding P.policy)
         (empty_world generations.old) commands.items (map reply_view replies.items)) }
 {
     let mut session: Session<D, A, P> = Session::new(alloc, cache_count)?;
@@ -544,12 +556,12 @@ where
     F: FnMut(u64) -> Result<u64, ()>,
     requires { F.IsAlwaysCallable read_stack.old }
     ensures callable { F.IsAlwaysCallable read_stack.new }
-    ensures stays_sound { IsSoundAarch64 unwinder.now cache.old.0 → IsSoundAarch64 unwinder.now cache.new.0 }
+    ensures stays_sound { IsSoundAarch64 P.policy unwinder.now cache.old.0 → IsSoundAarch64 P.policy unwinder.now cache.new.0 }
     ensures refused { IfErr result (λ error. error ≡ SessionError.OutOfMemory) }
     ensures answers { (memory : StackMemory) → AnswersAs F.FnMut read_stack.old memory
-        → IsSoundAarch64 unwinder.now cache.old.0
+        → IsSoundAarch64 P.policy unwinder.now cache.old.0
         → AnswersAs F.FnMut read_stack.new memory
-        × IfOk result (λ reply. IsWalkToEnd unwinder.now memory pc regs (reply_view reply) cache.old cache.new) }
+        × IfOk result (λ reply. IsWalkToEnd P.policy unwinder.now memory pc regs (reply_view reply) cache.old cache.new) }
 {
     let mut frames = Vec::new(alloc);
     let mut unwinding = unwinder.iter_frames(pc, regs, cache, read_stack);

@@ -4,10 +4,12 @@ ghost use Rattle.framehop.specs.Outcome.{Outcome, answer_of, registers_after};
 ghost use Rattle.framehop.specs.CodeAddress.{Place, place_of, is_first_frame};
 ghost use Rattle.framehop.specs.Iterator.{before};
 ghost use Rattle.framehop.specs.UnwindIterator.{unwinder_of, progress_in, regs_of, cache_of, read_stack_of};
-ghost use Rattle.framehop.specs.Fresh.{fresh, by_rule};
+ghost use Rattle.framehop.specs.Unwinding.{Unwinding, GivesNothingWithoutData, RisesAsSaid, by_rule};
+ghost use Rattle.framehop.specs.Policy.{Policy};
+ghost use Rattle.framehop.specs.Fresh.{fresh};
 ghost use Rattle.framehop.specs.Cache.{found, counted, ways};
 ghost use Rattle.framehop.specs.CacheResult.{result_of, HitRuns};
-ghost use Rattle.framehop.specs.Soundness.{key_of};
+ghost use Rattle.framehop.specs.Soundness.{key_of, AreApart};
 ghost use Rattle.std.specs.List.Sorted.{IsPartitionPoint};
 ghost use Rattle.framehop.specs.Modules.{ModuleView, UnwinderView, AreInOrder, no_unwind_data, starting_by, starting_above, with_module, has_start, without_module, starts_by, covers, covering, greatest_end};
 
@@ -15,8 +17,10 @@ use crate::cache::{AllocationPolicy, Cache};
 use crate::generations::Generations;
 use crate::rule_cache::CacheResult;
 use framehop_cfi::section::{ModuleSectionInfo, SectionBytes};
+use framehop_core::aarch64::ArchAarch64;
 use framehop_core::arch::Arch;
 use framehop_core::unwind_rule::UnwindRule;
+use framehop_core::x86_64::ArchX86_64;
 use framehop_core::{Error, FrameAddress};
 use std::alloc::{AllocError, Global};
 use std::marker::{Model, PhantomData};
@@ -40,6 +44,72 @@ pub enum ModuleListError {
 pub struct RefusedModule<M> {
     pub module: M,
     pub cause: ModuleListError,
+}
+
+/// A CPU architecture whose unwind data can be read: what it makes of rules and modules.
+pub trait Unwinding: Arch {
+    // what a step gives by the modules' bytes, under an allocation policy
+    ghost unwinding: { Policy → Unwinding Self.UnwindRule Self.UnwindRegs };
+
+    // what a step that answers an address does to the registers, whatever the callback replies: of
+    // a first frame (`true`) or another, before and after
+    ghost step_advances: { Bool → Self.UnwindRegs → Self.UnwindRegs → Type 0 };
+
+    // its rules are those of the architecture
+    ghost outcome_is: { (policy : Policy) → (unwinding policy).outcome ≡ Self.UnwindRule.outcome };
+
+    ghost fallback_is: { (policy : Policy) → (unwinding policy).fallback ≡ Self.UnwindRule.fallback };
+
+    ghost stack_pointer_is: { (policy : Policy) → (unwinding policy).stack_pointer ≡ Self.UnwindRule.stack_pointer };
+
+    ghost no_data: { (policy : Policy) → GivesNothingWithoutData (unwinding policy) };
+
+    ghost rule_advances: { (first : Bool) (old new : Self.UnwindRegs) → Self.UnwindRule.advances first old new → step_advances first old new };
+
+    ghost rises_as_said: { (policy : Policy) → RisesAsSaid (unwinding policy) };
+}
+
+impl Unwinding for ArchAarch64 {
+    ghost use Rattle.framehop.specs.Aarch64.{aarch64, Ascends};
+    ghost use Rattle.framehop.specs.Laws.Aarch64.{outcome-is, fallback-is, stack_pointer-is, no-data, Ascends-rule, rises-as-said};
+
+    ghost unwinding = { aarch64 };
+
+    ghost step_advances = { Ascends };
+
+    ghost outcome_is = { outcome-is };
+
+    ghost fallback_is = { fallback-is };
+
+    ghost stack_pointer_is = { stack_pointer-is };
+
+    ghost no_data = { no-data };
+
+    ghost rule_advances = { Ascends-rule };
+
+    ghost rises_as_said = { rises-as-said };
+}
+
+impl Unwinding for ArchX86_64 {
+    ghost use Rattle.framehop.specs.X86_64.{x86_64};
+    ghost use Rattle.framehop.specs.Laws.X86_64.{outcome-is, fallback-is, stack_pointer-is, no-data, rises-as-said};
+
+    ghost unwinding = { x86_64 };
+
+    // values that are computed from unwind data may lower rsp
+    ghost step_advances = { λ first old new. Unit {0} };
+
+    ghost outcome_is = { outcome-is };
+
+    ghost fallback_is = { fallback-is };
+
+    ghost stack_pointer_is = { stack_pointer-is };
+
+    ghost no_data = { no-data };
+
+    ghost rule_advances = { λ first old new advances. tt };
+
+    ghost rises_as_said = { rises-as-said };
 }
 
 /// An unwinder for one CPU architecture: the modules of one process, and unwinding by them.
@@ -67,8 +137,16 @@ pub trait Unwinder: Clone {
     // the cache changes no answer
     ghost is_sound: { Self → Self.Cache → Type 0 };
 
-    // the cache after a step at a place
+    // the cache after a step at a place, and after one that ran out of memory
     ghost cache_after: { Self → Self.Cache → Place → Self.Cache };
+
+    ghost cache_after_lookup: { Self → Self.Cache → Place → Self.Cache };
+
+    // each entry of a cache stood in another one, or is what the modules give afresh
+    ghost extends: { Self → Self.Cache → Self.Cache → Type 0 };
+
+    // a step at a place can run out of memory
+    ghost may_run_out: { Self → Self.Cache → Place → Type 0 };
 
     /// Adds a module that is loaded in the process, behind those of equal start, and takes the
     /// next generation. The module comes back where the counter is at its end (tested first) or
@@ -86,6 +164,7 @@ pub trait Unwinder: Clone {
             × (generations.new ≡ generations.old + 1) × (generations.old < 2 ^ 64 - 1)) }
         ensures refused { IfErr result (λ back. (back.«module» ≡ «module») × (self.new ≡ self.old)
             × (generations.new ≡ generations.old)) }
+        ensures out_of_memory { IfErr result (λ back. back.cause ≡ ModuleListError.OutOfMemory → generations.old < 2 ^ 64 - 1) }
         ensures exhausted { (generations.old ≡ 2 ^ 64 - 1)
             ↔ IsErrAnd result (λ back. back.cause ≡ ModuleListError.GenerationsExhausted) };
 
@@ -137,13 +216,17 @@ pub trait Unwinder: Clone {
             (λ _. regs.new ≡ regs.old) }
         ensures advances { IfOk result
             (λ answer. OnSome answer (advances (is_first_frame (place_of address)) regs.old regs.new)) }
-        ensures no_memory_taken { result ≢ Err Error.OutOfMemory }
-        ensures cached { cache.new ≡ cache_after self.now cache.old (place_of address) }
-        ensures stays_sound { is_sound self.now cache.old → is_sound self.now cache.new }
+        ensures may_run_out { result ≡ Err Error.OutOfMemory → may_run_out self.now cache.old (place_of address) }
+        ensures cached { result ≢ Err Error.OutOfMemory → cache.new ≡ cache_after self.now cache.old (place_of address) }
+        ensures not_cached { result ≡ Err Error.OutOfMemory → cache.new ≡ cache_after_lookup self.now cache.old (place_of address) }
+        ensures extends { extends self.now cache.old cache.new }
+        ensures stays_sound { (other : Self) → AreApart (unwinder_view self.now) (unwinder_view other)
+            → is_sound other cache.old → is_sound other cache.new }
         ensures answers { (memory : Memory) → AnswersAs F.FnMut read_stack.old memory → is_sound self.now cache.old
             → AnswersAs F.FnMut read_stack.new memory
-            × (result ≡ answer_of (step self.now (place_of address) regs.old memory))
-            × (regs.new ≡ registers_after regs.old (step self.now (place_of address) regs.old memory)) };
+            × (result ≢ Err Error.OutOfMemory →
+            (result ≡ answer_of (step self.now (place_of address) regs.old memory))
+            × (regs.new ≡ registers_after regs.old (step self.now (place_of address) regs.old memory))) };
 
     /// An iterator over the frames of a stack, from the instruction pointer (AVMA) and the initial
     /// registers on.
@@ -240,11 +323,12 @@ impl<'u, 'c, 'r, U: Unwinder, F: FnMut(u64) -> Result<u64, ()>> UnwindIterator<'
 }
 
 impl<U: Unwinder, F: FnMut(u64) -> Result<u64, ()>> UnwindIterator<'_, '_, '_, U, F> {
-    ghost use Rattle.std.specs.Prelude.{◌≡◌, Result, Ok, Err, IfOk, IfSome};
+    ghost use Rattle.std.specs.Prelude.{◌≡◌, ◌≢◌, Result, Ok, Err, IfOk, IfErr, IfSome, IfNone};
     ghost use Rattle.framehop.specs.CodeAddress.{place_of};
-    ghost use Rattle.framehop.specs.Iterator.{at_frame, place_answer, next_of, Moves, cache_after_next};
+    ghost use Rattle.framehop.specs.Iterator.{at_frame, at_end, place_answer, next_of, Moves, AtFrame, NeedsNoStep, cache_after_next};
     ghost use Rattle.framehop.specs.UnwindIterator.{unwinder_of, progress_in, regs_of, cache_of, read_stack_of};
     ghost use Rattle.framehop.specs.Memory.{Memory, AnswersAs};
+    ghost use Rattle.framehop.specs.Soundness.{AreApart};
 
     /// The next frame: the instruction pointer, then return addresses, and `Ok(None)` from the
     /// root on. After an error the next call tries the same frame again. A return address 0 is
@@ -258,15 +342,25 @@ impl<U: Unwinder, F: FnMut(u64) -> Result<u64, ()>> UnwindIterator<'_, '_, '_, U
         ensures same_callback { (read_stack_of self.new).ghost_name ≡ (read_stack_of self.old).ghost_name }
         ensures moves { IfOk result (λ answer. IfSome answer (λ frame. (progress_in self.new ≡ at_frame (place_of frame))
             × Moves U.advances (progress_in self.old) (regs_of self.old) (place_of frame) (regs_of self.new))) }
-        ensures no_memory_taken { result ≢ Err Error.OutOfMemory }
-        ensures stays_sound { U.is_sound (unwinder_of self.old).now (cache_of self.old).now
-            → U.is_sound (unwinder_of self.new).now (cache_of self.new).now }
-        ensures cached { (cache_of self.new).now ≡ cache_after_next (U.cache_after (unwinder_of self.old).now) (progress_in self.old) (cache_of self.old).now }
+        ensures no_step { NeedsNoStep (progress_in self.old) (place_answer result) }
+        ensures after_error { IfErr result (λ error. (progress_in self.new ≡ progress_in self.old)
+            × (error ≢ Error.ReturnAddressIsNull → regs_of self.new ≡ regs_of self.old)) }
+        ensures after_root { IfOk result (λ answer. IfNone answer ((progress_in self.new ≡ at_end)
+            × (regs_of self.new ≡ regs_of self.old))) }
+        ensures may_run_out { result ≡ Err Error.OutOfMemory
+            → AtFrame (U.may_run_out (unwinder_of self.old).now (cache_of self.old).now) (progress_in self.old) }
+        ensures stays_sound { (other : U) → AreApart (U.unwinder_view (unwinder_of self.old).now) (U.unwinder_view other)
+            → U.is_sound other (cache_of self.old).now → U.is_sound other (cache_of self.new).now }
+        ensures cached { result ≢ Err Error.OutOfMemory → (cache_of self.new).now
+            ≡ cache_after_next (U.cache_after (unwinder_of self.old).now) (progress_in self.old) (cache_of self.old).now }
+        ensures not_cached { result ≡ Err Error.OutOfMemory → (cache_of self.new).now
+            ≡ cache_after_next (U.cache_after_lookup (unwinder_of self.old).now) (progress_in self.old) (cache_of self.old).now }
         ensures answers { (memory : Memory) → AnswersAs F.FnMut (read_stack_of self.old).now memory
             → U.is_sound (unwinder_of self.old).now (cache_of self.old).now
             → let next = next_of (λ place regs. U.step (unwinder_of self.old).now place regs memory) (progress_in self.old) (regs_of self.old) in
             AnswersAs F.FnMut (read_stack_of self.new).now memory
-            × (place_answer result ≡ next.answer) × (progress_in self.new ≡ next.progress) × (regs_of self.new ≡ next.regs) }
+            × (result ≢ Err Error.OutOfMemory →
+            (place_answer result ≡ next.answer) × (progress_in self.new ≡ next.progress) × (regs_of self.new ≡ next.regs)) }
     {
         let next = match self.state {
             UnwindIteratorState::Initial(pc) => {
@@ -427,14 +521,14 @@ impl<D: SectionBytes> Module<D> {
 
 /// The modules of one process, and unwinding by them, for any architecture.
 #[derive(Drop)]
-pub struct UnwinderInternal<D: SectionBytes, A: Arch, P: AllocationPolicy> {
+pub struct UnwinderInternal<D: SectionBytes, A: Unwinding, P: AllocationPolicy> {
     modules: Vec<Module<D>>,
     modules_generation: u64,
     arch: PhantomData<A>,
     allocation_policy: PhantomData<P>,
 }
 
-impl<D: SectionBytes, A: Arch, P: AllocationPolicy> Model for UnwinderInternal<D, A, P> {
+impl<D: SectionBytes, A: Unwinding, P: AllocationPolicy> Model for UnwinderInternal<D, A, P> {
     ghost use Rattle.framehop.specs.Modules.{UnwinderView, AreInOrder};
 
     ghost Value = { UnwinderView };
@@ -444,7 +538,8 @@ impl<D: SectionBytes, A: Arch, P: AllocationPolicy> Model for UnwinderInternal<D
     ghost invariant = { λ u. AreInOrder u.modules.items };
 }
 
-impl<D: SectionBytes + Drop, A: Arch, P: AllocationPolicy> Clone for UnwinderInternal<D, A, P> {
+impl<D: SectionBytes + Drop, A: Unwinding, P: AllocationPolicy> Clone
+    for UnwinderInternal<D, A, P> {
     ghost is_clone = { λ u copy. copy ≡ u };
 
     // the clone keeps the generation, since it has the same modules
@@ -458,7 +553,7 @@ impl<D: SectionBytes + Drop, A: Arch, P: AllocationPolicy> Clone for UnwinderInt
     }
 }
 
-impl<D: SectionBytes + Drop, A: Arch, P: AllocationPolicy> UnwinderInternal<D, A, P> {
+impl<D: SectionBytes + Drop, A: Unwinding, P: AllocationPolicy> UnwinderInternal<D, A, P> {
     /// An unwinder without modules, of the next generation. It takes no memory, and is refused at
     /// the counter's end alone.
     pub fn new(alloc: Global, generations: &mut Generations) -> Result<Self, ModuleListError>
@@ -545,7 +640,7 @@ impl<D: SectionBytes + Drop, A: Arch, P: AllocationPolicy> UnwinderInternal<D, A
 
     // the rule of an address by the modules' unwind data, else the fallback rule
     fn rule_for_address(&self, lookup_address: u64, is_first_frame: bool) -> A::UnwindRule
-        ensures fresh { fresh {Regs = A.UnwindRegs} A.UnwindRule.fallback self.now.modules lookup_address is_first_frame ≡ by_rule result }
+        ensures fresh { fresh (A.unwinding P.policy) self.now.modules lookup_address is_first_frame ≡ by_rule result }
         ensures runnable { A.UnwindRule.executable result ≡ true }
     {
         match self.find_module_for_address(lookup_address) {
@@ -557,9 +652,10 @@ impl<D: SectionBytes + Drop, A: Arch, P: AllocationPolicy> UnwinderInternal<D, A
     }
 }
 
-impl<D: SectionBytes + Drop, A: Arch, P: AllocationPolicy> Unwinder for UnwinderInternal<D, A, P> {
+impl<D: SectionBytes + Drop, A: Unwinding, P: AllocationPolicy> Unwinder
+    for UnwinderInternal<D, A, P> {
     ghost use Rattle.framehop.specs.Fresh.{step};
-    ghost use Rattle.framehop.specs.Soundness.{IsSound, cache_after};
+    ghost use Rattle.framehop.specs.Soundness.{IsSound, Extends, MayRunOut, cache_after, cache_after_lookup};
 
     type UnwindRegs = A::UnwindRegs;
 
@@ -571,13 +667,19 @@ impl<D: SectionBytes + Drop, A: Arch, P: AllocationPolicy> Unwinder for Unwinder
 
     ghost module_view = { λ m. m };
 
-    ghost step = { λ u place regs memory. step A.UnwindRule.outcome A.UnwindRule.fallback u.modules place regs memory };
+    ghost step = { λ u place regs memory. step (A.unwinding P.policy) u.modules place regs memory };
 
-    ghost advances = { A.UnwindRule.advances };
+    ghost advances = { A.step_advances };
 
-    ghost is_sound = { λ u cache. IsSound A.UnwindRegs A.UnwindRule.fallback u cache.sets };
+    ghost is_sound = { λ u cache. IsSound (A.unwinding P.policy) u cache.sets };
 
-    ghost cache_after = { λ u cache place. cache_after A.UnwindRegs A.UnwindRule.fallback u cache place };
+    ghost cache_after = { λ u cache place. cache_after (A.unwinding P.policy) u cache place };
+
+    ghost cache_after_lookup = { λ u cache place. cache_after_lookup u cache place };
+
+    ghost extends = { λ u old new. Extends (A.unwinding P.policy) u old.sets new.sets };
+
+    ghost may_run_out = { λ u cache place. MayRunOut (A.unwinding P.policy) u cache place };
 
     fn add_module(
         &mut self,

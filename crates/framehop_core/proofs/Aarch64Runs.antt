@@ -1,5 +1,5 @@
 -- aarch64: how far sp rises over a run of rules.
-use Rattle.std.proofs.Common.{◌≡◌, ℕ, zero, suc, ◌+◌, ◌≤◌, true, false, List, refl, ap, arith}
+use Rattle.std.proofs.Common.{◌≡◌, ℕ, zero, suc, ◌+◌, ◌≤◌, true, false, List, refl, sym, ap, arith}
 use Rattle.framehop_core.specs.Memory.{Memory}
 use Rattle.framehop_core.specs.Runs.{StepsBy, run_of, after_first, IsWithinRise}
 use Rattle.framehop_core.specs.Aarch64.Registers.{Registers}
@@ -15,10 +15,10 @@ steps-rise (suc n) old new (next, step, steps) = omega (arith, step.rises refl, 
 pub IsBoundedRun-steps : (n : ℕ) (old new : Registers) → StepsBy Advances true n old new → IsBoundedRun n old new
 IsBoundedRun-steps zero old new e =
     let same : old.sp ≡ new.sp = ap (λ t. t.sp) e in
-    record { first = old; step = λ h. absurd (omega arith); not_below = omega arith; within = omega arith }
+    record { first = old; none = λ no. sym e; step = λ h. absurd (omega arith); not_below = omega arith; within = omega arith }
 IsBoundedRun-steps (suc n) old new (next, step, steps) =
     let rise = steps-rise n next new steps in
-    record { first = next; step = λ h. step; not_below = omega arith; within = omega arith }
+    record { first = next; none = λ no. absurd (omega arith); step = λ h. step; not_below = omega arith; within = omega arith }
 
 -- the run over a memory is within the rise of sp since its first rule
 pub run_of-within : (rules : List UnwindRuleAarch64) (r : Registers) (memory : Memory) → IsWithinRise (run_of outcome true rules r memory).count (after_first outcome rules r memory).sp (run_of outcome true rules r memory).registers.sp

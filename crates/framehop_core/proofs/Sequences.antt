@@ -93,6 +93,16 @@ module _ {S : Type 0} (steps : S → Option OffsetOrPop → S → Type 0) (state
         same = ap (λ r. continued false x r n.0) more_is ∙ sym (continued-pop first x registers register n.0) ∙ ap (λ o. continued first x registers (o ∷ n.0)) (sym is) ∙ n.2;
       }
 
+  -- an offset before all others
+  pub Gives-offset : (y : ℕ) (operation : OffsetOrPop) → first ≡ true → operation ≡ OffsetBy8 y → steps state (Some operation) next → Gives steps state first x registers given → Gives steps next false y registers given
+  Gives-offset y operation before is step g =
+      let n = next_of operation g.rest g.yields g.same step in
+      record {
+        rest = n.0;
+        yields = n.1;
+        same = ap (λ o. continued true x registers (o ∷ n.0)) (sym is) ∙ ap (λ b. continued b x registers (operation ∷ n.0)) (sym before) ∙ n.2;
+      }
+
   -- one pop more than there is room for
   pub Gives-full : (register : Reg) (operation : OffsetOrPop) → operation ≡ Pop register → steps state (Some operation) next → Gives steps state first x registers given → (y : ℕ) (found : List Reg) → offset_and_pops_of given ≡ Some (y, found) → length registers < length found
   Gives-full register operation is step g y found e =

@@ -54,7 +54,7 @@ pub trait UnwindRule: Copy + fmt::Debug {
             (λ _. regs.new ≡ regs.old) }
         ensures advances { IfOk result
             (λ answer. OnSome answer (advances is_first_frame regs.old regs.new)) }
-        ensures no_memory_taken { result ≢ Err Error.OutOfMemory }
+        ensures never_out_of_memory { result ≢ Err Error.OutOfMemory }
         ensures answers { (memory : Memory) → AnswersAs F.FnMut read_stack.old memory
             → AnswersAs F.FnMut read_stack.new memory
             × (result ≡ answer_of (outcome self is_first_frame regs.old memory))
@@ -136,7 +136,7 @@ pub fn read_stack_word<F: FnMut(u64) -> Result<u64, ()>>(
     ensures read { (reply : Result ℕ (Unit {0}))
         × F.step read_stack.old address reply read_stack.new
         × (result ≡ read_of address reply) }
-    ensures no_memory_taken { result ≢ Err Error.OutOfMemory }
+    ensures never_out_of_memory { result ≢ Err Error.OutOfMemory }
     ensures answers { (memory : Memory) → AnswersAs F.FnMut read_stack.old memory
         → AnswersAs F.FnMut read_stack.new memory × (result ≡ word_at memory address) }
 {
@@ -173,7 +173,7 @@ pub(crate) fn read_word_beside<F: FnMut(u64) -> Result<u64, ()>>(
 ) -> Result<u64, Error>
     requires { F.IsAlwaysCallable read_stack.old }
     ensures callable { F.IsAlwaysCallable read_stack.new }
-    ensures no_memory_taken { result ≢ Err Error.OutOfMemory }
+    ensures never_out_of_memory { result ≢ Err Error.OutOfMemory }
     ensures answers { (memory : Memory) → AnswersAs F.FnMut read_stack.old memory
         → AnswersAs F.FnMut read_stack.new memory
         × (result ≡ word_from memory (beside base offset_by_8)) }

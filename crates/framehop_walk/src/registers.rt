@@ -5,12 +5,12 @@ use crate::fields::{hexadecimal, optional_hexadecimal};
 use crate::refusal::Refusal;
 use framehop::aarch64::{ArchAarch64, PtrAuthMask, UnwindRegsAarch64};
 use framehop::x86_64::{ArchX86_64, Reg, UnwindRegsX86_64};
-use framehop_core::arch::Arch;
+use framehop::Unwinding;
 use serde_json::Value;
 use std::alloc::AllocError;
 
 /// An architecture whose registers are read from JSON and printed.
-pub trait Registers: Arch {
+pub trait Registers: Unwinding {
     // what is printed of the registers
     ghost text: { Self.UnwindRegs → List ℕ };
 

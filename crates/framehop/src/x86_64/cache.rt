@@ -1,5 +1,8 @@
 ghost use Rattle.std.specs.Prelude.{◌≡◌, IfOk};
 ghost use Rattle.framehop.specs.Cache.{empty_cache};
+ghost use Rattle.framehop.specs.Modules.{UnwinderView};
+ghost use Rattle.framehop.specs.Policy.{Policy};
+ghost use Rattle.framehop.specs.X86_64.{IsSoundX86_64};
 
 use crate::cache::{AllocationPolicy, Cache, MayAllocateDuringUnwind};
 use crate::rule_cache::CacheStats;
@@ -14,8 +17,10 @@ pub struct CacheX86_64<P: AllocationPolicy = MayAllocateDuringUnwind>(
 
 impl CacheX86_64<MayAllocateDuringUnwind> {
     /// An empty cache for unwinding that may take memory. Refused where the memory for it is.
+    /// It changes no answer of any unwinder.
     pub fn new(alloc: Global) -> Result<Self, AllocError>
-        ensures { IfOk result (λ cache. cache.0 ≡ empty_cache) }
+        ensures made { IfOk result (λ cache. cache.0 ≡ empty_cache) }
+        ensures sound { IfOk result (λ cache. (policy : Policy) (unwinder : UnwinderView) → IsSoundX86_64 policy unwinder cache.0) }
     {
         Ok(CacheX86_64(Cache::new(alloc)?))
     }
@@ -23,8 +28,10 @@ impl CacheX86_64<MayAllocateDuringUnwind> {
 
 impl<P: AllocationPolicy> CacheX86_64<P> {
     /// An empty cache of any policy. Refused where the memory for it is.
+    /// It changes no answer of any unwinder.
     pub fn new_in(alloc: Global) -> Result<Self, AllocError>
-        ensures { IfOk result (λ cache. cache.0 ≡ empty_cache) }
+        ensures made { IfOk result (λ cache. cache.0 ≡ empty_cache) }
+        ensures sound { IfOk result (λ cache. (policy : Policy) (unwinder : UnwinderView) → IsSoundX86_64 policy unwinder cache.0) }
     {
         Ok(CacheX86_64(Cache::new(alloc)?))
     }

@@ -48,10 +48,8 @@ impl<D: SectionBytes + Drop, P: AllocationPolicy> UnwinderX86_64<D, P> {
 
 impl<D: SectionBytes + Drop, P: AllocationPolicy> Unwinder for UnwinderX86_64<D, P> {
     ghost use Rattle.framehop.specs.Fresh.{step};
-    ghost use Rattle.framehop.specs.Soundness.{IsSound, cache_after};
-    ghost use Rattle.framehop_core.specs.X86_64.Registers.{Registers};
-    ghost use Rattle.framehop_core.specs.X86_64.Rules.{outcome, Advances};
-    ghost use Rattle.framehop_core.specs.declared.x86_64.unwind_rule.UnwindRuleX86_64.TheVariants.{UseFramePointer};
+    ghost use Rattle.framehop.specs.Soundness.{IsSound, Extends, MayRunOut, cache_after, cache_after_lookup};
+    ghost use Rattle.framehop.specs.X86_64.{x86_64};
 
     type UnwindRegs = UnwindRegsX86_64;
 
@@ -63,13 +61,19 @@ impl<D: SectionBytes + Drop, P: AllocationPolicy> Unwinder for UnwinderX86_64<D,
 
     ghost module_view = { λ m. m };
 
-    ghost step = { λ u place regs memory. step outcome UseFramePointer u.modules place regs memory };
+    ghost step = { λ u place regs memory. step (x86_64 P.policy) u.modules place regs memory };
 
-    ghost advances = { Advances };
+    ghost advances = { λ first old new. Unit {0} };
 
-    ghost is_sound = { λ u cache. IsSound Registers UseFramePointer u cache.0.sets };
+    ghost is_sound = { λ u cache. IsSound (x86_64 P.policy) u cache.0.sets };
 
-    ghost cache_after = { λ u cache place. record { 0 = cache_after Registers UseFramePointer u cache.0 place } };
+    ghost cache_after = { λ u cache place. record { 0 = cache_after (x86_64 P.policy) u cache.0 place } };
+
+    ghost cache_after_lookup = { λ u cache place. record { 0 = cache_after_lookup u cache.0 place } };
+
+    ghost extends = { λ u old new. Extends (x86_64 P.policy) u old.0.sets new.0.sets };
+
+    ghost may_run_out = { λ u cache place. MayRunOut (x86_64 P.policy) u cache.0 place };
 
     fn add_module(
         &mut self,

@@ -100,10 +100,11 @@ pub record Advances (first : Bool) (callee caller : Registers) : Type 0 where
 abbrev pub AdvancesWhereAnswered : Bool → Result (Option ℕ) Error → Registers → Registers → Type 0
 AdvancesWhereAnswered first result old new = IfOk result (λ answer. OnSome answer (Advances first old new))
 
--- so many steps lead from these registers to those: one to the registers behind the first step, and then no more than
--- sp has risen since
+-- So many steps lead from these registers to those: none leaves them, and else one leads to the registers after the first
+-- step, and no more than sp has risen since follow.
 pub record IsBoundedRun (count : ℕ) (start end : Registers) : Type 0 where
   pub first : Registers
+  pub none : count ≡ 0 → end ≡ start
   pub step : 0 < count → Advances true start first
   pub not_below : first.sp ≤ end.sp
   pub within : IsWithinRise count first.sp end.sp

@@ -1,5 +1,5 @@
-ghost use Rattle.std.specs.Prelude.{◌≡◌, ◌≢◌, ℕ, ◌<◌, ◌≤◌, pos, ◌-ℤ◌, true, List, length, All, MatchResult, OnOk, MatchOption, IfSome};
-ghost use Rattle.std.specs.Iterator.{IsFinite, AlwaysYields};
+ghost use Rattle.std.specs.Prelude.{◌≡◌, ◌≢◌, ℕ, ◌<◌, ◌≤◌, pos, ◌-ℤ◌, true, List, length, All, MatchResult, OnOk, MatchOption, IsSome, IfSome};
+ghost use Rattle.std.specs.Iterator.{AlwaysYields};
 ghost use Rattle.framehop_core.specs.Memory.{Memory, AnswersAs};
 ghost use Rattle.framehop_core.specs.Outcome.{KeptUnlessAnswered, HasDone, address_at, beside};
 ghost use Rattle.framehop_core.specs.Runs.{run_of, after_first, IsWithinRise};
@@ -69,13 +69,13 @@ pub enum OffsetOrPop {
 }
 
 impl UnwindRuleX86_64 {
-    /// The rule that does these operations: at most one offset first, then pops alone, of distinct
-    /// registers among the eight that can be ordered. Other operations have no rule.
+    /// The rule that does these operations: at most one offset first, then only pops, of distinct
+    /// registers among the eight that can be ordered. Other operations have no rule. At most ten
+    /// operations are read, so the iterator need not end.
     pub fn for_sequence_of_offset_or_pop<I>(operations: I) -> Option<Self>
     where
         I: Iterator<Item = OffsetOrPop> + Drop,
-        requires can { I.can_next operations }
-        requires ends { IsFinite (I.remaining operations) }
+        requires { I.can_next operations }
         ensures rule { (given : List OffsetOrPop)
             → AlwaysYields I.next_gives (λ operation. operation) operations given
             → IsRuleOfOperations given result }
@@ -96,12 +96,22 @@ impl UnwindRuleX86_64 {
     }
 }
 
-/// The offset and the registers of operations that are at most one offset, then at most 8 pops.
-fn offset_and_pops<I>(operations: I) -> Option<(u16, ArrayVec<Reg, 8>)>
+/// The next operation. A loop that calls this does not ask that the iterator ends.
+fn next_operation<I>(operations: &mut I) -> Option<OffsetOrPop>
 where
     I: Iterator<Item = OffsetOrPop> + Drop,
-    requires can { I.can_next operations }
-    requires ends { IsFinite (I.remaining operations) }
+    requires { I.can_next operations.old }
+    ensures given { I.next_gives operations.old result operations.new }
+    ensures can_go_on { IsSome result → I.can_next operations.new }
+{
+    operations.next()
+}
+
+/// The offset and the registers of operations that are at most one offset, then at most 8 pops.
+fn offset_and_pops<I>(mut operations: I) -> Option<(u16, ArrayVec<Reg, 8>)>
+where
+    I: Iterator<Item = OffsetOrPop> + Drop,
+    requires { I.can_next operations }
     ensures given { (given : List OffsetOrPop)
         → AlwaysYields I.next_gives (λ operation. operation) operations given
         → MatchOption result
@@ -113,7 +123,11 @@ where
     let mut sp_offset_by_8 = 0;
     let mut registers = ArrayVec::new();
     let mut is_first = true;
-    for operation in operations {
+    // an offset, 8 pops, and the end or one operation too many
+    for _read in 0..10u32 {
+        let Some(operation) = next_operation(&mut operations) else {
+            return Some((sp_offset_by_8, registers));
+        };
         match operation {
             OffsetOrPop::OffsetBy8(offset) if is_first => sp_offset_by_8 = offset,
             OffsetOrPop::Pop(register) if !registers.is_full() => registers.push(register),
@@ -121,7 +135,7 @@ where
         }
         is_first = false;
     }
-    Some((sp_offset_by_8, registers))
+    None
 }
 
 impl UnwindRule for UnwindRuleX86_64 {
@@ -272,7 +286,7 @@ fn exec_frame_pointer<F: FnMut(u64) -> Result<u64, ()>>(
 ) -> Result<Option<u64>, Error>
     requires { F.IsAlwaysCallable read_stack.old }
     ensures callable { F.IsAlwaysCallable read_stack.new }
-    ensures no_memory_taken { result ≢ Err Error.OutOfMemory }
+    ensures never_out_of_memory { result ≢ Err Error.OutOfMemory }
     ensures kept { KeptUnlessAnswered result regs.old regs.new }
     ensures not_below { NotBelowWhereAnswered result regs.old regs.new }
     ensures answers { (memory : Memory) → AnswersAs F.FnMut read_stack.old memory
@@ -300,7 +314,7 @@ fn read_bp_beside<F: FnMut(u64) -> Result<u64, ()>>(
 ) -> Result<u64, Error>
     requires { F.IsAlwaysCallable read_stack.old }
     ensures callable { F.IsAlwaysCallable read_stack.new }
-    ensures no_memory_taken { result ≢ Err Error.OutOfMemory }
+    ensures never_out_of_memory { result ≢ Err Error.OutOfMemory }
     ensures answers { (memory : Memory) → AnswersAs F.FnMut read_stack.old memory
         → AnswersAs F.FnMut read_stack.new memory
         × (result ≡ value_from memory regs.now.rbp
@@ -324,7 +338,7 @@ fn pop_registers<F: FnMut(u64) -> Result<u64, ()>>(
 ) -> Result<(), Error>
     requires { F.IsAlwaysCallable read_stack.old }
     ensures callable { F.IsAlwaysCallable read_stack.new }
-    ensures no_memory_taken { result ≢ Err Error.OutOfMemory }
+    ensures never_out_of_memory { result ≢ Err Error.OutOfMemory }
     ensures not_below { OnOk result (first ≤ regs.new.rsp) }
     ensures answers { (memory : Memory) → AnswersAs F.FnMut read_stack.old memory
         → AnswersAs F.FnMut read_stack.new memory
@@ -352,7 +366,7 @@ fn finish<F: FnMut(u64) -> Result<u64, ()>>(
 ) -> Result<Option<u64>, Error>
     requires { F.IsAlwaysCallable read_stack.old }
     ensures callable { F.IsAlwaysCallable read_stack.new }
-    ensures no_memory_taken { result ≢ Err Error.OutOfMemory }
+    ensures never_out_of_memory { result ≢ Err Error.OutOfMemory }
     ensures kept { KeptUnlessAnswered result regs.old regs.new }
     ensures not_below { regs.old.rsp ≤ new_sp → NotBelowWhereAnswered result regs.old regs.new }
     ensures answers { (memory : Memory) → AnswersAs F.FnMut read_stack.old memory
@@ -378,7 +392,7 @@ fn finish_with<F: FnMut(u64) -> Result<u64, ()>>(
 ) -> Result<Option<u64>, Error>
     requires { F.IsAlwaysCallable read_stack.old }
     ensures callable { F.IsAlwaysCallable read_stack.new }
-    ensures no_memory_taken { result ≢ Err Error.OutOfMemory }
+    ensures never_out_of_memory { result ≢ Err Error.OutOfMemory }
     ensures kept { KeptUnlessAnswered result regs.old regs.new }
     ensures not_below { regs.old.rsp ≤ caller.rsp → NotBelowWhereAnswered result regs.old regs.new }
     ensures answers { (memory : Memory) → AnswersAs F.FnMut read_stack.old memory
@@ -403,7 +417,7 @@ fn read_return_address<F: FnMut(u64) -> Result<u64, ()>>(
 ) -> Result<Option<u64>, Error>
     requires { F.IsAlwaysCallable read_stack.old }
     ensures callable { F.IsAlwaysCallable read_stack.new }
-    ensures no_memory_taken { result ≢ Err Error.OutOfMemory }
+    ensures never_out_of_memory { result ≢ Err Error.OutOfMemory }
     ensures answers { (memory : Memory) → AnswersAs F.FnMut read_stack.old memory
         → AnswersAs F.FnMut read_stack.new memory
         × (result ≡ return_address regs.now new_sp memory) }

@@ -1,4 +1,4 @@
-use Rattle.std.proofs.Common.{◌≡◌, ◌≢◌, [], ◌∷◌, ◌++◌, map, Err, refl, sym, ap, ◌∙◌, subst, arith, rules}
+use Rattle.std.proofs.Common.{◌≡◌, ◌≢◌, [], ◌∷◌, ◌++◌, map, length, Err, refl, sym, ap, ◌∙◌, subst, arith, rules}
 use Rattle.std.proofs.lemmas.List.{map-append, nil_from_length}
 use Rattle.std.proofs.lemmas.Result.{err_from_is_err_and}
 use Rattle.std.specs.Vec.Iter.{into_iter_items}
@@ -9,7 +9,7 @@ use Rattle.framehop.specs.Transparent.{IsTransparent}
 use Rattle.framehop.proofs.RoomLemmas.{transparent-start, transparent-after, Room-equal}
 use Rattle.framehop.proofs.RunLemmas.{Continues, Continues-start, Continues-served, refused-all, done-all}
 use Rattle.framehop.proofs.WorldLemmas.{world-replies-start}
-use Rattle.framehop.proofs.RiseLemmas.{replies-rise}
+use Rattle.framehop.proofs.RiseLemmas.{raises-as, replies-rise}
 use Rattle.framehop.proofs.session.run.Goals as goal
 
 pub loop-command-init : goal.loop-command-init
@@ -19,23 +19,24 @@ loop-command-init g c =
     let room : Room g.row.A-UnwindRule.Denot = record { unwinders = c.in_ok-session.session.unwinders.items; next = c.args.generations.now; caches = c.in_ok-session.session.caches.items } in
     let same : room ≡ start = Room-equal room start made.0 refl made.1 in
     let given : into_iter_items c.into_iter-command-iterator.result ≡ c.args.commands.items = search rules in (
-      subst (IsTransparent _ _) (sym same) (transparent-start g.row.A-UnwindRegs.Denot g.A.UnwindRule.UnwindRule.fallback c.args.cache_count c.args.generations.now),
-      rw (c.new-replies.ensures.items, same, given) (Continues-start g.A.UnwindRule.UnwindRule.outcome g.A.UnwindRule.UnwindRule.fallback start c.args.commands.items),
+      subst (IsTransparent _) (sym same) (transparent-start (g.A.Unwinding.unwinding g.P.AllocationPolicy.policy) c.args.cache_count c.args.generations.now),
+      rw (c.new-replies.ensures.items, same, given) (Continues-start (g.A.Unwinding.unwinding g.P.AllocationPolicy.policy) start c.args.commands.items),
       omega arith,
       search rules,
+      omega (arith, ap length given),
     )
 
 -- the command that was refused refuses all
-refused-at : (g : _) (c : goal.After-drop-session-in_err-reply g) → c.from_residual-in_err-reply.result ≢ Err OutOfMemory → (result_view c.from_residual-in_err-reply.result ≡ room_replies g.A.UnwindRule.UnwindRule.outcome g.A.UnwindRule.UnwindRule.fallback (empty_room c.args.cache_count c.args.generations.now) c.args.commands.items) × (c.serve.new.generations ≡ next_after_all g.A.UnwindRule.UnwindRule.outcome g.A.UnwindRule.UnwindRule.fallback (empty_room c.args.cache_count c.args.generations.now) c.args.commands.items)
+refused-at : (g : _) (c : goal.After-drop-session-in_err-reply g) → c.from_residual-in_err-reply.result ≢ Err OutOfMemory → (result_view c.from_residual-in_err-reply.result ≡ room_replies (g.A.Unwinding.unwinding g.P.AllocationPolicy.policy) (empty_room c.args.cache_count c.args.generations.now) c.args.commands.items) × (c.serve.new.generations ≡ next_after_all (g.A.Unwinding.unwinding g.P.AllocationPolicy.policy) (empty_room c.args.cache_count c.args.generations.now) c.args.commands.items)
 refused-at g c other =
     let old = c.loop-command.invariant in
     let room : Room g.row.A-UnwindRule.Denot = record { unwinders = c.loop-command.session.unwinders.items; next = c.loop-command.generations; caches = c.loop-command.session.caches.items } in
     let taken : into_iter_items c.loop-command.command-iterator ≡ c.in-Some.command ∷ into_iter_items c.next.new.self = search rules in
-    let here = subst (λ commands. Continues g.A.UnwindRule.UnwindRule.outcome g.A.UnwindRule.UnwindRule.fallback room (empty_room c.args.cache_count c.args.generations.now) (map reply_view c.loop-command.replies.items) commands c.args.commands.items) taken old.1 in
+    let here = subst (λ commands. Continues (g.A.Unwinding.unwinding g.P.AllocationPolicy.policy) room (empty_room c.args.cache_count c.args.generations.now) (map reply_view c.loop-command.replies.items) commands c.args.commands.items) taken old.1 in
     let p = err_from_is_err_and c.from_residual-in_err-reply.result c.from_residual-in_err-reply.ensures.1 in
     let is : c.from_residual-in_err-reply.result ≡ Err c.in_err-reply.field-0.0 = p.1 ∙ ap (λ error. Err error) p.2 in
-    let served = c.in_err-reply.ensures.served old.0 (λ e. other (is ∙ ap (λ error. Err error) e)) in
-    let all = refused-all g.A.UnwindRule.UnwindRule.outcome g.A.UnwindRule.UnwindRule.fallback room (empty_room c.args.cache_count c.args.generations.now) (map reply_view c.loop-command.replies.items) c.in-Some.command (into_iter_items c.next.new.self) c.args.commands.items here c.in_err-reply.field-0.0 served.0 in
+    let served = (c.in_err-reply.ensures.served old.0).0 (λ e. other (is ∙ ap (λ error. Err error) e)) in
+    let all = refused-all (g.A.Unwinding.unwinding g.P.AllocationPolicy.policy) room (empty_room c.args.cache_count c.args.generations.now) (map reply_view c.loop-command.replies.items) c.in-Some.command (into_iter_items c.next.new.self) c.args.commands.items here c.in_err-reply.field-0.0 served.0 in
     (ap result_view is ∙ all.0, served.1 ∙ all.1)
 
 pub returns-in_err-reply-clause-counted : goal.returns-in_err-reply-clause-counted
@@ -43,7 +44,7 @@ returns-in_err-reply-clause-counted g c = λ other. (refused-at g c other).0
 
 pub returns-in_err-reply-clause-transparent : goal.returns-in_err-reply-clause-transparent
 returns-in_err-reply-clause-transparent g c = λ other.
-    ap world_result (refused-at g c other).0 ∙ world-replies-start g.A.UnwindRule.UnwindRule.outcome g.A.UnwindRule.UnwindRule.fallback c.args.cache_count c.args.generations.now c.args.commands.items
+    ap world_result (refused-at g c other).0 ∙ world-replies-start (g.A.Unwinding.unwinding g.P.AllocationPolicy.policy) c.args.cache_count c.args.generations.now c.args.commands.items
 
 pub returns-in_err-reply-clause-drawn : goal.returns-in_err-reply-clause-drawn
 returns-in_err-reply-clause-drawn g c = λ other. (refused-at g c other).1
@@ -55,28 +56,45 @@ loop-command-preserved g c =
     let taken : into_iter_items c.loop-command.command-iterator ≡ c.in-Some.command ∷ into_iter_items c.next.new.self = search rules in
     let served = c.in_ok-reply.ensures.served old.0 in
     let pushed : c.push.new.self.items ≡ c.loop-command.replies.items ++ c.in_ok-reply.reply ∷ [] = search rules in
-    let here = subst (λ commands. Continues g.A.UnwindRule.UnwindRule.outcome g.A.UnwindRule.UnwindRule.fallback room (empty_room c.args.cache_count c.args.generations.now) (map reply_view c.loop-command.replies.items) commands c.args.commands.items) taken old.1 in (
-      subst (IsTransparent _ _) (sym served.2) (transparent-after g.row.A-UnwindRegs.Denot g.A.UnwindRule.UnwindRule.fallback g.A.UnwindRule.UnwindRule.outcome room c.in-Some.command served.0 old.0),
-      rw (pushed, map-append) (Continues-served g.A.UnwindRule.UnwindRule.outcome g.A.UnwindRule.UnwindRule.fallback room _ _ c.in-Some.command _ _ here _ (reply_view c.in_ok-reply.reply) served.0 served.1 served.2),
+    let here = subst (λ commands. Continues (g.A.Unwinding.unwinding g.P.AllocationPolicy.policy) room (empty_room c.args.cache_count c.args.generations.now) (map reply_view c.loop-command.replies.items) commands c.args.commands.items) taken old.1 in (
+      subst (IsTransparent _) (sym served.2) (transparent-after (g.A.Unwinding.unwinding g.P.AllocationPolicy.policy) room c.in-Some.command served.0 old.0),
+      rw (pushed, map-append) (Continues-served (g.A.Unwinding.unwinding g.P.AllocationPolicy.policy) room _ _ c.in-Some.command _ _ here _ (reply_view c.in_ok-reply.reply) served.0 served.1 served.2),
       omega arith,
       search rules,
+      omega (arith, ap length taken, c.in_ok-reply.ensures.drawn_at_most, old.4),
     )
 
 pub returns-clause-counted : goal.returns-clause-counted
 returns-clause-counted g c = λ other.
     let none : into_iter_items c.loop-command.command-iterator ≡ [] = nil_from_length _ (sym c.loop-command.invariant.3 ∙ c.in-None.ensures.steps.0) in
-    (done-all g.A.UnwindRule.UnwindRule.outcome g.A.UnwindRule.UnwindRule.fallback _ _ _ _ _ none c.loop-command.invariant.1).0
+    (done-all (g.A.Unwinding.unwinding g.P.AllocationPolicy.policy) _ _ _ _ _ none c.loop-command.invariant.1).0
 
 pub returns-clause-transparent : goal.returns-clause-transparent
 returns-clause-transparent g c = λ other.
-    ap world_result (returns-clause-counted g c other) ∙ world-replies-start g.A.UnwindRule.UnwindRule.outcome g.A.UnwindRule.UnwindRule.fallback c.args.cache_count c.args.generations.now c.args.commands.items
+    ap world_result (returns-clause-counted g c other) ∙ world-replies-start (g.A.Unwinding.unwinding g.P.AllocationPolicy.policy) c.args.cache_count c.args.generations.now c.args.commands.items
 
 pub returns-clause-drawn : goal.returns-clause-drawn
 returns-clause-drawn g c = λ other.
     let none : into_iter_items c.loop-command.command-iterator ≡ [] = nil_from_length _ (sym c.loop-command.invariant.3 ∙ c.in-None.ensures.steps.0) in
-    (done-all g.A.UnwindRule.UnwindRule.outcome g.A.UnwindRule.UnwindRule.fallback _ _ _ _ _ none c.loop-command.invariant.1).1
+    (done-all (g.A.Unwinding.unwinding g.P.AllocationPolicy.policy) _ _ _ _ _ none c.loop-command.invariant.1).1
 
 pub returns-clause-bounded : goal.returns-clause-bounded
 returns-clause-bounded g c =
-    replies-rise g.A.UnwindRule.UnwindRule.outcome g.A.UnwindRule.UnwindRule.fallback g.A.UnwindRule.UnwindRule.stack_pointer g.A.UnwindRule.UnwindRule.is_behind g.met.A.UnwindRule.UnwindRule.raises
+    let policy = g.P.AllocationPolicy.policy in
+    replies-rise (g.A.Unwinding.unwinding g.P.AllocationPolicy.policy) g.A.UnwindRule.UnwindRule.is_behind
+    (raises-as _ _ _ _ _ (sym (g.met.A.Unwinding.outcome_is policy)) (sym (g.met.A.Unwinding.stack_pointer_is policy)) g.met.A.UnwindRule.UnwindRule.raises)
+    (g.A.Unwinding.rises_as_said policy)
     (empty_room c.args.cache_count c.args.generations.now) c.args.commands.items (map reply_view c.loop-command.replies.items) (sym (returns-clause-counted g c (λ e. cc)))
+
+pub returns-in_err-reply-clause-drawn_at_most : goal.returns-in_err-reply-clause-drawn_at_most
+returns-in_err-reply-clause-drawn_at_most g c =
+    let taken : into_iter_items c.loop-command.command-iterator ≡ c.in-Some.command ∷ into_iter_items c.next.new.self = search rules in
+    omega (arith, ap length taken, c.in_err-reply.ensures.drawn_at_most, c.loop-command.invariant.4)
+
+pub returns-then-is_err-clause-drawn_at_most : goal.returns-then-is_err-clause-drawn_at_most
+returns-then-is_err-clause-drawn_at_most g c =
+    let taken : into_iter_items c.loop-command.command-iterator ≡ c.in-Some.command ∷ into_iter_items c.next.new.self = search rules in
+    omega (arith, ap length taken, c.in_ok-reply.ensures.drawn_at_most, c.loop-command.invariant.4)
+
+pub returns-clause-drawn_at_most : goal.returns-clause-drawn_at_most
+returns-clause-drawn_at_most g c = omega (arith, c.loop-command.invariant.4)

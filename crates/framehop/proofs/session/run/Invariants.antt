@@ -1,4 +1,4 @@
-use Rattle.std.proofs.Common.{◌≡◌, ◌≤◌, map, length}
+use Rattle.std.proofs.Common.{◌≡◌, ◌+◌, ◌≤◌, map, length}
 use Rattle.std.specs.Vec.Iter.{into_iter_items, into_iter_len}
 use Rattle.framehop.specs.Room.{Room, empty_room}
 use Rattle.framehop.specs.SessionView.{reply_view}
@@ -9,8 +9,9 @@ use Rattle.framehop.proofs.session.run.Given as goal
 abbrev pub invariant-loop-command : goal.invariant-loop-command
 invariant-loop-command g l =
     let room : Room g.row.A-UnwindRule.Denot = record { unwinders = l.session.unwinders.items; next = l.generations; caches = l.session.caches.items } in
-    IsTransparent g.row.A-UnwindRegs.Denot g.A.UnwindRule.UnwindRule.fallback room
-    × Continues g.A.UnwindRule.UnwindRule.outcome g.A.UnwindRule.UnwindRule.fallback room (empty_room l.cache_count l.fn.generations)
+    IsTransparent (g.A.Unwinding.unwinding g.P.AllocationPolicy.policy) room
+    × Continues (g.A.Unwinding.unwinding g.P.AllocationPolicy.policy) room (empty_room l.cache_count l.fn.generations)
     (map reply_view l.replies.items) (into_iter_items l.command-iterator) l.fn.commands.items
     × (l.fn.generations ≤ l.generations)
     × (into_iter_len l.command-iterator ≡ length (into_iter_items l.command-iterator))
+    × (l.generations + length (into_iter_items l.command-iterator) ≤ l.fn.generations + length l.fn.commands.items)

@@ -1,10 +1,19 @@
-use Rattle.std.proofs.Common.{rules}
+use Rattle.std.proofs.Common.{◌≡◌, Err, rules}
+use Rattle.framehop_core.specs.declared.error.Error.{Error}
 use Rattle.framehop.specs.World.{memory_of}
 use Rattle.framehop_core.proofs.Callback.{AnswersAs-unchanged}
 use Rattle.framehop.proofs.session.step_stack.Goals as goal
 
-pub returns-clause-answers : goal.returns-clause-answers
-returns-clause-answers g c = λ sound.
+pub returns-in-Ok-clause-answers : goal.returns-in-Ok-clause-answers
+returns-in-Ok-clause-answers g c = λ sound.
     let answers = AnswersAs-unchanged _ (memory_of c.args.memory.now) _ (λ a r f' call. search rules) in
-    let ran = c.unwind_frame-result.ensures.answers (memory_of c.args.memory.now) answers sound in
-    (ran.1, ran.2)
+    (c.in-Ok.ensures.answers (memory_of c.args.memory.now) answers sound).1 (λ e. cc)
+
+pub returns-in_default : goal.returns-in_default
+returns-in_default g c = record {
+  refused = tt;
+  cached = c.in-Err.ensures.cached (λ e. c.in_default.not-OutOfMemory (let same = e in cc));
+  answers = λ sound.
+      let answers = AnswersAs-unchanged _ (memory_of c.args.memory.now) _ (λ a r f' call. search rules) in
+      (c.in-Err.ensures.answers (memory_of c.args.memory.now) answers sound).1 (λ e. c.in_default.not-OutOfMemory (let same = e in cc));
+}

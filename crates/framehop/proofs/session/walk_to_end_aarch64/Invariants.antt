@@ -17,12 +17,12 @@ invariant-loop-unwinding g l =
     × (l.unwinding.unwinder.now ≡ l.fn.unwinder)
     × (l.unwinding.cache.ghost_name ≡ l.initial.unwinding.cache.ghost_name)
     × (l.unwinding.read_stack.ghost_name ≡ l.initial.unwinding.read_stack.ghost_name)
-    × (IsSoundAarch64 l.fn.unwinder l.fn.cache.0 → IsSoundAarch64 l.unwinding.unwinder.now l.unwinding.cache.now.0)
+    × (IsSoundAarch64 g.P.AllocationPolicy.policy l.fn.unwinder l.fn.cache.0 → IsSoundAarch64 g.P.AllocationPolicy.policy l.unwinding.unwinder.now l.unwinding.cache.now.0)
     × StillEnds l.frames.items (progress_of l.unwinding.state) l.unwinding.regs
     × ((memory : Memory) → AnswersAs g.F.FnMut l.fn.read_stack memory
-    → IsSoundAarch64 l.fn.unwinder l.fn.cache.0
+    → IsSoundAarch64 g.P.AllocationPolicy.policy l.fn.unwinder l.fn.cache.0
     → AnswersAs g.F.FnMut l.unwinding.read_stack.now memory
-    × ((left : ℕ) → WalksOn (aarch64_step l.fn.unwinder memory) (aarch64_cache_after l.fn.unwinder)
+    × ((left : ℕ) → WalksOn (aarch64_step g.P.AllocationPolicy.policy l.fn.unwinder memory) (aarch64_cache_after g.P.AllocationPolicy.policy l.fn.unwinder)
     (map place_of l.frames.items) left (length l.frames.items + left)
     (progress_of l.unwinding.state) (before l.fn.pc)
     l.unwinding.regs l.fn.regs l.unwinding.cache.now l.fn.cache))

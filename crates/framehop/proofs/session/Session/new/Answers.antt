@@ -6,7 +6,7 @@ use Rattle.framehop.proofs.session.Session.new.Goals as goal
 pub loop-number-preserved : goal.loop-number-preserved
 loop-number-preserved g c =
     let pushed : c.push.new.self.items ≡ c.loop-number.caches.items ++ c.in-Ok.cache ∷ [] = search rules in
-    rw (pushed, c.in-Ok.ensures, c.loop-number.invariant) (replicate_more c.loop-number._number empty_cache)
+    rw (pushed, c.in-Ok.ensures.made, c.loop-number.invariant) (replicate_more c.loop-number._number empty_cache)
 
 pub returns-clause-made : goal.returns-clause-made
 returns-clause-made g c =

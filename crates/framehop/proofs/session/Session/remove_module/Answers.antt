@@ -28,10 +28,12 @@ pub returns-in-Err-GenerationsExhausted-clause-drawn : goal.returns-in-Err-Gener
 returns-in-Err-GenerationsExhausted-clause-drawn g c = let facts = c.in-Err-GenerationsExhausted.ensures.exhausted in omega (arith, facts.4)
 
 pub returns-in-Err-GenerationsExhausted-clause-served : goal.returns-in-Err-GenerationsExhausted-clause-served
-returns-in-Err-GenerationsExhausted-clause-served g c = λ set_aside.
+returns-in-Err-GenerationsExhausted-clause-served g c =
     let unwinders = c.args.self.now.unwinders.items in
     let within : c.args.unwinder < length unwinders = search rules in
     let target = get_or_read unwinders c.args.unwinder _ within c.index_mut-target.ensures.value (record { modules = []; generation = 0 }) in
     let facts = c.in-Err-GenerationsExhausted.ensures.exhausted in
-    let room : Room g.row.A-UnwindRule.Denot = record { unwinders = unwinders; next = c.args.generations.now; caches = c.args.self.now.caches.items } in
-    (removal-exhausted room c.args.unwinder c.args.start within _ target facts.1 facts.2, facts.4)
+    let room : Room g.row.A-UnwindRule.Denot = record { unwinders = unwinders; next = c.args.generations.now; caches = c.args.self.now.caches.items } in (
+      λ other. (removal-exhausted room c.args.unwinder c.args.start within _ target facts.1 facts.2, facts.4),
+      λ memory. absurd (let same = memory in cc),
+    )

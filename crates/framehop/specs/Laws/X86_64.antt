@@ -1,0 +1,36 @@
+-- The laws of `Unwinding` on x86_64.
+use Rattle.std.proofs.Common.{◌≡◌, ℕ, Bool, true, false, None, refl}
+use Rattle.framehop_core.specs.X86_64.Registers.{Registers}
+use Rattle.framehop_core.specs.X86_64.Rules.{outcome}
+use Rattle.framehop_core.specs.declared.x86_64.unwind_rule.UnwindRuleX86_64.TheVariants.{UseFramePointer}
+use Rattle.framehop.specs.Modules.{UnwindData, no_unwind_data}
+use Rattle.framehop.specs.Policy.{Policy}
+use Rattle.framehop.specs.Unwinding.{GivesNothingWithoutData, RisesAsSaid}
+use Rattle.framehop.specs.X86_64.{x86_64, data_answer}
+
+pub outcome-is : (policy : Policy) → (x86_64 policy).outcome ≡ outcome
+unfolding x86_64
+outcome-is policy = refl
+
+pub fallback-is : (policy : Policy) → (x86_64 policy).fallback ≡ UseFramePointer
+unfolding x86_64
+fallback-is policy = refl
+
+pub stack_pointer-is : (policy : Policy) → (x86_64 policy).stack_pointer ≡ (λ (r : Registers). r.rsp)
+unfolding x86_64
+stack_pointer-is policy = refl
+
+no-answer : (known : UnwindData) (relative : ℕ) (first : Bool) → known ≡ no_unwind_data → data_answer known relative first ≡ None
+no-answer no_unwind_data relative first e = refl
+
+pub no-data : (policy : Policy) → GivesNothingWithoutData (x86_64 policy)
+unfolding x86_64
+no-data policy = λ m relative first e. no-answer m.unwind_data relative first e
+
+-- it is not said
+pub rises-as-said : (policy : Policy) → RisesAsSaid (x86_64 policy)
+unfolding x86_64
+rises-as-said policy = record {
+  rules = λ said. cc;
+  values = λ said. cc;
+}
