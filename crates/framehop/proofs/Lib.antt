@@ -3,7 +3,7 @@ pub mod SoundnessLemmas
 pub mod ModuleLemmas
 mod FreshLemmas
 mod WalkLemmas
-mod RoomLemmas
+mod CachedWorldLemmas
 mod WorldLemmas
 mod RunLemmas
 mod RiseLemmas

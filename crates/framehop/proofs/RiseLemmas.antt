@@ -4,8 +4,8 @@ use Rattle.std.specs.Prelude.{MatchBool}
 use Rattle.std.specs.Option.{option_and_then, unwrap_or}
 use Rattle.framehop_core.specs.Memory.{Memory}
 use Rattle.framehop_core.specs.Outcome.{Outcome, answered, root, refused, registers_after}
-use Rattle.framehop_core.specs.OutcomeLaws.{same-answered}
-use Rattle.framehop_core.specs.CodeAddress.{Place, at_instruction_pointer, at_return_address, lookup_address}
+use Rattle.framehop_core.specs.Laws.Outcome.{same-answered}
+use Rattle.framehop_core.specs.CodeAddress.{FrameLocation, at_instruction_pointer, at_return_address, lookup_address}
 use Rattle.framehop_core.specs.Runs.{Raises}
 use Rattle.framehop_core.specs.declared.error.Error.TheVariants.{ReturnAddressIsNull}
 use Rattle.framehop.specs.Modules.{ModuleView, covering}
@@ -13,25 +13,25 @@ use Rattle.framehop.specs.Unwinding.{Unwinding, Fresh, by_rule, direct, RisesAsS
 use Rattle.framehop.specs.Fresh.{fresh, values_or, outcome_of, step}
 use Rattle.framehop.specs.Walk.{Walk, at_refusal, frame_before, onward, callers, walk_from}
 use Rattle.framehop.specs.World.{memory_of, refusal_of, unless_refused}
-use Rattle.framehop.specs.Room.{Room, RoomReply, world_of, unwinder_at, room_reply, room_after, reply_then, room_replies}
-use Rattle.framehop.specs.Rise.{IsWithinRise, IsRuleStep, WhereAnswered, EachAnswered, IsWalkOfRules, IsReplyWithinRise, AreWithinRise}
+use Rattle.framehop.specs.CachedWorld.{CachedWorld, CachedReply, world_of, unwinder_at, cached_reply, cached_after, reply_then, cached_replies}
+use Rattle.framehop.specs.Rise.{IsWalkWithinRise, IsRuleStep, WhereAnswered, EachAnswered, IsWalkOfRules, IsReplyWithinRise, AreWithinRise}
 use Rattle.framehop.specs.declared.session.Command.{Command}
 use Rattle.framehop.specs.declared.session.Command.TheVariants.{New, Clone, Add, Remove, Step as StepCommand, Walk as WalkCommand, Stats}
 use Rattle.framehop.specs.declared.session.SessionError.{SessionError}
-use Rattle.framehop.proofs.RoomLemmas.{modules-at}
+use Rattle.framehop.proofs.CachedWorldLemmas.{modules-at}
 use Rattle.framehop.proofs.WorldLemmas.{world-after}
 
 -- a reply before others is the first of the list
-reply-first : {Regs : Type 0} (refusal : Option SessionError) (reply : RoomReply Regs) (rest : Result (List (RoomReply Regs)) SessionError) (replies : List (RoomReply Regs)) → unless_refused refusal (reply_then reply rest) ≡ Ok replies → (tail : List (RoomReply Regs)) × (rest ≡ Ok tail) × (replies ≡ reply ∷ tail)
+reply-first : {Regs : Type 0} (refusal : Option SessionError) (reply : CachedReply Regs) (rest : Result (List (CachedReply Regs)) SessionError) (replies : List (CachedReply Regs)) → unless_refused refusal (reply_then reply rest) ≡ Ok replies → (tail : List (CachedReply Regs)) × (rest ≡ Ok tail) × (replies ≡ reply ∷ tail)
 reply-first (Some error) reply rest replies e = cc
 reply-first None reply (Err error) replies e = cc
 reply-first None reply (Ok tail) replies e = (tail, refl, cc)
 
 -- the law of rules, of equal outcomes and stack pointers
-pub raises-as : {R Regs : Type 0} (outcome outcome' : R → Bool → Regs → Memory → Outcome Regs) (sp sp' : Regs → ℕ) (IsBehind : Memory → Regs → Type 0) → outcome ≡ outcome' → sp ≡ sp' → Raises outcome sp IsBehind → Raises outcome' sp' IsBehind
-raises-as {R} {Regs} outcome outcome' sp sp' IsBehind p q raises =
-    subst (λ (s : Regs → ℕ). Raises outcome' s IsBehind) q
-    (subst (λ (o : R → Bool → Regs → Memory → Outcome Regs). Raises o sp IsBehind) p raises)
+pub raises-as : {R Regs : Type 0} (outcome outcome' : R → Bool → Regs → Memory → Outcome Regs) (sp sp' : Regs → ℕ) (IsAfterStep : Memory → Regs → Type 0) → outcome ≡ outcome' → sp ≡ sp' → Raises outcome sp IsAfterStep → Raises outcome' sp' IsAfterStep
+raises-as {R} {Regs} outcome outcome' sp sp' IsAfterStep p q raises =
+    subst (λ (s : Regs → ℕ). Raises outcome' s IsAfterStep) q
+    (subst (λ (o : R → Bool → Regs → Memory → Outcome Regs). Raises o sp IsAfterStep) p raises)
 
 module _ {R Regs : Type 0} (unwinding : Unwinding R Regs) where
   -- computed values come from a module's data
@@ -67,14 +67,14 @@ module _ {R Regs : Type 0} (unwinding : Unwinding R Regs) where
         (λ compute is. let m = fresh-direct modules (lookup_address (at_return_address at)) false compute is in (m.0, (_, m.1)))
         e
 
-  module _ (IsBehind : Memory → Regs → Type 0) (raises : Raises unwinding.outcome unwinding.stack_pointer IsBehind) (said : RisesAsSaid unwinding) where
+  module _ (IsAfterStep : Memory → Regs → Type 0) (raises : Raises unwinding.outcome unwinding.stack_pointer IsAfterStep) (said : RisesAsSaid unwinding) where
     module _ (modules : List ModuleView) (memory : Memory) where
-      abbrev stepping : Place → Regs → Outcome Regs
-      stepping place old = step unwinding modules place old memory
+      abbrev stepping : FrameLocation → Regs → Outcome Regs
+      stepping location old = step unwinding modules location old memory
 
       -- the walk from a frame on, by steps of the modules
-      abbrev walk_at : ℕ → Place → Regs → Walk Regs
-      walk_at n place old = callers stepping n place old
+      abbrev walk_at : ℕ → FrameLocation → Regs → Walk Regs
+      walk_at n location old = callers stepping n location old
 
       -- how far the stack pointer has risen in a walk from a frame to which a step has led
       abbrev RisesFrom : Regs → Walk Regs → Type 0
@@ -83,13 +83,13 @@ module _ {R Regs : Type 0} (unwinding : Unwinding R Regs) where
       -- what is known at such a frame: all steps rise, or those that follow are of rules
       abbrev Rising : ℕ → ℕ → Regs → Type 0
       Rising n address old =
-          (unwinding.always_rises ≡ true) ⊎ (IsBehind memory old × EachAnswered stepping (IsRuleStep unwinding modules memory) n (at_return_address address) old)
+          (unwinding.always_rises ≡ true) ⊎ (IsAfterStep memory old × EachAnswered stepping (IsRuleStep unwinding modules memory) n (at_return_address address) old)
 
-      -- where the step at a place answers, it is a rule's, and so are those after it
-      rule-answered : (n : ℕ) (place : Place) (old : Regs) (address : ℕ) (new : Regs) → EachAnswered stepping (IsRuleStep unwinding modules memory) (suc n) place old → stepping place old ≡ answered address new → IsRuleStep unwinding modules memory place old × MatchBool (address == 0) (Unit {0}) (EachAnswered stepping (IsRuleStep unwinding modules memory) n (at_return_address address) new)
+      -- where the step at a location answers, it is a rule's, and so are those after it
+      rule-answered : (n : ℕ) (location : FrameLocation) (old : Regs) (address : ℕ) (new : Regs) → EachAnswered stepping (IsRuleStep unwinding modules memory) (suc n) location old → stepping location old ≡ answered address new → IsRuleStep unwinding modules memory location old × MatchBool (address == 0) (Unit {0}) (EachAnswered stepping (IsRuleStep unwinding modules memory) n (at_return_address address) new)
       unfolding EachAnswered
-      rule-answered n place old address new each e =
-          subst (WhereAnswered (IsRuleStep unwinding modules memory place old) (EachAnswered stepping (IsRuleStep unwinding modules memory) n)) e each
+      rule-answered n location old address new each e =
+          subst (WhereAnswered (IsRuleStep unwinding modules memory location old) (EachAnswered stepping (IsRuleStep unwinding modules memory) n)) e each
 
       not-null : (null : Bool) (P : Type 0) → null ≡ false → MatchBool null (Unit {0}) P → P
       not-null false P e p = p
@@ -138,7 +138,7 @@ module _ {R Regs : Type 0} (unwinding : Unwinding R Regs) where
       start-rise n old (refused error) known = omega arith
 
       -- a walk is within the rise of the stack pointer since its first step
-      pub walk-rise : (limit pc : ℕ) (regs : Regs) → (unwinding.always_rises ≡ true) ⊎ IsWalkOfRules unwinding modules memory limit pc regs → IsWithinRise unwinding.stack_pointer (registers_after regs (step unwinding modules (at_instruction_pointer pc) regs memory)) (walk_from (λ at old. step unwinding modules at old memory) limit pc regs)
+      pub walk-rise : (limit pc : ℕ) (regs : Regs) → (unwinding.always_rises ≡ true) ⊎ IsWalkOfRules unwinding modules memory limit pc regs → IsWalkWithinRise unwinding.stack_pointer (registers_after regs (step unwinding modules (at_instruction_pointer pc) regs memory)) (walk_from (λ at old. step unwinding modules at old memory) limit pc regs)
       unfolding walk_from callers
       walk-rise zero pc regs known = omega arith
       walk-rise (suc zero) pc regs known = omega arith
@@ -149,25 +149,25 @@ module _ {R Regs : Type 0} (unwinding : Unwinding R Regs) where
                 (λ address new e some. callers-rise n address new (first-rising n pc regs address new known e some)),
           )
 
-    reply-rise : {D : Type 0} (room : Room R) (command : Command D Regs) → IsReplyWithinRise unwinding (world_of room) command (room_reply unwinding room command)
-    reply-rise room New = tt
-    reply-rise room (Add unwinder added) = tt
-    reply-rise room (Clone unwinder) = tt
-    reply-rise room (Remove unwinder start) = tt
-    reply-rise room (StepCommand unwinder cache address regs memory) = tt
-    reply-rise room (WalkCommand unwinder cache pc regs memory limit) = λ known.
-        subst (λ (modules : List ModuleView). IsWithinRise unwinding.stack_pointer (registers_after regs (step unwinding modules (at_instruction_pointer pc) regs (memory_of memory))) (walk_from (λ at old. step unwinding (unwinder_at room unwinder).modules at old (memory_of memory)) limit pc regs))
-        (sym (modules-at room.unwinders unwinder))
-        (walk-rise (unwinder_at room unwinder).modules (memory_of memory) limit pc regs
-        (subst (λ (modules : List ModuleView). (unwinding.always_rises ≡ true) ⊎ IsWalkOfRules unwinding modules (memory_of memory) limit pc regs) (modules-at room.unwinders unwinder) known))
-    reply-rise room (Stats cache) = tt
+    reply-rise : {D : Type 0} (state : CachedWorld R) (command : Command D Regs) → IsReplyWithinRise unwinding (world_of state) command (cached_reply unwinding state command)
+    reply-rise state New = tt
+    reply-rise state (Add unwinder added) = tt
+    reply-rise state (Clone unwinder) = tt
+    reply-rise state (Remove unwinder start) = tt
+    reply-rise state (StepCommand unwinder cache address regs memory) = tt
+    reply-rise state (WalkCommand unwinder cache pc regs memory limit) = λ known.
+        subst (λ (modules : List ModuleView). IsWalkWithinRise unwinding.stack_pointer (registers_after regs (step unwinding modules (at_instruction_pointer pc) regs (memory_of memory))) (walk_from (λ at old. step unwinding (unwinder_at state unwinder).modules at old (memory_of memory)) limit pc regs))
+        (sym (modules-at state.unwinders unwinder))
+        (walk-rise (unwinder_at state unwinder).modules (memory_of memory) limit pc regs
+        (subst (λ (modules : List ModuleView). (unwinding.always_rises ≡ true) ⊎ IsWalkOfRules unwinding modules (memory_of memory) limit pc regs) (modules-at state.unwinders unwinder) known))
+    reply-rise state (Stats cache) = tt
 
     -- so are all walks of a list of commands
-    pub replies-rise : {D : Type 0} (room : Room R) (commands : List (Command D Regs)) (replies : List (RoomReply Regs)) → room_replies unwinding room commands ≡ Ok replies → AreWithinRise unwinding (world_of room) commands replies
-    unfolding room_replies AreWithinRise
-    replies-rise room [] replies e = tt
-    replies-rise room (command ∷ commands) replies e =
-        let later = room_after unwinding room command in
-        let all = reply-first (refusal_of (length room.caches) (world_of room) command) (room_reply unwinding room command) (room_replies unwinding later commands) replies e in
-        let rest = subst (λ world. AreWithinRise unwinding world commands all.0) (world-after unwinding room command) (replies-rise later commands all.0 all.1) in
-        subst (AreWithinRise unwinding (world_of room) (command ∷ commands)) (sym all.2) (reply-rise room command, rest)
+    pub replies-rise : {D : Type 0} (state : CachedWorld R) (commands : List (Command D Regs)) (replies : List (CachedReply Regs)) → cached_replies unwinding state commands ≡ Ok replies → AreWithinRise unwinding (world_of state) commands replies
+    unfolding cached_replies AreWithinRise
+    replies-rise state [] replies e = tt
+    replies-rise state (command ∷ commands) replies e =
+        let later = cached_after unwinding state command in
+        let all = reply-first (refusal_of (length state.caches) (world_of state) command) (cached_reply unwinding state command) (cached_replies unwinding later commands) replies e in
+        let rest = subst (λ world. AreWithinRise unwinding world commands all.0) (world-after unwinding state command) (replies-rise later commands all.0 all.1) in
+        subst (AreWithinRise unwinding (world_of state) (command ∷ commands)) (sym all.2) (reply-rise state command, rest)

@@ -1,7 +1,7 @@
 -- A lookup in a sound cache, and what an insert leaves standing.
 use Rattle.std.proofs.Common.{eqb-true, ◌≡◌, ℕ, zero, suc, Bool, true, false, not, cond, ◌&&◌, ◌==◌, ◌⊎◌, List, [], ◌∷◌, take, filter, find, slice_index_or, slice_set, replicate, Option, Some, None, refl, sym, ap, ◌∙◌, subst, inl, inr, ⊎_elim}
 use mathlib.Core.Bool.{beq}
-use Rattle.framehop_core.specs.CodeAddress.{Place, lookup_address, is_first_frame}
+use Rattle.framehop_core.specs.CodeAddress.{FrameLocation, lookup_address, is_first_frame}
 use Rattle.framehop.specs.Cache.{Key, Entry, Sets, CacheView, Found, hit, empty_slot, wrong_modules, wrong_address, found, hit_or, inserted, inserted_in, same_key, set_of, set_number, counted, ways, empty_cache, set_count}
 use Rattle.framehop_core.specs.Memory.{Memory}
 use Rattle.framehop.specs.CacheResult.{result_of}
@@ -105,7 +105,7 @@ same_key-true a b h =
 -- ---- lookups
 
 -- what is not a hit
-miss-no_hit : {R : Type 0} (room other : Bool) (rule : R) → (cond room empty_slot (cond other wrong_address wrong_modules)) ≡ hit rule → ⊥
+miss-no_hit : {R : Type 0} (state other : Bool) (rule : R) → (cond state empty_slot (cond other wrong_address wrong_modules)) ≡ hit rule → ⊥
 miss-no_hit true other rule e = cc
 miss-no_hit false true rule e = cc
 miss-no_hit false false rule e = cc
@@ -129,9 +129,9 @@ module _ {R Regs : Type 0} (unwinding : Unwinding R Regs) where
   IsSound-empty unwinder = record { each = λ entry stands own. absurd (empty-stands entry stands) }
 
   -- in a sound cache a hit is what the modules give afresh
-  pub fresh-hit : (unwinder : UnwinderView) (sets : Sets R) (place : Place) (rule : R) → IsSound unwinding unwinder sets → found ways sets (key_of unwinder place) ≡ hit rule → fresh unwinding unwinder.modules (lookup_address place) (is_first_frame place) ≡ by_rule rule
-  fresh-hit unwinder sets place rule sound e =
-      let there = hit-stands sets (key_of unwinder place) rule e in
+  pub fresh-hit : (unwinder : UnwinderView) (sets : Sets R) (location : FrameLocation) (rule : R) → IsSound unwinding unwinder sets → found ways sets (key_of unwinder location) ≡ hit rule → fresh unwinding unwinder.modules (lookup_address location) (is_first_frame location) ≡ by_rule rule
+  fresh-hit unwinder sets location rule sound e =
+      let there = hit-stands sets (key_of unwinder location) rule e in
       let own = ap (λ key. key.generation) there.2 in
       let known = (sound.each there.0 there.1 own).rule in
       ap (λ key. fresh unwinding unwinder.modules key.address key.is_first_frame) (sym there.2) ∙ known ∙ ap by_rule there.3
@@ -139,26 +139,26 @@ module _ {R Regs : Type 0} (unwinding : Unwinding R Regs) where
   Extends-refl : (unwinder : UnwinderView) (sets : Sets R) → Extends unwinding unwinder sets sets
   Extends-refl unwinder sets = record { each = λ entry h. inl h }
 
-  Extends-miss : (unwinder : UnwinderView) (sets : Sets R) (place : Place) (answer : Fresh R Regs) → fresh unwinding unwinder.modules (lookup_address place) (is_first_frame place) ≡ answer → Extends unwinding unwinder sets (sets_after_miss sets (key_of unwinder place) answer)
-  Extends-miss unwinder sets place (by_rule rule) is = record {
+  Extends-miss : (unwinder : UnwinderView) (sets : Sets R) (location : FrameLocation) (answer : Fresh R Regs) → fresh unwinding unwinder.modules (lookup_address location) (is_first_frame location) ≡ answer → Extends unwinding unwinder sets (sets_after_miss sets (key_of unwinder location) answer)
+  Extends-miss unwinder sets location (by_rule rule) is = record {
     each = λ entry h.
         ⊎_elim
         (λ old. inl old)
         (λ e. inr (subst (IsFresh unwinding unwinder) e (record { generation = refl; rule = is })))
-        (Stands-inserted entry (record { key = key_of unwinder place; rule = rule }) sets h);
+        (Stands-inserted entry (record { key = key_of unwinder location; rule = rule }) sets h);
   }
-  Extends-miss unwinder sets place (direct values) is = Extends-refl unwinder sets
+  Extends-miss unwinder sets location (direct values) is = Extends-refl unwinder sets
 
-  Extends-found : (unwinder : UnwinderView) (sets : Sets R) (place : Place) (seen : Found R) → Extends unwinding unwinder sets (sets_after sets (key_of unwinder place) seen (fresh unwinding unwinder.modules (lookup_address place) (is_first_frame place)))
-  Extends-found unwinder sets place (hit rule) = Extends-refl unwinder sets
-  Extends-found unwinder sets place empty_slot = Extends-miss unwinder sets place _ refl
-  Extends-found unwinder sets place wrong_modules = Extends-miss unwinder sets place _ refl
-  Extends-found unwinder sets place wrong_address = Extends-miss unwinder sets place _ refl
+  Extends-found : (unwinder : UnwinderView) (sets : Sets R) (location : FrameLocation) (seen : Found R) → Extends unwinding unwinder sets (sets_after sets (key_of unwinder location) seen (fresh unwinding unwinder.modules (lookup_address location) (is_first_frame location)))
+  Extends-found unwinder sets location (hit rule) = Extends-refl unwinder sets
+  Extends-found unwinder sets location empty_slot = Extends-miss unwinder sets location _ refl
+  Extends-found unwinder sets location wrong_modules = Extends-miss unwinder sets location _ refl
+  Extends-found unwinder sets location wrong_address = Extends-miss unwinder sets location _ refl
 
   -- a step extends the cache by what the modules give afresh
-  pub Extends-after : (unwinder : UnwinderView) (cache : CacheView R) (place : Place) → Extends unwinding unwinder cache.sets (cache_after unwinding unwinder cache place).sets
+  pub Extends-after : (unwinder : UnwinderView) (cache : CacheView R) (location : FrameLocation) → Extends unwinding unwinder cache.sets (cache_after unwinding unwinder cache location).sets
   unfolding cache_after
-  Extends-after unwinder cache place = Extends-found unwinder cache.sets place (found ways cache.sets (key_of unwinder place))
+  Extends-after unwinder cache location = Extends-found unwinder cache.sets location (found ways cache.sets (key_of unwinder location))
 
   -- a cache stays sound for each unwinder that has other modules only under another generation
   pub IsSound-extended : (unwinder other : UnwinderView) (old new : Sets R) → AreApart unwinder other → Extends unwinding unwinder old new → IsSound unwinding other old → IsSound unwinding other new
@@ -174,9 +174,9 @@ module _ {R Regs : Type 0} (unwinding : Unwinding R Regs) where
   }
 
   -- a cache stays sound for the unwinder that steps
-  pub IsSound-step : (unwinder : UnwinderView) (cache : CacheView R) (place : Place) → IsSound unwinding unwinder cache.sets → IsSound unwinding unwinder (cache_after unwinding unwinder cache place).sets
-  IsSound-step unwinder cache place sound =
-      IsSound-extended unwinder unwinder cache.sets _ (λ _. refl) (Extends-after unwinder cache place) sound
+  pub IsSound-step : (unwinder : UnwinderView) (cache : CacheView R) (location : FrameLocation) → IsSound unwinding unwinder cache.sets → IsSound unwinding unwinder (cache_after unwinding unwinder cache location).sets
+  IsSound-step unwinder cache location sound =
+      IsSound-extended unwinder unwinder cache.sets _ (λ _. refl) (Extends-after unwinder cache location) sound
 
   -- ---- the cache after a step, by what the lookup answered
 
@@ -195,39 +195,39 @@ module _ {R Regs : Type 0} (unwinding : Unwinding R Regs) where
   miss-answered sets key handle wrong_modules answer e = (cc, refl)
   miss-answered sets key handle wrong_address answer e = (cc, refl)
 
-  module _ (unwinder : UnwinderView) (cache : CacheView R) (place : Place) where
-    pub cache_after-hit : (new : CacheView R) (rule : R) → new.sets ≡ cache.sets → new.stats ≡ counted cache.stats (found ways cache.sets (key_of unwinder place)) → result_of (key_of unwinder place) (found ways cache.sets (key_of unwinder place)) ≡ Hit rule → new ≡ cache_after unwinding unwinder cache place
+  module _ (unwinder : UnwinderView) (cache : CacheView R) (location : FrameLocation) where
+    pub cache_after-hit : (new : CacheView R) (rule : R) → new.sets ≡ cache.sets → new.stats ≡ counted cache.stats (found ways cache.sets (key_of unwinder location)) → result_of (key_of unwinder location) (found ways cache.sets (key_of unwinder location)) ≡ Hit rule → new ≡ cache_after unwinding unwinder cache location
     unfolding cache_after
     cache_after-hit new rule kept counts e =
-        let s = hit-answered (key_of unwinder place) (found ways cache.sets (key_of unwinder place)) rule e in
-        let answer : Fresh R Regs = fresh unwinding unwinder.modules (lookup_address place) (is_first_frame place) in
-        CacheView-equal new (cache_after unwinding unwinder cache place)
-        (kept ∙ sym (ap (λ f. sets_after cache.sets (key_of unwinder place) f answer) s)) counts
+        let s = hit-answered (key_of unwinder location) (found ways cache.sets (key_of unwinder location)) rule e in
+        let answer : Fresh R Regs = fresh unwinding unwinder.modules (lookup_address location) (is_first_frame location) in
+        CacheView-equal new (cache_after unwinding unwinder cache location)
+        (kept ∙ sym (ap (λ f. sets_after cache.sets (key_of unwinder location) f answer) s)) counts
 
     -- a hit in a sound cache steps as the modules' bytes say
-    pub step-hit : (rule : R) (regs : Regs) (memory : Memory) → IsSound unwinding unwinder cache.sets → result_of (key_of unwinder place) (found ways cache.sets (key_of unwinder place)) ≡ Hit rule → unwinding.outcome rule (is_first_frame place) regs memory ≡ step unwinding unwinder.modules place regs memory
+    pub step-hit : (rule : R) (regs : Regs) (memory : Memory) → IsSound unwinding unwinder cache.sets → result_of (key_of unwinder location) (found ways cache.sets (key_of unwinder location)) ≡ Hit rule → unwinding.outcome rule (is_first_frame location) regs memory ≡ step unwinding unwinder.modules location regs memory
     unfolding step
     step-hit rule regs memory sound e =
-        let known = fresh-hit unwinder cache.sets place rule sound (hit-answered (key_of unwinder place) (found ways cache.sets (key_of unwinder place)) rule e) in
+        let known = fresh-hit unwinder cache.sets location rule sound (hit-answered (key_of unwinder location) (found ways cache.sets (key_of unwinder location)) rule e) in
         rw known refl
 
-    pub cache_after-miss : (between new : CacheView R) (handle : Key) (rule : R) → between.sets ≡ cache.sets → between.stats ≡ counted cache.stats (found ways cache.sets (key_of unwinder place)) → result_of (key_of unwinder place) (found ways cache.sets (key_of unwinder place)) ≡ Miss handle → fresh unwinding unwinder.modules (lookup_address place) (is_first_frame place) ≡ by_rule rule → new ≡ record between { sets = inserted ways between.sets (record { key = handle; rule = rule }) } → new ≡ cache_after unwinding unwinder cache place
+    pub cache_after-miss : (between new : CacheView R) (handle : Key) (rule : R) → between.sets ≡ cache.sets → between.stats ≡ counted cache.stats (found ways cache.sets (key_of unwinder location)) → result_of (key_of unwinder location) (found ways cache.sets (key_of unwinder location)) ≡ Miss handle → fresh unwinding unwinder.modules (lookup_address location) (is_first_frame location) ≡ by_rule rule → new ≡ record between { sets = inserted ways between.sets (record { key = handle; rule = rule }) } → new ≡ cache_after unwinding unwinder cache location
     unfolding cache_after
     cache_after-miss between new handle rule kept counts e known is =
-        let answer : Fresh R Regs = fresh unwinding unwinder.modules (lookup_address place) (is_first_frame place) in
-        let key = key_of unwinder place in
+        let answer : Fresh R Regs = fresh unwinding unwinder.modules (lookup_address location) (is_first_frame location) in
+        let key = key_of unwinder location in
         let m = miss-answered cache.sets key handle (found ways cache.sets key) answer e in
         let stored : inserted ways between.sets (record { key = handle; rule = rule }) ≡ inserted ways cache.sets (record { key = key; rule = rule }) =
         ap (λ k. inserted ways between.sets (record { key = k; rule = rule })) (sym m.0) ∙ ap (λ sets. inserted ways sets (record { key = key; rule = rule })) kept in
-        CacheView-equal new (cache_after unwinding unwinder cache place)
+        CacheView-equal new (cache_after unwinding unwinder cache location)
         (ap (λ (c : CacheView R). c.sets) is ∙ stored ∙ sym (ap (sets_after_miss cache.sets key) known) ∙ sym m.1)
         (ap (λ (c : CacheView R). c.stats) is ∙ counts)
 
-    pub step-miss : (rule : R) (regs : Regs) (memory : Memory) → fresh unwinding unwinder.modules (lookup_address place) (is_first_frame place) ≡ by_rule rule → unwinding.outcome rule (is_first_frame place) regs memory ≡ step unwinding unwinder.modules place regs memory
+    pub step-miss : (rule : R) (regs : Regs) (memory : Memory) → fresh unwinding unwinder.modules (lookup_address location) (is_first_frame location) ≡ by_rule rule → unwinding.outcome rule (is_first_frame location) regs memory ≡ step unwinding unwinder.modules location regs memory
     unfolding step
     step-miss rule regs memory known = rw known refl
 
-  -- the answer for an address and a kind that are those of a place
-  pub fresh-at : (modules : List ModuleView) (place : Place) (address : ℕ) (first : Bool) (rule : R) → address ≡ lookup_address place → first ≡ is_first_frame place → fresh unwinding modules address first ≡ by_rule rule → fresh unwinding modules (lookup_address place) (is_first_frame place) ≡ by_rule rule
-  fresh-at modules place address first rule at kind h =
-      ap (λ a. fresh unwinding modules a (is_first_frame place)) (sym at) ∙ ap (fresh unwinding modules address) (sym kind) ∙ h
+  -- the answer for an address and a kind that are those of a location
+  pub fresh-at : (modules : List ModuleView) (location : FrameLocation) (address : ℕ) (first : Bool) (rule : R) → address ≡ lookup_address location → first ≡ is_first_frame location → fresh unwinding modules address first ≡ by_rule rule → fresh unwinding modules (lookup_address location) (is_first_frame location) ≡ by_rule rule
+  fresh-at modules location address first rule at kind h =
+      ap (λ a. fresh unwinding modules a (is_first_frame location)) (sym at) ∙ ap (fresh unwinding modules address) (sym kind) ∙ h

@@ -2,7 +2,7 @@
 use Rattle.std.specs.Prelude.{◌≡◌, ◌≢◌, ℕ, ◌+◌, ◌^◌, ◌<◌, ◌≤◌, Bool, true, false, Option, None}
 use Rattle.framehop_core.specs.Memory.{Memory}
 use Rattle.framehop_core.specs.Outcome.{Outcome, registers_after}
-use Rattle.framehop_core.specs.CodeAddress.{Place, at_instruction_pointer}
+use Rattle.framehop_core.specs.CodeAddress.{FrameLocation, at_instruction_pointer}
 use Rattle.framehop_core.specs.Aarch64.Registers.{Registers}
 use Rattle.framehop_core.specs.Aarch64.Rules.{outcome}
 use Rattle.framehop_core.specs.declared.aarch64.unwind_rule.UnwindRuleAarch64.{UnwindRuleAarch64}
@@ -13,9 +13,9 @@ use Rattle.framehop.specs.Policy.{Policy}
 use Rattle.framehop.specs.Unwinding.{Unwinding, Fresh}
 use Rattle.framehop.specs.Soundness.{IsSound, cache_after}
 use Rattle.framehop.specs.Walk.{at_limit, walk_from, cache_after_walk}
-use Rattle.framehop.specs.Rise.{IsWithinRise}
+use Rattle.framehop.specs.Rise.{IsWalkWithinRise}
 use Rattle.framehop.specs.World.{walked}
-use Rattle.framehop.specs.Room.{RoomReply, of_world, step_of}
+use Rattle.framehop.specs.CachedWorld.{CachedReply, of_world, step_of}
 use Rattle.framehop.specs.declared.aarch64.cache.CacheAarch64.{CacheAarch64}
 
 -- what unwind data gives for a relative address in a frame of this kind
@@ -39,25 +39,25 @@ pub record Ascends (first : Bool) (callee caller : Registers) : Type 0 where
   pub fits : caller.sp < 2 ^ 64
 
 -- the step of an unwinder over a memory
-abbrev pub aarch64_step : Policy → UnwinderView → Memory → Place → Registers → Outcome Registers
-aarch64_step policy unwinder memory place regs = step_of (aarch64 policy) unwinder memory place regs
+abbrev pub aarch64_step : Policy → UnwinderView → Memory → FrameLocation → Registers → Outcome Registers
+aarch64_step policy unwinder memory location regs = step_of (aarch64 policy) unwinder memory location regs
 
 -- the cache changes no answer
 abbrev pub IsSoundAarch64 : Policy → UnwinderView → CacheView UnwindRuleAarch64 → Type 0
 IsSoundAarch64 policy unwinder cache = IsSound (aarch64 policy) unwinder cache.sets
 
--- the cache after a step at a place
-abbrev pub aarch64_cache_after : {P : Type 0} → Policy → UnwinderView → CacheAarch64 P → Place → CacheAarch64 P
-aarch64_cache_after policy unwinder cache place = record { 0 = cache_after (aarch64 policy) unwinder cache.0 place }
+-- the cache after a step at a location
+abbrev pub aarch64_cache_after : {P : Type 0} → Policy → UnwinderView → CacheAarch64 P → FrameLocation → CacheAarch64 P
+aarch64_cache_after policy unwinder cache location = record { 0 = cache_after (aarch64 policy) unwinder cache.0 location }
 
 -- A walk to its end: the walk of some limit that it does not reach, and the cache that it leaves. It has at most two frames
 -- more than sp has risen since its first step.
-pub record IsWalkToEnd {P : Type 0} (policy : Policy) (unwinder : UnwinderView) (memory : Memory) (pc : ℕ) (regs : Registers) (reply : RoomReply Registers) (old new : CacheAarch64 P) : Type 0 where
+pub record IsWalkToEnd {P : Type 0} (policy : Policy) (unwinder : UnwinderView) (memory : Memory) (pc : ℕ) (regs : Registers) (reply : CachedReply Registers) (old new : CacheAarch64 P) : Type 0 where
   pub limit : ℕ
   pub few : limit ≤ 2 ^ 64 + 2
   pub ended : (walk_from (aarch64_step policy unwinder memory) limit pc regs).end ≢ at_limit
   pub reply_is : reply ≡ of_world (walked (walk_from (aarch64_step policy unwinder memory) limit pc regs))
-  pub within : IsWithinRise (λ r. r.sp)
+  pub within : IsWalkWithinRise (λ r. r.sp)
       (registers_after regs (aarch64_step policy unwinder memory (at_instruction_pointer pc) regs))
       (walk_from (aarch64_step policy unwinder memory) limit pc regs)
   pub cached : new ≡ cache_after_walk (aarch64_step policy unwinder memory) (aarch64_cache_after policy unwinder) limit pc regs old

@@ -54,7 +54,7 @@ abbrev pub hit_or : {R : Type 0} → Option (Entry R) → Found R → Found R
 hit_or (Some entry) other = hit entry.rule
 hit_or None other = other
 
--- A lookup in a set of so many ways: a hit where the key stands; else an empty slot where the set has room; else wrong
+-- A lookup in a set of so many ways: a hit where the key stands; else an empty slot where the set has state; else wrong
 -- modules where no entry has the generation; else a wrong address.
 abbrev pub found_in : {R : Type 0} → ℕ → List (Entry R) → Key → Found R
 found_in ways set key =

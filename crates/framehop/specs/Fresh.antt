@@ -2,7 +2,7 @@
 use Rattle.std.specs.Prelude.{ℕ, ◌-◌, Bool, List, Option, Some, None, option_and_then, unwrap_or}
 use Rattle.framehop_core.specs.Memory.{Memory}
 use Rattle.framehop_core.specs.Outcome.{Outcome, answered}
-use Rattle.framehop_core.specs.CodeAddress.{Place, lookup_address, is_first_frame}
+use Rattle.framehop_core.specs.CodeAddress.{FrameLocation, lookup_address, is_first_frame}
 use Rattle.framehop.specs.Modules.{ModuleView, covering}
 use Rattle.framehop.specs.Unwinding.{Unwinding, Fresh, by_rule, direct}
 
@@ -25,8 +25,8 @@ outcome_of unwinding (by_rule rule) first regs memory = unwinding.outcome rule f
 outcome_of unwinding (direct values) first regs memory =
     values_or (values regs memory) (unwinding.outcome unwinding.fallback first regs memory)
 
--- one step: the frame at a place is unwound by what the modules give for its lookup address and its kind
-unfoldable pub step : {Rule Regs : Type 0} → Unwinding Rule Regs → List ModuleView → Place → Regs → Memory → Outcome Regs
-step unwinding modules place regs memory =
-    let first = is_first_frame place in
-    outcome_of unwinding (fresh unwinding modules (lookup_address place) first) first regs memory
+-- one step: the frame at a location is unwound by what the modules give for its lookup address and its kind
+unfoldable pub step : {Rule Regs : Type 0} → Unwinding Rule Regs → List ModuleView → FrameLocation → Regs → Memory → Outcome Regs
+step unwinding modules location regs memory =
+    let first = is_first_frame location in
+    outcome_of unwinding (fresh unwinding modules (lookup_address location) first) first regs memory

@@ -11,7 +11,7 @@ pub mod Soundness
 pub mod Iterator
 pub mod UnwindIterator
 pub mod World
-pub mod Room
+pub mod CachedWorld
 pub mod SessionView
 pub mod Transparent
 pub mod Rise

@@ -2,11 +2,11 @@
 use Rattle.std.specs.Prelude.{List, map, Result, Ok, Err}
 use Rattle.std.specs.Global.{Global}
 use Rattle.std.specs.declared.vec.Vec.{Vec}
-use Rattle.framehop_core.specs.CodeAddress.{place_of}
+use Rattle.framehop_core.specs.CodeAddress.{location_of}
 use Rattle.framehop_core.specs.declared.code_address.FrameAddress.{FrameAddress}
 use Rattle.framehop.specs.Walk.{Walk, End, at_root, at_refusal, at_limit}
 use Rattle.framehop.specs.World.{made, done, stepped, walked}
-use Rattle.framehop.specs.Room.{RoomReply, of_world, counts}
+use Rattle.framehop.specs.CachedWorld.{CachedReply, of_world, counts}
 use Rattle.framehop.specs.declared.session.Reply.{Reply}
 use Rattle.framehop.specs.declared.session.Reply.TheVariants.{Made, Done, Step as StepReply, Walk as WalkReply, Stats}
 use Rattle.framehop.specs.declared.session.SessionError.{SessionError}
@@ -20,10 +20,10 @@ end_of Limit = at_limit
 
 -- the frames, the end and the registers of a walk
 abbrev pub walk_of : {Regs : Type 0} → List FrameAddress → WalkEnd → Regs → Walk Regs
-walk_of frames end regs = record { frames = map place_of frames; end = end_of end; regs = regs }
+walk_of frames end regs = record { frames = map location_of frames; end = end_of end; regs = regs }
 
 -- what a reply tells
-abbrev pub reply_view : {Regs : Type 0} → Reply Regs → RoomReply Regs
+abbrev pub reply_view : {Regs : Type 0} → Reply Regs → CachedReply Regs
 reply_view (Made unwinder) = of_world (made unwinder)
 reply_view Done = of_world done
 reply_view (StepReply result regs) = of_world (stepped result regs)
@@ -31,6 +31,6 @@ reply_view (WalkReply frames end regs) = of_world (walked (walk_of frames.items 
 reply_view (Stats stats) = counts stats
 
 -- what a session answers
-abbrev pub result_view : {Regs : Type 0} → Result (Vec (Reply Regs) Global) SessionError → Result (List (RoomReply Regs)) SessionError
+abbrev pub result_view : {Regs : Type 0} → Result (Vec (Reply Regs) Global) SessionError → Result (List (CachedReply Regs)) SessionError
 result_view (Ok replies) = Ok (map reply_view replies.items)
 result_view (Err error) = Err error

@@ -1,6 +1,6 @@
 -- When a cache that other steps have filled changes no answer.
 use Rattle.std.specs.Prelude.{◌≡◌, ◌≢◌, ◌-◌, ◌⊎◌, true, List, [], ◌∷◌, Some}
-use Rattle.framehop_core.specs.CodeAddress.{Place, lookup_address, is_first_frame}
+use Rattle.framehop_core.specs.CodeAddress.{FrameLocation, lookup_address, is_first_frame}
 use Rattle.framehop.specs.Cache.{Key, Entry, Sets, CacheView, Found, hit, empty_slot, wrong_modules, wrong_address, found, counted, inserted, ways}
 use Rattle.framehop.specs.Unwinding.{Unwinding, Fresh, by_rule, direct}
 use Rattle.framehop.specs.Fresh.{fresh}
@@ -34,12 +34,12 @@ pub record Extends {R Regs : Type 0} (unwinding : Unwinding R Regs) (unwinder : 
 abbrev pub AreApart : UnwinderView → UnwinderView → Type 0
 AreApart unwinder other = unwinder.generation ≡ other.generation → unwinder.modules ≡ other.modules
 
--- the key of the unwinder's frame at a place
-abbrev pub key_of : UnwinderView → Place → Key
-key_of unwinder place = record {
-  address = lookup_address place;
+-- the key of the unwinder's frame at a location
+abbrev pub key_of : UnwinderView → FrameLocation → Key
+key_of unwinder location = record {
+  address = lookup_address location;
   generation = unwinder.generation;
-  is_first_frame = is_first_frame place;
+  is_first_frame = is_first_frame location;
 }
 
 -- the sets after a miss: one insert exactly where the modules give a rule
@@ -54,25 +54,25 @@ sets_after sets key empty_slot answer = sets_after_miss sets key answer
 sets_after sets key wrong_modules answer = sets_after_miss sets key answer
 sets_after sets key wrong_address answer = sets_after_miss sets key answer
 
--- the cache after a step at a place: one lookup, counted, and at most one insert
-unfoldable pub cache_after : {R Regs : Type 0} → Unwinding R Regs → UnwinderView → CacheView R → Place → CacheView R
-cache_after unwinding unwinder cache place =
-    let key = key_of unwinder place in
+-- the cache after a step at a location: one lookup, counted, and at most one insert
+unfoldable pub cache_after : {R Regs : Type 0} → Unwinding R Regs → UnwinderView → CacheView R → FrameLocation → CacheView R
+cache_after unwinding unwinder cache location =
+    let key = key_of unwinder location in
     let seen = found ways cache.sets key in
     record {
-      sets = sets_after cache.sets key seen (fresh unwinding unwinder.modules (lookup_address place) (is_first_frame place));
+      sets = sets_after cache.sets key seen (fresh unwinding unwinder.modules (lookup_address location) (is_first_frame location));
       stats = counted cache.stats seen;
     }
 
--- the cache after a step at a place that ran out of memory: one lookup, counted
-unfoldable pub cache_after_lookup : {R : Type 0} → UnwinderView → CacheView R → Place → CacheView R
-cache_after_lookup unwinder cache place =
-    record cache { stats = counted cache.stats (found ways cache.sets (key_of unwinder place)) }
+-- the cache after a step at a location that ran out of memory: one lookup, counted
+unfoldable pub cache_after_lookup : {R : Type 0} → UnwinderView → CacheView R → FrameLocation → CacheView R
+cache_after_lookup unwinder cache location =
+    record cache { stats = counted cache.stats (found ways cache.sets (key_of unwinder location)) }
 
--- A step at a place can run out of memory: its rule is not in the cache, and reading what the covering module has for the
+-- A step at a location can run out of memory: its rule is not in the cache, and reading what the covering module has for the
 -- address takes memory.
-pub record MayRunOut {R Regs : Type 0} (unwinding : Unwinding R Regs) (unwinder : UnwinderView) (cache : CacheView R) (place : Place) : Type 0 where
-  pub missed : (rule : R) → found ways cache.sets (key_of unwinder place) ≢ hit rule
+pub record MayRunOut {R Regs : Type 0} (unwinding : Unwinding R Regs) (unwinder : UnwinderView) (cache : CacheView R) (location : FrameLocation) : Type 0 where
+  pub missed : (rule : R) → found ways cache.sets (key_of unwinder location) ≢ hit rule
   pub covered_by : ModuleView
-  pub covers : covering unwinder.modules (lookup_address place) ≡ Some covered_by
-  pub takes : unwinding.takes_memory covered_by (lookup_address place - covered_by.base_avma) (is_first_frame place) ≡ true
+  pub covers : covering unwinder.modules (lookup_address location) ≡ Some covered_by
+  pub takes : unwinding.takes_memory covered_by (lookup_address location - covered_by.base_avma) (is_first_frame location) ≡ true

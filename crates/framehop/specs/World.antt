@@ -3,7 +3,7 @@
 use Rattle.std.specs.Prelude.{ℕ, ◌-◌, ◌^◌, if◌then◌else◌, ◌==◌, nat_le, nat_lt, ◌&&◌, ◌/◌, ◌%◌, List, [], ◌∷◌, ◌++◌, length, slice_get, slice_set, slice_index_or, Option, Some, None, Result, Ok, Err}
 use Rattle.framehop_core.specs.Memory.{Memory}
 use Rattle.framehop_core.specs.Outcome.{Outcome, answer_of, registers_after}
-use Rattle.framehop_core.specs.CodeAddress.{Place, place_of}
+use Rattle.framehop_core.specs.CodeAddress.{FrameLocation, location_of}
 use Rattle.framehop.specs.Modules.{ModuleView, with_module, has_start, without_module}
 use Rattle.framehop.specs.Walk.{Walk, walk_from}
 use Rattle.framehop_core.specs.declared.error.Error.{Error}
@@ -55,9 +55,9 @@ refusal_of caches world (StepCommand unwinder cache address regs memory) = needs
 refusal_of caches world (WalkCommand unwinder cache pc regs memory limit) = needs_unwinder world unwinder (needs_cache caches cache None)
 refusal_of caches world (Stats cache) = needs_cache caches cache None
 
--- one step by a list of modules, at a place, over registers and memory
+-- one step by a list of modules, at a location, over registers and memory
 abbrev pub StepBy : Type 0 → Type 0
-StepBy Regs = List ModuleView → Place → Regs → Memory → Outcome Regs
+StepBy Regs = List ModuleView → FrameLocation → Regs → Memory → Outcome Regs
 
 -- the reply to a command that is not refused; `Stats` has none, since the world knows no cache
 abbrev pub reply_to : {D Regs : Type 0} → StepBy Regs → World → Command D Regs → Option (WorldReply Regs)
@@ -66,10 +66,10 @@ reply_to step world (Clone unwinder) = Some (made (length world.unwinders))
 reply_to step world (Add unwinder added) = Some done
 reply_to step world (Remove unwinder start) = Some done
 reply_to step world (StepCommand unwinder cache address regs memory) =
-    let outcome = step (modules_of world unwinder) (place_of address) regs (memory_of memory) in
+    let outcome = step (modules_of world unwinder) (location_of address) regs (memory_of memory) in
     Some (stepped (answer_of outcome) (registers_after regs outcome))
 reply_to step world (WalkCommand unwinder cache pc regs memory limit) =
-    Some (walked (walk_from (λ place old. step (modules_of world unwinder) place old (memory_of memory)) limit pc regs))
+    Some (walked (walk_from (λ location old. step (modules_of world unwinder) location old (memory_of memory)) limit pc regs))
 reply_to step world (Stats cache) = None
 
 -- the world after it

@@ -18,6 +18,4 @@ pub use framehop_core::{
 };
 pub use generations::Generations;
 pub use rule_cache::CacheStats;
-pub use unwinder::{
-    Module, ModuleListError, RefusedModule, UnwindIterator, Unwinder, Unwinding,
-};
+pub use unwinder::{Module, ModuleListError, RefusedModule, UnwindIterator, Unwinder, Unwinding};

@@ -7,13 +7,13 @@ ghost use Rattle.framehop.specs.SessionView.{end_of, walk_of, result_view, reply
 ghost use Rattle.framehop.specs.World.{memory_of, empty_world, world_replies};
 ghost use Rattle.framehop.specs.Walk.{walk_from, cache_after_walk};
 ghost use Rattle.framehop.specs.Soundness.{IsSound, MayRunOut, cache_after};
-ghost use Rattle.framehop.specs.Room.{Room, step_of, empty_room, room_replies, next_after_all, world_result};
+ghost use Rattle.framehop.specs.CachedWorld.{CachedWorld, step_of, empty_cached_world, cached_replies, next_after_all, world_result};
 ghost use Rattle.framehop.specs.Fresh.{step};
 ghost use Rattle.framehop.specs.Transparent.{IsTransparent, Serves};
 ghost use Rattle.framehop.specs.Rise.{AreWithinRise};
 ghost use Rattle.framehop.specs.Aarch64.{IsSoundAarch64, IsWalkToEnd};
 ghost use Rattle.framehop.specs.Cache.{empty_cache};
-ghost use Rattle.framehop.specs.CodeAddress.{Place, place_of};
+ghost use Rattle.framehop.specs.CodeAddress.{FrameLocation, location_of};
 ghost use Rattle.framehop.specs.Outcome.{Outcome, answer_of, registers_after};
 
 use crate::aarch64::{CacheAarch64, UnwindRegsAarch64, UnwinderAarch64};
@@ -172,17 +172,17 @@ fn push_next_frame<U: Unwinder, F: FnMut(u64) -> Result<u64, ()>>(
         → U.is_sound (unwinder_of unwinding.new).now (cache_of unwinding.new).now }
     ensures refused { IfErr result (λ error. error ≡ SessionError.OutOfMemory) }
     ensures moves { IfOk result (λ end. IfNone end ((frame : FrameAddress)
-        × (frames.new.items ≡ frames.old.items ++ frame ∷ []) × (progress_in unwinding.new ≡ at_frame (place_of frame))
-        × Moves U.advances (progress_in unwinding.old) (regs_of unwinding.old) (place_of frame) (regs_of unwinding.new))) }
+        × (frames.new.items ≡ frames.old.items ++ frame ∷ []) × (progress_in unwinding.new ≡ at_frame (location_of frame))
+        × Moves U.advances (progress_in unwinding.old) (regs_of unwinding.old) (location_of frame) (regs_of unwinding.new))) }
     ensures kept { IfOk result (λ end. IfSome end (λ _. frames.new.items ≡ frames.old.items)) }
     ensures cached { OnOk result ((cache_of unwinding.new).now ≡ cache_after_next (U.cache_after (unwinder_of unwinding.old).now)
         (progress_in unwinding.old) (cache_of unwinding.old).now) }
     ensures answers { (memory : StackMemory) → AnswersAs F.FnMut (read_stack_of unwinding.old).now memory
         → U.is_sound (unwinder_of unwinding.old).now (cache_of unwinding.old).now
-        → let next = next_of (λ place regs. U.step (unwinder_of unwinding.old).now place regs memory) (progress_in unwinding.old) (regs_of unwinding.old) in
+        → let next = next_of (λ location regs. U.step (unwinder_of unwinding.old).now location regs memory) (progress_in unwinding.old) (regs_of unwinding.old) in
         AnswersAs F.FnMut (read_stack_of unwinding.new).now memory
         × IfOk result (λ end. (option_map end_of end ≡ end_in next.answer)
-        × (map place_of frames.new.items ≡ map place_of frames.old.items ++ frames_in next.answer)
+        × (map location_of frames.new.items ≡ map location_of frames.old.items ++ frames_in next.answer)
         × (progress_in unwinding.new ≡ next.progress) × (regs_of unwinding.new ≡ next.regs)) }
 {
     match unwinding.next() {
@@ -213,7 +213,7 @@ fn next_frames<U: Unwinder, F: FnMut(u64) -> Result<u64, ()>>(
     ensures answers { (memory : StackMemory) → AnswersAs F.FnMut (read_stack_of unwinding.old).now memory
         → U.is_sound (unwinder_of unwinding.old).now (cache_of unwinding.old).now
         → IfOk result (λ walk.
-        let step : Place → U.UnwindRegs → Outcome U.UnwindRegs = λ place regs. U.step (unwinder_of unwinding.old).now place regs memory in
+        let step : FrameLocation → U.UnwindRegs → Outcome U.UnwindRegs = λ location regs. U.step (unwinder_of unwinding.old).now location regs memory in
         (walk_of walk.0.items walk.1 (regs_of unwinding.new)
         ≡ walk_on step limit (progress_in unwinding.old) (regs_of unwinding.old))
         × ((cache_of unwinding.new).now
@@ -262,10 +262,10 @@ fn step_stack<D: SectionBytes + Drop, A: Unwinding, P: AllocationPolicy>(
     memory: &Memory,
 ) -> Result<(Result<Option<u64>, Error>, A::UnwindRegs), SessionError>
     ensures refused { IfErr result (λ error. (error ≡ SessionError.OutOfMemory)
-        × MayRunOut (A.unwinding P.policy) unwinder.now cache.old (place_of address)) }
-    ensures cached { OnOk result (cache.new ≡ cache_after (A.unwinding P.policy) unwinder.now cache.old (place_of address)) }
+        × MayRunOut (A.unwinding P.policy) unwinder.now cache.old (location_of address)) }
+    ensures cached { OnOk result (cache.new ≡ cache_after (A.unwinding P.policy) unwinder.now cache.old (location_of address)) }
     ensures answers { IsSound (A.unwinding P.policy) unwinder.now cache.old.sets →
-        let stepping = step_of (A.unwinding P.policy) unwinder.now (memory_of memory.now) (place_of address) regs in
+        let stepping = step_of (A.unwinding P.policy) unwinder.now (memory_of memory.now) (location_of address) regs in
         IfOk result (λ stepped. (stepped.0 ≡ answer_of stepping) × (stepped.1 ≡ registers_after regs stepping)) }
 {
     let mut read_stack = |address: u64| -> Result<u64, ()>
@@ -318,7 +318,7 @@ impl<D: SectionBytes + Drop, A: Unwinding, P: AllocationPolicy> Session<D, A, P>
     ) -> Result<Reply<A::UnwindRegs>, SessionError>
         ensures drawn { generations.old ≤ generations.new }
         ensures drawn_at_most { generations.new ≤ generations.old + 1 }
-        ensures served { let old : Room A.UnwindRule = record { unwinders = self.old.unwinders.items; next = generations.old; caches = self.old.caches.items } in
+        ensures served { let old : CachedWorld A.UnwindRule = record { unwinders = self.old.unwinders.items; next = generations.old; caches = self.old.caches.items } in
             let command : Command D A.UnwindRegs = Command.New in
             Serves (A.unwinding P.policy) old command result
             (record { unwinders = self.new.unwinders.items; next = generations.new; caches = self.new.caches.items }) }
@@ -341,7 +341,7 @@ impl<D: SectionBytes + Drop, A: Unwinding, P: AllocationPolicy> Session<D, A, P>
     ) -> Result<Reply<A::UnwindRegs>, SessionError>
         ensures drawn { generations.old ≤ generations.new }
         ensures drawn_at_most { generations.new ≤ generations.old + 1 }
-        ensures served { let old : Room A.UnwindRule = record { unwinders = self.old.unwinders.items; next = generations.old; caches = self.old.caches.items } in
+        ensures served { let old : CachedWorld A.UnwindRule = record { unwinders = self.old.unwinders.items; next = generations.old; caches = self.old.caches.items } in
             let command : Command D A.UnwindRegs = Command.Add unwinder «module» in
             Serves (A.unwinding P.policy) old command result
             (record { unwinders = self.new.unwinders.items; next = generations.new; caches = self.new.caches.items }) }
@@ -360,7 +360,7 @@ impl<D: SectionBytes + Drop, A: Unwinding, P: AllocationPolicy> Session<D, A, P>
     }
 
     fn clone_unwinder(&mut self, unwinder: usize) -> Result<Reply<A::UnwindRegs>, SessionError>
-        ensures { (next : ℕ) → let old : Room A.UnwindRule = record { unwinders = self.old.unwinders.items; next = next; caches = self.old.caches.items } in
+        ensures { (next : ℕ) → let old : CachedWorld A.UnwindRule = record { unwinders = self.old.unwinders.items; next = next; caches = self.old.caches.items } in
             let command : Command D A.UnwindRegs = Command.Clone unwinder in
             Serves (A.unwinding P.policy) old command result
             (record { unwinders = self.new.unwinders.items; next = next; caches = self.new.caches.items }) }
@@ -386,7 +386,7 @@ impl<D: SectionBytes + Drop, A: Unwinding, P: AllocationPolicy> Session<D, A, P>
     ) -> Result<Reply<A::UnwindRegs>, SessionError>
         ensures drawn { generations.old ≤ generations.new }
         ensures drawn_at_most { generations.new ≤ generations.old + 1 }
-        ensures served { let old : Room A.UnwindRule = record { unwinders = self.old.unwinders.items; next = generations.old; caches = self.old.caches.items } in
+        ensures served { let old : CachedWorld A.UnwindRule = record { unwinders = self.old.unwinders.items; next = generations.old; caches = self.old.caches.items } in
             let command : Command D A.UnwindRegs = Command.Remove unwinder start in
             Serves (A.unwinding P.policy) old command result
             (record { unwinders = self.new.unwinders.items; next = generations.new; caches = self.new.caches.items }) }
@@ -410,7 +410,7 @@ impl<D: SectionBytes + Drop, A: Unwinding, P: AllocationPolicy> Session<D, A, P>
         regs: A::UnwindRegs,
         memory: Memory,
     ) -> Result<Reply<A::UnwindRegs>, SessionError>
-        ensures { (next : ℕ) → let old : Room A.UnwindRule = record { unwinders = self.old.unwinders.items; next = next; caches = self.old.caches.items } in
+        ensures { (next : ℕ) → let old : CachedWorld A.UnwindRule = record { unwinders = self.old.unwinders.items; next = next; caches = self.old.caches.items } in
             let command : Command D A.UnwindRegs = Command.Step unwinder cache address regs memory in
             IsTransparent (A.unwinding P.policy) old →
             Serves (A.unwinding P.policy) old command result
@@ -429,9 +429,9 @@ impl<D: SectionBytes + Drop, A: Unwinding, P: AllocationPolicy> Session<D, A, P>
     }
 
     fn stats(&self, cache: usize) -> Result<Reply<A::UnwindRegs>, SessionError>
-        ensures { (next : ℕ) → let room : Room A.UnwindRule = record { unwinders = self.now.unwinders.items; next = next; caches = self.now.caches.items } in
+        ensures { (next : ℕ) → let state : CachedWorld A.UnwindRule = record { unwinders = self.now.unwinders.items; next = next; caches = self.now.caches.items } in
             let command : Command D A.UnwindRegs = Command.Stats cache in
-            Serves (A.unwinding P.policy) room command result room }
+            Serves (A.unwinding P.policy) state command result state }
     {
         if cache >= self.caches.len() {
             return Err(SessionError::NoSuchCache);
@@ -448,7 +448,7 @@ impl<D: SectionBytes + Drop, A: Unwinding, P: AllocationPolicy> Session<D, A, P>
         memory: Memory,
         limit: u32,
     ) -> Result<Reply<A::UnwindRegs>, SessionError>
-        ensures { (next : ℕ) → let old : Room A.UnwindRule = record { unwinders = self.old.unwinders.items; next = next; caches = self.old.caches.items } in
+        ensures { (next : ℕ) → let old : CachedWorld A.UnwindRule = record { unwinders = self.old.unwinders.items; next = next; caches = self.old.caches.items } in
             let command : Command D A.UnwindRegs = Command.Walk unwinder cache pc regs memory limit in
             IsTransparent (A.unwinding P.policy) old →
             Serves (A.unwinding P.policy) old command result
@@ -474,7 +474,7 @@ impl<D: SectionBytes + Drop, A: Unwinding, P: AllocationPolicy> Session<D, A, P>
     ) -> Result<Reply<A::UnwindRegs>, SessionError>
         ensures drawn { generations.old ≤ generations.new }
         ensures drawn_at_most { generations.new ≤ generations.old + 1 }
-        ensures served { let old : Room A.UnwindRule = record { unwinders = self.old.unwinders.items; next = generations.old; caches = self.old.caches.items } in
+        ensures served { let old : CachedWorld A.UnwindRule = record { unwinders = self.old.unwinders.items; next = generations.old; caches = self.old.caches.items } in
             IsTransparent (A.unwinding P.policy) old →
             Serves (A.unwinding P.policy) old command result
             (record { unwinders = self.new.unwinders.items; next = generations.new; caches = self.new.caches.items }) }
@@ -519,9 +519,9 @@ pub fn run<D: SectionBytes + Drop, A: Unwinding, P: AllocationPolicy>(
     ensures transparent { result ≢ Err SessionError.OutOfMemory → world_result (result_view result)
         ≡ world_replies (step (A.unwinding P.policy)) cache_count (empty_world generations.old) commands.items }
     ensures counted { result ≢ Err SessionError.OutOfMemory → result_view result
-        ≡ room_replies (A.unwinding P.policy) (empty_room cache_count generations.old) commands.items }
+        ≡ cached_replies (A.unwinding P.policy) (empty_cached_world cache_count generations.old) commands.items }
     ensures drawn { result ≢ Err SessionError.OutOfMemory → generations.new
-        ≡ next_after_all (A.unwinding P.policy) (empty_room cache_count generations.old) commands.items }
+        ≡ next_after_all (A.unwinding P.policy) (empty_cached_world cache_count generations.old) commands.items }
     ensures never_back { generations.old ≤ generations.new }
     ensures drawn_at_most { generations.new ≤ generations.old + length commands.items }
     ensures bounded { IfOk result (λ replies. AreWithinRise (A.unwinding P.policy)

@@ -1,7 +1,7 @@
 ghost use Rattle.std.specs.Prelude.{◌≡◌, ◌≢◌, ◌+◌, ◌-◌, ◌^◌, ◌<◌, ◌↔◌, Bool, true, false, IfOk, IfErr, IfSome, IfNone, IsOk, OnOk, OnSome, IsErrAnd, remove, slice_index_or, MatchOption, MatchResult, SomeIff, string_bytes, slice_get, length, take, drop, ◌≤◌, Option, []};
 ghost use Rattle.framehop.specs.Memory.{Memory, AnswersAs};
 ghost use Rattle.framehop.specs.Outcome.{Outcome, answer_of, registers_after};
-ghost use Rattle.framehop.specs.CodeAddress.{Place, place_of, is_first_frame};
+ghost use Rattle.framehop.specs.CodeAddress.{FrameLocation, location_of, is_first_frame};
 ghost use Rattle.framehop.specs.Iterator.{before};
 ghost use Rattle.framehop.specs.UnwindIterator.{unwinder_of, progress_in, regs_of, cache_of, read_stack_of};
 ghost use Rattle.framehop.specs.Unwinding.{Unwinding, GivesNothingWithoutData, RisesAsSaid, by_rule};
@@ -129,7 +129,7 @@ pub trait Unwinder: Clone {
     ghost module_view: { Self.Module → ModuleView };
 
     // one step by the modules' bytes, read afresh
-    ghost step: { Self → Place → Self.UnwindRegs → Memory → Outcome Self.UnwindRegs };
+    ghost step: { Self → FrameLocation → Self.UnwindRegs → Memory → Outcome Self.UnwindRegs };
 
     // what a step that answers an address does to the registers, whatever the callback replies
     ghost advances: { Bool → Self.UnwindRegs → Self.UnwindRegs → Type 0 };
@@ -137,16 +137,16 @@ pub trait Unwinder: Clone {
     // the cache changes no answer
     ghost is_sound: { Self → Self.Cache → Type 0 };
 
-    // the cache after a step at a place, and after one that ran out of memory
-    ghost cache_after: { Self → Self.Cache → Place → Self.Cache };
+    // the cache after a step at a frame, and after one that ran out of memory
+    ghost cache_after: { Self → Self.Cache → FrameLocation → Self.Cache };
 
-    ghost cache_after_lookup: { Self → Self.Cache → Place → Self.Cache };
+    ghost cache_after_lookup: { Self → Self.Cache → FrameLocation → Self.Cache };
 
     // each entry of a cache stood in another one, or is what the modules give afresh
     ghost extends: { Self → Self.Cache → Self.Cache → Type 0 };
 
-    // a step at a place can run out of memory
-    ghost may_run_out: { Self → Self.Cache → Place → Type 0 };
+    // a step at a frame can run out of memory
+    ghost may_run_out: { Self → Self.Cache → FrameLocation → Type 0 };
 
     /// Adds a module that is loaded in the process, behind those of equal start, and takes the
     /// next generation. The module comes back where the counter is at its end (tested first) or
@@ -215,18 +215,18 @@ pub trait Unwinder: Clone {
             (λ answer. IfNone answer (regs.new ≡ regs.old))
             (λ _. regs.new ≡ regs.old) }
         ensures advances { IfOk result
-            (λ answer. OnSome answer (advances (is_first_frame (place_of address)) regs.old regs.new)) }
-        ensures may_run_out { result ≡ Err Error.OutOfMemory → may_run_out self.now cache.old (place_of address) }
-        ensures cached { result ≢ Err Error.OutOfMemory → cache.new ≡ cache_after self.now cache.old (place_of address) }
-        ensures not_cached { result ≡ Err Error.OutOfMemory → cache.new ≡ cache_after_lookup self.now cache.old (place_of address) }
+            (λ answer. OnSome answer (advances (is_first_frame (location_of address)) regs.old regs.new)) }
+        ensures may_run_out { result ≡ Err Error.OutOfMemory → may_run_out self.now cache.old (location_of address) }
+        ensures cached { result ≢ Err Error.OutOfMemory → cache.new ≡ cache_after self.now cache.old (location_of address) }
+        ensures not_cached { result ≡ Err Error.OutOfMemory → cache.new ≡ cache_after_lookup self.now cache.old (location_of address) }
         ensures extends { extends self.now cache.old cache.new }
         ensures stays_sound { (other : Self) → AreApart (unwinder_view self.now) (unwinder_view other)
             → is_sound other cache.old → is_sound other cache.new }
         ensures answers { (memory : Memory) → AnswersAs F.FnMut read_stack.old memory → is_sound self.now cache.old
             → AnswersAs F.FnMut read_stack.new memory
             × (result ≢ Err Error.OutOfMemory →
-            (result ≡ answer_of (step self.now (place_of address) regs.old memory))
-            × (regs.new ≡ registers_after regs.old (step self.now (place_of address) regs.old memory))) };
+            (result ≡ answer_of (step self.now (location_of address) regs.old memory))
+            × (regs.new ≡ registers_after regs.old (step self.now (location_of address) regs.old memory))) };
 
     /// An iterator over the frames of a stack, from the instruction pointer (AVMA) and the initial
     /// registers on.
@@ -324,8 +324,8 @@ impl<'u, 'c, 'r, U: Unwinder, F: FnMut(u64) -> Result<u64, ()>> UnwindIterator<'
 
 impl<U: Unwinder, F: FnMut(u64) -> Result<u64, ()>> UnwindIterator<'_, '_, '_, U, F> {
     ghost use Rattle.std.specs.Prelude.{◌≡◌, ◌≢◌, Result, Ok, Err, IfOk, IfErr, IfSome, IfNone};
-    ghost use Rattle.framehop.specs.CodeAddress.{place_of};
-    ghost use Rattle.framehop.specs.Iterator.{at_frame, at_end, place_answer, next_of, Moves, AtFrame, NeedsNoStep, cache_after_next};
+    ghost use Rattle.framehop.specs.CodeAddress.{location_of};
+    ghost use Rattle.framehop.specs.Iterator.{at_frame, at_end, location_answer, next_of, Moves, AtFrame, NeedsNoStep, cache_after_next};
     ghost use Rattle.framehop.specs.UnwindIterator.{unwinder_of, progress_in, regs_of, cache_of, read_stack_of};
     ghost use Rattle.framehop.specs.Memory.{Memory, AnswersAs};
     ghost use Rattle.framehop.specs.Soundness.{AreApart};
@@ -340,9 +340,9 @@ impl<U: Unwinder, F: FnMut(u64) -> Result<u64, ()>> UnwindIterator<'_, '_, '_, U
         ensures same_unwinder { unwinder_of self.new ≡ unwinder_of self.old }
         ensures same_cache { (cache_of self.new).ghost_name ≡ (cache_of self.old).ghost_name }
         ensures same_callback { (read_stack_of self.new).ghost_name ≡ (read_stack_of self.old).ghost_name }
-        ensures moves { IfOk result (λ answer. IfSome answer (λ frame. (progress_in self.new ≡ at_frame (place_of frame))
-            × Moves U.advances (progress_in self.old) (regs_of self.old) (place_of frame) (regs_of self.new))) }
-        ensures no_step { NeedsNoStep (progress_in self.old) (place_answer result) }
+        ensures moves { IfOk result (λ answer. IfSome answer (λ frame. (progress_in self.new ≡ at_frame (location_of frame))
+            × Moves U.advances (progress_in self.old) (regs_of self.old) (location_of frame) (regs_of self.new))) }
+        ensures no_step { NeedsNoStep (progress_in self.old) (location_answer result) }
         ensures after_error { IfErr result (λ error. (progress_in self.new ≡ progress_in self.old)
             × (error ≢ Error.ReturnAddressIsNull → regs_of self.new ≡ regs_of self.old)) }
         ensures after_root { IfOk result (λ answer. IfNone answer ((progress_in self.new ≡ at_end)
@@ -357,10 +357,10 @@ impl<U: Unwinder, F: FnMut(u64) -> Result<u64, ()>> UnwindIterator<'_, '_, '_, U
             ≡ cache_after_next (U.cache_after_lookup (unwinder_of self.old).now) (progress_in self.old) (cache_of self.old).now }
         ensures answers { (memory : Memory) → AnswersAs F.FnMut (read_stack_of self.old).now memory
             → U.is_sound (unwinder_of self.old).now (cache_of self.old).now
-            → let next = next_of (λ place regs. U.step (unwinder_of self.old).now place regs memory) (progress_in self.old) (regs_of self.old) in
+            → let next = next_of (λ location regs. U.step (unwinder_of self.old).now location regs memory) (progress_in self.old) (regs_of self.old) in
             AnswersAs F.FnMut (read_stack_of self.new).now memory
             × (result ≢ Err Error.OutOfMemory →
-            (place_answer result ≡ next.answer) × (progress_in self.new ≡ next.progress) × (regs_of self.new ≡ next.regs)) }
+            (location_answer result ≡ next.answer) × (progress_in self.new ≡ next.progress) × (regs_of self.new ≡ next.regs)) }
     {
         let next = match self.state {
             UnwindIteratorState::Initial(pc) => {
@@ -626,10 +626,10 @@ impl<D: SectionBytes + Drop, A: Unwinding, P: AllocationPolicy> UnwinderInternal
         address: FrameAddress,
         cache: &mut Cache<A::UnwindRule, P>,
     ) -> CacheResult<A::UnwindRule>
-        ensures answer { result ≡ result_of (key_of self.now (place_of address)) (found ways cache.old.sets (key_of self.now (place_of address))) }
+        ensures answer { result ≡ result_of (key_of self.now (location_of address)) (found ways cache.old.sets (key_of self.now (location_of address))) }
         ensures runnable { HitRuns A.UnwindRule.executable result }
         ensures kept { cache.new.sets ≡ cache.old.sets }
-        ensures stats { cache.new.stats ≡ counted cache.old.stats (found ways cache.old.sets (key_of self.now (place_of address))) }
+        ensures stats { cache.new.stats ≡ counted cache.old.stats (found ways cache.old.sets (key_of self.now (location_of address))) }
     {
         cache.lookup(
             address.address_for_lookup(),
@@ -667,19 +667,19 @@ impl<D: SectionBytes + Drop, A: Unwinding, P: AllocationPolicy> Unwinder
 
     ghost module_view = { λ m. m };
 
-    ghost step = { λ u place regs memory. step (A.unwinding P.policy) u.modules place regs memory };
+    ghost step = { λ u location regs memory. step (A.unwinding P.policy) u.modules location regs memory };
 
     ghost advances = { A.step_advances };
 
     ghost is_sound = { λ u cache. IsSound (A.unwinding P.policy) u cache.sets };
 
-    ghost cache_after = { λ u cache place. cache_after (A.unwinding P.policy) u cache place };
+    ghost cache_after = { λ u cache location. cache_after (A.unwinding P.policy) u cache location };
 
-    ghost cache_after_lookup = { λ u cache place. cache_after_lookup u cache place };
+    ghost cache_after_lookup = { λ u cache location. cache_after_lookup u cache location };
 
     ghost extends = { λ u old new. Extends (A.unwinding P.policy) u old.sets new.sets };
 
-    ghost may_run_out = { λ u cache place. MayRunOut (A.unwinding P.policy) u cache place };
+    ghost may_run_out = { λ u cache location. MayRunOut (A.unwinding P.policy) u cache location };
 
     fn add_module(
         &mut self,

@@ -1,10 +1,10 @@
 -- aarch64: how far sp rises over a run of rules.
 use Rattle.std.proofs.Common.{◌≡◌, ℕ, zero, suc, ◌+◌, ◌≤◌, true, false, List, refl, sym, ap, arith}
 use Rattle.framehop_core.specs.Memory.{Memory}
-use Rattle.framehop_core.specs.Runs.{StepsBy, run_of, after_first, IsWithinRise}
+use Rattle.framehop_core.specs.Runs.{StepsBy, run_of, after_first, IsCountWithinRise}
 use Rattle.framehop_core.specs.Aarch64.Registers.{Registers}
 use Rattle.framehop_core.specs.Aarch64.Rules.{outcome, Advances, IsBoundedRun}
-use Rattle.framehop_core.specs.Aarch64.RuleLaws.{raises}
+use Rattle.framehop_core.specs.Laws.Aarch64.{raises}
 use Rattle.framehop_core.specs.declared.aarch64.unwind_rule.UnwindRuleAarch64.{UnwindRuleAarch64}
 use Rattle.framehop_core.proofs.Runs.{run_of-bound}
 
@@ -21,6 +21,6 @@ IsBoundedRun-steps (suc n) old new (next, step, steps) =
     record { first = next; none = λ no. absurd (omega arith); step = λ h. step; not_below = omega arith; within = omega arith }
 
 -- the run over a memory is within the rise of sp since its first rule
-pub run_of-within : (rules : List UnwindRuleAarch64) (r : Registers) (memory : Memory) → IsWithinRise (run_of outcome true rules r memory).count (after_first outcome rules r memory).sp (run_of outcome true rules r memory).registers.sp
+pub run_of-within : (rules : List UnwindRuleAarch64) (r : Registers) (memory : Memory) → IsCountWithinRise (run_of outcome true rules r memory).count (after_first outcome rules r memory).sp (run_of outcome true rules r memory).registers.sp
 run_of-within rules r memory =
     run_of-bound outcome (λ s. s.sp) (λ memory s. Unit {0}) raises rules r memory

@@ -277,31 +277,31 @@ pub record Encodes (registers pool others : List Reg) (encoded scale : ℕ) : Ty
   pub injective : IsInjective pool
 
 -- where a register stands among the eight
-place_of : Reg → ℕ
-place_of RBX = 0
-place_of RBP = 1
-place_of RDI = 2
-place_of RSI = 3
-place_of R12 = 4
-place_of R13 = 5
-place_of R14 = 6
-place_of R15 = 7
-place_of _ = 8
+location_of : Reg → ℕ
+location_of RBX = 0
+location_of RBP = 1
+location_of RDI = 2
+location_of RSI = 3
+location_of R12 = 4
+location_of R13 = 5
+location_of R14 = 6
+location_of R15 = 7
+location_of _ = 8
 
-place_of-eight : (i : ℕ) (z : Reg) → i < 8 → place_of (get_or eight i z) ≡ i
-unfolding place_of
-place_of-eight zero z h = refl
-place_of-eight (suc zero) z h = refl
-place_of-eight (suc (suc zero)) z h = refl
-place_of-eight (suc (suc (suc zero))) z h = refl
-place_of-eight (suc (suc (suc (suc zero)))) z h = refl
-place_of-eight (suc (suc (suc (suc (suc zero))))) z h = refl
-place_of-eight (suc (suc (suc (suc (suc (suc zero)))))) z h = refl
-place_of-eight (suc (suc (suc (suc (suc (suc (suc zero))))))) z h = refl
-place_of-eight (suc (suc (suc (suc (suc (suc (suc (suc i)))))))) z h = absurd (omega arith)
+location_of-eight : (i : ℕ) (z : Reg) → i < 8 → location_of (get_or eight i z) ≡ i
+unfolding location_of
+location_of-eight zero z h = refl
+location_of-eight (suc zero) z h = refl
+location_of-eight (suc (suc zero)) z h = refl
+location_of-eight (suc (suc (suc zero))) z h = refl
+location_of-eight (suc (suc (suc (suc zero)))) z h = refl
+location_of-eight (suc (suc (suc (suc (suc zero))))) z h = refl
+location_of-eight (suc (suc (suc (suc (suc (suc zero)))))) z h = refl
+location_of-eight (suc (suc (suc (suc (suc (suc (suc zero))))))) z h = refl
+location_of-eight (suc (suc (suc (suc (suc (suc (suc (suc i)))))))) z h = absurd (omega arith)
 
 IsInjective-eight : IsInjective eight
-IsInjective-eight = record { unique = λ i j z hi hj e. sym (place_of-eight i z hi) ∙ ap place_of e ∙ place_of-eight j z hj }
+IsInjective-eight = record { unique = λ i j z hi hj e. sym (location_of-eight i z hi) ∙ ap location_of e ∙ location_of-eight j z hj }
 
 ordering-at : (registers : List Reg) (n m : ℕ) → m ≡ n → Orders n eight registers → ordering (length registers) m ≡ registers
 unfolding ordering

@@ -61,19 +61,19 @@ module _ {U R : Type 0} (outcome : U → Bool → R → Memory → Outcome R) (m
       rw later_first (run_of-more outcome memory rules n (nat_eq n 0) r all so_far rule address new within is o)
 
 -- ---- the bound: each answered step after the first raises the stack pointer
-module _ {U R : Type 0} (outcome : U → Bool → R → Memory → Outcome R) (sp : R → ℕ) (IsBehind : Memory → R → Type 0) (raises : Raises outcome sp IsBehind) where
-  rise_on : (rule : U) (r : R) (memory : Memory) (next : R → Run R) → IsBehind memory r → ((new : R) → IsBehind memory new → (next new).count + sp new ≤ sp (next new).registers) → (o : Outcome R) → outcome rule false r memory ≡ o → (run_on r o next).count + sp r ≤ sp (run_on r o next).registers
+module _ {U R : Type 0} (outcome : U → Bool → R → Memory → Outcome R) (sp : R → ℕ) (IsAfterStep : Memory → R → Type 0) (raises : Raises outcome sp IsAfterStep) where
+  rise_on : (rule : U) (r : R) (memory : Memory) (next : R → Run R) → IsAfterStep memory r → ((new : R) → IsAfterStep memory new → (next new).count + sp new ≤ sp (next new).registers) → (o : Outcome R) → outcome rule false r memory ≡ o → (run_on r o next).count + sp r ≤ sp (run_on r o next).registers
   rise_on rule r memory next behind more (answered address new) e =
       omega (arith, more new (raises.leads rule false r new memory address e), raises.rises rule r new memory address behind e)
   rise_on rule r memory next behind more root e = omega arith
   rise_on rule r memory next behind more (refused error) e = omega arith
 
-  pub run_of-rise : (rules : List U) (r : R) (memory : Memory) → IsBehind memory r → (run_of outcome false rules r memory).count + sp r ≤ sp (run_of outcome false rules r memory).registers
+  pub run_of-rise : (rules : List U) (r : R) (memory : Memory) → IsAfterStep memory r → (run_of outcome false rules r memory).count + sp r ≤ sp (run_of outcome false rules r memory).registers
   run_of-rise [] r memory behind = omega arith
   run_of-rise (rule ∷ rules) r memory behind =
       rise_on rule r memory (λ new. run_of outcome false rules new memory) behind (λ new b. run_of-rise rules new memory b) (outcome rule false r memory) refl
 
-  bound_on : (rule : U) (r : R) (memory : Memory) (next : R → Run R) → ((new : R) → IsBehind memory new → (next new).count + sp new ≤ sp (next new).registers) → (o : Outcome R) → outcome rule true r memory ≡ o → (run_on r o next).count - 1 ≤ sp (run_on r o next).registers - sp (registers_after r o)
+  bound_on : (rule : U) (r : R) (memory : Memory) (next : R → Run R) → ((new : R) → IsAfterStep memory new → (next new).count + sp new ≤ sp (next new).registers) → (o : Outcome R) → outcome rule true r memory ≡ o → (run_on r o next).count - 1 ≤ sp (run_on r o next).registers - sp (registers_after r o)
   bound_on rule r memory next more (answered address new) e =
       omega (arith, more new (raises.leads rule true r new memory address e))
   bound_on rule r memory next more root e = omega arith

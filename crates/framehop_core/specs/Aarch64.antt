@@ -1,3 +1,2 @@
 pub mod Registers
 pub mod Rules
-pub mod RuleLaws

@@ -5,31 +5,31 @@ use Rattle.framehop_core.specs.declared.code_address.FrameAddress.{FrameAddress}
 use Rattle.framehop_core.specs.declared.code_address.FrameAddress.TheVariants.{InstructionPointer, ReturnAddress}
 
 -- where a frame stands: at its instruction pointer, or at the address to which its callee returns (AVMAs)
-pub data Place : Type 0 where
-  at_instruction_pointer : ℕ → Place
-  at_return_address : ℕ → Place
+pub data FrameLocation : Type 0 where
+  at_instruction_pointer : ℕ → FrameLocation
+  at_return_address : ℕ → FrameLocation
 
--- the place of a frame address
-abbrev pub place_of : FrameAddress → Place
-place_of (InstructionPointer address) = at_instruction_pointer address
-place_of (ReturnAddress address) = at_return_address (non_zero_u64_get address)
+-- the location of a frame address
+abbrev pub location_of : FrameAddress → FrameLocation
+location_of (InstructionPointer address) = at_instruction_pointer address
+location_of (ReturnAddress address) = at_return_address (non_zero_u64_get address)
 
--- the raw address of a place
-abbrev pub address_of : Place → ℕ
+-- the raw address of a location
+abbrev pub address_of : FrameLocation → ℕ
 address_of (at_instruction_pointer address) = address
 address_of (at_return_address address) = address
 
 -- The address to look up: of a return address the byte before it, which lies inside the call instruction
 -- (framehop 0.16.0, `FrameAddress::address_for_lookup`).
-abbrev pub lookup_address : Place → ℕ
+abbrev pub lookup_address : FrameLocation → ℕ
 lookup_address (at_instruction_pointer address) = address
 lookup_address (at_return_address address) = address - 1
 
 -- whether the address is a return address
-abbrev pub is_return_address : Place → Bool
+abbrev pub is_return_address : FrameLocation → Bool
 is_return_address (at_instruction_pointer _) = false
 is_return_address (at_return_address _) = true
 
 -- the kind of a frame: only a frame at its instruction pointer is a first frame
-abbrev pub is_first_frame : Place → Bool
-is_first_frame place = not (is_return_address place)
+abbrev pub is_first_frame : FrameLocation → Bool
+is_first_frame location = not (is_return_address location)

@@ -3,7 +3,7 @@ pub mod ErrorText
 pub mod Memory
 pub mod CodeAddress
 pub mod Outcome
-pub mod OutcomeLaws
+pub mod Laws
 pub mod Runs
 pub mod Aarch64
 pub mod X86_64

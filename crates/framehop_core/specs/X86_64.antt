@@ -1,4 +1,3 @@
 pub mod Registers
 pub mod Ordering
 pub mod Rules
-pub mod RuleLaws

@@ -1,5 +1,5 @@
 ghost use Rattle.std.specs.Prelude.{◌≡◌, MatchOption};
-ghost use Rattle.framehop_core.specs.CodeAddress.{place_of, address_of, lookup_address, is_return_address, at_instruction_pointer, at_return_address};
+ghost use Rattle.framehop_core.specs.CodeAddress.{location_of, address_of, lookup_address, is_return_address, at_instruction_pointer, at_return_address};
 
 use std::num::NonZeroU64;
 
@@ -20,7 +20,7 @@ pub enum FrameAddress {
 impl FrameAddress {
     /// The frame address of an instruction pointer (AVMA).
     pub fn from_instruction_pointer(ip: u64) -> Self
-        ensures { place_of result ≡ at_instruction_pointer ip }
+        ensures { location_of result ≡ at_instruction_pointer ip }
     {
         FrameAddress::InstructionPointer(ip)
     }
@@ -28,14 +28,14 @@ impl FrameAddress {
     /// The frame address of a return address (AVMA), or `None` if that is 0.
     pub fn from_return_address(return_address: u64) -> Option<Self>
         ensures { MatchOption result (return_address ≡ 0)
-            (λ frame. place_of frame ≡ at_return_address return_address) }
+            (λ frame. location_of frame ≡ at_return_address return_address) }
     {
         Some(FrameAddress::ReturnAddress(NonZeroU64::new(return_address)?))
     }
 
     /// The raw address (AVMA).
     pub fn address(self) -> u64
-        ensures { result ≡ address_of (place_of self) }
+        ensures { result ≡ address_of (location_of self) }
     {
         match self {
             FrameAddress::InstructionPointer(address) => address,
@@ -49,7 +49,7 @@ impl FrameAddress {
     /// before it, which lies inside the call instruction: the call can be the last instruction of
     /// its function, and the return address then belongs to the next function.
     pub fn address_for_lookup(self) -> u64
-        ensures { result ≡ lookup_address (place_of self) }
+        ensures { result ≡ lookup_address (location_of self) }
     {
         match self {
             FrameAddress::InstructionPointer(address) => address,
@@ -59,7 +59,7 @@ impl FrameAddress {
 
     /// Whether this address is a return address.
     pub fn is_return_address(self) -> bool
-        ensures { result ≡ is_return_address (place_of self) }
+        ensures { result ≡ is_return_address (location_of self) }
     {
         match self {
             FrameAddress::InstructionPointer(_) => false,

@@ -24,7 +24,7 @@ pub trait UnwindRule: Copy + fmt::Debug {
     ghost stack_pointer: { Self.UnwindRegs → ℕ };
 
     // what the registers behind a step meet, over the memory that it has read
-    ghost is_behind: { Memory → Self.UnwindRegs → Type 0 };
+    ghost is_after_step: { Memory → Self.UnwindRegs → Type 0 };
 
     // whether the rule can be run; the others are made by no function of this library
     ghost executable: { Self → Bool };
@@ -83,7 +83,7 @@ pub trait UnwindRule: Copy + fmt::Debug {
     ghost fallback_executable: { executable fallback ≡ true };
 
     // over one memory, each step behind another one raises the stack pointer
-    ghost raises: { Raises outcome stack_pointer is_behind };
+    ghost raises: { Raises outcome stack_pointer is_after_step };
 }
 
 /// How a run of rules ends.

@@ -62,31 +62,31 @@ unplaced : (b : Bool) (n : ℕ) → cond b (Some n) None ≡ None → b ≡ fals
 unplaced true n h = let no : ⊥ = cc in absurd no
 unplaced false n h = refl
 
--- the place of the first section of the name lies in the list
-place-within : (name : List ℕ) (xs : List Section) (i : ℕ) → position (is_named name) xs ≡ Some i → (i < length xs) × (position_or_len (is_named name) xs ≡ i)
-place-within name xs i h =
+-- the location of the first section of the name lies in the list
+location-within : (name : List ℕ) (xs : List Section) (i : ℕ) → position (is_named name) xs ≡ Some i → (i < length xs) × (position_or_len (is_named name) xs ≡ i)
+location-within name xs i h =
     let n = position_or_len (is_named name) xs in
     let p = placed (nat_lt n (length xs)) n i h in
     let within : n < length xs = ltb-true n (length xs) p.0 in
     (subst (λ k. k < length xs) p.1 within, p.1)
 
 -- no section goes by the name
-place-past : (name : List ℕ) (xs : List Section) → position (is_named name) xs ≡ None → length xs ≤ position_or_len (is_named name) xs
-place-past name xs h =
+location-past : (name : List ℕ) (xs : List Section) → position (is_named name) xs ≡ None → length xs ≤ position_or_len (is_named name) xs
+location-past name xs h =
     let n = position_or_len (is_named name) xs in ltb-false n (length xs) (unplaced (nat_lt n (length xs)) n h)
 
--- the data under a name is that of the section at its place
-pub data_of-place : (name : List ℕ) (xs : List Section) (i : ℕ) (x : Section) → position (is_named name) xs ≡ Some i → x ≡ get_or xs i x → data_of name (entries_view xs) ≡ x.bytes
-data_of-place name xs i x h at =
-    let p = place-within name xs i h in
+-- the data under a name is that of the section at its location
+pub data_of-location : (name : List ℕ) (xs : List Section) (i : ℕ) (x : Section) → position (is_named name) xs ≡ Some i → x ≡ get_or xs i x → data_of name (entries_view xs) ≡ x.bytes
+data_of-location name xs i x h at =
+    let p = location-within name xs i h in
     let e : find (is_named name) xs ≡ Some x = find_at (is_named name) xs ∙ ap (λ k. slice_get xs k) p.1 ∙ slice_get_read xs (length xs) i x refl p.0 at in
     ap (λ o. option_and_then (λ (entry : Entry (Vec ℕ Global)). entry.contents) o) (entry_of-entries_view name xs ∙ ap (λ o. option_map entry_view o) e)
 
 -- taking it leaves the section there without its data
-pub without_data-place : (name : List ℕ) (xs : List Section) (i : ℕ) (x : Section) → position (is_named name) xs ≡ Some i → x ≡ get_or xs i x
+pub without_data-location : (name : List ℕ) (xs : List Section) (i : ℕ) (x : Section) → position (is_named name) xs ≡ Some i → x ≡ get_or xs i x
     → entries_view (set xs i (without_bytes x)) ≡ without_data name (entries_view xs)
-without_data-place name xs i x h at =
-    let p = place-within name xs i h in
+without_data-location name xs i x h at =
+    let p = location-within name xs i h in
     let P : ℕ → Type 0 = λ k. k < length xs → without_data name (entries_view xs) ≡ entries_view (set xs k (without_bytes (get_or xs k x))) in
     let e = subst P p.1 (without_data-present name xs x) p.0 in
     sym (e ∙ ap (λ y. entries_view (set xs i (without_bytes y))) (sym at))
@@ -94,11 +94,11 @@ without_data-place name xs i x h at =
 -- there is no data under a name that no section goes by
 pub data_of-no_place : (name : List ℕ) (xs : List Section) → position (is_named name) xs ≡ None → data_of name (entries_view xs) ≡ None
 data_of-no_place name xs h =
-    let e = find_at (is_named name) xs ∙ slice_get_past xs (position_or_len (is_named name) xs) (place-past name xs h) in
+    let e = find_at (is_named name) xs ∙ slice_get_past xs (position_or_len (is_named name) xs) (location-past name xs h) in
     ap (λ o. option_and_then (λ (entry : Entry (Vec ℕ Global)). entry.contents) o) (entry_of-entries_view name xs ∙ ap (λ o. option_map entry_view o) e)
 
 pub without_data-no_place : (name : List ℕ) (xs : List Section) → position (is_named name) xs ≡ None → entries_view xs ≡ without_data name (entries_view xs)
-without_data-no_place name xs h = sym (without_data-absent name xs (place-past name xs h))
+without_data-no_place name xs h = sym (without_data-absent name xs (location-past name xs h))
 
 -- the range of an entry is that of its section
 range-view : (o : Option Section) → option_and_then (λ (entry : Entry (Vec ℕ Global)). entry.range) (option_map entry_view o) ≡ option_and_then (λ (s : Section). s.svma) o

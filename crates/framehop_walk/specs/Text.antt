@@ -1,10 +1,10 @@
 -- The lines that the program prints for a reply.
 use Rattle.std.specs.Prelude.{ℕ, false, List, [], ◌∷◌, ◌++◌, codes, Option, Some, None, Result, Ok, Err}
 use Rattle.std.specs.Fmt.{decimal, digits}
-use Rattle.framehop.specs.CodeAddress.{Place, at_instruction_pointer, at_return_address}
+use Rattle.framehop.specs.CodeAddress.{FrameLocation, at_instruction_pointer, at_return_address}
 use Rattle.framehop.specs.Walk.{End, at_root, at_refusal, at_limit}
 use Rattle.framehop.specs.World.{WorldReply, made, done, stepped, walked}
-use Rattle.framehop.specs.Room.{RoomReply, of_world, counts}
+use Rattle.framehop.specs.CachedWorld.{CachedReply, of_world, counts}
 use Rattle.framehop.specs.declared.rule_cache.CacheStats.{CacheStats}
 use Rattle.framehop_core.specs.Aarch64.Registers.{Registers}
 use Rattle.framehop_core.specs.X86_64.Registers.{Registers as RegistersX86_64}
@@ -20,11 +20,11 @@ abbrev pub hexadecimal : ℕ → List ℕ
 hexadecimal address = digits 16 false address
 
 -- a frame of a walk
-abbrev pub frame_line : Place → List ℕ
+abbrev pub frame_line : FrameLocation → List ℕ
 frame_line (at_instruction_pointer address) = line (codes "ip " ++ hexadecimal address)
 frame_line (at_return_address address) = line (codes "ra " ++ hexadecimal address)
 
-abbrev pub frame_lines : List Place → List ℕ
+abbrev pub frame_lines : List FrameLocation → List ℕ
 frame_lines [] = []
 frame_lines (frame ∷ frames) = frame_line frame ++ frame_lines frames
 
@@ -82,6 +82,6 @@ world_lines text verb (stepped answer regs) = step_line answer ++ registers_line
 world_lines text verb (walked walk) = frame_lines walk.frames ++ end_line walk.end ++ registers_line (text walk.regs)
 
 -- the lines of a reply
-abbrev pub reply_lines : {Regs : Type 0} → (Regs → List ℕ) → List ℕ → RoomReply Regs → List ℕ
+abbrev pub reply_lines : {Regs : Type 0} → (Regs → List ℕ) → List ℕ → CachedReply Regs → List ℕ
 reply_lines text verb (of_world reply) = world_lines text verb reply
 reply_lines text verb (counts stats) = stats_line stats

@@ -9,7 +9,7 @@ use crate::sections::Section;
 use std::ops::Range;
 
 // the place of the first section of that name
-fn place_of(name: &[u8], sections: &[Section]) -> Option<usize>
+fn location_of(name: &[u8], sections: &[Section]) -> Option<usize>
     ensures { result ≡ position (is_named name.now) sections.now }
 {
     sections
@@ -45,7 +45,7 @@ pub fn take_bytes(name: &[u8], sections: &mut Vec<Section>) -> Option<Vec<u8>>
     ensures taken { entries_view sections.new.items
         ≡ without_data name.now (entries_view sections.old.items) }
 {
-    match place_of(name, sections.as_slice()) {
+    match location_of(name, sections.as_slice()) {
         Some(index) => sections[index].bytes.take(),
         None => None,
     }

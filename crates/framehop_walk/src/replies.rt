@@ -1,5 +1,5 @@
 ghost use Rattle.std.specs.Prelude.{◌≡◌, ◌++◌, OnOk, string_bytes, map};
-ghost use Rattle.framehop.specs.CodeAddress.{place_of};
+ghost use Rattle.framehop.specs.CodeAddress.{location_of};
 ghost use Rattle.framehop.specs.SessionView.{end_of, reply_view};
 ghost use Rattle.framehop_walk.specs.Text.{frame_line, frame_lines, end_line, step_line, count_text, stats_line, registers_line, reply_lines};
 
@@ -46,7 +46,7 @@ fn print_step(answer: Result<Option<u64>, Error>, out: &mut String) -> Result<()
 
 fn print_frames(frames: &Vec<FrameAddress>, out: &mut String) -> Result<(), AllocError>
     ensures { OnOk result (string_bytes out.new
-        ≡ string_bytes out.old ++ frame_lines (map place_of frames.now.items)) }
+        ≡ string_bytes out.old ++ frame_lines (map location_of frames.now.items)) }
 {
     for frame in frames {
         print_frame(*frame, out)?;
@@ -56,7 +56,7 @@ fn print_frames(frames: &Vec<FrameAddress>, out: &mut String) -> Result<(), Allo
 
 fn print_frame(frame: FrameAddress, out: &mut String) -> Result<(), AllocError>
     ensures { OnOk result (string_bytes out.new
-        ≡ string_bytes out.old ++ frame_line (place_of frame)) }
+        ≡ string_bytes out.old ++ frame_line (location_of frame)) }
 {
     match frame {
         FrameAddress::InstructionPointer(address) => writeln!(out, "ip {address:x}"),

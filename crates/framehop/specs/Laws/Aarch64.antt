@@ -3,7 +3,7 @@ use Rattle.std.proofs.Common.{◌≡◌, ℕ, ◌<◌, Bool, true, false, Option
 use Rattle.framehop_core.specs.Memory.{Memory}
 use Rattle.framehop_core.specs.Aarch64.Registers.{Registers}
 use Rattle.framehop_core.specs.Aarch64.Rules.{outcome, Advances}
-use Rattle.framehop_core.specs.Aarch64.RuleLaws.{outcome-Advances}
+use Rattle.framehop_core.specs.Laws.Aarch64.{outcome-Advances}
 use Rattle.framehop_core.specs.declared.aarch64.unwind_rule.UnwindRuleAarch64.{UnwindRuleAarch64}
 use Rattle.framehop_core.specs.declared.aarch64.unwind_rule.UnwindRuleAarch64.TheVariants.{UseFramePointer}
 use Rattle.framehop.specs.Modules.{UnwindData, no_unwind_data}

@@ -61,19 +61,19 @@ impl<D: SectionBytes + Drop, P: AllocationPolicy> Unwinder for UnwinderAarch64<D
 
     ghost module_view = { λ m. m };
 
-    ghost step = { λ u place regs memory. step (aarch64 P.policy) u.modules place regs memory };
+    ghost step = { λ u location regs memory. step (aarch64 P.policy) u.modules location regs memory };
 
     ghost advances = { Ascends };
 
     ghost is_sound = { λ u cache. IsSound (aarch64 P.policy) u cache.0.sets };
 
-    ghost cache_after = { λ u cache place. record { 0 = cache_after (aarch64 P.policy) u cache.0 place } };
+    ghost cache_after = { λ u cache location. record { 0 = cache_after (aarch64 P.policy) u cache.0 location } };
 
-    ghost cache_after_lookup = { λ u cache place. record { 0 = cache_after_lookup u cache.0 place } };
+    ghost cache_after_lookup = { λ u cache location. record { 0 = cache_after_lookup u cache.0 location } };
 
     ghost extends = { λ u old new. Extends (aarch64 P.policy) u old.0.sets new.0.sets };
 
-    ghost may_run_out = { λ u cache place. MayRunOut (aarch64 P.policy) u cache.0 place };
+    ghost may_run_out = { λ u cache location. MayRunOut (aarch64 P.policy) u cache.0 location };
 
     fn add_module(
         &mut self,

@@ -2,7 +2,7 @@
 use Rattle.std.specs.Prelude.{◌≡◌, ℕ, ◌*◌, ◌^◌, ◌<◌, ◌≤◌, ℤ, pos, Bool, true, false, not, ◌&&◌, ◌||◌, ◌==◌, if◌then◌else◌, nat_le, OnSome, IfOk, Option, Result, Ok}
 use Rattle.framehop_core.specs.Memory.{Memory}
 use Rattle.framehop_core.specs.Outcome.{Outcome, answered, root, refused, after, address_at, word_from, above, beside}
-use Rattle.framehop_core.specs.Runs.{IsWithinRise}
+use Rattle.framehop_core.specs.Runs.{IsCountWithinRise}
 use Rattle.framehop_core.specs.Aarch64.Registers.{Registers, strip_ptr_auth}
 use Rattle.framehop_core.specs.declared.error.Error.{Error}
 use Rattle.framehop_core.specs.declared.error.Error.TheVariants.{DidNotAdvance, FramepointerUnwindingMovedBackwards}
@@ -107,4 +107,4 @@ pub record IsBoundedRun (count : ℕ) (start end : Registers) : Type 0 where
   pub none : count ≡ 0 → end ≡ start
   pub step : 0 < count → Advances true start first
   pub not_below : first.sp ≤ end.sp
-  pub within : IsWithinRise count first.sp end.sp
+  pub within : IsCountWithinRise count first.sp end.sp

@@ -124,8 +124,8 @@ pub record Advances (first : Bool) (callee caller : Registers) : Type 0 where
   pub not_below : callee.rsp ≤ caller.rsp
 
 -- the instruction pointer is the word below rsp, as it is behind a step
-abbrev pub StandsBehindReturn : Memory → Registers → Type 0
-StandsBehindReturn memory r = word_from memory (pos r.rsp -ℤ pos 8) ≡ Ok r.ip
+abbrev pub StandsAfterReturn : Memory → Registers → Type 0
+StandsAfterReturn memory r = word_from memory (pos r.rsp -ℤ pos 8) ≡ Ok r.ip
 
 -- where a call has answered an address, rsp has not fallen
 abbrev pub NotBelowWhereAnswered : Result (Option ℕ) Error → Registers → Registers → Type 0

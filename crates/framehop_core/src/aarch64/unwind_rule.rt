@@ -1,6 +1,6 @@
 ghost use Rattle.std.specs.Prelude.{◌≡◌, ◌≤◌, true};
 ghost use Rattle.framehop_core.specs.Memory.{Memory, AnswersAs};
-ghost use Rattle.framehop_core.specs.Runs.{run_of, after_first, IsWithinRise};
+ghost use Rattle.framehop_core.specs.Runs.{run_of, after_first, IsCountWithinRise};
 ghost use Rattle.framehop_core.specs.Aarch64.Rules.{outcome, IsBoundedRun, finished, finished_at_frame_pointer, AdvancesWhereAnswered};
 ghost use Rattle.framehop_core.specs.Outcome.{HasDone};
 
@@ -67,7 +67,7 @@ pub enum UnwindRuleAarch64 {
 impl UnwindRule for UnwindRuleAarch64 {
     ghost use Rattle.std.specs.Prelude.{true, refl};
     ghost use Rattle.framehop_core.specs.Aarch64.Rules.{outcome, Advances};
-    ghost use Rattle.framehop_core.specs.Aarch64.RuleLaws.{raises};
+    ghost use Rattle.framehop_core.specs.Laws.Aarch64.{raises};
     ghost use Rattle.framehop_core.specs.declared.aarch64.unwind_rule.UnwindRuleAarch64.TheVariants.{NoOp, UseFramePointer};
 
     type UnwindRegs = UnwindRegsAarch64;
@@ -78,7 +78,7 @@ impl UnwindRule for UnwindRuleAarch64 {
 
     ghost stack_pointer = { λ r. r.sp };
 
-    ghost is_behind = { λ memory r. Unit {0} };
+    ghost is_after_step = { λ memory r. Unit {0} };
 
     ghost executable = { λ _. true };
 
@@ -212,7 +212,7 @@ pub fn run_rules<F: FnMut(u64) -> Result<u64, ()>>(
         → AnswersAs F.FnMut read_stack.new memory
         × (run_of outcome true rules.now regs.old memory
         ≡ record { count = result.0; end = result.1; registers = regs.new })
-        × IsWithinRise result.0 (after_first outcome rules.now regs.old memory).sp regs.new.sp }
+        × IsCountWithinRise result.0 (after_first outcome rules.now regs.old memory).sp regs.new.sp }
 {
     unwind_rule::run_rules(rules, regs, read_stack)
 }

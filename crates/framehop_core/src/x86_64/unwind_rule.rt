@@ -2,7 +2,7 @@ ghost use Rattle.std.specs.Prelude.{◌≡◌, ◌≢◌, ℕ, ◌<◌, ◌≤�
 ghost use Rattle.std.specs.Iterator.{AlwaysYields};
 ghost use Rattle.framehop_core.specs.Memory.{Memory, AnswersAs};
 ghost use Rattle.framehop_core.specs.Outcome.{KeptUnlessAnswered, HasDone, address_at, beside};
-ghost use Rattle.framehop_core.specs.Runs.{run_of, after_first, IsWithinRise};
+ghost use Rattle.framehop_core.specs.Runs.{run_of, after_first, IsCountWithinRise};
 ghost use Rattle.framehop_core.specs.X86_64.Rules.{outcome, NotBelowWhereAnswered, outcome_of_line, frame_pointer_line, restored_at, value_from, popped, return_address, finished, is_executable, offset_and_pops_of, IsRuleOfOperations};
 
 use super::register_ordering;
@@ -140,8 +140,8 @@ where
 
 impl UnwindRule for UnwindRuleX86_64 {
     ghost use Rattle.std.specs.Prelude.{refl};
-    ghost use Rattle.framehop_core.specs.X86_64.Rules.{outcome, Advances, StandsBehindReturn, is_executable};
-    ghost use Rattle.framehop_core.specs.X86_64.RuleLaws.{raises};
+    ghost use Rattle.framehop_core.specs.X86_64.Rules.{outcome, Advances, StandsAfterReturn, is_executable};
+    ghost use Rattle.framehop_core.specs.Laws.X86_64.{raises};
     ghost use Rattle.framehop_core.specs.declared.x86_64.unwind_rule.UnwindRuleX86_64.TheVariants.{JustReturn, UseFramePointer};
 
     type UnwindRegs = UnwindRegsX86_64;
@@ -152,7 +152,7 @@ impl UnwindRule for UnwindRuleX86_64 {
 
     ghost stack_pointer = { λ r. r.rsp };
 
-    ghost is_behind = { StandsBehindReturn };
+    ghost is_after_step = { StandsAfterReturn };
 
     ghost executable = { is_executable };
 
@@ -274,7 +274,7 @@ pub fn run_rules<F: FnMut(u64) -> Result<u64, ()>>(
         → AnswersAs F.FnMut read_stack.new memory
         × (run_of outcome true rules.now regs.old memory
         ≡ record { count = result.0; end = result.1; registers = regs.new })
-        × IsWithinRise result.0 (after_first outcome rules.now regs.old memory).rsp regs.new.rsp }
+        × IsCountWithinRise result.0 (after_first outcome rules.now regs.old memory).rsp regs.new.rsp }
 {
     unwind_rule::run_rules(rules, regs, read_stack)
 }

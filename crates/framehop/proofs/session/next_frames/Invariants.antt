@@ -1,6 +1,6 @@
 use Rattle.std.proofs.Common.{◌≡◌, ◌-◌, map}
 use Rattle.framehop.specs.Memory.{Memory, AnswersAs}
-use Rattle.framehop.specs.CodeAddress.{place_of}
+use Rattle.framehop.specs.CodeAddress.{location_of}
 use Rattle.framehop.specs.Iterator.{progress_of}
 use Rattle.framehop.proofs.WalkLemmas.{WalksOn}
 use Rattle.framehop.proofs.session.next_frames.Given as goal
@@ -15,7 +15,7 @@ invariant-loop-call g l =
     → g.U.Unwinder.is_sound l.fn.unwinding.unwinder.now l.fn.unwinding.cache.now
     → AnswersAs g.F.FnMut l.unwinding.read_stack.now memory
     × g.U.Unwinder.is_sound l.unwinding.unwinder.now l.unwinding.cache.now
-    × WalksOn (λ place regs. g.U.Unwinder.step l.fn.unwinding.unwinder.now place regs memory) (g.U.Unwinder.cache_after l.fn.unwinding.unwinder.now)
-    (map place_of l.frames.items) (l.limit - l._call) l.limit
+    × WalksOn (λ location regs. g.U.Unwinder.step l.fn.unwinding.unwinder.now location regs memory) (g.U.Unwinder.cache_after l.fn.unwinding.unwinder.now)
+    (map location_of l.frames.items) (l.limit - l._call) l.limit
     (progress_of l.unwinding.state) (progress_of l.fn.unwinding.state)
     l.unwinding.regs l.fn.unwinding.regs l.unwinding.cache.now l.fn.unwinding.cache.now)

@@ -1,8 +1,8 @@
 use Rattle.std.proofs.Common.{◌≡◌, ◌+◌, suc, map, length, ap, ◌∙◌, arith, rules}
 use Rattle.framehop.specs.World.{walked}
-use Rattle.framehop.specs.Room.{of_world}
+use Rattle.framehop.specs.CachedWorld.{of_world}
 use Rattle.framehop.specs.SessionView.{walk_of}
-use Rattle.framehop.specs.CodeAddress.{place_of}
+use Rattle.framehop.specs.CodeAddress.{location_of}
 use Rattle.framehop.specs.Iterator.{before, progress_of}
 use Rattle.framehop.specs.Aarch64.{aarch64_step, aarch64_cache_after}
 use Rattle.framehop.proofs.WalkLemmas.{WalksOn-next, WalksOn-ended}
@@ -26,8 +26,8 @@ loop-unwinding-preserved g c =
           let called = rw l.invariant.1 at (c.in_ok-end.ensures.answers memory so_far.0 (l.invariant.4 sound)) in (
             called.0,
             λ left. let total : length l.frames.items + suc left ≡ length n.frames.items + left = omega (arith, sooner.longer) in WalksOn-next
-                (aarch64_step g.P.AllocationPolicy.policy c.args.unwinder.now memory) (aarch64_cache_after g.P.AllocationPolicy.policy c.args.unwinder.now) (map place_of l.frames.items) (length n.frames.items + left) (progress_of l.unwinding.state) (before c.args.pc) (progress_of n.unwinding.state) l.unwinding.regs c.args.regs n.unwinding.regs l.unwinding.cache.now c.args.cache.now n.unwinding.cache.now
-                called.1.2 called.1.3 cached (suc left) left (omega arith) c.in_ok-end.field-0 called.1.0 c.in_default.is (map place_of n.frames.items) called.1.1 (rw total at (so_far.1 (suc left))),
+                (aarch64_step g.P.AllocationPolicy.policy c.args.unwinder.now memory) (aarch64_cache_after g.P.AllocationPolicy.policy c.args.unwinder.now) (map location_of l.frames.items) (length n.frames.items + left) (progress_of l.unwinding.state) (before c.args.pc) (progress_of n.unwinding.state) l.unwinding.regs c.args.regs n.unwinding.regs l.unwinding.cache.now c.args.cache.now n.unwinding.cache.now
+                called.1.2 called.1.3 cached (suc left) left (omega arith) c.in_ok-end.field-0 called.1.0 c.in_default.is (map location_of n.frames.items) called.1.1 (rw total at (so_far.1 (suc left))),
           ),
     )
 
@@ -39,8 +39,8 @@ returns-in-Some-clause-answers g c = λ memory h sound.
     let called = rw l.invariant.1 at (c.in_ok-end.ensures.answers memory so_far.0 (l.invariant.4 sound)) in
     let cached = rw l.invariant.1 at c.in_ok-end.ensures.cached in
     let walk = WalksOn-ended
-    (aarch64_step g.P.AllocationPolicy.policy c.args.unwinder.now memory) (aarch64_cache_after g.P.AllocationPolicy.policy c.args.unwinder.now) (map place_of l.frames.items) (length l.frames.items + 1) (progress_of l.unwinding.state) (before c.args.pc) (progress_of n.unwinding.state) l.unwinding.regs c.args.regs n.unwinding.regs l.unwinding.cache.now c.args.cache.now n.unwinding.cache.now
-    called.1.2 called.1.3 cached 1 0 (omega arith) c.in_ok-end.field-0 called.1.0 c.in-Some.end c.in-Some.is (map place_of n.frames.items) called.1.1 (so_far.1 1) in (
+    (aarch64_step g.P.AllocationPolicy.policy c.args.unwinder.now memory) (aarch64_cache_after g.P.AllocationPolicy.policy c.args.unwinder.now) (map location_of l.frames.items) (length l.frames.items + 1) (progress_of l.unwinding.state) (before c.args.pc) (progress_of n.unwinding.state) l.unwinding.regs c.args.regs n.unwinding.regs l.unwinding.cache.now c.args.cache.now n.unwinding.cache.now
+    called.1.2 called.1.3 cached 1 0 (omega arith) c.in_ok-end.field-0 called.1.0 c.in-Some.end c.in-Some.is (map location_of n.frames.items) called.1.1 (so_far.1 1) in (
       (let answers = called.0 in search (rules, answers)),
       record {
         limit = length l.frames.items + 1;

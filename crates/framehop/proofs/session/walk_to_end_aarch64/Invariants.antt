@@ -1,6 +1,6 @@
 use Rattle.std.proofs.Common.{◌≡◌, ℕ, ◌+◌, map, length}
 use Rattle.framehop.specs.Memory.{Memory, AnswersAs}
-use Rattle.framehop.specs.CodeAddress.{place_of}
+use Rattle.framehop.specs.CodeAddress.{location_of}
 use Rattle.framehop.specs.Iterator.{before, progress_of}
 use Rattle.framehop.specs.Aarch64.{aarch64_step, aarch64_cache_after, IsSoundAarch64}
 use Rattle.framehop.proofs.WalkLemmas.{WalksOn}
@@ -23,6 +23,6 @@ invariant-loop-unwinding g l =
     → IsSoundAarch64 g.P.AllocationPolicy.policy l.fn.unwinder l.fn.cache.0
     → AnswersAs g.F.FnMut l.unwinding.read_stack.now memory
     × ((left : ℕ) → WalksOn (aarch64_step g.P.AllocationPolicy.policy l.fn.unwinder memory) (aarch64_cache_after g.P.AllocationPolicy.policy l.fn.unwinder)
-    (map place_of l.frames.items) left (length l.frames.items + left)
+    (map location_of l.frames.items) left (length l.frames.items + left)
     (progress_of l.unwinding.state) (before l.fn.pc)
     l.unwinding.regs l.fn.regs l.unwinding.cache.now l.fn.cache))

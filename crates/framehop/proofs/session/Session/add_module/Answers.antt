@@ -1,7 +1,7 @@
 use Rattle.std.proofs.Common.{◌<◌, [], length, refl, ap, ◌∙◌, rules, slice_set}
 use Rattle.std.proofs.lemmas.List.{get_or_read}
 use Rattle.framehop.specs.Modules.{UnwinderView, with_module}
-use Rattle.framehop.proofs.RoomLemmas.{adds-allowed, Room-equal}
+use Rattle.framehop.proofs.CachedWorldLemmas.{adds-allowed, CachedWorld-equal}
 use Rattle.framehop.proofs.session.Session.add_module.Goals as goal
 
 pub returns-in-Ok-clause-served : goal.returns-in-Ok-clause-served
@@ -12,7 +12,7 @@ returns-in-Ok-clause-served g c =
     let added = c.in-Ok.ensures.added in (
       adds-allowed {R = g.row.A-UnwindRule.Denot} (record { unwinders = unwinders; next = c.args.generations.now; caches = c.args.self.now.caches.items }) c.args.unwinder within added.2,
       refl,
-      Room-equal _ _
+      CachedWorld-equal _ _
           (ap (slice_set unwinders c.args.unwinder) (added.0 ∙ ap (λ (u : UnwinderView). record { modules = with_module c.args.module u.modules; generation = c.args.generations.now }) target))
           added.1
           refl,

@@ -1,5 +1,5 @@
 use Rattle.std.proofs.Common.{subst}
-use Rattle.framehop_core.specs.Runs.{Run, after_first, IsWithinRise}
+use Rattle.framehop_core.specs.Runs.{Run, after_first, IsCountWithinRise}
 use Rattle.framehop_core.specs.Aarch64.Registers.{Registers}
 use Rattle.framehop_core.specs.Aarch64.Rules.{outcome}
 use Rattle.framehop_core.proofs.Aarch64Runs.{IsBoundedRun-steps, run_of-within}
@@ -11,5 +11,5 @@ returns-clause-bounded g c = IsBoundedRun-steps _ _ _ c.run_rules.ensures.advanc
 pub returns-clause-answers : goal.returns-clause-answers
 returns-clause-answers g c = λ memory h.
     let done = c.run_rules.ensures.answers memory h in
-    let P : Run Registers → Type 0 = λ run. IsWithinRise run.count (after_first outcome c.args.rules.now c.args.regs.now memory).sp run.registers.sp in
+    let P : Run Registers → Type 0 = λ run. IsCountWithinRise run.count (after_first outcome c.args.rules.now c.args.regs.now memory).sp run.registers.sp in
     (done.0, done.1, subst P done.1 (run_of-within c.args.rules.now c.args.regs.now memory))

@@ -9,7 +9,7 @@ use Rattle.framehop_core.specs.declared.error.Error.TheVariants.{DidNotAdvance, 
 use Rattle.framehop_core.specs.declared.aarch64.unwind_rule.UnwindRuleAarch64.{UnwindRuleAarch64}
 use Rattle.framehop_core.specs.declared.aarch64.unwind_rule.UnwindRuleAarch64.TheVariants.{NoOp, NoOpIfFirstFrameOtherwiseFp, OffsetSp, OffsetSpIfFirstFrameOtherwiseStackEndsHere, OffsetSpAndRestoreLr, OffsetSpAndRestoreFpAndLr, UseFramePointer, UseFramepointerWithOffsets}
 use Rattle.framehop_core.specs.Runs.{Raises}
-use Rattle.framehop_core.specs.OutcomeLaws.{after-answered, address_at-ok, root_unless, refused_unless, same-answered}
+use Rattle.framehop_core.specs.Laws.Outcome.{after-answered, address_at-ok, root_unless, refused_unless, same-answered}
 
 -- a demand is met by the caller's sp and fp
 abbrev pub Meets : Demand → Registers → ℕ → ℕ → Type 0

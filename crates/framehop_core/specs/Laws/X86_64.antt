@@ -4,14 +4,14 @@ use Rattle.std.proofs.lemmas.Bool.Decides.{nat_tests}
 use Rattle.framehop_core.specs.Memory.{Memory}
 use Rattle.framehop_core.specs.Outcome.{Outcome, answered, address_at, word_at, word_from, above}
 use Rattle.framehop_core.specs.X86_64.Registers.{Registers, register, with_register}
-use Rattle.framehop_core.specs.X86_64.Rules.{Source, Demand, nothing_more, stack_pointer_rises, value_from, demanded, popped, return_address, returned, finished, Line, caller, pops, stack_end, outcome_of_line, line_of, frame_pointer_line, outcome, StandsBehindReturn}
+use Rattle.framehop_core.specs.X86_64.Rules.{Source, Demand, nothing_more, stack_pointer_rises, value_from, demanded, popped, return_address, returned, finished, Line, caller, pops, stack_end, outcome_of_line, line_of, frame_pointer_line, outcome, StandsAfterReturn}
 use Rattle.framehop_core.specs.declared.error.Error.{Error}
 use Rattle.framehop_core.specs.declared.error.Error.TheVariants.{DidNotAdvance, FramepointerUnwindingMovedBackwards}
 use Rattle.framehop_core.specs.declared.x86_64.unwindregs.Reg.{Reg}
 use Rattle.framehop_core.specs.declared.x86_64.unwind_rule.UnwindRuleX86_64.{UnwindRuleX86_64}
 use Rattle.framehop_core.specs.declared.x86_64.unwind_rule.UnwindRuleX86_64.TheVariants.{EndOfStack, JustReturn, JustReturnIfFirstFrameOtherwiseFp, OffsetSp, OffsetSpAndRestoreBp, UseFramePointer, OffsetSpAndPopRegisters}
 use Rattle.framehop_core.specs.Runs.{Raises}
-use Rattle.framehop_core.specs.OutcomeLaws.{after-answered, and_then-ok, address_at-ok, refused_unless, same-answered}
+use Rattle.framehop_core.specs.Laws.Outcome.{after-answered, and_then-ok, address_at-ok, refused_unless, same-answered}
 
 -- a demand is met by the caller's rsp
 abbrev pub Meets : Demand → Registers → ℕ → Type 0
@@ -133,7 +133,7 @@ popped-above memory address (register ∷ registers) r restored e =
 -- what a step of a rule that answers has done
 pub record IsReturn (r : Registers) (memory : Memory) (address : ℕ) (new : Registers) : Type 0 where
   pub not_below : r.rsp ≤ new.rsp
-  pub behind : StandsBehindReturn memory new
+  pub behind : StandsAfterReturn memory new
   pub moved : new.rsp ≡ r.rsp → new.ip ≡ r.ip → ⊥
   pub answer : new.ip ≡ address
 
@@ -188,14 +188,14 @@ outcome-IsReturn rule first r memory address new e =
 rises : (old new : ℕ) → old ≤ new → new ≢ old → old < new
 rises old new up apart = omega arith
 
-pub IsReturn-rises : (r : Registers) (memory : Memory) (address : ℕ) (new : Registers) → IsReturn r memory address new → StandsBehindReturn memory r → r.rsp < new.rsp
+pub IsReturn-rises : (r : Registers) (memory : Memory) (address : ℕ) (new : Registers) → IsReturn r memory address new → StandsAfterReturn memory r → r.rsp < new.rsp
 IsReturn-rises r memory address new step behind =
     rises r.rsp new.rsp step.not_below (λ same.
     let word : word_from memory (pos r.rsp -ℤ pos 8) ≡ Ok new.ip = rw same at step.behind in
     let ip : new.ip ≡ r.ip = ok-same new.ip r.ip (sym word ∙ behind) in
     step.moved same ip)
 
-pub raises : Raises outcome (λ r. r.rsp) StandsBehindReturn
+pub raises : Raises outcome (λ r. r.rsp) StandsAfterReturn
 raises = record {
   leads = λ rule first old new memory address e. (outcome-IsReturn rule first old memory address new e).behind;
   rises = λ rule old new memory address behind e. IsReturn-rises old memory address new (outcome-IsReturn rule false old memory address new e) behind;
