@@ -1,4 +1,4 @@
-// Worked examples of the library, with the values that are to come out. This crate has tests alone.
+//! Worked examples of the library, with the values that are to come out. This crate has only tests.
 #![tactic(auto)]
 
 #[cfg(test)]
@@ -14,4 +14,10 @@ mod replies;
 #[cfg(test)]
 mod sections;
 #[cfg(test)]
+mod sizes;
+#[cfg(test)]
+mod texts;
+#[cfg(test)]
 mod walk;
+#[cfg(test)]
+mod x86_64;

@@ -3,9 +3,9 @@ ghost use Rattle.framehop_walk.specs.Text.{aarch64_text, register_text, named_re
 
 use crate::fields::{hexadecimal, optional_hexadecimal};
 use crate::refusal::Refusal;
+use framehop::Unwinding;
 use framehop::aarch64::{ArchAarch64, PtrAuthMask, UnwindRegsAarch64};
 use framehop::x86_64::{ArchX86_64, Reg, UnwindRegsX86_64};
-use framehop::Unwinding;
 use serde_json::Value;
 use std::alloc::AllocError;
 

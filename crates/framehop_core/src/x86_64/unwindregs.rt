@@ -201,12 +201,36 @@ mod tests {
             (regs.get(Reg::RSP), regs.get(Reg::RBP), regs.get(Reg::R14)),
             (0x40, 0x50, 0)
         );
+        assert!(rt; regs != UnwindRegsX86_64::new(0x100300, 0x40, 0x50));
+        Ok(())
+    }
+
+    #[test]
+    fn prints_each_register_in_hexadecimal(rt: HostRuntime) -> Result<(), Fail> {
+        let mut regs = UnwindRegsX86_64::new(0xa0, 0xa8, 0xa7);
+        for (register, value) in [
+            (Reg::RAX, 0xa1),
+            (Reg::RDX, 0xa2),
+            (Reg::RCX, 0xa3),
+            (Reg::RBX, 0xa4),
+            (Reg::RSI, 0xa5),
+            (Reg::RDI, 0xa6),
+            (Reg::R8, 0xb8),
+            (Reg::R9, 0xb9),
+            (Reg::R10, 0xba),
+            (Reg::R11, 0xbb),
+            (Reg::R12, 0xbc),
+            (Reg::R13, 0xbd),
+            (Reg::R14, 0xbe),
+            (Reg::R15, 0xbf),
+        ] {
+            regs.set(register, value);
+        }
         let printed = format!(in rt.alloc(); "{regs:?}")?;
         assert_eq!(rt;
             printed.as_str(),
-            "UnwindRegsX86_64 { ip: 100300, rax: a, rdx: d, rcx: 0, rbx: 0, rsi: 0, rdi: 0, rbp: 50, rsp: 40, r8: 0, r9: 0, r10: 0, r11: 0, r12: 0, r13: 0, r14: 0, r15: f }"
+            "UnwindRegsX86_64 { ip: a0, rax: a1, rdx: a2, rcx: a3, rbx: a4, rsi: a5, rdi: a6, rbp: a7, rsp: a8, r8: b8, r9: b9, r10: ba, r11: bb, r12: bc, r13: bd, r14: be, r15: bf }"
         );
-        assert!(rt; regs != UnwindRegsX86_64::new(0x100300, 0x40, 0x50));
         Ok(())
     }
 }

@@ -7,6 +7,7 @@ use super::{UnwindRuleAarch64, run_rules};
 use crate::aarch64::unwindregs::{PtrAuthMask, UnwindRegsAarch64};
 use crate::error::Error;
 use crate::unwind_rule::{RunEnd, UnwindRule};
+use std::alloc::Global;
 use std::test::Fail;
 
 const STACK: [u64; 16] = [
@@ -202,4 +203,103 @@ fn has_rules_without_unwind_data(rt: HostRuntime) {
     let use_fp = UnwindRuleAarch64::UseFramePointer;
     assert_eq!(rt; UnwindRuleAarch64::fallback_rule(), use_fp);
     assert!(rt; no_op.executable() && use_fp.executable());
+}
+
+/// Runs a rule over a callback whose replies tell the calls apart: the call of number `n`, from 1
+/// on, at an address gives `n << 32` more than the address. Returns the addresses that it was
+/// asked for, in order.
+fn addresses_read(
+    alloc: Global,
+    rule: UnwindRuleAarch64,
+    is_first_frame: bool,
+    regs: &mut UnwindRegsAarch64,
+) -> Result<Vec<u64>, Fail> {
+    let mut asked = Vec::new(alloc);
+    let mut calls = 0u64;
+    let mut read_stack = |address: u64| -> Result<u64, ()> {
+        calls = calls.wrapping_add(1);
+        if asked.push(address).is_err() {
+            return Err(());
+        }
+        Ok(address.wrapping_add(calls.wrapping_mul(0x1_0000_0000)))
+    };
+    rule.exec(is_first_frame, regs, &mut read_stack)?;
+    Ok(asked)
+}
+
+/// Each word of a rule is read once, in the order of the table, and its reply is what is used.
+#[test]
+fn reads_each_word_once(rt: HostRuntime) -> Result<(), Fail> {
+    let restore_lr = UnwindRuleAarch64::OffsetSpAndRestoreLr {
+        sp_offset_by_16: 2,
+        lr_storage_offset_from_sp_by_8: 3,
+    };
+    let restore_both = UnwindRuleAarch64::OffsetSpAndRestoreFpAndLr {
+        sp_offset_by_16: 4,
+        fp_storage_offset_from_sp_by_8: 1,
+        lr_storage_offset_from_sp_by_8: 2,
+    };
+    let from_fp = UnwindRuleAarch64::UseFramepointerWithOffsets {
+        sp_offset_from_fp_by_8: 4,
+        fp_storage_offset_from_fp_by_8: 1,
+        lr_storage_offset_from_fp_by_8: 3,
+    };
+    let or_fp = UnwindRuleAarch64::NoOpIfFirstFrameOtherwiseFp;
+    let stack_end = UnwindRuleAarch64::OffsetSpIfFirstFrameOtherwiseStackEndsHere {
+        sp_offset_by_16: 1,
+    };
+    for (rule, is_first_frame, want, lr, fp) in [
+        (UnwindRuleAarch64::NoOp, true, [].as_slice(), 0x5000, 0x2000),
+        (or_fp, true, [].as_slice(), 0x5000, 0x2000),
+        (
+            or_fp,
+            false,
+            [0x2008, 0x2000].as_slice(),
+            0x1_0000_2008,
+            0x2_0000_2000,
+        ),
+        (
+            UnwindRuleAarch64::OffsetSp { sp_offset_by_16: 1 },
+            true,
+            [].as_slice(),
+            0x5000,
+            0x2000,
+        ),
+        (stack_end, true, [].as_slice(), 0x5000, 0x2000),
+        (stack_end, false, [].as_slice(), 0x5000, 0x2000),
+        (
+            restore_lr,
+            false,
+            [0x1018].as_slice(),
+            0x1_0000_1018,
+            0x2000,
+        ),
+        (
+            restore_both,
+            false,
+            [0x1010, 0x1008].as_slice(),
+            0x1_0000_1010,
+            0x2_0000_1008,
+        ),
+        (
+            UnwindRuleAarch64::UseFramePointer,
+            false,
+            [0x2008, 0x2000].as_slice(),
+            0x1_0000_2008,
+            0x2_0000_2000,
+        ),
+        (
+            from_fp,
+            false,
+            [0x2018, 0x2008].as_slice(),
+            0x1_0000_2018,
+            0x2_0000_2008,
+        ),
+    ] {
+        let mut regs = UnwindRegsAarch64::new(0x5000, 0x1000, 0x2000);
+        let asked = addresses_read(rt.alloc(), rule, is_first_frame, &mut regs)?;
+        assert_eq!(rt; asked.as_slice(), want, "{rule:?}");
+        assert_eq!(rt; (regs.lr(), regs.fp()), (lr, fp), "{rule:?}");
+    }
+    Ok(())
 }

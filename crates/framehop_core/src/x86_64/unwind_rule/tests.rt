@@ -2,6 +2,7 @@ use super::{OffsetOrPop, UnwindRuleX86_64, run_rules};
 use crate::error::Error;
 use crate::unwind_rule::{RunEnd, UnwindRule};
 use crate::x86_64::unwindregs::{Reg, UnwindRegsX86_64};
+use std::alloc::Global;
 use std::test::Fail;
 
 const STACK: [u64; 16] = [
@@ -226,4 +227,102 @@ fn has_rules_without_unwind_data(rt: HostRuntime) {
         };
         assert_eq!(rt; rule.executable(), want);
     }
+}
+
+/// Runs a rule over a callback whose replies tell the calls apart: the call of number `n`, from 1
+/// on, at an address gives `n << 32` more than the address. Returns the addresses that it was
+/// asked for, in order.
+fn addresses_read(
+    alloc: Global,
+    rule: UnwindRuleX86_64,
+    is_first_frame: bool,
+    regs: &mut UnwindRegsX86_64,
+) -> Result<Vec<u64>, Fail> {
+    let mut asked = Vec::new(alloc);
+    let mut calls = 0u64;
+    let mut read_stack = |address: u64| -> Result<u64, ()> {
+        calls = calls.wrapping_add(1);
+        if asked.push(address).is_err() {
+            return Err(());
+        }
+        Ok(address.wrapping_add(calls.wrapping_mul(0x1_0000_0000)))
+    };
+    if rule.executable() {
+        rule.exec(is_first_frame, regs, &mut read_stack)?;
+    }
+    Ok(asked)
+}
+
+/// Each word of a rule is read once, in the order of the table, and its reply is what is used.
+#[test]
+fn reads_each_word_once(rt: HostRuntime) -> Result<(), Fail> {
+    let or_fp = UnwindRuleX86_64::JustReturnIfFirstFrameOtherwiseFp;
+    let restore_bp = UnwindRuleX86_64::OffsetSpAndRestoreBp {
+        sp_offset_by_8: 3,
+        bp_storage_offset_from_sp_by_8: 1,
+    };
+    // rbx, then rbp
+    let pops = UnwindRuleX86_64::OffsetSpAndPopRegisters {
+        sp_offset_by_8: 2,
+        register_count: 2,
+        encoded_registers_to_pop: 0,
+    };
+    for (rule, is_first_frame, want, ip, bp) in [
+        (
+            UnwindRuleX86_64::EndOfStack,
+            true,
+            [].as_slice(),
+            0x5000,
+            0x2000,
+        ),
+        (
+            UnwindRuleX86_64::JustReturn,
+            false,
+            [0x1000].as_slice(),
+            0x1_0000_1000,
+            0x2000,
+        ),
+        (or_fp, true, [0x1000].as_slice(), 0x1_0000_1000, 0x2000),
+        (
+            or_fp,
+            false,
+            [0x2000, 0x2008].as_slice(),
+            0x2_0000_2008,
+            0x1_0000_2000,
+        ),
+        (
+            UnwindRuleX86_64::OffsetSp { sp_offset_by_8: 3 },
+            false,
+            [0x1010].as_slice(),
+            0x1_0000_1010,
+            0x2000,
+        ),
+        (
+            restore_bp,
+            false,
+            [0x1008, 0x1010].as_slice(),
+            0x2_0000_1010,
+            0x1_0000_1008,
+        ),
+        (
+            UnwindRuleX86_64::UseFramePointer,
+            true,
+            [0x2000, 0x2008].as_slice(),
+            0x2_0000_2008,
+            0x1_0000_2000,
+        ),
+        (
+            pops,
+            false,
+            [0x1010, 0x1018, 0x1020].as_slice(),
+            0x3_0000_1020,
+            0x2_0000_1018,
+        ),
+    ] {
+        let mut regs = UnwindRegsX86_64::new(0x5000, 0x1000, 0x2000);
+        let asked = addresses_read(rt.alloc(), rule, is_first_frame, &mut regs)?;
+        assert_eq!(rt; asked.as_slice(), want, "{rule:?}");
+        assert_eq!(rt; (regs.ip(), regs.bp()), (ip, bp), "{rule:?}");
+    }
+    Ok(())
 }

@@ -1,0 +1,111 @@
+//! The library on x86_64: caches, unwinders, steps and walks, under both allocation policies.
+use crate::readme::module;
+use framehop::x86_64::{CacheX86_64, UnwindRegsX86_64, UnwinderX86_64};
+use framehop::{
+    AllocationPolicy, FrameAddress, Generations, MayAllocateDuringUnwind,
+    MustNotAllocateDuringUnwind, Unwinder,
+};
+use std::alloc::Global;
+use std::process::Abort;
+use std::test::Fail;
+
+const STACK: [u64; 16] = [
+    1, 2, 0x100300, 4, 0x40, 0x100200, 5, 6, 0x70, 0x100100, 7, 8, 9, 10, 0, 0,
+];
+
+fn read_stack(address: u64) -> Result<u64, ()> {
+    STACK.get((address / 8) as usize).copied().ok_or(())
+}
+
+/// The frames of the stack, as an unwinder finds them, and the registers at its root.
+fn frames<P: AllocationPolicy>(
+    unwinder: &UnwinderX86_64<Vec<u8>, P>,
+    cache: &mut CacheX86_64<P>,
+) -> Result<([Option<FrameAddress>; 4], UnwindRegsX86_64), Fail> {
+    let mut read = |address| read_stack(address);
+    let regs = UnwindRegsX86_64::new(0x100400, 0x10, 0x20);
+    let mut frames = unwinder.iter_frames(0x100400, regs, cache, &mut read);
+    let found = [
+        frames.next()?,
+        frames.next()?,
+        frames.next()?,
+        frames.next()?,
+    ];
+    Ok((found, *frames.regs()))
+}
+
+/// A walk before and after modules are added, cloned and removed.
+fn walks<P: AllocationPolicy, R: Abort>(rt: &R, alloc: Global) -> Result<(), Fail> {
+    let mut generations = Generations::new();
+    let mut cache = CacheX86_64::<P>::new_in(alloc)?;
+    let mut unwinder: UnwinderX86_64<Vec<u8>, P> = UnwinderX86_64::new(alloc, &mut generations)?;
+    let want = [
+        Some(FrameAddress::from_instruction_pointer(0x100400)),
+        FrameAddress::from_return_address(0x100200),
+        FrameAddress::from_return_address(0x100100),
+        None,
+    ];
+    let at_root = UnwindRegsX86_64::new(0x100100, 0x50, 0x70);
+    assert_eq!(rt; frames(&unwinder, &mut cache)?, (want, at_root));
+    assert!(rt;
+        unwinder
+            .add_module(module(alloc, "m", 0x100000, 0x110000)?, &mut generations)
+            .is_ok()
+    );
+    let copy = unwinder.clone()?;
+    assert_eq!(rt; frames(&unwinder, &mut cache)?, (want, at_root));
+    assert_eq!(rt; frames(&copy, &mut cache)?, (want, at_root));
+    // the clone has its original's generation, so it finds the rules
+    assert_eq!(rt; (cache.stats().hits(), cache.stats().misses()), (3, 6));
+    unwinder.remove_module(0x100000, &mut generations)?;
+    assert_eq!(rt; unwinder.max_known_code_address(), 0);
+    assert_eq!(rt; copy.max_known_code_address(), 0x110000);
+    assert_eq!(rt; frames(&unwinder, &mut cache)?, (want, at_root));
+    assert_eq!(rt; cache.stats().miss_wrong_modules_count, 6);
+    assert_eq!(rt; generations.next(), Some(3));
+    Ok(())
+}
+
+#[test]
+fn walks_where_memory_may_be_taken(rt: HostRuntime) -> Result<(), Fail> {
+    let alloc = rt.alloc();
+    walks::<MayAllocateDuringUnwind, HostRuntime>(&rt, alloc)
+}
+
+#[test]
+fn walks_where_no_memory_may_be_taken(rt: HostRuntime) -> Result<(), Fail> {
+    let alloc = rt.alloc();
+    walks::<MustNotAllocateDuringUnwind, HostRuntime>(&rt, alloc)
+}
+
+/// Addresses that are 509 apart share a slot.
+#[test]
+fn has_509_slots(rt: HostRuntime) -> Result<(), Fail> {
+    let alloc = rt.alloc();
+    let mut generations = Generations::new();
+    let mut cache = CacheX86_64::<MayAllocateDuringUnwind>::new(alloc)?;
+    let unwinder: UnwinderX86_64<Vec<u8>> = UnwinderX86_64::new(alloc, &mut generations)?;
+    let mut read = |address| read_stack(address);
+    for (address, counts) in [
+        (0x1000, (0, 1, 0, 0)),
+        (0x11fd, (0, 1, 0, 1)),
+        (0x1000, (0, 1, 0, 2)),
+        (0x1000, (1, 1, 0, 2)),
+    ] {
+        let mut regs = UnwindRegsX86_64::new(address, 0x10, 0);
+        let frame = FrameAddress::from_instruction_pointer(address);
+        let caller = unwinder.unwind_frame(frame, &mut regs, &mut cache, &mut read)?;
+        assert_eq!(rt; caller, None);
+        let stats = cache.stats();
+        assert_eq!(rt;
+            (
+                stats.hit_count,
+                stats.miss_empty_slot_count,
+                stats.miss_wrong_modules_count,
+                stats.miss_wrong_address_count,
+            ),
+            counts
+        );
+    }
+    Ok(())
+}
