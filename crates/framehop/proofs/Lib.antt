@@ -7,4 +7,4 @@ mod CachedWorldLemmas
 mod WorldLemmas
 mod RunLemmas
 mod RiseLemmas
-mod EndingLemmas
+pub mod EndingLemmas

@@ -1,3 +1,4 @@
+//! Sessions: lists of commands, over one and several caches.
 use crate::sections::NoSections;
 use framehop::aarch64::{ArchAarch64, UnwindRegsAarch64};
 use framehop::session::{Command, Memory, Reply, SessionError, run};

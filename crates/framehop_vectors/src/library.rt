@@ -1,3 +1,4 @@
+//! The library on aarch64: an iterator, steps, and the list of modules.
 use crate::readme::{module, read_stack};
 use framehop::aarch64::{CacheAarch64, UnwindRegsAarch64, UnwinderAarch64};
 use framehop::unwinder::{ModuleListError, Unwinder};
@@ -108,5 +109,49 @@ fn gives_a_module_back_at_the_end_of_the_counter(rt: HostRuntime) -> Result<(), 
         unwinder.unwind_frame(place, &mut regs, &mut cache, &mut read)?,
         Some(0x1004fcdc4)
     );
+    Ok(())
+}
+
+/// Steps and the calls of an iterator ask for no memory: this test and the next ask for it as often,
+/// which `scripts/count-requests.sh` shows by refusing one request after another.
+#[test]
+fn requests_of_the_makers(rt: HostRuntime) -> Result<(), Fail> {
+    let alloc = rt.alloc();
+    let mut generations = Generations::new();
+    let _cache = CacheAarch64::<MayAllocateDuringUnwind>::new(alloc)?;
+    let mut unwinder: UnwinderAarch64<Vec<u8>> = UnwinderAarch64::new(alloc, &mut generations)?;
+    let binary = module(alloc, "mybinary", 0x1003fc000, 0x100634000)?;
+    assert!(rt; unwinder.add_module(binary, &mut generations).is_ok());
+    let _last: Vec<u8> = Vec::with_capacity(alloc, 1)?;
+    Ok(())
+}
+
+#[test]
+fn requests_of_the_makers_and_steps(rt: HostRuntime) -> Result<(), Fail> {
+    let alloc = rt.alloc();
+    let mut generations = Generations::new();
+    let mut cache = CacheAarch64::<MayAllocateDuringUnwind>::new(alloc)?;
+    let mut unwinder: UnwinderAarch64<Vec<u8>> = UnwinderAarch64::new(alloc, &mut generations)?;
+    let binary = module(alloc, "mybinary", 0x1003fc000, 0x100634000)?;
+    assert!(rt; unwinder.add_module(binary, &mut generations).is_ok());
+    let mut read = |address| read_stack(address);
+    let place = FrameAddress::from_instruction_pointer(0x1005252c0);
+    for _step in 0..2u32 {
+        let mut regs = UnwindRegsAarch64::new(0x1004e0830, 0x10, 0x20);
+        let caller = unwinder.unwind_frame(place, &mut regs, &mut cache, &mut read)?;
+        assert_eq!(rt; caller, Some(0x1004fcdc4));
+    }
+    let regs = UnwindRegsAarch64::new(0x1004e0830, 0x10, 0x20);
+    let mut frames = unwinder.iter_frames(0x1005252c0, regs, &mut cache, &mut read);
+    assert_eq!(rt;
+        frames.next()?,
+        Some(FrameAddress::from_instruction_pointer(0x1005252c0))
+    );
+    for caller in [0x1004fcdc4, 0x100528a28] {
+        assert_eq!(rt; frames.next()?, FrameAddress::from_return_address(caller));
+    }
+    assert_eq!(rt; frames.next()?, None);
+    drop(frames);
+    let _last: Vec<u8> = Vec::with_capacity(alloc, 1)?;
     Ok(())
 }

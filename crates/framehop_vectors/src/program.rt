@@ -1,3 +1,4 @@
+//! The program: its input, its refusals and its output.
 use framehop_walk::{Output, Refusal, refuse, section_bytes, walk_program};
 use hex::FromHexError;
 use std::alloc::Global;

@@ -1,5 +1,7 @@
+//! The stack and the module of the README.
 use crate::sections::NoSections;
-use framehop::unwinder::Module;
+use framehop::aarch64::{CacheAarch64, UnwindRegsAarch64, UnwinderAarch64};
+use framehop::{Generations, Module, ModuleSectionInfo, Unwinder};
 use std::alloc::Global;
 use std::test::Fail;
 
@@ -40,4 +42,46 @@ pub(crate) fn module(
         base_svma: 0x100000000,
     };
     Ok(Module::new(alloc, name, start..end, start, sections)?)
+}
+
+/// The example of the README, as it stands there.
+fn print_stack<I: ModuleSectionInfo<Vec<u8>> + Drop>(
+    alloc: Global,
+    out: &mut String,
+    sections: I,
+    stack: &[u64],
+) -> Result<(), Fail> {
+    // One counter for all unwinders that share a cache.
+    let mut generations = Generations::new();
+    let mut cache = CacheAarch64::new(alloc)?;
+    let mut unwinder: UnwinderAarch64<Vec<u8>> = UnwinderAarch64::new(alloc, &mut generations)?;
+
+    // A name, the addresses of the code, the base address, and what lends the module's sections.
+    let name = String::from_str(alloc, "mybinary")?;
+    let module = Module::new(alloc, name, 0x1003fc000..0x100634000, 0x1003fc000, sections)?;
+    if let Err(refused) = unwinder.add_module(module, &mut generations) {
+        // The module comes back in `refused.module`.
+        return Err(refused.cause)?;
+    }
+
+    let mut read_stack = |address: u64| stack.get((address / 8) as usize).copied().ok_or(());
+    let regs = UnwindRegsAarch64::new(0x1004e0830, 0x10, 0x20);
+    let mut frames = unwinder.iter_frames(0x1005252c0, regs, &mut cache, &mut read_stack);
+    // An `Err` is the usual end of a stack that is cut off: the frames before it are good.
+    while let Ok(Some(frame)) = frames.next() {
+        write!(out, "{:x} ", frame.address())?;
+    }
+    Ok(())
+}
+
+#[test]
+fn prints_the_stack(rt: HostRuntime) -> Result<(), Fail> {
+    let alloc = rt.alloc();
+    let sections = NoSections {
+        base_svma: 0x100000000,
+    };
+    let mut out = String::new(alloc);
+    print_stack(alloc, &mut out, sections, &STACK)?;
+    assert_eq!(rt; out.as_str(), "1005252c0 1004fcdc4 100528a28 ");
+    Ok(())
 }

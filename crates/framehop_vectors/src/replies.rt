@@ -1,3 +1,4 @@
+//! The lines that the program prints for each command.
 use framehop_walk::{Output, walk_program};
 use std::alloc::Global;
 use std::test::Fail;

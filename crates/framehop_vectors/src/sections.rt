@@ -1,3 +1,4 @@
+//! Section tables for the tests.
 ghost use Rattle.std.specs.Prelude.{[]};
 
 use framehop_cfi::section::ModuleSectionInfo;

@@ -75,13 +75,13 @@ fn carries_out_two_thousand_commands(rt: HostRuntime) -> Result<(), Fail> {
     Ok(())
 }
 
-/// The words of a stack of so many frame records, each at 16 bytes above the one before, of which
-/// the last one has no caller's.
-fn records(alloc: Global, count: u64) -> Result<Vec<u64>, Fail> {
+/// The words of a stack of so many frame records, each 16 bytes above the one before. The last one
+/// has no caller's.
+fn records(alloc: Global, count: u32) -> Result<Vec<u64>, Fail> {
     let mut words = Vec::new(alloc);
     for number in 1..count {
-        words.push(0x10000 + number.saturating_mul(16))?;
-        words.push(0x100000 + number.saturating_mul(4))?;
+        words.push(0x10000 + u64::from(number) * 16)?;
+        words.push(0x100000 + u64::from(number) * 4)?;
     }
     words.push(0)?;
     words.push(0)?;

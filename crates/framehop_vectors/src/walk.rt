@@ -1,3 +1,4 @@
+//! Walks, with a limit and to their end.
 use crate::readme::{STACK, module, read_stack};
 use framehop::aarch64::{ArchAarch64, CacheAarch64, UnwindRegsAarch64, UnwinderAarch64};
 use framehop::session::{Command, Memory, Reply, WalkEnd, run, walk_to_end_aarch64};

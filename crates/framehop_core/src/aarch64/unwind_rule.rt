@@ -1,8 +1,8 @@
-ghost use Rattle.std.specs.Prelude.{◌≡◌, ◌≤◌, true};
+ghost use Rattle.std.specs.Prelude.{◌≡◌, ◌≢◌, ◌≤◌, true, false};
 ghost use Rattle.framehop_core.specs.Memory.{Memory, AnswersAs};
 ghost use Rattle.framehop_core.specs.Runs.{run_of, after_first, IsCountWithinRise};
 ghost use Rattle.framehop_core.specs.Aarch64.Rules.{outcome, IsBoundedRun, finished, finished_at_frame_pointer, AdvancesWhereAnswered};
-ghost use Rattle.framehop_core.specs.Outcome.{HasDone};
+ghost use Rattle.framehop_core.specs.Outcome.{KeptUnlessAnswered, HasDone};
 
 use super::unwindregs::UnwindRegsAarch64;
 use crate::error::Error;
@@ -119,13 +119,7 @@ impl UnwindRule for UnwindRuleAarch64 {
                 if is_first_frame {
                     return finish(is_first_frame, regs, sp, lr, fp);
                 }
-                let new_sp = offset_address(fp, 16)?;
-                let new_lr = read_stack_word(read_stack, fp + 8)?;
-                let new_fp = read_stack_word(read_stack, fp)?;
-                if new_sp <= sp {
-                    return Err(Error::FramepointerUnwindingMovedBackwards);
-                }
-                finish(is_first_frame, regs, new_sp, new_lr, new_fp)
+                exec_frame_record(regs, read_stack)
             }
             UnwindRuleAarch64::OffsetSp { sp_offset_by_16 } => {
                 if !is_first_frame {
@@ -160,10 +154,7 @@ impl UnwindRule for UnwindRuleAarch64 {
                 finish(is_first_frame, regs, new_sp, new_lr, new_fp)
             }
             UnwindRuleAarch64::UseFramePointer => {
-                let new_sp = offset_address(fp, 16)?;
-                let new_lr = read_stack_word(read_stack, fp + 8)?;
-                let new_fp = read_stack_word(read_stack, fp)?;
-                finish_at_frame_pointer(is_first_frame, regs, new_sp, new_lr, new_fp)
+                exec_frame_pointer(is_first_frame, regs, read_stack)
             }
             UnwindRuleAarch64::UseFramepointerWithOffsets {
                 sp_offset_from_fp_by_8,
@@ -215,6 +206,55 @@ pub fn run_rules<F: FnMut(u64) -> Result<u64, ()>>(
         × IsCountWithinRise result.0 (after_first outcome rules.now regs.old memory).sp regs.new.sp }
 {
     unwind_rule::run_rules(rules, regs, read_stack)
+}
+
+/// The step by the frame pointer, `(sp, fp, lr) = (fp + 16, *fp, *(fp + 8))`, where both the frame
+/// pointer and the stack pointer must rise.
+fn exec_frame_pointer<F: FnMut(u64) -> Result<u64, ()>>(
+    is_first_frame: bool,
+    regs: &mut UnwindRegsAarch64,
+    read_stack: &mut F,
+) -> Result<Option<u64>, Error>
+    requires { F.IsAlwaysCallable read_stack.old }
+    ensures callable { F.IsAlwaysCallable read_stack.new }
+    ensures never_out_of_memory { result ≢ Err Error.OutOfMemory }
+    ensures kept { KeptUnlessAnswered result regs.old regs.new }
+    ensures advances { AdvancesWhereAnswered is_first_frame result regs.old regs.new }
+    ensures answers { (memory : Memory) → AnswersAs F.FnMut read_stack.old memory
+        → AnswersAs F.FnMut read_stack.new memory
+        × HasDone (outcome UnwindRuleAarch64.UseFramePointer is_first_frame regs.old memory)
+        result regs.old regs.new }
+{
+    let fp = regs.fp();
+    let new_sp = offset_address(fp, 16)?;
+    let new_lr = read_stack_word(read_stack, fp + 8)?;
+    let new_fp = read_stack_word(read_stack, fp)?;
+    finish_at_frame_pointer(is_first_frame, regs, new_sp, new_lr, new_fp)
+}
+
+/// The same step from a frame that is not the first, where only the stack pointer must rise.
+fn exec_frame_record<F: FnMut(u64) -> Result<u64, ()>>(
+    regs: &mut UnwindRegsAarch64,
+    read_stack: &mut F,
+) -> Result<Option<u64>, Error>
+    requires { F.IsAlwaysCallable read_stack.old }
+    ensures callable { F.IsAlwaysCallable read_stack.new }
+    ensures never_out_of_memory { result ≢ Err Error.OutOfMemory }
+    ensures kept { KeptUnlessAnswered result regs.old regs.new }
+    ensures advances { AdvancesWhereAnswered false result regs.old regs.new }
+    ensures answers { (memory : Memory) → AnswersAs F.FnMut read_stack.old memory
+        → AnswersAs F.FnMut read_stack.new memory
+        × HasDone (outcome UnwindRuleAarch64.NoOpIfFirstFrameOtherwiseFp false regs.old memory)
+        result regs.old regs.new }
+{
+    let fp = regs.fp();
+    let new_sp = offset_address(fp, 16)?;
+    let new_lr = read_stack_word(read_stack, fp + 8)?;
+    let new_fp = read_stack_word(read_stack, fp)?;
+    if new_sp <= regs.sp() {
+        return Err(Error::FramepointerUnwindingMovedBackwards);
+    }
+    finish(false, regs, new_sp, new_lr, new_fp)
 }
 
 /// The last step of a rule that goes by a frame pointer: the caller's frame pointer is 0 at the
