@@ -54,7 +54,7 @@ abbrev pub hit_or : {R : Type 0} → Option (Entry R) → Found R → Found R
 hit_or (Some entry) other = hit entry.rule
 hit_or None other = other
 
--- A lookup in a set of so many ways: a hit where the key stands; else an empty slot where the set has state; else wrong
+-- A lookup in a set of so many ways: a hit where the key is stored; else an empty slot where the set has room; else wrong
 -- modules where no entry has the generation; else a wrong address.
 abbrev pub found_in : {R : Type 0} → ℕ → List (Entry R) → Key → Found R
 found_in ways set key =
@@ -67,7 +67,7 @@ found_in ways set key =
 abbrev pub found : {R : Type 0} → ℕ → Sets R → Key → Found R
 found ways sets key = found_in ways (set_of sets key.address) key
 
--- an insert into a set: an entry of the same key is dropped, the new one stands first, and so many ways are kept
+-- an insert into a set: an entry of the same key is dropped, the new one comes first, and so many ways are kept
 abbrev pub inserted_in : {R : Type 0} → ℕ → Entry R → List (Entry R) → List (Entry R)
 inserted_in ways entry set = take ways (entry ∷ filter (λ other. not (same_key other.key entry.key)) set)
 

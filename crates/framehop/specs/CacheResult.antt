@@ -1,4 +1,4 @@
--- What a lookup answers.
+-- What a lookup returns.
 use Rattle.std.specs.Prelude.{◌≡◌, Bool, true, ⊤}
 use Rattle.framehop.specs.Cache.{Key, Found, hit, empty_slot, wrong_modules, wrong_address}
 use Rattle.framehop.specs.declared.rule_cache.CacheResult.{CacheResult}

@@ -35,7 +35,7 @@ pub record Next (Regs : Type 0) : Type 0 where
   pub progress : Progress
   pub regs : Regs
 
--- the call at a frame, by the outcome of its step over the registers that it found: after a refusal it stands at the same
+-- the call at a frame, by the outcome of its step over the registers that it found: after a refusal it is at the same
 -- frame, and the return address 0 is refused with the caller's registers
 abbrev pub next_after : {Regs : Type 0} → FrameLocation → Regs → Outcome Regs → Next Regs
 next_after location old (answered address new) =
@@ -88,7 +88,7 @@ end_in (Ok (Some location)) = None
 end_in (Ok None) = Some at_root
 end_in (Err error) = Some (at_refusal error)
 
--- the end of at most so many calls behind the end of a walk
+-- the end of at most so many calls after the end of a walk
 abbrev pub end_after : ℕ → End
 end_after zero = at_limit
 end_after (suc n) = at_root

@@ -33,7 +33,7 @@ starting_by address modules = filter (starts_by address) modules
 abbrev pub starting_above : ℕ → List ModuleView → List ModuleView
 starting_above address modules = filter (λ m. not (starts_by address m)) modules
 
--- the list with one more module, behind those of equal start
+-- the list with one more module, after those of equal start
 abbrev pub with_module : ModuleView → List ModuleView → List ModuleView
 with_module m modules = starting_by m.start modules ++ m ∷ starting_above m.start modules
 
@@ -48,7 +48,7 @@ without_module start (m ∷ modules) =
     if has_start start modules then m ∷ without_module start modules
     else (if m.start == start then modules else m ∷ modules)
 
--- the modules stand in order of start
+-- the modules are in order of start
 abbrev pub AreInOrder : List ModuleView → Type 0
 AreInOrder modules = IsNonDecreasingBy (λ m. m.start) modules
 

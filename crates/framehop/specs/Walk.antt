@@ -30,7 +30,7 @@ onward next old (answered address new) =
 onward next old root = record { frames = []; end = at_root; regs = old }
 onward next old (refused error) = record { frames = []; end = at_refusal error; regs = old }
 
--- the frames behind that at a location, by at most so many steps
+-- the frames after that at a location, by at most so many steps
 unfoldable pub callers : {Regs : Type 0} → (FrameLocation → Regs → Outcome Regs) → ℕ → FrameLocation → Regs → Walk Regs
 callers step zero location regs = record { frames = []; end = at_limit; regs = regs }
 callers step (suc n) location regs = onward (callers step n) regs (step location regs)

@@ -1,9 +1,10 @@
-// Types for unwinding on the aarch64 CPU architecture.
+//! Types for unwinding on the aarch64 CPU architecture.
 pub mod cache;
 pub mod unwinder;
 
 pub use cache::CacheAarch64;
 pub use framehop_core::aarch64::{
-    ArchAarch64, PtrAuthMask, UnwindRegsAarch64, UnwindRuleAarch64, run_rules,
+    ArchAarch64, PtrAuthMask, UnwindRegsAarch64, UnwindRuleAarch64, arch, run_rules, unwind_rule,
+    unwindregs,
 };
 pub use unwinder::UnwinderAarch64;

@@ -1,3 +1,4 @@
+//! The unwinder cache, and the policies that say whether unwinding may take memory.
 ghost use Rattle.std.specs.Prelude.{◌≡◌, Bool, true, false, refl, IfOk};
 ghost use Rattle.framehop.specs.Cache.{Key, counted, empty_cache, found, inserted, ways};
 ghost use Rattle.framehop.specs.CacheResult.{result_of, HitRuns};

@@ -1,3 +1,4 @@
+//! The counter that tells lists of modules apart.
 ghost use Rattle.std.specs.Prelude.{◌≡◌, ◌^◌, ◌-◌, ◌+◌, ◌<◌, ◌↔◌, IsTrue, MatchOption};
 
 use std::marker::Model;
@@ -32,7 +33,7 @@ impl Generations {
         Generations { next }
     }
 
-    /// The next generation. At 2^64 - 1 the counter is at its end, and answers `None` for good.
+    /// The next generation. At 2^64 - 1 the counter is at its end, and returns `None` for good.
     pub fn next(&mut self) -> Option<u64>
         ensures { MatchOption result ((self.old ≡ 2 ^ 64 - 1) × (self.new ≡ self.old))
             (λ generation. (self.old < 2 ^ 64 - 1) × (generation ≡ self.old) × (self.new ≡ self.old + 1)) }

@@ -1,5 +1,5 @@
-// A stack frame unwinder: from registers, stack words and the unwind data of loaded modules to
-// the return addresses of a call stack.
+//! A stack frame unwinder: from registers, stack words and the unwind data of loaded modules to
+//! the return addresses of a call stack.
 #![tactic(auto)]
 
 pub mod aarch64;

@@ -1,3 +1,4 @@
+//! The cache of unwind rules by address, generation and kind of frame, and its counts.
 ghost use Rattle.std.specs.Prelude.{◌≡◌, ◌^◌, ◌-◌, ◌+◌, min, true, IfOk};
 ghost use Rattle.framehop.specs.Cache.{Key, counted, empty_cache, no_stats, found, inserted, misses_of, total_of, set_number, ways};
 ghost use Rattle.framehop.specs.CacheResult.{result_of, HitRuns};
@@ -127,7 +128,7 @@ impl<R: UnwindRule> RuleCache<R> {
     }
 }
 
-/// What a lookup answers.
+/// What a lookup returns.
 #[derive(Drop)]
 pub enum CacheResult<R> {
     Miss(CacheHandle),

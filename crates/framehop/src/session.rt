@@ -27,7 +27,7 @@ use framehop_cfi::section::SectionBytes;
 use framehop_core::{Error, FrameAddress};
 use std::alloc::Global;
 
-/// The stack words of a step or a walk: word `i` stands at the address (AVMA) `base + 8 * i`, and
+/// The stack words of a step or a walk: word `i` is at the address (AVMA) `base + 8 * i`, and
 /// no other address can be read.
 #[derive(Drop)]
 pub struct Memory {
@@ -121,7 +121,7 @@ pub enum Reply<R> {
     /// The command was carried out.
     Done,
 
-    /// What a step answered, and the registers behind it.
+    /// What a step returned, and the registers after it.
     Step {
         result: Result<Option<u64>, Error>,
         regs: R,
@@ -141,7 +141,7 @@ pub enum Reply<R> {
 /// Why a session was refused.
 #[derive(Clone, Copy, Debug, PartialEq, Eq, thiserror::Error)]
 pub enum SessionError {
-    /// Memory was asked for and refused.
+    /// An allocation failed.
     #[error("Out of memory")]
     OutOfMemory,
 
@@ -158,7 +158,7 @@ pub enum SessionError {
     GenerationsExhausted,
 }
 
-/// Calls an iterator once: pushes the frame that it answers, or answers how the walk ended.
+/// Calls an iterator once: pushes the frame that it returns, or returns how the walk ended.
 fn push_next_frame<U: Unwinder, F: FnMut(u64) -> Result<u64, ()>>(
     unwinding: &mut UnwindIterator<'_, '_, '_, U, F>,
     frames: &mut Vec<FrameAddress>,
@@ -253,7 +253,7 @@ fn walk_stack<D: SectionBytes + Drop, A: Unwinding, P: AllocationPolicy>(
     Ok((frames, end, regs))
 }
 
-/// Unwinds a frame over the words of a stack: what the step answers, and the registers after it.
+/// Unwinds a frame over the words of a stack: what the step returns, and the registers after it.
 fn step_stack<D: SectionBytes + Drop, A: Unwinding, P: AllocationPolicy>(
     unwinder: &UnwinderInternal<D, A, P>,
     cache: &mut Cache<A::UnwindRule, P>,
@@ -504,11 +504,11 @@ impl<D: SectionBytes + Drop, A: Unwinding, P: AllocationPolicy> Session<D, A, P>
     }
 }
 
-/// Carries out a list of commands, over so many caches that all its unwinders share, and answers
+/// Carries out a list of commands, over so many caches that all its unwinders share, and returns
 /// their replies in order. Generations are drawn from the counter.
 ///
 /// The first command that names an unwinder or a cache that is not there, or that needs a
-/// generation where the counter is at its end, refuses the session, and so does want of memory.
+/// generation where the counter is at its end, refuses the session, and so does running out of memory.
 /// Then its unwinders and caches are gone, and the generations that it drew stay drawn.
 pub fn run<D: SectionBytes + Drop, A: Unwinding, P: AllocationPolicy>(
     alloc: Global,
@@ -540,9 +540,9 @@ pub fn run<D: SectionBytes + Drop, A: Unwinding, P: AllocationPolicy>(
 
 /// Walks a stack on aarch64 to its end, from an instruction pointer (AVMA) and initial registers
 /// on: the `Walk` reply without a limit. `read_stack` reads the stack word at an address (AVMA).
-/// It is refused with `OutOfMemory` alone.
+/// It is refused only with `OutOfMemory`.
 ///
-/// The walk ends whatever the callback replies: each frame behind the second raises the stack
+/// The walk ends whatever the callback replies: each frame after the second raises the stack
 /// pointer.
 pub fn walk_to_end_aarch64<D: SectionBytes + Drop, P: AllocationPolicy, F>(
     alloc: Global,

@@ -1,3 +1,4 @@
+//! Modules, unwinders over them, and the iterator over the frames of a stack.
 ghost use Rattle.std.specs.Prelude.{◌≡◌, ◌≢◌, ◌+◌, ◌-◌, ◌^◌, ◌<◌, ◌↔◌, Bool, true, false, IfOk, IfErr, IfSome, IfNone, IsOk, OnOk, OnSome, IsErrAnd, remove, slice_index_or, MatchOption, MatchResult, SomeIff, string_bytes, slice_get, length, take, drop, ◌≤◌, Option, []};
 ghost use Rattle.framehop.specs.Memory.{Memory, AnswersAs};
 ghost use Rattle.framehop.specs.Outcome.{Outcome, answer_of, registers_after};
@@ -30,7 +31,7 @@ use std::rc::Rc;
 /// Why a module could not be made, or the list of an unwinder's modules not be changed.
 #[derive(Clone, Copy, Debug, PartialEq, Eq, thiserror::Error)]
 pub enum ModuleListError {
-    /// Memory was asked for and refused.
+    /// An allocation failed.
     #[error("Out of memory")]
     OutOfMemory,
 
@@ -148,7 +149,7 @@ pub trait Unwinder: Clone {
     // a step at a frame can run out of memory
     ghost may_run_out: { Self → Self.Cache → FrameLocation → Type 0 };
 
-    /// Adds a module that is loaded in the process, behind those of equal start, and takes the
+    /// Adds a module that is loaded in the process, after those of equal start, and takes the
     /// next generation. The module comes back where the counter is at its end (tested first) or
     /// memory is refused; then the unwinder and the counter are unchanged.
     fn add_module(
@@ -197,8 +198,8 @@ pub trait Unwinder: Clone {
     fn max_known_code_address(&self) -> u64
         ensures { result ≡ greatest_end (unwinder_view self.now).modules };
 
-    /// Unwinds a single frame: answers its return address (AVMA), `None` at the root of the stack,
-    /// or why it can't be unwound, and writes the caller's registers where it answers an address.
+    /// Unwinds a single frame: returns its return address (AVMA), `None` at the root of the stack,
+    /// or why it can't be unwound, and writes the caller's registers where it returns an address.
     /// `read_stack` reads the stack word at an address (AVMA).
     fn unwind_frame<F>(
         &self,
@@ -388,7 +389,7 @@ impl<U: Unwinder, F: FnMut(u64) -> Result<u64, ()>> UnwindIterator<'_, '_, '_, U
         }
     }
 
-    /// The registers of the frame at which the iterator stands.
+    /// The registers of the frame at which the iterator is.
     pub fn regs(&self) -> &U::UnwindRegs
         ensures { result.now ≡ regs_of self.now }
     {
@@ -448,7 +449,7 @@ impl<D: SectionBytes> Clone for Module<D> {
 impl<D: SectionBytes> Module<D> {
     /// A module of the name that is loaded at the addresses (AVMAs) from `avma_range.start` to
     /// below `avma_range.end`. Its relative address 0 is `base_avma`. The sections are asked for
-    /// the unwind data. Refused with `OutOfMemory` alone.
+    /// the unwind data. Refused only with `OutOfMemory`.
     pub fn new<I: ModuleSectionInfo<D> + Drop>(
         alloc: Global,
         name: String,
@@ -554,8 +555,8 @@ impl<D: SectionBytes + Drop, A: Unwinding, P: AllocationPolicy> Clone
 }
 
 impl<D: SectionBytes + Drop, A: Unwinding, P: AllocationPolicy> UnwinderInternal<D, A, P> {
-    /// An unwinder without modules, of the next generation. It takes no memory, and is refused at
-    /// the counter's end alone.
+    /// An unwinder without modules, of the next generation. It takes no memory, and is refused
+    /// only at the counter's end.
     pub fn new(alloc: Global, generations: &mut Generations) -> Result<Self, ModuleListError>
         ensures { MatchResult result
             (λ made. (made ≡ record { modules = []; generation = generations.old })
@@ -574,7 +575,7 @@ impl<D: SectionBytes + Drop, A: Unwinding, P: AllocationPolicy> UnwinderInternal
         })
     }
 
-    // the place behind the modules that start at or below the address
+    // the place after the modules that start at or below the address
     fn place_behind(&self, address: u64) -> usize
         ensures within { result ≤ length self.now.modules }
         ensures point { IsPartitionPoint (λ m. starts_by address m ≡ true) (λ m. starts_by address m ≡ false) self.now.modules result }

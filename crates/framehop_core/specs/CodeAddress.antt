@@ -4,7 +4,7 @@ use Rattle.std.specs.Int.NonZero.{non_zero_u64_get}
 use Rattle.framehop_core.specs.declared.code_address.FrameAddress.{FrameAddress}
 use Rattle.framehop_core.specs.declared.code_address.FrameAddress.TheVariants.{InstructionPointer, ReturnAddress}
 
--- where a frame stands: at its instruction pointer, or at the address to which its callee returns (AVMAs)
+-- where a frame is: at its instruction pointer, or at the address to which its callee returns (AVMAs)
 pub data FrameLocation : Type 0 where
   at_instruction_pointer : ℕ → FrameLocation
   at_return_address : ℕ → FrameLocation

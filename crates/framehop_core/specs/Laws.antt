@@ -1,4 +1,4 @@
--- Laws that follow from the tables. They define nothing: a reader of the definitions can pass them. They stand here and not
+-- Laws that follow from the tables. They define nothing: a reader of the definitions can pass them. They are here and not
 -- among the proofs, since an `impl` and other crates cite them.
 pub mod Outcome
 pub mod Aarch64

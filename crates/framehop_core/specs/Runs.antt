@@ -44,6 +44,6 @@ pub record Raises {U R : Type 0} (outcome : U → Bool → R → Memory → Outc
   pub leads : (rule : U) (first : Bool) (old new : R) (memory : Memory) (address : ℕ) → outcome rule first old memory ≡ answered address new → IsAfterStep memory new
   pub rises : (rule : U) (old new : R) (memory : Memory) (address : ℕ) → IsAfterStep memory old → outcome rule false old memory ≡ answered address new → stack_pointer old < stack_pointer new
 
--- of so many answered steps each after the first has raised the stack pointer, which stood here behind the first
+-- of so many answered steps each after the first has raised the stack pointer, which was here after the first
 abbrev pub IsCountWithinRise : ℕ → ℕ → ℕ → Type 0
 IsCountWithinRise count first last = count - 1 ≤ last - first

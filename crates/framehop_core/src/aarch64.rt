@@ -1,4 +1,4 @@
-// Types for unwinding on the aarch64 CPU architecture.
+//! Types for unwinding on the aarch64 CPU architecture.
 pub mod arch;
 pub mod unwind_rule;
 pub mod unwindregs;

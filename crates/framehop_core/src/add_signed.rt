@@ -1,3 +1,4 @@
+//! Sums of an unsigned and a signed integer.
 ghost use Rattle.std.specs.Prelude.{◌≡◌, Option};
 
 /// Adds a signed integer to an unsigned integer, modulo two to the power of their width.
@@ -7,7 +8,7 @@ pub fn wrapping_add_signed<T: AddSigned>(lhs: T, rhs: T::Signed) -> T
     lhs.wrapping_add_signed(rhs)
 }
 
-/// Adds a signed integer to an unsigned integer, or answers `None` where the sum leaves the type.
+/// Adds a signed integer to an unsigned integer, or returns `None` where the sum leaves the type.
 #[inline(always)]
 pub fn checked_add_signed<T: AddSigned>(lhs: T, rhs: T::Signed) -> Option<T>
     ensures { result ≡ T.checked_sum lhs rhs }
@@ -30,7 +31,7 @@ pub trait AddSigned: Sized {
     fn wrapping_add_signed(self, rhs: Self::Signed) -> Self
         ensures { result ≡ wrapping_sum self rhs };
 
-    /// Adds a signed integer, or answers `None` where the sum leaves the type.
+    /// Adds a signed integer, or returns `None` where the sum leaves the type.
     fn checked_add_signed(self, rhs: Self::Signed) -> Option<Self>
         ensures { result ≡ checked_sum self rhs };
 }

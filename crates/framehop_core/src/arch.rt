@@ -1,3 +1,4 @@
+//! What a CPU architecture is to unwinding: registers and rules.
 use crate::unwind_rule::UnwindRule;
 
 /// A CPU architecture: its unwind registers, and the rules that unwind over them.

@@ -1,3 +1,4 @@
+//! The code address of a frame: an instruction pointer or a return address.
 ghost use Rattle.std.specs.Prelude.{◌≡◌, MatchOption};
 ghost use Rattle.framehop_core.specs.CodeAddress.{location_of, address_of, lookup_address, is_return_address, at_instruction_pointer, at_return_address};
 
@@ -12,7 +13,7 @@ pub enum FrameAddress {
     /// The instruction pointer, with which unwinding starts.
     InstructionPointer(u64),
 
-    /// A return address: the address of the instruction behind the call. Unwinding gives a list
+    /// A return address: the address of the instruction after the call. Unwinding gives a list
     /// of these.
     ReturnAddress(NonZeroU64),
 }

@@ -1,3 +1,4 @@
+//! Numbers printed in hexadecimal.
 use std::fmt;
 use std::fmt::LowerHex;
 

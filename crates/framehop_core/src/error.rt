@@ -1,3 +1,4 @@
+//! Why a frame could not be unwound.
 ghost use Rattle.std.specs.Prelude.{Some};
 ghost use Rattle.framehop_core.specs.ErrorText.{error_text};
 
@@ -18,10 +19,10 @@ pub enum Error {
     /// A stack pointer or a stack address does not fit 64 bits.
     IntegerOverflow,
 
-    /// A frame answered the return address 0.
+    /// A frame has the return address 0.
     ReturnAddressIsNull,
 
-    /// Memory was asked for and refused.
+    /// An allocation failed.
     OutOfMemory,
 }
 

@@ -1,4 +1,4 @@
-// The small types that every layer shares: code addresses, errors, registers and unwind rules.
+//! The small types that every layer shares: code addresses, errors, registers and unwind rules.
 #![tactic(auto)]
 
 pub mod aarch64;

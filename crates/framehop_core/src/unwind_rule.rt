@@ -1,3 +1,4 @@
+//! The rules that unwind one frame, for any architecture, and runs of rules.
 ghost use Rattle.std.specs.Prelude.{◌≡◌, ◌≢◌, ℕ, ◌≤◌, Bool, true, IsTrue, All, MatchResult, IfOk, OnSome, IfNone, Result};
 ghost use Rattle.framehop_core.specs.Memory.{Memory, AnswersAs};
 ghost use Rattle.framehop_core.specs.Runs.{run_of, StepsBy, Raises};
@@ -23,7 +24,7 @@ pub trait UnwindRule: Copy + fmt::Debug {
     // the stack pointer of registers
     ghost stack_pointer: { Self.UnwindRegs → ℕ };
 
-    // what the registers behind a step meet, over the memory that it has read
+    // what the registers after a step meet, over the memory that it has read
     ghost is_after_step: { Memory → Self.UnwindRegs → Type 0 };
 
     // whether the rule can be run; the others are made by no function of this library
@@ -35,8 +36,8 @@ pub trait UnwindRule: Copy + fmt::Debug {
 
     ghost fallback: { Self };
 
-    /// Unwinds one frame: answers the return address (AVMA), `None` at the root of the stack, or
-    /// why the frame can't be unwound, and writes the caller's registers where it answers an
+    /// Unwinds one frame: returns the return address (AVMA), `None` at the root of the stack, or
+    /// why the frame can't be unwound, and writes the caller's registers where it returns an
     /// address. `read_stack` reads the stack word at an address (AVMA).
     fn exec<F>(
         self,
@@ -82,14 +83,14 @@ pub trait UnwindRule: Copy + fmt::Debug {
 
     ghost fallback_executable: { executable fallback ≡ true };
 
-    // over one memory, each step behind another one raises the stack pointer
+    // over one memory, each step after another one raises the stack pointer
     ghost raises: { Raises outcome stack_pointer is_after_step };
 }
 
 /// How a run of rules ends.
 #[derive(Clone, Copy, Debug, PartialEq, Eq)]
 pub enum RunEnd {
-    /// Each rule answered an address.
+    /// Each rule gave an address.
     All,
 
     /// A rule found the root of the stack.
@@ -100,7 +101,7 @@ pub enum RunEnd {
 }
 
 /// Runs rules one after another, each from the registers that the one before it leaves, the first
-/// one as a first frame. Answers how many answered an address, and why the run ended.
+/// one as a first frame. Returns how many gave an address, and why the run ended.
 pub fn run_rules<R: UnwindRule, F: FnMut(u64) -> Result<u64, ()>>(
     rules: &[R],
     regs: &mut R::UnwindRegs,

@@ -1,4 +1,4 @@
-// Types for unwinding on the x86_64 CPU architecture.
+//! Types for unwinding on the x86_64 CPU architecture.
 pub mod arch;
 pub mod register_ordering;
 pub mod unwind_rule;

@@ -7,7 +7,7 @@ use Rattle.serde_json.specs.Find.{as_u64, as_i64}
 abbrev pub is_bad : Num → Bool
 is_bad n = is_none (as_u64 n) && is_none (as_i64 n)
 
--- such a number stands in the value, at any depth
+-- such a number is in the value, at any depth
 abbrev mutual
   pub has_bad_number : Data → Bool
   has_bad_number null = false

@@ -40,7 +40,7 @@ step_line (Ok (Some address)) = line (codes "step " ++ hexadecimal address)
 step_line (Ok None) = line (codes "step end")
 step_line (Err error) = line (codes "step stopped: " ++ error_text error)
 
--- a count behind its name
+-- a count after its name
 unfoldable pub count_text : List ℕ → ℕ → List ℕ
 count_text name count = 32 ∷ name ++ 61 ∷ decimal count
 
@@ -49,11 +49,11 @@ abbrev pub stats_line : CacheStats → List ℕ
 stats_line stats = line (codes "stats" ++ count_text (codes "hits") stats.hit_count ++ count_text (codes "empty") stats.miss_empty_slot_count
     ++ count_text (codes "modules") stats.miss_wrong_modules_count ++ count_text (codes "address") stats.miss_wrong_address_count)
 
--- the registers of aarch64, each behind a blank
+-- the registers of aarch64, each after a blank
 abbrev pub aarch64_text : Registers → List ℕ
 aarch64_text regs = codes " lr=" ++ hexadecimal regs.lr ++ codes " sp=" ++ hexadecimal regs.sp ++ codes " fp=" ++ hexadecimal regs.fp
 
--- a register behind its name
+-- a register after its name
 unfoldable pub register_text : List ℕ → ℕ → List ℕ
 register_text name value = 32 ∷ name ++ 61 ∷ hexadecimal value
 

@@ -1,3 +1,4 @@
+//! Commands read from JSON.
 use crate::fields::{count, group, hexadecimal, hexadecimal_value, list, number, text};
 use crate::refusal::Refusal;
 use crate::registers::Registers;

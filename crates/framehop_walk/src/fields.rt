@@ -1,3 +1,4 @@
+//! Fields of a JSON object, each of one kind.
 // Reads the fields of JSON objects. A field that is missing or of another kind is refused by its
 // name.
 ghost use Rattle.std.specs.Prelude.{◌≡◌, ◌≤◌, length, SomeIff, ℕ, MatchOption, MatchResult, Some, None};
@@ -122,7 +123,7 @@ fn parse_hexadecimal(digits: &str) -> Option<u64>
     u64::from_str_radix(digits, 16).ok()
 }
 
-/// Whether a number stands in the value, at any depth, that is not whole or does not fit 64 bits.
+/// Whether a number is in the value, at any depth, that is not whole or does not fit 64 bits.
 #[cycle(has_bad_number)]
 pub fn has_bad_number(value: &Value) -> bool
     ensures { result ≡ has_bad_number (view value.now) }

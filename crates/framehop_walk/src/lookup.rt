@@ -1,3 +1,4 @@
+//! Entries of a list, found by name.
 // Looks for a section by its name.
 ghost use Rattle.std.specs.Prelude.{◌≡◌};
 ghost use Rattle.std.specs.List.{position, find};

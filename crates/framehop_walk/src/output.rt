@@ -1,3 +1,4 @@
+//! A writer that keeps whether a write has failed.
 ghost use Rattle.std.specs.Prelude.{◌≡◌, is_err, ◌||◌, OnOk, false};
 ghost use Rattle.std.specs.Io.{WritesAtMost};
 ghost use Rattle.std.specs.Io.KnownBytes.{Keeps, Appends, WriteAppends};

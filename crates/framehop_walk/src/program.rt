@@ -1,3 +1,4 @@
+//! The whole run of the program, over a reader and two writers.
 ghost use Rattle.std.specs.Prelude.{◌≡◌, ◌≢◌, ◌≤◌, IfOk, IfErr, OnOk, IfSome, true, false, Some, None, Err, IsUtf8};
 ghost use Rattle.std.specs.Io.KnownBytes.{Keeps};
 ghost use Rattle.serde_json.specs.Read.{read};
@@ -45,7 +46,7 @@ pub fn walk_program<R: Read, W: Write, E: Write>(
     }
 }
 
-/// Writes the line of a refusal, and answers its exit status. Where the line can't be written
+/// Writes the line of a refusal, and returns its exit status. Where the line can't be written
 /// there is none.
 pub fn refuse<E: Write>(err: &mut E, refusal: Refusal) -> u8
     ensures refused { result ≢ 0 }

@@ -1,10 +1,11 @@
+//! Why a run is refused: its line and its exit status.
 ghost use Rattle.std.specs.Prelude.{◌≢◌, ◌≤◌};
 
 use framehop::session::SessionError;
 use std::alloc::{AllocError, AllocFailed};
 use std::io;
 
-/// Why a run of the program was refused. The text is that of its error line, behind the
+/// Why a run of the program was refused. The text is that of its error line, after the
 /// program's name.
 #[derive(Clone, Copy, Debug, thiserror::Error)]
 pub enum Refusal {
@@ -36,7 +37,7 @@ pub enum Refusal {
     #[error("input refused: no such cache")]
     NoSuchCache,
 
-    /// Memory was asked for and refused.
+    /// An allocation failed.
     #[error("out of memory")]
     OutOfMemory,
 

@@ -1,3 +1,4 @@
+//! Registers read from JSON and printed.
 ghost use Rattle.std.specs.Prelude.{◌≡◌, ◌++◌, ℕ, List, OnOk, string_bytes};
 ghost use Rattle.framehop_walk.specs.Text.{aarch64_text, register_text, named_registers_text, numbered_registers_text, x86_64_text};
 
@@ -17,7 +18,7 @@ pub trait Registers: Unwinding {
     /// Reads the field `regs` of a command.
     fn read(regs: &Value) -> Result<Self::UnwindRegs, Refusal>;
 
-    /// Prints the registers, each behind a blank, in hexadecimal.
+    /// Prints the registers, each after a blank, in hexadecimal.
     fn print(regs: &Self::UnwindRegs, out: &mut String) -> Result<(), AllocError>
         ensures { OnOk result (string_bytes out.new ≡ string_bytes out.old ++ text regs.now) };
 }

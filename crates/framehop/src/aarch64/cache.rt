@@ -1,3 +1,4 @@
+//! The unwinder cache of aarch64.
 ghost use Rattle.std.specs.Prelude.{◌≡◌, IfOk};
 ghost use Rattle.framehop.specs.Cache.{empty_cache};
 ghost use Rattle.framehop.specs.Modules.{UnwinderView};

@@ -1,3 +1,4 @@
+//! The unwinder of aarch64.
 ghost use Rattle.std.specs.Prelude.{◌≡◌, ◌+◌, ◌-◌, ◌^◌, ◌<◌, [], MatchResult};
 
 use crate::aarch64::cache::CacheAarch64;
@@ -33,8 +34,8 @@ impl<D: SectionBytes + Drop, P: AllocationPolicy> Clone for UnwinderAarch64<D, P
 }
 
 impl<D: SectionBytes + Drop, P: AllocationPolicy> UnwinderAarch64<D, P> {
-    /// An unwinder without modules, of the next generation. It takes no memory, and is refused at
-    /// the counter's end alone.
+    /// An unwinder without modules, of the next generation. It takes no memory, and is refused
+    /// only at the counter's end.
     pub fn new(alloc: Global, generations: &mut Generations) -> Result<Self, ModuleListError>
         ensures { MatchResult result
             (λ made. (made ≡ record { modules = []; generation = generations.old })

@@ -16,7 +16,7 @@ strip_ptr_auth mask pointer = bit_and pointer mask
 abbrev pub IsStripped : ℕ → ℕ → Type 0
 IsStripped mask pointer = strip_ptr_auth mask pointer ≡ pointer
 
--- lr always stands stripped
+-- lr is always stored stripped
 abbrev pub StandsStripped : Registers → Type 0
 StandsStripped registers = IsStripped registers.lr_mask registers.lr
 

@@ -31,7 +31,7 @@ read_of-ok : (at word : ℕ) (o : Option ℕ) → read_of at (reply o) ≡ Ok wo
 read_of-ok at word None e = cc
 read_of-ok at word (Some w) e = ap Some cc
 
--- a word that is read stands in the memory
+-- a word that is read is in the memory
 pub word_at-ok : (memory : Memory) (at word : ℕ) → word_at memory at ≡ Ok word → memory at ≡ Some word
 word_at-ok memory at word e = read_of-ok at word (memory at) e
 

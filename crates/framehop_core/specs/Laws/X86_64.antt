@@ -108,7 +108,7 @@ pops-answered at registers r memory address new e =
       end = finished-answered r b.0 memory address new b.2;
     }
 
--- ---- rsp does not fall, and rises from a frame that stands behind its return address
+-- ---- rsp does not fall, and rises from a frame just above its return address
 
 ok-same : (m n : ℕ) → ◌≡◌ {A = Result ℕ Error} (Ok m) (Ok n) → m ≡ n
 ok-same m n e = cc
@@ -184,7 +184,7 @@ pub outcome-IsReturn : (rule : UnwindRuleX86_64) (first : Bool) (r : Registers) 
 outcome-IsReturn rule first r memory address new e =
     line-IsReturn (line_of rule first r) r memory address new (IsUpward-line_of rule first r) e
 
--- The same word cannot be returned to twice: from a frame that stands behind its return address rsp rises.
+-- The same word cannot be returned to twice: from a frame just above its return address rsp rises.
 rises : (old new : ℕ) → old ≤ new → new ≢ old → old < new
 rises old new up apart = omega arith
 

@@ -8,7 +8,7 @@ abbrev pub eight : List Reg
 eight = RBX ∷ RBP ∷ RDI ∷ RSI ∷ R12 ∷ R13 ∷ R14 ∷ R15 ∷ []
 
 -- The number is written in digits of the radices k, k - 1, k - 2 and so on, the lowest first, for k places. From the
--- first place on, each place is exchanged with the one that stands its digit behind it.
+-- first place on, each place is exchanged with the one its digit after it.
 unfoldable pub exchanges : {X : Type 0} → ℕ → ℕ → List X → List X
 exchanges zero n places = places
 exchanges (suc k) n places =

@@ -25,7 +25,7 @@ pub data Demand : Type 0 where
   stack_pointer_rises : Demand
 
 -- A line of the table: the stack ends here; or the caller's rsp and rbp are here; or registers are popped, the first
--- one at an address, and the caller's rsp stands behind them and the return address.
+-- one at an address, and the caller's rsp is above them and the return address.
 pub data Line : Type 0 where
   stack_end : Line
   caller : ℤ → Demand → Source → Line
@@ -76,7 +76,7 @@ abbrev pub demanded : Demand → Registers → ℕ → Outcome Registers → Out
 demanded nothing_more r sp next = next
 demanded stack_pointer_rises r sp next = if nat_le sp r.rsp then refused FramepointerUnwindingMovedBackwards else next
 
--- The registers after pops from an address on, one word each, in order. The stack pointer then stands behind them and
+-- The registers after pops from an address on, one word each, in order. The stack pointer is then above them and
 -- the return address.
 abbrev pub popped : Memory → ℕ → List Reg → Registers → Result Registers Error
 popped memory address [] r = and_then (address_at (above address 8)) (λ sp. Ok (record r { rsp = sp }))
@@ -123,7 +123,7 @@ outcome rule first r memory = outcome_of_line (line_of rule first r) r memory
 pub record Advances (first : Bool) (callee caller : Registers) : Type 0 where
   pub not_below : callee.rsp ≤ caller.rsp
 
--- the instruction pointer is the word below rsp, as it is behind a step
+-- the instruction pointer is the word below rsp, as it is after a step
 abbrev pub StandsAfterReturn : Memory → Registers → Type 0
 StandsAfterReturn memory r = word_from memory (pos r.rsp -ℤ pos 8) ≡ Ok r.ip
 
@@ -133,18 +133,18 @@ NotBelowWhereAnswered result old new = IfOk result (λ answer. OnSome answer (ol
 
 -- ---- rules of operations
 
--- the registers of operations that are pops alone
+-- the registers of operations that are only pops
 abbrev pub pops_of : List OffsetOrPop → Option (List Reg)
 pops_of [] = Some []
 pops_of (Pop register ∷ operations) = option_map (λ registers. register ∷ registers) (pops_of operations)
 pops_of (_ ∷ operations) = None
 
--- the offset and the registers of operations that are at most one offset, then pops alone
+-- the offset and the registers of operations that are at most one offset, then only pops
 abbrev pub offset_and_pops_of : List OffsetOrPop → Option (ℕ × List Reg)
 offset_and_pops_of (OffsetBy8 x ∷ operations) = option_map (λ registers. (x, registers)) (pops_of operations)
 offset_and_pops_of operations = option_map (λ registers. (0, registers)) (pops_of operations)
 
--- the rule of an offset and the registers behind it: without both a plain return
+-- the rule of an offset and the registers after it: without both a plain return
 abbrev pub IsRuleOf : ℕ → List Reg → UnwindRuleX86_64 → Type 0
 IsRuleOf x registers JustReturn = (x ≡ 0) × (registers ≡ [])
 IsRuleOf x registers (OffsetSpAndPopRegisters y count n) =

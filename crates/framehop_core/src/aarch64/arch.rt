@@ -1,3 +1,4 @@
+//! The architecture aarch64.
 use super::unwind_rule::UnwindRuleAarch64;
 use super::unwindregs::UnwindRegsAarch64;
 use crate::arch::Arch;

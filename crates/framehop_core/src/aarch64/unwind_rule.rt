@@ -1,3 +1,4 @@
+//! The unwind rules of aarch64: a table, and the `exec` that runs a line of it.
 ghost use Rattle.std.specs.Prelude.{◌≡◌, ◌≢◌, ◌≤◌, true, false};
 ghost use Rattle.framehop_core.specs.Memory.{Memory, AnswersAs};
 ghost use Rattle.framehop_core.specs.Runs.{run_of, after_first, IsCountWithinRise};
@@ -187,10 +188,10 @@ impl UnwindRule for UnwindRuleAarch64 {
 }
 
 /// Runs rules one after another, each from the registers that the one before it leaves, the first
-/// one as a first frame. Answers how many answered an address, and why the run ended.
+/// one as a first frame. Returns how many gave an address, and why the run ended.
 ///
-/// Each answered rule after the first raises the stack pointer, whatever the callback replies. So
-/// at most as many of them answer as the stack pointer has risen since the first one.
+/// Each rule after the first that gives an address raises the stack pointer, whatever the callback replies. So
+/// at most as many of them do as the stack pointer has risen since the first one.
 pub fn run_rules<F: FnMut(u64) -> Result<u64, ()>>(
     rules: &[UnwindRuleAarch64],
     regs: &mut UnwindRegsAarch64,
@@ -280,7 +281,7 @@ fn finish_at_frame_pointer(
     finish(is_first_frame, regs, new_sp, new_lr, new_fp)
 }
 
-/// The last step of each rule: writes the caller's registers and answers the stripped return
+/// The last step of each rule: writes the caller's registers and returns the stripped return
 /// address, unless that is 0 (the root) or a caller frame keeps its stack pointer.
 #[inline(always)]
 fn finish(

@@ -1,3 +1,4 @@
+//! The registers of aarch64 that unwinding needs, and masks for pointer authentication.
 ghost use Rattle.std.specs.Prelude.{◌≡◌, ◌-◌, ◌^◌};
 ghost use Rattle.framehop_core.specs.Aarch64.Registers.{strip_ptr_auth, IsStripped, StandsStripped, IsMaskUpTo};
 
@@ -9,7 +10,7 @@ use std::marker::Model;
 ///
 /// They come with a [`PtrAuthMask`], which strips pointer authentication bits off the return
 /// address when unwinding through libraries that authenticate pointers, as the system libraries
-/// of macOS do. The value of lr always stands stripped.
+/// of macOS do. The value of lr is always stored stripped.
 #[derive(Clone, Copy, PartialEq, Eq)]
 pub struct UnwindRegsAarch64 {
     lr_mask: PtrAuthMask,

@@ -1,3 +1,4 @@
+//! The architecture x86_64.
 use super::unwind_rule::UnwindRuleX86_64;
 use super::unwindregs::UnwindRegsX86_64;
 use crate::arch::Arch;

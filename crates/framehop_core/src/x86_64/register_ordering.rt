@@ -1,3 +1,4 @@
+//! Numbers for lists of registers, so that a rule can name the registers that it pops.
 // Numbers for the orders in which registers are popped: an unwind rule keeps a count and a number
 // in place of a list of registers.
 ghost use Rattle.std.specs.Prelude.{◌≡◌, ◌+◌, ◌<◌, ◌↔◌, length, IsSome, IfSome, MatchOption, slice_index_or, swap, All, ◌≢◌};
@@ -45,7 +46,7 @@ pub fn decode(count: u8, encoded_ordering: u16) -> ArrayVec<Reg, 8>
 }
 
 /// The number of registers and the least number of their ordering, or `None` where a register
-/// stands in the list twice, or is not one of the eight that can be ordered.
+/// is in the list twice, or is not one of the eight that can be ordered.
 pub fn encode(registers: &[Reg]) -> Option<(u8, u16)>
     ensures exact { IsSome result ↔ IsArrangement registers.now }
     ensures encoding { IfSome result (λ p. IsEncoding registers.now p.0 p.1) }
@@ -65,7 +66,7 @@ pub fn encode(registers: &[Reg]) -> Option<(u8, u16)>
     Some((registers.len() as u8, encoded))
 }
 
-/// Exchanges the register at a place with the one that stands a digit behind it.
+/// Exchanges the register at a place with the one a digit after it.
 #[inline(always)]
 fn exchange(registers: &mut [Reg], place: usize, digit: usize)
     requires { place + digit < length registers.old }

@@ -1,3 +1,4 @@
+//! The unwind rules of x86_64: a table, and the `exec` that runs a line of it.
 ghost use Rattle.std.specs.Prelude.{◌≡◌, ◌≢◌, ℕ, ◌<◌, ◌≤◌, pos, ◌-ℤ◌, true, List, length, All, MatchResult, OnOk, MatchOption, IsSome, IfSome};
 ghost use Rattle.std.specs.Iterator.{AlwaysYields};
 ghost use Rattle.framehop_core.specs.Memory.{Memory, AnswersAs};
@@ -43,11 +44,11 @@ pub enum UnwindRuleX86_64 {
 
     /// `(sp, bp) = (bp + 16, *bp)`
     ///
-    /// A function with a frame pointer pushes the caller's bp behind the return address, and sets
+    /// A function with a frame pointer pushes the caller's bp after the return address, and sets
     /// bp to the address of that word.
     UseFramePointer,
 
-    /// `sp + x`, then up to 8 registers are popped from there, and sp stands behind them and the
+    /// `sp + x`, then up to 8 registers are popped from there, and sp is above them and the
     /// return address.
     OffsetSpAndPopRegisters {
         /// The offset of the first popped register from sp, in units of 8 bytes.
@@ -256,10 +257,10 @@ impl UnwindRule for UnwindRuleX86_64 {
 }
 
 /// Runs rules one after another, each from the registers that the one before it leaves, the first
-/// one as a first frame. Answers how many answered an address, and why the run ended.
+/// one as a first frame. Returns how many gave an address, and why the run ended.
 ///
-/// No answered rule lowers the stack pointer. With a callback that answers as one memory each
-/// after the first raises it: then at most as many of them answer as the stack pointer has risen
+/// No rule that gives an address lowers the stack pointer. With a callback that answers as one memory each
+/// after the first raises it: then at most as many of them do as the stack pointer has risen
 /// since the first one.
 pub fn run_rules<F: FnMut(u64) -> Result<u64, ()>>(
     rules: &[UnwindRuleX86_64],
@@ -328,7 +329,7 @@ fn read_bp_beside<F: FnMut(u64) -> Result<u64, ()>>(
     }
 }
 
-/// Pops registers off the stack, the first one at the address (AVMA), and sets sp behind them and
+/// Pops registers off the stack, the first one at the address (AVMA), and sets sp above them and
 /// the return address.
 fn pop_registers<F: FnMut(u64) -> Result<u64, ()>>(
     regs: &mut UnwindRegsX86_64,
@@ -383,7 +384,7 @@ fn finish<F: FnMut(u64) -> Result<u64, ()>>(
     Ok(Some(address))
 }
 
-/// The last step behind pops: as `finish`, with the caller's registers but for ip.
+/// The last step after pops: as `finish`, with the caller's registers but for ip.
 #[inline(always)]
 fn finish_with<F: FnMut(u64) -> Result<u64, ()>>(
     regs: &mut UnwindRegsX86_64,

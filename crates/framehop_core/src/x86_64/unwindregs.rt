@@ -1,3 +1,4 @@
+//! The registers of x86_64 that unwinding needs.
 ghost use Rattle.std.specs.Prelude.{◌≡◌};
 ghost use Rattle.framehop_core.specs.X86_64.Registers.{register, with_register};
 

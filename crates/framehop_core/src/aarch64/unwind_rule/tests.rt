@@ -1,3 +1,4 @@
+//! Worked examples of the rules of aarch64.
 ghost use Rattle.std.specs.Prelude.{◌≡◌};
 ghost use Rattle.framehop_core.specs.Memory.{memory_of_words, reply};
 ghost use Rattle.framehop_core.specs.Outcome.{answer_of, registers_after};

@@ -1,3 +1,4 @@
+//! Worked examples of the rules of x86_64.
 use super::{OffsetOrPop, UnwindRuleX86_64, run_rules};
 use crate::error::Error;
 use crate::unwind_rule::{RunEnd, UnwindRule};
