@@ -1,0 +1,5 @@
+//! Prologues and epilogues recognised from a function's instructions: the unwind rule at an address
+//! inside them, which unwind data often leaves out (framehop 0.16.0, `instruction_analysis`).
+#![tactic(auto)]
+
+pub mod aarch64;
