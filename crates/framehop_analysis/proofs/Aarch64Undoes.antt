@@ -96,7 +96,7 @@ entry-sp entry here n depth x fits here_is depth_is sum n_fits =
         ∙ offset_by-zero entry fits in
     sym there ∙ back
 
-ok-same : (m n : ℕ) → ◌≡◌ {A = Result ℕ Error} (Ok m) (Ok n) → m ≡ n
+pub ok-same : (m n : ℕ) → ◌≡◌ {A = Result ℕ Error} (Ok m) (Ok n) → m ≡ n
 ok-same m n e = cc
 
 -- a rule that adds an offset to sp and keeps the other registers
@@ -126,7 +126,7 @@ undoes-run bytes run at NoOp stands made =
     (run-lowered r.lr_mask at bytes run entry here stands fits ran) holds (caller-answered _ _ _ _ true r here.memory address new e)
 undoes-run bytes run at (OffsetSp x) stands made =
     λ r new entry here address fits ran holds e.
-    offset-undoes r.lr_mask (lowered run) (x * 16) (above r.sp (x * 16)) r new entry here address refl made.0 refl fits
+    offset-undoes r.lr_mask (lowered run) (x * 16) (above r.sp (x * 16)) r new entry here address refl made.0.0 refl fits
     (run-lowered r.lr_mask at bytes run entry here stands fits ran) holds (caller-answered _ _ _ _ true r here.memory address new e)
 undoes-run bytes run at NoOpIfFirstFrameOtherwiseFp stands made = elim made [ ]
 undoes-run bytes run at (OffsetSpIfFirstFrameOtherwiseStackEndsHere x) stands made = elim made [ ]

@@ -1,10 +1,10 @@
 -- The aarch64 machine, as far as prologues and epilogues go: what an instruction does to sp, fp (x29), lr (x30) and the
 -- stack (Arm Architecture Reference Manual for A-profile, "A64 base instruction descriptions").
-use Rattle.std.specs.Prelude.{◌≡◌, ℕ, ◌*◌, ◌^◌, ◌<◌, ℤ, pos, ◌+ℤ◌, ◌-ℤ◌, Bool, true, false, ◌||◌, ◌==◌, if◌then◌else◌, List, [], ◌∷◌, Option, Some, option_map}
+use Rattle.std.specs.Prelude.{◌≡◌, ℕ, zero, suc, ◌+◌, ℤ, pos, ◌-ℤ◌, true, false, ◌||◌, ◌==◌, if◌then◌else◌, List, [], ◌∷◌, Option, Some, option_map}
 use Rattle.framehop_core.specs.AddSigned.{modulo, sum_with}
 use Rattle.framehop_core.specs.Memory.{Memory}
 use Rattle.framehop_core.specs.Aarch64.Registers.{Registers, strip_ptr_auth}
-use Rattle.framehop_analysis.specs.Aarch64.Words.{is_store, is_load, is_add_sp, is_sub_sp, is_signing, is_other, addressing, pair_offset, first_register, second_register, immediate}
+use Rattle.framehop_analysis.specs.Aarch64.Words.{word_at, is_branch, is_store, is_load, is_add_sp, is_sub_sp, is_signing, is_other, addressing, pair_offset, first_register, second_register, immediate}
 
 -- the registers, where fp or lr can hold an unknown value, and the stack
 pub record State : Type 0 where
@@ -76,6 +76,15 @@ pub record Step (mask word : ℕ) (s t : State) : Type 0 where
 abbrev pub Run : ℕ → List ℕ → State → State → Type 0
 Run mask [] s t = s ≡ t
 Run mask (word ∷ words) s t = (next : State) × Step mask word s next × Run mask words next t
+
+-- Instructions one after another from an offset of the code on, up to and with the first unconditional branch: a call
+-- of the function has then returned, or has become a call of another one. The check before a tail call jumps over its
+-- `brk` where it succeeds, and neither changes the state.
+abbrev pub RunOut : ℕ → List ℕ → ℕ → ℕ → State → State → Type 0
+RunOut mask bytes zero at s t = (word : ℕ) × (word_at bytes at ≡ Some word) × (is_branch word ≡ true) × Step mask word s t
+RunOut mask bytes (suc count) at s t =
+    (word : ℕ) × (word_at bytes at ≡ Some word) × (is_branch word ≡ false)
+    × (next : State) × Step mask word s next × RunOut mask bytes count (at + 4) next t
 
 -- the state has the registers' values: all are known, and lr without its authentication bits is the stripped one
 pub record StandsIn (r : Registers) (s : State) : Type 0 where

@@ -7,6 +7,7 @@ use Rattle.framehop_core.specs.Aarch64.Rules.{outcome}
 use Rattle.framehop_core.specs.declared.aarch64.unwind_rule.UnwindRuleAarch64.{UnwindRuleAarch64}
 use Rattle.framehop_core.specs.declared.aarch64.unwind_rule.UnwindRuleAarch64.TheVariants.{NoOp, OffsetSp}
 use Rattle.framehop_analysis.specs.Aarch64.Words.{word_at, is_store, is_sub_sp, is_add_fp, is_pacibsp, is_indexed, pair_offset, immediate}
+use Rattle.framehop_analysis.specs.Aarch64.Units.{IsUnitsOf16}
 use Rattle.framehop_analysis.specs.Aarch64.Machine.{State, Run, StandsIn}
 
 -- ---- the run: the prologue's instructions that have been executed
@@ -60,7 +61,7 @@ pub record IsNext (word : ℕ) (depth : ℤ) : Type 0 where
 -- 16 bytes, below 0 or too great for the rule's field.
 abbrev pub IsRuleOfDepth : ℤ → UnwindRuleAarch64 → Type 0
 IsRuleOfDepth depth NoOp = depth ≡ pos 0
-IsRuleOfDepth depth (OffsetSp x) = (depth ≡ pos (x * 16)) × (0 < x) × (x < 2 ^ 16)
+IsRuleOfDepth depth (OffsetSp x) = IsUnitsOf16 depth x × (0 < x)
 IsRuleOfDepth depth _ = ⊥
 
 -- the rule of a pc between the instructions before it and those from it on

@@ -118,6 +118,10 @@ is_mov word = (bit_and (word / 2 ^ 23) 0x1C7 == 0x185) && (destination word == 1
 abbrev pub is_check : ℕ → Bool
 is_check word = (word == 0xCA1E07D0) || (word == 0xB6F00050) || (word == 0xD4388E20)
 
+-- an unconditional branch: B, or one of the class "Unconditional branch (register)", as BR, RET and BRAA
+abbrev pub is_branch : ℕ → Bool
+is_branch word = is_b word || (bits_at word 25 7 == 0x6B)
+
 -- the instructions that change neither sp, fp nor lr
 abbrev pub is_other : ℕ → Bool
 is_other word = is_return word || is_b word || is_br word || is_braa word || is_mov word || is_check word

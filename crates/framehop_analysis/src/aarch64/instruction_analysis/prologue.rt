@@ -10,6 +10,7 @@ ghost use Rattle.framehop_analysis.specs.Answer.{IsOnly};
 ghost use Rattle.framehop_analysis.specs.Aarch64.Words.{word_at};
 ghost use Rattle.framehop_analysis.specs.Aarch64.Prologue.{is_run_word, lowered_by, lowered, IsLongestRun, is_prologue_word, is_plain_store, IsRuleOfDepth, IsPrologueRule, UndoesPrologue};
 
+use super::units::units_of_16;
 use super::words::{
     immediate, is_add_fp, is_indexed, is_pacibsp, is_store, is_sub_sp, pair_offset, word_at,
 };
@@ -121,11 +122,7 @@ fn reverse_step_instruction(word: u32) -> Option<i128>
 fn rule_of_sp_offset(sp_offset: i128) -> Option<UnwindRuleAarch64>
     ensures { IsOnly (IsRuleOfDepth sp_offset) result }
 {
-    let sp_offset = u128::try_from(sp_offset).ok()?;
-    if sp_offset % 16 != 0 {
-        return None;
-    }
-    let sp_offset_by_16 = u16::try_from(sp_offset / 16).ok()?;
+    let sp_offset_by_16 = units_of_16(sp_offset)?;
     if sp_offset_by_16 == 0 {
         Some(UnwindRuleAarch64::NoOp)
     } else {

@@ -1,13 +1,15 @@
 //! Instruction words of aarch64: which word is which instruction, and its fields (Arm Architecture
 //! Reference Manual, "A64 instruction set encoding").
-ghost use Rattle.std.specs.Prelude.{◌≡◌, pos, ◌≤ℤ◌, ◌<◌, ◌^◌, negsuc};
-ghost use Rattle.framehop_analysis.specs.Aarch64.Words.{word_at, is_store, is_load, is_sub_sp, is_add_sp, is_add_fp, is_indexed, pair_offset, immediate, is_pacibsp, is_autibsp, is_return, is_b, is_br, is_braa, is_mov};
+ghost use Rattle.std.specs.Prelude.{◌≡◌, ◌+◌, ◌<◌, ◌≤◌, pos, negsuc, ◌≤ℤ◌, ◌==◌, length, IsTrue, ◌↔◌, Some, OnSome, IfNone};
+ghost use Rattle.framehop_analysis.specs.Aarch64.Words.{word_at, addressing, first_register, second_register, is_store, is_load, is_sub_sp, is_add_sp, is_add_fp, is_indexed, pair_offset, immediate, is_pacibsp, is_autibsp, is_return, is_b, is_br, is_braa, is_mov};
 
 /// Returns the instruction word at an offset (in bytes), or `None` where the slice does not have
 /// all of its four bytes.
 #[inline]
 pub fn word_at(bytes: &[u8], at: usize) -> Option<u32>
-    ensures { result ≡ word_at bytes.now at }
+    ensures value { result ≡ word_at bytes.now at }
+    ensures within { OnSome result (at + 4 ≤ length bytes.now) }
+    ensures whole { IfNone result (length bytes.now < at + 4) }
 {
     if bytes.len() < 4 || at > bytes.len() - 4 {
         return None;
@@ -18,6 +20,18 @@ pub fn word_at(bytes: &[u8], at: usize) -> Option<u32>
         bytes[at + 2],
         bytes[at + 3],
     ]))
+}
+
+/// Whether the slice has this instruction word at the offset (in bytes).
+#[inline]
+pub fn has_word(bytes: &[u8], at: usize, word: u32) -> bool
+    ensures value { IsTrue result ↔ (word_at bytes.now at ≡ Some word) }
+    ensures within { IsTrue result → at + 4 ≤ length bytes.now }
+{
+    match word_at(bytes, at) {
+        Some(found) => found == word,
+        None => false,
+    }
 }
 
 /// Whether the word is `stp` of two 64-bit registers to an address from sp, in any of the three
@@ -48,6 +62,30 @@ pub fn is_indexed(word: u32) -> bool
     ensures { result ≡ is_indexed word }
 {
     (word >> 23) & 0b11 != 0b10
+}
+
+/// Whether a pair access is post-indexed: it begins at sp as it is, and moves sp afterwards.
+#[inline]
+pub fn is_post_indexed(word: u32) -> bool
+    ensures { result ≡ (addressing word == 1) }
+{
+    (word >> 23) & 0b11 == 0b01
+}
+
+/// Returns the number of the first register of a pair access.
+#[inline]
+pub fn first_register(word: u32) -> u32
+    ensures { result ≡ first_register word }
+{
+    word & 0b11111
+}
+
+/// Returns the number of the second register of a pair access.
+#[inline]
+pub fn second_register(word: u32) -> u32
+    ensures { result ≡ second_register word }
+{
+    (word >> 10) & 0b11111
 }
 
 /// Returns the signed offset of a pair access, in bytes.

@@ -10,12 +10,12 @@ pub returns-then-is_plain_store : goal.returns-then-is_plain_store
 returns-then-is_plain_store c =
     let run = c.sp_offset_of_run-sp_offset.ensures in
     let unmoved : lowered run.0 ≡ pos 0 = let e = run.2 in omega (arith, ints) in
-    too_early _ _ run.0 c.in_ok-next.next run.1 unmoved (sym c.in_ok-next.ensures) (sym (c.if-is_plain_store.ensures))
+    too_early _ _ run.0 c.in_ok-next.next run.1 unmoved (sym c.in_ok-next.ensures.value) (sym (c.if-is_plain_store.ensures))
 
 pub returns : goal.returns
 returns c =
     let run = c.sp_offset_of_run-sp_offset.ensures in
-    rule-only _ _ run.0 c.in_ok-next.next _ _ run.1 (let e = run.2 in omega (arith, ints)) (sym c.in_ok-next.ensures)
+    rule-only _ _ run.0 c.in_ok-next.next _ _ run.1 (let e = run.2 in omega (arith, ints)) (sym c.in_ok-next.ensures.value)
     (sym (c.if-not-is_expected_in_prologue.ensures))
     (λ plain none. elim c.else-sp_offset-eq0.branch [
       else-sp_offset-eq0-via-then-sp_offset-eq0+else-is_plain_store w ↦ not-both _ (w.if-is_plain_store.ensures) plain
