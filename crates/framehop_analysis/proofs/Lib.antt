@@ -6,3 +6,7 @@ mod Aarch64Undoes
 mod Aarch64Calls
 mod Aarch64Ends
 mod Aarch64Does
+mod X86_64Pushes
+mod X86_64Pops
+mod X86_64Undoes
+mod X86_64Does

@@ -3,3 +3,4 @@
 #![tactic(auto)]
 
 pub mod aarch64;
+pub mod x86_64;
