@@ -3,4 +3,7 @@
 #![tactic(auto)]
 
 pub mod aarch64;
+pub mod instruction_analysis;
 pub mod x86_64;
+
+pub use instruction_analysis::InstructionAnalysis;
