@@ -54,19 +54,19 @@ high-not-restoring : (word high : ℕ) → bits_at word 25 7 ≡ high → (bit_a
 high-not-restoring word high is apart other =
     let no_load : is_load word ≡ false = not-true (is_load word) (λ load. apart (ap (λ n. bit_and n 0x5F) (sym is) ∙ load-high word load)) in
     let no_add : is_add_sp word ≡ false = not-true (is_add_sp word) (λ add.
-      let code : word / 2 ^ 23 % 2 ^ 9 ≡ 0x122 = eq-true _ _ (and-left _ _ (and-left _ _ add)) in
-      let split = shr-shr word 23 2 in
-      other (omega arith)) in
+    let code : word / 2 ^ 23 % 2 ^ 9 ≡ 0x122 = eq-true _ _ (and-left _ _ (and-left _ _ add)) in
+    let split = shr-shr word 23 2 in
+    other (omega arith)) in
     cc
 
 pub branch-not-restoring : (word : ℕ) → is_branch word ≡ true → is_restoring word ≡ false
 branch-not-restoring word e = elim (or-cases (is_b word) (bits_at word 25 7 == 0x6B) e) [
-    inl b ↦ elim (b-high word b) [
-      inl ten ↦ high-not-restoring word 10 ten (λ same. let t : 10 ≡ 84 = same in omega arith) (λ n. omega arith)
-      | inr eleven ↦ high-not-restoring word 11 eleven (λ same. let t : 11 ≡ 84 = same in omega arith) (λ n. omega arith)
-    ]
-    | inr register ↦ high-not-restoring word 107 (eq-true _ _ register) (λ same. let t : 75 ≡ 84 = same in omega arith) (λ n. omega arith)
+  | inl b ↦ elim (b-high word b) [
+    | inl ten ↦ high-not-restoring word 10 ten (λ same. let t : 10 ≡ 84 = same in omega arith) (λ n. omega arith)
+    | inr eleven ↦ high-not-restoring word 11 eleven (λ same. let t : 11 ≡ 84 = same in omega arith) (λ n. omega arith)
   ]
+  | inr register ↦ high-not-restoring word 107 (eq-true _ _ register) (λ same. let t : 75 ≡ 84 = same in omega arith) (λ n. omega arith)
+]
 
 b-mov-apart : (word : ℕ) → is_b word ≡ true → is_mov word ≡ true → ⊥
 b-mov-apart word b mov =
@@ -79,9 +79,9 @@ b-mov-apart word b mov =
 
 pub return-branch : (word : ℕ) → is_return word ≡ true → is_branch word ≡ true
 return-branch word e = elim (or-cases (word == 0xD65F03C0) (word == 0xD65F0FFF) e) [
-    inl ret ↦ ap is_branch (eq-true word 0xD65F03C0 ret)
-    | inr retab ↦ ap is_branch (eq-true word 0xD65F0FFF retab)
-  ]
+  | inl ret ↦ ap is_branch (eq-true word 0xD65F03C0 ret)
+  | inr retab ↦ ap is_branch (eq-true word 0xD65F0FFF retab)
+]
 
 high-branch : (word mask value : ℕ) → bit_and word mask ≡ value → mask / 2 ^ 25 ≡ 2 ^ 7 - 1 → value / 2 ^ 25 ≡ 0x6B → is_branch word ≡ true
 high-branch word mask value e mask_is value_is =

@@ -47,20 +47,20 @@ loaded-at false true start address place memory old old' p at same old_is =
 loaded-at false false start address place memory old old' p at same old_is = old_is
 
 step-restored : (mask word : ℕ) (start s t : State) (p : Places) (load add : Bool) → is_load word ≡ load → is_add_sp word ≡ add → (load || add) ≡ true → Step mask word s t → Tracks start s p → Tracks start t (cond load (record {
-      sp = cond (addressing word == 2) p.sp (p.sp +ℤ pair_offset word);
-      fp = place_after_load word 29 (cond (addressing word == 1) p.sp (p.sp +ℤ pair_offset word)) p.fp;
-      lr = place_after_load word 30 (cond (addressing word == 1) p.sp (p.sp +ℤ pair_offset word)) p.lr;
-    }) (record p { sp = p.sp +ℤ pos (immediate word) }))
+  sp = cond (addressing word == 2) p.sp (p.sp +ℤ pair_offset word);
+  fp = place_after_load word 29 (cond (addressing word == 1) p.sp (p.sp +ℤ pair_offset word)) p.fp;
+  lr = place_after_load word 30 (cond (addressing word == 1) p.sp (p.sp +ℤ pair_offset word)) p.lr;
+}) (record p { sp = p.sp +ℤ pos (immediate word) }))
 step-restored mask word start s t p true add load_is add_is either step r =
     let e = step.loads load_is in
     let address = access_address word s.sp in
     let place = cond (addressing word == 1) p.sp (p.sp +ℤ pair_offset word) in
     let at : address ≡ offset_by start.sp place =
-        ap (λ n. cond (addressing word == 1) n (offset_by n (pair_offset word))) r.sp
-        ∙ moved-by (addressing word == 1) start.sp p.sp (pair_offset word) in
+    ap (λ n. cond (addressing word == 1) n (offset_by n (pair_offset word))) r.sp
+    ∙ moved-by (addressing word == 1) start.sp p.sp (pair_offset word) in
     record {
       sp = ap (λ u. u.sp) e ∙ ap (λ n. cond (addressing word == 2) n (offset_by n (pair_offset word))) r.sp
-        ∙ moved-by (addressing word == 2) start.sp p.sp (pair_offset word);
+          ∙ moved-by (addressing word == 2) start.sp p.sp (pair_offset word);
       fp = ap (λ u. u.fp) e ∙ loaded-at (second_register word == 29) (first_register word == 29) start address place s.memory start.fp s.fp p.fp at r.memory r.fp;
       lr = ap (λ u. u.lr) e ∙ loaded-at (second_register word == 30) (first_register word == 30) start address place s.memory start.lr s.lr p.lr at r.memory r.lr;
       memory = ap (λ u. u.memory) e ∙ r.memory;
@@ -88,9 +88,9 @@ IsQuiet word (next ∷ words) = (is_quiet word ≡ true) × IsQuiet next words
 step-quiet : (mask word : ℕ) (s t : State) → is_quiet word ≡ true → Step mask word s t → Signs mask s t
 unfolding is_quiet
 step-quiet mask word s t quiet step = elim (or-cases (is_signing word) (is_other word) quiet) [
-    inl signing ↦ step.signs signing
-    | inr other ↦ record { others = (let e = step.others other in e ∙ ap (λ l. record s { lr = l }) (sym (ap (λ u. u.lr) e))); address = ap (λ u. option_map (strip_ptr_auth mask) u.lr) (sym (step.others other)) }
-  ]
+  | inl signing ↦ step.signs signing
+  | inr other ↦ record { others = (let e = step.others other in e ∙ ap (λ l. record s { lr = l }) (sym (ap (λ u. u.lr) e))); address = ap (λ u. option_map (strip_ptr_auth mask) u.lr) (sym (step.others other)) }
+]
 
 signs-signs : (mask : ℕ) (s t u : State) → Signs mask s t → Signs mask t u → Signs mask s u
 signs-signs mask s t u a b = record {
@@ -179,7 +179,7 @@ restored-quiet text pc (inside_call (k, i)) =
     (found.0, found.1, subst Q (sym i.place) found.2, found.3)
 restored-quiet text pc (at_tail_call t) =
     elim (or-cases (is_b t.branch) (is_br t.branch) t.branches) [
-      inl b ↦ (t.branch, [], (t.branch_is, tt), (other-quiet t.branch (b-other t.branch b), b-branch t.branch b))
+      | inl b ↦ (t.branch, [], (t.branch_is, tt), (other-quiet t.branch (b-other t.branch b), b-branch t.branch b))
       | inr br ↦ (t.branch, [], (t.branch_is, tt), (other-quiet t.branch (br-other t.branch br), br-branch t.branch br))
     ]
 
@@ -224,12 +224,15 @@ found-out : (sp : ℤ) (lr fp : Source) (first : Bool) (r new : Registers) (memo
 unfolding IsOut
 found-out sp lr fp first r new memory out address c sp_is fp_is lr_is =
     let mask : new.lr_mask ≡ r.lr_mask = ap (λ u. u.lr_mask) c.end.registers in
-    let answer : new.lr ≡ address = ap (λ u. u.lr) c.end.registers in
-    (record {
-      sp = sp_is ∙ sym (ap (λ u. u.sp) c.end.registers);
-      fp = fp_is ∙ ap Some (sym (ap (λ u. u.fp) c.end.registers));
-      lr = ap (λ m. option_map (strip_ptr_auth m) out.lr) mask ∙ lr_is ∙ ap Some (sym c.end.stripped ∙ sym answer);
-    }, mask, sym answer)
+    let answer : new.lr ≡ address = ap (λ u. u.lr) c.end.registers in (
+      record {
+        sp = sp_is ∙ sym (ap (λ u. u.sp) c.end.registers);
+        fp = fp_is ∙ ap Some (sym (ap (λ u. u.fp) c.end.registers));
+        lr = ap (λ m. option_map (strip_ptr_auth m) out.lr) mask ∙ lr_is ∙ ap Some (sym c.end.stripped ∙ sym answer);
+      },
+      mask,
+      sym answer,
+    )
 
 -- a register that is kept, and one that is stored
 lr-kept : (r : Registers) (here out : State) (new_lr : ℕ) (p : Option ℤ) → p ≡ None → SameAddress r.lr_mask (value_at here p here.lr) out.lr → StandsIn r here → r.lr ≡ new_lr → option_map (strip_ptr_auth r.lr_mask) out.lr ≡ Some (strip_ptr_auth r.lr_mask new_lr)

@@ -43,19 +43,22 @@ of-lt : (m n : ℕ) → m < n → IsTrue (nat_lt m n)
 of-lt m n below = grind (arith, nat_tests)
 
 pub inside-iff : (text : List ℕ) (pc before len : ℕ) → 4 * before ≤ pc → ((words : List ℕ) × Stand text (pc - 4 * before) words × IsAuthenticatedCall words × (len ≡ length words)) → IsTrue (nat_lt before len) ↔ IsInsideCallAfter text pc before
-inside-iff text pc before len room found = (λ test. record {
+inside-iff text pc before len room found = (
+  λ test. record {
     start = pc - 4 * before;
     words = found.0;
     stands = found.1;
     call = found.2;
     place = omega arith;
     inside = (let e = found.3 in let below = lt-of before len test in omega arith);
-  }, λ i.
-    let at : i.start ≡ pc - 4 * before = (let e = i.place in omega arith) in
-    let P : ℕ → Type 0 = λ n. Stand text n i.words in
-    let same : i.words ≡ found.0 = call-same text (pc - 4 * before) i.words found.0 (subst P at i.stands) i.call found.1 found.2 in
-    let n : length i.words ≡ length found.0 = ap length same in
-    let e = found.3 in let inside = i.inside in of-lt before len (omega arith))
+  },
+  λ i.
+      let at : i.start ≡ pc - 4 * before = (let e = i.place in omega arith) in
+      let P : ℕ → Type 0 = λ n. Stand text n i.words in
+      let same : i.words ≡ found.0 = call-same text (pc - 4 * before) i.words found.0 (subst P at i.stands) i.call found.1 found.2 in
+      let n : length i.words ≡ length found.0 = ap length same in
+      let e = found.3 in let inside = i.inside in of-lt before len (omega arith),
+)
 
 pub not-inside : (text : List ℕ) (pc before : ℕ) → ((words : List ℕ) → Stand text (pc - 4 * before) words → IsAuthenticatedCall words → ⊥) → IsInsideCallAfter text pc before → ⊥
 not-inside text pc before none i =
@@ -81,13 +84,13 @@ same-places a b c d e f p q r = cc
 
 -- the places after an instruction, from the tests of its shape
 pub places-load : (p : Places) (word : ℕ) (old moved sp sp' old' moved' place place' : ℤ) (fp lr : Option ℤ) → is_load word ≡ true
-  → sp' ≡ cond (addressing word == 2) old moved → sp ≡ sp' → old ≡ p.sp → moved ≡ p.sp +ℤ pair_offset word
-  → place' ≡ cond (addressing word == 1) old' moved' → place ≡ place' → old' ≡ p.sp → moved' ≡ p.sp +ℤ pair_offset word
-  → fp ≡ place_after_load word 29 place p.fp → lr ≡ place_after_load word 30 place p.lr
-  → record { sp = sp; fp = fp; lr = lr } ≡ places_after p word
+    → sp' ≡ cond (addressing word == 2) old moved → sp ≡ sp' → old ≡ p.sp → moved ≡ p.sp +ℤ pair_offset word
+    → place' ≡ cond (addressing word == 1) old' moved' → place ≡ place' → old' ≡ p.sp → moved' ≡ p.sp +ℤ pair_offset word
+    → fp ≡ place_after_load word 29 place p.fp → lr ≡ place_after_load word 30 place p.lr
+    → record { sp = sp; fp = fp; lr = lr } ≡ places_after p word
 places-load p word old moved sp sp' old' moved' place place' fp lr load sp_is sp_same old_is moved_is place_is place_same old_is' moved_is' fp_is lr_is =
     let at : place ≡ cond (addressing word == 1) p.sp (p.sp +ℤ pair_offset word) =
-        place_same ∙ place_is ∙ chosen (addressing word == 1) old' p.sp moved' (p.sp +ℤ pair_offset word) old_is' moved_is' in
+    place_same ∙ place_is ∙ chosen (addressing word == 1) old' p.sp moved' (p.sp +ℤ pair_offset word) old_is' moved_is' in
     same-places sp _ fp _ lr _
     (sp_same ∙ sp_is ∙ chosen (addressing word == 2) old p.sp moved (p.sp +ℤ pair_offset word) old_is moved_is)
     (fp_is ∙ ap (λ q. place_after_load word 29 q p.fp) at)
@@ -99,20 +102,20 @@ places-load p word old moved sp sp' old' moved' place place' fp lr load sp_is sp
 pub rest-forward : (text : List ℕ) (at word : ℕ) (places : Places) → word_at text at ≡ Some word → is_restoring word ≡ true → (rule : UnwindRuleAarch64) → IsRestOfEpilogue text at places rule → IsRestOfEpilogue text (at + 4) (places_after places word) rule
 rest-forward text at word places there is rule rest =
     forward rest.restoring rest.end rest.stands rest.restore rest.ends rest.made where
-  forward : (restoring end : List ℕ) → Stand text at (restoring ++ end) → AllRestoring restoring → IsEnd (places_after_all places restoring).sp end → IsRuleOfPlaces (places_after_all places restoring) rule → IsRestOfEpilogue text (at + 4) (places_after places word) rule
-  forward [] end stands restore ends made =
-      let unlike : is_restoring word ≡ false = end-not-restoring text at word places.sp end ends stands there in cc
-  forward (w ∷ restoring) end stands restore ends made =
-      let same : w ≡ word = some-same w word (sym stands.0 ∙ there) in
-      let P : ℕ → Type 0 = λ v. IsRestOfEpilogue text (at + 4) (places_after places v) rule in
-      subst P same (record {
-        restoring = restoring;
-        end = end;
-        stands = stands.1;
-        restore = restore.1;
-        ends = ends;
-        made = made;
-      })
+      forward : (restoring end : List ℕ) → Stand text at (restoring ++ end) → AllRestoring restoring → IsEnd (places_after_all places restoring).sp end → IsRuleOfPlaces (places_after_all places restoring) rule → IsRestOfEpilogue text (at + 4) (places_after places word) rule
+      forward [] end stands restore ends made =
+          let unlike : is_restoring word ≡ false = end-not-restoring text at word places.sp end ends stands there in cc
+      forward (w ∷ restoring) end stands restore ends made =
+          let same : w ≡ word = some-same w word (sym stands.0 ∙ there) in
+          let P : ℕ → Type 0 = λ v. IsRestOfEpilogue text (at + 4) (places_after places v) rule in
+          subst P same (record {
+            restoring = restoring;
+            end = end;
+            stands = stands.1;
+            restore = restore.1;
+            ends = ends;
+            made = made;
+          })
 
 pub rest-back : (text : List ℕ) (at word : ℕ) (places : Places) → word_at text at ≡ Some word → is_restoring word ≡ true → (rule : UnwindRuleAarch64) → IsRestOfEpilogue text (at + 4) (places_after places word) rule → IsRestOfEpilogue text at places rule
 rest-back text at word places there is rule rest = record {
@@ -128,9 +131,9 @@ rest-back text at word places there is rule rest = record {
 pub rest-end : (text : List ℕ) (at : ℕ) (places : Places) → ((word : ℕ) → word_at text at ≡ Some word → is_restoring word ≡ true → ⊥) → (rule : UnwindRuleAarch64) → IsRestOfEpilogue text at places rule → Ends text at places.sp × IsRuleOfPlaces places rule
 rest-end text at places none rule rest =
     at_end rest.restoring rest.end rest.stands rest.restore rest.ends rest.made where
-  at_end : (restoring end : List ℕ) → Stand text at (restoring ++ end) → AllRestoring restoring → IsEnd (places_after_all places restoring).sp end → IsRuleOfPlaces (places_after_all places restoring) rule → Ends text at places.sp × IsRuleOfPlaces places rule
-  at_end [] end stands restore ends made = ((end, stands, ends), made)
-  at_end (w ∷ restoring) end stands restore ends made = absurd (none w stands.0 restore.0)
+      at_end : (restoring end : List ℕ) → Stand text at (restoring ++ end) → AllRestoring restoring → IsEnd (places_after_all places restoring).sp end → IsRuleOfPlaces (places_after_all places restoring) rule → Ends text at places.sp × IsRuleOfPlaces places rule
+      at_end [] end stands restore ends made = ((end, stands, ends), made)
+      at_end (w ∷ restoring) end stands restore ends made = absurd (none w stands.0 restore.0)
 
 pub end-rest : (text : List ℕ) (at : ℕ) (places : Places) → Ends text at places.sp → (rule : UnwindRuleAarch64) → IsRuleOfPlaces places rule → IsRestOfEpilogue text at places rule
 end-rest text at places (words, stands, ends) rule made = record {
@@ -182,9 +185,9 @@ only-end text pc at places found not_restored r none ends only =
     only-map (IsRuleOfPlaces places) (IsEpilogueRule text pc) found
     (λ rule made. restores not_restored (r.back rule (end-rest text at places ends rule made)))
     (λ rule p. made_by rule p) only where
-  made_by : (rule : UnwindRuleAarch64) → IsEpilogueRule text pc rule → IsRuleOfPlaces places rule
-  made_by rule (restored here e) = absurd (not_restored here)
-  made_by rule (restores not_here rest) = (rest-end text at places none rule (r.forward rule rest)).1
+      made_by : (rule : UnwindRuleAarch64) → IsEpilogueRule text pc rule → IsRuleOfPlaces places rule
+      made_by rule (restored here e) = absurd (not_restored here)
+      made_by rule (restores not_here rest) = (rest-end text at places none rule (r.forward rule rest)).1
 
 pub never : IsTrue false → ⊥
 never t = cc

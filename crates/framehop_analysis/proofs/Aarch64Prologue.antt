@@ -29,7 +29,7 @@ rule-only before after run next depth found longest depth_is next_is expected mo
       made = (let P : ℤ → Type 0 = λ d. IsRuleOfDepth d rule in subst P depth_is made);
     })
     (λ rule p. (let P : ℤ → Type 0 = λ d. IsRuleOfDepth d rule in
-      subst P (ap lowered (longest-same before p.run run p.longest longest) ∙ sym depth_is) p.made))
+    subst P (ap lowered (longest-same before p.run run p.longest longest) ∙ sym depth_is) p.made))
     only
 
 pub not-both : (b : Bool) → false ≡ b → b ≡ true → ⊥

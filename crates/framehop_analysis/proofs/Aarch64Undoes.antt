@@ -66,8 +66,8 @@ run-lowered mask at bytes (word ∷ run) s t stands fits (next, step, rest) =
     let later = run-lowered mask (at + 4) bytes run next t stands.2 next_fits rest in
     record {
       sp = later.sp ∙ ap (λ n. offset_by n (pos 0 -ℤ lowered run)) first.sp
-        ∙ offset_by-offset_by s.sp (pos 0 -ℤ lowered_by word) (pos 0 -ℤ lowered run)
-        ∙ ap (offset_by s.sp) (omega (arith, ints));
+          ∙ offset_by-offset_by s.sp (pos 0 -ℤ lowered_by word) (pos 0 -ℤ lowered run)
+          ∙ ap (offset_by s.sp) (omega (arith, ints));
       fp = later.fp ∙ first.fp;
       lr = first.lr ∙ later.lr;
     }
@@ -90,10 +90,10 @@ entry-sp entry here n depth x fits here_is depth_is sum n_fits =
     let cancels : (pos 0 -ℤ depth) +ℤ pos x ≡ pos 0 = omega (arith, ints) in
     let back : offset_by here (pos x) ≡ n = offset_by-fits here n (pos x) sum n_fits in
     let there : offset_by here (pos x) ≡ entry =
-        ap (λ m. offset_by m (pos x)) here_is
-        ∙ offset_by-offset_by entry (pos 0 -ℤ depth) (pos x)
-        ∙ ap (offset_by entry) cancels
-        ∙ offset_by-zero entry fits in
+    ap (λ m. offset_by m (pos x)) here_is
+    ∙ offset_by-offset_by entry (pos 0 -ℤ depth) (pos x)
+    ∙ ap (offset_by entry) cancels
+    ∙ offset_by-zero entry fits in
     sym there ∙ back
 
 pub ok-same : (m n : ℕ) → ◌≡◌ {A = Result ℕ Error} (Ok m) (Ok n) → m ≡ n
@@ -111,13 +111,16 @@ offset-undoes mask depth x sp r new entry here address mask_is depth_is sp_is fi
     let mask_kept : new.lr_mask ≡ r.lr_mask = ap (λ u. u.lr_mask) c.end.registers in
     let lr_is : new.lr ≡ address = ap (λ u. u.lr) c.end.registers in
     let entry_lr : option_map (strip_ptr_auth r.lr_mask) entry.lr ≡ Some r.lr =
-        ap (λ m. option_map (strip_ptr_auth m) entry.lr) (sym mask_is) ∙ lowered.lr
-        ∙ ap (λ m. option_map (strip_ptr_auth m) here.lr) mask_is ∙ stands.lr in
-    (record {
-      sp = sp ∙ sym (ap (λ u. u.sp) c.end.registers);
-      fp = sym lowered.fp ∙ stands.fp ∙ ap Some (new_fp ∙ sym (ap (λ u. u.fp) c.end.registers));
-      lr = ap (λ m. option_map (strip_ptr_auth m) entry.lr) mask_kept ∙ entry_lr ∙ ap Some (sym (lr_is ∙ stripped));
-    }, mask_kept, sym lr_is)
+    ap (λ m. option_map (strip_ptr_auth m) entry.lr) (sym mask_is) ∙ lowered.lr
+    ∙ ap (λ m. option_map (strip_ptr_auth m) here.lr) mask_is ∙ stands.lr in (
+      record {
+        sp = sp ∙ sym (ap (λ u. u.sp) c.end.registers);
+        fp = sym lowered.fp ∙ stands.fp ∙ ap Some (new_fp ∙ sym (ap (λ u. u.fp) c.end.registers));
+        lr = ap (λ m. option_map (strip_ptr_auth m) entry.lr) mask_kept ∙ entry_lr ∙ ap Some (sym (lr_is ∙ stripped));
+      },
+      mask_kept,
+      sym lr_is,
+    )
 
 undoes-run : (bytes run : List ℕ) (at : ℕ) (rule : UnwindRuleAarch64) → IsRun bytes at run → IsRuleOfDepth (lowered run) rule → UndoesRun run rule
 undoes-run bytes run at NoOp stands made =

@@ -25,11 +25,11 @@ only-some P Q (Some y) only to = to y only.0
 pub first-exact : {A : Type 0} (P Q : A → Type 0) (first found : Option A) (Other : Type 0) → ((x : A) → (first ≡ Some x) ↔ P x) → MatchOption first Other (λ x. found ≡ Some x) → (Other → (x : A) → (found ≡ Some x) ↔ Q x) → (x : A) → (found ≡ Some x) ↔ FirstOf P Q x
 first-exact {A} P Q None found Other exact other then x =
     (λ e. inr (λ y p. (let none = (exact y).1 p in cc), (then other x).0 e), λ f. from f) where
-  from : FirstOf P Q x → found ≡ Some x
-  from (inl p) = (let none = (exact x).1 p in cc)
-  from (inr q) = (then other x).1 q.1
+      from : FirstOf P Q x → found ≡ Some x
+      from (inl p) = (let none = (exact x).1 p in cc)
+      from (inr q) = (then other x).1 q.1
 first-exact {A} P Q (Some y) found Other exact same then x =
     (λ e. inl ((exact x).0 (sym same ∙ e)), λ f. from f) where
-  from : FirstOf P Q x → found ≡ Some x
-  from (inl p) = same ∙ (exact x).1 p
-  from (inr q) = absurd (q.0 y ((exact y).0 refl))
+      from : FirstOf P Q x → found ≡ Some x
+      from (inl p) = same ∙ (exact x).1 p
+      from (inr q) = absurd (q.0 y ((exact y).0 refl))

@@ -86,9 +86,9 @@ same-pop text at pop next register e machine =
 
 is-high : (opcode : ℕ) → is_end opcode ≡ true → 96 ≤ opcode
 is-high opcode e = elim (or-cases (opcode == 0xC3) (is_jump opcode) e) [
-    inl ret ↦ (let same : opcode ≡ 0xC3 = eq-true _ _ ret in omega arith)
-    | inr jump ↦ jump-high opcode jump
-  ]
+  | inl ret ↦ (let same : opcode ≡ 0xC3 = eq-true _ _ ret in omega arith)
+  | inr jump ↦ jump-high opcode jump
+]
 
 -- the grammar's end is no pop of the machine
 end-high : (text : List ℕ) (pc at count : ℕ) → IsEnd text pc at count → (opcode : ℕ) × (slice_get text at ≡ Some opcode) × (96 ≤ opcode)

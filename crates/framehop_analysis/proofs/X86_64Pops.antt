@@ -62,12 +62,12 @@ pop-low first second pop (after_41 opcode is there code e) = omega arith
 
 pub jump-high : (opcode : ℕ) → is_jump opcode ≡ true → 96 ≤ opcode
 jump-high opcode e = elim (or-cases ((opcode == 0xEB) || (opcode == 0xE9)) (opcode == 0xFF) e) [
-    inl first ↦ elim (or-cases (opcode == 0xEB) (opcode == 0xE9) first) [
-      inl eb ↦ (let same : opcode ≡ 0xEB = eq-true _ _ eb in omega arith)
-      | inr e9 ↦ (let same : opcode ≡ 0xE9 = eq-true _ _ e9 in omega arith)
-    ]
-    | inr ff ↦ (let same : opcode ≡ 0xFF = eq-true _ _ ff in omega arith)
+  | inl first ↦ elim (or-cases (opcode == 0xEB) (opcode == 0xE9) first) [
+    | inl eb ↦ (let same : opcode ≡ 0xEB = eq-true _ _ eb in omega arith)
+    | inr e9 ↦ (let same : opcode ≡ 0xE9 = eq-true _ _ e9 in omega arith)
   ]
+  | inr ff ↦ (let same : opcode ≡ 0xFF = eq-true _ _ ff in omega arith)
+]
 
 end-not-pop : (text : List ℕ) (pc at count : ℕ) (pop : Pop) → IsEnd text pc at count → pop_at text at ≡ Some pop → ⊥
 end-not-pop text pc at count pop (returns there) e =
@@ -87,23 +87,23 @@ end-not-pop text pc at count pop (jumps opcode there is follows) e =
 pub end-jump : (text : List ℕ) (pc at pops opcode : ℕ) (follows : Bool) → Some opcode ≡ slice_get text at → (opcode ≡ 0xC3 → ⊥) → is_jump opcode ≡ true → IsTrue follows ↔ FollowsPop text pc pops → IsTrue follows ↔ IsEnd text pc at pops
 end-jump text pc at pops opcode follows there no_return jump iff =
     (λ t. jumps opcode (sym there) jump (iff.0 t), λ e. from_end e) where
-  from_end : IsEnd text pc at pops → IsTrue follows
-  from_end (returns here) = absurd (no_return (some-same opcode 0xC3 (there ∙ here)))
-  from_end (jumps other here is follow) = iff.1 follow
+      from_end : IsEnd text pc at pops → IsTrue follows
+      from_end (returns here) = absurd (no_return (some-same opcode 0xC3 (there ∙ here)))
+      from_end (jumps other here is follow) = iff.1 follow
 
 -- ---- the rest of an epilogue
 
 rest-forward : (text : List ℕ) (pc at size : ℕ) (is_bp : Bool) (p : Popped) → pop_at text at ≡ Some (record { size = size; is_bp = is_bp }) → (rule : UnwindRuleX86_64) → IsRestOfEpilogue text pc at p rule → IsRestOfEpilogue text pc (at + size) (after_pop p is_bp) rule
 rest-forward text pc at size is_bp p there rule rest =
     forward rest.pops rest.end rest.stand rest.ends rest.made where
-  forward : (pops : List Bool) (end : ℕ) → ArePops text at pops end → IsEnd text pc end (after_pops p pops).count → IsRuleOfPopped (after_pops p pops) rule → IsRestOfEpilogue text pc (at + size) (after_pop p is_bp) rule
-  forward [] end same ends made =
-      let P : ℕ → Type 0 = λ n. IsEnd text pc n p.count in
-      absurd (end-not-pop text pc at p.count _ (subst P (sym same) ends) there)
-  forward (b ∷ pops) end (n, pop, stand) ends made =
-      let same : record { size = n; is_bp = b } ≡ record { size = size; is_bp = is_bp } = some-same {A = Pop} _ _ (sym pop ∙ there) in
-      let P : Pop → Type 0 = λ q. IsRestOfEpilogue text pc (at + q.size) (after_pop p q.is_bp) rule in
-      subst P same (record { pops = pops; end = end; stand = stand; ends = ends; made = made })
+      forward : (pops : List Bool) (end : ℕ) → ArePops text at pops end → IsEnd text pc end (after_pops p pops).count → IsRuleOfPopped (after_pops p pops) rule → IsRestOfEpilogue text pc (at + size) (after_pop p is_bp) rule
+      forward [] end same ends made =
+          let P : ℕ → Type 0 = λ n. IsEnd text pc n p.count in
+          absurd (end-not-pop text pc at p.count _ (subst P (sym same) ends) there)
+      forward (b ∷ pops) end (n, pop, stand) ends made =
+          let same : record { size = n; is_bp = b } ≡ record { size = size; is_bp = is_bp } = some-same {A = Pop} _ _ (sym pop ∙ there) in
+          let P : Pop → Type 0 = λ q. IsRestOfEpilogue text pc (at + q.size) (after_pop p q.is_bp) rule in
+          subst P same (record { pops = pops; end = end; stand = stand; ends = ends; made = made })
 
 rest-back : (text : List ℕ) (pc at size : ℕ) (is_bp : Bool) (p : Popped) → pop_at text at ≡ Some (record { size = size; is_bp = is_bp }) → (rule : UnwindRuleX86_64) → IsRestOfEpilogue text pc (at + size) (after_pop p is_bp) rule → IsRestOfEpilogue text pc at p rule
 rest-back text pc at size is_bp p there rule rest = record {

@@ -66,27 +66,28 @@ pub walk-back : (text : List ℕ) (pc start count before : ℕ) → IsWalked tex
 unfolding Passes
 walk-back text pc start count before w b = record {
   pushes = (let more : suc count ≡ count + 1 = omega arith in let P : ℕ → Type 0 = λ n. ArePushes text n before pc in
-    subst P more (pushes-before text count before start pc b.push w.pushes));
+      subst P more (pushes-before text count before start pc b.push w.pushes));
   through = λ s n p. on s n (w.through s n p);
   small = (let below = before-below text start before b in let small = w.small in omega arith);
 } where
   below : before < start
   below = before-below text start before b
+
   on : (s n : ℕ) → Passes text start count s n → Passes text before (count + 1) s n
   on s n (inl within) = let a = within.0 in let c = within.1 in inl (omega (arith, below), omega arith)
   on s n (inr (zero, same, e)) = inl (omega (arith, below, same), omega arith)
   on s n (inr (suc zero, (last, same, push), e)) = elim (last-of text start before last b push) [
-      inl at ↦ inr (zero, same ∙ at, omega arith)
-      | inr past ↦ let at = past.0 in inl (omega arith, omega arith)
-    ]
+    | inl at ↦ inr (zero, same ∙ at, omega arith)
+    | inr past ↦ let at = past.0 in inl (omega arith, omega arith)
+  ]
   on s n (inr (suc (suc m), (last, (last', rest, push'), push), e)) = elim (last-of text start before last b push) [
-      inl at ↦ (let P : ℕ → Type 0 = ArePushes text (suc m) s in inr (suc m, subst P at (last', rest, push'), omega arith))
-      | inr past ↦
+    | inl at ↦ (let P : ℕ → Type 0 = ArePushes text (suc m) s in inr (suc m, subst P at (last', rest, push'), omega arith))
+    | inr past ↦
         let found = push-opcode text last' last push' in
         let at : last - 1 ≡ before = (let e = past.0 in omega arith) in
         let same : found.0 ≡ past.1.0 = some-same found.0 past.1.0 (sym found.2 ∙ ap (slice_get text) at ∙ past.1.1) in
         absurd (push-prefix-apart past.1.0 (ap is_push (sym same) ∙ found.3) past.1.2)
-    ]
+  ]
 
 pub walk-end : (text : List ℕ) (pc start count : ℕ) → IsWalked text pc start count → ((opcode : ℕ) → 0 < start → slice_get text (start - 1) ≡ Some opcode → is_push opcode ≡ true → ⊥) → AreLongestPushes text pc start count
 unfolding Passes
@@ -133,12 +134,12 @@ only-pushes text pc start count found next longest only =
     only-map (IsRuleOfPushes text start count) (IsPrologueRule text pc) found
     (λ rule made. record { next = next; start = start; count = count; longest = longest; made = made })
     (λ rule p.
-      let a = longest.longest p.start p.count p.longest.pushes in
-      let b = p.longest.longest start count longest.pushes in
-      let low = a.0 in let high = b.0 in let few = a.1 in let many = b.1 in
-      let starts : p.start ≡ start = omega arith in
-      let counts : p.count ≡ count = omega arith in
-      let P : ℕ → Type 0 = λ n. IsRuleOfPushes text n p.count rule in
-      let Q : ℕ → Type 0 = λ n. IsRuleOfPushes text start n rule in
-      subst Q counts (subst P starts p.made))
+    let a = longest.longest p.start p.count p.longest.pushes in
+    let b = p.longest.longest start count longest.pushes in
+    let low = a.0 in let high = b.0 in let few = a.1 in let many = b.1 in
+    let starts : p.start ≡ start = omega arith in
+    let counts : p.count ≡ count = omega arith in
+    let P : ℕ → Type 0 = λ n. IsRuleOfPushes text n p.count rule in
+    let Q : ℕ → Type 0 = λ n. IsRuleOfPushes text start n rule in
+    subst Q counts (subst P starts p.made))
     only

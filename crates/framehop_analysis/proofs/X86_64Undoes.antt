@@ -78,9 +78,12 @@ offset-undoes count x r new entry here address x_is run stands c =
     let f = found _ _ _ r new here.memory address c in
     let sum : r.rsp + x * 8 ≡ c.new_sp = pos-same _ c.new_sp c.sp_is in
     let low = p.sp in let at = stands.sp in
-    let sp : entry.sp + 8 ≡ c.new_sp = omega arith in
-    (f.rsp ∙ sym sp, sym p.bp ∙ stands.bp ∙ ap Some (ok-same r.rbp c.new_bp c.bp_is ∙ sym f.rbp),
-      sym (p.above entry.sp (omega arith)) ∙ f.word entry.sp sp, f.ip)
+    let sp : entry.sp + 8 ≡ c.new_sp = omega arith in (
+      f.rsp ∙ sym sp,
+      sym p.bp ∙ stands.bp ∙ ap Some (ok-same r.rbp c.new_bp c.bp_is ∙ sym f.rbp),
+      sym (p.above entry.sp (omega arith)) ∙ f.word entry.sp sp,
+      f.ip,
+    )
 
 frame-undoes : (count : ℕ) (r new : Registers) (entry s here : State) (address : ℕ) → SetsUpFrame entry s → PushRun count s here → StandsIn r here → IsCaller (above r.rbp 16) stack_pointer_rises (stored_at (pos r.rbp)) r here.memory address new → Undone new entry address
 unfolding Undone
@@ -94,15 +97,16 @@ frame-undoes count r new entry s here address frame run stands c =
     let low = frame.pushes.sp in
     let sp : entry.sp + 8 ≡ c.new_sp = omega arith in
     let stays : (address : ℕ) → s.sp ≤ address → here.memory address ≡ frame.pushed.memory address =
-        λ n up. p.above n up ∙ ap (λ (u : State). u.memory n) frame.moved in
-    let word : here.memory r.rbp ≡ Some c.new_bp = read-word here.memory (pos r.rbp) r.rbp c.new_bp refl c.bp_is in
-    (f.rsp ∙ sym sp,
+    λ n up. p.above n up ∙ ap (λ (u : State). u.memory n) frame.moved in
+    let word : here.memory r.rbp ≡ Some c.new_bp = read-word here.memory (pos r.rbp) r.rbp c.new_bp refl c.bp_is in (
+      f.rsp ∙ sym sp,
       sym frame.stored ∙ ap frame.pushed.memory bp_is ∙ sym (stays r.rbp (omega arith)) ∙ word ∙ ap Some (sym f.rbp),
       sym (frame.pushes.others entry.sp (inr (omega arith))) ∙ sym (stays entry.sp (omega arith)) ∙ f.word entry.sp sp,
-      f.ip)
+      f.ip,
+    )
   where
-  some-same : (m n : ℕ) → Some m ≡ Some n → m ≡ n
-  some-same m n e = cc
+    some-same : (m n : ℕ) → Some m ≡ Some n → m ≡ n
+    some-same m n e = cc
 
 line-answers : (zero_bp : Bool) (r new : Registers) (memory : Memory) (address : ℕ) → outcome_of_line (cond zero_bp stack_end (frame_pointer_line r)) r memory ≡ answered address new → IsCaller (above r.rbp 16) stack_pointer_rises (stored_at (pos r.rbp)) r memory address new
 line-answers true r new memory address e = cc

@@ -52,7 +52,8 @@ pub trait InstructionAnalysis: Arch {
             ⊎ does_epilogue text_bytes.now pc_offset rule) }
         ensures executable { IfSome result (λ rule. IsTrue (Self.UnwindRule.executable rule)) }
     {
-        Self::rule_from_prologue_analysis(text_bytes, pc_offset)
-            .or_else(|| Self::rule_from_epilogue_analysis(text_bytes, pc_offset))
+        Self::rule_from_prologue_analysis(text_bytes, pc_offset).or_else(
+            || Self::rule_from_epilogue_analysis(text_bytes, pc_offset),
+        )
     }
 }

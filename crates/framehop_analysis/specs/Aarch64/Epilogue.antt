@@ -36,12 +36,12 @@ place_after_load word register place old =
 abbrev pub places_after : Places → ℕ → Places
 places_after p word =
     if is_load word then
-      (let place = if addressing word == 1 then p.sp else p.sp +ℤ pair_offset word in
-      record {
-        sp = if addressing word == 2 then p.sp else p.sp +ℤ pair_offset word;
-        fp = place_after_load word 29 place p.fp;
-        lr = place_after_load word 30 place p.lr;
-      })
+    (let place = if addressing word == 1 then p.sp else p.sp +ℤ pair_offset word in
+    record {
+      sp = if addressing word == 2 then p.sp else p.sp +ℤ pair_offset word;
+      fp = place_after_load word 29 place p.fp;
+      lr = place_after_load word 30 place p.lr;
+    })
     else record p { sp = p.sp +ℤ pos (immediate word) }
 
 abbrev pub places_after_all : Places → List ℕ → Places

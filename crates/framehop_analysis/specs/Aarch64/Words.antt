@@ -7,7 +7,7 @@ abbrev pub word_at : List ℕ → ℕ → Option ℕ
 word_at bytes at =
     if nat_le (at + 4) (length bytes)
     then Some (slice_index bytes at + 2 ^ 8 * slice_index bytes (at + 1)
-      + 2 ^ 16 * slice_index bytes (at + 2) + 2 ^ 24 * slice_index bytes (at + 3))
+    + 2 ^ 16 * slice_index bytes (at + 2) + 2 ^ 24 * slice_index bytes (at + 3))
     else None
 
 -- these words stand one after another in the slice, from an offset on

@@ -4,11 +4,10 @@ mod prologue;
 mod units;
 mod words;
 
-pub use epilogue::unwind_rule_from_detected_epilogue;
-pub use prologue::unwind_rule_from_detected_prologue;
-
 use crate::instruction_analysis::InstructionAnalysis;
+pub use epilogue::unwind_rule_from_detected_epilogue;
 use framehop_core::aarch64::{ArchAarch64, UnwindRuleAarch64};
+pub use prologue::unwind_rule_from_detected_prologue;
 
 impl InstructionAnalysis for ArchAarch64 {
     ghost use Rattle.std.specs.Prelude.{take, drop};
@@ -38,3 +37,6 @@ impl InstructionAnalysis for ArchAarch64 {
         unwind_rule_from_detected_epilogue(text_bytes, pc_offset)
     }
 }
+
+#[cfg(test)]
+mod tests;

@@ -3,11 +3,10 @@ mod bytes;
 mod epilogue;
 mod prologue;
 
-pub use epilogue::unwind_rule_from_detected_epilogue;
-pub use prologue::unwind_rule_from_detected_prologue;
-
 use crate::instruction_analysis::InstructionAnalysis;
+pub use epilogue::unwind_rule_from_detected_epilogue;
 use framehop_core::x86_64::{ArchX86_64, UnwindRuleX86_64};
+pub use prologue::unwind_rule_from_detected_prologue;
 
 impl InstructionAnalysis for ArchX86_64 {
     ghost use Rattle.framehop_analysis.specs.X86_64.Prologue.{IsPrologueRule, UndoesPrologue};
@@ -35,3 +34,6 @@ impl InstructionAnalysis for ArchX86_64 {
         unwind_rule_from_detected_epilogue(text_bytes, pc_offset)
     }
 }
+
+#[cfg(test)]
+mod tests;

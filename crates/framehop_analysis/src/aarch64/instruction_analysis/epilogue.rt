@@ -85,7 +85,10 @@ fn is_at_tail_call(text_bytes: &[u8], pc_offset: usize) -> bool
     if pc_offset < 4 {
         return false;
     }
-    match (word_at(text_bytes, pc_offset), word_at(text_bytes, pc_offset - 4)) {
+    match (
+        word_at(text_bytes, pc_offset),
+        word_at(text_bytes, pc_offset - 4),
+    ) {
         (Some(branch), Some(before)) => {
             (is_b(branch) || is_br(branch)) && instruction_adjusts_stack_pointer(before)
         }
@@ -164,7 +167,7 @@ fn auth_tail_call_len(text_bytes: &[u8], start: usize) -> Option<usize>
     ensures { MatchOption result
         ((words : List ℕ) → Stand text_bytes.now start words → IsAuthenticatedCall words → ⊥)
         (λ len. (words : List ℕ) × Stand text_bytes.now start words
-            × IsAuthenticatedCall words × (len ≡ length words)) }
+        × IsAuthenticatedCall words × (len ≡ length words)) }
 {
     let tail_call = auth_check_end(text_bytes, start)?;
     let first = word_at(text_bytes, tail_call)?;
@@ -208,7 +211,7 @@ fn restoring_word_at(text_bytes: &[u8], at: usize) -> Option<u32>
     ensures { MatchOption result
         ((word : ℕ) → word_at text_bytes.now at ≡ Some word → is_restoring word ≡ true → ⊥)
         (λ word. (word_at text_bytes.now at ≡ Some word) × (is_restoring word ≡ true)
-            × (at + 4 ≤ length text_bytes.now)) }
+        × (at + 4 ≤ length text_bytes.now)) }
 {
     let word = word_at(text_bytes, at)?;
     if is_load(word) || is_add_sp(word) {
@@ -329,7 +332,11 @@ fn place_of_load(word: u32, sp_offset: i128, moved: i128) -> i128
     ensures least { sp_offset ≤ℤ (result +ℤ pos 512) }
     ensures most { result ≤ℤ (sp_offset +ℤ pos 504) }
 {
-    if is_post_indexed(word) { sp_offset } else { moved }
+    if is_post_indexed(word) {
+        sp_offset
+    } else {
+        moved
+    }
 }
 
 /// Returns where sp is after a load of a pair: only a plain one leaves it.

@@ -84,10 +84,10 @@ fn reverse_step(slice_from_start: &[u8], start: usize) -> Option<i128>
     requires { start * 4 < 2 ^ 64 }
     ensures step { MatchOption result
         ((word : ℕ) → 0 < start → word_at slice_from_start.now (4 * (start - 1)) ≡ Some word
-            → is_run_word word ≡ true → ⊥)
+        → is_run_word word ≡ true → ⊥)
         (λ by. (word : ℕ) × (0 < start)
-            × (word_at slice_from_start.now (4 * (start - 1)) ≡ Some word)
-            × (is_run_word word ≡ true) × (by ≡ lowered_by word)) }
+        × (word_at slice_from_start.now (4 * (start - 1)) ≡ Some word)
+        × (is_run_word word ≡ true) × (by ≡ lowered_by word)) }
     ensures bounds { IfSome result (λ by. (negsuc 16777215 ≤ℤ by) × (by ≤ℤ pos 16777216)) }
 {
     if start == 0 {

@@ -14,12 +14,7 @@ pub fn word_at(bytes: &[u8], at: usize) -> Option<u32>
     if bytes.len() < 4 || at > bytes.len() - 4 {
         return None;
     }
-    Some(u32::from_le_bytes([
-        bytes[at],
-        bytes[at + 1],
-        bytes[at + 2],
-        bytes[at + 3],
-    ]))
+    Some(u32::from_le_bytes([bytes[at], bytes[at + 1], bytes[at + 2], bytes[at + 3]]))
 }
 
 /// Whether the slice has this instruction word at the offset (in bytes).
@@ -131,7 +126,11 @@ pub fn immediate(word: u32) -> i128
     ensures high { result ≤ℤ pos 16773120 }
 {
     let imm12 = i128::from((word >> 10) & 0b111111111111);
-    if (word >> 22) & 1 == 1 { imm12 * 4096 } else { imm12 }
+    if (word >> 22) & 1 == 1 {
+        imm12 * 4096
+    } else {
+        imm12
+    }
 }
 
 /// Whether the word is `pacibsp`, which signs lr.

@@ -75,7 +75,7 @@ fn push_before(text_bytes: &[u8], end: usize) -> Option<usize>
     requires { end ≤ length text_bytes.now }
     ensures { MatchOption result
         ((opcode : ℕ) → 0 < end → slice_get text_bytes.now (end - 1) ≡ Some opcode
-            → is_push opcode ≡ true → ⊥)
+        → is_push opcode ≡ true → ⊥)
         (IsPushBefore text_bytes.now end) }
 {
     if end == 0 {
@@ -99,7 +99,8 @@ fn is_frame_set_up_before(text_bytes: &[u8], at: usize) -> bool
     requires { at ≤ length text_bytes.now }
     ensures { IsTrue result ↔ IsFrameSetUpBefore text_bytes.now at }
 {
-    at >= 4 && text_bytes[at - 4] == 0x55
+    at >= 4
+        && text_bytes[at - 4] == 0x55
         && text_bytes[at - 3] == 0x48
         && text_bytes[at - 2] == 0x89
         && text_bytes[at - 1] == 0xe5

@@ -18,6 +18,6 @@ returns c =
     rule-only _ _ run.0 c.in_ok-next.next _ _ run.1 (let e = run.2 in omega (arith, ints)) (sym c.in_ok-next.ensures.value)
     (sym (c.if-not-is_expected_in_prologue.ensures))
     (λ plain none. elim c.else-sp_offset-eq0.branch [
-      else-sp_offset-eq0-via-then-sp_offset-eq0+else-is_plain_store w ↦ not-both _ (w.if-is_plain_store.ensures) plain
+      | else-sp_offset-eq0-via-then-sp_offset-eq0+else-is_plain_store w ↦ not-both _ (w.if-is_plain_store.ensures) plain
       | else-sp_offset-eq0-via-else-sp_offset-eq0 w ↦ w.if-sp_offset-eq0.false (omega (arith, ints))
     ]) c.rule_of_sp_offset.ensures
