@@ -1,0 +1,35 @@
+-- Answers that find at most one thing: from one fact to another, and to the clause of a public function.
+use Rattle.std.proofs.Common.{◌≡◌, Option, Some, None, ◌↔◌, inl, inr, refl, sym, ◌∙◌, subst, IfSome, MatchOption}
+use Rattle.framehop_analysis.specs.Answer.{IsOnly, FirstOf}
+
+some-same : {A : Type 0} (x y : A) → Some x ≡ Some y → x ≡ y
+some-same x y e = cc
+
+-- the answer is a value exactly where the value meets the fact
+pub only-iff : {A : Type 0} (P : A → Type 0) (found : Option A) → IsOnly P found → (x : A) → (found ≡ Some x) ↔ P x
+only-iff P None only x = (λ e. cc, λ p. absurd (only x p))
+only-iff {A} P (Some y) only x =
+    (λ e. (let same : y ≡ x = some-same y x e in subst P same only.0), λ p. (let same : x ≡ y = only.1 x p in cc))
+
+-- two facts that the same values meet
+pub only-map : {A : Type 0} (P Q : A → Type 0) (found : Option A) → ((x : A) → P x → Q x) → ((x : A) → Q x → P x) → IsOnly P found → IsOnly Q found
+only-map P Q None to from only = λ x q. only x (from x q)
+only-map P Q (Some y) to from only = (to y only.0, λ x q. only.1 x (from x q))
+
+-- what each value that meets the fact has, the answer has
+pub only-some : {A : Type 0} (P Q : A → Type 0) (found : Option A) → IsOnly P found → ((x : A) → P x → Q x) → IfSome found Q
+only-some P Q None only to = tt
+only-some P Q (Some y) only to = to y only.0
+
+-- the first answer where there is one, else another
+pub first-exact : {A : Type 0} (P Q : A → Type 0) (first found : Option A) (Other : Type 0) → ((x : A) → (first ≡ Some x) ↔ P x) → MatchOption first Other (λ x. found ≡ Some x) → (Other → (x : A) → (found ≡ Some x) ↔ Q x) → (x : A) → (found ≡ Some x) ↔ FirstOf P Q x
+first-exact {A} P Q None found Other exact other then x =
+    (λ e. inr (λ y p. (let none = (exact y).1 p in cc), (then other x).0 e), λ f. from f) where
+      from : FirstOf P Q x → found ≡ Some x
+      from (inl p) = (let none = (exact x).1 p in cc)
+      from (inr q) = (then other x).1 q.1
+first-exact {A} P Q (Some y) found Other exact same then x =
+    (λ e. inl ((exact x).0 (sym same ∙ e)), λ f. from f) where
+      from : FirstOf P Q x → found ≡ Some x
+      from (inl p) = same ∙ (exact x).1 p
+      from (inr q) = absurd (q.0 y ((exact y).0 refl))

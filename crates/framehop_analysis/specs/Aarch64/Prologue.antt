@@ -1,0 +1,87 @@
+-- Prologues on aarch64: how far sp lies below the caller's, and what the unwind rule undoes (framehop 0.16.0,
+-- `aarch64::instruction_analysis::prologue`).
+use Rattle.std.specs.Prelude.{◌≡◌, ◌≢◌, ℕ, ◌+◌, ◌*◌, ◌/◌, ◌^◌, ◌<◌, ◌≤◌, ℤ, pos, ◌+ℤ◌, ◌-ℤ◌, Bool, true, not, ◌&&◌, ◌||◌, if◌then◌else◌, List, [], ◌∷◌, length, Option, Some}
+use Rattle.framehop_core.specs.Outcome.{answered}
+use Rattle.framehop_core.specs.Aarch64.Registers.{Registers}
+use Rattle.framehop_core.specs.Aarch64.Rules.{outcome}
+use Rattle.framehop_core.specs.declared.aarch64.unwind_rule.UnwindRuleAarch64.{UnwindRuleAarch64}
+use Rattle.framehop_core.specs.declared.aarch64.unwind_rule.UnwindRuleAarch64.TheVariants.{NoOp, OffsetSp}
+use Rattle.framehop_analysis.specs.Aarch64.Words.{word_at, is_store, is_sub_sp, is_add_fp, is_pacibsp, is_indexed, pair_offset, immediate}
+use Rattle.framehop_analysis.specs.Aarch64.Units.{IsUnitsOf16}
+use Rattle.framehop_analysis.specs.Aarch64.Machine.{State, Run, StandsIn}
+
+-- ---- the run: the prologue's instructions that have been executed
+
+-- an instruction of a run: the signing of lr, a store of a pair to the stack, or a `sub` of sp
+abbrev pub is_run_word : ℕ → Bool
+is_run_word word = is_pacibsp word || is_store word || is_sub_sp word
+
+-- how many bytes an instruction of a run lowers sp by
+abbrev pub lowered_by : ℕ → ℤ
+lowered_by word =
+    if is_store word then (if is_indexed word then pos 0 -ℤ pair_offset word else pos 0)
+    else (if is_sub_sp word then pos (immediate word) else pos 0)
+
+abbrev pub lowered : List ℕ → ℤ
+lowered [] = pos 0
+lowered (word ∷ words) = lowered_by word +ℤ lowered words
+
+-- these instructions of a run stand one after another in the slice, from an offset on
+abbrev pub IsRun : List ℕ → ℕ → List ℕ → Type 0
+IsRun bytes at [] = Unit {0}
+IsRun bytes at (word ∷ words) = (word_at bytes at ≡ Some word) × (is_run_word word ≡ true) × IsRun bytes (at + 4) words
+
+-- The longest run that ends at the pc, which is the slice's end: words are cut from the slice's start, and bytes
+-- before the pc that make no whole word are passed over. A run starts at the word with the number `start`.
+pub record IsLongestRun (bytes : List ℕ) (run : List ℕ) : Type 0 where
+  pub start : ℕ
+  pub stands : IsRun bytes (4 * start) run
+  pub ends : start + length run ≡ length bytes / 4
+  pub longest : (other : ℕ) (words : List ℕ) → IsRun bytes (4 * other) words → other + length words ≡ length bytes / 4 → length words ≤ length run
+
+-- ---- the next instruction
+
+-- a store of a pair that leaves sp
+abbrev pub is_plain_store : ℕ → Bool
+is_plain_store word = is_store word && not (is_indexed word)
+
+-- an instruction that is expected in a prologue; the last one sets the frame pointer
+abbrev pub is_prologue_word : ℕ → Bool
+is_prologue_word word = is_pacibsp word || is_store word || is_sub_sp word || is_add_fp word
+
+-- The next instruction is expected in a prologue. A store that leaves sp is also found in function bodies, so it counts
+-- only where the run has moved sp.
+pub record IsNext (word : ℕ) (depth : ℤ) : Type 0 where
+  pub expected : is_prologue_word word ≡ true
+  pub moved : is_plain_store word ≡ true → depth ≢ pos 0
+
+-- ---- the rule
+
+-- The rule of a frame whose sp lies so many bytes below the caller's. There is none for a depth that is no multiple of
+-- 16 bytes, below 0 or too great for the rule's field.
+abbrev pub IsRuleOfDepth : ℤ → UnwindRuleAarch64 → Type 0
+IsRuleOfDepth depth NoOp = depth ≡ pos 0
+IsRuleOfDepth depth (OffsetSp x) = IsUnitsOf16 depth x × (0 < x)
+IsRuleOfDepth depth _ = ⊥
+
+-- the rule of a pc between the instructions before it and those from it on
+pub record IsPrologueRule (before after : List ℕ) (rule : UnwindRuleAarch64) : Type 0 where
+  pub run : List ℕ
+  pub longest : IsLongestRun before run
+  pub next : ℕ
+  pub next_is : word_at after 0 ≡ Some next
+  pub expected : IsNext next (lowered run)
+  pub made : IsRuleOfDepth (lowered run) rule
+
+-- The rule undoes the run: wherever the run leads from a state at the function's entry to the registers at hand, and the
+-- rule answers an address in a first frame, the new registers are those of the entry, and the address is its return
+-- address.
+abbrev pub UndoesRun : List ℕ → UnwindRuleAarch64 → Type 0
+UndoesRun run rule =
+    (r new : Registers) (entry here : State) (address : ℕ) → entry.sp < 2 ^ 64
+    → Run r.lr_mask run entry here → StandsIn r here
+    → outcome rule true r here.memory ≡ answered address new
+    → StandsIn new entry × (new.lr_mask ≡ r.lr_mask) × (address ≡ new.lr)
+
+abbrev pub UndoesPrologue : List ℕ → UnwindRuleAarch64 → Type 0
+UndoesPrologue before rule = (run : List ℕ) → IsLongestRun before run → UndoesRun run rule

@@ -1,0 +1,10 @@
+-- What a function returns that finds at most one thing.
+use Rattle.std.specs.Prelude.{◌≡◌, ◌⊎◌, Option, Some, None, MatchOption}
+
+-- the value that meets a fact, which no other value meets, or none where no value meets it
+abbrev pub IsOnly : {A : Type 0} → (A → Type 0) → Option A → Type 0
+IsOnly {A} P found = MatchOption found ((x : A) → P x → ⊥) (λ value. P value × ((x : A) → P x → x ≡ value))
+
+-- the value meets the first fact or, where no value does, the second
+abbrev pub FirstOf : {A : Type 0} → (A → Type 0) → (A → Type 0) → A → Type 0
+FirstOf {A} P Q value = P value ⊎ (((x : A) → P x → ⊥) × Q value)

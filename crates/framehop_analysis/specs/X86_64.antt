@@ -1,0 +1,4 @@
+pub mod Bytes
+pub mod Machine
+pub mod Prologue
+pub mod Epilogue

@@ -1,0 +1,104 @@
+-- Epilogues on x86_64: how many words are still popped, and which of them is rbp (framehop 0.16.0,
+-- `x86_64::instruction_analysis::epilogue`).
+use Rattle.std.specs.Prelude.{◌≡◌, ℕ, zero, suc, ◌+◌, ◌-◌, ◌^◌, ◌<◌, ◌≤◌, pos, Bool, true, false, not, ◌&&◌, ◌||◌, ◌==◌, if◌then◌else◌, List, [], ◌∷◌, slice_get, Option, Some, None}
+use Rattle.framehop_core.specs.Outcome.{answered}
+use Rattle.framehop_core.specs.X86_64.Registers.{Registers}
+use Rattle.framehop_core.specs.X86_64.Rules.{outcome}
+use Rattle.framehop_core.specs.declared.x86_64.unwind_rule.UnwindRuleX86_64.{UnwindRuleX86_64}
+use Rattle.framehop_core.specs.declared.x86_64.unwind_rule.UnwindRuleX86_64.TheVariants.{JustReturn, OffsetSp, OffsetSpAndRestoreBp}
+use Rattle.framehop_analysis.specs.X86_64.Bytes.{is_pop_opcode}
+use Rattle.framehop_analysis.specs.X86_64.Machine.{State, StandsIn, Caller, RunOut, is_jump}
+
+-- ---- pops
+
+-- the opcode of a pop of any of the first eight registers but rsp
+abbrev pub is_plain_pop : ℕ → Bool
+is_plain_pop opcode = is_pop_opcode opcode && not (opcode == 0x5C)
+
+-- a pop of so many bytes, of rbp or of another register
+pub record Pop : Type 0 where
+  pub size : ℕ
+  pub is_bp : Bool
+
+-- a pop with a prefix: after 40 as without it, after 41 a pop of r8 to r15
+abbrev pub prefixed_pop : ℕ → Option ℕ → Option Pop
+prefixed_pop prefix None = None
+prefixed_pop prefix (Some opcode) =
+    if (prefix == 0x40) && is_plain_pop opcode then Some (record { size = 2; is_bp = opcode == 0x5D })
+    else (if (prefix == 0x41) && is_pop_opcode opcode then Some (record { size = 2; is_bp = false })
+    else None)
+
+-- the pop that a byte and the one after it begin, if any
+abbrev pub pop_of : Option ℕ → Option ℕ → Option Pop
+pop_of None second = None
+pop_of (Some first) second =
+    if is_plain_pop first then Some (record { size = 1; is_bp = first == 0x5D })
+    else prefixed_pop first second
+
+abbrev pub pop_at : List ℕ → ℕ → Option Pop
+pop_at text at = pop_of (slice_get text at) (slice_get text (at + 1))
+
+-- these pops, of rbp or not, stand one after another between two offsets
+abbrev pub ArePops : List ℕ → ℕ → List Bool → ℕ → Type 0
+ArePops text at [] end = at ≡ end
+ArePops text at (is_bp ∷ pops) end =
+    (size : ℕ) × (pop_at text at ≡ Some (record { size = size; is_bp = is_bp })) × ArePops text (at + size) pops end
+
+-- how many words have been popped, and how many of them before the last one that was rbp, if any
+pub record Popped : Type 0 where
+  pub count : ℕ
+  pub before_bp : Option ℕ
+
+abbrev pub none_popped : Popped
+none_popped = record { count = 0; before_bp = None }
+
+abbrev pub after_pop : Popped → Bool → Popped
+after_pop p is_bp = record { count = p.count + 1; before_bp = if is_bp then Some p.count else p.before_bp }
+
+abbrev pub after_pops : Popped → List Bool → Popped
+after_pops p [] = p
+after_pops p (is_bp ∷ pops) = after_pops (after_pop p is_bp) pops
+
+-- ---- how it ends
+
+-- what is before the end looks like a pop: one that is at the pc or after it, or the byte before the pc
+abbrev pub FollowsPop : List ℕ → ℕ → ℕ → Type 0
+FollowsPop text pc zero = (before : ℕ) × (1 ≤ pc) × (slice_get text (pc - 1) ≡ Some before) × (is_pop_opcode before ≡ true)
+FollowsPop text pc (suc count) = Unit {0}
+
+-- the end at an offset, after so many pops: a return, or a jump after a pop, which is taken for a tail call
+pub data IsEnd (text : List ℕ) (pc at count : ℕ) : Type 0 where
+  returns : slice_get text at ≡ Some 0xC3 → IsEnd text pc at count
+  jumps : (opcode : ℕ) → slice_get text at ≡ Some opcode → is_jump opcode ≡ true → FollowsPop text pc count → IsEnd text pc at count
+
+-- ---- the rule
+
+-- the rule of the pops: the caller's rsp lies above them and the return address
+abbrev pub IsRuleOfPopped : Popped → UnwindRuleX86_64 → Type 0
+IsRuleOfPopped p JustReturn = p.count ≡ 0
+IsRuleOfPopped p (OffsetSp x) = (0 < p.count) × (x ≡ p.count + 1) × (x < 2 ^ 16) × (p.before_bp ≡ None)
+IsRuleOfPopped p (OffsetSpAndRestoreBp x y) =
+    (0 < p.count) × (x ≡ p.count + 1) × (x < 2 ^ 16)
+    × (before : ℕ) × (p.before_bp ≡ Some before) × (y ≡ pos before) × (before < 2 ^ 15)
+IsRuleOfPopped p _ = ⊥
+
+-- the rest of an epilogue from an offset on, where so much has been popped, and its rule
+pub record IsRestOfEpilogue (text : List ℕ) (pc at : ℕ) (popped : Popped) (rule : UnwindRuleX86_64) : Type 0 where
+  pub pops : List Bool
+  pub end : ℕ
+  pub stand : ArePops text at pops end
+  pub ends : IsEnd text pc end (after_pops popped pops).count
+  pub made : IsRuleOfPopped (after_pops popped pops) rule
+
+-- the rule of a pc inside an epilogue
+abbrev pub IsEpilogueRule : List ℕ → ℕ → UnwindRuleX86_64 → Type 0
+IsEpilogueRule text pc rule = IsRestOfEpilogue text pc pc none_popped rule
+
+-- The rule does what the epilogue does: wherever the pops from the pc on and their end lead from the registers at hand,
+-- and the rule answers an address, the caller has the new registers, all known, and is returned to at the address.
+abbrev pub DoesEpilogue : List ℕ → ℕ → UnwindRuleX86_64 → Type 0
+DoesEpilogue text pc rule =
+    (r new : Registers) (here : State) (out : Caller) (count : ℕ) (first : Bool) (address : ℕ)
+    → StandsIn r here → RunOut text count pc here out
+    → outcome rule first r here.memory ≡ answered address new
+    → (new.rsp ≡ out.sp) × (out.bp ≡ Some new.rbp) × (out.return_address ≡ Some address) × (new.ip ≡ address)

@@ -1,0 +1,2 @@
+//! Code analysis for the aarch64 CPU architecture.
+pub mod instruction_analysis;

@@ -1,0 +1,42 @@
+//! The unwind rules of prologues and epilogues on aarch64.
+mod epilogue;
+mod prologue;
+mod units;
+mod words;
+
+use crate::instruction_analysis::InstructionAnalysis;
+pub use epilogue::unwind_rule_from_detected_epilogue;
+use framehop_core::aarch64::{ArchAarch64, UnwindRuleAarch64};
+pub use prologue::unwind_rule_from_detected_prologue;
+
+impl InstructionAnalysis for ArchAarch64 {
+    ghost use Rattle.std.specs.Prelude.{take, drop};
+    ghost use Rattle.framehop_analysis.specs.Aarch64.Prologue.{IsPrologueRule, UndoesPrologue};
+    ghost use Rattle.framehop_analysis.specs.Aarch64.Epilogue.{IsEpilogueRule, DoesEpilogue};
+
+    ghost prologue_rule = { λ text pc rule. IsPrologueRule (take pc text) (drop pc text) rule };
+
+    ghost epilogue_rule = { IsEpilogueRule };
+
+    ghost undoes_prologue = { λ text pc rule. UndoesPrologue (take pc text) rule };
+
+    ghost does_epilogue = { DoesEpilogue };
+
+    fn rule_from_prologue_analysis(
+        text_bytes: &[u8],
+        pc_offset: usize,
+    ) -> Option<UnwindRuleAarch64> {
+        let (slice_from_start, slice_to_end) = text_bytes.split_at(pc_offset);
+        unwind_rule_from_detected_prologue(slice_from_start, slice_to_end)
+    }
+
+    fn rule_from_epilogue_analysis(
+        text_bytes: &[u8],
+        pc_offset: usize,
+    ) -> Option<UnwindRuleAarch64> {
+        unwind_rule_from_detected_epilogue(text_bytes, pc_offset)
+    }
+}
+
+#[cfg(test)]
+mod tests;

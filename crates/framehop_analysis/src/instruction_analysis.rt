@@ -1,0 +1,59 @@
+//! Unwind rules from the instructions around a pc: inside a prologue or an epilogue the registers
+//! are not yet saved, or are already restored, which unwind data often does not say.
+ghost use Rattle.std.specs.Prelude.{◌≡◌, ℕ, ◌≤◌, ◌↔◌, ◌⊎◌, List, length, Some, IsTrue, IfSome};
+ghost use Rattle.framehop_analysis.specs.Answer.{FirstOf};
+
+use framehop_core::arch::Arch;
+
+/// The analysis of an architecture's instructions.
+///
+/// In each function `text_bytes` has the function's code, and `pc_offset` is the offset of the pc
+/// in it, in bytes, at most its length.
+pub trait InstructionAnalysis: Arch {
+    // the rule of a pc inside a prologue, at an offset of the code
+    ghost prologue_rule: { List ℕ → ℕ → Self.UnwindRule → Type 0 };
+
+    // the rule of a pc inside an epilogue
+    ghost epilogue_rule: { List ℕ → ℕ → Self.UnwindRule → Type 0 };
+
+    // the rule undoes what the prologue has done
+    ghost undoes_prologue: { List ℕ → ℕ → Self.UnwindRule → Type 0 };
+
+    // the rule does what the rest of the epilogue does
+    ghost does_epilogue: { List ℕ → ℕ → Self.UnwindRule → Type 0 };
+
+    /// Returns the unwind rule at a pc inside a prologue, or `None` where none is recognised.
+    fn rule_from_prologue_analysis(text_bytes: &[u8], pc_offset: usize) -> Option<Self::UnwindRule>
+        requires { pc_offset ≤ length text_bytes.now }
+        ensures exact { (rule : Self.UnwindRule)
+            → (result ≡ Some rule) ↔ prologue_rule text_bytes.now pc_offset rule }
+        ensures simulation { IfSome result (undoes_prologue text_bytes.now pc_offset) }
+        ensures executable { IfSome result (λ rule. IsTrue (Self.UnwindRule.executable rule)) };
+
+    /// Returns the unwind rule at a pc inside an epilogue, or `None` where none is recognised.
+    fn rule_from_epilogue_analysis(text_bytes: &[u8], pc_offset: usize) -> Option<Self::UnwindRule>
+        requires { pc_offset ≤ length text_bytes.now }
+        ensures exact { (rule : Self.UnwindRule)
+            → (result ≡ Some rule) ↔ epilogue_rule text_bytes.now pc_offset rule }
+        ensures simulation { IfSome result (does_epilogue text_bytes.now pc_offset) }
+        ensures executable { IfSome result (λ rule. IsTrue (Self.UnwindRule.executable rule)) };
+
+    /// Returns the unwind rule at a pc inside a prologue or, where none is recognised, inside an
+    /// epilogue.
+    fn rule_from_instruction_analysis(
+        text_bytes: &[u8],
+        pc_offset: usize,
+    ) -> Option<Self::UnwindRule>
+        requires { pc_offset ≤ length text_bytes.now }
+        ensures exact { (rule : Self.UnwindRule) → (result ≡ Some rule)
+            ↔ FirstOf (prologue_rule text_bytes.now pc_offset)
+            (epilogue_rule text_bytes.now pc_offset) rule }
+        ensures simulation { IfSome result (λ rule. undoes_prologue text_bytes.now pc_offset rule
+            ⊎ does_epilogue text_bytes.now pc_offset rule) }
+        ensures executable { IfSome result (λ rule. IsTrue (Self.UnwindRule.executable rule)) }
+    {
+        Self::rule_from_prologue_analysis(text_bytes, pc_offset).or_else(
+            || Self::rule_from_epilogue_analysis(text_bytes, pc_offset),
+        )
+    }
+}

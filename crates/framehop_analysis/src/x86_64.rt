@@ -1,0 +1,2 @@
+//! Code analysis for the x86_64 CPU architecture.
+pub mod instruction_analysis;
