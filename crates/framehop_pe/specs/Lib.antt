@@ -1,0 +1,5 @@
+pub mod Sections
+pub mod FunctionTable
+pub mod Register
+pub mod Codes
+pub mod Info
