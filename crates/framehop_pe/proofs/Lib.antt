@@ -1,2 +1,3 @@
 pub mod Starts
 pub mod CodeLists
+pub mod Chains

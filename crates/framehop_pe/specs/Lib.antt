@@ -3,3 +3,5 @@ pub mod FunctionTable
 pub mod Register
 pub mod Codes
 pub mod Info
+pub mod Chain
+pub mod Operations
