@@ -5,3 +5,4 @@ pub mod Codes
 pub mod Info
 pub mod Chain
 pub mod Operations
+pub mod Resolve

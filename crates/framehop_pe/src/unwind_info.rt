@@ -6,3 +6,5 @@ pub mod function_table;
 pub mod info;
 pub mod operation;
 pub mod register;
+pub mod resolve;
+pub mod state;
