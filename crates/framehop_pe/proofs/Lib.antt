@@ -1,3 +1,4 @@
 pub mod Starts
 pub mod CodeLists
 pub mod Chains
+pub mod Pops

@@ -6,3 +6,6 @@ pub mod Info
 pub mod Chain
 pub mod Operations
 pub mod Resolve
+pub mod Epilog
+pub mod Instructions
+pub mod EpilogRun

@@ -2,6 +2,7 @@
 //! epilogs (Microsoft, "x64 exception handling"). What framehop 0.16.0 calls of the crate
 //! pe-unwind-info.
 pub mod chain;
+pub mod epilog;
 pub mod function_table;
 pub mod info;
 pub mod operation;
