@@ -2,3 +2,4 @@ pub mod Starts
 pub mod CodeLists
 pub mod Chains
 pub mod Pops
+pub mod Iterators

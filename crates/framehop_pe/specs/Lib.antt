@@ -9,3 +9,6 @@ pub mod Resolve
 pub mod Epilog
 pub mod Instructions
 pub mod EpilogRun
+pub mod Answer
+pub mod Offsets
+pub mod Frame

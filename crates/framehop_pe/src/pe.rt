@@ -1,9 +1,16 @@
 //! What a PE module lends for unwinding, and the trait of an architecture that unwinds by it
 //! (framehop 0.16.0, `pe.rs`).
-ghost use Rattle.std.specs.Prelude.{◌≡◌, Some, None, MatchOption, MatchResult};
-ghost use Rattle.framehop_pe.specs.Sections.{sections_of, placed_of, bytes_at, unwind_info_at, text_at};
+ghost use Rattle.std.specs.Prelude.{◌≡◌, ℕ, Bool, IsTrue, Some, None, Result, MatchOption, MatchResult};
+ghost use Rattle.framehop_core.specs.Memory.{Memory, AnswersAs};
+ghost use Rattle.framehop_core.specs.declared.unwind_result.UnwindResult.{UnwindResult};
+ghost use Rattle.framehop_pe.specs.Answer.{KeptUnlessDirect, IfRule};
+ghost use Rattle.framehop_pe.specs.declared.pe.PeUnwinderError.{PeUnwinderError};
+ghost use Rattle.framehop_pe.specs.Sections.{Sections, sections_of, placed_of, bytes_at, unwind_info_at, text_at};
 
 use framehop_cfi::section::SectionBytes;
+use framehop_core::arch::Arch;
+use framehop_core::unwind_result::UnwindResult;
+use framehop_core::unwind_rule::UnwindRule;
 use std::ops::Range;
 use thiserror::Error;
 
@@ -37,6 +44,7 @@ pub struct DataAtRvaRange<D> {
 }
 
 /// The sections of a PE module that unwinding on x86_64 reads.
+#[derive_where(Clone, Copy)]
 pub struct PeSections<'a, D> {
     /// The function table.
     pub pdata: &'a D,
@@ -103,4 +111,47 @@ fn memory_at_rva<D: SectionBytes>(data: &DataAtRvaRange<D>, address: u32) -> Opt
     }
     let (_, rest) = bytes.split_at(offset);
     Some(rest)
+}
+
+/// An architecture that unwinds by the unwind info of PE modules.
+pub trait PeUnwinding: Arch {
+    // what a call returns by the bytes alone, whatever the stack: of sections, a relative address
+    // and the kind of the frame (`true`: the first)
+    ghost says: { Sections → ℕ → Bool → Result (UnwindResult Self.UnwindRule) PeUnwinderError → Type 0 };
+
+    // what a call that returns no rule does, over memory: with its result, from the registers of
+    // the callee to those of the caller
+    ghost computes: { Sections → ℕ → Bool → Memory → Self.UnwindRegs → Result (UnwindResult Self.UnwindRule) PeUnwinderError → Self.UnwindRegs → Type 0 };
+
+    // a rule does to registers and memory what the unwind info says
+    ghost is_simulated: { Sections → ℕ → Bool → Self.UnwindRule → Type 0 };
+
+    /// Unwinds one frame of a function at a relative address (RVA): returns a rule for the address,
+    /// or the return address (AVMA) of this frame, after it has written the caller's registers.
+    /// `read_stack` reads the stack word at an address (AVMA). Nothing is allocated.
+    ///
+    /// # Errors
+    ///
+    /// `MissingUnwindInfoData`, `MissingInstructionData` or `UnwindInfoParseError` where the
+    /// module's bytes are not there or not known; `MissingStackData` where a stack word can't be
+    /// read or an address does not fit 64 bits. The registers stay as they are.
+    fn unwind_frame<F, D>(
+        sections: PeSections<'_, D>,
+        address: u32,
+        regs: &mut Self::UnwindRegs,
+        is_first_frame: bool,
+        read_stack: &mut F,
+    ) -> Result<UnwindResult<Self::UnwindRule>, PeUnwinderError>
+    where
+        F: FnMut(u64) -> Result<u64, ()>,
+        D: SectionBytes,
+        requires { F.IsAlwaysCallable read_stack.old }
+        ensures callable { F.IsAlwaysCallable read_stack.new }
+        ensures kept { KeptUnlessDirect result regs.old regs.new }
+        ensures bytes { says (sections_of D.contents sections.entry) address is_first_frame result }
+        ensures executable { IfRule result (λ rule. IsTrue (Self.UnwindRule.executable rule)) }
+        ensures simulation { IfRule result (is_simulated (sections_of D.contents sections.entry) address is_first_frame) }
+        ensures answers { (memory : Memory) → AnswersAs F.FnMut read_stack.old memory
+            → AnswersAs F.FnMut read_stack.new memory
+            × computes (sections_of D.contents sections.entry) address is_first_frame memory regs.old result regs.new };
 }

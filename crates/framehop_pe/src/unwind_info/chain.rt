@@ -81,6 +81,7 @@ fn check_chain<D: SectionBytes>(
 }
 
 /// The operations that are left to be undone.
+#[derive_where(Clone, Copy)]
 pub struct UnwindOperations<'s, 'a, D> {
     sections: &'s PeSections<'a, D>,
     codes: UnwindCodes<'a>,
@@ -144,18 +145,6 @@ impl<'s, 'a, D: SectionBytes> UnwindOperations<'s, 'a, D> {
             is_established: true,
         };
         Some(())
-    }
-}
-
-impl<D> Drop for UnwindOperations<'_, '_, D> {
-    fn drop(self) {
-        let UnwindOperations {
-            sections: _,
-            codes: _,
-            base: _,
-            chained: _,
-            left: _,
-        } = self;
     }
 }
 
