@@ -12,8 +12,8 @@ module _ {S A : Type 0} (rest : S → List A) where
   yields (y ∷ ys) s e = (
     λ j step. cc,
     λ x j step.
-      let same : x ∷ rest j ≡ y ∷ ys = sym step ∙ e in
-      (cc, yields ys j cc),
+        let same : x ∷ rest j ≡ y ∷ ys = sym step ∙ e in
+        (cc, yields ys j cc),
   )
 
   -- it gives that list

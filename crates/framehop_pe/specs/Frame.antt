@@ -16,10 +16,10 @@ use Rattle.framehop_pe.specs.EpilogRun.{ran}
 use Rattle.framehop_pe.specs.FunctionTable.{function_of}
 use Rattle.framehop_pe.specs.Info.{Header}
 use Rattle.framehop_pe.specs.Offsets.{of_instruction, of_operation}
-use Rattle.framehop_pe.specs.Resolve.{resolved}
+use Rattle.framehop_pe.specs.Resolve.{IsMissingStackData, resolved}
 use Rattle.framehop_pe.specs.Sections.{Sections, text_at}
 use Rattle.framehop_pe.specs.declared.pe.PeUnwinderError.{PeUnwinderError}
-use Rattle.framehop_pe.specs.declared.pe.PeUnwinderError.TheVariants.{MissingInstructionData, MissingStackData}
+use Rattle.framehop_pe.specs.declared.pe.PeUnwinderError.TheVariants.{MissingInstructionData}
 use Rattle.framehop_pe.specs.declared.unwind_info.chain.FramedOperation.{FramedOperation}
 use Rattle.framehop_pe.specs.declared.unwind_info.epilog.FunctionEpilogInstruction.{FunctionEpilogInstruction}
 use Rattle.framehop_pe.specs.declared.unwind_info.function_table.RuntimeFunction.{RuntimeFunction}
@@ -98,11 +98,6 @@ along (by_epilog frame instructions) memory r = returned (ran memory frame instr
 along (by_codes operations) memory r = returned (resolved memory operations r)
 
 -- ---- what a call returns
-
--- the error of a stack that can't be read, or of an address that does not fit
-abbrev pub IsMissingStackData : PeUnwinderError → Type 0
-IsMissingStackData (MissingStackData _) = Unit {0}
-IsMissingStackData _ = ⊥
 
 -- a rule where the offsets and pops have one, else a return address or a failure of the stack
 abbrev pub Decides : List OffsetOrPop → Result (UnwindResult UnwindRuleX86_64) PeUnwinderError → Type 0

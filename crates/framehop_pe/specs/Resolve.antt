@@ -83,6 +83,11 @@ undone memory (Read reg offset) base r = do
 undone memory Skip base r = Some (Continue tt, r)
 undone memory (MachineFrame error_code) base r = undone_machine_frame memory error_code r
 
+-- the error of a stack that can't be read, or of an address that does not fit
+abbrev pub IsMissingStackData : PeUnwinderError → Type 0
+IsMissingStackData (MissingStackData _) = Unit {0}
+IsMissingStackData _ = ⊥
+
 -- a word at rsp that may not be there, popped: rsp rises to a sum that may not fit
 abbrev pub popped_at : Option ℕ → Option ℕ → Registers → Result (ℕ × Registers) PeUnwinderError
 popped_at None sp r = Err (MissingStackData (Some r.rsp))

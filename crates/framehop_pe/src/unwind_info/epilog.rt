@@ -1,10 +1,11 @@
 //! Epilogs: the instructions that a function may end with (Microsoft, "x64 exception handling",
 //! "Epilog code"; encodings from Intel's manual, volume 2).
-ghost use Rattle.std.specs.Prelude.{◌≡◌, ◌<◌, ◌≤◌, ◌+◌, Some, None, Ok, Err, length, MatchOption, MatchResult, IfSome};
+ghost use Rattle.std.specs.Prelude.{◌≡◌, ◌<◌, ◌≤◌, ◌+◌, Some, None, Ok, Err, length, MatchOption, MatchResult, IfSome, IfErr};
 ghost use Rattle.std.specs.Iterator.{YieldsFirst, item_count};
 ghost use Rattle.framehop_pe.specs.Epilog.{instruction_at, release_at, add_at, short_add_at, long_add_at, lea_at, is_register, displaced_at, pop_at, high_pop_at, is_end, is_return, is_indirect_jump, is_wide_indirect_jump, is_near_jump_outside, is_short_jump_outside, target_of, is_outside, pops_in, epilog_of};
 ghost use Rattle.framehop_core.specs.Memory.{Memory};
 ghost use Rattle.framehop_pe.specs.EpilogRun.{with_sp, beside_register, stepped, ran};
+ghost use Rattle.framehop_pe.specs.Resolve.{IsMissingStackData};
 ghost use Rattle.framehop_pe.specs.Instructions.{left_instructions};
 
 use super::info::behind;
@@ -380,6 +381,8 @@ pub fn run_epilog<S: UnwindState>(
 ) -> Result<u64, PeUnwinderError>
     requires { S.can_read state.old }
     ensures callable { S.can_read state.new }
+    ensures same_loan { S.loan state.new ≡ S.loan state.old }
+    ensures stack { IfErr result IsMissingStackData }
     ensures answers { (memory : Memory) → S.reads state.old memory
         → S.reads state.new memory
         × MatchResult result
@@ -402,6 +405,8 @@ fn run_instruction<S: UnwindState>(
 ) -> Result<(), PeUnwinderError>
     requires { S.can_read state.old }
     ensures callable { S.can_read state.new }
+    ensures same_loan { S.loan state.new ≡ S.loan state.old }
+    ensures stack { IfErr result IsMissingStackData }
     ensures answers { (memory : Memory) → S.reads state.old memory
         → S.reads state.new memory
         × MatchResult result
@@ -441,7 +446,9 @@ fn set_sp<S: UnwindState>(sp: Option<u64>, state: &mut S) -> Result<(), PeUnwind
     ensures written { MatchResult result
         (λ _. with_sp sp (S.registers state.old) ≡ Ok (S.registers state.new))
         (λ error. (with_sp sp (S.registers state.old) ≡ Err error)) }
+    ensures stack { IfErr result IsMissingStackData }
     ensures callable { S.can_read state.old → S.can_read state.new }
+    ensures same_loan { S.loan state.new ≡ S.loan state.old }
     ensures answers { (memory : Memory) → S.reads state.old memory → S.reads state.new memory }
 {
     match sp {

@@ -1,8 +1,8 @@
 //! Operations undone one by one (Microsoft, "x64 exception handling", "Unwind procedure").
-ghost use Rattle.std.specs.Prelude.{◌≡◌, Ok, Err, Some, None, MatchOption, MatchResult};
+ghost use Rattle.std.specs.Prelude.{◌≡◌, Ok, Err, Some, None, MatchOption, MatchResult, IfErr};
 ghost use Rattle.framehop_core.specs.Memory.{Memory};
 ghost use Rattle.framehop_pe.specs.Operations.{left_operations};
-ghost use Rattle.framehop_pe.specs.Resolve.{base_of, restored_sp, saves_base, machine_frame_at, popped_register, undone_machine_frame, undone, resolved};
+ghost use Rattle.framehop_pe.specs.Resolve.{IsMissingStackData, base_of, restored_sp, saves_base, machine_frame_at, popped_register, undone_machine_frame, undone, resolved};
 ghost use Rattle.framehop_core.specs.X86_64.Registers.{with_register};
 
 use super::chain::{FrameBase, FramedOperation, UnwindOperations};
@@ -23,6 +23,7 @@ pub fn resolve_operation<S: UnwindState>(
 ) -> Option<ControlFlow<u64>>
     requires { S.can_read state.old }
     ensures callable { S.can_read state.new }
+    ensures same_loan { S.loan state.new ≡ S.loan state.old }
     ensures answers { (memory : Memory) → S.reads state.old memory
         → S.reads state.new memory
         × MatchOption result
@@ -57,6 +58,7 @@ fn set_register<S: UnwindState>(reg: Reg, value: u64, state: &mut S) -> ControlF
     ensures goes_on { result ≡ ControlFlow.Continue tt }
     ensures written { S.registers state.new ≡ with_register (S.registers state.old) reg value }
     ensures callable { S.can_read state.old → S.can_read state.new }
+    ensures same_loan { S.loan state.new ≡ S.loan state.old }
     ensures answers { (memory : Memory) → S.reads state.old memory → S.reads state.new memory }
 {
     state.write_register(reg, value);
@@ -67,6 +69,7 @@ fn set_register<S: UnwindState>(reg: Reg, value: u64, state: &mut S) -> ControlF
 fn pop_register<S: UnwindState>(reg: Reg, state: &mut S) -> Option<ControlFlow<u64>>
     requires { S.can_read state.old }
     ensures callable { S.can_read state.new }
+    ensures same_loan { S.loan state.new ≡ S.loan state.old }
     ensures answers { (memory : Memory) → S.reads state.old memory
         → S.reads state.new memory
         × MatchOption result
@@ -126,6 +129,7 @@ fn resolve_machine_frame<S: UnwindState>(
 ) -> Option<ControlFlow<u64>>
     requires { S.can_read state.old }
     ensures callable { S.can_read state.new }
+    ensures same_loan { S.loan state.new ≡ S.loan state.old }
     ensures answers { (memory : Memory) → S.reads state.old memory
         → S.reads state.new memory
         × MatchOption result
@@ -148,6 +152,8 @@ pub fn resolve_operations<S: UnwindState, D: SectionBytes>(
 ) -> Result<u64, PeUnwinderError>
     requires { S.can_read state.old }
     ensures callable { S.can_read state.new }
+    ensures same_loan { S.loan state.new ≡ S.loan state.old }
+    ensures stack { IfErr result IsMissingStackData }
     ensures answers { (memory : Memory) → S.reads state.old memory
         → S.reads state.new memory
         × MatchResult result

@@ -1,8 +1,9 @@
 //! The registers and the stack that operations work on.
-ghost use Rattle.std.specs.Prelude.{◌≡◌, Ok, Err, MatchResult};
+ghost use Rattle.std.specs.Prelude.{◌≡◌, Ok, Err, MatchResult, IfErr};
+ghost use Rattle.std.specs.Borrow.{GName};
 ghost use Rattle.framehop_core.specs.Memory.{Memory};
 ghost use Rattle.framehop_core.specs.X86_64.Registers.{Registers, register, with_register};
-ghost use Rattle.framehop_pe.specs.Resolve.{popped_word};
+ghost use Rattle.framehop_pe.specs.Resolve.{IsMissingStackData, popped_word};
 
 use crate::pe::PeUnwinderError;
 use framehop_core::x86_64::Reg;
@@ -18,6 +19,9 @@ pub trait UnwindState {
     // the stack is this memory
     ghost reads: { Self → Memory → Type 0 };
 
+    // the loan of what reads the stack, which each call keeps
+    ghost loan: { Self → GName };
+
     /// Returns the value of a register.
     fn read_register(&self, reg: Reg) -> u64
         ensures { result ≡ register (registers self.now) reg };
@@ -27,6 +31,7 @@ pub trait UnwindState {
         requires { can_read self.old }
         ensures callable { can_read self.new }
         ensures kept { registers self.new ≡ registers self.old }
+        ensures same_loan { loan self.new ≡ loan self.old }
         ensures answers { (memory : Memory) → reads self.old memory
             → reads self.new memory × (result ≡ memory address) };
 
@@ -34,6 +39,7 @@ pub trait UnwindState {
     fn write_register(&mut self, reg: Reg, value: u64)
         ensures written { registers self.new ≡ with_register (registers self.old) reg value }
         ensures callable { can_read self.old → can_read self.new }
+        ensures same_loan { loan self.new ≡ loan self.old }
         ensures answers { (memory : Memory) → reads self.old memory → reads self.new memory };
 }
 
@@ -41,6 +47,8 @@ pub trait UnwindState {
 pub fn pop_word<S: UnwindState>(state: &mut S) -> Result<u64, PeUnwinderError>
     requires { S.can_read state.old }
     ensures callable { S.can_read state.new }
+    ensures same_loan { S.loan state.new ≡ S.loan state.old }
+    ensures stack { IfErr result IsMissingStackData }
     ensures answers { (memory : Memory) → S.reads state.old memory
         → S.reads state.new memory
         × MatchResult result

@@ -37,6 +37,8 @@ impl<F: FnMut(u64) -> Result<u64, ()>> UnwindState for State<'_, F> {
 
     ghost reads = { λ state memory. AnswersAs F.FnMut state.read_stack.now memory };
 
+    ghost loan = { λ state. state.read_stack.ghost_name };
+
     fn read_register(&self, reg: Reg) -> u64 {
         self.regs.get(reg)
     }
@@ -106,4 +108,48 @@ fn rule_of_epilog(instructions: EpilogInstructions<'_>) -> Option<UnwindRuleX86_
 {
     let offsets_and_pops = instructions.map(|instruction| OffsetOrPop::from(&instruction));
     UnwindRuleX86_64::for_sequence_of_offset_or_pop(offsets_and_pops)
+}
+
+impl<F: FnMut(u64) -> Result<u64, ()>> Drop for State<'_, F> {
+    ghost use Rattle.std.specs.Prelude.{◌≡◌};
+
+    // the callback stays as the last call left it
+    fn drop(self)
+        ensures { self.exit.1.0.now ≡ self.entry.read_stack.now }
+    {
+        let State {
+            regs: _,
+            read_stack: _,
+        } = self;
+    }
+}
+
+/// Unwinds by operations: returns the rule that does them, or undoes them.
+fn unwind_codes<F, D>(
+    operations: UnwindOperations<'_, '_, D>,
+    regs: &mut UnwindRegsX86_64,
+    read_stack: &mut F,
+) -> Result<UnwindResult<UnwindRuleX86_64>, PeUnwinderError>
+where
+    F: FnMut(u64) -> Result<u64, ()>,
+    D: SectionBytes,
+    requires { F.IsAlwaysCallable read_stack.old }
+    ensures callable { F.IsAlwaysCallable read_stack.new }
+    ensures kept { KeptUnlessDirect result regs.old regs.new }
+    ensures decides { Decides (offsets_and_pops (by_codes (left_operations D.contents operations.entry))) result }
+    ensures answers { (memory : Memory) → AnswersAs F.FnMut read_stack.old memory
+        → AnswersAs F.FnMut read_stack.new memory
+        × HasRun (along (by_codes (left_operations D.contents operations.entry)) memory regs.old) result regs.new }
+{
+    if let Some(rule) = rule_of_codes(operations) {
+        return Ok(UnwindResult::ExecRule(rule));
+    }
+    let mut state = State {
+        regs: *regs,
+        read_stack,
+    };
+    let return_address = resolve_operations(operations, &mut state)?;
+    *regs = state.regs;
+    regs.set_ip(return_address);
+    Ok(UnwindResult::Uncacheable(return_address))
 }

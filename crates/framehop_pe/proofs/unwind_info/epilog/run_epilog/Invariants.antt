@@ -7,6 +7,7 @@ use Rattle.framehop_pe.proofs.unwind_info.epilog.run_epilog.Given as goal
 abbrev pub invariant-loop-instruction : goal.invariant-loop-instruction
 invariant-loop-instruction g l =
     g.S.UnwindState.can_read l.state
+    × (g.S.UnwindState.loan l.state ≡ g.S.UnwindState.loan l.initial.state)
     × ((memory : Memory) → g.S.UnwindState.reads l.initial.state memory
     → g.S.UnwindState.reads l.state memory
     × (ran memory l.frame_register (left_instructions l.instruction-iterator) (g.S.UnwindState.registers l.state)

@@ -7,6 +7,7 @@ use Rattle.framehop_pe.proofs.unwind_info.resolve.resolve_operations.Given as go
 abbrev pub invariant-loop-framed : goal.invariant-loop-framed
 invariant-loop-framed g l =
     g.S.UnwindState.can_read l.state
+    × (g.S.UnwindState.loan l.state ≡ g.S.UnwindState.loan l.initial.state)
     × ((memory : Memory) → g.S.UnwindState.reads l.initial.state memory
     → g.S.UnwindState.reads l.state memory
     × (resolved memory (left_operations g.D.SectionBytes.contents l.framed-iterator) (g.S.UnwindState.registers l.state)
