@@ -46,9 +46,11 @@ sized address size (Some bytes) =
 unfoldable pub code_at : Sections → RuntimeFunction → ℕ → Result (List ℕ) PeUnwinderError
 code_at sections function address = sized address (function.end_address - address) (text_at sections address)
 
--- what is left of an epilog at an address in a function
-abbrev pub epilog_in : RuntimeFunction → Header → List ℕ → Option (List FunctionEpilogInstruction)
-epilog_in function header code = epilog_of (frame_register header) (function.end_address - function.begin_address) code
+-- what is left of an epilog at an address in a function, if the code there is an epilog
+unfoldable pub epilog_at : Sections → RuntimeFunction → Option Reg → ℕ → Result (Option (List FunctionEpilogInstruction)) PeUnwinderError
+epilog_at sections function frame address = do
+  code ← code_at sections function address
+  Ok (epilog_of frame (function.end_address - function.begin_address) code)
 
 -- the operations at an address in a function
 abbrev pub codes_way : Sections → RuntimeFunction → Header → ℕ → Result Way PeUnwinderError
@@ -64,8 +66,8 @@ epilog_or frame None other = other
 -- in a first frame the address may be in an epilog, which the codes do not describe
 abbrev pub way_in : Bool → Sections → RuntimeFunction → Header → ℕ → Result Way PeUnwinderError
 way_in true sections function header address = do
-  code ← code_at sections function address
-  epilog_or (frame_register header) (epilog_in function header code) (codes_way sections function header address)
+  found ← epilog_at sections function (frame_register header) address
+  epilog_or (frame_register header) found (codes_way sections function header address)
 way_in false sections function header address = codes_way sections function header address
 
 -- the way from an address in a function, in a first frame (`true`) or another
