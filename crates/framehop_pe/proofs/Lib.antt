@@ -3,3 +3,4 @@ pub mod CodeLists
 pub mod Chains
 pub mod Pops
 pub mod Iterators
+pub mod Simulation

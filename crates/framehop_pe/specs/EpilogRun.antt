@@ -1,6 +1,5 @@
 -- A run of what is left of an epilog, on sixteen registers and memory.
 use Rattle.std.specs.Prelude.{ℕ, ℤ, List, [], ◌∷◌, Option, Some, None, Result, Ok, Err}
-use Rattle.framehop_cfi.specs.Bytes.{◌>>=◌}
 use Rattle.framehop_core.specs.AddSigned.{fitting, sum_with}
 use Rattle.framehop_core.specs.Memory.{Memory}
 use Rattle.framehop_core.specs.X86_64.Registers.{Registers, register, with_register}
@@ -32,8 +31,13 @@ stepped memory frame (AddSP offset) r = with_sp (sum r.rsp offset) r
 stepped memory frame (AddSPFromFP offset) r = with_sp (beside_register frame offset r) r
 stepped memory frame (Pop reg) r = with_popped reg (popped_word memory r)
 
+-- one step, then what follows it
+abbrev pub stepped_then : Result Registers PeUnwinderError → (Registers → Result (ℕ × Registers) PeUnwinderError) → Result (ℕ × Registers) PeUnwinderError
+stepped_then (Ok r) next = next r
+stepped_then (Err error) next = Err error
+
 -- The return address and the caller's registers but for ip, by the instructions in their order and the one that leaves
 -- the function, behind which the return address is popped.
 abbrev pub ran : Memory → Option Reg → List FunctionEpilogInstruction → Registers → Result (ℕ × Registers) PeUnwinderError
 ran memory frame [] r = popped_word memory r
-ran memory frame (instruction ∷ instructions) r = stepped memory frame instruction r >>= ran memory frame instructions
+ran memory frame (instruction ∷ instructions) r = stepped_then (stepped memory frame instruction r) (ran memory frame instructions)

@@ -295,3 +295,40 @@ where
         Err(error) => Err(error),
     }
 }
+
+impl PeUnwinding for ArchX86_64 {
+    ghost use Rattle.framehop_pe.specs.Frame.{way_at, Says, Computes, IsSimulated};
+
+    ghost says = { λ sections address first result. Says (way_at sections address first) result };
+
+    ghost computes = { λ sections address first memory old result new. Computes (way_at sections address first) memory old result new };
+
+    ghost is_simulated = { λ sections address first rule. IsSimulated sections address first rule };
+
+    fn unwind_frame<F, D>(
+        sections: PeSections<'_, D>,
+        address: u32,
+        regs: &mut UnwindRegsX86_64,
+        is_first_frame: bool,
+        read_stack: &mut F,
+    ) -> Result<UnwindResult<UnwindRuleX86_64>, PeUnwinderError>
+    where
+        F: FnMut(u64) -> Result<u64, ()>,
+        D: SectionBytes,
+    {
+        let entries = FunctionTableEntries {
+            bytes: sections.pdata.bytes(),
+        };
+        match entries.lookup(address) {
+            Some(function) => unwind_function(
+                &sections,
+                function,
+                address,
+                regs,
+                is_first_frame,
+                read_stack,
+            ),
+            None => Ok(UnwindResult::ExecRule(UnwindRuleX86_64::JustReturn)),
+        }
+    }
+}
