@@ -1,0 +1,6 @@
+pub mod Starts
+pub mod CodeLists
+pub mod Chains
+pub mod Pops
+pub mod Iterators
+pub mod Simulation

@@ -1,0 +1,6 @@
+use Rattle.std.proofs.Common.{sym}
+use Rattle.framehop_pe.proofs.Starts.{length-starts_of}
+use Rattle.framehop_pe.proofs.unwind_info.function_table.FunctionTableEntriesStarts.count.Goals as goal
+
+pub returns : goal.returns
+returns c = sym (length-starts_of c.args.self.now.bytes.now)

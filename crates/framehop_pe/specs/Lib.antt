@@ -1,0 +1,14 @@
+pub mod Sections
+pub mod FunctionTable
+pub mod Register
+pub mod Codes
+pub mod Info
+pub mod Chain
+pub mod Operations
+pub mod Resolve
+pub mod Epilog
+pub mod Instructions
+pub mod EpilogRun
+pub mod Answer
+pub mod Offsets
+pub mod Frame

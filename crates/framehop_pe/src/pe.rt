@@ -1,0 +1,157 @@
+//! What a PE module lends for unwinding, and the trait of an architecture that unwinds by it
+//! (framehop 0.16.0, `pe.rs`).
+ghost use Rattle.std.specs.Prelude.{◌≡◌, ℕ, Bool, IsTrue, Some, None, Result, MatchOption, MatchResult};
+ghost use Rattle.framehop_core.specs.Memory.{Memory, AnswersAs};
+ghost use Rattle.framehop_core.specs.declared.unwind_result.UnwindResult.{UnwindResult};
+ghost use Rattle.framehop_pe.specs.Answer.{KeptUnlessDirect, IfRule};
+ghost use Rattle.framehop_pe.specs.declared.pe.PeUnwinderError.{PeUnwinderError};
+ghost use Rattle.framehop_pe.specs.Sections.{Sections, sections_of, placed_of, bytes_at, unwind_info_at, text_at};
+
+use framehop_cfi::section::SectionBytes;
+use framehop_core::arch::Arch;
+use framehop_core::unwind_result::UnwindResult;
+use framehop_core::unwind_rule::UnwindRule;
+use std::ops::Range;
+use thiserror::Error;
+
+/// Why the unwind info of a PE module gives no answer for a frame.
+#[derive(Clone, Copy, Debug, PartialEq, Eq, Error)]
+pub enum PeUnwinderError {
+    /// Neither `.rdata` nor `.xdata` has unwind info at this RVA.
+    #[error("MissingUnwindInfoData")]
+    MissingUnwindInfoData(u32),
+    /// The text at this RVA is not there up to the function's end.
+    #[error("MissingInstructionData")]
+    MissingInstructionData(u32),
+    /// A stack word could not be read, at this address (AVMA) where it is told; or a stack address
+    /// does not fit 64 bits.
+    #[error("MissingStackData")]
+    MissingStackData(Option<u64>),
+    /// Unwind info is too short, has an unknown version or code, or its chain is too long.
+    #[error("UnwindInfoParseError")]
+    UnwindInfoParseError,
+    /// There is no reader for aarch64 yet.
+    #[error("Aarch64Unsupported")]
+    Aarch64Unsupported,
+}
+
+/// Data and where it lies in the module, as relative addresses (RVA).
+pub struct DataAtRvaRange<D> {
+    /// The data.
+    pub bytes: D,
+    /// The relative addresses that it covers.
+    pub rva_range: Range<u32>,
+}
+
+/// The sections of a PE module that unwinding on x86_64 reads.
+#[derive_where(Clone, Copy)]
+pub struct PeSections<'a, D> {
+    /// The function table.
+    pub pdata: &'a D,
+    /// Where compilers put unwind info.
+    pub rdata: Option<&'a DataAtRvaRange<D>>,
+    /// Where some compilers put unwind info.
+    pub xdata: Option<&'a DataAtRvaRange<D>>,
+    /// The code.
+    pub text: Option<&'a DataAtRvaRange<D>>,
+}
+
+impl<'a, D: SectionBytes> PeSections<'a, D> {
+    /// Returns the bytes of `.rdata` from a relative address on, or those of `.xdata` where
+    /// `.rdata` has none there.
+    pub fn unwind_info_memory_at_rva(&self, rva: u32) -> Result<&'a [u8], PeUnwinderError>
+        ensures { MatchResult result
+            (λ bytes. unwind_info_at (sections_of D.contents self.now) rva ≡ Some bytes.now)
+            (λ error. (unwind_info_at (sections_of D.contents self.now) rva ≡ None)
+            × (error ≡ PeUnwinderError.MissingUnwindInfoData rva)) }
+    {
+        if let Some(bytes) = section_memory_at_rva(self.rdata, rva) {
+            return Ok(bytes);
+        }
+        section_memory_at_rva(self.xdata, rva).ok_or(PeUnwinderError::MissingUnwindInfoData(rva))
+    }
+
+    /// Returns the bytes of `.text` from a relative address on.
+    pub fn text_memory_at_rva(&self, rva: u32) -> Result<&'a [u8], PeUnwinderError>
+        ensures { MatchResult result
+            (λ bytes. text_at (sections_of D.contents self.now) rva ≡ Some bytes.now)
+            (λ error. (text_at (sections_of D.contents self.now) rva ≡ None)
+            × (error ≡ PeUnwinderError.MissingInstructionData rva)) }
+    {
+        section_memory_at_rva(self.text, rva).ok_or(PeUnwinderError::MissingInstructionData(rva))
+    }
+}
+
+/// Returns the bytes of a section from a relative address on, if there is one and it has some.
+fn section_memory_at_rva<'a, D: SectionBytes>(
+    section: Option<&'a DataAtRvaRange<D>>,
+    address: u32,
+) -> Option<&'a [u8]>
+    ensures { MatchOption result
+        (bytes_at (placed_of D.contents section.entry) address ≡ None)
+        (λ bytes. bytes_at (placed_of D.contents section.entry) address ≡ Some bytes.now) }
+{
+    memory_at_rva(section?, address)
+}
+
+/// Returns the bytes of data from a relative address on, if the data's range covers it and the data
+/// reaches behind it.
+fn memory_at_rva<D: SectionBytes>(data: &DataAtRvaRange<D>, address: u32) -> Option<&[u8]>
+    ensures { MatchOption result
+        (bytes_at (placed_of D.contents (Some data.entry)) address ≡ None)
+        (λ bytes. bytes_at (placed_of D.contents (Some data.entry)) address ≡ Some bytes.now) }
+{
+    let bytes = data.bytes.bytes();
+    if address < data.rva_range.start || address >= data.rva_range.end {
+        return None;
+    }
+    let offset = (address - data.rva_range.start) as usize;
+    if offset >= bytes.len() {
+        return None;
+    }
+    let (_, rest) = bytes.split_at(offset);
+    Some(rest)
+}
+
+/// An architecture that unwinds by the unwind info of PE modules.
+pub trait PeUnwinding: Arch {
+    // what a call returns by the bytes alone, whatever the stack: of sections, a relative address
+    // and the kind of the frame (`true`: the first)
+    ghost says: { Sections → ℕ → Bool → Result (UnwindResult Self.UnwindRule) PeUnwinderError → Type 0 };
+
+    // what a call that returns no rule does, over memory: with its result, from the registers of
+    // the callee to those of the caller
+    ghost computes: { Sections → ℕ → Bool → Memory → Self.UnwindRegs → Result (UnwindResult Self.UnwindRule) PeUnwinderError → Self.UnwindRegs → Type 0 };
+
+    // a rule does to registers and memory what the unwind info says
+    ghost is_simulated: { Sections → ℕ → Bool → Self.UnwindRule → Type 0 };
+
+    /// Unwinds one frame of a function at a relative address (RVA): returns a rule for the address,
+    /// or the return address (AVMA) of this frame, after it has written the caller's registers.
+    /// `read_stack` reads the stack word at an address (AVMA). Nothing is allocated.
+    ///
+    /// # Errors
+    ///
+    /// `MissingUnwindInfoData`, `MissingInstructionData` or `UnwindInfoParseError` where the
+    /// module's bytes are not there or not known; `MissingStackData` where a stack word can't be
+    /// read or an address does not fit 64 bits. The registers stay as they are.
+    fn unwind_frame<F, D>(
+        sections: PeSections<'_, D>,
+        address: u32,
+        regs: &mut Self::UnwindRegs,
+        is_first_frame: bool,
+        read_stack: &mut F,
+    ) -> Result<UnwindResult<Self::UnwindRule>, PeUnwinderError>
+    where
+        F: FnMut(u64) -> Result<u64, ()>,
+        D: SectionBytes,
+        requires { F.IsAlwaysCallable read_stack.old }
+        ensures callable { F.IsAlwaysCallable read_stack.new }
+        ensures kept { KeptUnlessDirect result regs.old regs.new }
+        ensures bytes { says (sections_of D.contents sections.entry) address is_first_frame result }
+        ensures executable { IfRule result (λ rule. IsTrue (Self.UnwindRule.executable rule)) }
+        ensures simulation { IfRule result (is_simulated (sections_of D.contents sections.entry) address is_first_frame) }
+        ensures answers { (memory : Memory) → AnswersAs F.FnMut read_stack.old memory
+            → AnswersAs F.FnMut read_stack.new memory
+            × computes (sections_of D.contents sections.entry) address is_first_frame memory regs.old result regs.new };
+}
