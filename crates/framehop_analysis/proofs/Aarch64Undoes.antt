@@ -7,7 +7,7 @@ use Rattle.std.specs.Int.Bits.{bit_and, and_self}
 use Rattle.framehop_core.specs.Outcome.{answered, above}
 use Rattle.framehop_core.specs.Aarch64.Registers.{Registers, strip_ptr_auth}
 use Rattle.framehop_core.specs.Aarch64.Rules.{outcome, nothing_more, kept}
-use Rattle.framehop_core.specs.Aarch64.RuleLaws.{IsCaller, caller-answered}
+use Rattle.framehop_core.specs.Laws.Aarch64.{IsCaller, caller-answered}
 use Rattle.framehop_core.specs.declared.error.Error.{Error}
 use Rattle.framehop_core.specs.declared.aarch64.unwind_rule.UnwindRuleAarch64.{UnwindRuleAarch64}
 use Rattle.framehop_core.specs.declared.aarch64.unwind_rule.UnwindRuleAarch64.TheVariants.{NoOp, NoOpIfFirstFrameOtherwiseFp, OffsetSp, OffsetSpIfFirstFrameOtherwiseStackEndsHere, OffsetSpAndRestoreLr, OffsetSpAndRestoreFpAndLr, UseFramePointer, UseFramepointerWithOffsets}

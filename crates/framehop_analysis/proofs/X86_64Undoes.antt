@@ -3,10 +3,10 @@ use Rattle.std.proofs.Common.{◌≡◌, ◌⊎◌, inl, inr, ℕ, zero, suc, �
 use Rattle.std.proofs.lemmas.Int.{ints}
 use Rattle.framehop_core.specs.Memory.{Memory}
 use Rattle.framehop_core.specs.Outcome.{answered, above, address_at, word_at, word_from}
-use Rattle.framehop_core.specs.OutcomeLaws.{and_then-ok, address_at-ok, word_at-ok, root_unless}
+use Rattle.framehop_core.specs.Laws.Outcome.{and_then-ok, address_at-ok, word_at-ok, root_unless}
 use Rattle.framehop_core.specs.X86_64.Registers.{Registers}
 use Rattle.framehop_core.specs.X86_64.Rules.{Source, Demand, nothing_more, stack_pointer_rises, kept, stored_at, Line, caller, stack_end, outcome_of_line, frame_pointer_line, outcome}
-use Rattle.framehop_core.specs.X86_64.RuleLaws.{IsCaller, caller-answered}
+use Rattle.framehop_core.specs.Laws.X86_64.{IsCaller, caller-answered}
 use Rattle.framehop_core.specs.declared.error.Error.{Error}
 use Rattle.framehop_core.specs.declared.x86_64.unwind_rule.UnwindRuleX86_64.{UnwindRuleX86_64}
 use Rattle.framehop_core.specs.declared.x86_64.unwind_rule.UnwindRuleX86_64.TheVariants.{EndOfStack, JustReturn, JustReturnIfFirstFrameOtherwiseFp, OffsetSp, OffsetSpAndRestoreBp, UseFramePointer, OffsetSpAndPopRegisters}

@@ -6,10 +6,10 @@ use Rattle.std.specs.Option.{option_map}
 use Rattle.std.proofs.lemmas.Option.{some_pair_parts}
 use Rattle.framehop_core.specs.Memory.{Memory}
 use Rattle.framehop_core.specs.Outcome.{answered, address_at, above, word_at, word_from, and_then}
-use Rattle.framehop_core.specs.OutcomeLaws.{address_at-ok, word_at-ok, and_then-ok}
+use Rattle.framehop_core.specs.Laws.Outcome.{address_at-ok, word_at-ok, and_then-ok}
 use Rattle.framehop_core.specs.X86_64.Ordering.{eight, ordering, IsArrangement, IsEncoding}
 use Rattle.framehop_core.specs.X86_64.Registers.{Registers, with_register}
-use Rattle.framehop_core.specs.X86_64.RuleLaws.{caller-answered, pops-answered, IsFinished}
+use Rattle.framehop_core.specs.Laws.X86_64.{caller-answered, pops-answered, IsFinished}
 use Rattle.framehop_core.specs.X86_64.Rules.{nothing_more, kept, popped, outcome, pops_of, offset_and_pops_of, IsRuleOf, IsRuleOfOperations, is_executable}
 use Rattle.framehop_core.proofs.Orderings.{IsArrangement-encoding, IsArrangement-number}
 use Rattle.framehop_core.specs.declared.error.Error.{Error}
