@@ -211,6 +211,17 @@ pub fn run_rules<F: FnMut(u64) -> Result<u64, ()>>(
 
 /// The step by the frame pointer, `(sp, fp, lr) = (fp + 16, *fp, *(fp + 8))`, where both the frame
 /// pointer and the stack pointer must rise.
+///
+/// `bl` puts the return address into lr. A function with a frame pointer lowers sp, stores fp and lr
+/// as a pair and sets fp to the pair's address, so that in its body the stack is, from low to high
+/// addresses:
+///
+/// ```text
+/// .. locals ..   caller's fp   return address   .. saved registers, the caller's frame ..
+/// ^ sp           ^ fp
+/// ```
+///
+/// sp is a multiple of 16, and registers are stored in pairs.
 fn exec_frame_pointer<F: FnMut(u64) -> Result<u64, ()>>(
     is_first_frame: bool,
     regs: &mut UnwindRegsAarch64,

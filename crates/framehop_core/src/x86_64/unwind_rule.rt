@@ -281,6 +281,21 @@ pub fn run_rules<F: FnMut(u64) -> Result<u64, ()>>(
 }
 
 /// The step by the frame pointer, `(sp, bp) = (bp + 16, *bp)`, where the stack pointer must rise.
+///
+/// `call` pushes the return address. A function that is compiled with frame pointers begins with
+/// `push rbp` and `mov rbp, rsp`, and ends with `pop rbp` and `ret`, so that in its body the stack
+/// is, from low to high addresses:
+///
+/// ```text
+/// .. locals ..   caller's rbp   return address   .. the caller's frame ..
+/// ^ rsp          ^ rbp                           ^ the caller's rsp
+/// ```
+///
+/// The words at rbp and rbp + 8 are a link of a list: the next frame's link, and where its code goes
+/// on.
+///
+/// The caller's bp is not tested: where the caller uses rbp as a general register, each value is one
+/// that it may hold, 0 among them. Whether it does can't be told here.
 fn exec_frame_pointer<F: FnMut(u64) -> Result<u64, ()>>(
     regs: &mut UnwindRegsX86_64,
     read_stack: &mut F,
@@ -306,6 +321,11 @@ fn exec_frame_pointer<F: FnMut(u64) -> Result<u64, ()>>(
 
 /// Reads the caller's bp in the word at this many words of 8 bytes from sp. In a first frame a
 /// word below sp may be unreadable: then bp is taken to be restored already.
+///
+/// Such offsets come from function ends, where registers are popped one after another and the
+/// unwind data, to save room, does not say of each that it is back in place. The word is then below
+/// sp, which a callback may well be unable to read: a copy of the stack begins at sp, as those do
+/// that Linux's perf events bring.
 #[inline(always)]
 fn read_bp_beside<F: FnMut(u64) -> Result<u64, ()>>(
     is_first_frame: bool,
