@@ -321,7 +321,7 @@ fn compare<S: UnwindContextStorage>(
 ) -> Result<(), Fail> {
     let data = bytes(rt.alloc(), text)?;
     let section = UnwindSection::new(data.bytes(), section_type, &at(address));
-    let index = DwarfCfiIndex::try_new(rt.alloc(), data.bytes(), section_type, &at(address), 0)?;
+    let index = DwarfCfiIndex::try_new(rt.alloc(), data.bytes(), section_type, at(address), 0)?;
     for (offset, start, length) in fdes {
         let fde = section.fde_from_offset(*offset as usize)?;
         assert_eq!(rt; fde.initial_address, *start);

@@ -1,8 +1,8 @@
 //! What unwinds by the call frame information of a module.
-ghost use Rattle.std.specs.Prelude.{◌≡◌, ◌+◌, MatchOption, IsErr, Ok, None};
-ghost use Rattle.framehop_cfi.specs.Entry.{bases_of};
-ghost use Rattle.framehop_cfi.specs.Header.{layout_of, fde_offset_of};
-ghost use Rattle.framehop_dwarf.specs.Unwinder.{header_bases};
+ghost use Rattle.std.specs.Prelude.{◌≡◌, ◌+◌, MatchOption, IfSome, None};
+ghost use Rattle.framehop_cfi.specs.Section.{section_of};
+ghost use Rattle.framehop_cfi.specs.Header.{IsOfRowFor};
+ghost use Rattle.framehop_dwarf.specs.Unwinder.{header_bases, HasHeader, fde_offset_for};
 
 use framehop_cfi::context::UnwindContext;
 use framehop_cfi::entry::{UnwindSection, UnwindSectionType};
@@ -46,13 +46,9 @@ impl<'a, A, S: UnwindContextStorage> DwarfUnwinder<'a, A, S> {
         bases: BaseAddresses,
         base_svma: u64,
     ) -> Self
-        ensures bytes { result.section.bytes.now ≡ unwind_section_data.now }
-        ensures section_type { result.section.section_type ≡ unwind_section_type }
-        ensures bases { result.section.bases ≡ bases_of unwind_section_type bases }
+        ensures section { result.section ≡ section_of unwind_section_type bases unwind_section_data.now }
         ensures base { result.base_svma ≡ base_svma }
-        ensures header { MatchOption eh_frame_hdr_data.entry (result.eh_frame_hdr ≡ None) (λ bytes.
-            MatchOption result.eh_frame_hdr (IsErr (layout_of (header_bases bases) bytes.now)) (λ header.
-            (layout_of (header_bases bases) bytes.now ≡ Ok header.layout) × (header.bases ≡ header_bases bases) × (header.bytes.now ≡ bytes.now))) }
+        ensures header { MatchOption eh_frame_hdr_data.entry (result.eh_frame_hdr ≡ None) (λ bytes. HasHeader (header_bases bases) bytes.now result.eh_frame_hdr) }
     {
         let section = UnwindSection::new(unwind_section_data, unwind_section_type, &bases);
         let eh_frame_hdr = match eh_frame_hdr_data {
@@ -71,8 +67,8 @@ impl<'a, A, S: UnwindContextStorage> DwarfUnwinder<'a, A, S> {
     /// The offset in `.eh_frame` of the FDE that the table names for a relative address. The FDE may not
     /// cover the address. Without a table there is none.
     pub fn get_fde_offset_for_relative_address(&self, rel_lookup_address: u32) -> Option<u32>
-        ensures { MatchOption self.now.eh_frame_hdr (result ≡ None) (λ header.
-            result ≡ fde_offset_of header.bases header.layout header.bytes.now (self.now.base_svma + rel_lookup_address)) }
+        ensures exact { result ≡ fde_offset_for self.now.eh_frame_hdr (self.now.base_svma + rel_lookup_address) }
+        ensures law { IfSome self.now.eh_frame_hdr (λ header. IsOfRowFor header (self.now.base_svma + rel_lookup_address) result) }
     {
         match &self.eh_frame_hdr {
             Some(header) => {

@@ -1,7 +1,7 @@
 use Rattle.std.proofs.Common.{arith, sym, ◌∙◌, ◌<◌}
 use Rattle.framehop_cfi.specs.Header.{start_of_row}
 use Rattle.framehop_cfi.proofs.Table.{length-starts_of, get_or-starts_of}
-use Rattle.framehop_cfi.proofs.header.EhFrameHdrStarts.start.Goals as goal
+use Rattle.framehop_cfi.proofs.header.TableStarts.start.Goals as goal
 
 pub row-requires : goal.row-requires
 row-requires c =

@@ -1,5 +1,5 @@
 use Rattle.framehop_dwarf.proofs.Table.{IsTable-sorted, zip-maps}
-use Rattle.framehop_dwarf.proofs.index.DwarfCfiIndex.from_rows.Goals as goal
+use Rattle.framehop_dwarf.proofs.index.DwarfCfiIndex.from_pairs.Goals as goal
 
 pub invariant_of-result : goal.invariant_of-result
 invariant_of-result c =

@@ -1,6 +1,6 @@
 use Rattle.std.proofs.Common.{sym, ◌∙◌}
 use Rattle.framehop_cfi.proofs.Table.{length-starts_of}
-use Rattle.framehop_cfi.proofs.header.EhFrameHdrStarts.count.Goals as goal
+use Rattle.framehop_cfi.proofs.header.TableStarts.count.Goals as goal
 
 pub returns : goal.returns
 returns c =
