@@ -2,7 +2,9 @@
 #![tactic(auto)]
 
 pub mod bases;
+pub mod evaluation;
 pub mod index;
+pub mod operation;
 #[cfg(test)]
 mod tests;
 pub mod unwinder;
