@@ -1,3 +1,4 @@
+pub mod Values
 pub mod Walk
 pub mod Order
 pub mod Table

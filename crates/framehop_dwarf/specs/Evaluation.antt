@@ -29,23 +29,23 @@ abbrev pub pushed : Option ℕ → ℕ → List ℕ → Option (List ℕ)
 pushed limit value stack = if fits limit (suc (length stack)) then Some (value ∷ stack) else None
 
 -- the stack after an operation; one that needs more values than there are has none
-abbrev pub stack_after : Evaluation → Operation → List ℕ → Option (List ℕ)
-stack_after e Nop stack = Some stack
-stack_after e (Constant value) stack = pushed e.limit value stack
-stack_after e (RegisterOffset register offset) stack =
-    option_and_then (λ value. pushed e.limit ((value + cast_unsigned w64 offset) % 2 ^ 64) stack) (e.columns register)
-stack_after e (Pick depth) stack = option_and_then (λ value. pushed e.limit value stack) (slice_get stack depth)
-stack_after e Discard (top ∷ rest) = Some rest
-stack_after e Swap (top ∷ second ∷ rest) = option_and_then (pushed e.limit second) (pushed e.limit top rest)
-stack_after e Rot (top ∷ second ∷ third ∷ rest) =
-    option_and_then (pushed e.limit second) (option_and_then (pushed e.limit third) (pushed e.limit top rest))
-stack_after e (Unary operation) (top ∷ rest) = pushed e.limit (changed operation top) rest
-stack_after e (Binary operation) (top ∷ second ∷ rest) =
-    option_and_then (λ value. pushed e.limit value rest) (combined operation second top)
-stack_after e (PlusConstant value) (top ∷ rest) = pushed e.limit ((top + value) % 2 ^ 64) rest
-stack_after e (Skip distance) stack = Some stack
-stack_after e (Branch distance) (top ∷ rest) = Some rest
-stack_after e operation stack = None
+abbrev pub stack_after : Option ℕ → (Register → Option ℕ) → Operation → List ℕ → Option (List ℕ)
+stack_after limit columns Nop stack = Some stack
+stack_after limit columns (Constant value) stack = pushed limit value stack
+stack_after limit columns (RegisterOffset register offset) stack =
+    option_and_then (λ value. pushed limit ((value + cast_unsigned w64 offset) % 2 ^ 64) stack) (columns register)
+stack_after limit columns (Pick depth) stack = option_and_then (λ value. pushed limit value stack) (slice_get stack depth)
+stack_after limit columns Discard (top ∷ rest) = Some rest
+stack_after limit columns Swap (top ∷ second ∷ rest) = option_and_then (pushed limit second) (pushed limit top rest)
+stack_after limit columns Rot (top ∷ second ∷ third ∷ rest) =
+    option_and_then (pushed limit second) (option_and_then (pushed limit third) (pushed limit top rest))
+stack_after limit columns (Unary operation) (top ∷ rest) = pushed limit (changed operation top) rest
+stack_after limit columns (Binary operation) (top ∷ second ∷ rest) =
+    option_and_then (λ value. pushed limit value rest) (combined operation second top)
+stack_after limit columns (PlusConstant value) (top ∷ rest) = pushed limit ((top + value) % 2 ^ 64) rest
+stack_after limit columns (Skip distance) stack = Some stack
+stack_after limit columns (Branch distance) (top ∷ rest) = Some rest
+stack_after limit columns operation stack = None
 
 -- a place that is not beyond the end
 abbrev pub within : ℕ → ℤ → Option ℕ
@@ -62,7 +62,7 @@ position_after end operation next top = Some next
 -- the state after an operation, by the place behind it
 abbrev pub state_after : Evaluation → Operation → ℕ → List ℕ → Option State
 state_after e operation next stack =
-    option_and_then (λ position. option_map (λ new. record { position = position; stack = new }) (stack_after e operation stack))
+    option_and_then (λ position. option_map (λ new. record { position = position; stack = new }) (stack_after e.limit e.columns operation stack))
     (position_after (length e.code) operation next (slice_get stack 0))
 
 abbrev pub state_by : Evaluation → List ℕ → Reading Operation → Option State

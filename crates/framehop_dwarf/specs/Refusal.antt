@@ -1,5 +1,6 @@
 -- What an evaluation that was cut short has answered, against what it was to do.
-use Rattle.std.specs.Prelude.{◌≡◌, ℕ, Option, Some, None, Result, Ok, Err}
+use Rattle.std.specs.Prelude.{◌≡◌, ℕ, List, Option, Some, None, Result, Ok, Err}
+use Rattle.framehop_dwarf.specs.Evaluation.{State}
 use Rattle.framehop_dwarf.specs.declared.evaluation.Refusal.{Refusal}
 use Rattle.framehop_dwarf.specs.declared.evaluation.Refusal.TheVariants.{NoValue, OutOfMemory}
 
@@ -14,3 +15,9 @@ abbrev pub Returns : {A : Type 0} → Option ℕ → Result A Refusal → Option
 Returns limit (Ok value) wanted = wanted ≡ Some value
 Returns limit (Err NoValue) wanted = wanted ≡ None
 Returns limit (Err OutOfMemory) wanted = limit ≡ None
+
+-- the same for a state, of which it returns the position and has left the stack
+abbrev pub Reaches : Option ℕ → Result ℕ Refusal → Option State → List ℕ → Type 0
+Reaches limit (Ok position) wanted stack = wanted ≡ Some (record { position = position; stack = stack })
+Reaches limit (Err NoValue) wanted stack = wanted ≡ None
+Reaches limit (Err OutOfMemory) wanted stack = limit ≡ None

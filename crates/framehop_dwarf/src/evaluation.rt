@@ -2,8 +2,8 @@
 ghost use Rattle.std.specs.Prelude.{◌≡◌, ◌≢◌, ◌≤◌, ℕ, List, [], ◌∷◌, length, slice_get, Option, Some, None, IfOk, IfErr, IfSome, IfNone, MatchOption, OnErr, option_to_list, Result, pos, ◌+ℤ◌};
 ghost use Rattle.framehop_cfi.specs.declared.rule.Register.{Register as RegisterNumber};
 ghost use Rattle.framehop_dwarf.specs.Operation.{operation_at};
-ghost use Rattle.framehop_dwarf.specs.Evaluation.{Evaluation, State, pushed, within, stack_after, position_after, step, value_of, value_in, code_of, IsValueIn};
-ghost use Rattle.framehop_dwarf.specs.Refusal.{Leaves, Returns};
+ghost use Rattle.framehop_dwarf.specs.Evaluation.{Evaluation, State, pushed, within, stack_after, position_after, step, value_from, value_of, value_in, code_of, IsValueIn};
+ghost use Rattle.framehop_dwarf.specs.Refusal.{Leaves, Returns, Reaches};
 
 use crate::operation::{BinaryOperation, Operation, UnaryOperation, read_operation};
 use arrayvec::ArrayVec;
@@ -173,4 +173,152 @@ fn position_after(
         },
         _ => Some(next),
     }
+}
+
+/// Puts a register's value plus an offset on top.
+fn push_register<R: DwarfUnwindRegs, V: ValueStack>(
+    regs: &R,
+    register: Register,
+    offset: i64,
+    values: &mut V,
+) -> Result<(), Refusal>
+    ensures { Leaves V.limit result (stack_after V.limit (R.column regs.now) (Operation.RegisterOffset register offset) (V.values values.old)) (V.values values.new) }
+{
+    match regs.get(register) {
+        Some(value) => values.push(value.wrapping_add(offset.cast_unsigned())),
+        None => Err(Refusal::NoValue),
+    }
+}
+
+/// Puts the value so many places below the top on top.
+fn pick<V: ValueStack>(depth: u8, values: &mut V) -> Result<(), Refusal>
+    ensures { (columns : RegisterNumber → Option ℕ) → Leaves V.limit result (stack_after V.limit columns (Operation.Pick depth) (V.values values.old)) (V.values values.new) }
+{
+    match values.peek(usize::from(depth)) {
+        Some(value) => values.push(value),
+        None => Err(Refusal::NoValue),
+    }
+}
+
+/// Exchanges the top value and the second one.
+fn swap<V: ValueStack>(values: &mut V) -> Result<(), Refusal>
+    ensures { (columns : RegisterNumber → Option ℕ) → Leaves V.limit result (stack_after V.limit columns Operation.Swap (V.values values.old)) (V.values values.new) }
+{
+    let top = pop(values)?;
+    let second = pop(values)?;
+    values.push(top)?;
+    values.push(second)
+}
+
+/// Puts the top value below the second and the third one.
+fn rotate<V: ValueStack>(values: &mut V) -> Result<(), Refusal>
+    ensures { (columns : RegisterNumber → Option ℕ) → Leaves V.limit result (stack_after V.limit columns Operation.Rot (V.values values.old)) (V.values values.new) }
+{
+    let top = pop(values)?;
+    let second = pop(values)?;
+    let third = pop(values)?;
+    values.push(top)?;
+    values.push(third)?;
+    values.push(second)
+}
+
+/// Puts what an operation makes of the top value in its place.
+fn apply_unary<V: ValueStack>(operation: UnaryOperation, values: &mut V) -> Result<(), Refusal>
+    ensures { (columns : RegisterNumber → Option ℕ) → Leaves V.limit result (stack_after V.limit columns (Operation.Unary operation) (V.values values.old)) (V.values values.new) }
+{
+    let top = pop(values)?;
+    values.push(operation.apply(top))
+}
+
+/// Puts what an operation makes of the second value and the top one in their place.
+fn apply_binary<V: ValueStack>(operation: BinaryOperation, values: &mut V) -> Result<(), Refusal>
+    ensures { (columns : RegisterNumber → Option ℕ) → Leaves V.limit result (stack_after V.limit columns (Operation.Binary operation) (V.values values.old)) (V.values values.new) }
+{
+    let top = pop(values)?;
+    let second = pop(values)?;
+    match operation.apply(second, top) {
+        Some(value) => values.push(value),
+        None => Err(Refusal::NoValue),
+    }
+}
+
+/// Adds a number to the top value.
+fn add_constant<V: ValueStack>(value: u64, values: &mut V) -> Result<(), Refusal>
+    ensures { (columns : RegisterNumber → Option ℕ) → Leaves V.limit result (stack_after V.limit columns (Operation.PlusConstant value) (V.values values.old)) (V.values values.new) }
+{
+    let top = pop(values)?;
+    values.push(top.wrapping_add(value))
+}
+
+/// Takes the top value away.
+fn discard<V: ValueStack>(values: &mut V) -> Result<(), Refusal>
+    ensures { (columns : RegisterNumber → Option ℕ) → Leaves V.limit result (stack_after V.limit columns Operation.Discard (V.values values.old)) (V.values values.new) }
+{
+    let _ = pop(values)?;
+    Ok(())
+}
+
+/// Does what an operation says, but for a jump.
+fn apply<R: DwarfUnwindRegs, V: ValueStack>(
+    operation: Operation,
+    regs: &R,
+    values: &mut V,
+) -> Result<(), Refusal>
+    ensures { Leaves V.limit result (stack_after V.limit (R.column regs.now) operation (V.values values.old)) (V.values values.new) }
+{
+    match operation {
+        Operation::Nop | Operation::Skip(_) => Ok(()),
+        Operation::Constant(value) => values.push(value),
+        Operation::RegisterOffset { register, offset } => {
+            push_register(regs, register, offset, values)
+        }
+        Operation::Pick(depth) => pick(depth, values),
+        Operation::Discard => discard(values),
+        Operation::Branch(_) => discard(values),
+        Operation::Swap => swap(values),
+        Operation::Rot => rotate(values),
+        Operation::Unary(operation) => apply_unary(operation, values),
+        Operation::Binary(operation) => apply_binary(operation, values),
+        Operation::PlusConstant(value) => add_constant(value, values),
+    }
+}
+
+/// Does the operation at a position, and returns the position after it.
+#[tactic(auto, unfolding(crate::specs::Evaluation::step))]
+fn step<R: DwarfUnwindRegs, V: ValueStack>(
+    code: &[u8],
+    regs: &R,
+    at: usize,
+    values: &mut V,
+) -> Result<usize, Refusal>
+    ensures { Reaches V.limit result (step (record { code = code.now; columns = R.column regs.now; limit = V.limit }) (record { position = at; stack = V.values values.old })) (V.values values.new) }
+{
+    let Ok((operation, next)) = read_operation(code, at) else {
+        return Err(Refusal::NoValue);
+    };
+    let Some(position) = position_after(code.len(), operation, next, values.peek(0)) else {
+        return Err(Refusal::NoValue);
+    };
+    apply(operation, regs, values)?;
+    Ok(position)
+}
+
+/// Does the operations from position 0 to the end, at most 4,096 of them, and returns the top value.
+fn run<R: DwarfUnwindRegs, V: ValueStack>(
+    code: &[u8],
+    regs: &R,
+    values: &mut V,
+) -> Result<u64, Refusal>
+    ensures { Returns V.limit result (value_from (record { code = code.now; columns = R.column regs.now; limit = V.limit }) 4096 (record { position = 0; stack = V.values values.old })) }
+{
+    let mut at = 0;
+    let mut left = 4096u32;
+    while at != code.len() {
+        if left == 0 {
+            return Err(Refusal::NoValue);
+        }
+        left -= 1;
+        at = step(code, regs, at, values)?;
+    }
+    pop(values)
 }
