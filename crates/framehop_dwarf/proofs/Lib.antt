@@ -1,4 +1,5 @@
 pub mod Values
+pub mod ValueMeaning
 pub mod Walk
 pub mod Order
 pub mod Table

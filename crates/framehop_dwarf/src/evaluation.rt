@@ -322,3 +322,64 @@ fn run<R: DwarfUnwindRegs, V: ValueStack>(
     }
     pop(values)
 }
+
+/// Puts the first value, if there is one, on an empty stack, and runs an expression's bytes.
+#[tactic(auto, unfolding(crate::specs::Evaluation::value_of))]
+fn begin<R: DwarfUnwindRegs, V: ValueStack>(
+    alloc: Global,
+    code: &[u8],
+    regs: &R,
+    first: Option<u64>,
+) -> Result<u64, Refusal>
+    ensures { Returns V.limit result (value_of (record { code = code.now; columns = R.column regs.now; limit = V.limit }) (option_to_list first)) }
+{
+    let mut values = V::new_in(alloc);
+    if let Some(value) = first {
+        values.push(value)?;
+    }
+    run(code, regs, &mut values)
+}
+
+/// Returns the value of an expression of a section.
+fn value_in<R: DwarfUnwindRegs, V: ValueStack>(
+    alloc: Global,
+    section: &[u8],
+    expression: Expression,
+    regs: &R,
+    first: Option<u64>,
+) -> Result<u64, Refusal>
+    ensures { Returns V.limit result (value_in section.now (R.column regs.now) V.limit expression first) }
+{
+    match section.get(expression.start..expression.end) {
+        Some(code) => begin::<R, V>(alloc, code, regs, first),
+        None => Err(Refusal::NoValue),
+    }
+}
+
+/// Returns the value of an expression that lies in a section, or `None` where it has none. Its stack
+/// begins with the first value, if there is one.
+///
+/// # Errors
+///
+/// `OutOfMemory` where the stack has no limit and an allocation fails; no other.
+pub fn evaluate<R: DwarfUnwindRegs, S: EvaluationStorage>(
+    alloc: Global,
+    section: &[u8],
+    expression: Expression,
+    regs: &R,
+    first: Option<u64>,
+) -> Result<Option<u64>, ReadError>
+    ensures exact { IfOk result (λ answer. answer ≡ value_in section.now (R.column regs.now) S.Stack.limit expression first) }
+    ensures value { IfOk result (λ answer. IfSome answer (IsValueIn section.now (R.column regs.now) S.Stack.limit expression first)) }
+    ensures none { IfOk result (λ answer. IfNone answer ((value : ℕ) → IsValueIn section.now (R.column regs.now) S.Stack.limit expression first value → ⊥)) }
+    ensures memory { OnErr result (S.Stack.limit ≡ None) }
+    ensures error { IfErr result (λ error. error ≡ ReadError.OutOfMemory) }
+{
+    match value_in::<R, S::Stack>(alloc, section, expression, regs, first) {
+        Ok(value) => Ok(Some(value)),
+        Err(refusal) => match refusal {
+            Refusal::NoValue => Ok(None),
+            Refusal::OutOfMemory => Err(ReadError::OutOfMemory),
+        },
+    }
+}
