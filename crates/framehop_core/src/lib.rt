@@ -7,6 +7,7 @@ pub mod arch;
 pub mod code_address;
 pub mod display_utils;
 pub mod error;
+pub mod unwind_result;
 pub mod unwind_rule;
 pub mod x86_64;
 
