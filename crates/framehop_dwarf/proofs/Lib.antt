@@ -3,5 +3,6 @@ pub mod ValueMeaning
 pub mod Walk
 pub mod Order
 pub mod Table
+pub mod Words
 pub mod Saturated
 pub mod Entries

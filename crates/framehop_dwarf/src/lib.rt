@@ -2,9 +2,11 @@
 #![tactic(auto)]
 
 pub mod bases;
+pub mod dwarf;
 pub mod evaluation;
 pub mod index;
 pub mod operation;
 #[cfg(test)]
 mod tests;
 pub mod unwinder;
+pub mod x86_64;

@@ -1,0 +1,192 @@
+//! From a row of call frame information to a frame: what both architectures share.
+ghost use Rattle.std.specs.Prelude.{◌≡◌, ◌≢◌, ◌^◌, None, IfOk, IfErr, OnErr, pos, negsuc, ◌+ℤ◌, ◌≤ℤ◌, option_and_then};
+ghost use Rattle.framehop_core.specs.Memory.{Memory, AnswersAs};
+ghost use Rattle.framehop_dwarf.specs.Units.{units_of, signed_units_of};
+ghost use Rattle.framehop_dwarf.specs.Direct.{sum_of, cfa_of, register_of};
+
+use crate::evaluation::{DwarfUnwindRegs, EvaluationStorage, evaluate};
+use framehop_cfi::read_error::ReadError;
+use framehop_cfi::row::UnwindTableRow;
+use framehop_cfi::rule::{CfaRule, RegisterRule};
+use framehop_cfi::storage::UnwindContextStorage;
+use framehop_core::arch::Arch;
+use framehop_core::unwind_result::UnwindResult;
+use framehop_core::unwind_rule::read_stack_word;
+use std::alloc::Global;
+use thiserror::Error;
+
+/// Why call frame information does not unwind a frame.
+#[derive(Clone, Copy, Debug, PartialEq, Eq, Error)]
+pub enum DwarfUnwinderError {
+    /// The FDE at the offset, or its CIE, can't be read.
+    #[error("FdeFromOffsetFailed")]
+    FdeFromOffsetFailed(ReadError),
+    /// The row or an expression can't be evaluated: memory ran out.
+    #[error("UnwindInfoForAddressFailed")]
+    UnwindInfoForAddressFailed(ReadError),
+    /// The caller's stack pointer is not above the callee's.
+    #[error("StackPointerMovedBackwards")]
+    StackPointerMovedBackwards,
+    /// Neither the stack pointer nor the code address changes.
+    #[error("DidNotAdvance")]
+    DidNotAdvance,
+    /// The canonical frame address has no value.
+    #[error("CouldNotRecoverCfa")]
+    CouldNotRecoverCfa,
+    /// The return address has no value.
+    #[error("CouldNotRecoverReturnAddress")]
+    CouldNotRecoverReturnAddress,
+    /// The frame pointer has no value.
+    #[error("CouldNotRecoverFramePointer")]
+    CouldNotRecoverFramePointer,
+}
+
+/// Returns a base plus an offset, both in bytes, where the base and the sum are below 2^63.
+fn offset_from(base: u64, offset: i64) -> Option<u64>
+    ensures { result ≡ sum_of base offset }
+{
+    let Ok(base) = i64::try_from(base) else {
+        return None;
+    };
+    let sum = base.checked_add(offset)?;
+    u64::try_from(sum).ok()
+}
+
+/// Returns the canonical frame address that a rule gives over the registers (an AVMA), or `None` where
+/// it gives none. `section` is the section's bytes, in which expressions lie.
+///
+/// # Errors
+///
+/// `OutOfMemory` where an expression's values have no limit and an allocation fails; no other.
+pub fn eval_cfa_rule<R: DwarfUnwindRegs, E: EvaluationStorage>(
+    alloc: Global,
+    section: &[u8],
+    rule: &CfaRule,
+    regs: &R,
+) -> Result<Option<u64>, ReadError>
+    ensures exact { IfOk result (λ answer. answer ≡ cfa_of (record { bytes = section.now; columns = R.column regs.now; limit = E.Stack.limit }) rule.now) }
+    ensures memory { OnErr result (E.Stack.limit ≡ None) }
+    ensures error { IfErr result (λ error. error ≡ ReadError.OutOfMemory) }
+{
+    match *rule {
+        CfaRule::RegisterAndOffset { register, offset } => match regs.get(register) {
+            Some(base) => Ok(offset_from(base, offset)),
+            None => Ok(None),
+        },
+        CfaRule::Expression(expression) => {
+            evaluate::<R, E>(alloc, section, expression, regs, None)
+        }
+    }
+}
+
+/// Reads the stack word at an address, if there is one.
+pub(crate) fn read_word<F: FnMut(u64) -> Result<u64, ()>>(
+    read_stack: &mut F,
+    address: u64,
+) -> Option<u64>
+    requires { F.IsAlwaysCallable read_stack.old }
+    ensures callable { F.IsAlwaysCallable read_stack.new }
+    ensures answers { (memory : Memory) → AnswersAs F.FnMut read_stack.old memory
+        → AnswersAs F.FnMut read_stack.new memory × (result ≡ memory address) }
+{
+    match read_stack_word(read_stack, address) {
+        Ok(word) => Some(word),
+        Err(_) => None,
+    }
+}
+
+/// Reads the stack word at an address, if there are both.
+fn read_word_at<F: FnMut(u64) -> Result<u64, ()>>(
+    read_stack: &mut F,
+    address: Option<u64>,
+) -> Option<u64>
+    requires { F.IsAlwaysCallable read_stack.old }
+    ensures callable { F.IsAlwaysCallable read_stack.new }
+    ensures answers { (memory : Memory) → AnswersAs F.FnMut read_stack.old memory
+        → AnswersAs F.FnMut read_stack.new memory × (result ≡ option_and_then memory address) }
+{
+    match address {
+        Some(address) => read_word(read_stack, address),
+        None => None,
+    }
+}
+
+/// Returns the value that a register's rule gives in the caller's frame, or `None` where it gives none.
+/// `cfa` is the canonical frame address, and `val` is what the register has now.
+///
+/// # Errors
+///
+/// `OutOfMemory` where an expression's values have no limit and an allocation fails; no other.
+pub fn eval_register_rule<R: DwarfUnwindRegs, E: EvaluationStorage, F>(
+    alloc: Global,
+    section: &[u8],
+    rule: Option<RegisterRule>,
+    cfa: u64,
+    val: u64,
+    regs: &R,
+    read_stack: &mut F,
+) -> Result<Option<u64>, ReadError>
+where
+    F: FnMut(u64) -> Result<u64, ()>,
+    requires { F.IsAlwaysCallable read_stack.old }
+    ensures callable { F.IsAlwaysCallable read_stack.new }
+    ensures memory { OnErr result (E.Stack.limit ≡ None) }
+    ensures error { IfErr result (λ error. error ≡ ReadError.OutOfMemory) }
+    ensures answers { (memory : Memory) → AnswersAs F.FnMut read_stack.old memory
+        → AnswersAs F.FnMut read_stack.new memory
+        × IfOk result (λ answer. answer ≡ register_of (record { bytes = section.now; columns = R.column regs.now; limit = E.Stack.limit }) memory cfa val rule) }
+{
+    let Some(rule) = rule else {
+        return Ok(None);
+    };
+    match rule {
+        RegisterRule::Undefined => Ok(None),
+        RegisterRule::SameValue => Ok(Some(val)),
+        RegisterRule::Offset(offset) => Ok(read_word_at(read_stack, offset_from(cfa, offset))),
+        RegisterRule::ValOffset(offset) => Ok(offset_from(cfa, offset)),
+        RegisterRule::Register(register) => Ok(regs.get(register)),
+        RegisterRule::Expression(expression) => {
+            let address = evaluate::<R, E>(alloc, section, expression, regs, Some(cfa))?;
+            Ok(read_word_at(read_stack, address))
+        }
+        RegisterRule::ValExpression(expression) => {
+            evaluate::<R, E>(alloc, section, expression, regs, Some(cfa))
+        }
+    }
+}
+
+/// Returns how many units of so many bytes an offset is, where that is exact and fits 16 bits.
+#[tactic(auto, unfolding(crate::specs::Units::units_of))]
+pub(crate) fn units_of(size: u8, offset: i64) -> Option<u16>
+    requires { size ≢ 0 }
+    ensures { result ≡ units_of size offset }
+{
+    let size = i128::from(size);
+    let units = i128::from(offset) / size;
+    if units * size != i128::from(offset) {
+        return None;
+    }
+    u16::try_from(units).ok()
+}
+
+/// Returns how many words of 8 bytes two offsets are together, where that is exact and fits 16 bits with
+/// a sign.
+pub(crate) fn words_of_sum(first: i64, second: i64) -> Option<i16>
+    ensures { result ≡ signed_units_of 8 (first +ℤ second) }
+{
+    signed_units_of(i128::from(first) + i128::from(second))
+}
+
+/// Returns how many words of 8 bytes an offset is, where that is exact and fits 16 bits with a sign.
+#[tactic(auto, unfolding(crate::specs::Units::signed_units_of))]
+fn signed_units_of(offset: i128) -> Option<i16>
+    requires low { negsuc (2 ^ 65) ≤ℤ offset }
+    requires high { offset ≤ℤ pos (2 ^ 65) }
+    ensures { result ≡ signed_units_of 8 offset }
+{
+    let units = offset / 8;
+    if units * 8 != offset {
+        return None;
+    }
+    i16::try_from(units).ok()
+}

@@ -1,0 +1,137 @@
+//! From a row of call frame information to a frame on x86_64: the rule that most rows are translated to,
+//! and the values of the others.
+ghost use Rattle.std.specs.Prelude.{◌≡◌, ◌≢◌, None, IfOk, IfErr, OnErr, MatchResult, Err, Ok};
+ghost use Rattle.framehop_core.specs.Memory.{Memory, AnswersAs};
+ghost use Rattle.framehop_dwarf.specs.X86_64.{translated_by, by_cfa, by_sp, by_bp, with_bp, below, or_below, scope_of, direct_by, translated, direct_of};
+ghost use Rattle.framehop_dwarf.specs.Direct.{cfa_of, register_of};
+
+
+use crate::dwarf::{
+    units_of,
+    words_of_sum,
+};
+use crate::evaluation::{DwarfUnwindRegs, EvaluationStorage};
+use framehop_cfi::read_error::ReadError;
+use framehop_cfi::row::UnwindTableRow;
+use framehop_cfi::rule::{CfaRule, Register, RegisterRule};
+use framehop_cfi::storage::UnwindContextStorage;
+use framehop_core::unwind_result::UnwindResult;
+use framehop_core::x86_64::arch::ArchX86_64;
+use framehop_core::x86_64::unwind_rule::UnwindRuleX86_64;
+use framehop_core::x86_64::unwindregs::UnwindRegsX86_64;
+use std::alloc::Global;
+
+/// The column of rbp (System V ABI for AMD64, figure 3.36).
+const RBP: Register = Register(6);
+
+/// The column of rsp.
+const RSP: Register = Register(7);
+
+/// The column of the return address.
+const RA: Register = Register(16);
+
+impl DwarfUnwindRegs for UnwindRegsX86_64 {
+    ghost use Rattle.framehop_dwarf.specs.X86_64.{column_of};
+
+    ghost column = { column_of };
+
+    fn get(&self, register: Register) -> Option<u64> {
+        match register.0 {
+            16 => Some(self.ip()),
+            7 => Some(self.sp()),
+            6 => Some(self.bp()),
+            _ => None,
+        }
+    }
+}
+
+/// Returns the rule of a row whose CFA is rsp plus a number of words.
+fn translate_with_bp(
+    sp_offset_by_8: u16,
+    offset: i64,
+    bp_rule: Option<RegisterRule>,
+) -> Option<UnwindRuleX86_64>
+    ensures { result ≡ with_bp sp_offset_by_8 offset bp_rule }
+{
+    let Some(bp_rule) = bp_rule else {
+        return Some(UnwindRuleX86_64::OffsetSp { sp_offset_by_8 });
+    };
+    match bp_rule {
+        RegisterRule::Undefined => Some(UnwindRuleX86_64::OffsetSp { sp_offset_by_8 }),
+        RegisterRule::SameValue => Some(UnwindRuleX86_64::OffsetSp { sp_offset_by_8 }),
+        RegisterRule::Offset(bp_offset) => match words_of_sum(offset, bp_offset) {
+            Some(bp_storage_offset_from_sp_by_8) => Some(UnwindRuleX86_64::OffsetSpAndRestoreBp {
+                sp_offset_by_8,
+                bp_storage_offset_from_sp_by_8,
+            }),
+            None => None,
+        },
+        _ => None,
+    }
+}
+
+/// Returns the rule of a row whose CFA is rsp plus an offset in bytes.
+fn translate_by_sp(offset: i64, bp_rule: Option<RegisterRule>) -> Option<UnwindRuleX86_64>
+    ensures { result ≡ by_sp offset bp_rule }
+{
+    match units_of(8, offset) {
+        Some(sp_offset_by_8) => translate_with_bp(sp_offset_by_8, offset, bp_rule),
+        None => None,
+    }
+}
+
+/// Returns the rule of a row whose CFA is rbp plus an offset in bytes.
+fn translate_by_bp(offset: i64, bp_rule: Option<RegisterRule>) -> Option<UnwindRuleX86_64>
+    ensures { result ≡ by_bp offset bp_rule }
+{
+    match bp_rule {
+        Some(RegisterRule::Offset(bp_offset)) if offset == 16 && bp_offset == -16 => {
+            Some(UnwindRuleX86_64::UseFramePointer)
+        }
+        _ => None,
+    }
+}
+
+/// Returns the rule of a row whose return address is the word below the CFA.
+fn translate_by_cfa(
+    cfa_rule: CfaRule,
+    bp_rule: Option<RegisterRule>,
+) -> Option<UnwindRuleX86_64>
+    ensures { result ≡ by_cfa cfa_rule bp_rule }
+{
+    match cfa_rule {
+        CfaRule::RegisterAndOffset { register, offset } => {
+            if register.0 == 7 {
+                return translate_by_sp(offset, bp_rule);
+            }
+            if register.0 == 6 {
+                return translate_by_bp(offset, bp_rule);
+            }
+            None
+        }
+        CfaRule::Expression(_) => None,
+    }
+}
+
+/// Returns the rule that a row is translated to, or `None` where its values are computed on the spot.
+fn translate_into_unwind_rule(
+    cfa_rule: CfaRule,
+    bp_rule: Option<RegisterRule>,
+    ra_rule: Option<RegisterRule>,
+) -> Option<UnwindRuleX86_64>
+    ensures { result ≡ translated_by cfa_rule bp_rule ra_rule }
+{
+    let Some(ra_rule) = ra_rule else {
+        return Some(UnwindRuleX86_64::EndOfStack);
+    };
+    match ra_rule {
+        RegisterRule::Undefined => Some(UnwindRuleX86_64::EndOfStack),
+        RegisterRule::Offset(offset) => {
+            if offset != -8 {
+                return None;
+            }
+            translate_by_cfa(cfa_rule, bp_rule)
+        }
+        _ => None,
+    }
+}
