@@ -2,12 +2,12 @@
 //! and the values of the others.
 ghost use Rattle.std.specs.Prelude.{◌≡◌, ◌≢◌, None, IfOk, IfErr, OnErr, MatchResult, Err, Ok};
 ghost use Rattle.framehop_core.specs.Memory.{Memory, AnswersAs};
-ghost use Rattle.framehop_dwarf.specs.X86_64.{translated_by, by_cfa, by_sp, by_bp, with_bp, below, or_below, scope_of, direct_by, translated, direct_of};
-ghost use Rattle.framehop_dwarf.specs.Direct.{cfa_of, register_of};
+ghost use Rattle.framehop_dwarf.specs.X86_64.{translated_by, by_cfa, by_sp, by_bp, with_bp, below, or_below, scope_of, stepped, direct_by, translated, direct_of};
+ghost use Rattle.framehop_dwarf.specs.Told.{no_memory, Has};
 
 
 use crate::dwarf::{
-    units_of,
+    DwarfUnwinderError, eval_cfa_rule, eval_register_rule, read_word, units_of,
     words_of_sum,
 };
 use crate::evaluation::{DwarfUnwindRegs, EvaluationStorage};
@@ -134,4 +134,94 @@ fn translate_into_unwind_rule(
         }
         _ => None,
     }
+}
+
+/// Returns the return address, which is the word below the CFA where its rule gives none.
+fn or_word_below<F: FnMut(u64) -> Result<u64, ()>>(
+    saved: Option<u64>,
+    cfa: u64,
+    read_stack: &mut F,
+) -> Option<u64>
+    requires { F.IsAlwaysCallable read_stack.old }
+    ensures callable { F.IsAlwaysCallable read_stack.new }
+    ensures answers { (memory : Memory) → AnswersAs F.FnMut read_stack.old memory
+        → AnswersAs F.FnMut read_stack.new memory × (result ≡ or_below saved (below memory cfa)) }
+{
+    if saved.is_some() {
+        return saved;
+    }
+    if cfa < 8 {
+        return None;
+    }
+    read_word(read_stack, cfa - 8)
+}
+
+/// Writes the caller's registers, and returns its code address; the same frame and one below it are
+/// refused.
+fn step_to(
+    is_first_frame: bool,
+    regs: &mut UnwindRegsX86_64,
+    cfa: u64,
+    new_bp: u64,
+    return_address: u64,
+) -> Result<u64, DwarfUnwinderError>
+    ensures kept { OnErr result (regs.new ≡ regs.old) }
+    ensures memory { result ≢ Err no_memory }
+    ensures answers { Has (stepped is_first_frame regs.old cfa new_bp return_address) result regs.new }
+{
+    if cfa == regs.sp() && return_address == regs.ip() {
+        return Err(DwarfUnwinderError::DidNotAdvance);
+    }
+    if !is_first_frame && cfa < regs.sp() {
+        return Err(DwarfUnwinderError::StackPointerMovedBackwards);
+    }
+    regs.set_ip(return_address);
+    regs.set_sp(cfa);
+    regs.set_bp(new_bp);
+    Ok(return_address)
+}
+
+/// Computes the caller's registers by a row's rules, and writes them. Returns the return address.
+fn unwind_directly<E: EvaluationStorage, F>(
+    alloc: Global,
+    section: &[u8],
+    cfa_rule: CfaRule,
+    bp_rule: Option<RegisterRule>,
+    ra_rule: Option<RegisterRule>,
+    regs: &mut UnwindRegsX86_64,
+    is_first_frame: bool,
+    read_stack: &mut F,
+) -> Result<u64, DwarfUnwinderError>
+where
+    F: FnMut(u64) -> Result<u64, ()>,
+    requires { F.IsAlwaysCallable read_stack.old }
+    ensures callable { F.IsAlwaysCallable read_stack.new }
+    ensures kept { OnErr result (regs.new ≡ regs.old) }
+    ensures memory { result ≡ Err no_memory → E.Stack.limit ≡ None }
+    ensures answers { (memory : Memory) → AnswersAs F.FnMut read_stack.old memory
+        → AnswersAs F.FnMut read_stack.new memory
+        × Has (direct_by (scope_of section.now E.Stack.limit regs.old) memory cfa_rule bp_rule ra_rule is_first_frame regs.old) result regs.new }
+{
+    let Ok(cfa) = eval_cfa_rule::<UnwindRegsX86_64, E>(alloc, section, &cfa_rule, regs) else {
+        return Err(DwarfUnwinderError::UnwindInfoForAddressFailed(ReadError::OutOfMemory));
+    };
+    let Some(cfa) = cfa else {
+        return Err(DwarfUnwinderError::CouldNotRecoverCfa);
+    };
+    let ip = regs.ip();
+    let bp = regs.bp();
+    let Ok(saved_bp) = eval_register_rule::<UnwindRegsX86_64, E, F>(
+        alloc, section, bp_rule, cfa, bp, regs, read_stack,
+    ) else {
+        return Err(DwarfUnwinderError::UnwindInfoForAddressFailed(ReadError::OutOfMemory));
+    };
+    let Ok(saved_ip) = eval_register_rule::<UnwindRegsX86_64, E, F>(
+        alloc, section, ra_rule, cfa, ip, regs, read_stack,
+    ) else {
+        return Err(DwarfUnwinderError::UnwindInfoForAddressFailed(ReadError::OutOfMemory));
+    };
+    let Some(return_address) = or_word_below(saved_ip, cfa, read_stack) else {
+        return Err(DwarfUnwinderError::CouldNotRecoverReturnAddress);
+    };
+    step_to(is_first_frame, regs, cfa, saved_bp.unwrap_or(bp), return_address)
 }
