@@ -1,3 +1,4 @@
+pub mod Aarch64
 pub mod Bases
 pub mod Direct
 pub mod Evaluation

@@ -1,6 +1,7 @@
 //! DWARF call frame information: an index of a section's FDEs.
 #![tactic(auto)]
 
+pub mod aarch64;
 pub mod bases;
 pub mod dwarf;
 pub mod evaluation;
