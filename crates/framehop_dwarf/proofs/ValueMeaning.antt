@@ -14,7 +14,7 @@ use Rattle.framehop_dwarf.proofs.Values.{ended, stepped}
 some : (m n : ℕ) → ◌≡◌ {A = Option ℕ} (Some m) (Some n) → m ≡ n
 some m n e = cc
 
-bind_some : {A B : Type 0} (o : Option A) (f : A → Option B) (y : B) → option_and_then f o ≡ Some y → (x : A) × (o ≡ Some x) × (f x ≡ Some y)
+pub bind_some : {A B : Type 0} (o : Option A) (f : A → Option B) (y : B) → option_and_then f o ≡ Some y → (x : A) × (o ≡ Some x) × (f x ≡ Some y)
 bind_some (Some x) f y is = (x, refl, is)
 bind_some None f y is = cc
 

@@ -5,6 +5,7 @@ pub mod Evaluation
 pub mod Index
 pub mod Operation
 pub mod Refusal
+pub mod RowMeaning
 pub mod Told
 pub mod Units
 pub mod Unwinder

@@ -32,3 +32,15 @@ TellsDirect wanted (Err error) new = error ≢ no_memory → wanted ≡ Err erro
 abbrev pub Has : {S : Type 0} → Result (ℕ × S) DwarfUnwinderError → Result ℕ DwarfUnwinderError → S → Type 0
 Has wanted (Ok address) new = wanted ≡ Ok (address, new)
 Has wanted (Err error) new = error ≢ no_memory → wanted ≡ Err error
+
+-- this rule is told
+abbrev pub IsRule : {R : Type 0} → R → Result (UnwindResult R) DwarfUnwinderError → Type 0
+IsRule rule (Ok (ExecRule told)) = told ≡ rule
+IsRule rule (Ok (Uncacheable address)) = ⊥
+IsRule rule (Err error) = ⊥
+
+-- an address that is computed, and the registers with it, have a meaning
+abbrev pub IsMeant : {R S : Type 0} → (ℕ → S → Type 0) → Result (UnwindResult R) DwarfUnwinderError → S → Type 0
+IsMeant Means (Ok (ExecRule rule)) new = Unit {0}
+IsMeant Means (Ok (Uncacheable address)) new = Means address new
+IsMeant Means (Err error) new = Unit {0}

@@ -1,5 +1,5 @@
 -- From a row to a frame on x86_64: the rule that a row is translated to, and the values of the rows that have none (framehop 0.16.0, `x86_64/dwarf.rs`; System V ABI for AMD64, figure 3.36).
-use Rattle.std.specs.Prelude.{ℕ, ◌/◌, ◌%◌, ◌-◌, ◌+◌, Bool, true, false, not, List, Option, Some, None, option_map, option_and_then, unwrap_or, Result, Ok, Err, ℤ, pos, negsuc, ◌+ℤ◌, ◌==◌, ◌&&◌, nat_le, nat_lt, if◌then◌else◌}
+use Rattle.std.specs.Prelude.{ℕ, ◌-◌, ◌≡◌, ◌<◌, ◌⊎◌, Bool, true, false, not, List, Option, Some, None, option_map, option_and_then, unwrap_or, Result, Ok, Err, ℤ, pos, negsuc, ◌+ℤ◌, ◌==◌, ◌&&◌, nat_le, nat_lt, if◌then◌else◌}
 use Rattle.std.specs.Ordering.{int_eq}
 use Rattle.framehop_core.specs.Memory.{Memory}
 use Rattle.framehop_core.specs.X86_64.Registers.{Registers}
@@ -13,6 +13,7 @@ use Rattle.framehop_cfi.specs.declared.rule.RegisterRule.{RegisterRule}
 use Rattle.framehop_cfi.specs.declared.rule.RegisterRule.TheVariants as rule
 use Rattle.framehop_dwarf.specs.Units.{units_of, signed_units_of}
 use Rattle.framehop_dwarf.specs.Direct.{Scope, cfa_of, register_of, needed}
+use Rattle.framehop_dwarf.specs.RowMeaning.{IsCfa, IsStored, IsColumn}
 use Rattle.framehop_dwarf.specs.declared.dwarf.DwarfUnwinderError.{DwarfUnwinderError}
 use Rattle.framehop_dwarf.specs.declared.dwarf.DwarfUnwinderError.TheVariants.{CouldNotRecoverCfa, CouldNotRecoverReturnAddress, DidNotAdvance, StackPointerMovedBackwards}
 
@@ -96,3 +97,37 @@ direct_by scope memory cfa_rule bp_rule return_rule first r =
 unfoldable pub direct_of : List ℕ → Option ℕ → Memory → Row → Bool → Registers → Result (ℕ × Registers) DwarfUnwinderError
 direct_of bytes limit memory row first r =
     direct_by (scope_of bytes limit r) memory row.cfa (rule_of row.rules bp_column) (rule_of row.rules return_column) first r
+
+-- ---- what a row means
+
+-- a saved rbp below rsp that can't be read is kept in a first frame
+pub record IsUnreadable (first : Bool) (memory : Memory) (old : Registers) (cfa : ℕ) (offset : ℤ) (bp : ℕ) : Type 0 where
+  pub in_first : first ≡ true
+  pub at : ℕ
+  pub is_at : pos cfa +ℤ offset ≡ pos at
+  pub below_sp : at < old.rsp
+  pub unreadable : memory at ≡ None
+  pub kept : bp ≡ old.rbp
+
+-- the caller's rbp: an absent, an undefined or a same value is kept
+abbrev pub IsFramePointer : Scope → Bool → Memory → Registers → ℕ → Option RegisterRule → ℕ → Type 0
+IsFramePointer scope first memory old cfa None bp = bp ≡ old.rbp
+IsFramePointer scope first memory old cfa (Some rule.Undefined) bp = bp ≡ old.rbp
+IsFramePointer scope first memory old cfa (Some rule.SameValue) bp = bp ≡ old.rbp
+IsFramePointer scope first memory old cfa (Some (rule.Offset offset)) bp =
+    IsStored memory cfa offset bp ⊎ IsUnreadable first memory old cfa offset bp
+IsFramePointer scope first memory old cfa bp_rule bp = IsColumn scope memory cfa old.rbp bp_rule bp
+
+-- A row means this step, in a first frame or another. Without a return column there is no address, and so no step.
+pub record RowMeans (bytes : List ℕ) (limit : Option ℕ) (memory : Memory) (row : Row) (first : Bool) (old : Registers) (address : ℕ) (new : Registers) : Type 0 where
+  pub cfa : IsCfa (scope_of bytes limit old) row.cfa new.rsp
+  pub return_address : IsColumn (scope_of bytes limit old) memory new.rsp old.ip (rule_of row.rules return_column) address
+  pub frame_pointer : IsFramePointer (scope_of bytes limit old) first memory old new.rsp (rule_of row.rules bp_column) new.rbp
+  pub ip : new.ip ≡ address
+
+-- what a direct result means: its rsp is the CFA, and each column that has a value has it
+pub record ColumnsMean (bytes : List ℕ) (limit : Option ℕ) (memory : Memory) (row : Row) (first : Bool) (old : Registers) (address : ℕ) (new : Registers) : Type 0 where
+  pub cfa : IsCfa (scope_of bytes limit old) row.cfa new.rsp
+  pub return_address : (value : ℕ) → register_of (scope_of bytes limit old) memory new.rsp old.ip (rule_of row.rules return_column) ≡ Some value → (address ≡ value) × IsColumn (scope_of bytes limit old) memory new.rsp old.ip (rule_of row.rules return_column) value
+  pub frame_pointer : (value : ℕ) → register_of (scope_of bytes limit old) memory new.rsp old.rbp (rule_of row.rules bp_column) ≡ Some value → (new.rbp ≡ value) × IsColumn (scope_of bytes limit old) memory new.rsp old.rbp (rule_of row.rules bp_column) value
+  pub ip : new.ip ≡ address

@@ -1,6 +1,10 @@
 //! From a row of call frame information to a frame: what both architectures share.
-ghost use Rattle.std.specs.Prelude.{◌≡◌, ◌≢◌, ◌^◌, None, IfOk, IfErr, OnErr, pos, negsuc, ◌+ℤ◌, ◌≤ℤ◌, option_and_then};
+ghost use Rattle.std.specs.Prelude.{◌≡◌, ◌≢◌, ◌^◌, ℕ, Bool, List, Option, Result, Err, None, IfOk, IfErr, OnErr, pos, negsuc, ◌+ℤ◌, ◌≤ℤ◌, option_and_then};
 ghost use Rattle.framehop_core.specs.Memory.{Memory, AnswersAs};
+ghost use Rattle.framehop_core.specs.Outcome.{answered};
+ghost use Rattle.framehop_cfi.specs.Row.{Row};
+ghost use Rattle.framehop_dwarf.specs.Told.{no_memory, TellsRule, WritesWithAddress, TellsDirect, IsRule, IsMeant};
+ghost use Rattle.framehop_dwarf.specs.declared.dwarf.DwarfUnwinderError.{DwarfUnwinderError as DwarfRefusal};
 ghost use Rattle.framehop_dwarf.specs.Units.{units_of, signed_units_of};
 ghost use Rattle.framehop_dwarf.specs.Direct.{sum_of, cfa_of, register_of};
 
@@ -39,6 +43,59 @@ pub enum DwarfUnwinderError {
     /// The frame pointer has no value.
     #[error("CouldNotRecoverFramePointer")]
     CouldNotRecoverFramePointer,
+}
+
+/// How an architecture unwinds by a row.
+pub trait DwarfUnwinding: Arch {
+    // the rule that a row is translated to, if it is
+    ghost translated: { Row → Option Self.UnwindRule };
+
+    // the return address and the caller's registers of a row that has no rule: by the section's bytes, the most
+    // values of an expression, the memory, the row, the kind of frame (`true`: the first) and the registers
+    ghost direct: { List ℕ → Option ℕ → Memory → Row → Bool → Self.UnwindRegs → Result (ℕ × Self.UnwindRegs) DwarfRefusal };
+
+    // a row means the step from these registers to the return address and those registers
+    ghost row_means: { List ℕ → Option ℕ → Memory → Row → Bool → Self.UnwindRegs → ℕ → Self.UnwindRegs → Type 0 };
+
+    // as far as the columns have values
+    ghost columns_mean: { List ℕ → Option ℕ → Memory → Row → Bool → Self.UnwindRegs → ℕ → Self.UnwindRegs → Type 0 };
+
+    ghost uncovered: { Self.UnwindRule };
+
+    /// Unwinds a frame by a row: tells the rule of its address, where the row is translated to one, or else
+    /// computes the return address (AVMA) and writes the caller's registers. `section` is the section's bytes,
+    /// and `read_stack` reads the stack word at an address (AVMA).
+    ///
+    /// # Errors
+    ///
+    /// The registers are unchanged. `UnwindInfoForAddressFailed` says that an allocation failed, where the
+    /// values of an expression have no limit.
+    fn unwind_frame<S: UnwindContextStorage, E: EvaluationStorage, F>(
+        alloc: Global,
+        section: &[u8],
+        unwind_info: &UnwindTableRow<S>,
+        regs: &mut Self::UnwindRegs,
+        is_first_frame: bool,
+        read_stack: &mut F,
+    ) -> Result<UnwindResult<Self::UnwindRule>, DwarfUnwinderError>
+    where
+        F: FnMut(u64) -> Result<u64, ()>,
+        requires { F.IsAlwaysCallable read_stack.old }
+        ensures callable { F.IsAlwaysCallable read_stack.new }
+        ensures rule { TellsRule (translated unwind_info.now) result }
+        ensures kept { WritesWithAddress result regs.old regs.new }
+        ensures memory { result ≡ Err no_memory → E.Stack.limit ≡ None }
+        ensures means { (rule : Self.UnwindRule) (limit : Option ℕ) (first : Bool) (old new : Self.UnwindRegs) (memory : Memory) (address : ℕ)
+            → IsRule rule result → Self.UnwindRule.outcome rule first old memory ≡ answered address new
+            → row_means section.now limit memory unwind_info.now first old address new }
+        ensures answers { (memory : Memory) → AnswersAs F.FnMut read_stack.old memory
+            → AnswersAs F.FnMut read_stack.new memory
+            × TellsDirect (direct section.now E.Stack.limit memory unwind_info.now is_first_frame regs.old) result regs.new
+            × IsMeant (columns_mean section.now E.Stack.limit memory unwind_info.now is_first_frame regs.old) result regs.new };
+
+    /// Returns the rule of an address that no row covers.
+    fn rule_if_uncovered_by_fde() -> Self::UnwindRule
+        ensures { result ≡ uncovered };
 }
 
 /// Returns a base plus an offset, both in bytes, where the base and the sum are below 2^63.

@@ -7,7 +7,7 @@ ghost use Rattle.framehop_dwarf.specs.Told.{no_memory, Has};
 
 
 use crate::dwarf::{
-    DwarfUnwinderError, eval_cfa_rule, eval_register_rule, read_word, units_of,
+    DwarfUnwinderError, DwarfUnwinding, eval_cfa_rule, eval_register_rule, read_word, units_of,
     words_of_sum,
 };
 use crate::evaluation::{DwarfUnwindRegs, EvaluationStorage};
@@ -23,9 +23,6 @@ use std::alloc::Global;
 
 /// The column of rbp (System V ABI for AMD64, figure 3.36).
 const RBP: Register = Register(6);
-
-/// The column of rsp.
-const RSP: Register = Register(7);
 
 /// The column of the return address.
 const RA: Register = Register(16);
@@ -224,4 +221,92 @@ where
         return Err(DwarfUnwinderError::CouldNotRecoverReturnAddress);
     };
     step_to(is_first_frame, regs, cfa, saved_bp.unwrap_or(bp), return_address)
+}
+
+/// Returns the rule that a row is translated to, if it is.
+#[tactic(auto, unfolding(crate::specs::X86_64::translated))]
+fn rule_of_row<S: UnwindContextStorage>(unwind_info: &UnwindTableRow<S>) -> Option<UnwindRuleX86_64>
+    ensures { result ≡ translated unwind_info.now }
+{
+    let bp_rule = unwind_info.register(RBP);
+    let ra_rule = unwind_info.register(RA);
+    translate_into_unwind_rule(*unwind_info.cfa(), bp_rule, ra_rule)
+}
+
+/// Computes the caller's registers by a row, and writes them. Returns the return address.
+#[tactic(auto, unfolding(crate::specs::X86_64::direct_of))]
+fn unwind_by_row<S: UnwindContextStorage, E: EvaluationStorage, F>(
+    alloc: Global,
+    section: &[u8],
+    unwind_info: &UnwindTableRow<S>,
+    regs: &mut UnwindRegsX86_64,
+    is_first_frame: bool,
+    read_stack: &mut F,
+) -> Result<u64, DwarfUnwinderError>
+where
+    F: FnMut(u64) -> Result<u64, ()>,
+    requires { F.IsAlwaysCallable read_stack.old }
+    ensures callable { F.IsAlwaysCallable read_stack.new }
+    ensures kept { OnErr result (regs.new ≡ regs.old) }
+    ensures memory { result ≡ Err no_memory → E.Stack.limit ≡ None }
+    ensures answers { (memory : Memory) → AnswersAs F.FnMut read_stack.old memory
+        → AnswersAs F.FnMut read_stack.new memory
+        × Has (direct_of section.now E.Stack.limit memory unwind_info.now is_first_frame regs.old) result regs.new }
+{
+    let bp_rule = unwind_info.register(RBP);
+    let ra_rule = unwind_info.register(RA);
+    unwind_directly::<E, F>(
+        alloc,
+        section,
+        *unwind_info.cfa(),
+        bp_rule,
+        ra_rule,
+        regs,
+        is_first_frame,
+        read_stack,
+    )
+}
+
+impl DwarfUnwinding for ArchX86_64 {
+    ghost use Rattle.framehop_dwarf.specs.X86_64.{translated, direct_of, RowMeans, ColumnsMean};
+    ghost use Rattle.framehop_core.specs.declared.x86_64.unwind_rule.UnwindRuleX86_64.TheVariants.{JustReturnIfFirstFrameOtherwiseFp};
+
+    ghost translated = { translated };
+
+    ghost direct = { direct_of };
+
+    ghost row_means = { RowMeans };
+
+    ghost columns_mean = { ColumnsMean };
+
+    ghost uncovered = { JustReturnIfFirstFrameOtherwiseFp };
+
+    fn unwind_frame<S: UnwindContextStorage, E: EvaluationStorage, F>(
+        alloc: Global,
+        section: &[u8],
+        unwind_info: &UnwindTableRow<S>,
+        regs: &mut UnwindRegsX86_64,
+        is_first_frame: bool,
+        read_stack: &mut F,
+    ) -> Result<UnwindResult<UnwindRuleX86_64>, DwarfUnwinderError>
+    where
+        F: FnMut(u64) -> Result<u64, ()>,
+    {
+        if let Some(rule) = rule_of_row(unwind_info) {
+            return Ok(UnwindResult::ExecRule(rule));
+        }
+        let return_address = unwind_by_row::<S, E, F>(
+            alloc,
+            section,
+            unwind_info,
+            regs,
+            is_first_frame,
+            read_stack,
+        )?;
+        Ok(UnwindResult::Uncacheable(return_address))
+    }
+
+    fn rule_if_uncovered_by_fde() -> UnwindRuleX86_64 {
+        UnwindRuleX86_64::JustReturnIfFirstFrameOtherwiseFp
+    }
 }
