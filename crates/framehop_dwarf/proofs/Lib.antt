@@ -11,3 +11,5 @@ pub mod Entries
 pub mod Telling
 pub mod Columns
 pub mod DirectX86_64
+pub mod SimulationAarch64
+pub mod DirectAarch64

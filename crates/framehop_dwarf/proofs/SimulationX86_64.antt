@@ -103,18 +103,18 @@ module _ (first : Bool) (memory : Memory) (old : Registers) (address : ℕ) (new
 
 -- ---- and so it does what the row means
 
-is-number : (m n : ℕ) → (m == n) ≡ true → m ≡ n
+pub is-number : (m n : ℕ) → (m == n) ≡ true → m ≡ n
 is-number m n e = grind (arith, nat_tests)
 
 some-rule : (a b : UnwindRuleX86_64) → ◌≡◌ {A = Option UnwindRuleX86_64} (Some a) (Some b) → a ≡ b
 some-rule a b e = cc
 
-both : (a b : Bool) → (a && b) ≡ true → (a ≡ true) × (b ≡ true)
+pub both : (a b : Bool) → (a && b) ≡ true → (a ≡ true) × (b ≡ true)
 both true true e = (refl, refl)
 both true false e = cc
 both false b e = cc
 
-mapped-some : {A B : Type 0} (f : A → B) (o : Option A) (y : B) → option_map f o ≡ Some y → (x : A) × (o ≡ Some x) × (f x ≡ y)
+pub mapped-some : {A B : Type 0} (f : A → B) (o : Option A) (y : B) → option_map f o ≡ Some y → (x : A) × (o ≡ Some x) × (f x ≡ y)
 mapped-some f (Some x) y is = (x, refl, cc)
 mapped-some f None y is = cc
 

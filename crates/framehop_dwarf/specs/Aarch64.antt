@@ -1,5 +1,5 @@
 -- From a row to a frame on aarch64: the rule that a row is translated to, and the values of the rows that have none (framehop 0.16.0, `aarch64/dwarf.rs`; DWARF for the Arm 64-bit Architecture, section 4.1).
-use Rattle.std.specs.Prelude.{ℕ, Bool, true, false, not, List, Option, Some, None, option_map, option_and_then, Result, Ok, Err, ℤ, pos, negsuc, ◌+ℤ◌, ◌==◌, ◌&&◌, nat_le, if◌then◌else◌}
+use Rattle.std.specs.Prelude.{ℕ, ◌≡◌, ◌<◌, Bool, true, false, not, List, Option, Some, None, option_map, option_and_then, Result, Ok, Err, ℤ, pos, negsuc, ◌+ℤ◌, ◌==◌, ◌&&◌, nat_le, if◌then◌else◌}
 use Rattle.std.specs.Ordering.{int_eq}
 use Rattle.framehop_core.specs.Memory.{Memory}
 use Rattle.framehop_core.specs.Aarch64.Registers.{Registers, strip_ptr_auth}
@@ -13,6 +13,7 @@ use Rattle.framehop_cfi.specs.declared.rule.RegisterRule.{RegisterRule}
 use Rattle.framehop_cfi.specs.declared.rule.RegisterRule.TheVariants as rule
 use Rattle.framehop_dwarf.specs.Units.{units_of, signed_units_of}
 use Rattle.framehop_dwarf.specs.Direct.{Scope, cfa_of, register_of, needed}
+use Rattle.framehop_dwarf.specs.RowMeaning.{IsCfa, IsColumn}
 use Rattle.framehop_dwarf.specs.declared.dwarf.DwarfUnwinderError.{DwarfUnwinderError}
 use Rattle.framehop_dwarf.specs.declared.dwarf.DwarfUnwinderError.TheVariants.{CouldNotRecoverCfa, CouldNotRecoverFramePointer, CouldNotRecoverReturnAddress, StackPointerMovedBackwards}
 
@@ -118,3 +119,36 @@ direct_by scope memory cfa_rule fp_rule lr_rule first r =
 unfoldable pub direct_of : List ℕ → Option ℕ → Memory → Row → Bool → Registers → Result (ℕ × Registers) DwarfUnwinderError
 direct_of bytes limit memory row first r =
     direct_by (scope_of bytes limit r) memory row.cfa (rule_of row.rules fp_column) (rule_of row.rules lr_column) first r
+
+-- ---- what a row means
+
+-- the caller's fp: an absent, an undefined or a same value is kept
+abbrev pub IsFramePointer : Scope → Memory → Registers → ℕ → Option RegisterRule → ℕ → Type 0
+IsFramePointer scope memory old cfa None fp = fp ≡ old.fp
+IsFramePointer scope memory old cfa (Some rule.Undefined) fp = fp ≡ old.fp
+IsFramePointer scope memory old cfa (Some rule.SameValue) fp = fp ≡ old.fp
+IsFramePointer scope memory old cfa fp_rule fp = IsColumn scope memory cfa old.fp fp_rule fp
+
+-- the caller's lr before it is stripped: an absent or a same value is kept, an undefined one in a first frame only
+abbrev pub IsLinkRegister : Scope → Bool → Memory → Registers → ℕ → Option RegisterRule → ℕ → Type 0
+IsLinkRegister scope first memory old cfa None lr = lr ≡ old.lr
+IsLinkRegister scope first memory old cfa (Some rule.Undefined) lr = (first ≡ true) × (lr ≡ old.lr)
+IsLinkRegister scope first memory old cfa (Some rule.SameValue) lr = lr ≡ old.lr
+IsLinkRegister scope first memory old cfa lr_rule lr = IsColumn scope memory cfa old.lr lr_rule lr
+
+-- A row means this step, in a first frame or another: the return address is the stripped lr.
+pub record RowMeans (bytes : List ℕ) (limit : Option ℕ) (memory : Memory) (row : Row) (first : Bool) (old : Registers) (address : ℕ) (new : Registers) : Type 0 where
+  pub lr : ℕ
+  pub cfa : IsCfa (scope_of bytes limit old) row.cfa new.sp
+  pub link_register : IsLinkRegister (scope_of bytes limit old) first memory old new.sp (rule_of row.rules lr_column) lr
+  pub frame_pointer : IsFramePointer (scope_of bytes limit old) memory old new.sp (rule_of row.rules fp_column) new.fp
+  pub stripped : address ≡ strip_ptr_auth old.lr_mask lr
+  pub new_lr : new.lr ≡ address
+
+-- what a direct result means: its sp is the CFA, each column that has a value has it, and a caller's sp rises
+pub record ColumnsMean (bytes : List ℕ) (limit : Option ℕ) (memory : Memory) (row : Row) (first : Bool) (old : Registers) (address : ℕ) (new : Registers) : Type 0 where
+  pub cfa : IsCfa (scope_of bytes limit old) row.cfa new.sp
+  pub link_register : (value : ℕ) → register_of (scope_of bytes limit old) memory new.sp old.lr (rule_of row.rules lr_column) ≡ Some value → (address ≡ strip_ptr_auth old.lr_mask value) × IsColumn (scope_of bytes limit old) memory new.sp old.lr (rule_of row.rules lr_column) value
+  pub frame_pointer : (value : ℕ) → register_of (scope_of bytes limit old) memory new.sp old.fp (rule_of row.rules fp_column) ≡ Some value → (new.fp ≡ value) × IsColumn (scope_of bytes limit old) memory new.sp old.fp (rule_of row.rules fp_column) value
+  pub new_lr : new.lr ≡ address
+  pub rises : first ≡ false → old.sp < new.sp

@@ -6,14 +6,17 @@ ghost use Rattle.framehop_dwarf.specs.Aarch64.{translated_by, by_sp, by_fp, by_s
 ghost use Rattle.framehop_dwarf.specs.Told.{no_memory, Has};
 
 use crate::dwarf::{
-    DwarfUnwinderError, eval_cfa_rule, eval_register_rule, units_of, words_of_sum,
+    DwarfUnwinderError, DwarfUnwinding, eval_cfa_rule, eval_register_rule, units_of, words_of_sum,
 };
 use crate::evaluation::{DwarfUnwindRegs, EvaluationStorage};
 use framehop_cfi::read_error::ReadError;
+use framehop_cfi::row::UnwindTableRow;
 use framehop_cfi::rule::{CfaRule, Register, RegisterRule};
+use framehop_cfi::storage::UnwindContextStorage;
 use framehop_core::aarch64::arch::ArchAarch64;
 use framehop_core::aarch64::unwind_rule::UnwindRuleAarch64;
 use framehop_core::aarch64::unwindregs::UnwindRegsAarch64;
+use framehop_core::unwind_result::UnwindResult;
 use std::alloc::Global;
 
 /// The column of fp, x29 (DWARF for the Arm 64-bit Architecture, section 4.1).
@@ -274,4 +277,92 @@ where
         return Err(DwarfUnwinderError::CouldNotRecoverReturnAddress);
     };
     Ok(step_to(regs, cfa, new_fp, new_lr))
+}
+
+/// Returns the rule that a row is translated to, if it is.
+#[tactic(auto, unfolding(crate::specs::Aarch64::translated))]
+fn rule_of_row<S: UnwindContextStorage>(unwind_info: &UnwindTableRow<S>) -> Option<UnwindRuleAarch64>
+    ensures { result ≡ translated unwind_info.now }
+{
+    let fp_rule = unwind_info.register(X29);
+    let lr_rule = unwind_info.register(X30);
+    translate_into_unwind_rule(*unwind_info.cfa(), fp_rule, lr_rule)
+}
+
+/// Computes the caller's registers by a row, and writes them. Returns the return address.
+#[tactic(auto, unfolding(crate::specs::Aarch64::direct_of))]
+fn unwind_by_row<S: UnwindContextStorage, E: EvaluationStorage, F>(
+    alloc: Global,
+    section: &[u8],
+    unwind_info: &UnwindTableRow<S>,
+    regs: &mut UnwindRegsAarch64,
+    is_first_frame: bool,
+    read_stack: &mut F,
+) -> Result<u64, DwarfUnwinderError>
+where
+    F: FnMut(u64) -> Result<u64, ()>,
+    requires { F.IsAlwaysCallable read_stack.old }
+    ensures callable { F.IsAlwaysCallable read_stack.new }
+    ensures kept { OnErr result (regs.new ≡ regs.old) }
+    ensures memory { result ≡ Err no_memory → E.Stack.limit ≡ None }
+    ensures answers { (memory : Memory) → AnswersAs F.FnMut read_stack.old memory
+        → AnswersAs F.FnMut read_stack.new memory
+        × Has (direct_of section.now E.Stack.limit memory unwind_info.now is_first_frame regs.old) result regs.new }
+{
+    let fp_rule = unwind_info.register(X29);
+    let lr_rule = unwind_info.register(X30);
+    unwind_directly::<E, F>(
+        alloc,
+        section,
+        *unwind_info.cfa(),
+        fp_rule,
+        lr_rule,
+        regs,
+        is_first_frame,
+        read_stack,
+    )
+}
+
+impl DwarfUnwinding for ArchAarch64 {
+    ghost use Rattle.framehop_dwarf.specs.Aarch64.{translated, direct_of, RowMeans, ColumnsMean};
+    ghost use Rattle.framehop_core.specs.declared.aarch64.unwind_rule.UnwindRuleAarch64.TheVariants.{NoOpIfFirstFrameOtherwiseFp};
+
+    ghost translated = { translated };
+
+    ghost direct = { direct_of };
+
+    ghost row_means = { RowMeans };
+
+    ghost columns_mean = { ColumnsMean };
+
+    ghost uncovered = { NoOpIfFirstFrameOtherwiseFp };
+
+    fn unwind_frame<S: UnwindContextStorage, E: EvaluationStorage, F>(
+        alloc: Global,
+        section: &[u8],
+        unwind_info: &UnwindTableRow<S>,
+        regs: &mut UnwindRegsAarch64,
+        is_first_frame: bool,
+        read_stack: &mut F,
+    ) -> Result<UnwindResult<UnwindRuleAarch64>, DwarfUnwinderError>
+    where
+        F: FnMut(u64) -> Result<u64, ()>,
+    {
+        if let Some(rule) = rule_of_row(unwind_info) {
+            return Ok(UnwindResult::ExecRule(rule));
+        }
+        let return_address = unwind_by_row::<S, E, F>(
+            alloc,
+            section,
+            unwind_info,
+            regs,
+            is_first_frame,
+            read_stack,
+        )?;
+        Ok(UnwindResult::Uncacheable(return_address))
+    }
+
+    fn rule_if_uncovered_by_fde() -> UnwindRuleAarch64 {
+        UnwindRuleAarch64::NoOpIfFirstFrameOtherwiseFp
+    }
 }
