@@ -161,3 +161,13 @@ module _ (limits : Option StorageLimits) (section : Section) (fde : FrameDescrip
   pub becomes-row_at : {A : Type 0} (result : Result A ReadError) (new : TableRows) → Becomes result new (rows_at limits section fde address) → Becomes result new.row (row_at limits section fde address)
   unfolding row_at
   becomes-row_at result new is = becomes-row result new (rows_at limits section fde address) is
+
+  pub row_at-means : (row : Row) → row_at limits section fde address ≡ Ok row → IsRowAt limits section fde address row
+  unfolding row_at
+  row_at-means row is =
+      let rows = row-of (rows_at limits section fde address) row is in
+      (rows.0, rows_at-means limits section fde address rows.0 rows.1, rows.2)
+
+  pub means-row_at : (row : Row) → IsRowAt limits section fde address row → row_at limits section fde address ≡ Ok row
+  unfolding row_at
+  means-row_at row there = rw (means-rows_at limits section fde address there.0 there.1) (ap Ok there.2)

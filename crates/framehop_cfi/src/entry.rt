@@ -112,6 +112,13 @@ impl<'a> UnwindSection<'a> {
         }
     }
 
+    /// Returns the section's bytes.
+    pub fn bytes(&self) -> &[u8]
+        ensures { result.now ≡ self.now.bytes }
+    {
+        self.bytes
+    }
+
     /// What stands at an offset.
     #[tactic(auto, unfolding(crate::specs::Entry::head_at))]
     pub fn head_at(&self, at: usize) -> Result<EntryHead, ReadError>

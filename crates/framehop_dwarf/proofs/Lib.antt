@@ -13,3 +13,4 @@ pub mod Columns
 pub mod DirectX86_64
 pub mod SimulationAarch64
 pub mod DirectAarch64
+pub mod FoundRow

@@ -1,5 +1,5 @@
 -- From a row to a frame on aarch64: the rule that a row is translated to, and the values of the rows that have none (framehop 0.16.0, `aarch64/dwarf.rs`; DWARF for the Arm 64-bit Architecture, section 4.1).
-use Rattle.std.specs.Prelude.{ℕ, ◌≡◌, ◌<◌, Bool, true, false, not, List, Option, Some, None, option_map, option_and_then, Result, Ok, Err, ℤ, pos, negsuc, ◌+ℤ◌, ◌==◌, ◌&&◌, nat_le, if◌then◌else◌}
+use Rattle.std.specs.Prelude.{ℕ, ◌≡◌, ◌<◌, ◌^◌, Bool, true, false, not, List, Option, Some, None, option_map, option_and_then, Result, Ok, Err, ℤ, pos, negsuc, ◌+ℤ◌, ◌==◌, ◌&&◌, nat_le, if◌then◌else◌}
 use Rattle.std.specs.Ordering.{int_eq}
 use Rattle.framehop_core.specs.Memory.{Memory}
 use Rattle.framehop_core.specs.Aarch64.Registers.{Registers, strip_ptr_auth}
@@ -152,3 +152,8 @@ pub record ColumnsMean (bytes : List ℕ) (limit : Option ℕ) (memory : Memory)
   pub frame_pointer : (value : ℕ) → register_of (scope_of bytes limit old) memory new.sp old.fp (rule_of row.rules fp_column) ≡ Some value → (new.fp ≡ value) × IsColumn (scope_of bytes limit old) memory new.sp old.fp (rule_of row.rules fp_column) value
   pub new_lr : new.lr ≡ address
   pub rises : first ≡ false → old.sp < new.sp
+
+-- a step to the caller's frame: sp rises, unless the callee's is the first frame, and stays one of 64 bits
+pub record Ascends (first : Bool) (callee caller : Registers) : Type 0 where
+  pub rises : first ≡ false → callee.sp < caller.sp
+  pub fits : caller.sp < 2 ^ 64

@@ -44,3 +44,15 @@ abbrev pub IsMeant : {R S : Type 0} → (ℕ → S → Type 0) → Result (Unwin
 IsMeant Means (Ok (ExecRule rule)) new = Unit {0}
 IsMeant Means (Ok (Uncacheable address)) new = Means address new
 IsMeant Means (Err error) new = Unit {0}
+
+-- the rule that is told has a property
+abbrev pub RuleHas : {R : Type 0} → (R → Type 0) → Result (UnwindResult R) DwarfUnwinderError → Type 0
+RuleHas P (Ok (ExecRule rule)) = P rule
+RuleHas P (Ok (Uncacheable address)) = Unit {0}
+RuleHas P (Err error) = Unit {0}
+
+-- where an address is computed, the registers with it are related to those before
+abbrev pub AdvancesWithAddress : {R S : Type 0} → (S → S → Type 0) → Result (UnwindResult R) DwarfUnwinderError → S → S → Type 0
+AdvancesWithAddress Advances (Ok (ExecRule rule)) old new = Unit {0}
+AdvancesWithAddress Advances (Ok (Uncacheable address)) old new = Advances old new
+AdvancesWithAddress Advances (Err error) old new = Unit {0}

@@ -1,9 +1,9 @@
 //! From a row of call frame information to a frame: what both architectures share.
-ghost use Rattle.std.specs.Prelude.{◌≡◌, ◌≢◌, ◌^◌, ℕ, Bool, List, Option, Result, Err, None, IfOk, IfErr, OnErr, pos, negsuc, ◌+ℤ◌, ◌≤ℤ◌, option_and_then};
+ghost use Rattle.std.specs.Prelude.{◌≡◌, ◌≢◌, ◌^◌, ℕ, Bool, IsTrue, List, Option, Result, Err, None, IfOk, IfErr, OnErr, pos, negsuc, ◌+ℤ◌, ◌≤ℤ◌, option_and_then};
 ghost use Rattle.framehop_core.specs.Memory.{Memory, AnswersAs};
 ghost use Rattle.framehop_core.specs.Outcome.{answered};
 ghost use Rattle.framehop_cfi.specs.Row.{Row};
-ghost use Rattle.framehop_dwarf.specs.Told.{no_memory, TellsRule, WritesWithAddress, TellsDirect, IsRule, IsMeant};
+ghost use Rattle.framehop_dwarf.specs.Told.{no_memory, TellsRule, WritesWithAddress, TellsDirect, IsRule, IsMeant, RuleHas, AdvancesWithAddress};
 ghost use Rattle.framehop_dwarf.specs.declared.dwarf.DwarfUnwinderError.{DwarfUnwinderError as DwarfRefusal};
 ghost use Rattle.framehop_dwarf.specs.Units.{units_of, signed_units_of};
 ghost use Rattle.framehop_dwarf.specs.Direct.{sum_of, cfa_of, register_of};
@@ -60,6 +60,10 @@ pub trait DwarfUnwinding: Arch {
     // as far as the columns have values
     ghost columns_mean: { List ℕ → Option ℕ → Memory → Row → Bool → Self.UnwindRegs → ℕ → Self.UnwindRegs → Type 0 };
 
+    // what a direct step does to the registers, whatever the callback replies: in a first frame (`true`) or
+    // another, before and after
+    ghost ascends: { Bool → Self.UnwindRegs → Self.UnwindRegs → Type 0 };
+
     ghost uncovered: { Self.UnwindRule };
 
     /// Unwinds a frame by a row: tells the rule of its address, where the row is translated to one, or else
@@ -84,6 +88,8 @@ pub trait DwarfUnwinding: Arch {
         ensures callable { F.IsAlwaysCallable read_stack.new }
         ensures rule { TellsRule (translated unwind_info.now) result }
         ensures kept { WritesWithAddress result regs.old regs.new }
+        ensures runnable { RuleHas (λ rule. IsTrue (Self.UnwindRule.executable rule)) result }
+        ensures ascends { AdvancesWithAddress (ascends is_first_frame) result regs.old regs.new }
         ensures memory { result ≡ Err no_memory → E.Stack.limit ≡ None }
         ensures means { (rule : Self.UnwindRule) (limit : Option ℕ) (first : Bool) (old new : Self.UnwindRegs) (memory : Memory) (address : ℕ)
             → IsRule rule result → Self.UnwindRule.outcome rule first old memory ≡ answered address new
@@ -95,7 +101,8 @@ pub trait DwarfUnwinding: Arch {
 
     /// Returns the rule of an address that no row covers.
     fn rule_if_uncovered_by_fde() -> Self::UnwindRule
-        ensures { result ≡ uncovered };
+        ensures rule { result ≡ uncovered }
+        ensures runnable { IsTrue (Self.UnwindRule.executable result) };
 }
 
 /// Returns a base plus an offset, both in bytes, where the base and the sum are below 2^63.

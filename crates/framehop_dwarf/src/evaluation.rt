@@ -156,12 +156,7 @@ fn within(end: usize, next: usize, distance: i16) -> Option<usize>
 }
 
 /// Returns the position after an operation, by the offset after it and the top value.
-fn position_after(
-    end: usize,
-    operation: Operation,
-    next: usize,
-    top: Option<u64>,
-) -> Option<usize>
+fn position_after(end: usize, operation: Operation, next: usize, top: Option<u64>) -> Option<usize>
     ensures { result ≡ position_after end operation next top }
 {
     match operation {

@@ -194,11 +194,7 @@ fn read_register_offset(bytes: &[u8], at: usize) -> Result<(Operation, usize), R
 
 /// Reads an offset from a register, and the offset after it.
 #[tactic(auto, unfolding(crate::specs::Operation::offset_at))]
-fn read_offset(
-    register: Register,
-    bytes: &[u8],
-    at: usize,
-) -> Result<(Operation, usize), ReadError>
+fn read_offset(register: Register, bytes: &[u8], at: usize) -> Result<(Operation, usize), ReadError>
     ensures { result ≡ offset_at register bytes.now at }
 {
     let (offset, next) = read_sleb128(bytes, at)?;
@@ -332,12 +328,8 @@ impl BinaryOperation {
             BinaryOperation::Multiply => Some(second.wrapping_mul(top)),
             BinaryOperation::Or => Some(second | top),
             BinaryOperation::Plus => Some(second.wrapping_add(top)),
-            BinaryOperation::ShiftLeft => {
-                Some(if top < 64 { second << top } else { 0 })
-            }
-            BinaryOperation::ShiftRight => {
-                Some(if top < 64 { second >> top } else { 0 })
-            }
+            BinaryOperation::ShiftLeft => { Some(if top < 64 { second << top } else { 0 }) }
+            BinaryOperation::ShiftRight => { Some(if top < 64 { second >> top } else { 0 }) }
             BinaryOperation::ShiftRightArithmetic => Some(shifted_right(second, top)),
             BinaryOperation::Xor => Some(second ^ top),
             BinaryOperation::Equal => Some(bit_of(second == top)),

@@ -1,8 +1,8 @@
 //! From a row of call frame information to a frame on aarch64: the rule that most rows are translated
 //! to, and the values of the others.
-ghost use Rattle.std.specs.Prelude.{◌≡◌, None, OnErr, Ok, Err};
+ghost use Rattle.std.specs.Prelude.{◌≡◌, ◌^◌, ◌<◌, None, OnOk, OnErr, Ok, Err};
 ghost use Rattle.framehop_core.specs.Memory.{Memory, AnswersAs};
-ghost use Rattle.framehop_dwarf.specs.Aarch64.{translated_by, by_sp, by_fp, by_saved, beside_fp, with_fp, with_fp_kept, with_lr, or_kept, stepped, scope_of, direct_by, translated, direct_of};
+ghost use Rattle.framehop_dwarf.specs.Aarch64.{translated_by, by_sp, by_fp, by_saved, beside_fp, with_fp, with_fp_kept, with_lr, or_kept, stepped, scope_of, direct_by, translated, direct_of, Ascends};
 ghost use Rattle.framehop_dwarf.specs.Told.{no_memory, Has};
 
 use crate::dwarf::{
@@ -220,7 +220,9 @@ fn or_kept(is_first_frame: bool, value: u64, found: Option<u64>) -> Option<u64>
 
 /// Writes the caller's registers, and returns the stripped lr.
 fn step_to(regs: &mut UnwindRegsAarch64, cfa: u64, fp: u64, lr: u64) -> u64
-    ensures { stepped regs.old cfa fp lr ≡ Ok (result, regs.new) }
+    ensures step { stepped regs.old cfa fp lr ≡ Ok (result, regs.new) }
+    ensures sp { regs.new.sp ≡ cfa }
+    ensures fits { cfa < 2 ^ 64 }
 {
     regs.set_lr(lr);
     regs.set_sp(cfa);
@@ -244,6 +246,7 @@ where
     requires { F.IsAlwaysCallable read_stack.old }
     ensures callable { F.IsAlwaysCallable read_stack.new }
     ensures kept { OnErr result (regs.new ≡ regs.old) }
+    ensures ascends { OnOk result (Ascends is_first_frame regs.old regs.new) }
     ensures memory { result ≡ Err no_memory → E.Stack.limit ≡ None }
     ensures answers { (memory : Memory) → AnswersAs F.FnMut read_stack.old memory
         → AnswersAs F.FnMut read_stack.new memory
@@ -281,7 +284,9 @@ where
 
 /// Returns the rule that a row is translated to, if it is.
 #[tactic(auto, unfolding(crate::specs::Aarch64::translated))]
-fn rule_of_row<S: UnwindContextStorage>(unwind_info: &UnwindTableRow<S>) -> Option<UnwindRuleAarch64>
+fn rule_of_row<S: UnwindContextStorage>(
+    unwind_info: &UnwindTableRow<S>,
+) -> Option<UnwindRuleAarch64>
     ensures { result ≡ translated unwind_info.now }
 {
     let fp_rule = unwind_info.register(X29);
@@ -304,6 +309,7 @@ where
     requires { F.IsAlwaysCallable read_stack.old }
     ensures callable { F.IsAlwaysCallable read_stack.new }
     ensures kept { OnErr result (regs.new ≡ regs.old) }
+    ensures ascends { OnOk result (Ascends is_first_frame regs.old regs.new) }
     ensures memory { result ≡ Err no_memory → E.Stack.limit ≡ None }
     ensures answers { (memory : Memory) → AnswersAs F.FnMut read_stack.old memory
         → AnswersAs F.FnMut read_stack.new memory
@@ -324,7 +330,7 @@ where
 }
 
 impl DwarfUnwinding for ArchAarch64 {
-    ghost use Rattle.framehop_dwarf.specs.Aarch64.{translated, direct_of, RowMeans, ColumnsMean};
+    ghost use Rattle.framehop_dwarf.specs.Aarch64.{translated, direct_of, RowMeans, ColumnsMean, Ascends};
     ghost use Rattle.framehop_core.specs.declared.aarch64.unwind_rule.UnwindRuleAarch64.TheVariants.{NoOpIfFirstFrameOtherwiseFp};
 
     ghost translated = { translated };
@@ -334,6 +340,8 @@ impl DwarfUnwinding for ArchAarch64 {
     ghost row_means = { RowMeans };
 
     ghost columns_mean = { ColumnsMean };
+
+    ghost ascends = { Ascends };
 
     ghost uncovered = { NoOpIfFirstFrameOtherwiseFp };
 

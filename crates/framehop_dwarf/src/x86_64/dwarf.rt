@@ -1,10 +1,10 @@
 //! From a row of call frame information to a frame on x86_64: the rule that most rows are translated to,
 //! and the values of the others.
-ghost use Rattle.std.specs.Prelude.{◌≡◌, ◌≢◌, None, IfOk, IfErr, OnErr, MatchResult, Err, Ok};
+ghost use Rattle.std.specs.Prelude.{◌≡◌, ◌≢◌, true, None, IfSome, OnErr, Err};
 ghost use Rattle.framehop_core.specs.Memory.{Memory, AnswersAs};
+ghost use Rattle.framehop_core.specs.X86_64.Rules.{is_executable};
 ghost use Rattle.framehop_dwarf.specs.X86_64.{translated_by, by_cfa, by_sp, by_bp, with_bp, below, or_below, scope_of, stepped, direct_by, translated, direct_of};
 ghost use Rattle.framehop_dwarf.specs.Told.{no_memory, Has};
-
 
 use crate::dwarf::{
     DwarfUnwinderError, DwarfUnwinding, eval_cfa_rule, eval_register_rule, read_word, units_of,
@@ -48,7 +48,8 @@ fn translate_with_bp(
     offset: i64,
     bp_rule: Option<RegisterRule>,
 ) -> Option<UnwindRuleX86_64>
-    ensures { result ≡ with_bp sp_offset_by_8 offset bp_rule }
+    ensures exact { result ≡ with_bp sp_offset_by_8 offset bp_rule }
+    ensures runnable { IfSome result (λ rule. is_executable rule ≡ true) }
 {
     let Some(bp_rule) = bp_rule else {
         return Some(UnwindRuleX86_64::OffsetSp { sp_offset_by_8 });
@@ -69,7 +70,8 @@ fn translate_with_bp(
 
 /// Returns the rule of a row whose CFA is rsp plus an offset in bytes.
 fn translate_by_sp(offset: i64, bp_rule: Option<RegisterRule>) -> Option<UnwindRuleX86_64>
-    ensures { result ≡ by_sp offset bp_rule }
+    ensures exact { result ≡ by_sp offset bp_rule }
+    ensures runnable { IfSome result (λ rule. is_executable rule ≡ true) }
 {
     match units_of(8, offset) {
         Some(sp_offset_by_8) => translate_with_bp(sp_offset_by_8, offset, bp_rule),
@@ -79,7 +81,8 @@ fn translate_by_sp(offset: i64, bp_rule: Option<RegisterRule>) -> Option<UnwindR
 
 /// Returns the rule of a row whose CFA is rbp plus an offset in bytes.
 fn translate_by_bp(offset: i64, bp_rule: Option<RegisterRule>) -> Option<UnwindRuleX86_64>
-    ensures { result ≡ by_bp offset bp_rule }
+    ensures exact { result ≡ by_bp offset bp_rule }
+    ensures runnable { IfSome result (λ rule. is_executable rule ≡ true) }
 {
     match bp_rule {
         Some(RegisterRule::Offset(bp_offset)) if offset == 16 && bp_offset == -16 => {
@@ -90,11 +93,9 @@ fn translate_by_bp(offset: i64, bp_rule: Option<RegisterRule>) -> Option<UnwindR
 }
 
 /// Returns the rule of a row whose return address is the word below the CFA.
-fn translate_by_cfa(
-    cfa_rule: CfaRule,
-    bp_rule: Option<RegisterRule>,
-) -> Option<UnwindRuleX86_64>
-    ensures { result ≡ by_cfa cfa_rule bp_rule }
+fn translate_by_cfa(cfa_rule: CfaRule, bp_rule: Option<RegisterRule>) -> Option<UnwindRuleX86_64>
+    ensures exact { result ≡ by_cfa cfa_rule bp_rule }
+    ensures runnable { IfSome result (λ rule. is_executable rule ≡ true) }
 {
     match cfa_rule {
         CfaRule::RegisterAndOffset { register, offset } => {
@@ -116,7 +117,8 @@ fn translate_into_unwind_rule(
     bp_rule: Option<RegisterRule>,
     ra_rule: Option<RegisterRule>,
 ) -> Option<UnwindRuleX86_64>
-    ensures { result ≡ translated_by cfa_rule bp_rule ra_rule }
+    ensures exact { result ≡ translated_by cfa_rule bp_rule ra_rule }
+    ensures runnable { IfSome result (λ rule. is_executable rule ≡ true) }
 {
     let Some(ra_rule) = ra_rule else {
         return Some(UnwindRuleX86_64::EndOfStack);
@@ -220,13 +222,20 @@ where
     let Some(return_address) = or_word_below(saved_ip, cfa, read_stack) else {
         return Err(DwarfUnwinderError::CouldNotRecoverReturnAddress);
     };
-    step_to(is_first_frame, regs, cfa, saved_bp.unwrap_or(bp), return_address)
+    step_to(
+        is_first_frame,
+        regs,
+        cfa,
+        saved_bp.unwrap_or(bp),
+        return_address,
+    )
 }
 
 /// Returns the rule that a row is translated to, if it is.
 #[tactic(auto, unfolding(crate::specs::X86_64::translated))]
 fn rule_of_row<S: UnwindContextStorage>(unwind_info: &UnwindTableRow<S>) -> Option<UnwindRuleX86_64>
-    ensures { result ≡ translated unwind_info.now }
+    ensures exact { result ≡ translated unwind_info.now }
+    ensures runnable { IfSome result (λ rule. is_executable rule ≡ true) }
 {
     let bp_rule = unwind_info.register(RBP);
     let ra_rule = unwind_info.register(RA);
@@ -278,6 +287,8 @@ impl DwarfUnwinding for ArchX86_64 {
     ghost row_means = { RowMeans };
 
     ghost columns_mean = { ColumnsMean };
+
+    ghost ascends = { λ first old new. Unit {0} };
 
     ghost uncovered = { JustReturnIfFirstFrameOtherwiseFp };
 
