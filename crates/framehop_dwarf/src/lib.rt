@@ -5,6 +5,8 @@ pub mod aarch64;
 pub mod bases;
 pub mod dwarf;
 pub mod evaluation;
+#[cfg(test)]
+mod frame_tests;
 pub mod index;
 pub mod operation;
 #[cfg(test)]
