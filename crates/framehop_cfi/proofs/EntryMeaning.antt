@@ -8,8 +8,9 @@ use Rattle.framehop_cfi.specs.Raw.{raw_at, format_of}
 use Rattle.framehop_cfi.specs.Pointer.{pointer_at}
 use Rattle.framehop_cfi.specs.Augmentation.{terminator_at, augmentation_at}
 use Rattle.framehop_cfi.specs.Span.{span_at, is_zero_length}
-use Rattle.framehop_cfi.specs.Entry.{head_at, is_known_version, sizes_of, return_register_at, alignments_at, versioned_fields, cie_fields, cie_of_head, cie_at, skipped_at, fde_range, fde_fields, fde_of_head, fde_at}
-use Rattle.framehop_cfi.specs.EntryMeaning.{Begins, HasCieFields, IsCie, IsFde}
+use Rattle.framehop_cfi.specs.Section.{Section}
+use Rattle.framehop_cfi.specs.Entry.{head_at, entry_of_head, entry_at, is_known_version, sizes_of, return_register_at, alignments_at, versioned_fields, cie_fields, cie_of_head, cie_at, skipped_at, fde_range, fde_fields, fde_of_head, fde_at}
+use Rattle.framehop_cfi.specs.EntryMeaning.{Begins, HasCieFields, IsCie, IsFde, IsEntry}
 use Rattle.framehop_cfi.specs.declared.span.Span.{Span}
 use Rattle.framehop_cfi.specs.declared.pointer.SectionBaseAddresses.{SectionBaseAddresses}
 use Rattle.framehop_cfi.specs.declared.entry.UnwindSectionType.{UnwindSectionType}
@@ -17,8 +18,10 @@ use Rattle.framehop_cfi.specs.declared.entry.EntryHead.{EntryHead}
 use Rattle.framehop_cfi.specs.declared.entry.EntryHead.TheVariants.{ZeroLength, Cie, Fde}
 use Rattle.framehop_cfi.specs.declared.entry.CommonInformationEntry.{CommonInformationEntry}
 use Rattle.framehop_cfi.specs.declared.entry.FrameDescriptionEntry.{FrameDescriptionEntry}
+use Rattle.framehop_cfi.specs.declared.entry.CieOrFde.{CieOrFde}
+use Rattle.framehop_cfi.specs.declared.entry.CieOrFde.TheVariants as or
 use Rattle.framehop_cfi.specs.declared.read_error.ReadError.{ReadError}
-use Rattle.framehop_cfi.proofs.EntryList.{bind_ok, id-ends}
+use Rattle.framehop_cfi.proofs.Spans.{bind_ok, id-ends}
 
 one-cie : (a b : CommonInformationEntry) → ◌≡◌ {A = Result CommonInformationEntry ReadError} (Ok a) (Ok b) → a ≡ b
 one-cie a b is = cc
@@ -101,35 +104,36 @@ module _ (kind : UnwindSectionType) (bases : SectionBaseAddresses) (bytes : List
   unfolding head_at
   begins-head at span head b = rw b.length (rw b.some b.id)
 
-  cie-of : (at : ℕ) (head : EntryHead) (cie : CommonInformationEntry) → head_at kind bytes at ≡ Ok head → cie_of_head kind bases bytes head ≡ Ok cie → IsCie kind bases bytes at cie
+module _ (section : Section) where
+  cie-of : (at : ℕ) (head : EntryHead) (cie : CommonInformationEntry) → head_at section.kind section.bytes at ≡ Ok head → cie_of_head section head ≡ Ok cie → IsCie section at cie
   cie-of at (ZeroLength end) cie begins is = cc
   cie-of at (Fde named fields end) cie begins is = cc
   cie-of at (Cie fields end) cie begins is =
-      let b = head-begins at (Cie fields end) (λ e h. cc) begins in
-      let there : end ≡ b.0.end = id-ends (take b.0.end bytes) b.0 (Cie fields end) kind b.1.id in
-      let f = fields-means kind bases (take b.0.end bytes) b.0.end cie fields (subst (λ e. cie_fields kind bases (take e bytes) fields e ≡ Ok cie) there is) in
+      let b = head-begins section.kind section.bases section.bytes at (Cie fields end) (λ e h. cc) begins in
+      let there : end ≡ b.0.end = id-ends (take b.0.end section.bytes) b.0 (Cie fields end) section.kind b.1.id in
+      let f = fields-means section.kind section.bases (take b.0.end section.bytes) b.0.end cie fields (subst (λ e. cie_fields section.kind section.bases (take e section.bytes) fields e ≡ Ok cie) there is) in
       record {
         span = b.0;
         fields = fields;
-        begins = subst (λ e. Begins kind bytes at b.0 (Cie fields e)) there b.1;
+        begins = subst (λ e. Begins section.kind section.bytes at b.0 (Cie fields e)) there b.1;
         has_fields = f.0;
         ends = f.1;
       }
 
   -- a CIE that is read stands there, and one that stands there is read
-  pub cie_at-means : (at : ℕ) (cie : CommonInformationEntry) → cie_at kind bases bytes at ≡ Ok cie → IsCie kind bases bytes at cie
+  pub cie_at-means : (at : ℕ) (cie : CommonInformationEntry) → cie_at section at ≡ Ok cie → IsCie section at cie
   unfolding cie_at
   cie_at-means at cie is =
-      let head = bind_ok (head_at kind bytes at) _ cie is in
+      let head = bind_ok (head_at section.kind section.bytes at) _ cie is in
       cie-of at head.0 cie head.1 head.2
 
-  pub means-cie_at : (at : ℕ) (cie : CommonInformationEntry) → IsCie kind bases bytes at cie → cie_at kind bases bytes at ≡ Ok cie
+  pub means-cie_at : (at : ℕ) (cie : CommonInformationEntry) → IsCie section at cie → cie_at section at ≡ Ok cie
   unfolding cie_at
   means-cie_at at cie c =
-      rw (begins-head at c.span (Cie c.fields c.span.end) c.begins)
-      (means-fields kind bases (take c.span.end bytes) c.span.end cie c.fields c.has_fields c.ends)
+      rw (begins-head section.kind section.bases section.bytes at c.span (Cie c.fields c.span.end) c.begins)
+      (means-fields section.kind section.bases (take c.span.end section.bytes) c.span.end cie c.fields c.has_fields c.ends)
 
-  range-means : (at named fields : ℕ) (span : Span) (cie : CommonInformationEntry) (fde : FrameDescriptionEntry) → Begins kind bytes at span (Fde named fields span.end) → IsCie kind bases bytes named cie → fde_fields bases cie (take span.end bytes) fields span.end ≡ Ok fde → IsFde kind bases bytes at fde
+  range-means : (at named fields : ℕ) (span : Span) (cie : CommonInformationEntry) (fde : FrameDescriptionEntry) → Begins section.kind section.bytes at span (Fde named fields span.end) → IsCie section named cie → fde_fields section.bases cie (take span.end section.bytes) fields span.end ≡ Ok fde → IsFde section at fde
   unfolding fde_range
   range-means at named fields span cie fde begins its is =
       elim (cases_Bool (leb 128 cie.fde_pointer_encoding)) [
@@ -138,12 +142,12 @@ module _ (kind : UnwindSectionType) (bases : SectionBaseAddresses) (bytes : List
             cc
         | inr direct ↦
             let e = rw direct at is in
-            let entry = take span.end bytes in
-            let start = bind_ok (pointer_at bases cie.fde_pointer_encoding entry fields) _ fde e in
+            let entry = take span.end section.bytes in
+            let start = bind_ok (pointer_at section.bases cie.fde_pointer_encoding entry fields) _ fde e in
             let range = bind_ok (raw_at (format_of cie.fde_pointer_encoding) entry start.0.1) _ fde start.2 in
             let skipped = bind_ok (skipped_at cie.has_augmentation_data entry range.0.1) _ fde range.2 in
             let made : FrameDescriptionEntry = record { cie = cie; initial_address = start.0.0; address_range = range.0.0; instructions = skipped.0; end = span.end } in
-            let all : IsFde kind bases bytes at made = record {
+            let all : IsFde section at made = record {
               span = span;
               named = named;
               fields = fields;
@@ -157,44 +161,83 @@ module _ (kind : UnwindSectionType) (bases : SectionBaseAddresses) (bytes : List
               is_augmentation = skipped.1;
               ends = refl;
             } in
-            subst (λ f. IsFde kind bases bytes at f) (one-fde made fde skipped.2) all
+            subst (λ f. IsFde section at f) (one-fde made fde skipped.2) all
       ]
 
-  fde-of : (at : ℕ) (head : EntryHead) (fde : FrameDescriptionEntry) → head_at kind bytes at ≡ Ok head → fde_of_head kind bases bytes head ≡ Ok fde → IsFde kind bases bytes at fde
+  fde-of : (at : ℕ) (head : EntryHead) (fde : FrameDescriptionEntry) → head_at section.kind section.bytes at ≡ Ok head → fde_of_head section head ≡ Ok fde → IsFde section at fde
   fde-of at (ZeroLength end) fde begins is = cc
   fde-of at (Cie fields end) fde begins is = cc
   fde-of at (Fde named fields end) fde begins is =
-      let b = head-begins at (Fde named fields end) (λ e h. cc) begins in
-      let there : end ≡ b.0.end = id-ends (take b.0.end bytes) b.0 (Fde named fields end) kind b.1.id in
-      let its = bind_ok (cie_at kind bases bytes named) _ fde is in
-      let read : fde_fields bases its.0 (take b.0.end bytes) fields b.0.end ≡ Ok fde = subst (λ e. fde_fields bases its.0 (take e bytes) fields e ≡ Ok fde) there its.2 in
-      range-means at named fields b.0 its.0 fde (subst (λ e. Begins kind bytes at b.0 (Fde named fields e)) there b.1) (cie_at-means named its.0 its.1) read
+      let b = head-begins section.kind section.bases section.bytes at (Fde named fields end) (λ e h. cc) begins in
+      let there : end ≡ b.0.end = id-ends (take b.0.end section.bytes) b.0 (Fde named fields end) section.kind b.1.id in
+      let its = bind_ok (cie_at section named) _ fde is in
+      let read : fde_fields section.bases its.0 (take b.0.end section.bytes) fields b.0.end ≡ Ok fde = subst (λ e. fde_fields section.bases its.0 (take e section.bytes) fields e ≡ Ok fde) there its.2 in
+      range-means at named fields b.0 its.0 fde (subst (λ e. Begins section.kind section.bytes at b.0 (Fde named fields e)) there b.1) (cie_at-means named its.0 its.1) read
 
-  pub fde_at-means : (at : ℕ) (fde : FrameDescriptionEntry) → fde_at kind bases bytes at ≡ Ok fde → IsFde kind bases bytes at fde
+  pub fde_at-means : (at : ℕ) (fde : FrameDescriptionEntry) → fde_at section at ≡ Ok fde → IsFde section at fde
   unfolding fde_at
   fde_at-means at fde is =
-      let head = bind_ok (head_at kind bytes at) _ fde is in
+      let head = bind_ok (head_at section.kind section.bytes at) _ fde is in
       fde-of at head.0 fde head.1 head.2
 
-  pub means-fde_at : (at : ℕ) (fde : FrameDescriptionEntry) → IsFde kind bases bytes at fde → fde_at kind bases bytes at ≡ Ok fde
+  pub means-fde_at : (at : ℕ) (fde : FrameDescriptionEntry) → IsFde section at fde → fde_at section at ≡ Ok fde
   unfolding fde_at fde_range
   means-fde_at at fde f =
-      rw (begins-head at f.span (Fde f.named f.fields f.span.end) f.begins)
+      rw (begins-head section.kind section.bases section.bytes at f.span (Fde f.named f.fields f.span.end) f.begins)
       (rw (means-cie_at f.named fde.cie f.its_cie) (rw f.direct (rw f.is_start (rw f.is_range (rw f.is_augmentation (ap (λ e. Ok (record fde { end = e })) (sym f.ends)))))))
 
   -- an entry is answered where one stands, and refused where none does
-  pub cie-found : (at : ℕ) (result : Result CommonInformationEntry ReadError) → result ≡ cie_at kind bases bytes at → IfOk result (IsCie kind bases bytes at)
+  pub cie-found : (at : ℕ) (result : Result CommonInformationEntry ReadError) → result ≡ cie_at section at → IfOk result (IsCie section at)
   cie-found at (Ok cie) is = cie_at-means at cie (sym is)
   cie-found at (Err error) is = tt
 
-  pub no-cie : (at : ℕ) (result : Result CommonInformationEntry ReadError) → result ≡ cie_at kind bases bytes at → IfErr result (λ _. (cie : CommonInformationEntry) → IsCie kind bases bytes at cie → ⊥)
+  pub no-cie : (at : ℕ) (result : Result CommonInformationEntry ReadError) → result ≡ cie_at section at → IfErr result (λ _. (cie : CommonInformationEntry) → IsCie section at cie → ⊥)
   no-cie at (Ok cie) is = tt
   no-cie at (Err error) is = λ cie there. let read = means-cie_at at cie there in cc
 
-  pub fde-found : (at : ℕ) (result : Result FrameDescriptionEntry ReadError) → result ≡ fde_at kind bases bytes at → IfOk result (IsFde kind bases bytes at)
+  pub fde-found : (at : ℕ) (result : Result FrameDescriptionEntry ReadError) → result ≡ fde_at section at → IfOk result (IsFde section at)
   fde-found at (Ok fde) is = fde_at-means at fde (sym is)
   fde-found at (Err error) is = tt
 
-  pub no-fde : (at : ℕ) (result : Result FrameDescriptionEntry ReadError) → result ≡ fde_at kind bases bytes at → IfErr result (λ _. (fde : FrameDescriptionEntry) → IsFde kind bases bytes at fde → ⊥)
+  pub no-fde : (at : ℕ) (result : Result FrameDescriptionEntry ReadError) → result ≡ fde_at section at → IfErr result (λ _. (fde : FrameDescriptionEntry) → IsFde section at fde → ⊥)
   no-fde at (Ok fde) is = tt
   no-fde at (Err error) is = λ fde there. let read = means-fde_at at fde there in cc
+
+  -- an entry that is read stands there
+  one-entry : (a b : CieOrFde) → ◌≡◌ {A = Result CieOrFde ReadError} (Ok a) (Ok b) → a ≡ b
+  one-entry a b is = cc
+
+  entry-of : (at : ℕ) (head : EntryHead) (entry : CieOrFde) → head_at section.kind section.bytes at ≡ Ok head → entry_of_head section head ≡ Ok entry → IsEntry section at entry
+  entry-of at (ZeroLength end) entry begins is = cc
+  entry-of at (Cie fields end) entry begins is =
+      let cie = bind_ok (cie_of_head section (Cie fields end)) _ entry is in
+      subst (IsEntry section at) (one-entry (or.Cie cie.0) entry cie.2) (cie-of at (Cie fields end) cie.0 begins cie.1)
+  entry-of at (Fde named fields end) entry begins is =
+      let fde = bind_ok (fde_of_head section (Fde named fields end)) _ entry is in
+      subst (IsEntry section at) (one-entry (or.Fde fde.0) entry fde.2) (fde-of at (Fde named fields end) fde.0 begins fde.1)
+
+  pub entry_at-means : (at : ℕ) (entry : CieOrFde) → entry_at section at ≡ Ok entry → IsEntry section at entry
+  unfolding entry_at
+  entry_at-means at entry is =
+      let head = bind_ok (head_at section.kind section.bytes at) _ entry is in
+      entry-of at head.0 entry head.1 head.2
+
+  -- one that stands there is read
+  of-cie : (head : EntryHead) (cie : CommonInformationEntry) → cie_of_head section head ≡ Ok cie → entry_of_head section head ≡ Ok (or.Cie cie)
+  of-cie (ZeroLength end) cie is = cc
+  of-cie (Cie fields end) cie is = rw is refl
+  of-cie (Fde named fields end) cie is = cc
+
+  of-fde : (head : EntryHead) (fde : FrameDescriptionEntry) → fde_of_head section head ≡ Ok fde → entry_of_head section head ≡ Ok (or.Fde fde)
+  of-fde (ZeroLength end) fde is = cc
+  of-fde (Cie fields end) fde is = cc
+  of-fde (Fde named fields end) fde is = rw is refl
+
+  pub means-entry_at : (at : ℕ) (entry : CieOrFde) → IsEntry section at entry → entry_at section at ≡ Ok entry
+  unfolding entry_at cie_at fde_at
+  means-entry_at at (or.Cie cie) there =
+      let read = bind_ok (head_at section.kind section.bytes at) _ cie (means-cie_at at cie there) in
+      rw read.1 (of-cie read.0 cie read.2)
+  means-entry_at at (or.Fde fde) there =
+      let read = bind_ok (head_at section.kind section.bytes at) _ fde (means-fde_at at fde there) in
+      rw read.1 (of-fde read.0 fde read.2)

@@ -4,5 +4,6 @@ pub mod Run
 pub mod Table
 pub mod Forward
 pub mod RowMeaning
-pub mod EntryList
+pub mod Spans
+pub mod Cut
 pub mod EntryMeaning

@@ -3,11 +3,12 @@ use Rattle.std.proofs.Common.{◌≡◌, ◌≢◌, ℕ, zero, suc, ◌+◌, ◌
 use Rattle.std.proofs.lemmas.Bool.{lt-leb, le-leb, cases_Bool, cases_lt}
 use Rattle.framehop_cfi.specs.Bytes.{◌>>=◌}
 use Rattle.framehop_cfi.specs.Instruction.{instruction_at}
-use Rattle.framehop_cfi.specs.Machine.{Machine, effect, effects}
-use Rattle.framehop_cfi.specs.RowAt.{Program, location_after, is_beyond, run, run_from, machine_at, start, begun, covers, program_of_cie, program_of_fde}
-use Rattle.framehop_cfi.specs.RowMeaning.{Stands, Lists, Ends, HasEffect, IsMachineAt}
+use Rattle.framehop_cfi.specs.Row.{Row}
+use Rattle.framehop_cfi.specs.Section.{Section}
+use Rattle.framehop_cfi.specs.TableRows.{TableRows, effect, effects}
+use Rattle.framehop_cfi.specs.RowAt.{row_at, InstructionList, location_after, is_beyond, run, run_from, rows_at, start, begun, covers, instructions_of_cie, instructions_of_fde}
+use Rattle.framehop_cfi.specs.RowMeaning.{Stands, Lists, Ends, HasEffect, AreRowsAt, IsRowAt}
 use Rattle.framehop_cfi.specs.declared.storage.StorageLimits.{StorageLimits}
-use Rattle.framehop_cfi.specs.declared.pointer.SectionBaseAddresses.{SectionBaseAddresses}
 use Rattle.framehop_cfi.specs.declared.entry.FrameDescriptionEntry.{FrameDescriptionEntry}
 use Rattle.framehop_cfi.specs.declared.instruction.CallFrameInstruction.{CallFrameInstruction}
 use Rattle.framehop_cfi.specs.declared.read_error.ReadError.{ReadError}
@@ -20,12 +21,12 @@ bind_ok : {A B E : Type 0} (r : Result A E) (f : A → Result B E) (y : B) → (
 bind_ok (Ok x) f y is = (x, refl, is)
 bind_ok (Err e) f y is = cc
 
-same : (x y : Machine) → ◌≡◌ {A = Result Machine ReadError} (Ok x) (Ok y) → x ≡ y
+same : (x y : TableRows) → ◌≡◌ {A = Result TableRows ReadError} (Ok x) (Ok y) → x ≡ y
 same x y is = cc
 
-module _ (limits : Option StorageLimits) (program : Program) where
+module _ (limits : Option StorageLimits) (code : InstructionList) where
   -- what a list of instructions gives, an instruction at a time
-  nothing : (at location : ℕ) (before after : Machine) → Ends program at location → before ≡ after → HasEffect limits program at location before after
+  nothing : (at location : ℕ) (before after : TableRows) → Ends code at location → before ≡ after → HasEffect limits code at location before after
   nothing at location before after ends is = record {
     instructions = [];
     end = at;
@@ -35,7 +36,7 @@ module _ (limits : Option StorageLimits) (program : Program) where
     effect = ap Ok is;
   }
 
-  one-more : (at location next moved : ℕ) (instruction : CallFrameInstruction) (before middle after : Machine) → Stands program at location instruction next moved → is_beyond program.address moved ≡ false → effect limits instruction before ≡ Ok middle → HasEffect limits program next moved middle after → HasEffect limits program at location before after
+  one-more : (at location next moved : ℕ) (instruction : CallFrameInstruction) (before middle after : TableRows) → Stands code at location instruction next moved → is_beyond code.address moved ≡ false → effect limits instruction before ≡ Ok middle → HasEffect limits code next moved middle after → HasEffect limits code at location before after
   one-more at location next moved instruction before middle after stands near does rest = record {
     instructions = instruction ∷ rest.instructions;
     end = rest.end;
@@ -45,17 +46,17 @@ module _ (limits : Option StorageLimits) (program : Program) where
     effect = rw does rest.effect;
   }
 
-  run-effect : (n at location : ℕ) (before after : Machine) → length program.bytes < n + at → run limits program n at location before ≡ Ok after → HasEffect limits program at location before after
+  run-effect : (n at location : ℕ) (before after : TableRows) → length code.bytes < n + at → run limits code n at location before ≡ Ok after → HasEffect limits code at location before after
   run-effect zero at location before after enough is = nothing at location before after (inl (omega arith)) (same before after is)
   run-effect (suc n) at location before after enough is =
-      elim (cases_lt at (length program.bytes)) [
+      elim (cases_lt at (length code.bytes)) [
         | inl inside ↦
-            let e = rw (lt-leb (length program.bytes) at inside) at is in
-            let read = bind_ok (instruction_at program.cie program.bases program.bytes at) _ after e in
-            let moved = bind_ok (location_after program.cie program.address location read.0.0) _ after read.2 in
-            let stands : Stands program at location read.0.0 read.0.1 moved.0 = record { inside = inside; reads = read.1; moves = moved.1 } in
-            let past = instruction-forward program.cie program.bases program.bytes at read.0 read.1 in
-            elim (cases_Bool (is_beyond program.address moved.0)) [
+            let e = rw (lt-leb (length code.bytes) at inside) at is in
+            let read = bind_ok (instruction_at code.cie code.bases code.bytes at) _ after e in
+            let moved = bind_ok (location_after code.cie code.address location read.0.0) _ after read.2 in
+            let stands : Stands code at location read.0.0 read.0.1 moved.0 = record { inside = inside; reads = read.1; moves = moved.1 } in
+            let past = instruction-forward code.cie code.bases code.bytes at read.0 read.1 in
+            elim (cases_Bool (is_beyond code.address moved.0)) [
               | inl beyond ↦
                   let done = rw beyond at moved.2 in
                   nothing at location before after (inr (read.0.0, read.0.1, moved.0, stands, beyond)) (same before after done)
@@ -66,83 +67,107 @@ module _ (limits : Option StorageLimits) (program : Program) where
                   (run-effect n read.0.1 moved.0 done.0 after (omega arith) done.2)
             ]
         | inr past ↦
-            let e = rw (le-leb (length program.bytes) at past) at is in
+            let e = rw (le-leb (length code.bytes) at past) at is in
             nothing at location before after (inl past) (same before after e)
       ]
 
   -- a list has no more instructions than bytes are left
-  short : (instructions : List CallFrameInstruction) (at location end last : ℕ) → Lists program at location instructions end last → length instructions ≤ length program.bytes - at
+  short : (instructions : List CallFrameInstruction) (at location end last : ℕ) → Lists code at location instructions end last → length instructions ≤ length code.bytes - at
   short [] at location end last lists = omega arith
   short (instruction ∷ instructions) at location end last lists =
       let stands = lists.2 in
-      let past = instruction-forward program.cie program.bases program.bytes at (instruction, lists.0) stands.reads in
+      let past = instruction-forward code.cie code.bases code.bytes at (instruction, lists.0) stands.reads in
       let rest = short instructions lists.0 lists.1 end last lists.4 in
       let inside = stands.inside in
       omega arith
 
-  ended : (n at location : ℕ) (before : Machine) → 0 < n → Ends program at location → run limits program n at location before ≡ Ok before
+  ended : (n at location : ℕ) (before : TableRows) → 0 < n → Ends code at location → run limits code n at location before ≡ Ok before
   ended zero at location before some ends = absurd (omega arith)
-  ended (suc n) at location before some (inl past) = rw (le-leb (length program.bytes) at past) refl
+  ended (suc n) at location before some (inl past) = rw (le-leb (length code.bytes) at past) refl
   ended (suc n) at location before some (inr beyond) =
       let stands = beyond.3 in
-      rw (lt-leb (length program.bytes) at stands.inside, stands.reads) (rw stands.moves (rw beyond.4 refl))
+      rw (lt-leb (length code.bytes) at stands.inside, stands.reads) (rw stands.moves (rw beyond.4 refl))
 
-  effect-run : (instructions : List CallFrameInstruction) (n at location end last : ℕ) (before after : Machine) → length instructions < n → Lists program at location instructions end last → Ends program end last → effects limits instructions before ≡ Ok after → run limits program n at location before ≡ Ok after
+  effect-run : (instructions : List CallFrameInstruction) (n at location end last : ℕ) (before after : TableRows) → length instructions < n → Lists code at location instructions end last → Ends code end last → effects limits instructions before ≡ Ok after → run limits code n at location before ≡ Ok after
   effect-run [] n at location end last before after enough lists ends is =
-      let there : Ends program at location = subst (λ e. Ends program e location) (sym lists.0) (subst (λ l. Ends program end l) (sym lists.1) ends) in
+      let there : Ends code at location = subst (λ e. Ends code e location) (sym lists.0) (subst (λ l. Ends code end l) (sym lists.1) ends) in
       ended n at location before (omega arith) there ∙ is
   effect-run (instruction ∷ instructions) zero at location end last before after enough lists ends is = absurd (omega arith)
   effect-run (instruction ∷ instructions) (suc n) at location end last before after enough lists ends is =
       let stands = lists.2 in
       let done = bind_ok (effect limits instruction before) _ after is in
       let rest = effect-run instructions n lists.0 lists.1 end last done.0 after (omega arith) lists.4 ends done.2 in
-      rw (lt-leb (length program.bytes) at stands.inside, stands.reads) (rw stands.moves (rw (lists.3, done.1) rest))
+      rw (lt-leb (length code.bytes) at stands.inside, stands.reads) (rw stands.moves (rw (lists.3, done.1) rest))
 
-  pub run_from-effect : (at location : ℕ) (before after : Machine) → run_from limits program at location before ≡ Ok after → HasEffect limits program at location before after
+  pub run_from-effect : (at location : ℕ) (before after : TableRows) → run_from limits code at location before ≡ Ok after → HasEffect limits code at location before after
   unfolding run_from
-  run_from-effect at location before after is = run-effect (suc (length program.bytes)) at location before after (omega arith) is
+  run_from-effect at location before after is = run-effect (suc (length code.bytes)) at location before after (omega arith) is
 
-  pub effect-run_from : (at location : ℕ) (before after : Machine) → HasEffect limits program at location before after → run_from limits program at location before ≡ Ok after
+  pub effect-run_from : (at location : ℕ) (before after : TableRows) → HasEffect limits code at location before after → run_from limits code at location before ≡ Ok after
   unfolding run_from
   effect-run_from at location before after e =
       let few = short e.instructions at location e.end e.last e.lists in
-      effect-run e.instructions (suc (length program.bytes)) at location e.end e.last before after (omega arith) e.lists e.ends e.effect
+      effect-run e.instructions (suc (length code.bytes)) at location e.end e.last before after (omega arith) e.lists e.ends e.effect
 
-module _ (limits : Option StorageLimits) (bases : SectionBaseAddresses) (bytes : List ℕ) (fde : FrameDescriptionEntry) (address : ℕ) (machine : Machine) where
-  -- what the definition by steps gives is the machine of the address
-  pub machine_at-means : machine_at limits bases bytes fde address ≡ Ok machine → IsMachineAt limits bases bytes fde address machine
-  unfolding machine_at
-  machine_at-means is =
+module _ (limits : Option StorageLimits) (section : Section) (fde : FrameDescriptionEntry) (address : ℕ) (rows : TableRows) where
+  -- what the definition by steps gives is the rows of the address
+  pub rows_at-means : rows_at limits section fde address ≡ Ok rows → AreRowsAt limits section fde address rows
+  unfolding rows_at
+  rows_at-means is =
       elim (cases_Bool (covers fde address)) [
         | inl covered ↦
             let e = rw covered at is in
-            let middle = bind_ok (run_from limits (program_of_cie bases bytes fde.cie) fde.cie.instructions 0 start) _ machine e in
+            let middle = bind_ok (run_from limits (instructions_of_cie section fde.cie) fde.cie.instructions 0 start) _ rows e in
             record {
               covered = covered;
               middle = middle.0;
-              by_cie = run_from-effect limits (program_of_cie bases bytes fde.cie) fde.cie.instructions 0 start middle.0 middle.1;
-              by_fde = run_from-effect limits (program_of_fde bases bytes fde address) fde.instructions fde.initial_address (begun middle.0) machine middle.2;
+              by_cie = run_from-effect limits (instructions_of_cie section fde.cie) fde.cie.instructions 0 start middle.0 middle.1;
+              by_fde = run_from-effect limits (instructions_of_fde section fde address) fde.instructions fde.initial_address (begun middle.0) rows middle.2;
             }
         | inr not-covered ↦ (let e = rw not-covered at is in cc)
       ]
 
-  -- the machine of the address is what the definition by steps gives
-  pub means-machine_at : IsMachineAt limits bases bytes fde address machine → machine_at limits bases bytes fde address ≡ Ok machine
-  unfolding machine_at
-  means-machine_at m =
-      rw m.covered (rw (effect-run_from limits (program_of_cie bases bytes fde.cie) fde.cie.instructions 0 start m.middle m.by_cie)
-      (effect-run_from limits (program_of_fde bases bytes fde address) fde.instructions fde.initial_address (begun m.middle) machine m.by_fde))
+  -- the rows of the address is what the definition by steps gives
+  pub means-rows_at : AreRowsAt limits section fde address rows → rows_at limits section fde address ≡ Ok rows
+  unfolding rows_at
+  means-rows_at m =
+      rw m.covered (rw (effect-run_from limits (instructions_of_cie section fde.cie) fde.cie.instructions 0 start m.middle m.by_cie)
+      (effect-run_from limits (instructions_of_fde section fde address) fde.instructions fde.initial_address (begun m.middle) rows m.by_fde))
 
-module _ (limits : Option StorageLimits) (bases : SectionBaseAddresses) (bytes : List ℕ) (fde : FrameDescriptionEntry) (address : ℕ) where
+-- the current row of the rows
+row-of : (read : Result TableRows ReadError) (row : Row) → (read >>= λ rows. Ok rows.row) ≡ Ok row → (rows : TableRows) × (read ≡ Ok rows) × (rows.row ≡ row)
+row-of (Ok rows) row is = (rows, refl, cc)
+row-of (Err error) row is = cc
+
+-- what becomes of the rows becomes of the current one
+pub becomes-row : {A : Type 0} (result : Result A ReadError) (new : TableRows) (wanted : Result TableRows ReadError) → Becomes result new wanted → Becomes result new.row (wanted >>= λ rows. Ok rows.row)
+becomes-row (Ok done) new wanted is = rw is refl
+becomes-row (Err error) new wanted is = λ kept. rw (is kept) refl
+
+module _ (limits : Option StorageLimits) (section : Section) (fde : FrameDescriptionEntry) (address : ℕ) where
   -- a row is answered only where the address has one
-  pub answered : {A : Type 0} (result : Result A ReadError) (new : Machine) → Becomes result new (machine_at limits bases bytes fde address) → OnOk result (IsMachineAt limits bases bytes fde address new)
-  answered (Ok done) new is = machine_at-means limits bases bytes fde address new is
+  pub answered : {A : Type 0} (result : Result A ReadError) (new : TableRows) → Becomes result new (rows_at limits section fde address) → OnOk result (IsRowAt limits section fde address new.row)
+  answered (Ok done) new is = (new, rows_at-means limits section fde address new is, refl)
   answered (Err error) new is = tt
 
   -- it is refused only where the address has none
-  pub refused : {A : Type 0} (result : Result A ReadError) (new : Machine) → Becomes result new (machine_at limits bases bytes fde address) → IfErr result (λ error. error ≢ OutOfMemory → (machine : Machine) → IsMachineAt limits bases bytes fde address machine → ⊥)
+  pub refused : {A : Type 0} (result : Result A ReadError) (new : TableRows) → Becomes result new (rows_at limits section fde address) → IfErr result (λ error. error ≢ OutOfMemory → (row : Row) → IsRowAt limits section fde address row → ⊥)
   refused (Ok done) new is = tt
-  refused (Err error) new is = λ kept machine there.
+  refused (Err error) new is = λ kept row there.
       let first = is kept in
-      let second = means-machine_at limits bases bytes fde address machine there in
+      let second = means-rows_at limits section fde address there.0 there.1 in
       cc
+
+  pub becomes-row_at : {A : Type 0} (result : Result A ReadError) (new : TableRows) → Becomes result new (rows_at limits section fde address) → Becomes result new.row (row_at limits section fde address)
+  unfolding row_at
+  becomes-row_at result new is = becomes-row result new (rows_at limits section fde address) is
+
+  pub row_at-means : (row : Row) → row_at limits section fde address ≡ Ok row → IsRowAt limits section fde address row
+  unfolding row_at
+  row_at-means row is =
+      let rows = row-of (rows_at limits section fde address) row is in
+      (rows.0, rows_at-means limits section fde address rows.0 rows.1, rows.2)
+
+  pub means-row_at : (row : Row) → IsRowAt limits section fde address row → row_at limits section fde address ≡ Ok row
+  unfolding row_at
+  means-row_at row there = rw (means-rows_at limits section fde address there.0 there.1) (ap Ok there.2)

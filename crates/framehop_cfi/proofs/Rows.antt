@@ -4,7 +4,7 @@ use Rattle.std.specs.Prelude.{slice_get, slice_set}
 use Rattle.std.proofs.lemmas.List.{take-set, length-take-le, get_or-take, take-take}
 use Rattle.std.proofs.lemmas.Option.{slice_get_read}
 use Rattle.framehop_cfi.specs.Row.{Row}
-use Rattle.framehop_cfi.specs.Machine.{recalling}
+use Rattle.framehop_cfi.specs.TableRows.{recalling}
 
 pub recalling-front : (initial : Option Row) (row : Row) (rows : List Row) (count : ℕ) (spare latest : Row) → (count ≡ 0 → ⊥) → count ≤ length rows → latest ≡ get_or rows (count - 1) latest → recalling (record { initial = initial; row = row; remembered = take count rows }) ≡ Ok (record { initial = initial; row = latest; remembered = take (count - 1) (slice_set rows (count - 1) spare) })
 recalling-front initial row rows count spare latest some within is =

@@ -13,6 +13,6 @@ abbrev pub AllRowsThere : Option StorageLimits → ℕ → Type 0
 AllRowsThere None room = Unit {0}
 AllRowsThere (Some limits) room = limits.rows ≤ room
 
-pub record HasRows (limits : Option StorageLimits) (count room : ℕ) : Type 0 where
+pub record HasSpareRows (limits : Option StorageLimits) (count room : ℕ) : Type 0 where
   pub remembered : count ≤ room
   pub all_there : AllRowsThere limits room

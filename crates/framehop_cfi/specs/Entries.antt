@@ -1,55 +1,59 @@
--- The entries of a section, one after another (DWARF 5 section 6.4.1; LSB, ".eh_frame").
-use Rattle.std.specs.Prelude.{ℕ, zero, suc, List, [], ◌∷◌, ◌++◌, length, Result, Ok, Err, nat_le, if◌then◌else◌}
-use Rattle.framehop_cfi.specs.Bytes.{◌>>=◌}
-use Rattle.framehop_cfi.specs.Entry.{head_at, entry_of_head}
-use Rattle.framehop_cfi.specs.declared.pointer.SectionBaseAddresses.{SectionBaseAddresses}
+-- The entries of a section, one after another (DWARF 5 section 6.4.1; LSB, ".eh_frame"): first where each begins, by the lengths alone, and then what each is.
+use Rattle.std.specs.Prelude.{ℕ, zero, suc, ◌≤◌, ◌≡◌, true, false, List, [], ◌∷◌, length, map, Option, Some, None, Result, Ok, Err, nat_le, if◌then◌else◌}
+use Rattle.framehop_cfi.specs.Span.{span_at, is_zero_length}
+use Rattle.framehop_cfi.specs.Section.{Section}
+use Rattle.framehop_cfi.specs.EntryMeaning.{IsEntry}
+use Rattle.framehop_cfi.specs.declared.span.Span.{Span}
 use Rattle.framehop_cfi.specs.declared.entry.UnwindSectionType.{UnwindSectionType}
 use Rattle.framehop_cfi.specs.declared.entry.UnwindSectionType.TheVariants.{EhFrame, DebugFrame}
-use Rattle.framehop_cfi.specs.declared.entry.EntryHead.{EntryHead}
-use Rattle.framehop_cfi.specs.declared.entry.EntryHead.TheVariants.{ZeroLength, Cie, Fde}
 use Rattle.framehop_cfi.specs.declared.entry.CieOrFde.{CieOrFde}
 use Rattle.framehop_cfi.specs.declared.read_error.ReadError.{ReadError}
 
--- a section: which one, what its pointers count from, and its bytes
-pub record Section : Type 0 where
-  pub kind : UnwindSectionType
-  pub bases : SectionBaseAddresses
-  pub bytes : List ℕ
+-- a section cut into its entries: the offset of each, and why the next length can't be read, if one can't
+pub record Cut : Type 0 where
+  pub offsets : List ℕ
+  pub refusal : Option ReadError
 
--- a refusal of a reader, as another kind of refusal
-abbrev pub refused_by : {A E : Type 0} → (ReadError → E) → Result A ReadError → Result A E
-refused_by inject (Ok x) = Ok x
-refused_by inject (Err error) = Err (inject error)
-
--- what an entry gives, by a visit of it, and then what the entries behind it give
-abbrev pub visited : {A E : Type 0} → (ReadError → E) → (ℕ → CieOrFde → Result (List A) E) → Section → ℕ → EntryHead → Result (List A) E → Result (List A) E
-visited inject visit section at head rest =
-    refused_by inject (entry_of_head section.kind section.bases section.bytes head) >>= λ entry.
-    visit at entry >>= λ found.
-    rest >>= λ others. Ok (found ++ others)
+-- no more entries
+abbrev pub no_more : Cut
+no_more = record { offsets = []; refusal = None }
 
 -- a length of 0 ends `.eh_frame`, and is passed over in `.debug_frame`
-abbrev pub past_zero : {B : Type 0} → UnwindSectionType → B → B → B
-past_zero EhFrame none rest = none
-past_zero DebugFrame none rest = rest
+abbrev pub after_zero : UnwindSectionType → Cut → Cut
+after_zero EhFrame rest = no_more
+after_zero DebugFrame rest = rest
 
--- what stands behind a head; `rest` gives what the entries from an offset on give
-abbrev pub walk_head : {A E : Type 0} → (ReadError → E) → (ℕ → CieOrFde → Result (List A) E) → Section → (ℕ → Result (List A) E) → ℕ → EntryHead → Result (List A) E
-walk_head inject visit section rest at (ZeroLength end) = past_zero section.kind (Ok []) (rest end)
-walk_head inject visit section rest at (Cie fields end) = visited inject visit section at (Cie fields end) (rest end)
-walk_head inject visit section rest at (Fde named fields end) = visited inject visit section at (Fde named fields end) (rest end)
+-- an entry at an offset by its length, and then the rest
+abbrev pub cut_by : Section → ℕ → (ℕ → Cut) → Result Span ReadError → Cut
+cut_by section at rest (Err error) = record { offsets = []; refusal = Some error }
+cut_by section at rest (Ok span) =
+    if is_zero_length span then after_zero section.kind (rest span.end)
+    else (record { offsets = at ∷ (rest span.end).offsets; refusal = (rest span.end).refusal })
 
--- what the entries from an offset on give, one after another up to the section's end; the first refusal stands
-abbrev pub walk : {A E : Type 0} → (ReadError → E) → (ℕ → CieOrFde → Result (List A) E) → Section → ℕ → ℕ → Result (List A) E
-walk inject visit section zero at = Ok []
-walk inject visit section (suc n) at =
-    if nat_le (length section.bytes) at then Ok []
-    else (refused_by inject (head_at section.kind section.bytes at) >>= walk_head inject visit section (walk inject visit section n) at)
+-- the bytes from an offset on, cut
+abbrev pub cut_from : Section → ℕ → ℕ → Cut
+cut_from section zero at = no_more
+cut_from section (suc n) at =
+    if nat_le (length section.bytes) at then no_more
+    else cut_by section at (cut_from section n) (span_at section.bytes at)
 
--- what all the entries of a section give
-unfoldable pub walk_all : {A E : Type 0} → (ReadError → E) → (ℕ → CieOrFde → Result (List A) E) → Section → Result (List A) E
-walk_all inject visit section = walk inject visit section (suc (length section.bytes)) 0
+-- the whole section, cut
+unfoldable pub cut : Section → Cut
+cut section = cut_from section (suc (length section.bytes)) 0
 
--- a section's entries, each with its offset
-abbrev pub entries_of : Section → Result (List (ℕ × CieOrFde)) ReadError
-entries_of section = walk_all (λ error. error) (λ at entry. Ok ((at, entry) ∷ [])) section
+-- These are the offsets of the entries from one on, by their lengths: up to the section's end, or in `.eh_frame` to a length of 0, which is passed over in `.debug_frame`.
+pub data AreOffsets (section : Section) : ℕ → List ℕ → Type 0 where
+  at_end : {at : ℕ} → length section.bytes ≤ at → AreOffsets section at []
+  at_mark : {at : ℕ} {span : Span} → section.kind ≡ EhFrame → span_at section.bytes at ≡ Ok span → is_zero_length span ≡ true → AreOffsets section at []
+  past_zero : {at : ℕ} {span : Span} {offsets : List ℕ} → section.kind ≡ DebugFrame → span_at section.bytes at ≡ Ok span → is_zero_length span ≡ true → AreOffsets section span.end offsets → AreOffsets section at offsets
+  one : {at : ℕ} {span : Span} {offsets : List ℕ} → span_at section.bytes at ≡ Ok span → is_zero_length span ≡ false → AreOffsets section span.end offsets → AreOffsets section at (at ∷ offsets)
+
+-- each entry stands at its offset
+abbrev pub EachStands : Section → List (ℕ × CieOrFde) → Type 0
+EachStands section [] = Unit {0}
+EachStands section (entry ∷ entries) = IsEntry section entry.0 entry.1 × EachStands section entries
+
+-- a section's entries, each with its offset: all that the lengths tell, and each can be read
+pub record AreEntries (section : Section) (entries : List (ℕ × CieOrFde)) : Type 0 where
+  pub offsets : AreOffsets section 0 (map (λ (entry : ℕ × CieOrFde). entry.0) entries)
+  pub stand : EachStands section entries

@@ -1,13 +1,13 @@
 -- The two kinds of entries of a call frame section (DWARF 5 section 6.4.1; LSB, ".eh_frame").
-use Rattle.std.specs.Prelude.{ℕ, ◌+◌, ◌-◌, ◌≤◌, ◌<◌, List, length, take, slice_range, Bool, true, false, Result, Ok, Err, ◌==◌, ◌||◌, nat_le, if◌then◌else◌}
+use Rattle.std.specs.Prelude.{ℕ, ◌+◌, ◌-◌, List, take, slice_range, Bool, true, false, Result, Ok, Err, ◌==◌, ◌||◌, nat_le, if◌then◌else◌}
 use Rattle.framehop_cfi.specs.Bytes.{Reading, ◌>>=◌, u8_at, u32_at, u64_at}
 use Rattle.framehop_cfi.specs.Leb128.{uleb_at, sleb_at}
 use Rattle.framehop_cfi.specs.Raw.{raw_at, format_of}
 use Rattle.framehop_cfi.specs.Augmentation.{terminator_at, counted_at, augmentation_at}
 use Rattle.framehop_cfi.specs.Pointer.{pointer_at}
 use Rattle.framehop_cfi.specs.Span.{span_at, is_zero_length}
+use Rattle.framehop_cfi.specs.Section.{Section}
 use Rattle.framehop_cfi.specs.declared.span.Span.{Span}
-use Rattle.framehop_cfi.specs.declared.pointer.BaseAddresses.{BaseAddresses}
 use Rattle.framehop_cfi.specs.declared.pointer.SectionBaseAddresses.{SectionBaseAddresses}
 use Rattle.framehop_cfi.specs.declared.entry.UnwindSectionType.{UnwindSectionType}
 use Rattle.framehop_cfi.specs.declared.entry.UnwindSectionType.TheVariants.{EhFrame, DebugFrame}
@@ -104,15 +104,15 @@ cie_fields kind bases bytes at end = do
       else Err UnknownVersion
 
 -- the CIE at an offset
-abbrev pub cie_of_head : UnwindSectionType → SectionBaseAddresses → List ℕ → EntryHead → Result CommonInformationEntry ReadError
-cie_of_head kind bases bytes (ZeroLength end) = Err NotCie
-cie_of_head kind bases bytes (Fde cie at end) = Err NotCie
-cie_of_head kind bases bytes (Cie at end) = cie_fields kind bases (take end bytes) at end
+abbrev pub cie_of_head : Section → EntryHead → Result CommonInformationEntry ReadError
+cie_of_head section (ZeroLength end) = Err NotCie
+cie_of_head section (Fde cie at end) = Err NotCie
+cie_of_head section (Cie at end) = cie_fields section.kind section.bases (take end section.bytes) at end
 
-unfoldable pub cie_at : UnwindSectionType → SectionBaseAddresses → List ℕ → ℕ → Result CommonInformationEntry ReadError
-cie_at kind bases bytes at = do
-  head ← head_at kind bytes at
-  cie_of_head kind bases bytes head
+unfoldable pub cie_at : Section → ℕ → Result CommonInformationEntry ReadError
+cie_at section at = do
+  head ← head_at section.kind section.bytes at
+  cie_of_head section head
 
 -- the place behind an FDE's augmentation data, which it has where its CIE says so
 abbrev pub skipped_at : Bool → List ℕ → ℕ → Result ℕ ReadError
@@ -132,39 +132,24 @@ fde_fields bases cie bytes at end =
     if nat_le 128 cie.fde_pointer_encoding then Err BadEncoding else fde_range bases cie bytes at end
 
 -- the FDE at an offset, with the CIE at the offset that it names
-abbrev pub fde_of_head : UnwindSectionType → SectionBaseAddresses → List ℕ → EntryHead → Result FrameDescriptionEntry ReadError
-fde_of_head kind bases bytes (ZeroLength end) = Err NotFde
-fde_of_head kind bases bytes (Cie at end) = Err NotFde
-fde_of_head kind bases bytes (Fde named at end) =
-    cie_at kind bases bytes named >>= λ cie. fde_fields bases cie (take end bytes) at end
+abbrev pub fde_of_head : Section → EntryHead → Result FrameDescriptionEntry ReadError
+fde_of_head section (ZeroLength end) = Err NotFde
+fde_of_head section (Cie at end) = Err NotFde
+fde_of_head section (Fde named at end) =
+    cie_at section named >>= λ cie. fde_fields section.bases cie (take end section.bytes) at end
 
-unfoldable pub fde_at : UnwindSectionType → SectionBaseAddresses → List ℕ → ℕ → Result FrameDescriptionEntry ReadError
-fde_at kind bases bytes at = do
-  head ← head_at kind bytes at
-  fde_of_head kind bases bytes head
+unfoldable pub fde_at : Section → ℕ → Result FrameDescriptionEntry ReadError
+fde_at section at = do
+  head ← head_at section.kind section.bytes at
+  fde_of_head section head
 
--- the entry that begins with a head
-abbrev pub entry_of_head : UnwindSectionType → SectionBaseAddresses → List ℕ → EntryHead → Result CieOrFde ReadError
-entry_of_head kind bases bytes (ZeroLength end) = Err NotFde
-entry_of_head kind bases bytes (Cie at end) = cie_fields kind bases (take end bytes) at end >>= λ cie. Ok (or.Cie cie)
-entry_of_head kind bases bytes (Fde named at end) = fde_of_head kind bases bytes (Fde named at end) >>= λ fde. Ok (or.Fde fde)
+-- the entry at an offset, of either kind
+abbrev pub entry_of_head : Section → EntryHead → Result CieOrFde ReadError
+entry_of_head section (ZeroLength end) = Err NotFde
+entry_of_head section (Cie at end) = cie_of_head section (Cie at end) >>= λ cie. Ok (or.Cie cie)
+entry_of_head section (Fde named at end) = fde_of_head section (Fde named at end) >>= λ fde. Ok (or.Fde fde)
 
--- the entry ends in the bytes, behind the offset
-abbrev pub EndsWithin : List ℕ → ℕ → EntryHead → Type 0
-EndsWithin bytes at (ZeroLength end) = (at < end) × (end ≤ length bytes)
-EndsWithin bytes at (Cie fields end) = (at < end) × (end ≤ length bytes)
-EndsWithin bytes at (Fde named fields end) = (at < end) × (end ≤ length bytes)
-
--- what a section's pointers count from; the start of `.debug_frame` counts as 0
-abbrev pub section_start : UnwindSectionType → BaseAddresses → ℕ
-section_start EhFrame bases = bases.eh_frame
-section_start DebugFrame bases = 0
-
-abbrev pub bases_of : UnwindSectionType → BaseAddresses → SectionBaseAddresses
-bases_of kind bases = record { section = section_start kind bases; text = bases.text; «data» = bases.got }
-
--- the entry ends in the bytes
-abbrev pub EndsBefore : List ℕ → EntryHead → Type 0
-EndsBefore bytes (ZeroLength end) = end ≤ length bytes
-EndsBefore bytes (Cie fields end) = end ≤ length bytes
-EndsBefore bytes (Fde named fields end) = end ≤ length bytes
+unfoldable pub entry_at : Section → ℕ → Result CieOrFde ReadError
+entry_at section at = do
+  head ← head_at section.kind section.bytes at
+  entry_of_head section head

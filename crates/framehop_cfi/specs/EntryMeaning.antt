@@ -6,6 +6,7 @@ use Rattle.framehop_cfi.specs.Raw.{raw_at, format_of}
 use Rattle.framehop_cfi.specs.Pointer.{pointer_at}
 use Rattle.framehop_cfi.specs.Augmentation.{terminator_at, augmentation_at}
 use Rattle.framehop_cfi.specs.Span.{span_at, is_zero_length}
+use Rattle.framehop_cfi.specs.Section.{Section}
 use Rattle.framehop_cfi.specs.Entry.{id_at, is_known_version, sizes_of, return_register_at, skipped_at}
 use Rattle.framehop_cfi.specs.declared.span.Span.{Span}
 use Rattle.framehop_cfi.specs.declared.pointer.SectionBaseAddresses.{SectionBaseAddresses}
@@ -14,6 +15,8 @@ use Rattle.framehop_cfi.specs.declared.entry.EntryHead.{EntryHead}
 use Rattle.framehop_cfi.specs.declared.entry.EntryHead.TheVariants.{Cie, Fde}
 use Rattle.framehop_cfi.specs.declared.entry.CommonInformationEntry.{CommonInformationEntry}
 use Rattle.framehop_cfi.specs.declared.entry.FrameDescriptionEntry.{FrameDescriptionEntry}
+use Rattle.framehop_cfi.specs.declared.entry.CieOrFde.{CieOrFde}
+use Rattle.framehop_cfi.specs.declared.entry.CieOrFde.TheVariants as or
 
 -- an entry stands at an offset: its length, which is not 0, and its id
 pub record Begins (kind : UnwindSectionType) (bytes : List ℕ) (at : ℕ) (span : Span) (head : EntryHead) : Type 0 where
@@ -44,24 +47,29 @@ pub record HasCieFields (kind : UnwindSectionType) (bases : SectionBaseAddresses
   })
 
 -- a CIE stands at an offset
-pub record IsCie (kind : UnwindSectionType) (bases : SectionBaseAddresses) (bytes : List ℕ) (at : ℕ) (cie : CommonInformationEntry) : Type 0 where
+pub record IsCie (section : Section) (at : ℕ) (cie : CommonInformationEntry) : Type 0 where
   pub span : Span
   pub fields : ℕ
-  pub begins : Begins kind bytes at span (Cie fields span.end)
-  pub has_fields : HasCieFields kind bases (take span.end bytes) fields cie
+  pub begins : Begins section.kind section.bytes at span (Cie fields span.end)
+  pub has_fields : HasCieFields section.kind section.bases (take span.end section.bytes) fields cie
   pub ends : cie.end ≡ span.end
 
 -- an FDE stands at an offset, and its CIE at the offset that it names
-pub record IsFde (kind : UnwindSectionType) (bases : SectionBaseAddresses) (bytes : List ℕ) (at : ℕ) (fde : FrameDescriptionEntry) : Type 0 where
+pub record IsFde (section : Section) (at : ℕ) (fde : FrameDescriptionEntry) : Type 0 where
   pub span : Span
   pub named : ℕ
   pub fields : ℕ
   pub range : ℕ
   pub augmentation_data : ℕ
-  pub begins : Begins kind bytes at span (Fde named fields span.end)
-  pub its_cie : IsCie kind bases bytes named fde.cie
+  pub begins : Begins section.kind section.bytes at span (Fde named fields span.end)
+  pub its_cie : IsCie section named fde.cie
   pub direct : nat_le 128 fde.cie.fde_pointer_encoding ≡ false
-  pub is_start : pointer_at bases fde.cie.fde_pointer_encoding (take span.end bytes) fields ≡ Ok (fde.initial_address, range)
-  pub is_range : raw_at (format_of fde.cie.fde_pointer_encoding) (take span.end bytes) range ≡ Ok (fde.address_range, augmentation_data)
-  pub is_augmentation : skipped_at fde.cie.has_augmentation_data (take span.end bytes) augmentation_data ≡ Ok fde.instructions
+  pub is_start : pointer_at section.bases fde.cie.fde_pointer_encoding (take span.end section.bytes) fields ≡ Ok (fde.initial_address, range)
+  pub is_range : raw_at (format_of fde.cie.fde_pointer_encoding) (take span.end section.bytes) range ≡ Ok (fde.address_range, augmentation_data)
+  pub is_augmentation : skipped_at fde.cie.has_augmentation_data (take span.end section.bytes) augmentation_data ≡ Ok fde.instructions
   pub ends : fde.end ≡ span.end
+
+-- an entry of either kind stands at an offset
+abbrev pub IsEntry : Section → ℕ → CieOrFde → Type 0
+IsEntry section at (or.Cie cie) = IsCie section at cie
+IsEntry section at (or.Fde fde) = IsFde section at fde

@@ -1,10 +1,10 @@
 -- The binary search table of `.eh_frame_hdr` (LSB, ".eh_frame_hdr").
-use Rattle.std.specs.Prelude.{ℕ, ◌+◌, ◌-◌, ◌*◌, ◌^◌, List, length, map, Option, Some, None, Result, Ok, Err, ◌==◌, ◌||◌, ◌&&◌, nat_le, nat_lt, if◌then◌else◌}
+use Rattle.std.specs.Prelude.{ℕ, ◌+◌, ◌-◌, ◌*◌, ◌^◌, ◌≡◌, List, length, map, Option, Some, None, Result, Ok, Err, ◌==◌, ◌||◌, ◌&&◌, nat_le, nat_lt, if◌then◌else◌}
 use Rattle.std.specs.List.{range_with_len}
 use Rattle.framehop_cfi.specs.Bytes.{Reading, ◌>>=◌, u8_at}
 use Rattle.framehop_cfi.specs.Raw.{raw_at, format_of}
 use Rattle.framehop_cfi.specs.Pointer.{pointer_at}
-use Rattle.framehop_cfi.specs.Place.{place_of}
+use Rattle.framehop_cfi.specs.Place.{place_of, IsPlace}
 use Rattle.framehop_cfi.specs.declared.pointer.SectionBaseAddresses.{SectionBaseAddresses}
 use Rattle.framehop_cfi.specs.Layout.{Layout}
 use Rattle.framehop_cfi.specs.declared.read_error.ReadError.{ReadError}
@@ -85,3 +85,24 @@ offset_from pointer address =
 abbrev pub fde_offset_of : SectionBaseAddresses → Layout → List ℕ → ℕ → Option ℕ
 fde_offset_of bases layout bytes address =
     offset_from layout.eh_frame_pointer (fde_of_row bases layout bytes (place_of (starts_of bases layout bytes) address))
+
+-- a header: what its pointers count from, and its bytes
+pub record Header : Type 0 where
+  pub bases : SectionBaseAddresses
+  pub bytes : List ℕ
+
+-- the offset of the FDE that a header has for an address; one that can't be read has none
+abbrev pub fde_offset_by : Header → Result Layout ReadError → ℕ → Option ℕ
+fde_offset_by header (Ok layout) address = fde_offset_of header.bases layout header.bytes address
+fde_offset_by header (Err error) address = None
+
+unfoldable pub fde_offset_in : Header → ℕ → Option ℕ
+fde_offset_in header address = fde_offset_by header (layout_of header.bases header.bytes) address
+
+-- what holds of that offset, however the starts lie: its row starts at or below the address, or is the first, and the next one starts above
+pub record IsOfRowFor (header : Header) (address : ℕ) (offset : Option ℕ) : Type 0 where
+  pub layout : Layout
+  pub row : ℕ
+  pub is_layout : layout_of header.bases header.bytes ≡ Ok layout
+  pub is_place : IsPlace (starts_of header.bases layout header.bytes) address row
+  pub is_offset : offset_from layout.eh_frame_pointer (fde_of_row header.bases layout header.bytes row) ≡ offset

@@ -3,13 +3,11 @@ pub mod Bytes
 pub mod Context
 pub mod Entries
 pub mod Entry
-pub mod EntryList
 pub mod EntryMeaning
 pub mod Header
 pub mod Instruction
 pub mod Layout
 pub mod Leb128
-pub mod Machine
 pub mod Outcome
 pub mod Place
 pub mod Pointer
@@ -18,5 +16,7 @@ pub mod Refusal
 pub mod Row
 pub mod RowAt
 pub mod RowMeaning
+pub mod Section
 pub mod SectionTable
 pub mod Span
+pub mod TableRows

@@ -2,8 +2,9 @@
 use Rattle.std.specs.Prelude.{ℕ, zero, suc, ◌+◌, ◌*◌, ◌^◌, Bool, false, List, [], length, take, Option, Some, None, Result, Ok, Err, nat_le, nat_lt, ◌&&◌, if◌then◌else◌}
 use Rattle.framehop_cfi.specs.Bytes.{◌>>=◌}
 use Rattle.framehop_cfi.specs.Instruction.{instruction_at}
-use Rattle.framehop_cfi.specs.Machine.{Machine, effect}
-use Rattle.framehop_cfi.specs.Row.{empty_row}
+use Rattle.framehop_cfi.specs.Section.{Section}
+use Rattle.framehop_cfi.specs.TableRows.{TableRows, effect}
+use Rattle.framehop_cfi.specs.Row.{Row, empty_row}
 use Rattle.framehop_cfi.specs.declared.storage.StorageLimits.{StorageLimits}
 use Rattle.framehop_cfi.specs.declared.pointer.SectionBaseAddresses.{SectionBaseAddresses}
 use Rattle.framehop_cfi.specs.declared.entry.CommonInformationEntry.{CommonInformationEntry}
@@ -14,7 +15,7 @@ use Rattle.framehop_cfi.specs.declared.read_error.ReadError.{ReadError}
 use Rattle.framehop_cfi.specs.declared.read_error.ReadError.TheVariants.{InvalidContext, NumberTooBig, NoRow}
 
 -- a list of instructions: its bytes, how they are read, and the address that is looked for (none in a CIE)
-pub record Program : Type 0 where
+pub record InstructionList : Type 0 where
   pub cie : CommonInformationEntry
   pub bases : SectionBaseAddresses
   pub bytes : List ℕ
@@ -38,42 +39,47 @@ abbrev pub is_beyond : Option ℕ → ℕ → Bool
 is_beyond None location = false
 is_beyond (Some address) location = nat_lt address location
 
--- what the instructions from an offset on make of the machine: up to the end, or to the first move beyond the address
-abbrev pub run : Option StorageLimits → Program → ℕ → ℕ → ℕ → Machine → Result Machine ReadError
-run limits program zero at location machine = Ok machine
-run limits program (suc n) at location machine =
-    if nat_le (length program.bytes) at then Ok machine
-    else (instruction_at program.cie program.bases program.bytes at >>= λ read.
-    location_after program.cie program.address location read.0 >>= λ moved.
-    if is_beyond program.address moved then Ok machine
-    else (effect limits read.0 machine >>= run limits program n read.1 moved))
+-- what the instructions from an offset on make of the rows: up to the end, or to the first move beyond the address
+abbrev pub run : Option StorageLimits → InstructionList → ℕ → ℕ → ℕ → TableRows → Result TableRows ReadError
+run limits code zero at location rows = Ok rows
+run limits code (suc n) at location rows =
+    if nat_le (length code.bytes) at then Ok rows
+    else (instruction_at code.cie code.bases code.bytes at >>= λ read.
+    location_after code.cie code.address location read.0 >>= λ moved.
+    if is_beyond code.address moved then Ok rows
+    else (effect limits read.0 rows >>= run limits code n read.1 moved))
 
 -- all the instructions from an offset on
-unfoldable pub run_from : Option StorageLimits → Program → ℕ → ℕ → Machine → Result Machine ReadError
-run_from limits program at location machine = run limits program (suc (length program.bytes)) at location machine
+unfoldable pub run_from : Option StorageLimits → InstructionList → ℕ → ℕ → TableRows → Result TableRows ReadError
+run_from limits code at location rows = run limits code (suc (length code.bytes)) at location rows
 
 -- nothing is known before the CIE's instructions; then its row is the initial one
-abbrev pub start : Machine
+abbrev pub start : TableRows
 start = record { initial = None; row = empty_row; remembered = [] }
 
-abbrev pub begun : Machine → Machine
-begun machine = record machine { initial = Some machine.row }
+abbrev pub begun : TableRows → TableRows
+begun rows = record rows { initial = Some rows.row }
 
 -- a CIE's instructions, and an FDE's
-abbrev pub program_of_cie : SectionBaseAddresses → List ℕ → CommonInformationEntry → Program
-program_of_cie bases bytes cie = record { cie = cie; bases = bases; bytes = take cie.end bytes; address = None }
+abbrev pub instructions_of_cie : Section → CommonInformationEntry → InstructionList
+instructions_of_cie section cie = record { cie = cie; bases = section.bases; bytes = take cie.end section.bytes; address = None }
 
-abbrev pub program_of_fde : SectionBaseAddresses → List ℕ → FrameDescriptionEntry → ℕ → Program
-program_of_fde bases bytes fde address = record { cie = fde.cie; bases = bases; bytes = take fde.end bytes; address = Some address }
+abbrev pub instructions_of_fde : Section → FrameDescriptionEntry → ℕ → InstructionList
+instructions_of_fde section fde address = record { cie = fde.cie; bases = section.bases; bytes = take fde.end section.bytes; address = Some address }
 
--- the FDE covers the address
+-- the FDE covers the address; one beyond 64 bits is covered by none
 abbrev pub covers : FrameDescriptionEntry → ℕ → Bool
-covers fde address = nat_le fde.initial_address address && nat_lt address (fde.initial_address + fde.address_range)
+covers fde address =
+    nat_lt address (2 ^ 64) && nat_le fde.initial_address address && nat_lt address (fde.initial_address + fde.address_range)
 
--- the machine after both lists
-unfoldable pub machine_at : Option StorageLimits → SectionBaseAddresses → List ℕ → FrameDescriptionEntry → ℕ → Result Machine ReadError
-machine_at limits bases bytes fde address =
+-- what both lists leave: the CIE's, and then the FDE's up to the address
+unfoldable pub rows_at : Option StorageLimits → Section → FrameDescriptionEntry → ℕ → Result TableRows ReadError
+rows_at limits section fde address =
     if covers fde address then (
-    run_from limits (program_of_cie bases bytes fde.cie) fde.cie.instructions 0 start >>= λ machine.
-    run_from limits (program_of_fde bases bytes fde address) fde.instructions fde.initial_address (begun machine))
+    run_from limits (instructions_of_cie section fde.cie) fde.cie.instructions 0 start >>= λ rows.
+    run_from limits (instructions_of_fde section fde address) fde.instructions fde.initial_address (begun rows))
     else Err NoRow
+
+-- the row of an address
+unfoldable pub row_at : Option StorageLimits → Section → FrameDescriptionEntry → ℕ → Result Row ReadError
+row_at limits section fde address = rows_at limits section fde address >>= λ rows. Ok rows.row

@@ -2,11 +2,19 @@
 //!
 //! A reader is given the section's bytes and an offset into them, and answers what stands there
 //! with the offset behind it. It reads nothing past the end of the bytes that it is given.
-ghost use Rattle.std.specs.Prelude.{◌≡◌, ◌≢◌, Err, IfErr, ◌<◌, IfOk};
+ghost use Rattle.std.specs.Prelude.{◌≡◌, ◌≢◌, Err, IfErr, ◌<◌, IfOk, take};
 ghost use Rattle.framehop_cfi.specs.Refusal.{IsSliceRefusal};
 ghost use Rattle.framehop_cfi.specs.Bytes.{u8_at, u16_at, u32_at, u64_at};
 
 use crate::read_error::ReadError;
+
+/// The bytes in front of an end, or all of them where they end before it.
+#[inline]
+pub fn front(bytes: &[u8], end: usize) -> &[u8]
+    ensures { result.now ≡ take end bytes.now }
+{
+    &bytes[..end.min(bytes.len())]
+}
 
 /// A byte.
 #[inline]

@@ -1,10 +1,12 @@
 //! The row of an address: the instructions of a CIE and of an FDE, run up to it (DWARF 5 section 6.4.3).
-ghost use Rattle.std.specs.Prelude.{◌≡◌, ◌≢◌, ◌≤◌, ◌*◌, length, IfOk, IfErr, OnOk, OnErr, IsErrOf, None, Err, vec_len};
-ghost use Rattle.framehop_cfi.specs.Machine.{Machine, effect, setting, restoring, remembering, recalling};
+ghost use Rattle.std.specs.Prelude.{◌≡◌, ◌≢◌, ◌*◌, IfOk, IfErr, OnOk, OnErr, IsErrOf, None, Err, vec_len};
+ghost use Rattle.framehop_cfi.specs.TableRows.{TableRows, effect, setting, restoring, remembering, recalling};
 ghost use Rattle.framehop_cfi.specs.Outcome.{Becomes};
-ghost use Rattle.framehop_cfi.specs.RowMeaning.{IsMachineAt};
-ghost use Rattle.framehop_cfi.specs.RowAt.{location_after, risen, is_beyond, run_from, machine_at, start, begun, covers};
+ghost use Rattle.framehop_cfi.specs.Row.{Row};
+ghost use Rattle.framehop_cfi.specs.RowMeaning.{IsRowAt};
+ghost use Rattle.framehop_cfi.specs.RowAt.{location_after, risen, is_beyond, run_from, rows_at, row_at, start, begun, covers};
 
+use crate::bytes::front;
 use crate::entry::{CommonInformationEntry, FrameDescriptionEntry, UnwindSection};
 use crate::instruction::CallFrameInstruction;
 use crate::pointer::SectionBaseAddresses;
@@ -32,15 +34,15 @@ pub struct UnwindContext<S: UnwindContextStorage> {
 }
 
 impl<S: UnwindContextStorage> Model for UnwindContext<S> {
-    ghost use Rattle.framehop_cfi.specs.Machine.{Machine};
-    ghost use Rattle.framehop_cfi.specs.Context.{initial_of, HasRows};
+    ghost use Rattle.framehop_cfi.specs.TableRows.{TableRows};
+    ghost use Rattle.framehop_cfi.specs.Context.{initial_of, HasSpareRows};
     ghost use Rattle.std.specs.Prelude.{vec_len, take};
 
-    ghost Value = { Machine };
+    ghost Value = { TableRows };
 
     ghost view = { λ context. record { initial = initial_of context.has_initial context.initial; row = context.row; remembered = take context.count context.remembered.items } };
 
-    ghost invariant = { λ context. HasRows S.limits context.count (vec_len context.remembered) };
+    ghost invariant = { λ context. HasSpareRows S.limits context.count (vec_len context.remembered) };
 }
 
 impl<S: UnwindContextStorage> UnwindContext<S> {
@@ -294,28 +296,24 @@ impl<S: UnwindContextStorage> UnwindContext<S> {
         fde: &FrameDescriptionEntry,
         address: u64,
     ) -> Result<(), ReadError>
-        requires cie { fde.now.cie.end ≤ length section.now.bytes.now }
-        requires fde { fde.now.end ≤ length section.now.bytes.now }
-        ensures row { OnOk result (IsMachineAt S.limits section.now.bases section.now.bytes.now fde.now address self.new) }
+        ensures row { OnOk result (IsRowAt S.limits section.now fde.now address self.new.row) }
         ensures none { IfErr result (λ error. error ≢ ReadError.OutOfMemory →
-            (machine : Machine) → IsMachineAt S.limits section.now.bases section.now.bytes.now fde.now address machine → ⊥) }
-        ensures exact { Becomes result self.new (machine_at S.limits section.now.bases section.now.bytes.now fde.now address) }
+            (row : Row) → IsRowAt S.limits section.now fde.now address row → ⊥) }
+        ensures exact { Becomes result self.new.row (row_at S.limits section.now fde.now address) }
         ensures memory { IsErrOf result ReadError.OutOfMemory → S.limits ≡ None }
     {
         self.run_fde(section, fde, address)
     }
 
     /// Runs the instructions of the FDE's CIE, and then its own up to the address.
-    #[tactic(auto, unfolding(crate::specs::RowAt::machine_at))]
+    #[tactic(auto, unfolding(crate::specs::RowAt::rows_at))]
     fn run_fde(
         &mut self,
         section: &UnwindSection,
         fde: &FrameDescriptionEntry,
         address: u64,
     ) -> Result<(), ReadError>
-        requires cie { fde.now.cie.end ≤ length section.now.bytes.now }
-        requires fde { fde.now.end ≤ length section.now.bytes.now }
-        ensures exact { Becomes result self.new (machine_at S.limits section.now.bases section.now.bytes.now fde.now address) }
+        ensures exact { Becomes result self.new (rows_at S.limits section.now fde.now address) }
         ensures memory { IsErrOf result ReadError.OutOfMemory → S.limits ≡ None }
     {
         if !covers(fde, address) {
@@ -323,10 +321,10 @@ impl<S: UnwindContextStorage> UnwindContext<S> {
         }
         self.clear();
         let cie = &fde.cie;
-        let bytes = &section.bytes[..cie.end];
+        let bytes = front(section.bytes, cie.end);
         self.run(cie, &section.bases, bytes, cie.instructions, 0, None)?;
         self.begin_fde()?;
-        let bytes = &section.bytes[..fde.end];
+        let bytes = front(section.bytes, fde.end);
         self.run(
             cie,
             &section.bases,

@@ -1,14 +1,16 @@
 //! The entries of a call frame section: CIEs and FDEs (DWARF 5 section 6.4.1; LSB, `.eh_frame`).
-ghost use Rattle.std.specs.Prelude.{◌≡◌, ◌≢◌, Err, IfErr, ◌≤◌, ◌<◌, ℕ, IfOk, length, take};
+ghost use Rattle.std.specs.Prelude.{◌≡◌, ◌≢◌, Err, IfErr, IfOk, take};
 ghost use Rattle.framehop_cfi.specs.EntryMeaning.{IsCie, IsFde};
-ghost use Rattle.framehop_cfi.specs.Entry.{eh_frame_id, debug_frame_id, head_at, cie_at, fde_at, cie_fields, fde_fields, sizes_at, sizes_of, return_register_at, alignments_at, skipped_at, EndsWithin, EndsBefore, entry_of_head, bases_of, is_known_version, versioned_fields, fde_range};
+ghost use Rattle.framehop_cfi.specs.Section.{section_of};
+ghost use Rattle.framehop_cfi.specs.Entry.{eh_frame_id, debug_frame_id, id_at, head_at, cie_at, fde_at, cie_fields, fde_fields, sizes_at, sizes_of, return_register_at, alignments_at, skipped_at, is_known_version, versioned_fields, fde_range};
 
 use crate::augmentation::{find_terminator, read_counted};
-use crate::bytes::{read_u8, read_u32, read_u64};
+use crate::bytes::{front, read_u8, read_u32, read_u64};
 use crate::leb128::{read_sleb128, read_uleb128};
 use crate::pointer::{BaseAddresses, DW_EH_PE_INDIRECT, SectionBaseAddresses, read_raw_pointer};
 use crate::read_error::ReadError;
 use crate::span::{Span, read_span};
+use std::marker::Model;
 
 /// Which of the two call frame sections the bytes are.
 #[derive(Clone, Copy, Debug, PartialEq, Eq)]
@@ -68,7 +70,7 @@ pub enum CieOrFde {
 }
 
 /// A call frame section.
-#[derive(Clone, Copy)]
+#[derive(Drop)]
 pub struct UnwindSection<'a> {
     /// The section's bytes.
     pub bytes: &'a [u8],
@@ -78,6 +80,14 @@ pub struct UnwindSection<'a> {
     pub bases: SectionBaseAddresses,
 }
 
+impl<'a> Model for UnwindSection<'a> {
+    ghost use Rattle.framehop_cfi.specs.Section.{Section};
+
+    ghost Value = { Section };
+
+    ghost view = { λ section. record { kind = section.section_type; bases = section.bases; bytes = section.bytes.now } };
+}
+
 impl<'a> UnwindSection<'a> {
     /// The section of these bytes, in a module that lies at these addresses.
     pub fn new(
@@ -85,9 +95,7 @@ impl<'a> UnwindSection<'a> {
         section_type: UnwindSectionType,
         bases: &BaseAddresses,
     ) -> UnwindSection<'a>
-        ensures bytes { result.bytes.now ≡ bytes.now }
-        ensures section_type { result.section_type ≡ section_type }
-        ensures bases { result.bases ≡ bases_of section_type bases.now }
+        ensures { result ≡ section_of section_type bases.now bytes.now }
     {
         let section = match section_type {
             UnwindSectionType::EhFrame => bases.eh_frame,
@@ -104,21 +112,35 @@ impl<'a> UnwindSection<'a> {
         }
     }
 
+    /// Returns the section's bytes.
+    pub fn bytes(&self) -> &[u8]
+        ensures { result.now ≡ self.now.bytes }
+    {
+        self.bytes
+    }
+
     /// What stands at an offset.
     #[tactic(auto, unfolding(crate::specs::Entry::head_at))]
     pub fn head_at(&self, at: usize) -> Result<EntryHead, ReadError>
-        ensures exact { result ≡ head_at self.now.section_type self.now.bytes.now at }
-        ensures within { IfOk result (EndsWithin self.now.bytes.now at) }
+        ensures exact { result ≡ head_at self.now.kind self.now.bytes at }
         ensures memory { result ≢ Err ReadError.OutOfMemory }
     {
         let span = read_span(self.bytes, at)?;
         if span.is_zero_length() {
             return Ok(EntryHead::ZeroLength(span.end));
         }
-        let entry = &self.bytes[..span.end];
+        self.head_of(&span)
+    }
+
+    /// The id of the entry in a span, whose length is not 0: which kind it is.
+    pub fn head_of(&self, span: &Span) -> Result<EntryHead, ReadError>
+        ensures exact { result ≡ id_at self.now.kind (take span.now.end self.now.bytes) span.now }
+        ensures memory { result ≢ Err ReadError.OutOfMemory }
+    {
+        let entry = front(self.bytes, span.end);
         match self.section_type {
-            UnwindSectionType::EhFrame => read_eh_frame_id(entry, &span),
-            UnwindSectionType::DebugFrame => read_debug_frame_id(entry, &span),
+            UnwindSectionType::EhFrame => read_eh_frame_id(entry, span),
+            UnwindSectionType::DebugFrame => read_debug_frame_id(entry, span),
         }
     }
 }
@@ -127,7 +149,6 @@ impl<'a> UnwindSection<'a> {
 #[tactic(auto, unfolding(crate::specs::Entry::eh_frame_id))]
 fn read_eh_frame_id(entry: &[u8], span: &Span) -> Result<EntryHead, ReadError>
     ensures exact { result ≡ eh_frame_id entry.now span.now }
-    ensures within { (at : ℕ) → at < span.now.end → span.now.end ≤ length entry.now → IfOk result (EndsWithin entry.now at) }
     ensures memory { result ≢ Err ReadError.OutOfMemory }
 {
     let (id, next) = read_u32(entry, span.contents)?;
@@ -145,7 +166,6 @@ fn read_eh_frame_id(entry: &[u8], span: &Span) -> Result<EntryHead, ReadError>
 #[tactic(auto, unfolding(crate::specs::Entry::short_id, crate::specs::Entry::long_id))]
 fn read_debug_frame_id(entry: &[u8], span: &Span) -> Result<EntryHead, ReadError>
     ensures exact { result ≡ debug_frame_id entry.now span.now }
-    ensures within { (at : ℕ) → at < span.now.end → span.now.end ≤ length entry.now → IfOk result (EndsWithin entry.now at) }
     ensures memory { result ≢ Err ReadError.OutOfMemory }
 {
     if span.offset_size == 4 {
@@ -201,10 +221,9 @@ impl<'a> UnwindSection<'a> {
     ///
     /// An offset of an FDE or of a zero length is refused by `NotCie`.
     pub fn cie_from_offset(&self, at: usize) -> Result<CommonInformationEntry, ReadError>
-        ensures found { IfOk result (IsCie self.now.section_type self.now.bases self.now.bytes.now at) }
-        ensures none { IfErr result (λ _. (cie : CommonInformationEntry) → IsCie self.now.section_type self.now.bases self.now.bytes.now at cie → ⊥) }
-        ensures exact { result ≡ cie_at self.now.section_type self.now.bases self.now.bytes.now at }
-        ensures within { IfOk result (λ cie. cie.end ≤ length self.now.bytes.now) }
+        ensures found { IfOk result (IsCie self.now at) }
+        ensures none { IfErr result (λ _. (cie : CommonInformationEntry) → IsCie self.now at cie → ⊥) }
+        ensures exact { result ≡ cie_at self.now at }
         ensures memory { result ≢ Err ReadError.OutOfMemory }
     {
         self.read_cie_at(at)
@@ -213,8 +232,7 @@ impl<'a> UnwindSection<'a> {
     /// The CIE at an offset, read field by field.
     #[tactic(auto, unfolding(crate::specs::Entry::cie_at))]
     fn read_cie_at(&self, at: usize) -> Result<CommonInformationEntry, ReadError>
-        ensures exact { result ≡ cie_at self.now.section_type self.now.bases self.now.bytes.now at }
-        ensures within { IfOk result (λ cie. cie.end ≤ length self.now.bytes.now) }
+        ensures exact { result ≡ cie_at self.now at }
         ensures memory { result ≢ Err ReadError.OutOfMemory }
     {
         match self.head_at(at)? {
@@ -223,15 +241,14 @@ impl<'a> UnwindSection<'a> {
         }
     }
 
-    /// The CIE whose fields begin behind its id and end with the entry.
+    /// The CIE whose fields begin behind its id and end with the entry, or with the section.
     #[tactic(auto, unfolding(crate::specs::Entry::cie_fields))]
     pub fn read_cie(&self, fields: usize, end: usize) -> Result<CommonInformationEntry, ReadError>
-        requires { end ≤ length self.now.bytes.now }
-        ensures exact { result ≡ cie_fields self.now.section_type self.now.bases (take end self.now.bytes.now) fields end }
+        ensures exact { result ≡ cie_fields self.now.kind self.now.bases (take end self.now.bytes) fields end }
         ensures end { IfOk result (λ cie. cie.end ≡ end) }
         ensures memory { result ≢ Err ReadError.OutOfMemory }
     {
-        let entry = &self.bytes[..end];
+        let entry = front(self.bytes, end);
         let (version, next) = read_u8(entry, fields)?;
         if !is_known_version(version) {
             return Err(ReadError::UnknownVersion);
@@ -248,7 +265,7 @@ impl<'a> UnwindSection<'a> {
         at: usize,
         end: usize,
     ) -> Result<CommonInformationEntry, ReadError>
-        ensures exact { result ≡ versioned_fields self.now.section_type self.now.bases version entry.now at end }
+        ensures exact { result ≡ versioned_fields self.now.kind self.now.bases version entry.now at end }
         ensures end { IfOk result (λ cie. cie.end ≡ end) }
         ensures memory { result ≢ Err ReadError.OutOfMemory }
     {
@@ -260,7 +277,7 @@ impl<'a> UnwindSection<'a> {
     /// The sizes of addresses and of segment selectors, which version 4 has in `.debug_frame`: the
     /// offset behind them.
     fn skip_sizes(&self, version: u8, entry: &[u8], at: usize) -> Result<usize, ReadError>
-        ensures exact { result ≡ sizes_of self.now.section_type version entry.now at }
+        ensures exact { result ≡ sizes_of self.now.kind version entry.now at }
         ensures memory { result ≢ Err ReadError.OutOfMemory }
     {
         match self.section_type {
@@ -297,34 +314,13 @@ impl<'a> UnwindSection<'a> {
         })
     }
 
-    /// The entry at an offset that begins with a head.
-    pub fn entry_of_head(&self, head: EntryHead) -> Result<CieOrFde, ReadError>
-        requires { EndsBefore self.now.bytes.now head }
-        ensures exact { result ≡ entry_of_head self.now.section_type self.now.bases self.now.bytes.now head }
-        ensures memory { result ≢ Err ReadError.OutOfMemory }
-    {
-        match head {
-            EntryHead::ZeroLength(_) => Err(ReadError::NotFde),
-            EntryHead::Cie(fields, end) => {
-                let cie = self.read_cie(fields, end)?;
-                Ok(CieOrFde::Cie(cie))
-            }
-            EntryHead::Fde(named, fields, end) => {
-                let cie = self.read_cie_at(named)?;
-                let fde = self.read_fde(&cie, fields, end)?;
-                Ok(CieOrFde::Fde(fde))
-            }
-        }
-    }
-
     /// The FDE at an offset, with the CIE at the offset that it names.
     ///
     /// An offset of a CIE or of a zero length is refused by `NotFde`.
     pub fn fde_from_offset(&self, at: usize) -> Result<FrameDescriptionEntry, ReadError>
-        ensures found { IfOk result (IsFde self.now.section_type self.now.bases self.now.bytes.now at) }
-        ensures none { IfErr result (λ _. (fde : FrameDescriptionEntry) → IsFde self.now.section_type self.now.bases self.now.bytes.now at fde → ⊥) }
-        ensures exact { result ≡ fde_at self.now.section_type self.now.bases self.now.bytes.now at }
-        ensures within { IfOk result (λ fde. (fde.end ≤ length self.now.bytes.now) × (fde.cie.end ≤ length self.now.bytes.now)) }
+        ensures found { IfOk result (IsFde self.now at) }
+        ensures none { IfErr result (λ _. (fde : FrameDescriptionEntry) → IsFde self.now at fde → ⊥) }
+        ensures exact { result ≡ fde_at self.now at }
         ensures memory { result ≢ Err ReadError.OutOfMemory }
     {
         self.read_fde_at(at)
@@ -333,8 +329,7 @@ impl<'a> UnwindSection<'a> {
     /// The FDE at an offset, read field by field.
     #[tactic(auto, unfolding(crate::specs::Entry::fde_at))]
     fn read_fde_at(&self, at: usize) -> Result<FrameDescriptionEntry, ReadError>
-        ensures exact { result ≡ fde_at self.now.section_type self.now.bases self.now.bytes.now at }
-        ensures within { IfOk result (λ fde. (fde.end ≤ length self.now.bytes.now) × (fde.cie.end ≤ length self.now.bytes.now)) }
+        ensures exact { result ≡ fde_at self.now at }
         ensures memory { result ≢ Err ReadError.OutOfMemory }
     {
         match self.head_at(at)? {
@@ -346,22 +341,22 @@ impl<'a> UnwindSection<'a> {
         }
     }
 
-    /// The FDE of that CIE whose fields begin behind its CIE's offset and end with the entry.
+    /// The FDE of that CIE whose fields begin behind its CIE's offset and end with the entry, or with the
+    /// section.
     pub fn read_fde(
         &self,
         cie: &CommonInformationEntry,
         fields: usize,
         end: usize,
     ) -> Result<FrameDescriptionEntry, ReadError>
-        requires { end ≤ length self.now.bytes.now }
-        ensures exact { result ≡ fde_fields self.now.bases cie.now (take end self.now.bytes.now) fields end }
+        ensures exact { result ≡ fde_fields self.now.bases cie.now (take end self.now.bytes) fields end }
         ensures end { IfOk result (λ fde. (fde.end ≡ end) × (fde.cie ≡ cie.now)) }
         ensures memory { result ≢ Err ReadError.OutOfMemory }
     {
         if cie.fde_pointer_encoding >= DW_EH_PE_INDIRECT {
             return Err(ReadError::BadEncoding);
         }
-        self.read_range(cie, &self.bytes[..end], fields, end)
+        self.read_range(cie, front(self.bytes, end), fields, end)
     }
 
     /// An FDE's range, and what stands behind it.

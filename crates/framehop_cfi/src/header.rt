@@ -1,6 +1,7 @@
 //! The binary search table of `.eh_frame_hdr` (LSB, `.eh_frame_hdr`), read in place.
-ghost use Rattle.std.specs.Prelude.{◌≡◌, ◌<◌, ◌≤◌, ◌+◌, ◌*◌, ◌^◌, IfOk, IfSome, IfNone, IsErr, Ok};
-ghost use Rattle.framehop_cfi.specs.Header.{size_of_format, table_size, encoded_at, encodings_at, layout_of, start_of_row, fde_of_row, starts_of, fde_offset_of, value_of};
+ghost use Rattle.std.specs.Prelude.{◌≡◌, ◌<◌, ◌≤◌, ◌+◌, ◌*◌, ◌^◌, IfOk, IfSome, IfNone, IsOk, IsErr};
+ghost use Rattle.framehop_cfi.specs.Place.{place_of, IsPlace};
+ghost use Rattle.framehop_cfi.specs.Header.{size_of_format, table_size, encoded_at, encodings_at, layout_of, start_of_row, fde_of_row, starts_of, fde_offset_of, fde_offset_in, IsOfRowFor, value_of};
 ghost use Rattle.framehop_cfi.specs.Pointer.{pointer_at};
 
 use crate::bytes::read_u8;
@@ -175,33 +176,15 @@ impl TableLayout {
     }
 }
 
-/// A header and its table, over the section's bytes.
+/// The table of a header, over the section's bytes.
 #[derive(Clone, Copy)]
-pub struct EhFrameHdr<'a> {
-    /// The header's bytes.
-    pub bytes: &'a [u8],
-    /// What its pointers count from.
-    pub bases: SectionBaseAddresses,
-    /// What the header tells.
-    pub layout: TableLayout,
+struct Table<'a> {
+    bytes: &'a [u8],
+    bases: SectionBaseAddresses,
+    layout: TableLayout,
 }
 
-impl<'a> EhFrameHdr<'a> {
-    /// The header of a section, or `None` where it is not one that is read here.
-    pub fn parse(bytes: &'a [u8], bases: SectionBaseAddresses) -> Option<EhFrameHdr<'a>>
-        ensures read { IfSome result (λ header. (layout_of bases bytes.now ≡ Ok header.layout) × (header.bases ≡ bases) × (header.bytes.now ≡ bytes.now)) }
-        ensures none { IfNone result (IsErr (layout_of bases bytes.now)) }
-    {
-        match TableLayout::parse(bytes, &bases) {
-            Ok(layout) => Some(EhFrameHdr {
-                bytes,
-                bases,
-                layout,
-            }),
-            Err(_) => None,
-        }
-    }
-
+impl<'a> Table<'a> {
     /// The address of the FDE in a row, an SVMA.
     #[tactic(auto, unfolding(crate::specs::Header::fde_of_row))]
     fn fde_address(&self, index: usize) -> u64
@@ -227,8 +210,9 @@ impl<'a> EhFrameHdr<'a> {
 
     /// The offset in `.eh_frame` of the FDE in the row at an address's place. The FDE may not cover
     /// the address.
-    pub fn fde_offset_for_address(&self, address: u64) -> Option<u32>
-        ensures { result ≡ fde_offset_of self.now.bases self.now.layout self.now.bytes.now address }
+    fn fde_offset_for_address(&self, address: u64) -> Option<u32>
+        ensures exact { result ≡ fde_offset_of self.now.bases self.now.layout self.now.bytes.now address }
+        ensures law { IsPlace (starts_of self.now.bases self.now.layout self.now.bytes.now) address (place_of (starts_of self.now.bases self.now.layout self.now.bytes.now) address) }
     {
         let rows = self.layout.count();
         prove!(rows > 0);
@@ -238,8 +222,8 @@ impl<'a> EhFrameHdr<'a> {
     }
 }
 
-impl<'a> Starts for EhFrameHdr<'a> {
-    ghost starts = { λ header. starts_of header.bases header.layout header.bytes.now };
+impl<'a> Starts for Table<'a> {
+    ghost starts = { λ table. starts_of table.bases table.layout table.bytes.now };
 
     #[tactic(auto, unfolding(crate::specs::Header::starts_of))]
     fn count(&self) -> usize {
@@ -249,5 +233,52 @@ impl<'a> Starts for EhFrameHdr<'a> {
     #[tactic(auto, unfolding(crate::specs::Header::starts_of, crate::specs::Header::start_of_row))]
     fn start(&self, index: usize) -> u64 {
         self.number_at(self.layout.row(index))
+    }
+}
+
+/// A header that can be read, over the section's bytes.
+#[derive(Drop)]
+pub struct EhFrameHdr<'a> {
+    table: Table<'a>,
+}
+
+impl<'a> Model for EhFrameHdr<'a> {
+    ghost use Rattle.framehop_cfi.specs.Header.{Header, layout_of};
+    ghost use Rattle.std.specs.Prelude.{◌≡◌, Ok};
+
+    ghost Value = { Header };
+
+    ghost view = { λ header. record { bases = header.table.bases; bytes = header.table.bytes.now } };
+
+    ghost invariant = { λ header. layout_of header.table.bases header.table.bytes.now ≡ Ok header.table.layout };
+}
+
+impl<'a> EhFrameHdr<'a> {
+    /// The header of a section, or `None` where it is not one that is read here.
+    pub fn parse(bytes: &'a [u8], bases: SectionBaseAddresses) -> Option<EhFrameHdr<'a>>
+        ensures read { IfSome result (λ header. header ≡ record { bases = bases; bytes = bytes.now }) }
+        ensures some { IfSome result (λ _. IsOk (layout_of bases bytes.now)) }
+        ensures none { IfNone result (IsErr (layout_of bases bytes.now)) }
+    {
+        match TableLayout::parse(bytes, &bases) {
+            Ok(layout) => Some(EhFrameHdr {
+                table: Table {
+                    bytes,
+                    bases,
+                    layout,
+                },
+            }),
+            Err(_) => None,
+        }
+    }
+
+    /// The offset in `.eh_frame` of the FDE in the row at an address's place. The FDE may not cover
+    /// the address.
+    #[tactic(auto, unfolding(crate::specs::Header::fde_offset_in))]
+    pub fn fde_offset_for_address(&self, address: u64) -> Option<u32>
+        ensures exact { result ≡ fde_offset_in self.now address }
+        ensures law { IsOfRowFor self.now address result }
+    {
+        self.table.fde_offset_for_address(address)
     }
 }

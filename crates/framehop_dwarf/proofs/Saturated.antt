@@ -1,12 +1,12 @@
 -- An address beyond 64 bits has the place of the last one of 64 bits.
-use Rattle.std.proofs.Common.{◌≡◌, ℕ, zero, suc, ◌+◌, ◌-◌, ◌*◌, ◌/◌, ◌<◌, ◌≤◌, ◌^◌, ◌%◌, min, List, length, get_or, refl, ap, arith, Result, Ok, Err, leb, if◌then◌else◌, inl, inr}
+use Rattle.std.proofs.Common.{◌≡◌, ℕ, zero, suc, ◌+◌, ◌-◌, ◌*◌, ◌/◌, ◌<◌, ◌≤◌, ◌^◌, ◌%◌, min, List, length, get_or, refl, ap, arith, Result, Ok, Err, leb, Option, if◌then◌else◌, inl, inr}
 use Rattle.std.proofs.lemmas.Bool.{le-leb, cases_lt}
 use Rattle.framehop_cfi.specs.Bytes.{Reading, ◌>>=◌}
 use Rattle.framehop_cfi.specs.Raw.{raw_at, format_of}
 use Rattle.framehop_cfi.specs.Pointer.{pointer_at, base_of, application_of}
 use Rattle.framehop_cfi.specs.Place.{halved, place_of}
 use Rattle.framehop_cfi.specs.Layout.{Layout}
-use Rattle.framehop_cfi.specs.Header.{value_of, start_of_row, starts_of, fde_offset_of}
+use Rattle.framehop_cfi.specs.Header.{value_of, start_of_row, starts_of, layout_of, Header, fde_offset_by, fde_offset_in, IsOfRowFor}
 use Rattle.framehop_cfi.proofs.Table.{get_or-starts_of, length-starts_of}
 use Rattle.std.proofs.lemmas.List.{get_or_past}
 use Rattle.framehop_cfi.specs.declared.pointer.SectionBaseAddresses.{SectionBaseAddresses}
@@ -43,10 +43,39 @@ starts-fit bases layout bytes i =
       | inr past ↦ (let long = length-starts_of bases layout bytes in let e = get_or_past (starts_of bases layout bytes) i 0 (omega arith) in omega arith)
     ]
 
--- the FDE of an address is that of the address cut to 64 bits
-pub fde_offset_of-cut : (bases : SectionBaseAddresses) (layout : Layout) (bytes : List ℕ) (address cut : ℕ) → cut ≡ min address (2 ^ 64 - 1) → fde_offset_of bases layout bytes cut ≡ fde_offset_of bases layout bytes address
-fde_offset_of-cut bases layout bytes address cut is =
-    elim (cases_lt address (2 ^ 64)) as (λ _. fde_offset_of bases layout bytes cut ≡ fde_offset_of bases layout bytes address) [
+-- the address cut to 64 bits
+abbrev Cut : ℕ → ℕ → Type 0
+Cut address cut = cut ≡ min address (2 ^ 64 - 1)
+
+same-place : (bases : SectionBaseAddresses) (layout : Layout) (bytes : List ℕ) (address cut : ℕ) → Cut address cut → place_of (starts_of bases layout bytes) cut ≡ place_of (starts_of bases layout bytes) address
+same-place bases layout bytes address cut is =
+    elim (cases_lt address (2 ^ 64)) as (λ _. place_of (starts_of bases layout bytes) cut ≡ place_of (starts_of bases layout bytes) address) [
       | inl fits ↦ (let e : cut ≡ address = omega arith in rw e refl)
-      | inr beyond ↦ (let e = place_of-past (starts_of bases layout bytes) cut address (starts-fit bases layout bytes) (omega arith) (omega arith) in rw e refl)
+      | inr beyond ↦ place_of-past (starts_of bases layout bytes) cut address (starts-fit bases layout bytes) (omega arith) (omega arith)
     ]
+
+by-layout : (header : Header) (layout : Result Layout ReadError) (address cut : ℕ) → Cut address cut → fde_offset_by header layout cut ≡ fde_offset_by header layout address
+by-layout header (Ok layout) address cut is = rw (same-place header.bases layout header.bytes address cut is) refl
+by-layout header (Err error) address cut is = refl
+
+-- the FDE of an address is that of the address cut to 64 bits
+pub fde_offset_in-cut : (header : Header) (address cut : ℕ) → Cut address cut → fde_offset_in header cut ≡ fde_offset_in header address
+unfolding fde_offset_in
+fde_offset_in-cut header address cut is = by-layout header (layout_of header.bases header.bytes) address cut is
+
+-- the row of the cut address is one of the address
+pub row-cut : (header : Header) (address cut : ℕ) (offset : Option ℕ) → Cut address cut → IsOfRowFor header cut offset → IsOfRowFor header address offset
+row-cut header address cut offset is there =
+    let starts = starts_of header.bases there.layout header.bytes in
+    let place = there.is_place in
+    record {
+      layout = there.layout;
+      row = there.row;
+      is_layout = there.is_layout;
+      is_offset = there.is_offset;
+      is_place = record {
+        within = place.within;
+        below = λ some. (let near = place.below some in omega arith);
+        above = λ more. (let far = place.above more in let fits = starts-fit header.bases there.layout header.bytes (there.row + 1) in omega arith);
+      };
+    }

@@ -1,3 +1,12 @@
+pub mod Aarch64
 pub mod Bases
+pub mod Direct
+pub mod Evaluation
 pub mod Index
+pub mod Operation
+pub mod Refusal
+pub mod RowMeaning
+pub mod Told
+pub mod Units
 pub mod Unwinder
+pub mod X86_64

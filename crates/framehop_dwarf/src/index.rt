@@ -1,11 +1,12 @@
 //! An index of a section's FDEs by their starts, for a section that has no table of its own.
-ghost use Rattle.std.specs.Prelude.{◌≡◌, ◌≢◌, ◌<◌, ◌≤◌, length, IfOk, IfErr, Ok, Err};
-ghost use Rattle.std.specs.Prelude.{IsPermutation, ℕ, map};
-ghost use Rattle.framehop_cfi.specs.Entry.{cie_at, bases_of};
-ghost use Rattle.framehop_dwarf.specs.Index.{row_of, rows_of, fde_offset_at, read_row_of, IsKnown, Gives, Indexes, IsIndexOfEntries, HasNoIndex};
+ghost use Rattle.std.specs.Prelude.{◌≡◌, ◌≢◌, IfOk, IfErr, Ok, Err, false, IsPermutation, ℕ, map};
+ghost use Rattle.framehop_cfi.specs.Section.{section_of};
+ghost use Rattle.framehop_cfi.specs.Span.{span_at, is_zero_length};
+ghost use Rattle.framehop_cfi.specs.Entry.{cie_at, head_at, fde_of_head};
+ghost use Rattle.framehop_dwarf.specs.Index.{pair_of, pair_of_head, pair_at, pairs_of, fde_offset_for, IsFdeFor, IsKnown, IsIndexOf, HasNoIndex};
 ghost use Rattle.framehop_dwarf.specs.declared.index.DwarfCfiIndexError.TheVariants.{Gimli};
 ghost use Rattle.framehop_cfi.specs.declared.read_error.ReadError.TheVariants.{OutOfMemory};
-ghost use Rattle.framehop_dwarf.specs.Bases.{base_addresses_of};
+ghost use Rattle.framehop_dwarf.specs.Bases.{section_in};
 ghost use Rattle.framehop_cfi.specs.declared.entry.UnwindSectionType.TheVariants.{EhFrame, DebugFrame};
 ghost use Rattle.framehop_cfi.specs.declared.entry.EntryHead.TheVariants.{Fde};
 
@@ -17,6 +18,7 @@ use framehop_cfi::place::{Starts, place};
 use framehop_cfi::pointer::BaseAddresses;
 use framehop_cfi::read_error::ReadError;
 use framehop_cfi::section::ModuleSectionInfo;
+use framehop_cfi::span::{Span, read_span};
 use std::alloc::{AllocError, Global};
 use std::marker::Model;
 use thiserror::Error;
@@ -39,12 +41,12 @@ pub enum DwarfCfiIndexError {
 }
 
 /// An FDE's start relative to the base, and its offset.
-fn row_of(
+fn pair_of(
     base_svma: u64,
     at: usize,
     fde: &FrameDescriptionEntry,
 ) -> Result<(u32, u32), DwarfCfiIndexError>
-    ensures { result ≡ row_of base_svma at fde.now }
+    ensures { result ≡ pair_of base_svma at fde.now }
 {
     let Some(relative) = fde.initial_address.checked_sub(base_svma) else {
         return Err(DwarfCfiIndexError::CouldNotSubtractBaseAddress);
@@ -64,9 +66,9 @@ fn cie_from_offset(
     known: &mut Option<(usize, CommonInformationEntry)>,
     at: usize,
 ) -> Result<CommonInformationEntry, ReadError>
-    requires { IsKnown (record { kind = section.now.section_type; bases = section.now.bases; bytes = section.now.bytes.now }) known.old }
-    ensures exact { result ≡ cie_at section.now.section_type section.now.bases section.now.bytes.now at }
-    ensures known { IsKnown (record { kind = section.now.section_type; bases = section.now.bases; bytes = section.now.bytes.now }) known.new }
+    requires { IsKnown section.now known.old }
+    ensures exact { result ≡ cie_at section.now at }
+    ensures known { IsKnown section.now known.new }
 {
     if let Some((offset, cie)) = *known
         && offset == at
@@ -78,71 +80,113 @@ fn cie_from_offset(
     Ok(cie)
 }
 
-/// The row of the FDE at an offset whose CIE is at `named`, and whose fields begin behind that and
-/// end with the entry.
-fn read_row(
+/// The FDE whose CIE is at `named`, and whose fields begin behind that and end with the entry.
+#[tactic(auto, unfolding(framehop_cfi::specs::Entry::fde_of_head))]
+fn read_fde(
+    section: &UnwindSection,
+    known: &mut Option<(usize, CommonInformationEntry)>,
+    named: usize,
+    fields: usize,
+    end: usize,
+) -> Result<FrameDescriptionEntry, ReadError>
+    requires { IsKnown section.now known.old }
+    ensures exact { result ≡ fde_of_head section.now (Fde named fields end) }
+    ensures known { IsKnown section.now known.new }
+{
+    let cie = cie_from_offset(section, known, named)?;
+    section.read_fde(&cie, fields, end)
+}
+
+/// The pair of the entry at an offset that begins with a head. A CIE has none, and is known from
+/// then on.
+#[tactic(auto, unfolding(framehop_cfi::specs::Entry::cie_at))]
+fn read_pair(
     section: &UnwindSection,
     base_svma: u64,
     known: &mut Option<(usize, CommonInformationEntry)>,
     at: usize,
-    named: usize,
-    fields: usize,
-    end: usize,
-) -> Result<(u32, u32), DwarfCfiIndexError>
-    requires known { IsKnown (record { kind = section.now.section_type; bases = section.now.bases; bytes = section.now.bytes.now }) known.old }
-    requires within { end ≤ length section.now.bytes.now }
-    ensures exact { result ≡ read_row_of (record { kind = section.now.section_type; bases = section.now.bases; bytes = section.now.bytes.now }) base_svma at (Fde named fields end) }
-    ensures known { IsKnown (record { kind = section.now.section_type; bases = section.now.bases; bytes = section.now.bytes.now }) known.new }
+    head: EntryHead,
+) -> Result<Option<(u32, u32)>, DwarfCfiIndexError>
+    requires known { IsKnown section.now known.old }
+    requires head { head_at section.now.kind section.now.bytes at ≡ Ok head }
+    ensures exact { result ≡ pair_of_head section.now base_svma at head }
+    ensures known { IsKnown section.now known.new }
 {
-    let cie = match cie_from_offset(section, known, named) {
-        Ok(cie) => cie,
-        Err(error) => return Err(DwarfCfiIndexError::Gimli(error)),
-    };
-    match section.read_fde(&cie, fields, end) {
-        Ok(fde) => row_of(base_svma, at, &fde),
+    match head {
+        EntryHead::ZeroLength(_) => Err(DwarfCfiIndexError::Gimli(ReadError::NotFde)),
+        EntryHead::Cie(fields, end) => match section.read_cie(fields, end) {
+            Ok(cie) => {
+                *known = Some((at, cie));
+                Ok(None)
+            }
+            Err(error) => Err(DwarfCfiIndexError::Gimli(error)),
+        },
+        EntryHead::Fde(named, fields, end) => match read_fde(section, known, named, fields, end) {
+            Ok(fde) => {
+                let pair = pair_of(base_svma, at, &fde)?;
+                Ok(Some(pair))
+            }
+            Err(error) => Err(DwarfCfiIndexError::Gimli(error)),
+        },
+    }
+}
+
+/// The pair of the entry in the span at an offset, whose length is not 0.
+#[tactic(auto, unfolding(framehop_cfi::specs::Entry::head_at, framehop_cfi::specs::Entry::entry_at, crate::specs::Index::pair_at))]
+fn visit_entry(
+    section: &UnwindSection,
+    base_svma: u64,
+    known: &mut Option<(usize, CommonInformationEntry)>,
+    at: usize,
+    span: &Span,
+) -> Result<Option<(u32, u32)>, DwarfCfiIndexError>
+    requires known { IsKnown section.now known.old }
+    requires span { span_at section.now.bytes at ≡ Ok span.now }
+    requires some { is_zero_length span.now ≡ false }
+    ensures exact { result ≡ pair_at section.now base_svma at }
+    ensures known { IsKnown section.now known.new }
+{
+    match section.head_of(span) {
+        Ok(head) => read_pair(section, base_svma, known, at, head),
         Err(error) => Err(DwarfCfiIndexError::Gimli(error)),
     }
 }
 
-/// The rows of all FDEs of a section, in its order.
-fn read_rows(
+/// The pairs of all FDEs of a section, in its order.
+fn read_pairs(
     alloc: Global,
     section: &UnwindSection,
     base_svma: u64,
 ) -> Result<Vec<(u32, u32)>, DwarfCfiIndexError>
-    ensures { Gives (λ rows. rows.items) result (rows_of (record { kind = section.now.section_type; bases = section.now.bases; bytes = section.now.bytes.now }) base_svma) }
+    ensures read { IfOk result (λ pairs. pairs_of section.now base_svma ≡ Ok pairs.items) }
+    ensures first { IfErr result (λ error. error ≢ Gimli OutOfMemory → pairs_of section.now base_svma ≡ Err error) }
 {
-    let mut rows = Vec::new(alloc);
+    let mut pairs = Vec::new(alloc);
     let mut known = None;
     let mut at = 0;
     while at < section.bytes.len() {
-        let head = match section.head_at(at) {
-            Ok(head) => head,
+        let span = match read_span(section.bytes, at) {
+            Ok(span) => span,
             Err(error) => return Err(DwarfCfiIndexError::Gimli(error)),
         };
-        match head {
-            EntryHead::ZeroLength(end) => match section.section_type {
-                UnwindSectionType::EhFrame => return Ok(rows),
-                UnwindSectionType::DebugFrame => at = end,
-            },
-            EntryHead::Cie(fields, end) => {
-                let cie = match section.read_cie(fields, end) {
-                    Ok(cie) => cie,
-                    Err(error) => return Err(DwarfCfiIndexError::Gimli(error)),
-                };
-                known = Some((at, cie));
-                at = end;
+        if span.is_zero_length() {
+            match section.section_type {
+                UnwindSectionType::EhFrame => return Ok(pairs),
+                UnwindSectionType::DebugFrame => {}
             }
-            EntryHead::Fde(named, fields, end) => {
-                let row = read_row(section, base_svma, &mut known, at, named, fields, end)?;
-                if rows.push(row).is_err() {
-                    return Err(DwarfCfiIndexError::Gimli(ReadError::OutOfMemory));
+        } else {
+            match visit_entry(section, base_svma, &mut known, at, &span)? {
+                Some(pair) => {
+                    if pairs.push(pair).is_err() {
+                        return Err(DwarfCfiIndexError::Gimli(ReadError::OutOfMemory));
+                    }
                 }
-                at = end;
+                None => {}
             }
         }
+        at = span.end;
     }
-    Ok(rows)
+    Ok(pairs)
 }
 
 /// An index of a section's FDEs: their starts in order, and the offset of each.
@@ -193,29 +237,16 @@ impl DwarfCfiIndex {
         alloc: Global,
         section: &[u8],
         section_type: UnwindSectionType,
-        bases: &BaseAddresses,
+        bases: BaseAddresses,
         base_svma: u64,
     ) -> Result<Self, DwarfCfiIndexError>
-        ensures found { IfOk result (IsIndexOfEntries (record { kind = section_type; bases = bases_of section_type bases.now; bytes = section.now }) base_svma) }
-        ensures refused { IfErr result (λ error. error ≢ Gimli OutOfMemory → HasNoIndex (record { kind = section_type; bases = bases_of section_type bases.now; bytes = section.now }) base_svma) }
-        ensures first { Indexes result (rows_of (record { kind = section_type; bases = bases_of section_type bases.now; bytes = section.now }) base_svma) }
+        ensures found { IfOk result (IsIndexOf (section_of section_type bases section.now) base_svma) }
+        ensures refused { IfErr result (λ error. error ≢ Gimli OutOfMemory → HasNoIndex (section_of section_type bases section.now) base_svma) }
+        ensures first { IfErr result (λ error. error ≢ Gimli OutOfMemory → pairs_of (section_of section_type bases section.now) base_svma ≡ Err error) }
     {
-        Self::read(alloc, section, section_type, bases, base_svma)
-    }
-
-    /// The index of the rows that are read in the section's order.
-    fn read(
-        alloc: Global,
-        section: &[u8],
-        section_type: UnwindSectionType,
-        bases: &BaseAddresses,
-        base_svma: u64,
-    ) -> Result<Self, DwarfCfiIndexError>
-        ensures { Indexes result (rows_of (record { kind = section_type; bases = bases_of section_type bases.now; bytes = section.now }) base_svma) }
-    {
-        let section = UnwindSection::new(section, section_type, bases);
-        let rows = read_rows(alloc, &section, base_svma)?;
-        match Self::from_rows(alloc, rows) {
+        let section = UnwindSection::new(section, section_type, &bases);
+        let pairs = read_pairs(alloc, &section, base_svma)?;
+        match Self::from_pairs(alloc, pairs) {
             Ok(index) => Ok(index),
             Err(_) => Err(DwarfCfiIndexError::Gimli(ReadError::OutOfMemory)),
         }
@@ -227,7 +258,9 @@ impl DwarfCfiIndex {
         eh_frame_data: &[u8],
         section_info: &mut I,
     ) -> Result<Self, DwarfCfiIndexError>
-        ensures index { Indexes result (rows_of (record { kind = EhFrame; bases = bases_of EhFrame (base_addresses_of (I.table section_info.old).sections); bytes = eh_frame_data.now }) (I.table section_info.old).base_svma) }
+        ensures found { IfOk result (IsIndexOf (section_in EhFrame (I.table section_info.old) eh_frame_data.now) (I.table section_info.old).base_svma) }
+        ensures refused { IfErr result (λ error. error ≢ Gimli OutOfMemory → HasNoIndex (section_in EhFrame (I.table section_info.old) eh_frame_data.now) (I.table section_info.old).base_svma) }
+        ensures first { IfErr result (λ error. error ≢ Gimli OutOfMemory → pairs_of (section_in EhFrame (I.table section_info.old) eh_frame_data.now) (I.table section_info.old).base_svma ≡ Err error) }
         ensures kept { I.table section_info.new ≡ I.table section_info.old }
     {
         let bases = base_addresses_for_sections(section_info);
@@ -236,7 +269,7 @@ impl DwarfCfiIndex {
             alloc,
             eh_frame_data,
             UnwindSectionType::EhFrame,
-            &bases,
+            bases,
             base_svma,
         )
     }
@@ -247,7 +280,9 @@ impl DwarfCfiIndex {
         debug_frame_data: &[u8],
         section_info: &mut I,
     ) -> Result<Self, DwarfCfiIndexError>
-        ensures index { Indexes result (rows_of (record { kind = DebugFrame; bases = bases_of DebugFrame (base_addresses_of (I.table section_info.old).sections); bytes = debug_frame_data.now }) (I.table section_info.old).base_svma) }
+        ensures found { IfOk result (IsIndexOf (section_in DebugFrame (I.table section_info.old) debug_frame_data.now) (I.table section_info.old).base_svma) }
+        ensures refused { IfErr result (λ error. error ≢ Gimli OutOfMemory → HasNoIndex (section_in DebugFrame (I.table section_info.old) debug_frame_data.now) (I.table section_info.old).base_svma) }
+        ensures first { IfErr result (λ error. error ≢ Gimli OutOfMemory → pairs_of (section_in DebugFrame (I.table section_info.old) debug_frame_data.now) (I.table section_info.old).base_svma ≡ Err error) }
         ensures kept { I.table section_info.new ≡ I.table section_info.old }
     {
         let bases = base_addresses_for_sections(section_info);
@@ -256,7 +291,7 @@ impl DwarfCfiIndex {
             alloc,
             debug_frame_data,
             UnwindSectionType::DebugFrame,
-            &bases,
+            bases,
             base_svma,
         )
     }
@@ -264,7 +299,15 @@ impl DwarfCfiIndex {
     /// The offset of the FDE with the greatest start at or below a relative address; among equal starts
     /// that of the last in the section.
     pub fn fde_offset_for_relative_address(&self, rel_lookup_address: u32) -> Option<u32>
-        ensures { result ≡ fde_offset_at self.now rel_lookup_address }
+        ensures exact { result ≡ fde_offset_for self.now rel_lookup_address }
+        ensures law { IsFdeFor self.now rel_lookup_address result }
+    {
+        self.find(rel_lookup_address)
+    }
+
+    /// The offset of the FDE at the address's place in the table of starts.
+    fn find(&self, rel_lookup_address: u32) -> Option<u32>
+        ensures { result ≡ fde_offset_for self.now rel_lookup_address }
     {
         let starts = self.sorted_fde_pc_starts.as_slice();
         if starts.is_empty() {
@@ -277,13 +320,13 @@ impl DwarfCfiIndex {
         Some(self.fde_offsets[index])
     }
 
-    /// The index of rows that are read.
-    fn from_rows(alloc: Global, mut rows: Vec<(u32, u32)>) -> Result<Self, AllocError>
-        ensures { IfOk result (λ index. IsPermutation rows.items index) }
+    /// The index of pairs in any order.
+    fn from_pairs(alloc: Global, mut pairs: Vec<(u32, u32)>) -> Result<Self, AllocError>
+        ensures { IfOk result (λ index. IsPermutation pairs.items index) }
     {
-        rows.sort_unstable();
-        let sorted_fde_pc_starts = starts_of(alloc, &rows)?;
-        let fde_offsets = offsets_of(alloc, &rows)?;
+        pairs.sort_unstable();
+        let sorted_fde_pc_starts = starts_of(alloc, &pairs)?;
+        let fde_offsets = offsets_of(alloc, &pairs)?;
         Ok(DwarfCfiIndex {
             sorted_fde_pc_starts,
             fde_offsets,
@@ -291,16 +334,16 @@ impl DwarfCfiIndex {
     }
 }
 
-/// The rows' starts.
-fn starts_of(alloc: Global, rows: &[(u32, u32)]) -> Result<Vec<u32>, AllocError>
-    ensures { IfOk result (λ starts. starts.items ≡ map (λ (row : ℕ × ℕ). row.0) rows.now) }
+/// The pairs' starts.
+fn starts_of(alloc: Global, pairs: &[(u32, u32)]) -> Result<Vec<u32>, AllocError>
+    ensures { IfOk result (λ starts. starts.items ≡ map (λ (pair : ℕ × ℕ). pair.0) pairs.now) }
 {
-    rows.iter().map(|row| row.0).collect(alloc)
+    pairs.iter().map(|pair| pair.0).collect(alloc)
 }
 
-/// The rows' offsets.
-fn offsets_of(alloc: Global, rows: &[(u32, u32)]) -> Result<Vec<u32>, AllocError>
-    ensures { IfOk result (λ offsets. offsets.items ≡ map (λ (row : ℕ × ℕ). row.1) rows.now) }
+/// The pairs' offsets.
+fn offsets_of(alloc: Global, pairs: &[(u32, u32)]) -> Result<Vec<u32>, AllocError>
+    ensures { IfOk result (λ offsets. offsets.items ≡ map (λ (pair : ℕ × ℕ). pair.1) pairs.now) }
 {
-    rows.iter().map(|row| row.1).collect(alloc)
+    pairs.iter().map(|pair| pair.1).collect(alloc)
 }

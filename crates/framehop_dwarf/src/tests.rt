@@ -16,7 +16,7 @@ use std::ops::Range;
 use std::test::Fail;
 
 /// A CIE, and one FDE for 0x1000 to 0x1020, in an `.eh_frame` at 0x2000.
-const ONE_FDE: &str = "14000000 00000000 01 7a5200 01 78 10 01 1b 0c0708 9001 0000 \
+pub(crate) const ONE_FDE: &str = "14000000 00000000 01 7a5200 01 78 10 01 1b 0c0708 9001 0000 \
      18000000 1c000000 e0efffff 20000000 00 41 0e10 8602 43 0d06 000000 00000000";
 
 /// The same with a second FDE for the same addresses.
@@ -25,7 +25,7 @@ const TWO_FDES: &str = "14000000 00000000 01 7a5200 01 78 10 01 1b 0c0708 9001 0
      18000000 38000000 c4efffff 20000000 00 41 0e10 8602 43 0d06 000000 00000000";
 
 /// A CIE, and one FDE for 0x1000 to 0x1020, in a `.debug_frame`.
-const DEBUG_FRAME: &str = "10000000 ffffffff 04 00 08 00 01 78 10 0c0708 9001 \
+pub(crate) const DEBUG_FRAME: &str = "10000000 ffffffff 04 00 08 00 01 78 10 0c0708 9001 \
      1c000000 00000000 0010000000000000 2000000000000000 41 0e10 8602 000000";
 
 /// The `.eh_frame_hdr` of `ONE_FDE`, at 0x3000.
@@ -83,7 +83,7 @@ fn digit(byte: u8) -> Option<u8> {
 }
 
 /// The bytes that a text of hexadecimal digits spells; other characters are passed over.
-fn bytes(alloc: Global, text: &str) -> Result<Vec<u8>, AllocError> {
+pub(crate) fn bytes(alloc: Global, text: &str) -> Result<Vec<u8>, AllocError> {
     let mut bytes = Vec::new(alloc);
     let mut first = None;
     for byte in text.as_bytes() {
@@ -100,7 +100,7 @@ fn bytes(alloc: Global, text: &str) -> Result<Vec<u8>, AllocError> {
 }
 
 /// The base addresses of a section.
-fn at(eh_frame: u64) -> BaseAddresses {
+pub(crate) fn at(eh_frame: u64) -> BaseAddresses {
     BaseAddresses {
         eh_frame,
         eh_frame_hdr: 0x3000,
@@ -321,7 +321,7 @@ fn compare<S: UnwindContextStorage>(
 ) -> Result<(), Fail> {
     let data = bytes(rt.alloc(), text)?;
     let section = UnwindSection::new(data.bytes(), section_type, &at(address));
-    let index = DwarfCfiIndex::try_new(rt.alloc(), data.bytes(), section_type, &at(address), 0)?;
+    let index = DwarfCfiIndex::try_new(rt.alloc(), data.bytes(), section_type, at(address), 0)?;
     for (offset, start, length) in fdes {
         let fde = section.fde_from_offset(*offset as usize)?;
         assert_eq!(rt; fde.initial_address, *start);
@@ -476,7 +476,7 @@ fn rules_of_a_row(rt: HostRuntime) -> Result<(), Fail> {
 }
 
 /// A part of the `.eh_frame` of libgcc.
-const LIBGCC_BYTES: &str = "\
+pub(crate) const LIBGCC_BYTES: &str = "\
      1400000000000000017a5200017810011b0c070890010000240000001c000000507efeff20030000000e1046\
      0e184a0f0b770880003f1a3b2a3324220000000014000000440000004881feff080000000000000000000000\
      140000005c000000a094feff2000000000000000000000001400000074000000a894feff1900000000000000\
@@ -495,7 +495,7 @@ const LIBGCC_BYTES: &str = "\
      6c97feff11000000004c0e1010000000a40200007897feff2c0000000000000010000000b8020000fb7efeff\
      0600000000410e1014000000cc0200008097feff170000000000000000000000";
 
-const LIBGCC_ADDRESS: u64 = 0x1b1b0;
+pub(crate) const LIBGCC_ADDRESS: u64 = 0x1b1b0;
 
 /// Its FDEs: offset, first address and length.
 const LIBGCC_FDES: [(u32, u64, u64); 31] = [
@@ -533,7 +533,7 @@ const LIBGCC_FDES: [(u32, u64, u64); 31] = [
 ];
 
 /// Their rows: the FDE, the first address of the row, and the row.
-const LIBGCC_ROWS: [(u32, u64, &str); 40] = [
+pub(crate) const LIBGCC_ROWS: [(u32, u64, &str); 40] = [
     (0x18, 0x3020, "r7+16 16=c-8"),
     (0x18, 0x3026, "r7+24 16=c-8"),
     (0x18, 0x3030, "exp 16=c-8"),
@@ -577,7 +577,7 @@ const LIBGCC_ROWS: [(u32, u64, &str); 40] = [
 ];
 
 /// A part of the `.eh_frame` of libstdc++.
-const LIBSTDCXX_BYTES: &str = "\
+pub(crate) const LIBSTDCXX_BYTES: &str = "\
      1400000000000000017a5200017810011b0c070890010000240000001c000000689eecffe0400000000e1046\
      0e184a0f0b770880003f1a3b2a33242200000000140000004400000020dfecffc80000000000000000000000\
      100000005c000000586cedff0d000000000000001000000070000000546cedff0c000000000000001c000000\
@@ -599,7 +599,7 @@ const LIBSTDCXX_BYTES: &str = "\
      0e208d04420e288c05410e308606440e388307440e50770a0e38440e30410e28420e20420e18420e10420e08\
      470b440a0e38410e30410e28420e20420e18420e10420e084a0b0000";
 
-const LIBSTDCXX_ADDRESS: u64 = 0x1cf198;
+pub(crate) const LIBSTDCXX_ADDRESS: u64 = 0x1cf198;
 
 /// Its FDEs: offset, first address and length.
 const LIBSTDCXX_FDES: [(u32, u64, u64); 26] = [
@@ -632,7 +632,7 @@ const LIBSTDCXX_FDES: [(u32, u64, u64); 26] = [
 ];
 
 /// Their rows: the FDE, the first address of the row, and the row.
-const LIBSTDCXX_ROWS: [(u32, u64, &str); 84] = [
+pub(crate) const LIBSTDCXX_ROWS: [(u32, u64, &str); 84] = [
     (0x18, 0x99020, "r7+16 16=c-8"),
     (0x18, 0x99026, "r7+24 16=c-8"),
     (0x18, 0x99030, "exp 16=c-8"),
@@ -884,38 +884,38 @@ const LIBSTDCXX_ROWS: [(u32, u64, &str); 84] = [
 ];
 
 /// A part of the `.eh_frame` of libc at its signal frame.
-const LIBC_BYTES: &str = "\
+pub(crate) const LIBC_BYTES: &str = "\
      1000000000000000017a525300017810011b00007800000018000000c70be9ff0a000000000f0477a0010610\
      080277281009027730100a027738100b0377c000100c0377c800100d0377d000100e0377d800100f0377e000\
      10050377e80010040377f00010060377f8001003037780011001037788011000037790011002037798011007\
      0377a00110100377a8010000";
 
-const LIBC_ADDRESS: u64 = 0x1ab46c;
+pub(crate) const LIBC_ADDRESS: u64 = 0x1ab46c;
 
 /// Its FDEs: offset, first address and length.
 const LIBC_FDES: [(u32, u64, u64); 1] = [(0x14, 0x3c04f, 0xa)];
 
 /// Their rows: the FDE, the first address of the row, and the row.
-const LIBC_ROWS: [(u32, u64, &str); 1] = [(
+pub(crate) const LIBC_ROWS: [(u32, u64, &str); 1] = [(
     0x14,
     0x3c04f,
     "exp 0=exp 1=exp 2=exp 3=exp 4=exp 5=exp 6=exp 7=exp 8=exp 9=exp 10=exp 11=exp 12=exp 13=exp 14=exp 15=exp 16=exp",
 )];
 
 /// A part of the `.eh_frame` of assembled directives.
-const ASSEMBLED_BYTES: &str = "\
+pub(crate) const ASSEMBLED_BYTES: &str = "\
      1800000000000000017a5200017810011b0c070890010c07080000004c00000020000000bcdffefff5120100\
      00430e20860202460d06090308032c010a070c080d140e0304701101000bc6150f7e442e10110d0212077f44\
      137d0f02770810030276004416060276000520041400000000000000017a525300017810011b0c0708900100\
      100000001c00000049f2ffff0a00000000450e10";
 
-const ASSEMBLED_ADDRESS: u64 = 0x13020;
+pub(crate) const ASSEMBLED_ADDRESS: u64 = 0x13020;
 
 /// Its FDEs: offset, first address and length.
 const ASSEMBLED_FDES: [(u32, u64, u64); 2] = [(0x1c, 0x1000, 0x112f5), (0x84, 0x122f5, 0xa)];
 
 /// Their rows: the FDE, the first address of the row, and the row.
-const ASSEMBLED_ROWS: [(u32, u64, &str); 10] = [
+pub(crate) const ASSEMBLED_ROWS: [(u32, u64, &str); 10] = [
     (0x1c, 0x1000, "r7+8 16=c-8"),
     (0x1c, 0x1003, "r7+32 6=c-16 16=c-8"),
     (0x1c, 0x1049, "r6+32 3=r8 6=c-16 16=c-8"),
@@ -933,18 +933,18 @@ const ASSEMBLED_ROWS: [(u32, u64, &str); 10] = [
 ];
 
 /// A part of the `.debug_frame` of two compiled functions.
-const COMPILED_BYTES: &str = "\
+pub(crate) const COMPILED_BYTES: &str = "\
      14000000ffffffff01000178100c07089001000000000000240000000000000030100000000000001d000000\
      00000000410e108302490eb0014f0e10430e08002c0000000000000050100000000000002000000000000000\
      410e108602430e188303440e20520e18440e10410e080000";
 
-const COMPILED_ADDRESS: u64 = 0x0;
+pub(crate) const COMPILED_ADDRESS: u64 = 0x0;
 
 /// Its FDEs: offset, first address and length.
 const COMPILED_FDES: [(u32, u64, u64); 2] = [(0x18, 0x1030, 0x1d), (0x40, 0x1050, 0x20)];
 
 /// Their rows: the FDE, the first address of the row, and the row.
-const COMPILED_ROWS: [(u32, u64, &str); 12] = [
+pub(crate) const COMPILED_ROWS: [(u32, u64, &str); 12] = [
     (0x18, 0x1030, "r7+8 16=c-8"),
     (0x18, 0x1031, "r7+16 3=c-16 16=c-8"),
     (0x18, 0x103a, "r7+176 3=c-16 16=c-8"),
@@ -960,12 +960,12 @@ const COMPILED_ROWS: [(u32, u64, &str); 12] = [
 ];
 
 /// The `.eh_frame` of three functions compiled for aarch64 with pointer authentication.
-const AARCH64_BYTES: &str = "\
+pub(crate) const AARCH64_BYTES: &str = "\
      1400000000000000017a5200017c1e011b0c1f00000000001c0000001c000000640001001c00000000442d48\
      0c1d109e029d0400000000001c0000003c000000600001003800000000442d4c0c1d20930294049e069d0800\
      240000005c000000780001007000000000442d580c1d4093029404950696089c0c9e0e9d1000000000000000";
 
-const AARCH64_ADDRESS: u64 = 0x438;
+pub(crate) const AARCH64_ADDRESS: u64 = 0x438;
 
 /// Its FDEs: offset, first address and length.
 const AARCH64_FDES: [(u32, u64, u64); 3] = [
@@ -975,7 +975,7 @@ const AARCH64_FDES: [(u32, u64, u64); 3] = [
 ];
 
 /// Their rows: the FDE, the first address of the row, and the row.
-const AARCH64_ROWS: [(u32, u64, &str); 9] = [
+pub(crate) const AARCH64_ROWS: [(u32, u64, &str); 9] = [
     (0x18, 0x104bc, "r31+0"),
     (0x18, 0x104c0, "r31+0"),
     (0x18, 0x104c8, "r29+16 29=c-16 30=c-8"),

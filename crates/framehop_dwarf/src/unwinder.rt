@@ -1,14 +1,22 @@
 //! What unwinds by the call frame information of a module.
-ghost use Rattle.std.specs.Prelude.{◌≡◌, ◌+◌, MatchOption, IsErr, Ok, None};
-ghost use Rattle.framehop_cfi.specs.Entry.{bases_of};
-ghost use Rattle.framehop_cfi.specs.Header.{layout_of, fde_offset_of};
-ghost use Rattle.framehop_dwarf.specs.Unwinder.{header_bases};
+ghost use Rattle.std.specs.Prelude.{◌≡◌, ◌≢◌, ◌+◌, ◌⊎◌, ℕ, Bool, IsTrue, MatchOption, IfSome, Option, None, Err};
+ghost use Rattle.framehop_cfi.specs.Section.{section_of};
+ghost use Rattle.framehop_cfi.specs.Header.{IsOfRowFor};
+ghost use Rattle.framehop_dwarf.specs.Unwinder.{header_bases, HasHeader, fde_offset_for, reading_of, IsReading, HasFound, rule_by, direct_by, OfRow};
+ghost use Rattle.framehop_core.specs.Memory.{Memory, AnswersAs};
+ghost use Rattle.framehop_core.specs.Outcome.{answered};
+ghost use Rattle.framehop_dwarf.specs.Told.{no_memory, TellsRule, WritesWithAddress, TellsDirect, IsRule, IsMeant, RuleHas, AdvancesWithAddress};
 
+use crate::dwarf::{DwarfUnwinderError, DwarfUnwinding};
+use crate::evaluation::EvaluationStorage;
 use framehop_cfi::context::UnwindContext;
 use framehop_cfi::entry::{UnwindSection, UnwindSectionType};
 use framehop_cfi::header::EhFrameHdr;
 use framehop_cfi::pointer::{BaseAddresses, SectionBaseAddresses};
+use framehop_cfi::read_error::ReadError;
 use framehop_cfi::storage::UnwindContextStorage;
+use framehop_core::unwind_result::UnwindResult;
+use std::alloc::Global;
 use std::marker::PhantomData;
 
 /// What a header's pointers count from.
@@ -46,13 +54,9 @@ impl<'a, A, S: UnwindContextStorage> DwarfUnwinder<'a, A, S> {
         bases: BaseAddresses,
         base_svma: u64,
     ) -> Self
-        ensures bytes { result.section.bytes.now ≡ unwind_section_data.now }
-        ensures section_type { result.section.section_type ≡ unwind_section_type }
-        ensures bases { result.section.bases ≡ bases_of unwind_section_type bases }
+        ensures section { result.section ≡ section_of unwind_section_type bases unwind_section_data.now }
         ensures base { result.base_svma ≡ base_svma }
-        ensures header { MatchOption eh_frame_hdr_data.entry (result.eh_frame_hdr ≡ None) (λ bytes.
-            MatchOption result.eh_frame_hdr (IsErr (layout_of (header_bases bases) bytes.now)) (λ header.
-            (layout_of (header_bases bases) bytes.now ≡ Ok header.layout) × (header.bases ≡ header_bases bases) × (header.bytes.now ≡ bytes.now))) }
+        ensures header { MatchOption eh_frame_hdr_data.entry (result.eh_frame_hdr ≡ None) (λ bytes. HasHeader (header_bases bases) bytes.now result.eh_frame_hdr) }
     {
         let section = UnwindSection::new(unwind_section_data, unwind_section_type, &bases);
         let eh_frame_hdr = match eh_frame_hdr_data {
@@ -71,8 +75,8 @@ impl<'a, A, S: UnwindContextStorage> DwarfUnwinder<'a, A, S> {
     /// The offset in `.eh_frame` of the FDE that the table names for a relative address. The FDE may not
     /// cover the address. Without a table there is none.
     pub fn get_fde_offset_for_relative_address(&self, rel_lookup_address: u32) -> Option<u32>
-        ensures { MatchOption self.now.eh_frame_hdr (result ≡ None) (λ header.
-            result ≡ fde_offset_of header.bases header.layout header.bytes.now (self.now.base_svma + rel_lookup_address)) }
+        ensures exact { result ≡ fde_offset_for self.now.eh_frame_hdr (self.now.base_svma + rel_lookup_address) }
+        ensures law { IfSome self.now.eh_frame_hdr (λ header. IsOfRowFor header (self.now.base_svma + rel_lookup_address) result) }
     {
         match &self.eh_frame_hdr {
             Some(header) => {
@@ -81,5 +85,97 @@ impl<'a, A, S: UnwindContextStorage> DwarfUnwinder<'a, A, S> {
             }
             None => None,
         }
+    }
+}
+
+/// Makes the row of an address, by the FDE at an offset: whether there is one. Without an FDE it is an
+/// error.
+#[tactic(auto, unfolding(crate::specs::Unwinder::reading_of))]
+fn find_row<S: UnwindContextStorage>(
+    section: &UnwindSection,
+    base_svma: u64,
+    rel_lookup_address: u32,
+    fde_offset: u32,
+    unwind_context: &mut UnwindContext<S>,
+) -> Result<bool, DwarfUnwinderError>
+    ensures found { HasFound result unwind_context.new.row (reading_of S.limits section.now (base_svma + rel_lookup_address) fde_offset) }
+    ensures memory { result ≡ Err no_memory → S.limits ≡ None }
+{
+    let fde = match section.fde_from_offset(fde_offset as usize) {
+        Ok(fde) => fde,
+        Err(error) => return Err(DwarfUnwinderError::FdeFromOffsetFailed(error)),
+    };
+    let address = match base_svma.checked_add(u64::from(rel_lookup_address)) {
+        Some(address) => address,
+        None => return Ok(false),
+    };
+    match unwind_context.evaluate(section, &fde, address) {
+        Ok(()) => Ok(true),
+        Err(error) => {
+            if error == ReadError::OutOfMemory {
+                return Err(DwarfUnwinderError::UnwindInfoForAddressFailed(error));
+            }
+            Ok(false)
+        }
+    }
+}
+
+impl<'a, A: DwarfUnwinding, S: UnwindContextStorage> DwarfUnwinder<'a, A, S> {
+    /// Unwinds a frame at an address relative to the module's base, by the FDE at an offset of the section:
+    /// tells the rule of the address, where its row is translated to one, or else computes the return address
+    /// (AVMA) and writes the caller's registers. An address without a row has a rule of its own.
+    ///
+    /// # Errors
+    ///
+    /// The registers are unchanged. `FdeFromOffsetFailed` says that no FDE is at the offset, and
+    /// `UnwindInfoForAddressFailed` that an allocation failed, where the storage has no limits.
+    pub fn unwind_frame_with_fde<E: EvaluationStorage, F>(
+        &mut self,
+        alloc: Global,
+        regs: &mut A::UnwindRegs,
+        is_first_frame: bool,
+        rel_lookup_address: u32,
+        fde_offset: u32,
+        read_stack: &mut F,
+    ) -> Result<UnwindResult<A::UnwindRule>, DwarfUnwinderError>
+    where
+        F: FnMut(u64) -> Result<u64, ()>,
+        requires { F.IsAlwaysCallable read_stack.old }
+        ensures callable { F.IsAlwaysCallable read_stack.new }
+        ensures section { self.new.section ≡ self.old.section }
+        ensures header { self.new.eh_frame_hdr ≡ self.old.eh_frame_hdr }
+        ensures base { self.new.base_svma ≡ self.old.base_svma }
+        ensures kept { WritesWithAddress result regs.old regs.new }
+        ensures rule { result ≢ Err no_memory → TellsRule (rule_by A.translated A.uncovered (reading_of S.limits self.old.section (self.old.base_svma + rel_lookup_address) fde_offset)) result }
+        ensures runnable { RuleHas (λ rule. IsTrue (A.UnwindRule.executable rule)) result }
+        ensures ascends { AdvancesWithAddress (A.ascends is_first_frame) result regs.old regs.new }
+        ensures memory { result ≡ Err no_memory → (S.limits ≡ None) ⊎ (E.Stack.limit ≡ None) }
+        ensures means { OfRow (λ row. (rule : A.UnwindRule) (limit : Option ℕ) (first : Bool) (old new : A.UnwindRegs) (memory : Memory) (address : ℕ)
+            → IsRule rule result → A.UnwindRule.outcome rule first old memory ≡ answered address new
+            → A.row_means self.old.section.bytes limit memory row first old address new) (reading_of S.limits self.old.section (self.old.base_svma + rel_lookup_address) fde_offset) }
+        ensures answers { (memory : Memory) → AnswersAs F.FnMut read_stack.old memory
+            → AnswersAs F.FnMut read_stack.new memory
+            × TellsDirect (direct_by (λ row. A.direct self.old.section.bytes E.Stack.limit memory row is_first_frame regs.old) (reading_of S.limits self.old.section (self.old.base_svma + rel_lookup_address) fde_offset)) result regs.new
+            × OfRow (λ row. IsMeant (A.columns_mean self.old.section.bytes E.Stack.limit memory row is_first_frame regs.old) result regs.new) (reading_of S.limits self.old.section (self.old.base_svma + rel_lookup_address) fde_offset) }
+        ensures reading { IsReading S.limits self.old.section (self.old.base_svma + rel_lookup_address) fde_offset (reading_of S.limits self.old.section (self.old.base_svma + rel_lookup_address) fde_offset) }
+    {
+        let found = find_row(
+            &self.section,
+            self.base_svma,
+            rel_lookup_address,
+            fde_offset,
+            self.unwind_context,
+        )?;
+        if !found {
+            return Ok(UnwindResult::ExecRule(A::rule_if_uncovered_by_fde()));
+        }
+        A::unwind_frame::<S, E, F>(
+            alloc,
+            self.section.bytes(),
+            self.unwind_context.row(),
+            regs,
+            is_first_frame,
+            read_stack,
+        )
     }
 }

@@ -1,11 +1,11 @@
 use Rattle.std.proofs.Common.{◌≡◌, ℕ, ◌+◌, ◌-◌, ◌<◌, length}
-use Rattle.framehop_cfi.specs.RowAt.{Program, run, run_from}
+use Rattle.framehop_cfi.specs.RowAt.{InstructionList, run, run_from}
 use Rattle.framehop_cfi.proofs.context.UnwindContext.run.Given as goal
 
 abbrev pub invariant-loop-next : goal.invariant-loop-next
 invariant-loop-next g l =
-    let program : Program = record { cie = l.cie; bases = l.bases; bytes = l.bytes; address = l.address } in
-    (n : ℕ) × (length l.bytes < n + l.next) × (run g.S.UnwindContextStorage.limits program n l.next l.location l.self ≡ run_from g.S.UnwindContextStorage.limits program l.at l.start l.initial.self)
+    let code : InstructionList = record { cie = l.cie; bases = l.bases; bytes = l.bytes; address = l.address } in
+    (n : ℕ) × (length l.bytes < n + l.next) × (run g.S.UnwindContextStorage.limits code n l.next l.location l.self ≡ run_from g.S.UnwindContextStorage.limits code l.at l.start l.initial.self)
 
 abbrev pub decreases-loop-next : goal.decreases-loop-next
 decreases-loop-next g l = length l.bytes - l.next

@@ -1,0 +1,2 @@
+//! Unwinding by call frame information on aarch64.
+pub mod dwarf;

@@ -1,0 +1,256 @@
+//! From a row of call frame information to a frame: what both architectures share.
+ghost use Rattle.std.specs.Prelude.{◌≡◌, ◌≢◌, ◌^◌, ℕ, Bool, IsTrue, List, Option, Result, Err, None, IfOk, IfErr, OnErr, pos, negsuc, ◌+ℤ◌, ◌≤ℤ◌, option_and_then};
+ghost use Rattle.framehop_core.specs.Memory.{Memory, AnswersAs};
+ghost use Rattle.framehop_core.specs.Outcome.{answered};
+ghost use Rattle.framehop_cfi.specs.Row.{Row};
+ghost use Rattle.framehop_dwarf.specs.Told.{no_memory, TellsRule, WritesWithAddress, TellsDirect, IsRule, IsMeant, RuleHas, AdvancesWithAddress};
+ghost use Rattle.framehop_dwarf.specs.declared.dwarf.DwarfUnwinderError.{DwarfUnwinderError as DwarfRefusal};
+ghost use Rattle.framehop_dwarf.specs.Units.{units_of, signed_units_of};
+ghost use Rattle.framehop_dwarf.specs.Direct.{sum_of, cfa_of, register_of};
+
+use crate::evaluation::{DwarfUnwindRegs, EvaluationStorage, evaluate};
+use framehop_cfi::read_error::ReadError;
+use framehop_cfi::row::UnwindTableRow;
+use framehop_cfi::rule::{CfaRule, RegisterRule};
+use framehop_cfi::storage::UnwindContextStorage;
+use framehop_core::arch::Arch;
+use framehop_core::unwind_result::UnwindResult;
+use framehop_core::unwind_rule::read_stack_word;
+use std::alloc::Global;
+use thiserror::Error;
+
+/// Why call frame information does not unwind a frame.
+#[derive(Clone, Copy, Debug, PartialEq, Eq, Error)]
+pub enum DwarfUnwinderError {
+    /// The FDE at the offset, or its CIE, can't be read.
+    #[error("FdeFromOffsetFailed")]
+    FdeFromOffsetFailed(ReadError),
+    /// The row or an expression can't be evaluated: memory ran out.
+    #[error("UnwindInfoForAddressFailed")]
+    UnwindInfoForAddressFailed(ReadError),
+    /// The caller's stack pointer is not above the callee's.
+    #[error("StackPointerMovedBackwards")]
+    StackPointerMovedBackwards,
+    /// Neither the stack pointer nor the code address changes.
+    #[error("DidNotAdvance")]
+    DidNotAdvance,
+    /// The canonical frame address has no value.
+    #[error("CouldNotRecoverCfa")]
+    CouldNotRecoverCfa,
+    /// The return address has no value.
+    #[error("CouldNotRecoverReturnAddress")]
+    CouldNotRecoverReturnAddress,
+    /// The frame pointer has no value.
+    #[error("CouldNotRecoverFramePointer")]
+    CouldNotRecoverFramePointer,
+}
+
+/// How an architecture unwinds by a row.
+pub trait DwarfUnwinding: Arch {
+    // the rule that a row is translated to, if it is
+    ghost translated: { Row → Option Self.UnwindRule };
+
+    // the return address and the caller's registers of a row that has no rule: by the section's bytes, the most
+    // values of an expression, the memory, the row, the kind of frame (`true`: the first) and the registers
+    ghost direct: { List ℕ → Option ℕ → Memory → Row → Bool → Self.UnwindRegs → Result (ℕ × Self.UnwindRegs) DwarfRefusal };
+
+    // a row means the step from these registers to the return address and those registers
+    ghost row_means: { List ℕ → Option ℕ → Memory → Row → Bool → Self.UnwindRegs → ℕ → Self.UnwindRegs → Type 0 };
+
+    // as far as the columns have values
+    ghost columns_mean: { List ℕ → Option ℕ → Memory → Row → Bool → Self.UnwindRegs → ℕ → Self.UnwindRegs → Type 0 };
+
+    // what a direct step does to the registers, whatever the callback replies: in a first frame (`true`) or
+    // another, before and after
+    ghost ascends: { Bool → Self.UnwindRegs → Self.UnwindRegs → Type 0 };
+
+    ghost uncovered: { Self.UnwindRule };
+
+    /// Unwinds a frame by a row: tells the rule of its address, where the row is translated to one, or else
+    /// computes the return address (AVMA) and writes the caller's registers. `section` is the section's bytes,
+    /// and `read_stack` reads the stack word at an address (AVMA).
+    ///
+    /// # Errors
+    ///
+    /// The registers are unchanged. `UnwindInfoForAddressFailed` says that an allocation failed, where the
+    /// values of an expression have no limit.
+    fn unwind_frame<S: UnwindContextStorage, E: EvaluationStorage, F>(
+        alloc: Global,
+        section: &[u8],
+        unwind_info: &UnwindTableRow<S>,
+        regs: &mut Self::UnwindRegs,
+        is_first_frame: bool,
+        read_stack: &mut F,
+    ) -> Result<UnwindResult<Self::UnwindRule>, DwarfUnwinderError>
+    where
+        F: FnMut(u64) -> Result<u64, ()>,
+        requires { F.IsAlwaysCallable read_stack.old }
+        ensures callable { F.IsAlwaysCallable read_stack.new }
+        ensures rule { TellsRule (translated unwind_info.now) result }
+        ensures kept { WritesWithAddress result regs.old regs.new }
+        ensures runnable { RuleHas (λ rule. IsTrue (Self.UnwindRule.executable rule)) result }
+        ensures ascends { AdvancesWithAddress (ascends is_first_frame) result regs.old regs.new }
+        ensures memory { result ≡ Err no_memory → E.Stack.limit ≡ None }
+        ensures means { (rule : Self.UnwindRule) (limit : Option ℕ) (first : Bool) (old new : Self.UnwindRegs) (memory : Memory) (address : ℕ)
+            → IsRule rule result → Self.UnwindRule.outcome rule first old memory ≡ answered address new
+            → row_means section.now limit memory unwind_info.now first old address new }
+        ensures answers { (memory : Memory) → AnswersAs F.FnMut read_stack.old memory
+            → AnswersAs F.FnMut read_stack.new memory
+            × TellsDirect (direct section.now E.Stack.limit memory unwind_info.now is_first_frame regs.old) result regs.new
+            × IsMeant (columns_mean section.now E.Stack.limit memory unwind_info.now is_first_frame regs.old) result regs.new };
+
+    /// Returns the rule of an address that no row covers.
+    fn rule_if_uncovered_by_fde() -> Self::UnwindRule
+        ensures rule { result ≡ uncovered }
+        ensures runnable { IsTrue (Self.UnwindRule.executable result) };
+}
+
+/// Returns a base plus an offset, both in bytes, where the base and the sum are below 2^63.
+fn offset_from(base: u64, offset: i64) -> Option<u64>
+    ensures { result ≡ sum_of base offset }
+{
+    let Ok(base) = i64::try_from(base) else {
+        return None;
+    };
+    let sum = base.checked_add(offset)?;
+    u64::try_from(sum).ok()
+}
+
+/// Returns the canonical frame address that a rule gives over the registers (an AVMA), or `None` where
+/// it gives none. `section` is the section's bytes, in which expressions lie.
+///
+/// # Errors
+///
+/// `OutOfMemory` where an expression's values have no limit and an allocation fails; no other.
+pub fn eval_cfa_rule<R: DwarfUnwindRegs, E: EvaluationStorage>(
+    alloc: Global,
+    section: &[u8],
+    rule: &CfaRule,
+    regs: &R,
+) -> Result<Option<u64>, ReadError>
+    ensures exact { IfOk result (λ answer. answer ≡ cfa_of (record { bytes = section.now; columns = R.column regs.now; limit = E.Stack.limit }) rule.now) }
+    ensures memory { OnErr result (E.Stack.limit ≡ None) }
+    ensures error { IfErr result (λ error. error ≡ ReadError.OutOfMemory) }
+{
+    match *rule {
+        CfaRule::RegisterAndOffset { register, offset } => match regs.get(register) {
+            Some(base) => Ok(offset_from(base, offset)),
+            None => Ok(None),
+        },
+        CfaRule::Expression(expression) => {
+            evaluate::<R, E>(alloc, section, expression, regs, None)
+        }
+    }
+}
+
+/// Reads the stack word at an address, if there is one.
+pub(crate) fn read_word<F: FnMut(u64) -> Result<u64, ()>>(
+    read_stack: &mut F,
+    address: u64,
+) -> Option<u64>
+    requires { F.IsAlwaysCallable read_stack.old }
+    ensures callable { F.IsAlwaysCallable read_stack.new }
+    ensures answers { (memory : Memory) → AnswersAs F.FnMut read_stack.old memory
+        → AnswersAs F.FnMut read_stack.new memory × (result ≡ memory address) }
+{
+    match read_stack_word(read_stack, address) {
+        Ok(word) => Some(word),
+        Err(_) => None,
+    }
+}
+
+/// Reads the stack word at an address, if there are both.
+fn read_word_at<F: FnMut(u64) -> Result<u64, ()>>(
+    read_stack: &mut F,
+    address: Option<u64>,
+) -> Option<u64>
+    requires { F.IsAlwaysCallable read_stack.old }
+    ensures callable { F.IsAlwaysCallable read_stack.new }
+    ensures answers { (memory : Memory) → AnswersAs F.FnMut read_stack.old memory
+        → AnswersAs F.FnMut read_stack.new memory × (result ≡ option_and_then memory address) }
+{
+    match address {
+        Some(address) => read_word(read_stack, address),
+        None => None,
+    }
+}
+
+/// Returns the value that a register's rule gives in the caller's frame, or `None` where it gives none.
+/// `cfa` is the canonical frame address, and `val` is what the register has now.
+///
+/// # Errors
+///
+/// `OutOfMemory` where an expression's values have no limit and an allocation fails; no other.
+pub fn eval_register_rule<R: DwarfUnwindRegs, E: EvaluationStorage, F>(
+    alloc: Global,
+    section: &[u8],
+    rule: Option<RegisterRule>,
+    cfa: u64,
+    val: u64,
+    regs: &R,
+    read_stack: &mut F,
+) -> Result<Option<u64>, ReadError>
+where
+    F: FnMut(u64) -> Result<u64, ()>,
+    requires { F.IsAlwaysCallable read_stack.old }
+    ensures callable { F.IsAlwaysCallable read_stack.new }
+    ensures memory { OnErr result (E.Stack.limit ≡ None) }
+    ensures error { IfErr result (λ error. error ≡ ReadError.OutOfMemory) }
+    ensures answers { (memory : Memory) → AnswersAs F.FnMut read_stack.old memory
+        → AnswersAs F.FnMut read_stack.new memory
+        × IfOk result (λ answer. answer ≡ register_of (record { bytes = section.now; columns = R.column regs.now; limit = E.Stack.limit }) memory cfa val rule) }
+{
+    let Some(rule) = rule else {
+        return Ok(None);
+    };
+    match rule {
+        RegisterRule::Undefined => Ok(None),
+        RegisterRule::SameValue => Ok(Some(val)),
+        RegisterRule::Offset(offset) => Ok(read_word_at(read_stack, offset_from(cfa, offset))),
+        RegisterRule::ValOffset(offset) => Ok(offset_from(cfa, offset)),
+        RegisterRule::Register(register) => Ok(regs.get(register)),
+        RegisterRule::Expression(expression) => {
+            let address = evaluate::<R, E>(alloc, section, expression, regs, Some(cfa))?;
+            Ok(read_word_at(read_stack, address))
+        }
+        RegisterRule::ValExpression(expression) => {
+            evaluate::<R, E>(alloc, section, expression, regs, Some(cfa))
+        }
+    }
+}
+
+/// Returns how many units of so many bytes an offset is, where that is exact and fits 16 bits.
+#[tactic(auto, unfolding(crate::specs::Units::units_of))]
+pub(crate) fn units_of(size: u8, offset: i64) -> Option<u16>
+    requires { size ≢ 0 }
+    ensures { result ≡ units_of size offset }
+{
+    let size = i128::from(size);
+    let units = i128::from(offset) / size;
+    if units * size != i128::from(offset) {
+        return None;
+    }
+    u16::try_from(units).ok()
+}
+
+/// Returns how many words of 8 bytes two offsets are together, where that is exact and fits 16 bits with
+/// a sign.
+pub(crate) fn words_of_sum(first: i64, second: i64) -> Option<i16>
+    ensures { result ≡ signed_units_of 8 (first +ℤ second) }
+{
+    signed_units_of(i128::from(first) + i128::from(second))
+}
+
+/// Returns how many words of 8 bytes an offset is, where that is exact and fits 16 bits with a sign.
+#[tactic(auto, unfolding(crate::specs::Units::signed_units_of))]
+fn signed_units_of(offset: i128) -> Option<i16>
+    requires low { negsuc (2 ^ 65) ≤ℤ offset }
+    requires high { offset ≤ℤ pos (2 ^ 65) }
+    ensures { result ≡ signed_units_of 8 offset }
+{
+    let units = offset / 8;
+    if units * 8 != offset {
+        return None;
+    }
+    i16::try_from(units).ok()
+}

@@ -1,0 +1,343 @@
+//! The operations of DWARF expressions (DWARF 5 sections 2.5.1 and 7.7.1), as far as they compute
+//! addresses from registers and numbers.
+ghost use Rattle.std.specs.Prelude.{◌≡◌};
+ghost use Rattle.framehop_dwarf.specs.Operation.{constant_at, unary_of, binary_of, plain_of, plain_at, coded_at, operation_at, offset_at, register_offset_at, jump_at, changed, combined, quotient, shifted_right, bit_of, compared};
+
+use framehop_cfi::bytes::{read_u8, read_u16, read_u32, read_u64};
+use framehop_cfi::leb128::{read_sleb128, read_uleb128};
+use framehop_cfi::read_error::ReadError;
+use framehop_cfi::rule::Register;
+
+/// An operation on the top value.
+#[derive(Clone, Copy, Debug, PartialEq, Eq)]
+pub enum UnaryOperation {
+    /// `DW_OP_abs`
+    Absolute,
+    /// `DW_OP_neg`
+    Negate,
+    /// `DW_OP_not`
+    Not,
+}
+
+/// An operation on the second value and the top one.
+#[derive(Clone, Copy, Debug, PartialEq, Eq)]
+pub enum BinaryOperation {
+    /// `DW_OP_and`
+    And,
+    /// `DW_OP_div`, with signs
+    Divide,
+    /// `DW_OP_minus`
+    Minus,
+    /// `DW_OP_mod`, without signs
+    Modulo,
+    /// `DW_OP_mul`
+    Multiply,
+    /// `DW_OP_or`
+    Or,
+    /// `DW_OP_plus`
+    Plus,
+    /// `DW_OP_shl`
+    ShiftLeft,
+    /// `DW_OP_shr`
+    ShiftRight,
+    /// `DW_OP_shra`, with a sign
+    ShiftRightArithmetic,
+    /// `DW_OP_xor`
+    Xor,
+    /// `DW_OP_eq`
+    Equal,
+    /// `DW_OP_ge`, with signs
+    GreaterOrEqual,
+    /// `DW_OP_gt`, with signs
+    Greater,
+    /// `DW_OP_le`, with signs
+    LessOrEqual,
+    /// `DW_OP_lt`, with signs
+    Less,
+    /// `DW_OP_ne`
+    NotEqual,
+}
+
+/// An operation of an expression.
+#[derive(Clone, Copy, Debug, PartialEq, Eq)]
+pub enum Operation {
+    /// `DW_OP_nop`
+    Nop,
+    /// Pushes a number: `DW_OP_const..` and `DW_OP_lit..`.
+    Constant(u64),
+    /// Pushes a register's value plus an offset: `DW_OP_breg..` and `DW_OP_bregx`.
+    RegisterOffset { register: Register, offset: i64 },
+    /// Pushes the value so many places below the top: `DW_OP_pick`, `DW_OP_dup` and `DW_OP_over`.
+    Pick(u8),
+    /// `DW_OP_drop`
+    Discard,
+    /// `DW_OP_swap`
+    Swap,
+    /// `DW_OP_rot`
+    Rot,
+    Unary(UnaryOperation),
+    Binary(BinaryOperation),
+    /// `DW_OP_plus_uconst`
+    PlusConstant(u64),
+    /// Jumps by so many bytes from the next operation on: `DW_OP_skip`.
+    Skip(i16),
+    /// Pops a value, and jumps where it is not 0: `DW_OP_bra`.
+    Branch(i16),
+}
+
+/// Reads a number that is pushed, by the operation's code, and the offset after it.
+fn read_constant(code: u8, bytes: &[u8], at: usize) -> Result<(u64, usize), ReadError>
+    ensures { result ≡ constant_at code bytes.now at }
+{
+    match code {
+        0x08 => {
+            let (number, next) = read_u8(bytes, at)?;
+            Ok((u64::from(number), next))
+        }
+        0x09 => {
+            let (number, next) = read_u8(bytes, at)?;
+            Ok((i64::from(number.cast_signed()).cast_unsigned(), next))
+        }
+        0x0a => {
+            let (number, next) = read_u16(bytes, at)?;
+            Ok((u64::from(number), next))
+        }
+        0x0b => {
+            let (number, next) = read_u16(bytes, at)?;
+            Ok((i64::from(number.cast_signed()).cast_unsigned(), next))
+        }
+        0x0c => {
+            let (number, next) = read_u32(bytes, at)?;
+            Ok((u64::from(number), next))
+        }
+        0x0d => {
+            let (number, next) = read_u32(bytes, at)?;
+            Ok((i64::from(number.cast_signed()).cast_unsigned(), next))
+        }
+        0x0e | 0x0f => read_u64(bytes, at),
+        0x10 => read_uleb128(bytes, at),
+        _ => {
+            let (number, next) = read_sleb128(bytes, at)?;
+            Ok((number.cast_unsigned(), next))
+        }
+    }
+}
+
+/// Returns the operation on the top value that has this code.
+fn unary_of(code: u8) -> Option<UnaryOperation>
+    ensures { result ≡ unary_of code }
+{
+    match code {
+        0x19 => Some(UnaryOperation::Absolute),
+        0x1f => Some(UnaryOperation::Negate),
+        0x20 => Some(UnaryOperation::Not),
+        _ => None,
+    }
+}
+
+/// Returns the operation on two values that has this code.
+fn binary_of(code: u8) -> Option<BinaryOperation>
+    ensures { result ≡ binary_of code }
+{
+    match code {
+        0x1a => Some(BinaryOperation::And),
+        0x1b => Some(BinaryOperation::Divide),
+        0x1c => Some(BinaryOperation::Minus),
+        0x1d => Some(BinaryOperation::Modulo),
+        0x1e => Some(BinaryOperation::Multiply),
+        0x21 => Some(BinaryOperation::Or),
+        0x22 => Some(BinaryOperation::Plus),
+        0x24 => Some(BinaryOperation::ShiftLeft),
+        0x25 => Some(BinaryOperation::ShiftRight),
+        0x26 => Some(BinaryOperation::ShiftRightArithmetic),
+        0x27 => Some(BinaryOperation::Xor),
+        0x29 => Some(BinaryOperation::Equal),
+        0x2a => Some(BinaryOperation::GreaterOrEqual),
+        0x2b => Some(BinaryOperation::Greater),
+        0x2c => Some(BinaryOperation::LessOrEqual),
+        0x2d => Some(BinaryOperation::Less),
+        0x2e => Some(BinaryOperation::NotEqual),
+        _ => None,
+    }
+}
+
+/// Returns the operation without operands that has this code.
+fn plain_of(code: u8) -> Option<Operation>
+    ensures { result ≡ plain_of code }
+{
+    match code {
+        0x12 => Some(Operation::Pick(0)),
+        0x13 => Some(Operation::Discard),
+        0x14 => Some(Operation::Pick(1)),
+        0x16 => Some(Operation::Swap),
+        0x17 => Some(Operation::Rot),
+        0x96 => Some(Operation::Nop),
+        _ => match (unary_of(code), binary_of(code)) {
+            (Some(unary), _) => Some(Operation::Unary(unary)),
+            (None, Some(binary)) => Some(Operation::Binary(binary)),
+            (None, None) => None,
+        },
+    }
+}
+
+/// Reads a register by its number, and an offset, and the offset after it.
+#[tactic(auto, unfolding(crate::specs::Operation::register_offset_at))]
+fn read_register_offset(bytes: &[u8], at: usize) -> Result<(Operation, usize), ReadError>
+    ensures { result ≡ register_offset_at bytes.now at }
+{
+    let (number, next) = read_uleb128(bytes, at)?;
+    let Ok(number) = u16::try_from(number) else {
+        return Err(ReadError::NumberTooBig);
+    };
+    read_offset(Register(number), bytes, next)
+}
+
+/// Reads an offset from a register, and the offset after it.
+#[tactic(auto, unfolding(crate::specs::Operation::offset_at))]
+fn read_offset(register: Register, bytes: &[u8], at: usize) -> Result<(Operation, usize), ReadError>
+    ensures { result ≡ offset_at register bytes.now at }
+{
+    let (offset, next) = read_sleb128(bytes, at)?;
+    Ok((Operation::RegisterOffset { register, offset }, next))
+}
+
+/// Reads how far a jump goes, and the offset after it.
+#[tactic(auto, unfolding(crate::specs::Operation::jump_at))]
+fn read_jump(bytes: &[u8], at: usize) -> Result<(i16, usize), ReadError>
+    ensures { result ≡ jump_at bytes.now at }
+{
+    let (distance, next) = read_u16(bytes, at)?;
+    Ok((distance.cast_signed(), next))
+}
+
+/// Reads the operands of an operation with its own code, and the offset after them.
+fn read_coded(code: u8, bytes: &[u8], at: usize) -> Result<(Operation, usize), ReadError>
+    ensures { result ≡ coded_at code bytes.now at }
+{
+    match code {
+        0x15 => {
+            let (depth, next) = read_u8(bytes, at)?;
+            Ok((Operation::Pick(depth), next))
+        }
+        0x23 => {
+            let (number, next) = read_uleb128(bytes, at)?;
+            Ok((Operation::PlusConstant(number), next))
+        }
+        0x28 => {
+            let (distance, next) = read_jump(bytes, at)?;
+            Ok((Operation::Branch(distance), next))
+        }
+        0x2f => {
+            let (distance, next) = read_jump(bytes, at)?;
+            Ok((Operation::Skip(distance), next))
+        }
+        0x92 => read_register_offset(bytes, at),
+        _ => match plain_of(code) {
+            Some(operation) => Ok((operation, at)),
+            None => Err(ReadError::UnknownInstruction),
+        },
+    }
+}
+
+/// Reads the operation at an offset, and the offset after it.
+#[tactic(auto, unfolding(crate::specs::Operation::operation_at))]
+pub fn read_operation(bytes: &[u8], at: usize) -> Result<(Operation, usize), ReadError>
+    ensures { result ≡ operation_at bytes.now at }
+{
+    let (code, next) = read_u8(bytes, at)?;
+    if code >= 0x30 && code < 0x50 {
+        return Ok((Operation::Constant(u64::from(code - 0x30)), next));
+    }
+    if code >= 0x70 && code < 0x90 {
+        return read_offset(Register(u16::from(code - 0x70)), bytes, next);
+    }
+    if code >= 0x08 && code < 0x12 {
+        let (number, next) = read_constant(code, bytes, next)?;
+        return Ok((Operation::Constant(number), next));
+    }
+    read_coded(code, bytes, next)
+}
+
+impl UnaryOperation {
+    /// Returns what the operation makes of the top value.
+    pub fn apply(self, top: u64) -> u64
+        ensures { result ≡ changed self top }
+    {
+        match self {
+            UnaryOperation::Absolute => top.cast_signed().unsigned_abs(),
+            UnaryOperation::Negate => 0u64.wrapping_sub(top),
+            UnaryOperation::Not => !top,
+        }
+    }
+}
+
+/// Returns the quotient of two signed numbers, toward zero.
+fn quotient(second: u64, top: u64) -> Option<u64>
+    ensures { result ≡ quotient second top }
+{
+    if top == 0 {
+        return None;
+    }
+    Some(
+        second
+            .cast_signed()
+            .wrapping_div(top.cast_signed())
+            .cast_unsigned(),
+    )
+}
+
+/// Returns a signed number shifted right; all bits are its sign's from 64 places on.
+fn shifted_right(second: u64, top: u64) -> u64
+    ensures { result ≡ shifted_right second top }
+{
+    let places = if top < 64 { top as u32 } else { 63 };
+    (second.cast_signed() >> places).cast_unsigned()
+}
+
+/// Returns 1 or 0.
+fn bit_of(is: bool) -> u64
+    ensures { result ≡ bit_of is }
+{
+    if is { 1 } else { 0 }
+}
+
+/// Returns whether two signed numbers compare so. Other operations compare nothing.
+fn compared(operation: BinaryOperation, second: i64, top: i64) -> bool
+    ensures { result ≡ compared operation second top }
+{
+    match operation {
+        BinaryOperation::GreaterOrEqual => second >= top,
+        BinaryOperation::Greater => second > top,
+        BinaryOperation::LessOrEqual => second <= top,
+        BinaryOperation::Less => second < top,
+        _ => false,
+    }
+}
+
+impl BinaryOperation {
+    /// Returns what the operation makes of the second value and the top one. A division by zero has
+    /// no value.
+    pub fn apply(self, second: u64, top: u64) -> Option<u64>
+        ensures { result ≡ combined self second top }
+    {
+        match self {
+            BinaryOperation::And => Some(second & top),
+            BinaryOperation::Divide => quotient(second, top),
+            BinaryOperation::Minus => Some(second.wrapping_sub(top)),
+            BinaryOperation::Modulo => if top == 0 { None } else { Some(second % top) },
+            BinaryOperation::Multiply => Some(second.wrapping_mul(top)),
+            BinaryOperation::Or => Some(second | top),
+            BinaryOperation::Plus => Some(second.wrapping_add(top)),
+            BinaryOperation::ShiftLeft => { Some(if top < 64 { second << top } else { 0 }) }
+            BinaryOperation::ShiftRight => { Some(if top < 64 { second >> top } else { 0 }) }
+            BinaryOperation::ShiftRightArithmetic => Some(shifted_right(second, top)),
+            BinaryOperation::Xor => Some(second ^ top),
+            BinaryOperation::Equal => Some(bit_of(second == top)),
+            BinaryOperation::NotEqual => Some(bit_of(second != top)),
+            _ => {
+                let is = compared(self, second.cast_signed(), top.cast_signed());
+                Some(bit_of(is))
+            }
+        }
+    }
+}
