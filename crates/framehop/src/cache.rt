@@ -9,19 +9,32 @@ ghost use Rattle.framehop.specs.Unwinding.{Unwinding};
 ghost use Rattle.framehop.specs.Soundness.{IsSound};
 
 use crate::rule_cache::{CacheHandle, CacheResult, CacheStats, RuleCache};
+use framehop_cfi::context::UnwindContext;
+use framehop_cfi::storage::{StoreOnHeap, StoreOnStack, UnwindContextStorage};
 use framehop_core::unwind_rule::UnwindRule;
+use framehop_dwarf::evaluation::EvaluationStorage;
 use std::alloc::{AllocError, Global};
-use std::marker::{Model, PhantomData};
+use std::marker::Model;
 
 /// Whether unwinding may take memory. The two policies are [`MustNotAllocateDuringUnwind`] and
 /// [`MayAllocateDuringUnwind`].
 pub trait AllocationPolicy {
+    /// The room for the rows of a call frame table.
+    type GimliUnwindContextStorage: UnwindContextStorage;
+
+    /// The room for the values of a DWARF expression.
+    type GimliEvaluationStorage: EvaluationStorage;
+
     ghost MAY_ALLOCATE: { Bool };
 
     // what it lets unwinding use
     ghost policy: { Policy };
 
-    ghost is_policy: { (policy.may_allocate ≡ MAY_ALLOCATE) × IsLimited policy };
+    // where nothing may be allocated, both storages have limits
+    ghost is_policy: { (policy.may_allocate ≡ MAY_ALLOCATE)
+        × (policy.rows ≡ Self.GimliUnwindContextStorage.limits)
+        × (policy.values ≡ Self.GimliEvaluationStorage.Stack.limit)
+        × IsLimited policy };
 
     const MAY_ALLOCATE: bool;
 }
@@ -31,11 +44,15 @@ pub trait AllocationPolicy {
 pub struct MustNotAllocateDuringUnwind;
 
 impl AllocationPolicy for MustNotAllocateDuringUnwind {
+    type GimliUnwindContextStorage = StoreOnStack;
+
+    type GimliEvaluationStorage = StoreOnStack;
+
     ghost MAY_ALLOCATE = { false };
 
     ghost policy = { without_allocation };
 
-    ghost is_policy = { (refl, limited-without_allocation) };
+    ghost is_policy = { (refl, refl, refl, limited-without_allocation) };
 
     const MAY_ALLOCATE: bool = false;
 }
@@ -45,11 +62,15 @@ impl AllocationPolicy for MustNotAllocateDuringUnwind {
 pub struct MayAllocateDuringUnwind;
 
 impl AllocationPolicy for MayAllocateDuringUnwind {
+    type GimliUnwindContextStorage = StoreOnHeap;
+
+    type GimliEvaluationStorage = StoreOnHeap;
+
     ghost MAY_ALLOCATE = { true };
 
     ghost policy = { with_allocation };
 
-    ghost is_policy = { (refl, limited-with_allocation) };
+    ghost is_policy = { (refl, refl, refl, limited-with_allocation) };
 
     const MAY_ALLOCATE: bool = true;
 }
@@ -59,7 +80,8 @@ impl AllocationPolicy for MayAllocateDuringUnwind {
 #[derive(Drop)]
 pub struct Cache<R: UnwindRule, P: AllocationPolicy = MayAllocateDuringUnwind> {
     rule_cache: RuleCache<R>,
-    policy: PhantomData<P>,
+    /// Where rows of DWARF call frame tables are made, with its room made before.
+    gimli_unwind_context: Box<UnwindContext<P::GimliUnwindContextStorage>>,
 }
 
 impl<R: UnwindRule, P: AllocationPolicy> Model for Cache<R, P> {
@@ -77,9 +99,10 @@ impl<R: UnwindRule, P: AllocationPolicy> Cache<R, P> {
         ensures sound { IfOk result (λ cache. (unwinding : Unwinding R R.UnwindRegs) (unwinder : UnwinderView)
             → IsSound unwinding unwinder cache.sets) }
     {
+        let gimli_unwind_context = Box::new(alloc, UnwindContext::new_in(alloc)?)?;
         Ok(Cache {
             rule_cache: RuleCache::new(alloc)?,
-            policy: PhantomData,
+            gimli_unwind_context,
         })
     }
 
