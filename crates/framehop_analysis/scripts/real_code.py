@@ -279,7 +279,7 @@ def main():
         "/// A place: the function's first byte in the code and the end of its bytes, the offset of the pc in the function;",
         "/// and, in bytes from the stack pointer, the caller's stack pointer, the stack words with the caller's frame pointer",
         "/// and with the return address (`None` where the register has it), and where the frame pointer register points, if",
-        "/// into this frame; and whether other instructions than a prologue's stand before it in the function.",
+        "/// into this frame; and whether other instructions than a prologue's are before it in the function.",
         "pub type Place = (usize, usize, usize, u64, Option<u64>, Option<u64>, Option<u64>, bool);",
         "",
     ]

@@ -87,7 +87,7 @@ fn finds_epilogues(rt: HostRuntime) {
 
 #[test]
 fn finds_prologues(rt: HostRuntime) {
-    // push rbp; mov rbp, rsp, and pushes behind it, before sub rsp, 0x18
+    // push rbp; mov rbp, rsp, and pushes after it, before sub rsp, 0x18
     assert_prologue(
         &rt,
         &[
