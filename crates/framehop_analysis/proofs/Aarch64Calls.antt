@@ -1,9 +1,9 @@
 -- Authenticated calls of aarch64, and the words that an epilogue ends with.
-use Rattle.std.proofs.Common.{◌≡◌, ◌⊎◌, inl, inr, ℕ, zero, suc, ◌+◌, ◌-◌, ◌*◌, ◌/◌, ◌%◌, ◌^◌, ◌<◌, ◌≤◌, ℤ, pos, Bool, true, false, ◌&&◌, ◌||◌, ◌==◌, IsTrue, nat_eq, nat_lt, List, [], ◌∷◌, ◌++◌, length, slice_index, Option, Some, None, refl, sym, ap, ◌∙◌, subst, arith, bit_and}
+use Rattle.std.proofs.Common.{◌≡◌, ◌⊎◌, inl, inr, ℕ, zero, suc, ◌+◌, ◌-◌, ◌*◌, ◌/◌, ◌%◌, ◌^◌, ◌<◌, ◌≤◌, ℤ, Bool, true, false, ◌&&◌, ◌||◌, ◌==◌, nat_eq, List, [], ◌∷◌, ◌++◌, length, slice_index, Some, refl, sym, ap, ◌∙◌, subst, arith, bit_and}
 use Rattle.std.proofs.lemmas.Bool.Decides.{nat_tests}
 use Rattle.std.proofs.lemmas.Bool.{cases_lt}
 use Rattle.std.proofs.lemmas.Nat.{and_le_l, and_shr, and_mod, and_mask, shr-shr}
-use Rattle.framehop_analysis.specs.Aarch64.Words.{word_at, Stand, bits_at, is_load, is_add_sp, is_pair_by_sp, is_return, is_b, is_br, is_braa, is_mov, is_branch, operation, destination, base_register}
+use Rattle.framehop_analysis.specs.Aarch64.Words.{word_at, AreWordsAt, bits_at, is_load, is_add_sp, is_return, is_b, is_br, is_braa, is_mov, is_branch}
 use Rattle.framehop_analysis.specs.Aarch64.Epilogue.{check_words, is_call_word, IsAuthenticatedCall, by_b, by_braa, IsEnd, returns, branches, calls, IsInsideCallAfter, is_restoring}
 
 -- ---- tests
@@ -11,10 +11,10 @@ use Rattle.framehop_analysis.specs.Aarch64.Epilogue.{check_words, is_call_word, 
 pub some-same : (x y : ℕ) → Some x ≡ Some y → x ≡ y
 some-same x y e = cc
 
-eq-true : (m n : ℕ) → nat_eq m n ≡ true → m ≡ n
+pub eq-true : (m n : ℕ) → nat_eq m n ≡ true → m ≡ n
 eq-true m n e = grind (arith, nat_tests)
 
-and-left : (a b : Bool) → (a && b) ≡ true → a ≡ true
+pub and-left : (a b : Bool) → (a && b) ≡ true → a ≡ true
 and-left true b e = refl
 and-left false b e = cc
 
@@ -26,25 +26,30 @@ pub or-right : (a b : Bool) → b ≡ true → (a || b) ≡ true
 or-right true b e = refl
 or-right false b e = e
 
-not-true : (a : Bool) → (a ≡ true → ⊥) → a ≡ false
+pub or-left : (a b : Bool) → a ≡ true → (a || b) ≡ true
+or-left a b e = ap (λ t. t || b) e
+
+pub not-true : (a : Bool) → (a ≡ true → ⊥) → a ≡ false
 not-true true h = absurd (h refl)
 not-true false h = refl
 
 -- ---- no word is both
 
 -- the word's highest 7 bits, of a load and of a branch
-load-high : (word : ℕ) → is_load word ≡ true → bit_and (bits_at word 25 7) 0x5F ≡ 0x54
-load-high word e =
-    let field : bit_and (word / 2 ^ 22) 0x2F9 ≡ 0x2A1 = eq-true _ _ (and-left _ _ e) in
-    let shifted : bit_and (word / 2 ^ 22) 0x2F9 / 2 ^ 3 ≡ 0x54 = ap (λ n. n / 2 ^ 3) field in
+pub pair-high : (word value : ℕ) → bit_and (word / 2 ^ 22) 0x2F9 ≡ value → value / 2 ^ 3 ≡ 0x54 → bit_and (bits_at word 25 7) 0x5F ≡ 0x54
+pair-high word value field value_is =
+    let shifted : bit_and (word / 2 ^ 22) 0x2F9 / 2 ^ 3 ≡ 0x54 = ap (λ n. n / 2 ^ 3) field ∙ value_is in
     let moved : bit_and (word / 2 ^ 22 / 2 ^ 3) 0x5F ≡ 0x54 = sym (and_shr (word / 2 ^ 22) 0x2F9 3) ∙ shifted in
     let high : bit_and (word / 2 ^ 25) 0x5F ≡ 0x54 = ap (λ n. bit_and n 0x5F) (sym (shr-shr word 22 3)) ∙ moved in
     sym (and_mod (word / 2 ^ 25) 0x5F 7) ∙ ap (λ n. n % 2 ^ 7) high
 
+load-high : (word : ℕ) → is_load word ≡ true → bit_and (bits_at word 25 7) 0x5F ≡ 0x54
+load-high word e = pair-high word 0x2A1 (eq-true _ _ (and-left _ _ e)) refl
+
 two_of : (n : ℕ) → 10 ≤ n → n ≤ 11 → (n ≡ 10) ⊎ (n ≡ 11)
 two_of n low high = elim (cases_lt 10 n) [ inl above ↦ inr (omega arith) | inr below ↦ inl (omega arith) ]
 
-b-high : (word : ℕ) → is_b word ≡ true → (bits_at word 25 7 ≡ 10) ⊎ (bits_at word 25 7 ≡ 11)
+pub b-high : (word : ℕ) → is_b word ≡ true → (bits_at word 25 7 ≡ 10) ⊎ (bits_at word 25 7 ≡ 11)
 b-high word e =
     let top : word / 2 ^ 26 ≡ 5 = eq-true _ _ e in
     let split = shr-shr word 25 1 in
@@ -77,6 +82,9 @@ b-mov-apart word b mov =
 
 -- ---- branches
 
+pub b-branch : (word : ℕ) → is_b word ≡ true → is_branch word ≡ true
+b-branch word e = ap (λ t. t || (bits_at word 25 7 == 0x6B)) e
+
 pub return-branch : (word : ℕ) → is_return word ≡ true → is_branch word ≡ true
 return-branch word e = elim (or-cases (word == 0xD65F03C0) (word == 0xD65F0FFF) e) [
   | inl ret ↦ ap is_branch (eq-true word 0xD65F03C0 ret)
@@ -95,9 +103,21 @@ br-branch word e = high-branch word 0xFFFFFC1F 0xD61F0000 (eq-true _ _ e) refl r
 pub braa-branch : (word : ℕ) → is_braa word ≡ true → is_branch word ≡ true
 braa-branch word e = high-branch word 0xFFFFFC00 0xD71F0800 (eq-true _ _ (and-left _ _ e)) refl refl
 
+pub branch-high : (word : ℕ) → (is_return word || is_b word || is_br word || is_braa word) ≡ true → is_branch word ≡ true
+branch-high word e = elim (or-cases (is_return word || is_b word || is_br word) (is_braa word) e) [
+  | inr braa ↦ braa-branch word braa
+  | inl three ↦ elim (or-cases (is_return word || is_b word) (is_br word) three) [
+    | inr br ↦ br-branch word br
+    | inl two ↦ elim (or-cases (is_return word) (is_b word) two) [
+      | inl return ↦ return-branch word return
+      | inr b ↦ b-branch word b
+    ]
+  ]
+]
+
 -- ---- calls
 
-pub stand-nth : (bytes : List ℕ) (at k : ℕ) (words : List ℕ) → Stand bytes at words → k < length words → word_at bytes (at + 4 * k) ≡ Some (slice_index words k)
+pub stand-nth : (bytes : List ℕ) (at k : ℕ) (words : List ℕ) → AreWordsAt bytes at words → k < length words → word_at bytes (at + 4 * k) ≡ Some (slice_index words k)
 stand-nth bytes at k [] stands below = absurd (omega arith)
 stand-nth bytes at zero (word ∷ words) stands below =
     let here : at + 4 * 0 ≡ at = omega arith in ap (word_at bytes) here ∙ stands.0
@@ -105,25 +125,25 @@ stand-nth bytes at (suc k) (word ∷ words) stands below =
     let there : at + 4 * suc k ≡ at + 4 + 4 * k = omega arith in
     ap (word_at bytes) there ∙ stand-nth bytes (at + 4) k words stands.1 (omega arith)
 
-moved : (bytes : List ℕ) (at : ℕ) (xs ys : List ℕ) → xs ≡ ys → Stand bytes at xs → Stand bytes at ys
-moved bytes at xs ys e stands = let P : List ℕ → Type 0 = Stand bytes at in subst P e stands
+moved : (bytes : List ℕ) (at : ℕ) (xs ys : List ℕ) → xs ≡ ys → AreWordsAt bytes at xs → AreWordsAt bytes at ys
+moved bytes at xs ys e stands = let P : List ℕ → Type 0 = AreWordsAt bytes at in subst P e stands
 
-pub call-by_b : (bytes : List ℕ) (start b at : ℕ) → Stand bytes start check_words → at ≡ start + 4 + 4 + 4 + 4 → Some b ≡ word_at bytes at → is_b b ≡ true → (words : List ℕ) × Stand bytes start words × IsAuthenticatedCall words × (5 ≡ length words)
+pub call-by_b : (bytes : List ℕ) (start b at : ℕ) → AreWordsAt bytes start check_words → at ≡ start + 4 + 4 + 4 + 4 → Some b ≡ word_at bytes at → is_b b ≡ true → (words : List ℕ) × AreWordsAt bytes start words × IsAuthenticatedCall words × (5 ≡ length words)
 call-by_b bytes start b at stands at_is there b_is =
     let last : word_at bytes (start + 4 + 4 + 4 + 4) ≡ Some b = ap (word_at bytes) (sym at_is) ∙ sym there in
     (check_words ++ b ∷ [], (stands.0, (stands.1.0, (stands.1.1.0, (stands.1.1.1.0, (last, tt))))), by_b b b_is refl, refl)
 
-pub call-by_braa : (bytes : List ℕ) (start mov braa at : ℕ) → Stand bytes start check_words → at ≡ start + 4 + 4 + 4 + 4 → Some mov ≡ word_at bytes at → Some braa ≡ word_at bytes (at + 4) → is_mov mov ≡ true → is_braa braa ≡ true → (words : List ℕ) × Stand bytes start words × IsAuthenticatedCall words × (6 ≡ length words)
+pub call-by_braa : (bytes : List ℕ) (start mov braa at : ℕ) → AreWordsAt bytes start check_words → at ≡ start + 4 + 4 + 4 + 4 → Some mov ≡ word_at bytes at → Some braa ≡ word_at bytes (at + 4) → is_mov mov ≡ true → is_braa braa ≡ true → (words : List ℕ) × AreWordsAt bytes start words × IsAuthenticatedCall words × (6 ≡ length words)
 call-by_braa bytes start mov braa at stands at_is there later mov_is braa_is =
     let fifth : word_at bytes (start + 4 + 4 + 4 + 4) ≡ Some mov = ap (word_at bytes) (sym at_is) ∙ sym there in
     let sixth : word_at bytes (start + 4 + 4 + 4 + 4 + 4) ≡ Some braa = ap (λ n. word_at bytes (n + 4)) (sym at_is) ∙ sym later in
     (check_words ++ mov ∷ braa ∷ [], (stands.0, (stands.1.0, (stands.1.1.0, (stands.1.1.1.0, (fifth, (sixth, tt)))))), by_braa mov braa mov_is braa_is refl, refl)
 
-fifth-of : (bytes : List ℕ) (at w : ℕ) (words rest : List ℕ) → Stand bytes at words → words ≡ check_words ++ w ∷ rest → word_at bytes (at + 4 + 4 + 4 + 4) ≡ Some w
+fifth-of : (bytes : List ℕ) (at w : ℕ) (words rest : List ℕ) → AreWordsAt bytes at words → words ≡ check_words ++ w ∷ rest → word_at bytes (at + 4 + 4 + 4 + 4) ≡ Some w
 fifth-of bytes at w words rest stands e = (moved bytes at words (check_words ++ w ∷ rest) e stands).1.1.1.1.0
 
 -- there is one call at a place
-pub call-same : (bytes : List ℕ) (at : ℕ) (xs ys : List ℕ) → Stand bytes at xs → IsAuthenticatedCall xs → Stand bytes at ys → IsAuthenticatedCall ys → xs ≡ ys
+pub call-same : (bytes : List ℕ) (at : ℕ) (xs ys : List ℕ) → AreWordsAt bytes at xs → IsAuthenticatedCall xs → AreWordsAt bytes at ys → IsAuthenticatedCall ys → xs ≡ ys
 call-same bytes at xs ys a (by_b b b_is e) c (by_b d d_is f) =
     let same : b ≡ d = some-same b d (sym (fifth-of bytes at b xs [] a e) ∙ fifth-of bytes at d ys [] c f) in
     e ∙ ap (λ w. check_words ++ w ∷ []) same ∙ sym f
@@ -178,20 +198,17 @@ call-word text pc k word i e =
 
 -- ---- ends
 
-first-of : (text : List ℕ) (at w word : ℕ) (words rest : List ℕ) → Stand text at words → words ≡ w ∷ rest → word_at text at ≡ Some word → word ≡ w
+first-of : (text : List ℕ) (at w word : ℕ) (words rest : List ℕ) → AreWordsAt text at words → words ≡ w ∷ rest → word_at text at ≡ Some word → word ≡ w
 first-of text at w word words rest stands e there = some-same word w (sym there ∙ (moved text at words (w ∷ rest) e stands).0)
 
-call-not-restoring : (text : List ℕ) (at word : ℕ) (words : List ℕ) → IsAuthenticatedCall words → Stand text at words → word_at text at ≡ Some word → is_restoring word ≡ false
+call-not-restoring : (text : List ℕ) (at word : ℕ) (words : List ℕ) → IsAuthenticatedCall words → AreWordsAt text at words → word_at text at ≡ Some word → is_restoring word ≡ false
 call-not-restoring text at word words (by_b b b_is e) stands there =
     ap is_restoring (first-of text at 0xD50323FF word words _ stands e there)
 call-not-restoring text at word words (by_braa mov braa mov_is braa_is e) stands there =
     ap is_restoring (first-of text at 0xD50323FF word words _ stands e there)
 
-pub b-branch : (word : ℕ) → is_b word ≡ true → is_branch word ≡ true
-b-branch word e = ap (λ t. t || (bits_at word 25 7 == 0x6B)) e
-
 -- what an epilogue ends with does not restore
-pub end-not-restoring : (text : List ℕ) (at word : ℕ) (by : ℤ) (words : List ℕ) → IsEnd by words → Stand text at words → word_at text at ≡ Some word → is_restoring word ≡ false
+pub end-not-restoring : (text : List ℕ) (at word : ℕ) (by : ℤ) (words : List ℕ) → IsEnd by words → AreWordsAt text at words → word_at text at ≡ Some word → is_restoring word ≡ false
 end-not-restoring text at word by words (returns w is e) stands there =
     ap is_restoring (first-of text at w word words [] stands e there) ∙ branch-not-restoring w (return-branch w is)
 end-not-restoring text at word by words (branches w is apart e) stands there =

@@ -1,5 +1,5 @@
 -- The rule of an epilogue on aarch64 does what the machine does.
-use Rattle.std.proofs.Common.{◌≡◌, ◌⊎◌, inl, inr, ℕ, zero, suc, ◌+◌, ◌*◌, ◌^◌, ◌<◌, ℤ, pos, ◌+ℤ◌, ◌*ℤ◌, Bool, true, false, cond, ◌==◌, ◌||◌, List, [], ◌∷◌, ◌++◌, length, Option, Some, None, Result, Ok, refl, sym, ap, ◌∙◌, subst, arith}
+use Rattle.std.proofs.Common.{◌≡◌, inl, inr, ℕ, zero, suc, ◌+◌, ◌*◌, ◌^◌, ◌<◌, ℤ, pos, ◌+ℤ◌, Bool, true, false, cond, ◌==◌, ◌||◌, List, [], ◌∷◌, ◌++◌, length, Option, Some, None, Ok, refl, sym, ap, ◌∙◌, subst, arith}
 use Rattle.std.specs.Prelude.{option_map}
 use Rattle.std.proofs.lemmas.Int.{ints}
 use Rattle.framehop_core.specs.Memory.{Memory}
@@ -8,15 +8,13 @@ use Rattle.framehop_core.specs.Laws.Outcome.{and_then-ok, address_at-ok, word_at
 use Rattle.framehop_core.specs.Aarch64.Registers.{Registers, strip_ptr_auth}
 use Rattle.framehop_core.specs.Aarch64.Rules.{outcome, nothing_more, Source, kept, stored_at}
 use Rattle.framehop_core.specs.Laws.Aarch64.{IsCaller, caller-answered}
-use Rattle.framehop_core.specs.declared.error.Error.{Error}
 use Rattle.framehop_core.specs.declared.aarch64.unwind_rule.UnwindRuleAarch64.{UnwindRuleAarch64}
 use Rattle.framehop_core.specs.declared.aarch64.unwind_rule.UnwindRuleAarch64.TheVariants.{NoOp, NoOpIfFirstFrameOtherwiseFp, OffsetSp, OffsetSpIfFirstFrameOtherwiseStackEndsHere, OffsetSpAndRestoreLr, OffsetSpAndRestoreFpAndLr, UseFramePointer, UseFramepointerWithOffsets}
-use Rattle.framehop_analysis.specs.Aarch64.Words.{word_at, Stand, is_load, is_add_sp, addressing, pair_offset, first_register, second_register, immediate, is_signing, is_other, is_return, is_b, is_br, is_braa, is_mov, is_check, is_branch}
-use Rattle.framehop_analysis.specs.Aarch64.Units.{IsUnitsOf16, IsUnitsOf8}
-use Rattle.framehop_analysis.specs.Aarch64.Machine.{State, Step, Signs, RunOut, SameAddress, StandsIn, offset_by, access_address, after_load}
-use Rattle.framehop_analysis.specs.Aarch64.Epilogue.{Places, at_pc, is_restoring, places_after, places_after_all, place_after_load, AllRestoring, check_words, IsAuthenticatedCall, by_b, by_braa, IsEnd, returns, branches, calls, IsInsideCallAfter, IsInsideCall, IsAtTailCall, IsRestored, inside_call, at_tail_call, IsPlace, IsRuleOfPlaces, IsRestOfEpilogue, IsEpilogueRule, restored, restores, DoesEpilogue}
+use Rattle.framehop_analysis.specs.Aarch64.Words.{AreWordsAt, is_load, is_add_sp, addressing, pair_offset, first_register, second_register, immediate, is_signing, is_other, is_return, is_b, is_br, is_braa, is_mov, is_check, is_branch}
+use Rattle.framehop_analysis.specs.Aarch64.Machine.{State, Step, Signs, RunOut, SameAddress, HasRegisters, offset_by, access_address}
+use Rattle.framehop_analysis.specs.Aarch64.Epilogue.{Places, at_pc, is_restoring, places_after, places_after_all, place_after_load, AllRestoring, IsAuthenticatedCall, by_b, by_braa, IsEnd, returns, branches, calls, IsRestored, inside_call, at_tail_call, IsPlace, IsRuleOfPlaces, IsEpilogueRule, restored, restores, DoesEpilogue}
 use Rattle.framehop_analysis.proofs.Offsets.{offset_by-fits, offset_by-zero, offset_by-offset_by}
-use Rattle.framehop_analysis.proofs.Aarch64Calls.{some-same, branch-not-restoring, return-branch, b-branch, br-branch, braa-branch, or-right, or-cases}
+use Rattle.framehop_analysis.proofs.Aarch64Calls.{some-same, branch-not-restoring, return-branch, b-branch, br-branch, braa-branch, or-left, or-right, or-cases}
 use Rattle.framehop_analysis.proofs.Aarch64Undoes.{stripped-again, ok-same}
 
 -- ---- what restores
@@ -77,11 +75,11 @@ step-restored mask word start s t p false false load_is add_is either step r = c
 
 -- ---- what changes nothing but authentication bits
 
-is_quiet : ℕ → Bool
+unfoldable pub is_quiet : ℕ → Bool
 is_quiet word = is_signing word || is_other word
 
 -- such instructions, of which the last one is a branch
-IsQuiet : ℕ → List ℕ → Type 0
+unfoldable pub IsQuiet : ℕ → List ℕ → Type 0
 IsQuiet word [] = (is_quiet word ≡ true) × (is_branch word ≡ true)
 IsQuiet word (next ∷ words) = (is_quiet word ≡ true) × IsQuiet next words
 
@@ -101,7 +99,7 @@ signs-signs mask s t u a b = record {
 not-branch : (word : ℕ) → is_branch word ≡ true → is_branch word ≡ false → ⊥
 not-branch word branch none = cc
 
-run-quiet : (mask : ℕ) (text : List ℕ) (count at word : ℕ) (words : List ℕ) (s t : State) → Stand text at (word ∷ words) → IsQuiet word words → RunOut mask text count at s t → Signs mask s t
+run-quiet : (mask : ℕ) (text : List ℕ) (count at word : ℕ) (words : List ℕ) (s t : State) → AreWordsAt text at (word ∷ words) → IsQuiet word words → RunOut mask text count at s t → Signs mask s t
 unfolding IsQuiet
 run-quiet mask text zero at word [] s t stands quiet (w, there, branch, step) =
     let same : w ≡ word = some-same w word (sym there ∙ stands.0) in
@@ -118,9 +116,6 @@ run-quiet mask text (suc count) at word (next ∷ words) s t stands quiet (w, th
     (run-quiet mask text count (at + 4) next words u t stands.1 quiet.1 rest)
 
 -- ---- ends are quiet
-
-or-left : (a b : Bool) → a ≡ true → (a || b) ≡ true
-or-left a b e = ap (λ t. t || b) e
 
 other-quiet : (word : ℕ) → is_other word ≡ true → is_quiet word ≡ true
 unfolding is_quiet
@@ -142,7 +137,7 @@ mov-other : (word : ℕ) → is_mov word ≡ true → is_other word ≡ true
 mov-other word e = or-left _ (is_check word) (or-right (is_return word || is_b word || is_br word || is_braa word) (is_mov word) e)
 
 -- a list of quiet instructions
-IsQuietList : List ℕ → Type 0
+unfoldable pub IsQuietList : List ℕ → Type 0
 IsQuietList words = (first : ℕ) × (rest : List ℕ) × (words ≡ first ∷ rest) × IsQuiet first rest
 
 call-quiet : (words : List ℕ) → IsAuthenticatedCall words → IsQuietList words
@@ -150,32 +145,32 @@ unfolding IsQuietList IsQuiet is_quiet
 call-quiet words (by_b b is e) = (0xD50323FF, 0xCA1E07D0 ∷ 0xB6F00050 ∷ 0xD4388E20 ∷ b ∷ [], e, (refl, (refl, (refl, (refl, (other-quiet b (b-other b is), b-branch b is))))))
 call-quiet words (by_braa mov braa mov_is braa_is e) = (0xD50323FF, 0xCA1E07D0 ∷ 0xB6F00050 ∷ 0xD4388E20 ∷ mov ∷ braa ∷ [], e, (refl, (refl, (refl, (refl, (other-quiet mov (mov-other mov mov_is), (other-quiet braa (braa-other braa braa_is), braa-branch braa braa_is)))))))
 
-end-quiet : (by : ℤ) (words : List ℕ) → IsEnd by words → IsQuietList words
+pub end-quiet : (by : ℤ) (words : List ℕ) → IsEnd by words → IsQuietList words
 unfolding IsQuietList IsQuiet
 end-quiet by words (returns w is e) = (w, [], e, (other-quiet w (return-other w is), return-branch w is))
 end-quiet by words (branches w is apart e) = (w, [], e, (other-quiet w (b-other w is), b-branch w is))
 end-quiet by words (calls call) = call-quiet words call
 
 -- the words from a place of the list on
-from-place : (text : List ℕ) (start k first : ℕ) (rest : List ℕ) → Stand text start (first ∷ rest) → IsQuiet first rest → k < length (first ∷ rest) → (word : ℕ) × (words : List ℕ) × Stand text (start + 4 * k) (word ∷ words) × IsQuiet word words
+from-place : (text : List ℕ) (start k first : ℕ) (rest : List ℕ) → AreWordsAt text start (first ∷ rest) → IsQuiet first rest → k < length (first ∷ rest) → (word : ℕ) × (words : List ℕ) × AreWordsAt text (start + 4 * k) (word ∷ words) × IsQuiet word words
 unfolding IsQuiet
 from-place text start zero first rest stands quiet below =
-    let P : ℕ → Type 0 = λ n. Stand text n (first ∷ rest) in
+    let P : ℕ → Type 0 = λ n. AreWordsAt text n (first ∷ rest) in
     (first, rest, subst P (omega arith) stands, quiet)
 from-place text start (suc k) first [] stands quiet below = absurd (omega arith)
 from-place text start (suc k) first (next ∷ rest) stands quiet below =
     let found = from-place text (start + 4) k next rest stands.1 quiet.1 (omega arith) in
-    let P : ℕ → Type 0 = λ n. Stand text n (found.0 ∷ found.1) in
+    let P : ℕ → Type 0 = λ n. AreWordsAt text n (found.0 ∷ found.1) in
     (found.0, found.1, subst P (omega arith) found.2, found.3)
 
-restored-quiet : (text : List ℕ) (pc : ℕ) → IsRestored text pc → (word : ℕ) × (words : List ℕ) × Stand text pc (word ∷ words) × IsQuiet word words
+pub restored-quiet : (text : List ℕ) (pc : ℕ) → IsRestored text pc → (word : ℕ) × (words : List ℕ) × AreWordsAt text pc (word ∷ words) × IsQuiet word words
 unfolding IsQuietList IsQuiet
 restored-quiet text pc (inside_call (k, i)) =
     let q = call-quiet i.words i.call in
-    let P : List ℕ → Type 0 = Stand text i.start in
+    let P : List ℕ → Type 0 = AreWordsAt text i.start in
     let n : length i.words ≡ length (q.0 ∷ q.1) = ap length q.2 in
     let found = from-place text i.start k q.0 q.1 (subst P q.2 i.stands) q.3 (let inside = i.inside in omega arith) in
-    let Q : ℕ → Type 0 = λ n. Stand text n (found.0 ∷ found.1) in
+    let Q : ℕ → Type 0 = λ n. AreWordsAt text n (found.0 ∷ found.1) in
     (found.0, found.1, subst Q (sym i.place) found.2, found.3)
 restored-quiet text pc (at_tail_call t) =
     elim (or-cases (is_b t.branch) (is_br t.branch) t.branches) [
@@ -198,11 +193,11 @@ signed mask start s t p r signs = record {
   lr = ap (option_map (strip_ptr_auth mask)) (sym r.lr) ∙ signs.address;
 }
 
-run-out : (mask : ℕ) (text : List ℕ) (count at : ℕ) (restoring end : List ℕ) (start s t : State) (p : Places) → Stand text at (restoring ++ end) → AllRestoring restoring → IsEnd (places_after_all p restoring).sp end → Tracks start s p → RunOut mask text count at s t → TracksOut mask start t (places_after_all p restoring)
+run-out : (mask : ℕ) (text : List ℕ) (count at : ℕ) (restoring end : List ℕ) (start s t : State) (p : Places) → AreWordsAt text at (restoring ++ end) → AllRestoring restoring → IsEnd (places_after_all p restoring).sp end → Tracks start s p → RunOut mask text count at s t → TracksOut mask start t (places_after_all p restoring)
 unfolding IsQuietList
 run-out mask text count at [] end start s t p stands restore ends r out =
     let q = end-quiet p.sp end ends in
-    let P : List ℕ → Type 0 = Stand text at in
+    let P : List ℕ → Type 0 = AreWordsAt text at in
     signed mask start s t p r (run-quiet mask text count at q.0 q.1 s t (subst P q.2 stands) q.3 out)
 run-out mask text zero at (word ∷ restoring) end start s t p stands restore ends r (w, there, branch, step) =
     let same : w ≡ word = some-same w word (sym there ∙ stands.0) in
@@ -218,7 +213,7 @@ run-out mask text (suc count) at (word ∷ restoring) end start s t p stands res
 
 -- what a line of the table has found is what the state has
 IsOut : Registers → Registers → State → ℕ → Type 0
-IsOut r new out address = StandsIn new out × (new.lr_mask ≡ r.lr_mask) × (address ≡ new.lr)
+IsOut r new out address = HasRegisters new out × (new.lr_mask ≡ r.lr_mask) × (address ≡ new.lr)
 
 found-out : (sp : ℤ) (lr fp : Source) (first : Bool) (r new : Registers) (memory : Memory) (out : State) (address : ℕ) → (c : IsCaller sp lr fp nothing_more first r memory address new) → out.sp ≡ c.new_sp → out.fp ≡ Some c.new_fp → option_map (strip_ptr_auth r.lr_mask) out.lr ≡ Some (strip_ptr_auth r.lr_mask c.new_lr) → IsOut r new out address
 unfolding IsOut
@@ -235,13 +230,13 @@ found-out sp lr fp first r new memory out address c sp_is fp_is lr_is =
     )
 
 -- a register that is kept, and one that is stored
-lr-kept : (r : Registers) (here out : State) (new_lr : ℕ) (p : Option ℤ) → p ≡ None → SameAddress r.lr_mask (value_at here p here.lr) out.lr → StandsIn r here → r.lr ≡ new_lr → option_map (strip_ptr_auth r.lr_mask) out.lr ≡ Some (strip_ptr_auth r.lr_mask new_lr)
+lr-kept : (r : Registers) (here out : State) (new_lr : ℕ) (p : Option ℤ) → p ≡ None → SameAddress r.lr_mask (value_at here p here.lr) out.lr → HasRegisters r here → r.lr ≡ new_lr → option_map (strip_ptr_auth r.lr_mask) out.lr ≡ Some (strip_ptr_auth r.lr_mask new_lr)
 unfolding value_at
 lr-kept r here out new_lr None e lr stands same =
     sym lr ∙ stands.lr ∙ ap Some (sym (stripped-again r.lr_mask r.lr here.lr stands.lr) ∙ ap (strip_ptr_auth r.lr_mask) same)
 lr-kept r here out new_lr (Some place) e lr stands same = cc
 
-fp-kept : (r : Registers) (here out : State) (new_fp : ℕ) (p : Option ℤ) → p ≡ None → out.fp ≡ value_at here p here.fp → StandsIn r here → r.fp ≡ new_fp → out.fp ≡ Some new_fp
+fp-kept : (r : Registers) (here out : State) (new_fp : ℕ) (p : Option ℤ) → p ≡ None → out.fp ≡ value_at here p here.fp → HasRegisters r here → r.fp ≡ new_fp → out.fp ≡ Some new_fp
 unfolding value_at
 fp-kept r here out new_fp None e fp stands same = fp ∙ stands.fp ∙ ap Some same
 fp-kept r here out new_fp (Some place) e fp stands same = cc
@@ -259,7 +254,7 @@ sp-out : (here : State) (r : Registers) (p : ℤ) (x n : ℕ) → here.sp ≡ r.
 sp-out here r p x n sp is sum fits =
     offset_by-fits here.sp n p (ap (λ m. pos m +ℤ p) sp ∙ ap (λ q. pos r.sp +ℤ q) is ∙ sum) fits
 
-rule-does : (rule : UnwindRuleAarch64) (r new : Registers) (here out : State) (first : Bool) (address : ℕ) (p : Places) → IsRuleOfPlaces p rule → StandsIn r here → TracksOut r.lr_mask here out p → outcome rule first r here.memory ≡ answered address new → IsOut r new out address
+rule-does : (rule : UnwindRuleAarch64) (r new : Registers) (here out : State) (first : Bool) (address : ℕ) (p : Places) → IsRuleOfPlaces p rule → HasRegisters r here → TracksOut r.lr_mask here out p → outcome rule first r here.memory ≡ answered address new → IsOut r new out address
 rule-does NoOp r new here out false address p made stands t e = cc
 rule-does NoOp r new here out true address p made stands t e =
     let c = caller-answered (pos r.sp) (kept r.lr) (kept r.fp) nothing_more true r here.memory address new e in

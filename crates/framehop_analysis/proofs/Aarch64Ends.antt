@@ -1,19 +1,18 @@
 -- Epilogues on aarch64, read forwards word by word: the rest of an epilogue from one place to the next.
-use Rattle.std.proofs.Common.{◌≡◌, ◌≢◌, ◌⊎◌, inl, inr, ◌↔◌, ℕ, zero, suc, ◌+◌, ◌-◌, ◌*◌, ◌<◌, ◌≤◌, ℤ, pos, ◌+ℤ◌, ◌≤ℤ◌, Bool, true, false, ◌==◌, IsTrue, nat_eq, nat_lt, cond, List, [], ◌∷◌, ◌++◌, length, Option, Some, None, MatchOption, is_some, refl, sym, ap, ◌∙◌, subst, arith}
+use Rattle.std.proofs.Common.{◌≡◌, ◌≢◌, ◌↔◌, ℕ, ◌+◌, ◌-◌, ◌*◌, ◌<◌, ◌≤◌, ℤ, pos, ◌+ℤ◌, ◌≤ℤ◌, Bool, true, false, ◌==◌, IsTrue, nat_lt, cond, List, [], ◌∷◌, ◌++◌, length, Option, Some, None, MatchOption, is_some, refl, sym, ap, ◌∙◌, subst, arith}
 use Rattle.std.proofs.lemmas.Bool.Decides.{nat_tests}
 use Rattle.std.proofs.lemmas.Int.{ints}
 use Rattle.framehop_core.specs.declared.aarch64.unwind_rule.UnwindRuleAarch64.{UnwindRuleAarch64}
-use Rattle.framehop_core.specs.declared.aarch64.unwind_rule.UnwindRuleAarch64.TheVariants.{NoOp}
 use Rattle.framehop_analysis.specs.Answer.{IsOnly}
-use Rattle.framehop_analysis.specs.Aarch64.Words.{word_at, Stand, is_load, is_return, is_b, addressing, pair_offset, immediate}
-use Rattle.framehop_analysis.specs.Aarch64.Epilogue.{Places, at_pc, is_restoring, places_after, places_after_all, place_after_load, AllRestoring, IsAuthenticatedCall, IsEnd, returns, branches, calls, IsInsideCallAfter, IsInsideCall, IsRestored, IsRuleOfPlaces, IsRestOfEpilogue, IsEpilogueRule, restored, restores}
+use Rattle.framehop_analysis.specs.Aarch64.Words.{word_at, AreWordsAt, is_load, is_return, is_b, addressing, pair_offset}
+use Rattle.framehop_analysis.specs.Aarch64.Epilogue.{Places, at_pc, is_restoring, places_after, places_after_all, place_after_load, AllRestoring, IsAuthenticatedCall, IsEnd, returns, branches, calls, IsInsideCallAfter, IsRestored, IsRuleOfPlaces, IsRestOfEpilogue, IsEpilogueRule, restored, restores}
 use Rattle.framehop_analysis.proofs.Answers.{only-map}
 use Rattle.framehop_analysis.proofs.Aarch64Calls.{some-same, call-same, call-short, end-not-restoring}
 
 -- ---- ends
 
 abbrev pub Ends : List ℕ → ℕ → ℤ → Type 0
-Ends text at by = (words : List ℕ) × Stand text at words × IsEnd by words
+Ends text at by = (words : List ℕ) × AreWordsAt text at words × IsEnd by words
 
 pub end-return : (text : List ℕ) (at word : ℕ) (by : ℤ) → Some word ≡ word_at text at → is_return word ≡ true → Ends text at by
 end-return text at word by there is = (word ∷ [], (sym there, tt), returns word is refl)
@@ -22,15 +21,15 @@ pub end-branch : (text : List ℕ) (at word : ℕ) (by : ℤ) → Some word ≡ 
 end-branch text at word by there is apart = (word ∷ [], (sym there, tt), branches word is apart refl)
 
 -- where the word is neither a return nor a branch after sp has moved, an end is a call
-pub end-call : (text : List ℕ) (at word : ℕ) (by : ℤ) (found : Option ℕ) → Some word ≡ word_at text at → (is_return word ≡ true → ⊥) → (is_b word ≡ true → by ≢ pos 0 → ⊥) → MatchOption found ((words : List ℕ) → Stand text at words → IsAuthenticatedCall words → ⊥) (λ len. (words : List ℕ) × Stand text at words × IsAuthenticatedCall words × (len ≡ length words)) → IsTrue (is_some found) ↔ Ends text at by
+pub end-call : (text : List ℕ) (at word : ℕ) (by : ℤ) (found : Option ℕ) → Some word ≡ word_at text at → (is_return word ≡ true → ⊥) → (is_b word ≡ true → by ≢ pos 0 → ⊥) → MatchOption found ((words : List ℕ) → AreWordsAt text at words → IsAuthenticatedCall words → ⊥) (λ len. (words : List ℕ) × AreWordsAt text at words × IsAuthenticatedCall words × (len ≡ length words)) → IsTrue (is_some found) ↔ Ends text at by
 end-call text at word by (Some len) there no_return no_branch call = (λ t. (call.0, call.1, calls call.2), λ e. refl)
 end-call text at word by None there no_return no_branch call = (λ t. cc, λ e. absurd (no_end e.0 e.1 e.2)) where
-  no_end : (words : List ℕ) → Stand text at words → IsEnd by words → ⊥
+  no_end : (words : List ℕ) → AreWordsAt text at words → IsEnd by words → ⊥
   no_end words stands (returns w is e) =
-      let P : List ℕ → Type 0 = Stand text at in
+      let P : List ℕ → Type 0 = AreWordsAt text at in
       no_return (ap is_return (some-same word w (there ∙ (subst P e stands).0)) ∙ is)
   no_end words stands (branches w is apart e) =
-      let P : List ℕ → Type 0 = Stand text at in
+      let P : List ℕ → Type 0 = AreWordsAt text at in
       no_branch (ap is_b (some-same word w (there ∙ (subst P e stands).0)) ∙ is) apart
   no_end words stands (calls is) = call words stands is
 
@@ -42,7 +41,7 @@ lt-of m n test = grind (arith, nat_tests)
 of-lt : (m n : ℕ) → m < n → IsTrue (nat_lt m n)
 of-lt m n below = grind (arith, nat_tests)
 
-pub inside-iff : (text : List ℕ) (pc before len : ℕ) → 4 * before ≤ pc → ((words : List ℕ) × Stand text (pc - 4 * before) words × IsAuthenticatedCall words × (len ≡ length words)) → IsTrue (nat_lt before len) ↔ IsInsideCallAfter text pc before
+pub inside-iff : (text : List ℕ) (pc before len : ℕ) → 4 * before ≤ pc → ((words : List ℕ) × AreWordsAt text (pc - 4 * before) words × IsAuthenticatedCall words × (len ≡ length words)) → IsTrue (nat_lt before len) ↔ IsInsideCallAfter text pc before
 inside-iff text pc before len room found = (
   λ test. record {
     start = pc - 4 * before;
@@ -54,16 +53,16 @@ inside-iff text pc before len room found = (
   },
   λ i.
       let at : i.start ≡ pc - 4 * before = (let e = i.place in omega arith) in
-      let P : ℕ → Type 0 = λ n. Stand text n i.words in
+      let P : ℕ → Type 0 = λ n. AreWordsAt text n i.words in
       let same : i.words ≡ found.0 = call-same text (pc - 4 * before) i.words found.0 (subst P at i.stands) i.call found.1 found.2 in
       let n : length i.words ≡ length found.0 = ap length same in
       let e = found.3 in let inside = i.inside in of-lt before len (omega arith),
 )
 
-pub not-inside : (text : List ℕ) (pc before : ℕ) → ((words : List ℕ) → Stand text (pc - 4 * before) words → IsAuthenticatedCall words → ⊥) → IsInsideCallAfter text pc before → ⊥
+pub not-inside : (text : List ℕ) (pc before : ℕ) → ((words : List ℕ) → AreWordsAt text (pc - 4 * before) words → IsAuthenticatedCall words → ⊥) → IsInsideCallAfter text pc before → ⊥
 not-inside text pc before none i =
     let at : i.start ≡ pc - 4 * before = (let e = i.place in omega arith) in
-    let P : ℕ → Type 0 = λ n. Stand text n i.words in
+    let P : ℕ → Type 0 = λ n. AreWordsAt text n i.words in
     none i.words (subst P at i.stands) i.call
 
 pub inside-short : (text : List ℕ) (pc before : ℕ) → IsInsideCallAfter text pc before → before < 6
@@ -102,7 +101,7 @@ places-load p word old moved sp sp' old' moved' place place' fp lr load sp_is sp
 pub rest-forward : (text : List ℕ) (at word : ℕ) (places : Places) → word_at text at ≡ Some word → is_restoring word ≡ true → (rule : UnwindRuleAarch64) → IsRestOfEpilogue text at places rule → IsRestOfEpilogue text (at + 4) (places_after places word) rule
 rest-forward text at word places there is rule rest =
     forward rest.restoring rest.end rest.stands rest.restore rest.ends rest.made where
-      forward : (restoring end : List ℕ) → Stand text at (restoring ++ end) → AllRestoring restoring → IsEnd (places_after_all places restoring).sp end → IsRuleOfPlaces (places_after_all places restoring) rule → IsRestOfEpilogue text (at + 4) (places_after places word) rule
+      forward : (restoring end : List ℕ) → AreWordsAt text at (restoring ++ end) → AllRestoring restoring → IsEnd (places_after_all places restoring).sp end → IsRuleOfPlaces (places_after_all places restoring) rule → IsRestOfEpilogue text (at + 4) (places_after places word) rule
       forward [] end stands restore ends made =
           let unlike : is_restoring word ≡ false = end-not-restoring text at word places.sp end ends stands there in cc
       forward (w ∷ restoring) end stands restore ends made =
@@ -131,7 +130,7 @@ rest-back text at word places there is rule rest = record {
 pub rest-end : (text : List ℕ) (at : ℕ) (places : Places) → ((word : ℕ) → word_at text at ≡ Some word → is_restoring word ≡ true → ⊥) → (rule : UnwindRuleAarch64) → IsRestOfEpilogue text at places rule → Ends text at places.sp × IsRuleOfPlaces places rule
 rest-end text at places none rule rest =
     at_end rest.restoring rest.end rest.stands rest.restore rest.ends rest.made where
-      at_end : (restoring end : List ℕ) → Stand text at (restoring ++ end) → AllRestoring restoring → IsEnd (places_after_all places restoring).sp end → IsRuleOfPlaces (places_after_all places restoring) rule → Ends text at places.sp × IsRuleOfPlaces places rule
+      at_end : (restoring end : List ℕ) → AreWordsAt text at (restoring ++ end) → AllRestoring restoring → IsEnd (places_after_all places restoring).sp end → IsRuleOfPlaces (places_after_all places restoring) rule → Ends text at places.sp × IsRuleOfPlaces places rule
       at_end [] end stands restore ends made = ((end, stands, ends), made)
       at_end (w ∷ restoring) end stands restore ends made = absurd (none w stands.0 restore.0)
 

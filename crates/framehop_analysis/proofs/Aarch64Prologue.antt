@@ -1,9 +1,9 @@
 -- The rule of a prologue on aarch64, from the run that ends at the pc.
-use Rattle.std.proofs.Common.{◌≡◌, ◌≢◌, ℕ, ℤ, pos, Bool, true, false, ◌↔◌, List, Option, Some, None, refl, sym, ap, ◌∙◌, subst}
+use Rattle.std.proofs.Common.{◌≡◌, ◌≢◌, ℕ, ℤ, pos, Bool, true, false, ◌↔◌, List, Option, Some, sym, ap, ◌∙◌, subst}
 use Rattle.framehop_core.specs.declared.aarch64.unwind_rule.UnwindRuleAarch64.{UnwindRuleAarch64}
 use Rattle.framehop_analysis.specs.Answer.{IsOnly}
 use Rattle.framehop_analysis.specs.Aarch64.Words.{word_at}
-use Rattle.framehop_analysis.specs.Aarch64.Prologue.{lowered, IsLongestRun, is_prologue_word, is_plain_store, IsNext, IsRuleOfDepth, IsPrologueRule}
+use Rattle.framehop_analysis.specs.Aarch64.Prologue.{lowered, IsLongestRun, is_prologue_word, is_plain_store, IsRuleOfDepth, IsPrologueRule}
 use Rattle.framehop_analysis.proofs.Answers.{only-map}
 use Rattle.framehop_analysis.proofs.Aarch64Runs.{longest-same}
 

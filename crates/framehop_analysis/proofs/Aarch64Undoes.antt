@@ -4,16 +4,16 @@ use Rattle.std.specs.Prelude.{option_map}
 use Rattle.std.proofs.lemmas.Int.{ints}
 use Rattle.std.proofs.lemmas.Nat.{and_assoc}
 use Rattle.std.specs.Int.Bits.{bit_and, and_self}
-use Rattle.framehop_core.specs.Outcome.{answered, above}
+use Rattle.framehop_core.specs.Outcome.{above}
 use Rattle.framehop_core.specs.Aarch64.Registers.{Registers, strip_ptr_auth}
-use Rattle.framehop_core.specs.Aarch64.Rules.{outcome, nothing_more, kept}
+use Rattle.framehop_core.specs.Aarch64.Rules.{nothing_more, kept}
 use Rattle.framehop_core.specs.Laws.Aarch64.{IsCaller, caller-answered}
 use Rattle.framehop_core.specs.declared.error.Error.{Error}
 use Rattle.framehop_core.specs.declared.aarch64.unwind_rule.UnwindRuleAarch64.{UnwindRuleAarch64}
 use Rattle.framehop_core.specs.declared.aarch64.unwind_rule.UnwindRuleAarch64.TheVariants.{NoOp, NoOpIfFirstFrameOtherwiseFp, OffsetSp, OffsetSpIfFirstFrameOtherwiseStackEndsHere, OffsetSpAndRestoreLr, OffsetSpAndRestoreFpAndLr, UseFramePointer, UseFramepointerWithOffsets}
-use Rattle.framehop_analysis.specs.Aarch64.Words.{is_store, is_sub_sp, is_pacibsp, is_autibsp, is_signing, addressing, is_indexed, pair_offset, immediate}
-use Rattle.framehop_analysis.specs.Aarch64.Machine.{State, Step, Run, SameAddress, StandsIn, offset_by}
-use Rattle.framehop_analysis.specs.Aarch64.Prologue.{is_run_word, lowered_by, lowered, IsRun, IsLongestRun, IsRuleOfDepth, IsPrologueRule, UndoesRun, UndoesPrologue}
+use Rattle.framehop_analysis.specs.Aarch64.Words.{is_store, is_sub_sp, is_pacibsp, addressing, is_indexed, pair_offset, immediate}
+use Rattle.framehop_analysis.specs.Aarch64.Machine.{State, Step, Run, SameAddress, HasRegisters, offset_by}
+use Rattle.framehop_analysis.specs.Aarch64.Prologue.{lowered_by, lowered, IsRun, IsRuleOfDepth, IsPrologueRule, UndoesRun, UndoesPrologue}
 use Rattle.framehop_analysis.proofs.Offsets.{offset_by-fits, offset_by-zero, offset_by-offset_by, offset_by-below}
 use Rattle.framehop_analysis.proofs.Aarch64Runs.{longest-same}
 
@@ -100,7 +100,7 @@ pub ok-same : (m n : ℕ) → ◌≡◌ {A = Result ℕ Error} (Ok m) (Ok n) →
 ok-same m n e = cc
 
 -- a rule that adds an offset to sp and keeps the other registers
-offset-undoes : (mask : ℕ) (depth : ℤ) (x : ℕ) (sp : ℤ) (r new : Registers) (entry here : State) (address : ℕ) → mask ≡ r.lr_mask → depth ≡ pos x → sp ≡ pos r.sp +ℤ pos x → entry.sp < 2 ^ 64 → IsLowered mask depth entry here → StandsIn r here → IsCaller sp (kept r.lr) (kept r.fp) nothing_more true r here.memory address new → StandsIn new entry × (new.lr_mask ≡ r.lr_mask) × (address ≡ new.lr)
+offset-undoes : (mask : ℕ) (depth : ℤ) (x : ℕ) (sp : ℤ) (r new : Registers) (entry here : State) (address : ℕ) → mask ≡ r.lr_mask → depth ≡ pos x → sp ≡ pos r.sp +ℤ pos x → entry.sp < 2 ^ 64 → IsLowered mask depth entry here → HasRegisters r here → IsCaller sp (kept r.lr) (kept r.fp) nothing_more true r here.memory address new → HasRegisters new entry × (new.lr_mask ≡ r.lr_mask) × (address ≡ new.lr)
 offset-undoes mask depth x sp r new entry here address mask_is depth_is sp_is fits lowered stands c =
     let new_lr : r.lr ≡ c.new_lr = ok-same r.lr c.new_lr c.lr_is in
     let new_fp : r.fp ≡ c.new_fp = ok-same r.fp c.new_fp c.fp_is in

@@ -1,5 +1,5 @@
 -- Answers that find at most one thing: from one fact to another, and to the clause of a public function.
-use Rattle.std.proofs.Common.{◌≡◌, Option, Some, None, ◌↔◌, inl, inr, refl, sym, ◌∙◌, subst, IfSome, MatchOption}
+use Rattle.std.proofs.Common.{◌≡◌, Option, Some, None, ◌↔◌, inl, inr, refl, sym, ◌∙◌, subst, IfSome, OnSome, MatchOption}
 use Rattle.framehop_analysis.specs.Answer.{IsOnly, FirstOf}
 
 some-same : {A : Type 0} (x y : A) → Some x ≡ Some y → x ≡ y
@@ -33,3 +33,7 @@ first-exact {A} P Q (Some y) found Other exact same then x =
       from : FirstOf P Q x → found ≡ Some x
       from (inl p) = same ∙ (exact x).1 p
       from (inr q) = absurd (q.0 y ((exact y).0 refl))
+
+pub only-on : {A : Type 0} (P : A → Type 0) (Q : Type 0) (found : Option A) → IsOnly P found → ((x : A) → P x → Q) → OnSome found Q
+only-on P Q None only to = tt
+only-on P Q (Some y) only to = to y only.0

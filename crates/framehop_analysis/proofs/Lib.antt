@@ -10,3 +10,5 @@ mod X86_64Pushes
 mod X86_64Pops
 mod X86_64Undoes
 mod X86_64Does
+mod Aarch64Ending
+mod X86_64Ending

@@ -1,5 +1,5 @@
 -- Sums of addresses that wrap at 64 bits.
-use Rattle.std.proofs.Common.{◌≡◌, ℕ, ◌+◌, ◌-◌, ◌*◌, ◌/◌, ◌%◌, ◌^◌, ◌<◌, ◌≤◌, ℤ, pos, negsuc, ◌+ℤ◌, ◌-ℤ◌, ◌*ℤ◌, refl, sym, ap, ◌∙◌, arith}
+use Rattle.std.proofs.Common.{◌≡◌, ℕ, ◌+◌, ◌/◌, ◌^◌, ◌<◌, ℤ, pos, negsuc, ◌+ℤ◌, ◌-ℤ◌, ◌*ℤ◌, arith}
 use Rattle.std.proofs.lemmas.Int.{ints}
 use Rattle.framehop_core.specs.AddSigned.{modulo, sum_with}
 use Rattle.framehop_analysis.specs.Aarch64.Machine.{offset_by}

@@ -1,5 +1,5 @@
 -- The rule of an epilogue on x86_64 does what the machine does.
-use Rattle.std.proofs.Common.{◌≡◌, ◌≢◌, ◌⊎◌, inl, inr, ℕ, zero, suc, ◌+◌, ◌-◌, ◌*◌, ◌/◌, ◌%◌, ◌^◌, ◌<◌, ◌≤◌, ℤ, pos, ◌+ℤ◌, ◌*ℤ◌, Bool, true, false, not, cond, nat_eq, ◌==◌, ◌&&◌, List, [], ◌∷◌, slice_get, Option, Some, None, Result, Ok, refl, sym, ap, ◌∙◌, subst, arith}
+use Rattle.std.proofs.Common.{◌≡◌, ◌≢◌, inl, inr, ℕ, zero, suc, ◌+◌, ◌*◌, ◌/◌, ◌%◌, ◌<◌, ◌≤◌, ℤ, pos, Bool, true, false, not, cond, nat_eq, ◌==◌, List, [], ◌∷◌, slice_get, Option, Some, None, Result, Ok, refl, sym, ap, ◌∙◌, subst, arith}
 use Rattle.std.proofs.lemmas.Bool.Decides.{nat_tests}
 use Rattle.std.proofs.lemmas.Int.{ints}
 use Rattle.framehop_core.specs.Memory.{Memory}
@@ -10,9 +10,8 @@ use Rattle.framehop_core.specs.Laws.X86_64.{IsCaller, caller-answered}
 use Rattle.framehop_core.specs.declared.error.Error.{Error}
 use Rattle.framehop_core.specs.declared.x86_64.unwind_rule.UnwindRuleX86_64.{UnwindRuleX86_64}
 use Rattle.framehop_core.specs.declared.x86_64.unwind_rule.UnwindRuleX86_64.TheVariants.{EndOfStack, JustReturn, JustReturnIfFirstFrameOtherwiseFp, OffsetSp, OffsetSpAndRestoreBp, UseFramePointer, OffsetSpAndPopRegisters}
-use Rattle.framehop_analysis.specs.X86_64.Bytes.{is_pop_opcode}
-use Rattle.framehop_analysis.specs.X86_64.Machine.{State, StandsIn, IsPop, short, long, Pops, is_jump, is_end, Caller, caller_of, RunOut}
-use Rattle.framehop_analysis.specs.X86_64.Epilogue.{is_plain_pop, Pop, pop_at, ArePops, Popped, none_popped, after_pop, after_pops, IsEnd, returns, jumps, IsRuleOfPopped, IsRestOfEpilogue, IsEpilogueRule, DoesEpilogue}
+use Rattle.framehop_analysis.specs.X86_64.Machine.{State, HasRegisters, IsPop, short, long, Pops, is_jump, is_end, Caller, caller_of, RunOut}
+use Rattle.framehop_analysis.specs.X86_64.Epilogue.{is_plain_pop, Pop, pop_at, ArePops, Popped, none_popped, after_pop, after_pops, IsEnd, returns, jumps, IsRuleOfPopped, IsEpilogueRule, DoesEpilogue}
 use Rattle.framehop_analysis.proofs.X86_64Pops.{some-same, eq-true, and-left, and-right, or-cases, IsPopBytes, alone, after_40, after_41, pop-bytes, pop-low, jump-high}
 use Rattle.framehop_analysis.proofs.X86_64Undoes.{read-word, IsFound, found}
 
@@ -163,19 +162,19 @@ pos-same m n e = cc
 Done : Registers → Caller → ℕ → Type 0
 Done new out address = (new.rsp ≡ out.sp) × (out.bp ≡ Some new.rbp) × (out.return_address ≡ Some address) × (new.ip ≡ address)
 
-found-out : (r new : Registers) (here u : State) (p : Popped) (x new_sp new_bp address : ℕ) → StandsIn r here → Tracks here u p → r.rsp + x * 8 ≡ new_sp → x ≡ p.count + 1 → bp_at here p.before_bp ≡ Some new_bp → IsFound r new here.memory new_sp new_bp address → Done new (caller_of u) address
+found-out : (r new : Registers) (here u : State) (p : Popped) (x new_sp new_bp address : ℕ) → HasRegisters r here → Tracks here u p → r.rsp + x * 8 ≡ new_sp → x ≡ p.count + 1 → bp_at here p.before_bp ≡ Some new_bp → IsFound r new here.memory new_sp new_bp address → Done new (caller_of u) address
 unfolding Done
 found-out r new here u p x new_sp new_bp address stands t sum x_is bp f =
     let sp = t.sp in let at = stands.sp in
     let up : u.sp + 8 ≡ new_sp = omega arith in
     (f.rsp ∙ sym up, t.bp ∙ bp ∙ ap Some (sym f.rbp), ap (λ (m : Memory). m u.sp) t.memory ∙ f.word u.sp up, f.ip)
 
-bp-kept : (r : Registers) (here : State) (before : Option ℕ) (new_bp : ℕ) → before ≡ None → StandsIn r here → r.rbp ≡ new_bp → bp_at here before ≡ Some new_bp
+bp-kept : (r : Registers) (here : State) (before : Option ℕ) (new_bp : ℕ) → before ≡ None → HasRegisters r here → r.rbp ≡ new_bp → bp_at here before ≡ Some new_bp
 unfolding bp_at
 bp-kept r here None new_bp e stands same = stands.bp ∙ ap Some same
 bp-kept r here (Some n) new_bp e stands same = cc
 
-bp-stored : (r : Registers) (here : State) (found : Option ℕ) (before new_bp : ℕ) → found ≡ Some before → StandsIn r here → word_from here.memory (beside r.rsp (pos before)) ≡ Ok new_bp → bp_at here found ≡ Some new_bp
+bp-stored : (r : Registers) (here : State) (found : Option ℕ) (before new_bp : ℕ) → found ≡ Some before → HasRegisters r here → word_from here.memory (beside r.rsp (pos before)) ≡ Ok new_bp → bp_at here found ≡ Some new_bp
 unfolding bp_at
 bp-stored r here None before new_bp e stands read = cc
 bp-stored r here (Some n) before new_bp e stands read =
@@ -187,7 +186,7 @@ restored-pos : (first : Bool) (before : ℕ) (z : ℤ) → restored_at first (po
 restored-pos true before z = refl
 restored-pos false before z = refl
 
-rule-does : (rule : UnwindRuleX86_64) (r new : Registers) (here u : State) (p : Popped) (first : Bool) (address : ℕ) → (p.count ≡ 0 → p.before_bp ≡ None) → IsRuleOfPopped p rule → StandsIn r here → Tracks here u p → outcome rule first r here.memory ≡ answered address new → Done new (caller_of u) address
+rule-does : (rule : UnwindRuleX86_64) (r new : Registers) (here u : State) (p : Popped) (first : Bool) (address : ℕ) → (p.count ≡ 0 → p.before_bp ≡ None) → IsRuleOfPopped p rule → HasRegisters r here → Tracks here u p → outcome rule first r here.memory ≡ answered address new → Done new (caller_of u) address
 rule-does JustReturn r new here u p first address none made stands t e =
     let c = caller-answered (above r.rsp 8) nothing_more kept r here.memory address new e in
     let sum : r.rsp + 8 ≡ c.new_sp = pos-same _ c.new_sp c.sp_is in

@@ -1,17 +1,17 @@
 -- The rule of a prologue on x86_64 undoes its pushes.
-use Rattle.std.proofs.Common.{◌≡◌, ◌⊎◌, inl, inr, ℕ, zero, suc, ◌+◌, ◌-◌, ◌*◌, ◌^◌, ◌<◌, ◌≤◌, ℤ, pos, ◌-ℤ◌, Bool, true, false, cond, nat_eq, Option, Some, None, Result, Ok, List, refl, sym, ap, ◌∙◌, subst, arith}
+use Rattle.std.proofs.Common.{◌≡◌, inr, ℕ, zero, suc, ◌+◌, ◌*◌, ◌≤◌, ℤ, pos, ◌-ℤ◌, Bool, true, false, cond, nat_eq, Some, Result, Ok, List, refl, sym, ap, ◌∙◌, subst, arith}
 use Rattle.std.proofs.lemmas.Int.{ints}
 use Rattle.framehop_core.specs.Memory.{Memory}
 use Rattle.framehop_core.specs.Outcome.{answered, above, address_at, word_at, word_from}
-use Rattle.framehop_core.specs.Laws.Outcome.{and_then-ok, address_at-ok, word_at-ok, root_unless}
+use Rattle.framehop_core.specs.Laws.Outcome.{and_then-ok, address_at-ok, word_at-ok}
 use Rattle.framehop_core.specs.X86_64.Registers.{Registers}
-use Rattle.framehop_core.specs.X86_64.Rules.{Source, Demand, nothing_more, stack_pointer_rises, kept, stored_at, Line, caller, stack_end, outcome_of_line, frame_pointer_line, outcome}
+use Rattle.framehop_core.specs.X86_64.Rules.{Source, Demand, nothing_more, stack_pointer_rises, kept, stored_at, stack_end, outcome_of_line, frame_pointer_line, outcome}
 use Rattle.framehop_core.specs.Laws.X86_64.{IsCaller, caller-answered}
 use Rattle.framehop_core.specs.declared.error.Error.{Error}
 use Rattle.framehop_core.specs.declared.x86_64.unwind_rule.UnwindRuleX86_64.{UnwindRuleX86_64}
 use Rattle.framehop_core.specs.declared.x86_64.unwind_rule.UnwindRuleX86_64.TheVariants.{EndOfStack, JustReturn, JustReturnIfFirstFrameOtherwiseFp, OffsetSp, OffsetSpAndRestoreBp, UseFramePointer, OffsetSpAndPopRegisters}
-use Rattle.framehop_analysis.specs.X86_64.Machine.{State, StandsIn, Pushes, PushRun, SetsUpFrame}
-use Rattle.framehop_analysis.specs.X86_64.Prologue.{IsFrameSetUpBefore, AreLongestPushes, IsRuleOfPushes, IsPrologueRule, PrologueRun, framed, frameless, UndoesPrologue}
+use Rattle.framehop_analysis.specs.X86_64.Machine.{State, HasRegisters, PushRun, SetsUpFrame}
+use Rattle.framehop_analysis.specs.X86_64.Prologue.{IsRuleOfPushes, IsPrologueRule, PrologueRun, framed, frameless, UndoesPrologue}
 
 -- ---- the machine
 
@@ -71,7 +71,7 @@ found sp demand bp r new memory address c = record {
 Undone : Registers → State → ℕ → Type 0
 Undone new entry address = (new.rsp ≡ entry.sp + 8) × (entry.bp ≡ Some new.rbp) × (entry.memory entry.sp ≡ Some address) × (new.ip ≡ address)
 
-offset-undoes : (count x : ℕ) (r new : Registers) (entry here : State) (address : ℕ) → x ≡ count + 1 → PushRun count entry here → StandsIn r here → IsCaller (above r.rsp (x * 8)) nothing_more kept r here.memory address new → Undone new entry address
+offset-undoes : (count x : ℕ) (r new : Registers) (entry here : State) (address : ℕ) → x ≡ count + 1 → PushRun count entry here → HasRegisters r here → IsCaller (above r.rsp (x * 8)) nothing_more kept r here.memory address new → Undone new entry address
 unfolding Undone
 offset-undoes count x r new entry here address x_is run stands c =
     let p = pushed count entry here run in
@@ -85,7 +85,7 @@ offset-undoes count x r new entry here address x_is run stands c =
       f.ip,
     )
 
-frame-undoes : (count : ℕ) (r new : Registers) (entry s here : State) (address : ℕ) → SetsUpFrame entry s → PushRun count s here → StandsIn r here → IsCaller (above r.rbp 16) stack_pointer_rises (stored_at (pos r.rbp)) r here.memory address new → Undone new entry address
+frame-undoes : (count : ℕ) (r new : Registers) (entry s here : State) (address : ℕ) → SetsUpFrame entry s → PushRun count s here → HasRegisters r here → IsCaller (above r.rbp 16) stack_pointer_rises (stored_at (pos r.rbp)) r here.memory address new → Undone new entry address
 unfolding Undone
 frame-undoes count r new entry s here address frame run stands c =
     let p = pushed count s here run in
@@ -112,7 +112,7 @@ line-answers : (zero_bp : Bool) (r new : Registers) (memory : Memory) (address :
 line-answers true r new memory address e = cc
 line-answers false r new memory address e = caller-answered _ _ _ r memory address new e
 
-rule-undoes : (text : List ℕ) (start count : ℕ) (rule : UnwindRuleX86_64) (r new : Registers) (entry here : State) (first : Bool) (address : ℕ) → IsRuleOfPushes text start count rule → PrologueRun text start count entry here → StandsIn r here → outcome rule first r here.memory ≡ answered address new → Undone new entry address
+rule-undoes : (text : List ℕ) (start count : ℕ) (rule : UnwindRuleX86_64) (r new : Registers) (entry here : State) (first : Bool) (address : ℕ) → IsRuleOfPushes text start count rule → PrologueRun text start count entry here → HasRegisters r here → outcome rule first r here.memory ≡ answered address new → Undone new entry address
 rule-undoes text start count UseFramePointer r new entry here first address made (framed is s frame run) stands e =
     frame-undoes count r new entry s here address frame run stands (line-answers (nat_eq r.rbp 0) r new here.memory address e)
 rule-undoes text start count UseFramePointer r new entry here first address made (frameless none run) stands e = absurd (none made)

@@ -8,8 +8,12 @@ pointer authentication. It then runs the disassembled instructions by hand, in t
 - from a place to the return or tail call that ends the function, as long as no other branch or call is met.
 
 Each run says where the caller's stack pointer, frame pointer and return address are. Where both know a place they must
-agree. Nothing here knows which instructions the crate recognises, nor any rule: every instruction is read from the text
-of the disassembly, and an instruction that could write one of these registers in another way ends the run.
+agree. Nothing here knows any rule: every instruction is read from the text of the disassembly, and an instruction that
+could write one of these registers in another way ends the run.
+
+A place is "interrupted" where the instructions from the function's start to it are not all of the kind that a prologue
+read backwards can know: `push`, `stp` to the stack, `sub` of the stack pointer, the frame's set-up after `push rbp`, and
+the signing of lr. Compilers put others among them, as moves of arguments and stores of single registers.
 
 Needs gcc, clang, objdump and llvm-objdump. Run it in the crate's folder: scripts/real_code.py
 """
@@ -190,6 +194,11 @@ BRANCH = {
     "aarch64": re.compile(r"^(b|bl|br|blr|ret|retab|retaa|braa|b\.\w+|cbz|cbnz|tbz|tbnz|brk)\b"),
 }
 
+PROLOGUE = {
+    "x86_64": re.compile(r"^(push|sub .*,%rsp$|mov %rsp,%rbp)"),
+    "aarch64": re.compile(r"^(stp .*\[sp|sub sp, sp|hint #27|pacibsp)"),
+}
+
 
 def is_end(architecture, text, relocation):
     """Whether the branch leaves the function for its caller: a return, or a jump to another function."""
@@ -200,7 +209,7 @@ def is_end(architecture, text, relocation):
 
 def from_start(architecture, instructions):
     """Yields (offset, facts) from the function's start on: what has been pushed is where the caller's values are."""
-    state = new_state()
+    state, interrupted = new_state(), False
     for at, _, text, _ in instructions:
         up = -state["sp"]
         size = 8 if architecture == "x86_64" else 0
@@ -209,13 +218,14 @@ def from_start(architecture, instructions):
         if isinstance(state["fp"], tuple) or isinstance(state["ra"], tuple):
             return
         if fp != "lost":
-            yield at, (up + size, fp, up if size else None, frame)
+            yield at, (up + size, fp, up if size else None, frame, interrupted)
         if BRANCH[architecture].match(text):
             return
         try:
             STEP[architecture](state, text)
         except Unknown:
             return
+        interrupted = interrupted or not PROLOGUE[architecture].match(re.sub(r"\s+", " ", text))
 
 
 def to_end(architecture, instructions, index):
@@ -228,7 +238,7 @@ def to_end(architecture, instructions, index):
             size = 8 if architecture == "x86_64" else 0
             fp = state["fp"][1] if isinstance(state["fp"], tuple) else None
             ra = state["sp"] if size else (state["ra"][1] if isinstance(state["ra"], tuple) else None)
-            return (state["sp"] + size, fp, ra, None)
+            return (state["sp"] + size, fp, ra, None, False)
         try:
             STEP[architecture](state, text)
         except Unknown:
@@ -260,50 +270,37 @@ def option(value):
 
 
 def main():
-    limits = {"x86_64": 1800, "aarch64": 3200}
+    # how many bytes of each build are kept
+    limits = {"x86_64": 160, "aarch64": 240}
     out = [
         "//! Places in functions that gcc and clang have compiled, and what is true of the stack there. Written by",
         "//! `scripts/real_code.py`, which runs the disassembled instructions by hand.",
         "",
-        "/// A place in the code: where the caller's registers are, in bytes from the stack pointer.",
-        "pub struct Place {",
-        "    /// The function's first byte, and the end of its bytes, in the architecture's code.",
-        "    pub start: usize,",
-        "    pub end: usize,",
-        "",
-        "    /// The offset of the pc in the function.",
-        "    pub pc_offset: usize,",
-        "",
-        "    /// The caller's stack pointer.",
-        "    pub sp: u64,",
-        "",
-        "    /// The stack word with the caller's frame pointer, or `None` where the register has it.",
-        "    pub fp: Option<u64>,",
-        "",
-        "    /// The stack word with the return address, or `None` where the register has it.",
-        "    pub return_address: Option<u64>,",
-        "",
-        "    /// Where the frame pointer register points, if into this frame.",
-        "    pub frame: Option<u64>,",
-        "}",
+        "/// A place: the function's first byte in the code and the end of its bytes, the offset of the pc in the function;",
+        "/// and, in bytes from the stack pointer, the caller's stack pointer, the stack words with the caller's frame pointer",
+        "/// and with the return address (`None` where the register has it), and where the frame pointer register points, if",
+        "/// into this frame; and whether other instructions than a prologue's are before it in the function.",
+        "pub type Place = (usize, usize, usize, u64, Option<u64>, Option<u64>, Option<u64>, bool);",
         "",
     ]
     for architecture, builds in BUILDS.items():
         code, rows, seen, functions = bytearray(), [], set(), 0
         for command in builds:
+            kept = 0
             with tempfile.TemporaryDirectory() as folder:
                 for name, data, instructions in disassemble(architecture, command, folder):
-                    if data in seen or not instructions or len(code) + len(data) > limits[architecture]:
+                    if data in seen or not instructions or kept + len(data) > limits[architecture]:
                         continue
                     found = places(architecture, instructions)
                     if not found:
                         continue
                     seen.add(data)
                     functions += 1
+                    kept += len(data)
                     start = len(code)
                     code += data
-                    for at, (sp, fp, ra, frame) in found:
-                        rows.append((start, start + len(data), at, sp, fp, ra, frame))
+                    for at, facts in found:
+                        rows.append((start, start + len(data), at) + facts)
         upper = architecture.upper()
         out.append("/// The code of %d functions for %s." % (functions, architecture))
         out.append("pub const %s_CODE: [u8; %d] = [" % (upper, len(code)))
@@ -313,16 +310,9 @@ def main():
         out.append("")
         out.append("/// Places in these functions.")
         out.append("pub const %s_PLACES: [Place; %d] = [" % (upper, len(rows)))
-        for start, end, at, sp, fp, ra, frame in rows:
-            out.append("    Place {")
-            out.append("        start: %d," % start)
-            out.append("        end: %d," % end)
-            out.append("        pc_offset: %d," % at)
-            out.append("        sp: %d," % sp)
-            out.append("        fp: %s," % option(fp))
-            out.append("        return_address: %s," % option(ra))
-            out.append("        frame: %s," % option(frame))
-            out.append("    },")
+        for start, end, at, sp, fp, ra, frame, interrupted in rows:
+            row = (str(start), str(end), str(at), str(sp), option(fp), option(ra), option(frame), str(interrupted).lower())
+            out.append("    (" + ", ".join(row) + "),")
         out.append("];")
         out.append("")
         print(architecture, functions, "functions", len(code), "bytes", len(rows), "places", file=sys.stderr)

@@ -1,5 +1,5 @@
 -- What a function returns that finds at most one thing.
-use Rattle.std.specs.Prelude.{◌≡◌, ◌⊎◌, Option, Some, None, MatchOption}
+use Rattle.std.specs.Prelude.{◌≡◌, ◌⊎◌, Option, MatchOption}
 
 -- the value that meets a fact, which no other value meets, or none where no value meets it
 abbrev pub IsOnly : {A : Type 0} → (A → Type 0) → Option A → Type 0

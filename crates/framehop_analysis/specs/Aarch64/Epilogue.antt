@@ -6,9 +6,9 @@ use Rattle.framehop_core.specs.Aarch64.Registers.{Registers}
 use Rattle.framehop_core.specs.Aarch64.Rules.{outcome}
 use Rattle.framehop_core.specs.declared.aarch64.unwind_rule.UnwindRuleAarch64.{UnwindRuleAarch64}
 use Rattle.framehop_core.specs.declared.aarch64.unwind_rule.UnwindRuleAarch64.TheVariants.{NoOp, OffsetSp, OffsetSpAndRestoreLr, OffsetSpAndRestoreFpAndLr}
-use Rattle.framehop_analysis.specs.Aarch64.Words.{word_at, Stand, is_load, is_add_sp, is_indexed, addressing, pair_offset, first_register, second_register, immediate, is_return, is_b, is_br, is_braa, is_mov}
+use Rattle.framehop_analysis.specs.Aarch64.Words.{word_at, AreWordsAt, is_load, is_add_sp, is_indexed, addressing, pair_offset, first_register, second_register, immediate, is_return, is_b, is_br, is_braa, is_mov}
 use Rattle.framehop_analysis.specs.Aarch64.Units.{IsUnitsOf16, IsUnitsOf8}
-use Rattle.framehop_analysis.specs.Aarch64.Machine.{State, RunOut, StandsIn}
+use Rattle.framehop_analysis.specs.Aarch64.Machine.{State, RunOut, HasRegisters}
 
 -- ---- what is restored
 
@@ -55,16 +55,17 @@ AllRestoring (word ∷ words) = (is_restoring word ≡ true) × AllRestoring wor
 
 -- ---- how it ends
 
--- `autibsp`, and the check of lr behind it: `eor x16, x30, x30, lsl #1`, `tbz x16, #62, #8` and `brk #0xc471`
+-- `autibsp`, and the check of lr after it: `eor x16, x30, x30, lsl #1`, `tbz x16, #62, #8` and `brk #0xc471`
 abbrev pub check_words : List ℕ
 check_words = 0xD50323FF ∷ 0xCA1E07D0 ∷ 0xB6F00050 ∷ 0xD4388E20 ∷ []
 
 -- a tail call after lr has been authenticated: `b`, or `mov x16` and `braa`
 pub data IsAuthenticatedCall (words : List ℕ) : Type 0 where
   by_b : (b : ℕ) → is_b b ≡ true → words ≡ check_words ++ b ∷ [] → IsAuthenticatedCall words
-  by_braa : (mov braa : ℕ) → is_mov mov ≡ true → is_braa braa ≡ true → words ≡ check_words ++ mov ∷ braa ∷ [] → IsAuthenticatedCall words
+  by_braa : (mov braa : ℕ) → is_mov mov ≡ true → is_braa braa ≡ true → words ≡ check_words ++ mov ∷ braa ∷ []
+      → IsAuthenticatedCall words
 
--- whether a word can stand in such a call behind so many others
+-- whether a word can be in such a call after so many others
 abbrev pub is_call_word : ℕ → ℕ → Bool
 is_call_word before word =
     if before == 0 then word == 0xD50323FF
@@ -74,8 +75,8 @@ is_call_word before word =
     else (if before == 4 then is_b word || is_mov word
     else (if before == 5 then is_braa word else false)))))
 
--- The end of an epilogue whose instructions have moved sp by so many bytes: a return, a branch where sp has moved, which
--- is taken for a tail call, or an authenticated call.
+-- The end of an epilogue whose instructions have moved sp by so many bytes: a return, a branch where sp has moved,
+-- which is taken for a tail call, or an authenticated call.
 pub data IsEnd (moved : ℤ) (words : List ℕ) : Type 0 where
   returns : (word : ℕ) → is_return word ≡ true → words ≡ word ∷ [] → IsEnd moved words
   branches : (word : ℕ) → is_b word ≡ true → moved ≢ pos 0 → words ≡ word ∷ [] → IsEnd moved words
@@ -87,11 +88,11 @@ pub data IsEnd (moved : ℤ) (words : List ℕ) : Type 0 where
 abbrev pub moves_sp : ℕ → Bool
 moves_sp word = (is_load word && is_indexed word) || is_add_sp word
 
--- the pc is inside an authenticated call, behind so many of its words
+-- the pc is inside an authenticated call, after so many of its words
 pub record IsInsideCallAfter (text : List ℕ) (pc before : ℕ) : Type 0 where
   pub start : ℕ
   pub words : List ℕ
-  pub stands : Stand text start words
+  pub stands : AreWordsAt text start words
   pub call : IsAuthenticatedCall words
   pub place : pc ≡ start + 4 * before
   pub inside : before < length words
@@ -99,7 +100,7 @@ pub record IsInsideCallAfter (text : List ℕ) (pc before : ℕ) : Type 0 where
 abbrev pub IsInsideCall : List ℕ → ℕ → Type 0
 IsInsideCall text pc = (before : ℕ) × IsInsideCallAfter text pc before
 
--- the pc is at a branch whose predecessor moves sp, as a tail call's does
+-- the pc is at a branch after an instruction that moves sp, as a tail call's does
 pub record IsAtTailCall (text : List ℕ) (pc : ℕ) : Type 0 where
   pub branch : ℕ
   pub branch_is : word_at text pc ≡ Some branch
@@ -133,7 +134,7 @@ IsRuleOfPlaces p _ = ⊥
 pub record IsRestOfEpilogue (text : List ℕ) (at : ℕ) (places : Places) (rule : UnwindRuleAarch64) : Type 0 where
   pub restoring : List ℕ
   pub end : List ℕ
-  pub stands : Stand text at (restoring ++ end)
+  pub stands : AreWordsAt text at (restoring ++ end)
   pub restore : AllRestoring restoring
   pub ends : IsEnd (places_after_all places restoring).sp end
   pub made : IsRuleOfPlaces (places_after_all places restoring) rule
@@ -143,12 +144,16 @@ pub data IsEpilogueRule (text : List ℕ) (pc : ℕ) (rule : UnwindRuleAarch64) 
   restored : IsRestored text pc → rule ≡ NoOp → IsEpilogueRule text pc rule
   restores : (IsRestored text pc → ⊥) → IsRestOfEpilogue text pc at_pc rule → IsEpilogueRule text pc rule
 
+-- from each state at the pc the machine comes to the function's end
+abbrev pub EndsFrom : List ℕ → ℕ → Type 0
+EndsFrom text pc = (mask : ℕ) (here : State) → (count : ℕ) × (out : State) × RunOut mask text count pc here out
+
 -- The rule does what the epilogue does: wherever the instructions from the pc up to the first branch lead from the
 -- registers at hand, and the rule answers an address in a frame of either kind, the new registers are those after the
 -- branch, all known, and the address is the return address.
 abbrev pub DoesEpilogue : List ℕ → ℕ → UnwindRuleAarch64 → Type 0
 DoesEpilogue text pc rule =
     (r new : Registers) (here out : State) (count : ℕ) (first : Bool) (address : ℕ) → here.sp < 2 ^ 64
-    → StandsIn r here → RunOut r.lr_mask text count pc here out
+    → HasRegisters r here → RunOut r.lr_mask text count pc here out
     → outcome rule first r here.memory ≡ answered address new
-    → StandsIn new out × (new.lr_mask ≡ r.lr_mask) × (address ≡ new.lr)
+    → HasRegisters new out × (new.lr_mask ≡ r.lr_mask) × (address ≡ new.lr)

@@ -62,9 +62,10 @@ pub record Signs (mask : ℕ) (s t : State) : Type 0 where
   pub address : SameAddress mask s.lr t.lr
 
 -- One instruction, by its shape: a store may change memory in any way; signing and authentication change lr in
--- authentication bits; branches, and what stands before them in an authenticated call, change nothing of the state.
+-- authentication bits; branches, and what is before them in an authenticated call, change nothing of the state.
 pub record Step (mask word : ℕ) (s t : State) : Type 0 where
-  pub known : (is_store word || is_load word || is_sub_sp word || is_add_sp word || is_signing word || is_other word) ≡ true
+  pub known : (is_store word || is_load word || is_sub_sp word || is_add_sp word || is_signing word || is_other word)
+      ≡ true
   pub stores : is_store word ≡ true → t ≡ record s { sp = sp_after_access word s.sp; memory = t.memory }
   pub loads : is_load word ≡ true → t ≡ after_load word s
   pub subs : is_sub_sp word ≡ true → t ≡ with_sp_moved s (pos 0 -ℤ pos (immediate word))
@@ -81,13 +82,14 @@ Run mask (word ∷ words) s t = (next : State) × Step mask word s next × Run m
 -- of the function has then returned, or has become a call of another one. The check before a tail call jumps over its
 -- `brk` where it succeeds, and neither changes the state.
 abbrev pub RunOut : ℕ → List ℕ → ℕ → ℕ → State → State → Type 0
-RunOut mask bytes zero at s t = (word : ℕ) × (word_at bytes at ≡ Some word) × (is_branch word ≡ true) × Step mask word s t
+RunOut mask bytes zero at s t =
+    (word : ℕ) × (word_at bytes at ≡ Some word) × (is_branch word ≡ true) × Step mask word s t
 RunOut mask bytes (suc count) at s t =
     (word : ℕ) × (word_at bytes at ≡ Some word) × (is_branch word ≡ false)
     × (next : State) × Step mask word s next × RunOut mask bytes count (at + 4) next t
 
 -- the state has the registers' values: all are known, and lr without its authentication bits is the stripped one
-pub record StandsIn (r : Registers) (s : State) : Type 0 where
+pub record HasRegisters (r : Registers) (s : State) : Type 0 where
   pub sp : s.sp ≡ r.sp
   pub fp : s.fp ≡ Some r.fp
   pub lr : option_map (strip_ptr_auth r.lr_mask) s.lr ≡ Some r.lr

@@ -1,6 +1,6 @@
 -- Prologues on aarch64: how far sp lies below the caller's, and what the unwind rule undoes (framehop 0.16.0,
 -- `aarch64::instruction_analysis::prologue`).
-use Rattle.std.specs.Prelude.{◌≡◌, ◌≢◌, ℕ, ◌+◌, ◌*◌, ◌/◌, ◌^◌, ◌<◌, ◌≤◌, ℤ, pos, ◌+ℤ◌, ◌-ℤ◌, Bool, true, not, ◌&&◌, ◌||◌, if◌then◌else◌, List, [], ◌∷◌, length, Option, Some}
+use Rattle.std.specs.Prelude.{◌≡◌, ◌≢◌, ℕ, ◌+◌, ◌*◌, ◌/◌, ◌^◌, ◌<◌, ◌≤◌, ℤ, pos, ◌+ℤ◌, ◌-ℤ◌, Bool, true, not, ◌&&◌, ◌||◌, if◌then◌else◌, List, [], ◌∷◌, length, Some}
 use Rattle.framehop_core.specs.Outcome.{answered}
 use Rattle.framehop_core.specs.Aarch64.Registers.{Registers}
 use Rattle.framehop_core.specs.Aarch64.Rules.{outcome}
@@ -8,7 +8,7 @@ use Rattle.framehop_core.specs.declared.aarch64.unwind_rule.UnwindRuleAarch64.{U
 use Rattle.framehop_core.specs.declared.aarch64.unwind_rule.UnwindRuleAarch64.TheVariants.{NoOp, OffsetSp}
 use Rattle.framehop_analysis.specs.Aarch64.Words.{word_at, is_store, is_sub_sp, is_add_fp, is_pacibsp, is_indexed, pair_offset, immediate}
 use Rattle.framehop_analysis.specs.Aarch64.Units.{IsUnitsOf16}
-use Rattle.framehop_analysis.specs.Aarch64.Machine.{State, Run, StandsIn}
+use Rattle.framehop_analysis.specs.Aarch64.Machine.{State, Run, HasRegisters}
 
 -- ---- the run: the prologue's instructions that have been executed
 
@@ -26,7 +26,7 @@ abbrev pub lowered : List ℕ → ℤ
 lowered [] = pos 0
 lowered (word ∷ words) = lowered_by word +ℤ lowered words
 
--- these instructions of a run stand one after another in the slice, from an offset on
+-- these instructions of a run lie one after another in the slice, from an offset on
 abbrev pub IsRun : List ℕ → ℕ → List ℕ → Type 0
 IsRun bytes at [] = Unit {0}
 IsRun bytes at (word ∷ words) = (word_at bytes at ≡ Some word) × (is_run_word word ≡ true) × IsRun bytes (at + 4) words
@@ -37,7 +37,8 @@ pub record IsLongestRun (bytes : List ℕ) (run : List ℕ) : Type 0 where
   pub start : ℕ
   pub stands : IsRun bytes (4 * start) run
   pub ends : start + length run ≡ length bytes / 4
-  pub longest : (other : ℕ) (words : List ℕ) → IsRun bytes (4 * other) words → other + length words ≡ length bytes / 4 → length words ≤ length run
+  pub longest : (other : ℕ) (words : List ℕ) → IsRun bytes (4 * other) words
+      → other + length words ≡ length bytes / 4 → length words ≤ length run
 
 -- ---- the next instruction
 
@@ -73,15 +74,15 @@ pub record IsPrologueRule (before after : List ℕ) (rule : UnwindRuleAarch64) :
   pub expected : IsNext next (lowered run)
   pub made : IsRuleOfDepth (lowered run) rule
 
--- The rule undoes the run: wherever the run leads from a state at the function's entry to the registers at hand, and the
--- rule answers an address in a first frame, the new registers are those of the entry, and the address is its return
--- address.
+-- The rule undoes the run: wherever the run leads from a state at the function's entry to the registers at hand, and
+-- the rule answers an address in a first frame, the new registers are those of the entry, and the address is its
+-- return address.
 abbrev pub UndoesRun : List ℕ → UnwindRuleAarch64 → Type 0
 UndoesRun run rule =
     (r new : Registers) (entry here : State) (address : ℕ) → entry.sp < 2 ^ 64
-    → Run r.lr_mask run entry here → StandsIn r here
+    → Run r.lr_mask run entry here → HasRegisters r here
     → outcome rule true r here.memory ≡ answered address new
-    → StandsIn new entry × (new.lr_mask ≡ r.lr_mask) × (address ≡ new.lr)
+    → HasRegisters new entry × (new.lr_mask ≡ r.lr_mask) × (address ≡ new.lr)
 
 abbrev pub UndoesPrologue : List ℕ → UnwindRuleAarch64 → Type 0
 UndoesPrologue before rule = (run : List ℕ) → IsLongestRun before run → UndoesRun run rule

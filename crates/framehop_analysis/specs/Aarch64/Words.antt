@@ -10,10 +10,10 @@ word_at bytes at =
     + 2 ^ 16 * slice_index bytes (at + 2) + 2 ^ 24 * slice_index bytes (at + 3))
     else None
 
--- these words stand one after another in the slice, from an offset on
-abbrev pub Stand : List ℕ → ℕ → List ℕ → Type 0
-Stand bytes at [] = Unit {0}
-Stand bytes at (word ∷ words) = (word_at bytes at ≡ Some word) × Stand bytes (at + 4) words
+-- these words lie one after another in the slice, from an offset on
+abbrev pub AreWordsAt : List ℕ → ℕ → List ℕ → Type 0
+AreWordsAt bytes at [] = Unit {0}
+AreWordsAt bytes at (word ∷ words) = (word_at bytes at ≡ Some word) × AreWordsAt bytes (at + 4) words
 
 -- so many bits of a word, from a lowest one on
 abbrev pub bits_at : ℕ → ℕ → ℕ → ℕ

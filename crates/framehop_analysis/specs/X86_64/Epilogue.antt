@@ -1,13 +1,13 @@
 -- Epilogues on x86_64: how many words are still popped, and which of them is rbp (framehop 0.16.0,
 -- `x86_64::instruction_analysis::epilogue`).
-use Rattle.std.specs.Prelude.{◌≡◌, ℕ, zero, suc, ◌+◌, ◌-◌, ◌^◌, ◌<◌, ◌≤◌, pos, Bool, true, false, not, ◌&&◌, ◌||◌, ◌==◌, if◌then◌else◌, List, [], ◌∷◌, slice_get, Option, Some, None}
+use Rattle.std.specs.Prelude.{◌≡◌, ℕ, zero, suc, ◌+◌, ◌-◌, ◌^◌, ◌<◌, ◌≤◌, pos, Bool, true, false, not, ◌&&◌, ◌==◌, if◌then◌else◌, List, [], ◌∷◌, slice_get, Option, Some, None}
 use Rattle.framehop_core.specs.Outcome.{answered}
 use Rattle.framehop_core.specs.X86_64.Registers.{Registers}
 use Rattle.framehop_core.specs.X86_64.Rules.{outcome}
 use Rattle.framehop_core.specs.declared.x86_64.unwind_rule.UnwindRuleX86_64.{UnwindRuleX86_64}
 use Rattle.framehop_core.specs.declared.x86_64.unwind_rule.UnwindRuleX86_64.TheVariants.{JustReturn, OffsetSp, OffsetSpAndRestoreBp}
 use Rattle.framehop_analysis.specs.X86_64.Bytes.{is_pop_opcode}
-use Rattle.framehop_analysis.specs.X86_64.Machine.{State, StandsIn, Caller, RunOut, is_jump}
+use Rattle.framehop_analysis.specs.X86_64.Machine.{State, HasRegisters, Caller, RunOut, is_jump}
 
 -- ---- pops
 
@@ -38,7 +38,7 @@ pop_of (Some first) second =
 abbrev pub pop_at : List ℕ → ℕ → Option Pop
 pop_at text at = pop_of (slice_get text at) (slice_get text (at + 1))
 
--- these pops, of rbp or not, stand one after another between two offsets
+-- these pops, of rbp or not, lie one after another between two offsets
 abbrev pub ArePops : List ℕ → ℕ → List Bool → ℕ → Type 0
 ArePops text at [] end = at ≡ end
 ArePops text at (is_bp ∷ pops) end =
@@ -63,13 +63,15 @@ after_pops p (is_bp ∷ pops) = after_pops (after_pop p is_bp) pops
 
 -- what is before the end looks like a pop: one that is at the pc or after it, or the byte before the pc
 abbrev pub FollowsPop : List ℕ → ℕ → ℕ → Type 0
-FollowsPop text pc zero = (before : ℕ) × (1 ≤ pc) × (slice_get text (pc - 1) ≡ Some before) × (is_pop_opcode before ≡ true)
+FollowsPop text pc zero =
+    (before : ℕ) × (1 ≤ pc) × (slice_get text (pc - 1) ≡ Some before) × (is_pop_opcode before ≡ true)
 FollowsPop text pc (suc count) = Unit {0}
 
 -- the end at an offset, after so many pops: a return, or a jump after a pop, which is taken for a tail call
 pub data IsEnd (text : List ℕ) (pc at count : ℕ) : Type 0 where
   returns : slice_get text at ≡ Some 0xC3 → IsEnd text pc at count
-  jumps : (opcode : ℕ) → slice_get text at ≡ Some opcode → is_jump opcode ≡ true → FollowsPop text pc count → IsEnd text pc at count
+  jumps : (opcode : ℕ) → slice_get text at ≡ Some opcode → is_jump opcode ≡ true → FollowsPop text pc count
+      → IsEnd text pc at count
 
 -- ---- the rule
 
@@ -94,11 +96,15 @@ pub record IsRestOfEpilogue (text : List ℕ) (pc at : ℕ) (popped : Popped) (r
 abbrev pub IsEpilogueRule : List ℕ → ℕ → UnwindRuleX86_64 → Type 0
 IsEpilogueRule text pc rule = IsRestOfEpilogue text pc pc none_popped rule
 
+-- from each state at the pc the machine comes to the function's end
+abbrev pub EndsFrom : List ℕ → ℕ → Type 0
+EndsFrom text pc = (here : State) → (count : ℕ) × (out : Caller) × RunOut text count pc here out
+
 -- The rule does what the epilogue does: wherever the pops from the pc on and their end lead from the registers at hand,
 -- and the rule answers an address, the caller has the new registers, all known, and is returned to at the address.
 abbrev pub DoesEpilogue : List ℕ → ℕ → UnwindRuleX86_64 → Type 0
 DoesEpilogue text pc rule =
     (r new : Registers) (here : State) (out : Caller) (count : ℕ) (first : Bool) (address : ℕ)
-    → StandsIn r here → RunOut text count pc here out
+    → HasRegisters r here → RunOut text count pc here out
     → outcome rule first r here.memory ≡ answered address new
     → (new.rsp ≡ out.sp) × (out.bp ≡ Some new.rbp) × (out.return_address ≡ Some address) × (new.ip ≡ address)

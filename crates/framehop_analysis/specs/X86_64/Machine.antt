@@ -1,5 +1,5 @@
--- The x86_64 machine, as far as prologues and epilogues go: what an instruction does to rsp, rbp and the stack (Intel 64
--- and IA-32 Architectures Software Developer's Manual, volume 2, PUSH, POP, RET and JMP). rsp does not wrap.
+-- The x86_64 machine, as far as prologues and epilogues go: what an instruction does to rsp, rbp and the stack (Intel
+-- 64 and IA-32 Architectures Software Developer's Manual, volume 2, PUSH, POP, RET and JMP). rsp does not wrap.
 use Rattle.std.specs.Prelude.{◌≡◌, ◌≢◌, ℕ, zero, suc, ◌+◌, ◌*◌, ◌/◌, ◌%◌, ◌≤◌, Bool, ◌||◌, true, ◌==◌, if◌then◌else◌, ◌⊎◌, List, slice_get, Option, Some}
 use Rattle.framehop_core.specs.Memory.{Memory}
 use Rattle.framehop_core.specs.X86_64.Registers.{Registers}
@@ -11,7 +11,7 @@ pub record State : Type 0 where
   pub memory : Memory
 
 -- the state has the registers' values
-pub record StandsIn (r : Registers) (s : State) : Type 0 where
+pub record HasRegisters (r : Registers) (s : State) : Type 0 where
   pub sp : s.sp ≡ r.rsp
   pub bp : s.bp ≡ Some r.rbp
 
@@ -39,8 +39,11 @@ pub record SetsUpFrame (s t : State) : Type 0 where
 
 -- A pop at an offset, and the one after it: the register's number is in the opcode and in the prefix's low bit.
 pub data IsPop (text : List ℕ) (at next register : ℕ) : Type 0 where
-  short : (opcode : ℕ) → slice_get text at ≡ Some opcode → opcode / 8 ≡ 0x0B → next ≡ at + 1 → register ≡ opcode % 8 → IsPop text at next register
-  long : (prefix opcode : ℕ) → slice_get text at ≡ Some prefix → prefix / 2 ≡ 0x20 → slice_get text (at + 1) ≡ Some opcode → opcode / 8 ≡ 0x0B → next ≡ at + 2 → register ≡ opcode % 8 + 8 * (prefix % 2) → IsPop text at next register
+  short : (opcode : ℕ) → slice_get text at ≡ Some opcode → opcode / 8 ≡ 0x0B → next ≡ at + 1
+      → register ≡ opcode % 8 → IsPop text at next register
+  long : (prefix opcode : ℕ) → slice_get text at ≡ Some prefix → prefix / 2 ≡ 0x20
+      → slice_get text (at + 1) ≡ Some opcode → opcode / 8 ≡ 0x0B → next ≡ at + 2
+      → register ≡ opcode % 8 + 8 * (prefix % 2) → IsPop text at next register
 
 -- A pop loads the word at rsp and raises rsp by 8; register 5 is rbp. A pop of register 4, rsp, can leave any rsp.
 pub record Pops (register : ℕ) (s t : State) : Type 0 where
@@ -68,7 +71,8 @@ caller_of s = record { sp = s.sp + 8; bp = s.bp; return_address = s.memory s.sp 
 
 -- so many pops from an offset of the code on, and then an end
 abbrev pub RunOut : List ℕ → ℕ → ℕ → State → Caller → Type 0
-RunOut text zero at s out = (opcode : ℕ) × (slice_get text at ≡ Some opcode) × (is_end opcode ≡ true) × (out ≡ caller_of s)
+RunOut text zero at s out =
+    (opcode : ℕ) × (slice_get text at ≡ Some opcode) × (is_end opcode ≡ true) × (out ≡ caller_of s)
 RunOut text (suc count) at s out =
     (next : ℕ) × (register : ℕ) × IsPop text at next register
     × (t : State) × Pops register s t × RunOut text count next t out

@@ -1,20 +1,21 @@
 -- Prologues on x86_64: how many words have been pushed, or that the frame is set up (framehop 0.16.0,
 -- `x86_64::instruction_analysis::prologue`).
-use Rattle.std.specs.Prelude.{◌≡◌, ℕ, zero, suc, ◌+◌, ◌-◌, ◌^◌, ◌<◌, ◌≤◌, Bool, true, ◌&&◌, ◌||◌, ◌==◌, List, length, slice_get, slice_index, Option, Some}
+use Rattle.std.specs.Prelude.{◌≡◌, ℕ, zero, suc, ◌+◌, ◌-◌, ◌^◌, ◌<◌, ◌≤◌, Bool, true, ◌&&◌, ◌||◌, ◌==◌, List, length, slice_get, slice_index, Some}
 use Rattle.framehop_core.specs.Outcome.{answered}
 use Rattle.framehop_core.specs.X86_64.Registers.{Registers}
 use Rattle.framehop_core.specs.X86_64.Rules.{outcome}
 use Rattle.framehop_core.specs.declared.x86_64.unwind_rule.UnwindRuleX86_64.{UnwindRuleX86_64}
 use Rattle.framehop_core.specs.declared.x86_64.unwind_rule.UnwindRuleX86_64.TheVariants.{OffsetSp, UseFramePointer}
 use Rattle.framehop_analysis.specs.X86_64.Bytes.{is_prefix, is_push}
-use Rattle.framehop_analysis.specs.X86_64.Machine.{State, StandsIn, PushRun, SetsUpFrame}
+use Rattle.framehop_analysis.specs.X86_64.Machine.{State, HasRegisters, PushRun, SetsUpFrame}
 
 -- ---- the pushes before the pc
 
 -- a push between two offsets, with or without a prefix
 pub data IsPush (text : List ℕ) (at next : ℕ) : Type 0 where
   plain : (opcode : ℕ) → slice_get text at ≡ Some opcode → is_push opcode ≡ true → next ≡ at + 1 → IsPush text at next
-  prefixed : (prefix opcode : ℕ) → slice_get text at ≡ Some prefix → is_prefix prefix ≡ true → slice_get text (at + 1) ≡ Some opcode → is_push opcode ≡ true → next ≡ at + 2 → IsPush text at next
+  prefixed : (prefix opcode : ℕ) → slice_get text at ≡ Some prefix → is_prefix prefix ≡ true
+      → slice_get text (at + 1) ≡ Some opcode → is_push opcode ≡ true → next ≡ at + 2 → IsPush text at next
 
 -- the byte before an offset, if any, is a prefix
 abbrev pub IsPrefixBefore : List ℕ → ℕ → Type 0
@@ -61,8 +62,8 @@ pub record IsNext (text : List ℕ) (pc : ℕ) : Type 0 where
 
 -- ---- the rule
 
--- the rule of so many pushes from a start: where the frame is set up before them, the frame pointer's; else the caller's
--- rsp lies above them and the return address
+-- the rule of so many pushes from a start: where the frame is set up before them, the frame pointer's; else the
+-- caller's rsp lies above them and the return address
 abbrev pub IsRuleOfPushes : List ℕ → ℕ → ℕ → UnwindRuleX86_64 → Type 0
 IsRuleOfPushes text start count UseFramePointer = IsFrameSetUpBefore text start
 IsRuleOfPushes text start count (OffsetSp x) = ¬ IsFrameSetUpBefore text start × (x ≡ count + 1) × (x < 2 ^ 16)
@@ -78,9 +79,10 @@ pub record IsPrologueRule (text : List ℕ) (pc : ℕ) (rule : UnwindRuleX86_64)
 
 -- ---- what it undoes
 
--- from the function's entry: the frame is set up where its instructions stand before the pushes, and then the pushes
+-- from the function's entry: the frame is set up where its instructions are before the pushes, and then the pushes
 pub data PrologueRun (text : List ℕ) (start count : ℕ) (entry here : State) : Type 0 where
-  framed : IsFrameSetUpBefore text start → (s : State) → SetsUpFrame entry s → PushRun count s here → PrologueRun text start count entry here
+  framed : IsFrameSetUpBefore text start → (s : State) → SetsUpFrame entry s → PushRun count s here
+      → PrologueRun text start count entry here
   frameless : ¬ IsFrameSetUpBefore text start → PushRun count entry here → PrologueRun text start count entry here
 
 -- The rule undoes the prologue: wherever its instructions lead from a state at the function's entry to the registers at
@@ -90,6 +92,6 @@ abbrev pub UndoesPrologue : List ℕ → ℕ → UnwindRuleX86_64 → Type 0
 UndoesPrologue text pc rule =
     (start count : ℕ) → AreLongestPushes text pc start count
     → (r new : Registers) (entry here : State) (first : Bool) (address : ℕ)
-    → PrologueRun text start count entry here → StandsIn r here
+    → PrologueRun text start count entry here → HasRegisters r here
     → outcome rule first r here.memory ≡ answered address new
     → (new.rsp ≡ entry.sp + 8) × (entry.bp ≡ Some new.rbp) × (entry.memory entry.sp ≡ Some address) × (new.ip ≡ address)

@@ -2,10 +2,10 @@
 //!
 //! The instructions from the pc on are read up to the end of the function, which is a return or a
 //! tail call. They say where the caller's sp is, and from where fp and lr are restored.
-ghost use Rattle.std.specs.Prelude.{◌≡◌, ◌≢◌, ℕ, ◌+◌, ◌-◌, ◌*◌, ◌<◌, ◌≤◌, ◌^◌, pos, negsuc, ◌≤ℤ◌, ◌+ℤ◌, ◌==◌, if◌then◌else◌, true, Bool, List, length, Some, IsTrue, MatchOption, IfSome, ◌↔◌};
+ghost use Rattle.std.specs.Prelude.{◌≡◌, ◌≢◌, ℕ, ◌+◌, ◌-◌, ◌*◌, ◌<◌, ◌≤◌, ◌^◌, pos, negsuc, ◌≤ℤ◌, ◌+ℤ◌, ◌==◌, if◌then◌else◌, true, Bool, List, length, Some, IsTrue, MatchOption, IfSome, OnSome, ◌↔◌};
 ghost use Rattle.framehop_analysis.specs.Answer.{IsOnly};
-ghost use Rattle.framehop_analysis.specs.Aarch64.Words.{word_at, Stand, addressing};
-ghost use Rattle.framehop_analysis.specs.Aarch64.Epilogue.{is_restoring, moves_sp, is_call_word, check_words, at_pc, IsAuthenticatedCall, IsEnd, IsInsideCall, IsInsideCallAfter, IsAtTailCall, IsRestored, IsRestOfEpilogue, IsEpilogueRule, DoesEpilogue, places_after, place_after_load, IsRuleOfPlaces};
+ghost use Rattle.framehop_analysis.specs.Aarch64.Words.{word_at, AreWordsAt, addressing};
+ghost use Rattle.framehop_analysis.specs.Aarch64.Epilogue.{is_restoring, moves_sp, is_call_word, check_words, at_pc, IsAuthenticatedCall, IsEnd, IsInsideCall, IsInsideCallAfter, IsAtTailCall, IsRestored, IsRestOfEpilogue, IsEpilogueRule, EndsFrom, DoesEpilogue, places_after, place_after_load, IsRuleOfPlaces};
 ghost use Rattle.framehop_analysis.specs.Aarch64.Detector.{places_of};
 
 use super::units::{units_of_8, units_of_16};
@@ -42,6 +42,7 @@ pub fn unwind_rule_from_detected_epilogue(
     ensures exact { (rule : UnwindRuleAarch64)
         → (result ≡ Some rule) ↔ IsEpilogueRule text_bytes.now pc_offset rule }
     ensures simulation { IfSome result (DoesEpilogue text_bytes.now pc_offset) }
+    ensures ends { OnSome result (EndsFrom text_bytes.now pc_offset) }
 {
     detect_epilogue(text_bytes, pc_offset)
 }
@@ -74,7 +75,7 @@ fn is_restored(text_bytes: &[u8], pc_offset: usize) -> bool
     is_in_auth_tail_call(text_bytes, pc_offset) || is_at_tail_call(text_bytes, pc_offset)
 }
 
-/// Whether the pc is at a branch whose predecessor moves sp.
+/// Whether the pc is at a branch after an instruction that moves sp.
 ///
 /// The branch could lead to a place inside the function. It is taken for a tail call where the
 /// instruction before it looks like one of an epilogue.
@@ -103,7 +104,7 @@ fn instruction_adjusts_stack_pointer(word: u32) -> bool
     (is_load(word) && is_indexed(word)) || is_add_sp(word)
 }
 
-/// Whether the pc is inside an authenticated tail call, behind any number of its words.
+/// Whether the pc is inside an authenticated tail call, after any number of its words.
 fn is_in_auth_tail_call(text_bytes: &[u8], pc_offset: usize) -> bool
     ensures { IsTrue result ↔ IsInsideCall text_bytes.now pc_offset }
 {
@@ -120,7 +121,7 @@ fn is_in_auth_tail_call(text_bytes: &[u8], pc_offset: usize) -> bool
     false
 }
 
-/// Whether the instruction can stand in an authenticated tail call behind so many others.
+/// Whether the instruction can be in an authenticated tail call after so many others.
 fn is_word_of_auth_tail_call(word: u32, before: usize) -> bool
     ensures { result ≡ is_call_word before word }
 {
@@ -135,7 +136,7 @@ fn is_word_of_auth_tail_call(word: u32, before: usize) -> bool
     }
 }
 
-/// Whether the pc is inside an authenticated tail call, behind so many of its words.
+/// Whether the pc is inside an authenticated tail call, after so many of its words.
 fn is_in_auth_tail_call_after(text_bytes: &[u8], pc_offset: usize, before: usize) -> bool
     requires { before < 6 }
     ensures { IsTrue result ↔ IsInsideCallAfter text_bytes.now pc_offset before }
@@ -165,8 +166,8 @@ fn is_in_auth_tail_call_after(text_bytes: &[u8], pc_offset: usize, before: usize
 /// The tail call is `b`, or `mov x16, #imm` and `braa xN, x16`.
 fn auth_tail_call_len(text_bytes: &[u8], start: usize) -> Option<usize>
     ensures { MatchOption result
-        ((words : List ℕ) → Stand text_bytes.now start words → IsAuthenticatedCall words → ⊥)
-        (λ len. (words : List ℕ) × Stand text_bytes.now start words
+        ((words : List ℕ) → AreWordsAt text_bytes.now start words → IsAuthenticatedCall words → ⊥)
+        (λ len. (words : List ℕ) × AreWordsAt text_bytes.now start words
         × IsAuthenticatedCall words × (len ≡ length words)) }
 {
     let tail_call = auth_check_end(text_bytes, start)?;
@@ -185,8 +186,8 @@ fn auth_tail_call_len(text_bytes: &[u8], start: usize) -> Option<usize>
 /// none.
 fn auth_check_end(text_bytes: &[u8], start: usize) -> Option<usize>
     ensures { MatchOption result
-        (Stand text_bytes.now start check_words → ⊥)
-        (λ end. Stand text_bytes.now start check_words × (end ≡ start + 4 + 4 + 4 + 4)) }
+        (AreWordsAt text_bytes.now start check_words → ⊥)
+        (λ end. AreWordsAt text_bytes.now start check_words × (end ≡ start + 4 + 4 + 4 + 4)) }
 {
     if !has_word(text_bytes, start, AUTIBSP) {
         return None;
@@ -225,7 +226,7 @@ fn restoring_word_at(text_bytes: &[u8], at: usize) -> Option<u32>
 /// branch where sp has moved, which is taken for a tail call, or by an authenticated tail call.
 fn is_end(text_bytes: &[u8], at: usize, moved: i128) -> bool
     ensures { IsTrue result
-        ↔ ((words : List ℕ) × Stand text_bytes.now at words × IsEnd moved words) }
+        ↔ ((words : List ℕ) × AreWordsAt text_bytes.now at words × IsEnd moved words) }
 {
     let Some(word) = word_at(text_bytes, at) else {
         return false;

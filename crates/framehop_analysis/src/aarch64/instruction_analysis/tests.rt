@@ -2,6 +2,7 @@
 //! instructions' manual give for them.
 use super::{unwind_rule_from_detected_epilogue, unwind_rule_from_detected_prologue};
 use crate::instruction_analysis::InstructionAnalysis;
+use crate::real_code::{AARCH64_CODE, AARCH64_PLACES, Place};
 use framehop_core::Error;
 use framehop_core::aarch64::{ArchAarch64, UnwindRegsAarch64, UnwindRuleAarch64};
 use framehop_core::unwind_rule::UnwindRule;
@@ -438,4 +439,45 @@ fn undoes_a_prologue(rt: HostRuntime) -> Result<(), Error> {
     );
     assert_eq!(rt; (regs.lr(), regs.sp(), regs.fp()), (0x100300, 0x100, 0x70));
     Ok(())
+}
+
+/// A word of a stack in which each address has another one.
+fn word_at(address: u64) -> u64 {
+    address ^ 0x5000_0000
+}
+
+/// Runs the rule that is found at a place of compiled code, if one is. Returns whether it finds the
+/// caller.
+fn finds_caller(rt: &impl Abort, place: &Place) -> Option<bool> {
+    let (start, end, pc_offset, sp, fp, return_address, frame, _) = *place;
+    assert!(rt; start <= end && end <= AARCH64_CODE.len());
+    let text_bytes = &AARCH64_CODE[start..end];
+    assert!(rt; pc_offset <= text_bytes.len());
+    let rule = ArchAarch64::rule_from_instruction_analysis(text_bytes, pc_offset)?;
+    let (old_sp, old_lr) = (0x10000u64, 0x7777);
+    let old_fp = frame.map_or(0x8888, |offset| old_sp.wrapping_add(offset));
+    let mut regs = UnwindRegsAarch64::new(old_lr, old_sp, old_fp);
+    let mut read_stack = |address: u64| -> Result<u64, ()> { Ok(word_at(address)) };
+    let answer = rule.exec(true, &mut regs, &mut read_stack);
+    let lr = return_address.map_or(old_lr, |offset| word_at(old_sp.wrapping_add(offset)));
+    let fp = fp.map_or(old_fp, |offset| word_at(old_sp.wrapping_add(offset)));
+    let right = answer == Ok(Some(lr)) && regs.sp() == old_sp.wrapping_add(sp) && regs.fp() == fp;
+    Some(right)
+}
+
+#[test]
+fn finds_callers_in_compiled_code(rt: HostRuntime) {
+    let mut right = 0u32;
+    let mut wrong = 0u32;
+    for place in &AARCH64_PLACES {
+        match finds_caller(&rt, place) {
+            Some(true) => right = right.wrapping_add(1),
+            Some(false) => {
+                assert!(rt; place.7, "{place:?}");
+                wrong = wrong.wrapping_add(1);
+            }
+            None => {}
+        }
+    }
+    assert_eq!(rt; (right, wrong), (98, 3), "of {}", AARCH64_PLACES.len());
 }

@@ -2,11 +2,11 @@
 //!
 //! The pops from the pc on are counted, up to the end of the function, which is a return or a tail
 //! call.
-ghost use Rattle.std.specs.Prelude.{◌≡◌, ◌+◌, ◌-◌, ◌<◌, ◌≤◌, ◌↔◌, true, length, Some, IsTrue, IfSome, option_map, if◌then◌else◌};
+ghost use Rattle.std.specs.Prelude.{◌≡◌, ◌+◌, ◌-◌, ◌<◌, ◌≤◌, ◌↔◌, true, length, Some, IsTrue, IfSome, OnSome, option_map, if◌then◌else◌};
 ghost use Rattle.framehop_core.specs.X86_64.Rules.{is_executable};
 ghost use Rattle.framehop_analysis.specs.Answer.{IsOnly};
 ghost use Rattle.framehop_analysis.specs.X86_64.Machine.{is_jump};
-ghost use Rattle.framehop_analysis.specs.X86_64.Epilogue.{Pop, is_plain_pop, pop_at, FollowsPop, IsEnd, IsRuleOfPopped, IsEpilogueRule, DoesEpilogue};
+ghost use Rattle.framehop_analysis.specs.X86_64.Epilogue.{Pop, is_plain_pop, pop_at, FollowsPop, IsEnd, IsRuleOfPopped, IsEpilogueRule, EndsFrom, DoesEpilogue};
 
 use super::bytes::{byte_at, is_pop_opcode};
 use framehop_core::x86_64::UnwindRuleX86_64;
@@ -23,6 +23,7 @@ pub fn unwind_rule_from_detected_epilogue(
     ensures exact { (rule : UnwindRuleX86_64)
         → (result ≡ Some rule) ↔ IsEpilogueRule text_bytes.now pc_offset rule }
     ensures simulation { IfSome result (DoesEpilogue text_bytes.now pc_offset) }
+    ensures ends { OnSome result (EndsFrom text_bytes.now pc_offset) }
     ensures executable { IfSome result (λ rule. IsTrue (is_executable rule)) }
 {
     detect_epilogue(text_bytes, pc_offset)

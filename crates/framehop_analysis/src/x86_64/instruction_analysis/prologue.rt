@@ -94,7 +94,7 @@ fn push_before(text_bytes: &[u8], end: usize) -> Option<usize>
     }
 }
 
-/// Whether `push rbp; mov rbp, rsp` stands before the offset.
+/// Whether `push rbp; mov rbp, rsp` is before the offset.
 fn is_frame_set_up_before(text_bytes: &[u8], at: usize) -> bool
     requires { at ≤ length text_bytes.now }
     ensures { IsTrue result ↔ IsFrameSetUpBefore text_bytes.now at }

@@ -2,6 +2,7 @@
 //! instructions' manual give for them.
 use super::{unwind_rule_from_detected_epilogue, unwind_rule_from_detected_prologue};
 use crate::instruction_analysis::InstructionAnalysis;
+use crate::real_code::{Place, X86_64_CODE, X86_64_PLACES};
 use framehop_core::Error;
 use framehop_core::unwind_rule::UnwindRule;
 use framehop_core::x86_64::{ArchX86_64, UnwindRegsX86_64, UnwindRuleX86_64};
@@ -86,7 +87,7 @@ fn finds_epilogues(rt: HostRuntime) {
 
 #[test]
 fn finds_prologues(rt: HostRuntime) {
-    // push rbp; mov rbp, rsp, and pushes behind it, before sub rsp, 0x18
+    // push rbp; mov rbp, rsp, and pushes after it, before sub rsp, 0x18
     assert_prologue(
         &rt,
         &[
@@ -220,4 +221,45 @@ fn undoes_a_prologue(rt: HostRuntime) -> Result<(), Error> {
     assert_eq!(rt; rule.exec(true, &mut regs, &mut read_stack)?, Some(0x5000));
     assert_eq!(rt; (regs.ip(), regs.sp(), regs.bp()), (0x5000, 0x108, 0x70));
     Ok(())
+}
+
+/// A word of a stack in which each address has another one.
+fn word_at(address: u64) -> u64 {
+    address ^ 0x5000_0000
+}
+
+/// Runs the rule that is found at a place of compiled code, if one is. Returns whether it finds the
+/// caller.
+fn finds_caller(rt: &impl Abort, place: &Place) -> Option<bool> {
+    let (start, end, pc_offset, sp, bp, return_address, frame, _) = *place;
+    assert!(rt; start <= end && end <= X86_64_CODE.len());
+    let text_bytes = &X86_64_CODE[start..end];
+    assert!(rt; pc_offset <= text_bytes.len());
+    let rule = ArchX86_64::rule_from_instruction_analysis(text_bytes, pc_offset)?;
+    let old_sp = 0x10000u64;
+    let old_bp = frame.map_or(0x8888, |offset| old_sp.wrapping_add(offset));
+    let mut regs = UnwindRegsX86_64::new(0x7777, old_sp, old_bp);
+    let mut read_stack = |address: u64| -> Result<u64, ()> { Ok(word_at(address)) };
+    let answer = rule.exec(true, &mut regs, &mut read_stack);
+    let address = return_address.map(|offset| word_at(old_sp.wrapping_add(offset)));
+    let bp = bp.map_or(old_bp, |offset| word_at(old_sp.wrapping_add(offset)));
+    let right = answer == Ok(address) && regs.sp() == old_sp.wrapping_add(sp) && regs.bp() == bp;
+    Some(right)
+}
+
+#[test]
+fn finds_callers_in_compiled_code(rt: HostRuntime) {
+    let mut right = 0u32;
+    let mut wrong = 0u32;
+    for place in &X86_64_PLACES {
+        match finds_caller(&rt, place) {
+            Some(true) => right = right.wrapping_add(1),
+            Some(false) => {
+                assert!(rt; place.7, "{place:?}");
+                wrong = wrong.wrapping_add(1);
+            }
+            None => {}
+        }
+    }
+    assert_eq!(rt; (right, wrong), (129, 8), "of {}", X86_64_PLACES.len());
 }

@@ -1,7 +1,6 @@
 use Rattle.std.proofs.Common.{arith, refl, to_z, of_z}
 use mir.Syntax.{w128}
 use Rattle.std.proofs.lemmas.Int.{ints}
-use Rattle.framehop_analysis.specs.Aarch64.Detector.{places_of}
 use Rattle.framehop_analysis.proofs.Aarch64Ends.{never, ends-at, read-more, no-end, only-end}
 use Rattle.framehop_analysis.proofs.aarch64.instruction_analysis.epilogue.detect_epilogue.Goals as goal
 

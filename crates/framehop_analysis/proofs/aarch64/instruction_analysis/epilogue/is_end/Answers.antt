@@ -1,4 +1,4 @@
-use Rattle.std.proofs.Common.{refl, sym, ◌∙◌, arith}
+use Rattle.std.proofs.Common.{refl, sym, arith}
 use Rattle.std.proofs.lemmas.Int.{ints}
 use Rattle.framehop_analysis.proofs.Aarch64Prologue.{not-both}
 use Rattle.framehop_analysis.proofs.Aarch64Ends.{end-return, end-branch, end-call}

@@ -1,7 +1,6 @@
-use Rattle.std.proofs.Common.{◌≡◌, true, false, Some, sym, ap, ◌∙◌, arith, pos, ◌≢◌, to_z, of_z}
+use Rattle.std.proofs.Common.{◌≡◌, sym, arith, pos}
 use Rattle.std.proofs.lemmas.Int.{ints}
-use Rattle.framehop_analysis.specs.Aarch64.Words.{word_at}
-use Rattle.framehop_analysis.specs.Aarch64.Prologue.{is_prologue_word, is_plain_store, lowered}
+use Rattle.framehop_analysis.specs.Aarch64.Prologue.{lowered}
 use Rattle.framehop_analysis.proofs.Aarch64Prologue.{too_early, rule-only, not-both}
 use Rattle.framehop_analysis.proofs.aarch64.instruction_analysis.prologue.detect_prologue.Goals as goal
 use Rattle.framehop_analysis.proofs.aarch64.instruction_analysis.prologue.detect_prologue.Goals.{else-sp_offset-eq0-via-then-sp_offset-eq0+else-is_plain_store, else-sp_offset-eq0-via-else-sp_offset-eq0}

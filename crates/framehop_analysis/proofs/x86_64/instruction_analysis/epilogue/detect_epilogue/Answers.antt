@@ -1,4 +1,4 @@
-use Rattle.std.proofs.Common.{refl, sym, ap, ◌∙◌}
+use Rattle.std.proofs.Common.{refl, sym}
 use Rattle.framehop_analysis.proofs.Aarch64Ends.{never}
 use Rattle.framehop_analysis.proofs.X86_64Pops.{read-more, no-end, only-end, popped-same}
 use Rattle.framehop_analysis.proofs.x86_64.instruction_analysis.epilogue.detect_epilogue.Goals as goal
