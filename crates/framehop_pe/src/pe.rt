@@ -36,6 +36,7 @@ pub enum PeUnwinderError {
 }
 
 /// Data and where it lies in the module, as relative addresses (RVA).
+#[derive(Drop)]
 pub struct DataAtRvaRange<D> {
     /// The data.
     pub bytes: D,

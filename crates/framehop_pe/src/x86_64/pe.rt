@@ -332,3 +332,6 @@ impl PeUnwinding for ArchX86_64 {
         }
     }
 }
+
+#[cfg(test)]
+mod tests;
