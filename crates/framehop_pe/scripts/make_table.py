@@ -1,9 +1,9 @@
 #!/usr/bin/env python3
-"""Makes src/x86_64/pe/table.rt: a DLL's sections, and what unwinding gives at addresses of it.
+"""Makes src/x86_64/pe/tests/table.rt: a DLL's sections, and what unwinding gives at addresses of it.
 
 The DLL is made of functions.c by mingw's gcc (Debian: gcc-mingw-w64-x86-64-posix). What unwinding
 gives is worked out here from the codes that llvm-readobj prints and the instructions that objdump
-prints, and not by the library. Run it anywhere: scripts/make_table.py > src/x86_64/pe/table.rt,
+prints, and not by the library. Run it anywhere: scripts/make_table.py > src/x86_64/pe/tests/table.rt,
 then `rt fmt`.
 """
 import os
@@ -19,10 +19,10 @@ EIGHT = "RBX RBP RDI RSI R12 R13 R14 R15".split()
 
 
 def word(address):
-    return address ^ 0x5A5A0000
+    return address ^ 0x8000
 
 
-START = {name: 0x7000_0000 + 0x10_0000 * number for number, name in enumerate(NUMBERS)}
+START = {name: 0x1000 + 0x100 * number for number, name in enumerate(NUMBERS)}
 
 
 def run(*command):
@@ -177,9 +177,9 @@ def rows_of(function, instructions, image_base):
     after_prolog = prolog[-1] if prolog else begin
     body = [a for a in inside if a > after_prolog and a not in ends] or inside[-1:]
     chosen = [(begin, True)]
-    chosen += [(a, True) for a in prolog[:-1][::3]] + [(a, False) for a in prolog[1:-1][::4]]
+    chosen += [(a, True) for a in prolog[:-1][2::5]] + [(a, False) for a in prolog[1:-1][2::5]]
     chosen += [(body[len(body) // 3], False)] + ([(prolog[-1], True)] if prolog else [])
-    chosen += [(a, True) for a in ends[:1] + ends[1::3]] + [(a, False) for a in ends[-1:]]
+    chosen += [(a, True) for a in ends[:1] + ends[2::4]]
     return [row(function, a, f, instructions, image_base) for a, f in sorted(set(chosen))]
 
 
@@ -205,7 +205,7 @@ def main():
     print("/// What unwinding gives at an address: the rule of an offset and pops, if there is one, and what")
     print("/// the rule or the call itself leaves: the return address, and rsp, rbx, rbp, rsi, rdi, r12, r13,")
     print("/// r14 and r15.")
-    print("pub struct Row { pub address: u32, pub is_first_frame: bool, pub rule: Option<(u16, u8, u16)>,")
+    print("#[derive(Drop)]\npub struct Row { pub address: u32, pub is_first_frame: bool, pub rule: Option<(u16, u8, u16)>,")
     print("pub return_address: u64, pub registers: [u64; 9] }\n")
     for name, section in (("TEXT", ".text"), ("PDATA", ".pdata"), ("XDATA", ".xdata")):
         rva, data = sections[section]

@@ -1,8 +1,12 @@
+mod table;
+
 use super::*;
 use crate::pe::DataAtRvaRange;
+use crate::unwind_info::register::register_of;
 use framehop_core::unwind_rule::UnwindRule;
 use std::alloc::{AllocError, Global};
 use std::test::Fail;
+use table::{PDATA, ROWS, Row, TEXT, TEXT_RVA, XDATA, XDATA_RVA};
 
 /// Lent bytes.
 #[derive(Drop)]
@@ -84,9 +88,9 @@ fn unwind_info(
 }
 
 /// Unwinds a first frame of the function, whose code ends in these bytes, from the first of them.
-fn unwind_end(
-    code: &[u8],
-    info: &[u8],
+fn unwind_end<'x>(
+    code: &'x [u8],
+    info: &'x [u8],
     regs: &mut UnwindRegsX86_64,
     stack: &[(u64, u64)],
 ) -> Answer {
@@ -527,4 +531,87 @@ fn takes_sections_in_their_order(rt: HostRuntime) -> Result<(), Fail> {
         Ok([0xc3, 0xc3, 0xc3].as_slice())
     );
     Ok(())
+}
+
+/// The registers that the table shows, in its order.
+const SHOWN: [Reg; 9] = [
+    Reg::RSP,
+    Reg::RBX,
+    Reg::RBP,
+    Reg::RSI,
+    Reg::RDI,
+    Reg::R12,
+    Reg::R13,
+    Reg::R14,
+    Reg::R15,
+];
+
+/// The registers that the table begins with: 0x1000 and 0x100 for each of their numbers.
+fn registers_of_the_table() -> UnwindRegsX86_64 {
+    let mut regs = UnwindRegsX86_64::new(1, 0, 0);
+    let mut value = 0x1000_u64;
+    for number in 0..16 {
+        regs.set(register_of(number), value);
+        value = value.wrapping_add(0x100);
+    }
+    regs
+}
+
+/// Unwinds at a row of the table, and runs the rule where one is returned.
+fn unwind_row(row: &Row, regs: &mut UnwindRegsX86_64) -> Option<u64> {
+    let pdata = Lent(&PDATA);
+    let xdata = DataAtRvaRange {
+        bytes: Lent(&XDATA),
+        rva_range: XDATA_RVA..XDATA_RVA + 0x1000,
+    };
+    let text = DataAtRvaRange {
+        bytes: Lent(&TEXT),
+        rva_range: TEXT_RVA..TEXT_RVA + 0x1000,
+    };
+    let sections = PeSections {
+        pdata: &pdata,
+        rdata: None,
+        xdata: Some(&xdata),
+        text: Some(&text),
+    };
+    let mut word = |address: u64| -> Result<u64, ()> { Ok(address ^ 0x8000) };
+    let first = row.is_first_frame;
+    match ArchX86_64::unwind_frame(sections, row.address, regs, first, &mut word) {
+        Ok(UnwindResult::Uncacheable(address)) if row.rule.is_none() => Some(address),
+        Ok(UnwindResult::ExecRule(rule)) => {
+            let wanted = match row.rule? {
+                (0, 0, 0) => UnwindRuleX86_64::JustReturn,
+                (sp_offset_by_8, register_count, encoded_registers_to_pop) => {
+                    UnwindRuleX86_64::OffsetSpAndPopRegisters {
+                        sp_offset_by_8,
+                        register_count,
+                        encoded_registers_to_pop,
+                    }
+                }
+            };
+            if rule != wanted {
+                return None;
+            }
+            rule.exec(first, regs, &mut word).ok()?
+        }
+        _ => None,
+    }
+}
+
+#[test]
+fn unwinds_a_dll(rt: HostRuntime) {
+    assert!(rt; ROWS.len() >= 60);
+    for row in &ROWS {
+        let mut regs = registers_of_the_table();
+        let address = row.address;
+        let found = unwind_row(row, &mut regs);
+        assert_eq!(rt; found, Some(row.return_address), "at {address:x}");
+        assert_eq!(rt; regs.ip(), row.return_address);
+        let mut wanted = registers_of_the_table();
+        for (register, value) in SHOWN.iter().zip(&row.registers) {
+            wanted.set(*register, *value);
+        }
+        wanted.set_ip(row.return_address);
+        assert_eq!(rt; regs, wanted, "at {address:x}");
+    }
 }
