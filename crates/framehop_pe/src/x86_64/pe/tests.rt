@@ -3,6 +3,7 @@ mod table;
 use super::*;
 use crate::pe::DataAtRvaRange;
 use crate::unwind_info::register::register_of;
+use framehop_core::aarch64::{ArchAarch64, UnwindRegsAarch64};
 use framehop_core::unwind_rule::UnwindRule;
 use std::alloc::{AllocError, Global};
 use std::test::Fail;
@@ -397,7 +398,7 @@ fn refuses_what_is_short_or_unknown(rt: HostRuntime) {
         [1, 0, 3, 0, 0, 0x45, 0, 0, 0, 0].as_slice(),
         [1, 0, 0, 4].as_slice(),
         [1, 0, 1, 0, 0, 0x03].as_slice(),
-        // a code that is skipped, and one behind a machine frame
+        // a code that is skipped, and one after a machine frame
         [1, 0, 2, 0, 9, 0x06, 0, 0x30].as_slice(),
         [1, 0, 2, 0, 0, 0x0a, 0, 0x06].as_slice(),
         // a chained entry that is cut off, and a chain without an end
@@ -530,6 +531,105 @@ fn takes_sections_in_their_order(rt: HostRuntime) -> Result<(), Fail> {
         sections.text_memory_at_rva(0x1001),
         Ok([0xc3, 0xc3, 0xc3].as_slice())
     );
+    Ok(())
+}
+
+#[test]
+fn reads_each_word_once(rt: HostRuntime) -> Result<(), Fail> {
+    // UWOP_PUSH_NONVOL rsi, UWOP_SAVE_NONVOL rdi at 2 words, and the return address
+    let info = [1, 0, 3, 0, 0, 0x60, 0, 0x74, 2, 0];
+    let pdata = Lent(&FUNCTION);
+    let rdata = DataAtRvaRange {
+        bytes: Lent(&info),
+        rva_range: 0x2000..0x200a,
+    };
+    let sections = PeSections {
+        pdata: &pdata,
+        rdata: None,
+        xdata: Some(&rdata),
+        text: None,
+    };
+    let mut read = Vec::new(rt.alloc());
+    let mut read_stack = |address: u64| -> Result<u64, ()> {
+        read.push(address).map_err(|_| ())?;
+        Ok(address + 1)
+    };
+    let mut regs = UnwindRegsX86_64::new(0x1000, 0x100, 0);
+    let answer = ArchX86_64::unwind_frame(sections, 0x1000, &mut regs, false, &mut read_stack)?;
+    assert!(rt; matches!(answer, UnwindResult::Uncacheable(0x109)));
+    assert_eq!(rt; (regs.get(Reg::RSI), regs.get(Reg::RDI)), (0x101, 0x119));
+    assert_eq!(rt; read.as_slice(), [0x100, 0x118, 0x108].as_slice());
+    Ok(())
+}
+
+#[test]
+fn needs_the_code_up_to_the_end(rt: HostRuntime) {
+    let mut regs = UnwindRegsX86_64::new(0x1000, 0x100, 0);
+    let pdata = Lent(&FUNCTION);
+    let rdata = DataAtRvaRange {
+        bytes: Lent(&PUSH_AND_ALLOC),
+        rva_range: 0x2000..0x2008,
+    };
+    let text = DataAtRvaRange {
+        bytes: Lent(&[0x90, 0x90]),
+        rva_range: 0x103e..0x1040,
+    };
+    let missing = |rva: u32| Answer::Refused(PeUnwinderError::MissingInstructionData(rva));
+    for (text, address, answer) in [
+        (None, 0x103e, missing(0x103e)),
+        (Some(&text), 0x103d, missing(0x103d)),
+        (Some(&text), 0x103e, pops(4, 1, 0)),
+    ] {
+        let sections = PeSections {
+            pdata: &pdata,
+            rdata: Some(&rdata),
+            xdata: None,
+            text,
+        };
+        assert_eq!(rt; unwind(sections, address, &mut regs, true, &[]), answer);
+        assert_eq!(rt;
+            unwind(sections, address, &mut regs, false, &[]),
+            pops(4, 1, 0)
+        );
+    }
+}
+
+#[test]
+fn refuses_aarch64(rt: HostRuntime) {
+    let pdata = Lent(&FUNCTION);
+    let sections = PeSections {
+        pdata: &pdata,
+        rdata: None,
+        xdata: None,
+        text: None,
+    };
+    let mut regs = UnwindRegsAarch64::new(1, 2, 3);
+    let mut none = |_address: u64| -> Result<u64, ()> { Err(()) };
+    let refused = ArchAarch64::unwind_frame(sections, 0, &mut regs, true, &mut none);
+    assert_eq!(rt; refused.err(), Some(PeUnwinderError::Aarch64Unsupported));
+}
+
+#[test]
+fn prints_each_error(rt: HostRuntime) -> Result<(), Fail> {
+    for (error, text) in [
+        (
+            PeUnwinderError::MissingUnwindInfoData(1),
+            "MissingUnwindInfoData",
+        ),
+        (
+            PeUnwinderError::MissingInstructionData(2),
+            "MissingInstructionData",
+        ),
+        (PeUnwinderError::MissingStackData(None), "MissingStackData"),
+        (
+            PeUnwinderError::UnwindInfoParseError,
+            "UnwindInfoParseError",
+        ),
+        (PeUnwinderError::Aarch64Unsupported, "Aarch64Unsupported"),
+    ] {
+        let printed = error.to_string(rt.alloc())?;
+        assert_eq!(rt; printed.as_str(), text);
+    }
     Ok(())
 }
 
