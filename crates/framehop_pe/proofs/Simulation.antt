@@ -344,11 +344,11 @@ plain x registers first r memory address new zero_x none e =
       apart = subst ApartFromRsp (sym none) tt;
       restored = record r { rsp = c.new_sp; rbp = c.new_bp };
       pops_are =
-        ap (λ at. popped memory at registers r) here
-        ∙ ap (λ rs. popped memory r.rsp rs r) none
-        ∙ ap (λ a. and_then a (λ s. Ok (record r { rsp = s }))) (fits-address (r.rsp + 8) fits)
-        ∙ ap (λ s. Ok (record r { rsp = s })) (sym sp)
-        ∙ ap (λ b. Ok (record r { rsp = c.new_sp; rbp = b })) bp;
+          ap (λ at. popped memory at registers r) here
+          ∙ ap (λ rs. popped memory r.rsp rs r) none
+          ∙ ap (λ a. and_then a (λ s. Ok (record r { rsp = s }))) (fits-address (r.rsp + 8) fits)
+          ∙ ap (λ s. Ok (record r { rsp = s })) (sym sp)
+          ∙ ap (λ b. Ok (record r { rsp = c.new_sp; rbp = b })) bp;
       word = c.end.word;
       new_is = sym c.end.registers;
     }

@@ -19,14 +19,14 @@ header_at sections rva = do
   ok_or (header_of bytes) UnwindInfoParseError
 
 -- what the info of a header says
-abbrev pub info_behind : Header → Result Info PeUnwinderError
-info_behind header = ok_or (info_of header) UnwindInfoParseError
+abbrev pub info_of_header : Header → Result Info PeUnwinderError
+info_of_header header = ok_or (info_of header) UnwindInfoParseError
 
 -- what the info at a relative address says
 unfoldable pub info_at : Sections → ℕ → Result Info PeUnwinderError
 info_at sections rva = do
   header ← header_at sections rva
-  info_behind header
+  info_of_header header
 
 -- the infos of a chain from a relative address on, or from its end on (`None`), of which so many may be left
 unfoldable pub chained_infos : Sections → ℕ → Option ℕ → Result (List Info) PeUnwinderError
@@ -48,13 +48,15 @@ all_of info = framed (record { frame_register = info.frame; is_established = tru
 -- those of the first info at an offset in its function
 abbrev pub first_of : ℕ → Info → List FramedOperation
 first_of offset info =
-    framed (record { frame_register = info.frame; is_established = not (skips_frame offset info.codes) }) (from_first offset info.codes)
+    let established = not (skips_frame offset info.codes) in
+    let base : FrameBase = record { frame_register = info.frame; is_established = established } in
+    framed base (from_first offset info.codes)
 
 -- the operations at an offset in the function of a header: those of its info, then all of each chained info, of which
 -- there may be 32
 unfoldable pub operations_from : Sections → Header → ℕ → Result (List FramedOperation) PeUnwinderError
 operations_from sections header offset = do
-  info ← info_behind header
+  info ← info_of_header header
   infos ← chained_infos sections 32 info.chained
   Ok (first_of offset info ++ flat_map all_of infos)
 
@@ -66,4 +68,5 @@ or_end (Err _) next = []
 unfoldable pub infos_from : Sections → ℕ → Option ℕ → List Info
 infos_from sections left None = []
 infos_from sections zero (Some rva) = []
-infos_from sections (suc left) (Some rva) = or_end (info_at sections rva) (λ info. infos_from sections left info.chained)
+infos_from sections (suc left) (Some rva) =
+    or_end (info_at sections rva) (λ info. infos_from sections left info.chained)

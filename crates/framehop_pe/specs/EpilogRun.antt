@@ -4,7 +4,7 @@ use Rattle.framehop_core.specs.AddSigned.{fitting, sum_with}
 use Rattle.framehop_core.specs.Memory.{Memory}
 use Rattle.framehop_core.specs.X86_64.Registers.{Registers, register, with_register}
 use Rattle.framehop_core.specs.declared.x86_64.unwindregs.Reg.{Reg}
-use Rattle.framehop_pe.specs.Resolve.{sum, popped_word}
+use Rattle.framehop_pe.specs.Resolve.{Caller, sum, popped_word}
 use Rattle.framehop_pe.specs.declared.pe.PeUnwinderError.{PeUnwinderError}
 use Rattle.framehop_pe.specs.declared.pe.PeUnwinderError.TheVariants.{MissingStackData}
 use Rattle.framehop_pe.specs.declared.unwind_info.epilog.FunctionEpilogInstruction.{FunctionEpilogInstruction}
@@ -21,7 +21,7 @@ beside_register None offset r = None
 beside_register (Some frame) offset r = fitting 64 (sum_with (register r frame) offset)
 
 -- the registers with a popped word in one of them
-abbrev pub with_popped : Reg → Result (ℕ × Registers) PeUnwinderError → Result Registers PeUnwinderError
+abbrev pub with_popped : Reg → Caller → Result Registers PeUnwinderError
 with_popped reg (Ok (word, r)) = Ok (with_register r reg word)
 with_popped reg (Err error) = Err error
 
@@ -32,12 +32,13 @@ stepped memory frame (AddSPFromFP offset) r = with_sp (beside_register frame off
 stepped memory frame (Pop reg) r = with_popped reg (popped_word memory r)
 
 -- one step, then what follows it
-abbrev pub stepped_then : Result Registers PeUnwinderError → (Registers → Result (ℕ × Registers) PeUnwinderError) → Result (ℕ × Registers) PeUnwinderError
+abbrev pub stepped_then : Result Registers PeUnwinderError → (Registers → Caller) → Caller
 stepped_then (Ok r) next = next r
 stepped_then (Err error) next = Err error
 
 -- The return address and the caller's registers but for ip, by the instructions in their order and the one that leaves
--- the function, behind which the return address is popped.
-abbrev pub ran : Memory → Option Reg → List FunctionEpilogInstruction → Registers → Result (ℕ × Registers) PeUnwinderError
+-- the function, which pops the return address.
+abbrev pub ran : Memory → Option Reg → List FunctionEpilogInstruction → Registers → Caller
 ran memory frame [] r = popped_word memory r
-ran memory frame (instruction ∷ instructions) r = stepped_then (stepped memory frame instruction r) (ran memory frame instructions)
+ran memory frame (instruction ∷ instructions) r =
+    stepped_then (stepped memory frame instruction r) (ran memory frame instructions)

@@ -16,7 +16,7 @@ use Rattle.framehop_pe.specs.EpilogRun.{ran}
 use Rattle.framehop_pe.specs.FunctionTable.{function_of}
 use Rattle.framehop_pe.specs.Info.{Header}
 use Rattle.framehop_pe.specs.Offsets.{of_instruction, of_operation}
-use Rattle.framehop_pe.specs.Resolve.{IsMissingStackData, resolved}
+use Rattle.framehop_pe.specs.Resolve.{Caller, IsMissingStackData, resolved}
 use Rattle.framehop_pe.specs.Sections.{Sections, text_at}
 use Rattle.framehop_pe.specs.declared.pe.PeUnwinderError.{PeUnwinderError}
 use Rattle.framehop_pe.specs.declared.pe.PeUnwinderError.TheVariants.{MissingInstructionData}
@@ -26,11 +26,15 @@ use Rattle.framehop_pe.specs.declared.unwind_info.function_table.RuntimeFunction
 
 -- ---- what leads to the caller
 
--- What leads from a frame to its caller: what is left of an epilog, in a function with a frame register or without one, or
--- the operations that undo a prolog.
+-- What leads from a frame to its caller: what is left of an epilog, in a function with a frame register or without one,
+-- or the operations that undo a prolog.
 pub data Way : Type 0 where
   by_epilog : Option Reg → List FunctionEpilogInstruction → Way
   by_codes : List FramedOperation → Way
+
+-- the way that the bytes say, or the refusal that they give
+abbrev pub Told : Type 0
+Told = Result Way PeUnwinderError
 
 -- the frame register of a header
 abbrev pub frame_register : Header → Option Reg
@@ -46,42 +50,46 @@ sized address size (Some bytes) =
 unfoldable pub code_at : Sections → RuntimeFunction → ℕ → Result (List ℕ) PeUnwinderError
 code_at sections function address = sized address (function.end_address - address) (text_at sections address)
 
+-- the instructions of an epilog, if there is one
+abbrev pub Epilog : Type 0
+Epilog = Option (List FunctionEpilogInstruction)
+
 -- what is left of an epilog at an address in a function, if the code there is an epilog
-unfoldable pub epilog_at : Sections → RuntimeFunction → Option Reg → ℕ → Result (Option (List FunctionEpilogInstruction)) PeUnwinderError
+unfoldable pub epilog_at : Sections → RuntimeFunction → Option Reg → ℕ → Result Epilog PeUnwinderError
 epilog_at sections function frame address = do
   code ← code_at sections function address
   Ok (epilog_of frame (function.end_address - function.begin_address) code)
 
 -- the operations at an address in a function
-abbrev pub codes_way : Sections → RuntimeFunction → Header → ℕ → Result Way PeUnwinderError
+abbrev pub codes_way : Sections → RuntimeFunction → Header → ℕ → Told
 codes_way sections function header address = do
   operations ← operations_from sections header (address - function.begin_address)
   Ok (by_codes operations)
 
 -- an epilog, else the operations
-abbrev pub epilog_or : Option Reg → Option (List FunctionEpilogInstruction) → Result Way PeUnwinderError → Result Way PeUnwinderError
+abbrev pub epilog_or : Option Reg → Epilog → Told → Told
 epilog_or frame (Some instructions) other = Ok (by_epilog frame instructions)
 epilog_or frame None other = other
 
 -- in a first frame the address may be in an epilog, which the codes do not describe
-abbrev pub way_in : Bool → Sections → RuntimeFunction → Header → ℕ → Result Way PeUnwinderError
+abbrev pub way_in : Bool → Sections → RuntimeFunction → Header → ℕ → Told
 way_in true sections function header address = do
   found ← epilog_at sections function (frame_register header) address
   epilog_or (frame_register header) found (codes_way sections function header address)
 way_in false sections function header address = codes_way sections function header address
 
 -- the way from an address in a function, in a first frame (`true`) or another
-unfoldable pub way_of : Bool → Sections → RuntimeFunction → ℕ → Result Way PeUnwinderError
+unfoldable pub way_of : Bool → Sections → RuntimeFunction → ℕ → Told
 way_of first sections function address = do
   header ← header_at sections function.unwind_info_address
   way_in first sections function header address
 
 -- the way from an address: a function that the table does not have saves nothing, and there is nothing to undo
-abbrev pub way_or_leaf : Bool → Sections → ℕ → Option RuntimeFunction → Result Way PeUnwinderError
+abbrev pub way_or_leaf : Bool → Sections → ℕ → Option RuntimeFunction → Told
 way_or_leaf first sections address None = Ok (by_codes [])
 way_or_leaf first sections address (Some function) = way_of first sections function address
 
-abbrev pub way_at : Sections → ℕ → Bool → Result Way PeUnwinderError
+abbrev pub way_at : Sections → ℕ → Bool → Told
 way_at sections address first = way_or_leaf first sections address (function_of sections.pdata address)
 
 -- the offsets and pops of a way
@@ -90,36 +98,40 @@ offsets_and_pops (by_epilog frame instructions) = map of_instruction instruction
 offsets_and_pops (by_codes operations) = map (λ framed. of_operation framed.operation) operations
 
 -- a return address is the caller's instruction pointer
-abbrev pub returned : Result (ℕ × Registers) PeUnwinderError → Result (ℕ × Registers) PeUnwinderError
+abbrev pub returned : Caller → Caller
 returned (Ok (address, r)) = Ok (address, record r { ip = address })
 returned (Err error) = Err error
 
 -- the return address and the caller's registers along a way, over memory
-abbrev pub along : Way → Memory → Registers → Result (ℕ × Registers) PeUnwinderError
+abbrev pub along : Way → Memory → Registers → Caller
 along (by_epilog frame instructions) memory r = returned (ran memory frame instructions r)
 along (by_codes operations) memory r = returned (resolved memory operations r)
 
 -- ---- what a call returns
 
+-- what a call returns
+abbrev pub Answer : Type 0
+Answer = Result (UnwindResult UnwindRuleX86_64) PeUnwinderError
+
 -- a rule where the offsets and pops have one, else a return address or a failure of the stack
-abbrev pub Decides : List OffsetOrPop → Result (UnwindResult UnwindRuleX86_64) PeUnwinderError → Type 0
+abbrev pub Decides : List OffsetOrPop → Answer → Type 0
 Decides operations (Ok (ExecRule rule)) = IsRuleOfOperations operations (Some rule)
 Decides operations (Ok (Uncacheable _)) = IsRuleOfOperations operations None
 Decides operations (Err error) = IsRuleOfOperations operations None × IsMissingStackData error
 
 -- what a call returns by the way that the bytes say, or by the refusal that they give
-abbrev pub Says : Result Way PeUnwinderError → Result (UnwindResult UnwindRuleX86_64) PeUnwinderError → Type 0
+abbrev pub Says : Told → Answer → Type 0
 Says (Ok way) result = Decides (offsets_and_pops way) result
 Says (Err error) result = result ≡ Err error
 
 -- where no rule is returned: the return address and the caller's registers of a run, or its failure
-abbrev pub HasRun : Result (ℕ × Registers) PeUnwinderError → Result (UnwindResult UnwindRuleX86_64) PeUnwinderError → Registers → Type 0
+abbrev pub HasRun : Caller → Answer → Registers → Type 0
 HasRun run (Ok (ExecRule _)) new = Unit {0}
 HasRun run (Ok (Uncacheable address)) new = run ≡ Ok (address, new)
 HasRun run (Err error) new = run ≡ Err error
 
 -- the same along the way that the bytes say, if there is one
-abbrev pub Computes : Result Way PeUnwinderError → Memory → Registers → Result (UnwindResult UnwindRuleX86_64) PeUnwinderError → Registers → Type 0
+abbrev pub Computes : Told → Memory → Registers → Answer → Registers → Type 0
 Computes (Ok way) memory old result new = HasRun (along way memory old) result new
 Computes (Err _) memory old result new = Unit {0}
 
@@ -129,7 +141,8 @@ Computes (Err _) memory old result new = Unit {0}
 -- and the instruction pointer.
 abbrev pub Simulates : UnwindRuleX86_64 → Way → Type 0
 Simulates rule way =
-    (first : Bool) (memory : Memory) (r : Registers) (address : ℕ) (new : Registers) → outcome rule first r memory ≡ answered address new → along way memory r ≡ Ok (address, new)
+    (first : Bool) (memory : Memory) (r : Registers) (address : ℕ) (new : Registers)
+    → outcome rule first r memory ≡ answered address new → along way memory r ≡ Ok (address, new)
 
 -- the bytes say a way that the rule simulates
 abbrev pub IsSimulated : Sections → ℕ → Bool → UnwindRuleX86_64 → Type 0

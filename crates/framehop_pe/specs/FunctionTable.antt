@@ -26,4 +26,5 @@ covers function address =
 -- the function of an address: the entry at its place in the table, if that covers it
 unfoldable pub function_of : List ℕ → ℕ → Option RuntimeFunction
 function_of pdata address =
-    option_and_then (λ function. covers function address) (function_at (drop (12 * place_of (starts_of pdata) address) pdata))
+    let entry = function_at (drop (12 * place_of (starts_of pdata) address) pdata) in
+    option_and_then (λ function. covers function address) entry

@@ -18,7 +18,7 @@ unfoldable pub frame_register_of : ℕ → Option FrameRegister
 frame_register_of byte =
     if byte % 16 == 0 then None else Some (record { register = register_of (byte % 16); offset = byte / 16 * 16 })
 
--- a header: whether the flag UNW_FLAG_CHAININFO is set, the count of slots, the frame register, and the bytes behind it
+-- a header: whether the flag UNW_FLAG_CHAININFO is set, the count of slots, the frame register, and the bytes after it
 pub record Header : Type 0 where
   pub is_chained : Bool
   pub count : ℕ
@@ -51,12 +51,13 @@ pub record Info : Type 0 where
   pub codes : List UnwindCode
   pub chained : Option ℕ
 
--- where the chained info lies, or `Some None` for none: the slots are padded to an even count, then an entry as those of
--- the function table stands there
+-- where the chained info lies, or `Some None` for none: after the slots, padded to an even count, comes an entry like
+-- those of the function table
 unfoldable pub chained_of : Header → Option (Option ℕ)
 chained_of header =
     if header.is_chained
-    then option_map (λ function. Some function.unwind_info_address) (function_at (drop (2 * (header.count + header.count % 2)) header.bytes))
+    then (let entry = function_at (drop (2 * (header.count + header.count % 2)) header.bytes) in
+    option_map (λ function. Some function.unwind_info_address) entry)
     else Some None
 
 -- rsp is the frame register
@@ -81,7 +82,8 @@ unfoldable pub info_of : Header → Option Info
 info_of header =
     if is_stack_pointer header.frame then None
     else (if nat_le (2 * header.count) (length header.bytes) && (codes_of header).1
-    then option_map (λ next. record { frame = header.frame; codes = (codes_of header).0; chained = next }) (chained_of header)
+    then (let codes = (codes_of header).0 in
+    option_map (λ next. record { frame = header.frame; codes = codes; chained = next }) (chained_of header))
     else None)
 
 -- the codes that are left of some info

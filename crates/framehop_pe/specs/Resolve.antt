@@ -49,15 +49,19 @@ abbrev pub machine_frame_at : Bool → Registers → Option ℕ
 machine_frame_at false r = Some r.rsp
 machine_frame_at true r = sum r.rsp 8
 
+-- the registers after an operation, if it can be undone, and whether the list ends
+abbrev pub Undone : Type 0
+Undone = Option (ControlFlow ℕ (Unit {0}) × Registers)
+
 -- a pop of a register
-abbrev pub popped_register : Memory → Reg → Registers → Option (ControlFlow ℕ (Unit {0}) × Registers)
+abbrev pub popped_register : Memory → Reg → Registers → Undone
 popped_register memory reg r = do
   word ← memory r.rsp
   sp ← sum r.rsp 8
   Some (Continue tt, record (with_register r reg word) { rsp = sp })
 
 -- a machine frame: it has the return address, and rsp above it by 24
-abbrev pub undone_machine_frame : Memory → Bool → Registers → Option (ControlFlow ℕ (Unit {0}) × Registers)
+abbrev pub undone_machine_frame : Memory → Bool → Registers → Undone
 undone_machine_frame memory error_code r = do
   at ← machine_frame_at error_code r
   address ← memory at
@@ -65,9 +69,9 @@ undone_machine_frame memory error_code r = do
   sp ← memory sp_at
   Some (Break address, record r { rsp = sp })
 
--- The registers after an operation is undone, and whether it ends the list, with a return address (`Break`). None where a
--- word can't be read, or a sum does not fit.
-abbrev pub undone : Memory → UnwindOperation → FrameBase → Registers → Option (ControlFlow ℕ (Unit {0}) × Registers)
+-- The registers after an operation is undone, and whether it ends the list, with a return address (`Break`). None where
+-- a word can't be read, or a sum does not fit.
+abbrev pub undone : Memory → UnwindOperation → FrameBase → Registers → Undone
 undone memory (UnStackAlloc size) base r = do
   sp ← sum r.rsp size
   Some (Continue tt, record r { rsp = sp })
@@ -83,29 +87,33 @@ undone memory (Read reg offset) base r = do
 undone memory Skip base r = Some (Continue tt, r)
 undone memory (MachineFrame error_code) base r = undone_machine_frame memory error_code r
 
+-- a return address and the caller's registers, or why there are none
+abbrev pub Caller : Type 0
+Caller = Result (ℕ × Registers) PeUnwinderError
+
 -- the error of a stack that can't be read, or of an address that does not fit
 abbrev pub IsMissingStackData : PeUnwinderError → Type 0
 IsMissingStackData (MissingStackData _) = Unit {0}
 IsMissingStackData _ = ⊥
 
 -- a word at rsp that may not be there, popped: rsp rises to a sum that may not fit
-abbrev pub popped_at : Option ℕ → Option ℕ → Registers → Result (ℕ × Registers) PeUnwinderError
+abbrev pub popped_at : Option ℕ → Option ℕ → Registers → Caller
 popped_at None sp r = Err (MissingStackData (Some r.rsp))
 popped_at (Some word) None r = Err (MissingStackData None)
 popped_at (Some word) (Some sp) r = Ok (word, record r { rsp = sp })
 
 -- the word at rsp, and the registers after it is popped
-abbrev pub popped_word : Memory → Registers → Result (ℕ × Registers) PeUnwinderError
+abbrev pub popped_word : Memory → Registers → Caller
 popped_word memory r = popped_at (memory r.rsp) (sum r.rsp 8) r
 
 -- the return address and the caller's registers but for ip, once an operation is undone
-abbrev pub and_then : Option (ControlFlow ℕ (Unit {0}) × Registers) → (Registers → Result (ℕ × Registers) PeUnwinderError) → Result (ℕ × Registers) PeUnwinderError
+abbrev pub and_then : Undone → (Registers → Caller) → Caller
 and_then None next = Err (MissingStackData None)
 and_then (Some (Continue _, r)) next = next r
 and_then (Some (Break address, r)) next = Ok (address, r)
 
 -- The return address and the caller's registers but for ip, by operations in their order. Where none of them ends the
 -- list, the return address is popped last.
-abbrev pub resolved : Memory → List FramedOperation → Registers → Result (ℕ × Registers) PeUnwinderError
+abbrev pub resolved : Memory → List FramedOperation → Registers → Caller
 resolved memory [] r = popped_word memory r
 resolved memory (o ∷ operations) r = and_then (undone memory o.operation o.base r) (resolved memory operations)

@@ -23,7 +23,7 @@ pub enum PeUnwinderError {
     /// The text at this RVA is not there up to the function's end.
     #[error("MissingInstructionData")]
     MissingInstructionData(u32),
-    /// A stack word could not be read, at this address (AVMA) where it is told; or a stack address
+    /// A stack word could not be read, at this address (AVMA) if it is known; or a stack address
     /// does not fit 64 bits.
     #[error("MissingStackData")]
     MissingStackData(Option<u64>),
@@ -36,6 +36,7 @@ pub enum PeUnwinderError {
 }
 
 /// Data and where it lies in the module, as relative addresses (RVA).
+#[derive(Drop)]
 pub struct DataAtRvaRange<D> {
     /// The data.
     pub bytes: D,
@@ -95,7 +96,7 @@ fn section_memory_at_rva<'a, D: SectionBytes>(
 }
 
 /// Returns the bytes of data from a relative address on, if the data's range covers it and the data
-/// reaches behind it.
+/// reaches there.
 fn memory_at_rva<D: SectionBytes>(data: &DataAtRvaRange<D>, address: u32) -> Option<&[u8]>
     ensures { MatchOption result
         (bytes_at (placed_of D.contents (Some data.entry)) address ≡ None)
@@ -115,7 +116,7 @@ fn memory_at_rva<D: SectionBytes>(data: &DataAtRvaRange<D>, address: u32) -> Opt
 
 /// An architecture that unwinds by the unwind info of PE modules.
 pub trait PeUnwinding: Arch {
-    // what a call returns by the bytes alone, whatever the stack: of sections, a relative address
+    // what a call returns by the bytes only, whatever the stack: of sections, a relative address
     // and the kind of the frame (`true`: the first)
     ghost says: { Sections → ℕ → Bool → Result (UnwindResult Self.UnwindRule) PeUnwinderError → Type 0 };
 

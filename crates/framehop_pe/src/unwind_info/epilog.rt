@@ -8,7 +8,7 @@ ghost use Rattle.framehop_pe.specs.EpilogRun.{with_sp, beside_register, stepped,
 ghost use Rattle.framehop_pe.specs.Resolve.{IsMissingStackData};
 ghost use Rattle.framehop_pe.specs.Instructions.{left_instructions};
 
-use super::info::behind;
+use super::info::skip_bytes;
 use super::register::register_of;
 use super::state::{UnwindState, pop_word};
 use crate::pe::PeUnwinderError;
@@ -64,7 +64,7 @@ impl<'a> EpilogInstructions<'a> {
         match read_release(bytes, frame_register) {
             Some((instruction, size)) => EpilogInstructions {
                 release: Some(instruction),
-                bytes: behind(bytes, size),
+                bytes: skip_bytes(bytes, size),
             },
             None => EpilogInstructions {
                 release: None,
@@ -86,7 +86,7 @@ impl<'a> Iterator for EpilogInstructions<'a> {
             return Some(instruction);
         }
         let (register, size) = read_pop(self.bytes)?;
-        self.bytes = behind(self.bytes, size);
+        self.bytes = skip_bytes(self.bytes, size);
         Some(FunctionEpilogInstruction::Pop(register))
     }
 }
@@ -97,7 +97,7 @@ fn skip_pops(bytes: &[u8]) -> &[u8]
 {
     let mut rest = bytes;
     while let Some((_, size)) = read_pop(rest) {
-        rest = behind(rest, size);
+        rest = skip_bytes(rest, size);
     }
     rest
 }
@@ -262,7 +262,7 @@ fn read_pop(bytes: &[u8]) -> Option<(Reg, usize)>
     }
 }
 
-/// Reads a pop of r8 to r15 behind its prefix, and the size of the whole instruction.
+/// Reads a pop of r8 to r15 after its prefix, and the size of the whole instruction.
 fn read_high_pop(bytes: &[u8]) -> Option<(Reg, usize)>
     ensures exact { result ≡ high_pop_at bytes.now }
     ensures within { IfSome result (λ read. (0 < read.1) × (read.1 ≤ length bytes.now + 1)) }
@@ -296,7 +296,7 @@ fn is_end(bytes: &[u8], function_size: u32) -> bool
     }
 }
 
-/// Returns whether the bytes behind a prefix `F3` are a return.
+/// Returns whether the bytes after a prefix `F3` are a return.
 fn is_return(bytes: &[u8]) -> bool
     ensures { result ≡ is_return bytes.now }
 {
@@ -306,7 +306,7 @@ fn is_return(bytes: &[u8]) -> bool
     opcode == 0xc3
 }
 
-/// Returns whether the ModRM byte behind `FF` is that of a jump through memory.
+/// Returns whether the ModRM byte after `FF` is that of a jump through memory.
 fn is_indirect_jump(bytes: &[u8]) -> bool
     ensures { result ≡ is_indirect_jump bytes.now }
 {
@@ -316,7 +316,7 @@ fn is_indirect_jump(bytes: &[u8]) -> bool
     modrm / 8 == 4
 }
 
-/// Returns whether the bytes behind a prefix `48` are a jump through memory.
+/// Returns whether the bytes after a prefix `48` are a jump through memory.
 fn is_wide_indirect_jump(bytes: &[u8]) -> bool
     ensures { result ≡ is_wide_indirect_jump bytes.now }
 {
@@ -326,7 +326,7 @@ fn is_wide_indirect_jump(bytes: &[u8]) -> bool
     *opcode == 0xff && is_indirect_jump(rest)
 }
 
-/// Returns whether the displacement behind `E9` leads outside the function, with so many bytes from
+/// Returns whether the displacement after `E9` leads outside the function, with so many bytes from
 /// the jump to the function's end.
 fn is_near_jump_outside(bytes: &[u8], left: usize, function_size: u32) -> bool
     ensures { result ≡ is_near_jump_outside function_size left bytes.now }
@@ -341,7 +341,7 @@ fn is_near_jump_outside(bytes: &[u8], left: usize, function_size: u32) -> bool
     )
 }
 
-/// Returns whether the displacement behind `EB` leads outside the function, with so many bytes from
+/// Returns whether the displacement after `EB` leads outside the function, with so many bytes from
 /// the jump to the function's end.
 fn is_short_jump_outside(bytes: &[u8], left: usize, function_size: u32) -> bool
     ensures { result ≡ is_short_jump_outside function_size left bytes.now }

@@ -37,8 +37,7 @@ impl FrameRegister {
     }
 }
 
-/// Unwind info behind its header: no more of it is judged than that the header is there and has
-/// version 1.
+/// The header of unwind info, and the bytes after it, which are not judged yet.
 #[derive(Clone, Copy)]
 pub struct UnwindInfo<'a> {
     /// Whether the info is chained to another.
@@ -84,7 +83,7 @@ impl<'a> UnwindInfo<'a> {
             return Some(None);
         }
         let slots = usize::from(self.code_count) + usize::from(self.code_count % 2);
-        let function = RuntimeFunction::parse(behind(self.bytes, 2 * slots))?;
+        let function = RuntimeFunction::parse(skip_bytes(self.bytes, 2 * slots))?;
         Some(Some(function.unwind_info_address))
     }
 
@@ -155,7 +154,7 @@ impl<'a> UnwindCodes<'a> {
     {
         let mut bytes = self.bytes;
         while let Some((_, size)) = read_code(bytes, self.has_frame_register) {
-            bytes = behind(bytes, size);
+            bytes = skip_bytes(bytes, size);
         }
         bytes.is_empty()
     }
@@ -172,7 +171,7 @@ impl<'a> UnwindCodes<'a> {
                 break;
             }
             skips_frame |= sets_frame(code.operation);
-            self.bytes = behind(self.bytes, size);
+            self.bytes = skip_bytes(self.bytes, size);
         }
         skips_frame
     }
@@ -187,7 +186,7 @@ impl<'a> Iterator for UnwindCodes<'a> {
 
     fn next(&mut self) -> Option<UnwindCode> {
         let (code, size) = read_code(self.bytes, self.has_frame_register)?;
-        self.bytes = behind(self.bytes, size);
+        self.bytes = skip_bytes(self.bytes, size);
         Some(code)
     }
 }
@@ -201,7 +200,7 @@ fn sets_frame(operation: UnwindOperation) -> bool
 
 /// Returns the bytes after the first ones, of which there may be fewer.
 #[inline(always)]
-pub fn behind(bytes: &[u8], size: usize) -> &[u8]
+pub fn skip_bytes(bytes: &[u8], size: usize) -> &[u8]
     ensures { result.now ≡ drop size bytes.entry.now }
 {
     if size > bytes.len() {

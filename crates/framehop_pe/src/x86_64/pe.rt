@@ -124,6 +124,20 @@ impl<F: FnMut(u64) -> Result<u64, ()>> Drop for State<'_, F> {
     }
 }
 
+/// Writes the caller's registers, with the return address (AVMA) as instruction pointer.
+fn return_to(
+    return_address: u64,
+    caller: UnwindRegsX86_64,
+    regs: &mut UnwindRegsX86_64,
+) -> UnwindResult<UnwindRuleX86_64>
+    ensures direct { result ≡ UnwindResult.Uncacheable return_address }
+    ensures registers { regs.new ≡ record caller { ip = return_address } }
+{
+    *regs = caller;
+    regs.set_ip(return_address);
+    UnwindResult::Uncacheable(return_address)
+}
+
 /// Unwinds by operations: returns the rule that does them, or undoes them.
 fn unwind_codes<F, D>(
     operations: UnwindOperations<'_, '_, D>,
@@ -149,9 +163,7 @@ where
         read_stack,
     };
     let return_address = resolve_operations(operations, &mut state)?;
-    *regs = state.regs;
-    regs.set_ip(return_address);
-    Ok(UnwindResult::Uncacheable(return_address))
+    Ok(return_to(return_address, state.regs, regs))
 }
 
 /// Unwinds by what is left of an epilog: returns the rule that does it, or runs it.
@@ -177,9 +189,7 @@ fn unwind_epilog<F: FnMut(u64) -> Result<u64, ()>>(
         read_stack,
     };
     let return_address = run_epilog(instructions, frame_register, &mut state)?;
-    *regs = state.regs;
-    regs.set_ip(return_address);
-    Ok(UnwindResult::Uncacheable(return_address))
+    Ok(return_to(return_address, state.regs, regs))
 }
 
 /// Returns the code from an address in a function up to the function's end.
@@ -332,3 +342,6 @@ impl PeUnwinding for ArchX86_64 {
         }
     }
 }
+
+#[cfg(test)]
+mod tests;

@@ -14,13 +14,13 @@ returns-in_err-register-clause-steps c =
 pub returns-clause-steps : goal.returns-clause-steps
 returns-clause-steps c =
     let bytes = c.args.self.now.bytes.now in
-    let more = pops_in-more bytes c.behind-self.result.now c.in_ok-register.register c.in_ok-register.size c.in_ok-register.ensures.exact c.in_ok-register.ensures.within c.behind-self.ensures in
+    let more = pops_in-more bytes c.skip_bytes-self.result.now c.in_ok-register.register c.in_ok-register.size c.in_ok-register.ensures.exact c.in_ok-register.ensures.within c.skip_bytes-self.ensures in
     left-more c.args.self.now.release c.take.new.self _ _ c.in_ok-register.register (sym c.in_default.ensures.value) c.take.ensures.after more
 
 pub returns-clause-goes : goal.returns-clause-goes
 returns-clause-goes c =
     let bytes = c.args.self.now.bytes.now in
-    let more = pops_in-more bytes c.behind-self.result.now c.in_ok-register.register c.in_ok-register.size c.in_ok-register.ensures.exact c.in_ok-register.ensures.within c.behind-self.ensures in
+    let more = pops_in-more bytes c.skip_bytes-self.result.now c.in_ok-register.register c.in_ok-register.size c.in_ok-register.ensures.exact c.in_ok-register.ensures.within c.skip_bytes-self.ensures in
     let step = left-more c.args.self.now.release c.take.new.self _ _ c.in_ok-register.register (sym c.in_default.ensures.value) c.take.ensures.after more in
     let shorter = ap length step in
     search rules

@@ -4,7 +4,7 @@ use Rattle.framehop_pe.proofs.unwind_info.info.UnwindCodes.are_known.Goals as go
 
 pub loop-size-preserved : goal.loop-size-preserved
 loop-size-preserved c =
-    sym (read_codes-whole c.args.self.now.has_frame_register c.loop-size.bytes.now c.behind-bytes.result.now c.in-Some.field-0-0 c.in-Some.size c.in-Some.ensures.exact c.in-Some.ensures.within c.behind-bytes.ensures) ∙ c.loop-size.invariant
+    sym (read_codes-whole c.args.self.now.has_frame_register c.loop-size.bytes.now c.skip_bytes-bytes.result.now c.in-Some.field-0-0 c.in-Some.size c.in-Some.ensures.exact c.in-Some.ensures.within c.skip_bytes-bytes.ensures) ∙ c.loop-size.invariant
 
 pub returns : goal.returns
 returns c =

@@ -7,7 +7,7 @@ use Rattle.framehop_pe.proofs.unwind_info.info.UnwindCodes.skip_beyond.Goals as 
 pub loop-code-preserved : goal.loop-code-preserved
 loop-code-preserved c =
     let codes = c.loop-code.self in
-    let more = read_codes-more codes.has_frame_register codes.bytes.now c.behind-self.result.now c.in-Some.code c.in-Some.size c.in-Some.ensures.exact c.in-Some.ensures.within c.behind-self.ensures in
+    let more = read_codes-more codes.has_frame_register codes.bytes.now c.skip_bytes-self.result.now c.in-Some.code c.in-Some.size c.in-Some.ensures.exact c.in-Some.ensures.within c.skip_bytes-self.ensures in
     let now = ap (λ b. c.loop-code.skips_frame || b) c.sets_frame-skips_frame.ensures in
     skipped-more c.args.offset c.in-Some.code _ _ _ c.loop-code.skips_frame _ c.from.result more c.from.ensures c.if-from-offset.false now c.loop-code.invariant.0 c.loop-code.invariant.1
 

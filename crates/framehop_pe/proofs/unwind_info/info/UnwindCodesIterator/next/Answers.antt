@@ -10,11 +10,11 @@ returns-in_err-code-clause-steps c =
 pub returns-clause-steps : goal.returns-clause-steps
 returns-clause-steps c =
     let codes = c.args.self.now in
-    read_codes-more codes.has_frame_register codes.bytes.now c.behind-self.result.now c.in_ok-code.code c.in_ok-code.size c.in_ok-code.ensures.exact c.in_ok-code.ensures.within c.behind-self.ensures
+    read_codes-more codes.has_frame_register codes.bytes.now c.skip_bytes-self.result.now c.in_ok-code.code c.in_ok-code.size c.in_ok-code.ensures.exact c.in_ok-code.ensures.within c.skip_bytes-self.ensures
 
 pub returns-clause-goes : goal.returns-clause-goes
 returns-clause-goes c =
     let codes = c.args.self.now in
-    let more = read_codes-more codes.has_frame_register codes.bytes.now c.behind-self.result.now c.in_ok-code.code c.in_ok-code.size c.in_ok-code.ensures.exact c.in_ok-code.ensures.within c.behind-self.ensures in
+    let more = read_codes-more codes.has_frame_register codes.bytes.now c.skip_bytes-self.result.now c.in_ok-code.code c.in_ok-code.size c.in_ok-code.ensures.exact c.in_ok-code.ensures.within c.skip_bytes-self.ensures in
     let shorter = ap length more in
     search rules

@@ -1,0 +1,217 @@
+#!/usr/bin/env python3
+"""Makes src/x86_64/pe/tests/table.rt: a DLL's sections, and what unwinding gives at addresses of it.
+
+The DLL is made of functions.c by mingw's gcc (Debian: gcc-mingw-w64-x86-64-posix). What unwinding
+gives is worked out here from the codes that llvm-readobj prints and the instructions that objdump
+prints, and not by the library. Run it anywhere: scripts/make_table.py > src/x86_64/pe/tests/table.rt,
+then `rt fmt`.
+"""
+import os
+import re
+import struct
+import subprocess
+import tempfile
+
+HERE = os.path.dirname(os.path.abspath(__file__))
+NUMBERS = "RAX RCX RDX RBX RSP RBP RSI RDI R8 R9 R10 R11 R12 R13 R14 R15".split()
+SHOWN = "RSP RBX RBP RSI RDI R12 R13 R14 R15".split()
+EIGHT = "RBX RBP RDI RSI R12 R13 R14 R15".split()
+
+
+def word(address):
+    return address ^ 0x8000
+
+
+START = {name: 0x1000 + 0x100 * number for number, name in enumerate(NUMBERS)}
+
+
+def run(*command):
+    return subprocess.run(command, check=True, capture_output=True, text=True).stdout
+
+
+def make_dll(folder):
+    dll, definitions, library = (os.path.join(folder, name) for name in ("t.dll", "t.def", "t.a"))
+    with open(definitions, "w") as f:
+        f.write("LIBRARY outside.dll\nEXPORTS\noutside\nfails\nmeasured\nfills\n")
+    run("x86_64-w64-mingw32-dlltool", "-d", definitions, "-l", library)
+    run("x86_64-w64-mingw32-gcc-posix", "-O2", "-mno-stack-arg-probe", "-shared", "-nostdlib", "-s",
+        "-Wl,--no-insert-timestamp,-e,0", "-o", dll, os.path.join(HERE, "functions.c"), library)
+    return dll
+
+
+def sections_of(dll):
+    data = open(dll, "rb").read()
+    head = struct.unpack_from("<I", data, 0x3C)[0]
+    count, optional = struct.unpack_from("<H", data, head + 6)[0], struct.unpack_from("<H", data, head + 20)[0]
+    image_base = struct.unpack_from("<Q", data, head + 24 + 24)[0]
+    found = {}
+    for i in range(count):
+        at = head + 24 + optional + 40 * i
+        name = data[at:at + 8].rstrip(b"\0").decode()
+        size, rva, raw_size, raw = struct.unpack_from("<IIII", data, at + 8)
+        found[name] = (rva, data[raw:raw + min(size, raw_size)])
+    return image_base, found
+
+
+def functions_of(dll, image_base):
+    """Begin, end, frame register and offset, and the codes, as llvm-readobj prints them."""
+    functions = []
+    for block in run("llvm-readobj", "--unwind", dll).split("RuntimeFunction {")[1:]:
+        begin, end = (int(re.search(name + r".*\((0x[0-9A-F]+)\)", block)[1], 16) - image_base
+                      for name in ("StartAddress", "EndAddress"))
+        frame = re.search(r"FrameRegister: (\w+)", block)
+        offset = re.search(r"FrameOffset: (0x\w+)", block)
+        codes = [(int(m[1], 16), m[2], m[3] and m[3].upper(), m[4] and int(m[4], 0)) for m in re.finditer(
+            r"(0x\w\w): (\w+)(?: reg=(\w+))?,?(?: (?:size|offset)=(\w+))?", block)]
+        functions.append((begin, end, frame and frame[1], offset and int(offset[1], 16) * 16, codes))
+    return functions
+
+
+def instructions_of(dll, image_base):
+    """Addresses and texts, as objdump prints them."""
+    return [(int(m[1], 16) - image_base, m[2].split("#")[0].strip()) for m in re.finditer(
+        r"^ *([0-9a-f]+):\t(?:[0-9a-f]{2} )+ *\t(.*)$", run("objdump", "-d", "--wide", dll), re.M)]
+
+
+def epilog_at(instructions, place, function, image_base):
+    """The instructions of an epilog but for the last, or None."""
+    begin, end, frame, _, _ = function
+    steps = []
+    for first, (address, text) in enumerate(instructions[place:]):
+        if address >= end:
+            return None
+        if m := re.fullmatch(r"add +\$(0x\w+),%rsp", text):
+            step = ("add", int(m[1], 16))
+        elif m := re.fullmatch(r"lea +(-?0x\w+)\(%(\w+)\),%rsp", text):
+            step = ("lea", int(m[1], 16)) if m[2].upper() == frame else None
+        elif m := re.fullmatch(r"pop +%(\w+)", text):
+            step = ("pop", m[1].upper())
+        elif text == "ret" or re.fullmatch(r"(rex\.W )?jmp +\*0x\w+\(%rip\)", text):
+            return steps
+        elif m := re.fullmatch(r"jmp +0x(\w+)", text):
+            return None if begin <= int(m[1], 16) - image_base < end else steps
+        else:
+            return None
+        if step is None or (step[0] != "pop" and first > 0):
+            return None
+        steps.append(step)
+    return None
+
+
+def run_steps(steps, frame):
+    r = dict(START)
+    for kind, value in steps:
+        if kind == "add":
+            r["RSP"] += value
+        elif kind == "lea":
+            r["RSP"] = r[frame] + value
+        else:
+            r[value], r["RSP"] = word(r["RSP"]), r["RSP"] + 8
+    return word(r["RSP"]), {**r, "RSP": r["RSP"] + 8}
+
+
+def resolve(codes, frame, offset, established):
+    r = dict(START)
+    for _, kind, name, value in codes:
+        if kind.startswith("ALLOC"):
+            r["RSP"] += value
+        elif kind == "PUSH_NONVOL":
+            r[name], r["RSP"] = word(r["RSP"]), r["RSP"] + 8
+        elif kind == "SET_FPREG":
+            r["RSP"] = r[frame] - offset
+        elif kind == "SAVE_NONVOL":
+            base = r[frame] - offset if frame and established else r["RSP"]
+            r[name] = word(base + value)
+    return word(r["RSP"]), {**r, "RSP": r["RSP"] + 8}
+
+
+def ordering(count, n):
+    places = list(EIGHT)
+    for k in range(8):
+        digit, n = n % (8 - k), n // (8 - k)
+        places[k], places[k + digit] = places[k + digit], places[k]
+    return places[:count]
+
+
+def rule_of(steps):
+    """The offset in words, the count and the number of the pops, or None."""
+    offset, pops = 0, []
+    for place, (kind, value) in enumerate(steps):
+        if kind == "add" and place == 0 and value % 8 == 0 and value < 8 << 16:
+            offset = value // 8
+        elif kind == "pop" and value in EIGHT and value not in pops:
+            pops.append(value)
+        else:
+            return None
+    return offset, len(pops), next(n for n in range(40320) if ordering(len(pops), n) == pops)
+
+
+def row(function, address, first, instructions, image_base):
+    begin, end, frame, offset, codes = function
+    place = [a for a, _ in instructions].index(address)
+    steps = epilog_at(instructions, place, function, image_base) if first else None
+    if steps is not None:
+        answer, registers = run_steps(steps, frame)
+    else:
+        left = codes
+        while left and left[0][0] > address - begin:
+            left = left[1:]
+        skipped = codes[:len(codes) - len(left)]
+        established = not any(kind == "SET_FPREG" for _, kind, _, _ in skipped)
+        answer, registers = resolve(left, frame, offset, established)
+        steps = [("add", v) if k.startswith("ALLOC") else ("pop", n) if k == "PUSH_NONVOL" else ("", None)
+                 for _, k, n, v in left]
+    rule = rule_of(steps)
+    shape = "None" if rule is None else "Some((%d, %d, %d))" % rule
+    values = ", ".join("0x%x" % registers[name] for name in SHOWN)
+    return ("Row { address: 0x%x, is_first_frame: %s, rule: %s, return_address: 0x%x, registers: [%s] },"
+            % (address, "true" if first else "false", shape, answer, values))
+
+
+def rows_of(function, instructions, image_base):
+    begin, end, _, _, codes = function
+    inside = [a for a, _ in instructions if begin <= a < end]
+    ends = [a for place, (a, _) in enumerate(instructions)
+            if begin <= a < end and epilog_at(instructions, place, function, image_base) is not None]
+    prolog = [a for a in inside if codes and begin < a <= begin + codes[0][0]]
+    after_prolog = prolog[-1] if prolog else begin
+    body = [a for a in inside if a > after_prolog and a not in ends] or inside[-1:]
+    chosen = [(begin, True)]
+    chosen += [(a, True) for a in prolog[:-1][2::5]] + [(a, False) for a in prolog[1:-1][2::5]]
+    chosen += [(body[len(body) // 3], False)] + ([(prolog[-1], True)] if prolog else [])
+    chosen += [(a, True) for a in ends[:1] + ends[2::4]]
+    return [row(function, a, f, instructions, image_base) for a, f in sorted(set(chosen))]
+
+
+def literal(name, data):
+    values = ", ".join("0x%02x" % byte for byte in data)
+    return "pub const %s: [u8; %d] = [%s];\n" % (name, len(data), values)
+
+
+def main():
+    with tempfile.TemporaryDirectory() as folder:
+        dll = make_dll(folder)
+        image_base, sections = sections_of(dll)
+        functions, instructions = functions_of(dll, image_base), instructions_of(dll, image_base)
+    rows = []
+    for function in functions:
+        # a part that restores its own frame register in the middle is left to a test of its own
+        names = [name for _, kind, name, _ in function[4] if kind == "SAVE_NONVOL"]
+        if function[2] not in names:
+            rows += rows_of(function, instructions, image_base)
+    text_end = functions[-1][1] - sections[".text"][0]
+    print("//! A DLL of scripts/functions.c, and what unwinding gives at addresses of it. Made by")
+    print("//! scripts/make_table.py.\n")
+    print("/// What unwinding gives at an address: the rule of an offset and pops, if there is one, and what")
+    print("/// the rule or the call itself leaves: the return address, and rsp, rbx, rbp, rsi, rdi, r12, r13,")
+    print("/// r14 and r15.")
+    print("#[derive(Drop)]\npub struct Row { pub address: u32, pub is_first_frame: bool, pub rule: Option<(u16, u8, u16)>,")
+    print("pub return_address: u64, pub registers: [u64; 9] }\n")
+    for name, section in (("TEXT", ".text"), ("PDATA", ".pdata"), ("XDATA", ".xdata")):
+        rva, data = sections[section]
+        print("pub const %s_RVA: u32 = 0x%x;\n" % (name, rva))
+        print(literal(name, data[:text_end] if name == "TEXT" else data))
+    print("pub const ROWS: [Row; %d] = [%s];" % (len(rows), "\n".join(rows)))
+
+
+main()
