@@ -150,9 +150,9 @@ impl<'a, A: DwarfUnwinding, S: UnwindContextStorage> DwarfUnwinder<'a, A, S> {
         ensures runnable { RuleHas (λ rule. IsTrue (A.UnwindRule.executable rule)) result }
         ensures ascends { AdvancesWithAddress (A.ascends is_first_frame) result regs.old regs.new }
         ensures memory { result ≡ Err no_memory → (S.limits ≡ None) ⊎ (E.Stack.limit ≡ None) }
-        ensures means { OfRow (λ row. (rule : A.UnwindRule) (limit : Option ℕ) (first : Bool) (old new : A.UnwindRegs) (memory : Memory) (address : ℕ)
+        ensures means { OfRow (λ row. (rule : A.UnwindRule) (first : Bool) (old new : A.UnwindRegs) (memory : Memory) (address : ℕ)
             → IsRule rule result → A.UnwindRule.outcome rule first old memory ≡ answered address new
-            → A.row_means self.old.section.bytes limit memory row first old address new) (reading_of S.limits self.old.section (self.old.base_svma + rel_lookup_address) fde_offset) }
+            → A.row_means self.old.section.bytes memory row first old address new) (reading_of S.limits self.old.section (self.old.base_svma + rel_lookup_address) fde_offset) }
         ensures answers { (memory : Memory) → AnswersAs F.FnMut read_stack.old memory
             → AnswersAs F.FnMut read_stack.new memory
             × TellsDirect (direct_by (λ row. A.direct self.old.section.bytes E.Stack.limit memory row is_first_frame regs.old) (reading_of S.limits self.old.section (self.old.base_svma + rel_lookup_address) fde_offset)) result regs.new
