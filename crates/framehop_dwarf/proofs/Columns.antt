@@ -1,6 +1,5 @@
 -- A value that a rule gives is what the rule means.
-use Rattle.std.proofs.Common.{◌≡◌, ℕ, ◌<◌, ◌^◌, Bool, true, false, Option, Some, None, ℤ, pos, negsuc, ◌+ℤ◌, ap, sym, refl, inl, inr, ltb, ◌∙◌, if◌then◌else◌}
-use Rattle.std.specs.Prelude.{option_and_then}
+use Rattle.std.proofs.Common.{◌≡◌, ℕ, ◌^◌, Option, Some, None, ℤ, pos, negsuc, ◌+ℤ◌, ap, inl, inr, ltb}
 use Rattle.std.proofs.lemmas.Bool.{cases_Bool}
 use Rattle.framehop_core.specs.Memory.{Memory}
 use Rattle.framehop_cfi.specs.declared.rule.CfaRule.{CfaRule}
@@ -8,7 +7,7 @@ use Rattle.framehop_cfi.specs.declared.rule.CfaRule.TheVariants as cfa
 use Rattle.framehop_cfi.specs.declared.rule.RegisterRule.{RegisterRule}
 use Rattle.framehop_cfi.specs.declared.rule.RegisterRule.TheVariants as rule
 use Rattle.framehop_dwarf.specs.Direct.{Scope, below_half, sum_of, cfa_of, register_of}
-use Rattle.framehop_dwarf.specs.RowMeaning.{IsCfa, IsStored, IsColumn}
+use Rattle.framehop_dwarf.specs.RowMeaning.{IsCfa, IsColumn}
 use Rattle.framehop_dwarf.proofs.Limits.{in-free}
 use Rattle.framehop_dwarf.proofs.ValueMeaning.{bind_some, value_in-means}
 

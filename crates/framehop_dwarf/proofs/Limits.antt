@@ -1,6 +1,6 @@
 -- A value under a limit is a value without one.
-use Rattle.std.proofs.Common.{◌≡◌, ℕ, zero, suc, Bool, true, false, List, [], ◌∷◌, length, Option, Some, None, Ok, Err, refl, sym, subst, inl, inr, if◌then◌else◌, ◌==◌}
-use Rattle.std.specs.Prelude.{option_and_then, option_map, option_to_list, slice_get}
+use Rattle.std.proofs.Common.{◌≡◌, ℕ, zero, suc, List, [], ◌∷◌, length, Option, Some, None, Ok, Err, sym, subst, inl, inr, ◌==◌}
+use Rattle.std.specs.Prelude.{option_and_then, option_to_list, slice_get}
 use Rattle.std.proofs.lemmas.Bool.{cases_Bool}
 use Rattle.framehop_cfi.specs.Bytes.{Reading}
 use Rattle.framehop_cfi.specs.declared.rule.Register.{Register}

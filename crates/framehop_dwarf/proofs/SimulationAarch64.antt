@@ -1,12 +1,10 @@
 -- aarch64: a rule that a row is translated to does what the row means.
-use Rattle.std.proofs.Common.{◌≡◌, ◌≢◌, ℕ, ◌<◌, ◌*◌, Bool, true, false, Option, Some, None, Result, Ok, ℤ, pos, negsuc, ◌+ℤ◌, ◌-ℤ◌, ◌*ℤ◌, ◌∙◌, ap, sym, subst, refl, arith, inl, inr, if◌then◌else◌, ◌==◌, ◌&&◌, List}
-use Rattle.std.specs.Prelude.{option_and_then, option_map}
+use Rattle.std.proofs.Common.{◌≡◌, ℕ, ◌*◌, Bool, true, false, Option, Some, None, Result, Ok, ℤ, pos, negsuc, ◌+ℤ◌, ◌*ℤ◌, ◌∙◌, ap, sym, subst, refl, arith, inl, inr, ◌==◌, ◌&&◌, List}
 use Rattle.std.specs.Ordering.{int_eq}
 use Rattle.std.proofs.lemmas.Int.{ints}
 use Rattle.std.proofs.lemmas.Bool.{cases_Bool}
-use Rattle.std.proofs.lemmas.Bool.Decides.{nat_tests}
 use Rattle.framehop_core.specs.Memory.{Memory}
-use Rattle.framehop_core.specs.Outcome.{Outcome, answered, word_from, above, beside}
+use Rattle.framehop_core.specs.Outcome.{answered, above, beside}
 use Rattle.framehop_core.specs.Aarch64.Registers.{Registers, strip_ptr_auth}
 use Rattle.framehop_core.specs.Aarch64.Rules.{Source, kept, stored_at, Demand, nothing_more, frame_pointer_rises, caller, value_from, outcome, outcome_of_line}
 use Rattle.framehop_core.specs.Aarch64.RuleLaws.{caller-answered}
@@ -20,7 +18,7 @@ use Rattle.framehop_cfi.specs.declared.rule.CfaRule.TheVariants as cfa
 use Rattle.framehop_cfi.specs.declared.rule.RegisterRule.{RegisterRule}
 use Rattle.framehop_cfi.specs.declared.rule.RegisterRule.TheVariants as rule
 use Rattle.framehop_dwarf.specs.Units.{units_of, signed_units_of}
-use Rattle.framehop_dwarf.specs.RowMeaning.{IsStored, IsCfa, IsColumn}
+use Rattle.framehop_dwarf.specs.RowMeaning.{IsCfa}
 use Rattle.framehop_dwarf.specs.Aarch64.{with_fp, with_fp_kept, with_lr, by_sp, by_fp, by_saved, beside_fp, translated_by, translated, scope_of, column_of, fp_column, lr_column, IsFramePointer, IsLinkRegister, RowMeans}
 use Rattle.framehop_dwarf.proofs.Exact.{int_same, units-exact, signed_units-exact}
 use Rattle.framehop_dwarf.proofs.ValueMeaning.{bind_some}

@@ -1,16 +1,16 @@
 -- x86_64: a rule that a row is translated to does what the row means.
-use Rattle.std.proofs.Common.{◌≡◌, ◌≢◌, ℕ, ◌<◌, ◌*◌, Bool, true, false, Option, Some, None, Result, Ok, ℤ, pos, negsuc, ◌+ℤ◌, ◌-ℤ◌, ◌*ℤ◌, ◌∙◌, ap, sym, subst, refl, arith, inl, inr, ◌⊎◌, if◌then◌else◌, ◌==◌, ◌&&◌, List, cond, nat_eq}
-use Rattle.std.specs.Prelude.{option_and_then, option_map, unwrap_or}
+use Rattle.std.proofs.Common.{◌≡◌, ℕ, ◌<◌, ◌*◌, Bool, true, false, Option, Some, None, Result, Ok, ℤ, pos, negsuc, ◌+ℤ◌, ◌-ℤ◌, ◌*ℤ◌, ◌∙◌, ap, sym, subst, refl, arith, inl, inr, ◌⊎◌, ◌==◌, ◌&&◌, List, nat_eq}
+use Rattle.std.specs.Prelude.{option_map, unwrap_or}
 use Rattle.std.specs.Ordering.{int_eq}
 use Rattle.std.proofs.lemmas.Int.{ints}
 use Rattle.std.proofs.lemmas.Bool.{cases_Bool}
 use Rattle.std.proofs.lemmas.Bool.Decides.{nat_tests}
 use Rattle.framehop_core.specs.Memory.{Memory}
-use Rattle.framehop_core.specs.Outcome.{Outcome, answered, address_at, and_then, word_at, word_from, above, beside}
-use Rattle.framehop_core.specs.OutcomeLaws.{and_then-ok, address_at-ok, word_at-ok, root_unless}
+use Rattle.framehop_core.specs.Outcome.{answered, address_at, word_at, word_from, above, beside}
+use Rattle.framehop_core.specs.OutcomeLaws.{and_then-ok, address_at-ok, word_at-ok}
 use Rattle.framehop_core.specs.X86_64.Registers.{Registers}
-use Rattle.framehop_core.specs.X86_64.Rules.{Source, kept, stored_at, stored_if_readable_at, nothing_more, stack_pointer_rises, value_from, restored_at, frame_pointer_line, outcome, outcome_of_line}
-use Rattle.framehop_core.specs.X86_64.RuleLaws.{IsFinished, IsCaller, caller-answered}
+use Rattle.framehop_core.specs.X86_64.Rules.{kept, stored_at, nothing_more, stack_pointer_rises, value_from, restored_at, frame_pointer_line, outcome, outcome_of_line}
+use Rattle.framehop_core.specs.X86_64.RuleLaws.{IsFinished, caller-answered}
 use Rattle.framehop_core.specs.declared.error.Error.{Error}
 use Rattle.framehop_core.specs.declared.x86_64.unwind_rule.UnwindRuleX86_64.{UnwindRuleX86_64}
 use Rattle.framehop_core.specs.declared.x86_64.unwind_rule.UnwindRuleX86_64.TheVariants.{EndOfStack, OffsetSp, OffsetSpAndRestoreBp, UseFramePointer}

@@ -19,7 +19,7 @@ use framehop_core::unwind_result::UnwindResult;
 use std::alloc::Global;
 use std::marker::PhantomData;
 
-/// What a header's pointers count from.
+/// Returns what a header's pointers count from.
 pub fn header_bases(bases: &BaseAddresses) -> SectionBaseAddresses
     ensures { result ≡ header_bases bases.now }
 {
@@ -45,7 +45,7 @@ pub struct DwarfUnwinder<'a, A, S: UnwindContextStorage> {
 }
 
 impl<'a, A, S: UnwindContextStorage> DwarfUnwinder<'a, A, S> {
-    /// An unwinder over a module's sections.
+    /// Returns an unwinder over a module's sections.
     pub fn new(
         unwind_section_data: &'a [u8],
         unwind_section_type: UnwindSectionType,
@@ -72,7 +72,7 @@ impl<'a, A, S: UnwindContextStorage> DwarfUnwinder<'a, A, S> {
         }
     }
 
-    /// The offset in `.eh_frame` of the FDE that the table names for a relative address. The FDE may not
+    /// Returns the offset in `.eh_frame` of the FDE that the table names for a relative address. The FDE may not
     /// cover the address. Without a table there is none.
     pub fn get_fde_offset_for_relative_address(&self, rel_lookup_address: u32) -> Option<u32>
         ensures exact { result ≡ fde_offset_for self.now.eh_frame_hdr (self.now.base_svma + rel_lookup_address) }

@@ -1,4 +1,4 @@
-use Rattle.std.proofs.Common.{Some, sym, subst, ap, ◌∙◌}
+use Rattle.std.proofs.Common.{Some, sym, ap, ◌∙◌}
 use Rattle.framehop_dwarf.proofs.SimulationAarch64.{translated-means}
 use Rattle.framehop_dwarf.proofs.DirectAarch64.{direct-means}
 use Rattle.framehop_dwarf.proofs.aarch64.dwarf.ArchAarch64DwarfUnwinding.unwind_frame.Goals as goal
