@@ -1,4 +1,4 @@
--- An instruction ends behind the place where it begins.
+-- An instruction ends after the place where it begins.
 use Rattle.std.proofs.Common.{◌≡◌, ℕ, suc, ◌+◌, ◌-◌, ◌<◌, ◌≤◌, Bool, true, false, List, length, drop, Result, Ok, Err, arith, if◌then◌else◌, ◌==◌, ◌||◌, ◌&&◌, leb, ltb, ℤ, pos, ◌*ℤ◌, ◌^◌}
 use Rattle.framehop_cfi.specs.Bytes.{Reading, ◌>>=◌, sized_at, u8_at, u16_at, u32_at, u64_at}
 use Rattle.framehop_cfi.specs.Leb128.{continued, groups_at, uleb_at, sleb_at, with_sign, fits_i64}
@@ -15,7 +15,7 @@ use Rattle.framehop_cfi.specs.declared.instruction.CallFrameInstruction.TheVaria
 use Rattle.framehop_cfi.specs.declared.read_error.ReadError.{ReadError}
 use Rattle.framehop_cfi.specs.declared.read_error.ReadError.TheVariants.{Eof}
 
--- what is read ends at or behind a place
+-- what is read ends at or after a place
 abbrev pub Reaches : {A : Type 0} → ℕ → Reading A → Type 0
 Reaches n (Ok read) = n ≤ read.1
 Reaches n (Err error) = Unit {0}
@@ -198,7 +198,7 @@ instruction-reaches cie bases bytes at =
     behind (suc at) (u8_at bytes at) _ (u8-reaches bytes at) (λ code past.
     less (suc at) code.1 _ past (operands-reaches cie bases bytes code.1 code.0))
 
--- an instruction that is read ends behind the place where it begins
+-- an instruction that is read ends after the place where it begins
 pub instruction-forward : (cie : CommonInformationEntry) (bases : SectionBaseAddresses) (bytes : List ℕ) (at : ℕ) (read : CallFrameInstruction × ℕ) → instruction_at cie bases bytes at ≡ Ok read → at < read.1
 instruction-forward cie bases bytes at read is =
     let r = rw is at (instruction-reaches cie bases bytes at) in omega arith

@@ -1,4 +1,4 @@
--- An entry ends behind the offset where it begins, in the bytes.
+-- An entry ends after the offset where it begins, in the bytes.
 use Rattle.std.proofs.Common.{◌≡◌, ℕ, ◌+◌, ◌-◌, ◌<◌, ◌≤◌, List, length, take, Result, Ok, Err, refl, subst, arith, inl, inr, leb, ltb, ◌==◌}
 use Rattle.std.proofs.lemmas.Bool.{lt-leb, le-leb, cases_Bool, cases_lt}
 use Rattle.framehop_cfi.specs.Bytes.{◌>>=◌, u32_at, u64_at}
@@ -22,7 +22,7 @@ pub bind_ok : {A B E : Type 0} (r : Result A E) (f : A → Result B E) (y : B) �
 bind_ok (Ok x) f y is = (x, refl, is)
 bind_ok (Err e) f y is = cc
 
--- a span lies in the bytes, behind its offset
+-- a span lies in the bytes, after its offset
 pub record Within (bytes : List ℕ) (at : ℕ) (span : Span) : Type 0 where
   pub behind : at < span.contents
   pub ordered : span.contents ≤ span.end
@@ -106,7 +106,7 @@ module _ (bytes : List ℕ) (span : Span) (head : EntryHead) where
         | inr long ↦ long-ends (rw long at is)
       ]
 
--- what stands at an offset ends behind it, in the bytes
+-- what stands at an offset ends after it, in the bytes
 pub head-inside : (kind : UnwindSectionType) (bytes : List ℕ) (at : ℕ) (head : EntryHead) → head_at kind bytes at ≡ Ok head → (at < end_of head) × (end_of head ≤ length bytes)
 unfolding head_at
 head-inside kind bytes at head is =

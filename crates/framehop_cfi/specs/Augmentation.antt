@@ -16,7 +16,7 @@ found_at at None = Err Eof
 unfoldable pub terminator_at : List ℕ → ℕ → Result ℕ ReadError
 terminator_at bytes at = found_at at (position (λ byte. byte == 0) (drop at bytes))
 
--- the place behind so many bytes of data, whose count stands in front of them
+-- the place after so many bytes of data, whose count stands before them
 unfoldable pub counted_at : List ℕ → ℕ → Reading ℕ
 counted_at bytes at = do
   count ← uleb_at bytes at
@@ -32,7 +32,7 @@ personality_at bases bytes at = do
   encoding ← u8_at bytes at
   if encoding.0 == 255 then Ok (0, encoding.1) else pointer_at bases encoding.0 bytes encoding.1
 
--- one letter of an augmentation text: the pointer encoding of the FDEs after it, and the place behind its data
+-- one letter of an augmentation text: the pointer encoding of the FDEs after it, and the place after its data
 abbrev pub letter_at : SectionBaseAddresses → ℕ → List ℕ → ℕ → ℕ → Reading ℕ
 letter_at bases letter bytes at encoding =
     if letter == 82 then u8_at bytes at

@@ -1,15 +1,15 @@
--- What stands at an offset of a section: little-endian numbers, each with the offset behind it.
+-- What stands at an offset of a section: little-endian numbers, each with the offset after it.
 use Rattle.std.specs.Prelude.{ℕ, ◌+◌, ◌*◌, List, length, slice_index, Result, Ok, Err, nat_le, if◌then◌else◌}
 use Rattle.framehop_cfi.specs.declared.read_error.ReadError.{ReadError}
 use Rattle.framehop_cfi.specs.declared.read_error.ReadError.TheVariants.{Eof}
 
--- read one thing, then what comes behind it; the first refusal stands
+-- read one thing, then what comes after it; the first refusal stands
 infixl 10 ◌>>=◌
 abbrev pub ◌>>=◌ : {A B E : Type 0} → Result A E → (A → Result B E) → Result B E
 (Ok x) >>= f = f x
 (Err e) >>= f = Err e
 
--- what is read at an offset: a value and the offset behind it, or why there is none
+-- what is read at an offset: a value and the offset after it, or why there is none
 abbrev pub Reading : Type 0 → Type 0
 Reading A = Result (A × ℕ) ReadError
 

@@ -52,7 +52,7 @@ head_at kind bytes at = do
   span ← span_at bytes at
   if is_zero_length span then Ok (ZeroLength span.end) else id_at kind (take span.end bytes) span
 
--- The size of addresses and of segment selectors, which version 4 has in `.debug_frame`: the place behind.
+-- The size of addresses and of segment selectors, which version 4 has in `.debug_frame`: the place after.
 unfoldable pub sizes_at : List ℕ → ℕ → Result ℕ ReadError
 sizes_at bytes at = do
   address ← u8_at bytes at
@@ -63,14 +63,14 @@ abbrev pub sizes_of : UnwindSectionType → ℕ → List ℕ → ℕ → Result 
 sizes_of EhFrame version bytes at = Ok at
 sizes_of DebugFrame version bytes at = if version == 4 then sizes_at bytes at else Ok at
 
--- the place behind the return register, which is not used: a byte in version 1, else a ULEB
+-- the place after the return register, which is not used: a byte in version 1, else a ULEB
 abbrev pub place_behind : {A : Type 0} → Reading A → Result ℕ ReadError
 place_behind reading = reading >>= λ read. Ok read.1
 
 abbrev pub return_register_at : ℕ → List ℕ → ℕ → Result ℕ ReadError
 return_register_at version bytes at = if version == 1 then place_behind (u8_at bytes at) else place_behind (uleb_at bytes at)
 
--- a CIE's fields behind the augmentation text
+-- a CIE's fields after the augmentation text
 unfoldable pub alignments_at : SectionBaseAddresses → ℕ → List ℕ → List ℕ → ℕ → ℕ → Result CommonInformationEntry ReadError
 alignments_at bases version letters bytes at end = do
   code ← uleb_at bytes at
@@ -96,7 +96,7 @@ versioned_fields kind bases version bytes at end = do
   sizes ← sizes_of kind version bytes (terminator + 1)
   alignments_at bases version (slice_range bytes at terminator) bytes sizes end
 
--- a CIE's fields behind its id; the bytes end with the entry
+-- a CIE's fields after its id; the bytes end with the entry
 unfoldable pub cie_fields : UnwindSectionType → SectionBaseAddresses → List ℕ → ℕ → ℕ → Result CommonInformationEntry ReadError
 cie_fields kind bases bytes at end = do
   version ← u8_at bytes at
@@ -114,7 +114,7 @@ cie_at section at = do
   head ← head_at section.kind section.bytes at
   cie_of_head section head
 
--- the place behind an FDE's augmentation data, which it has where its CIE says so
+-- the place after an FDE's augmentation data, which it has where its CIE says so
 abbrev pub skipped_at : Bool → List ℕ → ℕ → Result ℕ ReadError
 skipped_at true bytes at = counted_at bytes at >>= λ place. Ok place.1
 skipped_at false bytes at = Ok at
@@ -126,7 +126,7 @@ fde_range bases cie bytes at end = do
   instructions ← skipped_at cie.has_augmentation_data bytes len.1
   Ok (record { cie = cie; initial_address = start.0; address_range = len.0; instructions = instructions; end = end })
 
--- an FDE's fields behind its CIE's offset; the bytes end with the entry
+-- an FDE's fields after its CIE's offset; the bytes end with the entry
 abbrev pub fde_fields : SectionBaseAddresses → CommonInformationEntry → List ℕ → ℕ → ℕ → Result FrameDescriptionEntry ReadError
 fde_fields bases cie bytes at end =
     if nat_le 128 cie.fde_pointer_encoding then Err BadEncoding else fde_range bases cie bytes at end

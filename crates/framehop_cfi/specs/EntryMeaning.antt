@@ -24,7 +24,7 @@ pub record Begins (kind : UnwindSectionType) (bytes : List ℕ) (at : ℕ) (span
   pub some : is_zero_length span ≡ false
   pub id : id_at kind (take span.end bytes) span ≡ Ok head
 
--- a CIE's fields behind its id, in the entry's own bytes
+-- a CIE's fields after its id, in the entry's own bytes
 pub record HasCieFields (kind : UnwindSectionType) (bases : SectionBaseAddresses) (entry : List ℕ) (fields : ℕ) (cie : CommonInformationEntry) : Type 0 where
   pub version : ℕ
   pub text : ℕ

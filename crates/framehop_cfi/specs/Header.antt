@@ -30,7 +30,7 @@ held_rows pointer encoding size count at bytes =
     then Ok (record { eh_frame_pointer = pointer; encoding = encoding; size = size; count = count; rows = at })
     else Err Eof
 
--- the three encodings behind the version, and what they encode
+-- the three encodings after the version, and what they encode
 unfoldable pub encoded_at : SectionBaseAddresses → ℕ → ℕ → ℕ → List ℕ → ℕ → Result Layout ReadError
 encoded_at bases pointer_encoding count_encoding table_encoding bytes at = do
   pointer ← pointer_at bases pointer_encoding bytes at

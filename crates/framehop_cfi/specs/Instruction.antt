@@ -50,7 +50,7 @@ offset_at bytes at = do
   offset ← checked_i64 (pos number.0)
   Ok (offset, number.1)
 
--- an expression's bytes, behind their count
+-- an expression's bytes, after their count
 unfoldable pub expression_at : List ℕ → ℕ → Reading Expression
 expression_at bytes at = do
   place ← counted_at bytes at

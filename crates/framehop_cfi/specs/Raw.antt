@@ -13,7 +13,7 @@ format_of encoding = encoding % 16
 abbrev pub sign_extended : ℕ → ℕ → ℕ
 sign_extended bits number = if nat_lt (2 * number) (2 ^ bits) then number else number + (2 ^ 64 - 2 ^ bits)
 
--- a pointer's value by its format alone, as a number of 64 bits
+-- a pointer's value by its format only, as a number of 64 bits
 unfoldable pub raw_at : ℕ → List ℕ → ℕ → Reading ℕ
 raw_at format bytes at =
     if (format == 0) || (format == 4) || (format == 12) then u64_at bytes at

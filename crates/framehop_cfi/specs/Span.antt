@@ -16,7 +16,7 @@ long_span bytes at = do
   long ← u64_at bytes at
   held bytes 8 long.1 long.0
 
--- an entry's length in 4 bytes, or in 8 behind four bytes FF; the other values from FFFFFFF0 on are reserved
+-- an entry's length in 4 bytes, or in 8 after four bytes FF; the other values from FFFFFFF0 on are reserved
 unfoldable pub span_at : List ℕ → ℕ → Result Span ReadError
 span_at bytes at = do
   short ← u32_at bytes at
@@ -27,7 +27,7 @@ span_at bytes at = do
 abbrev pub is_zero_length : Span → Bool
 is_zero_length span = (span.offset_size == 4) && (span.contents == span.end)
 
--- the contents lie in the bytes, behind the offset
+-- the contents lie in the bytes, after the offset
 pub record IsWithin (bytes : List ℕ) (at : ℕ) (span : Span) : Type 0 where
   pub behind : at < span.contents
   pub ordered : span.contents ≤ span.end

@@ -14,11 +14,11 @@ pub struct Augmentation {
     pub encoding: u8,
     /// Whether the FDEs have augmentation data.
     pub has_data: bool,
-    /// The offset behind the CIE's augmentation data.
+    /// The offset after the CIE's augmentation data.
     pub behind: usize,
 }
 
-/// Where the zero byte stands that ends a text.
+/// Returns where the zero byte stands that ends a text.
 #[tactic(auto, unfolding(crate::specs::Augmentation::terminator_at))]
 pub fn find_terminator(bytes: &[u8], at: usize) -> Result<usize, ReadError>
     ensures exact { result ≡ terminator_at bytes.now at }
@@ -34,7 +34,7 @@ pub fn find_terminator(bytes: &[u8], at: usize) -> Result<usize, ReadError>
     }
 }
 
-/// The index of the first zero byte.
+/// Returns the index of the first zero byte.
 fn first_zero(bytes: &[u8]) -> Option<usize>
     ensures exact { result ≡ position (λ byte. byte == 0) bytes.now }
     ensures within { IfSome result (λ index. index < length bytes.now) }
@@ -42,7 +42,7 @@ fn first_zero(bytes: &[u8]) -> Option<usize>
     bytes.iter().position(|byte| *byte == 0)
 }
 
-/// Data whose length stands in front of it: where it begins, and where it ends.
+/// Data whose length stands before it: where it begins, and where it ends.
 #[tactic(auto, unfolding(crate::specs::Augmentation::counted_at))]
 pub fn read_counted(bytes: &[u8], at: usize) -> Result<(usize, usize), ReadError>
     ensures exact { result ≡ counted_at bytes.now at }
@@ -57,7 +57,7 @@ pub fn read_counted(bytes: &[u8], at: usize) -> Result<(usize, usize), ReadError
 }
 
 impl SectionBaseAddresses {
-    /// The augmentation by its text's letters; `at` is where its data begins.
+    /// Returns the augmentation by its text's letters; `at` is where its data begins.
     pub fn read_augmentation(
         &self,
         letters: &[u8],
@@ -78,7 +78,7 @@ impl SectionBaseAddresses {
         }
     }
 
-    /// The augmentation data of the letters behind `z`.
+    /// Returns the augmentation data of the letters after `z`.
     #[tactic(auto, unfolding(crate::specs::Augmentation::augmentation_data))]
     fn read_augmentation_data(
         &self,
@@ -98,7 +98,7 @@ impl SectionBaseAddresses {
         })
     }
 
-    /// The data of the letters, one after another: the pointer encoding that they leave.
+    /// Returns the data of the letters, one after another: the pointer encoding that they leave.
     fn read_letters(&self, letters: &[u8], bytes: &[u8], at: usize) -> Result<u8, ReadError>
         ensures exact { result ≡ letters_at self.now letters.now bytes.now at 0 }
         ensures memory { result ≢ Err ReadError.OutOfMemory }
@@ -111,7 +111,7 @@ impl SectionBaseAddresses {
         Ok(encoding)
     }
 
-    /// The data of one letter: the pointer encoding after it, and the offset behind its data.
+    /// Returns the data of one letter: the pointer encoding after it, and the offset after its data.
     fn read_letter(
         &self,
         letter: u8,
@@ -137,7 +137,7 @@ impl SectionBaseAddresses {
         }
     }
 
-    /// The personality routine's address, which is not used, and the offset behind it.
+    /// Returns the personality routine's address, which is not used, and the offset after it.
     #[tactic(auto, unfolding(crate::specs::Augmentation::personality_at))]
     fn read_personality(&self, bytes: &[u8], at: usize) -> Result<(u64, usize), ReadError>
         ensures exact { result ≡ personality_at self.now bytes.now at }

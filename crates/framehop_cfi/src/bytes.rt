@@ -1,14 +1,14 @@
 //! Little-endian numbers at an offset of a section.
 //!
-//! A reader is given the section's bytes and an offset into them, and answers what stands there
-//! with the offset behind it. It reads nothing past the end of the bytes that it is given.
+//! A reader is given the section's bytes and an offset into them, and returns what is there
+//! with the offset after it. It reads nothing past the end of the bytes that it is given.
 ghost use Rattle.std.specs.Prelude.{◌≡◌, ◌≢◌, Err, IfErr, ◌<◌, IfOk, take};
 ghost use Rattle.framehop_cfi.specs.Refusal.{IsSliceRefusal};
 ghost use Rattle.framehop_cfi.specs.Bytes.{u8_at, u16_at, u32_at, u64_at};
 
 use crate::read_error::ReadError;
 
-/// The bytes in front of an end, or all of them where they end before it.
+/// Returns the bytes before an end, or all of them where they end before it.
 #[inline]
 pub fn front(bytes: &[u8], end: usize) -> &[u8]
     ensures { result.now ≡ take end bytes.now }
@@ -16,7 +16,7 @@ pub fn front(bytes: &[u8], end: usize) -> &[u8]
     &bytes[..end.min(bytes.len())]
 }
 
-/// A byte.
+/// Returns a byte.
 #[inline]
 #[tactic(auto, unfolding(crate::specs::Bytes::u8_at))]
 pub fn read_u8(bytes: &[u8], at: usize) -> Result<(u8, usize), ReadError>
@@ -32,7 +32,7 @@ pub fn read_u8(bytes: &[u8], at: usize) -> Result<(u8, usize), ReadError>
     }
 }
 
-/// A number of two bytes.
+/// Returns a number of two bytes.
 #[inline]
 #[tactic(auto, unfolding(crate::specs::Bytes::u16_at))]
 pub fn read_u16(bytes: &[u8], at: usize) -> Result<(u16, usize), ReadError>
@@ -48,7 +48,7 @@ pub fn read_u16(bytes: &[u8], at: usize) -> Result<(u16, usize), ReadError>
     Ok((number, at + 2))
 }
 
-/// A number of four bytes.
+/// Returns a number of four bytes.
 #[inline]
 #[tactic(auto, unfolding(crate::specs::Bytes::u32_at))]
 pub fn read_u32(bytes: &[u8], at: usize) -> Result<(u32, usize), ReadError>
@@ -64,7 +64,7 @@ pub fn read_u32(bytes: &[u8], at: usize) -> Result<(u32, usize), ReadError>
     Ok((number, at + 4))
 }
 
-/// A number of eight bytes.
+/// Returns a number of eight bytes.
 #[inline]
 #[tactic(auto, unfolding(crate::specs::Bytes::u64_at, crate::specs::Bytes::u32_at))]
 pub fn read_u64(bytes: &[u8], at: usize) -> Result<(u64, usize), ReadError>

@@ -26,7 +26,7 @@ pub struct UnwindContext<S: UnwindContextStorage> {
     /// Whether the CIE's instructions have been run.
     has_initial: bool,
     row: UnwindTableRow<S>,
-    /// The rows that were remembered, and behind them rows to be used for the next ones.
+    /// The rows that were remembered, and after them rows to be used for the next ones.
     remembered: Vec<UnwindTableRow<S>>,
     /// How many rows are remembered.
     count: usize,
@@ -67,7 +67,7 @@ impl<S: UnwindContextStorage> UnwindContext<S> {
         })
     }
 
-    /// The row that was made last.
+    /// Returns the row that was made last.
     pub fn row(&self) -> &UnwindTableRow<S>
         ensures { result.now ≡ self.now.row }
     {
@@ -187,7 +187,7 @@ impl<S: UnwindContextStorage> UnwindContext<S> {
     }
 }
 
-/// So many empty rows.
+/// Returns so many empty rows.
 fn spare_rows<S: UnwindContextStorage>(
     alloc: Global,
     count: usize,
@@ -202,7 +202,7 @@ fn spare_rows<S: UnwindContextStorage>(
     Ok(rows)
 }
 
-/// The location that an instruction leaves. A CIE has no address that is looked for, and its
+/// Returns the location that an instruction leaves. A CIE has no address that is looked for, and its
 /// instructions do not move the location.
 fn location_after(
     cie: &CommonInformationEntry,
@@ -230,7 +230,7 @@ fn location_after(
     }
 }
 
-/// The location after an advance of `delta` times the code alignment.
+/// Returns the location after an advance of `delta` times the code alignment.
 fn risen(location: u64, delta: u32, code_alignment_factor: u64) -> Result<u64, ReadError>
     ensures exact { result ≡ risen location (delta * code_alignment_factor) }
     ensures memory { result ≢ Err ReadError.OutOfMemory }
@@ -246,7 +246,7 @@ fn risen(location: u64, delta: u32, code_alignment_factor: u64) -> Result<u64, R
     }
 }
 
-/// Whether the location lies beyond the address that is looked for.
+/// Returns whether the location lies beyond the address that is looked for.
 fn is_beyond(address: Option<u64>, location: u64) -> bool
     ensures { result ≡ is_beyond address location }
 {
@@ -356,7 +356,7 @@ impl<S: UnwindContextStorage> UnwindContext<S> {
     }
 }
 
-/// Whether the FDE covers the address.
+/// Returns whether the FDE covers the address.
 fn covers(fde: &FrameDescriptionEntry, address: u64) -> bool
     ensures { result ≡ covers fde.now address }
 {

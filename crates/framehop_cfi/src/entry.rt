@@ -22,11 +22,11 @@ pub enum UnwindSectionType {
 /// What stands at an offset of a section.
 #[derive(Clone, Copy)]
 pub enum EntryHead {
-    /// A length of 0: the offset behind it.
+    /// A length of 0: the offset after it.
     ZeroLength(usize),
-    /// A CIE: where its fields begin behind its id, and where it ends.
+    /// A CIE: where its fields begin after its id, and where it ends.
     Cie(usize, usize),
-    /// An FDE: where its CIE is, where its fields begin behind that, and where it ends.
+    /// An FDE: where its CIE is, where its fields begin after that, and where it ends.
     Fde(usize, usize, usize),
 }
 
@@ -43,7 +43,7 @@ pub struct CommonInformationEntry {
     pub has_augmentation_data: bool,
     /// The offset of its instructions.
     pub instructions: usize,
-    /// The offset behind the entry.
+    /// The offset after the entry.
     pub end: usize,
 }
 
@@ -58,7 +58,7 @@ pub struct FrameDescriptionEntry {
     pub address_range: u64,
     /// The offset of its instructions.
     pub instructions: usize,
-    /// The offset behind the entry.
+    /// The offset after the entry.
     pub end: usize,
 }
 
@@ -89,7 +89,7 @@ impl<'a> Model for UnwindSection<'a> {
 }
 
 impl<'a> UnwindSection<'a> {
-    /// The section of these bytes, in a module that lies at these addresses.
+    /// Returns the section of these bytes, in a module that lies at these addresses.
     pub fn new(
         bytes: &'a [u8],
         section_type: UnwindSectionType,
@@ -119,7 +119,7 @@ impl<'a> UnwindSection<'a> {
         self.bytes
     }
 
-    /// What stands at an offset.
+    /// Returns what stands at an offset.
     #[tactic(auto, unfolding(crate::specs::Entry::head_at))]
     pub fn head_at(&self, at: usize) -> Result<EntryHead, ReadError>
         ensures exact { result ≡ head_at self.now.kind self.now.bytes at }
@@ -132,7 +132,7 @@ impl<'a> UnwindSection<'a> {
         self.head_of(&span)
     }
 
-    /// The id of the entry in a span, whose length is not 0: which kind it is.
+    /// Returns the id of the entry in a span, whose length is not 0: which kind it is.
     pub fn head_of(&self, span: &Span) -> Result<EntryHead, ReadError>
         ensures exact { result ≡ id_at self.now.kind (take span.now.end self.now.bytes) span.now }
         ensures memory { result ≢ Err ReadError.OutOfMemory }
@@ -145,7 +145,7 @@ impl<'a> UnwindSection<'a> {
     }
 }
 
-/// The id of an entry of `.eh_frame`, where an FDE's CIE lies so many bytes before the field.
+/// Returns the id of an entry of `.eh_frame`, where an FDE's CIE lies so many bytes before the field.
 #[tactic(auto, unfolding(crate::specs::Entry::eh_frame_id))]
 fn read_eh_frame_id(entry: &[u8], span: &Span) -> Result<EntryHead, ReadError>
     ensures exact { result ≡ eh_frame_id entry.now span.now }
@@ -162,7 +162,7 @@ fn read_eh_frame_id(entry: &[u8], span: &Span) -> Result<EntryHead, ReadError>
     Ok(EntryHead::Fde(span.contents - distance, next, span.end))
 }
 
-/// The id of an entry of `.debug_frame`, where an FDE's CIE lies at the offset in the field.
+/// Returns the id of an entry of `.debug_frame`, where an FDE's CIE lies at the offset in the field.
 #[tactic(auto, unfolding(crate::specs::Entry::short_id, crate::specs::Entry::long_id))]
 fn read_debug_frame_id(entry: &[u8], span: &Span) -> Result<EntryHead, ReadError>
     ensures exact { result ≡ debug_frame_id entry.now span.now }
@@ -182,14 +182,14 @@ fn read_debug_frame_id(entry: &[u8], span: &Span) -> Result<EntryHead, ReadError
     Ok(EntryHead::Fde(id as usize, next, span.end))
 }
 
-/// Whether the CIE's version is one that is read here.
+/// Returns whether the CIE's version is one that is read here.
 fn is_known_version(version: u8) -> bool
     ensures { result ≡ is_known_version version }
 {
     version == 1 || version == 3 || version == 4
 }
 
-/// The sizes of addresses and of segment selectors: the offset behind them.
+/// Skips the sizes of addresses and of segment selectors. Returns the offset after them.
 #[tactic(auto, unfolding(crate::specs::Entry::sizes_at))]
 fn read_sizes(bytes: &[u8], at: usize) -> Result<usize, ReadError>
     ensures exact { result ≡ sizes_at bytes.now at }
@@ -203,7 +203,7 @@ fn read_sizes(bytes: &[u8], at: usize) -> Result<usize, ReadError>
     Ok(next)
 }
 
-/// The return register, which is not used: the offset behind it.
+/// Skips the return register, which is not used. Returns the offset after it.
 fn skip_return_register(version: u8, bytes: &[u8], at: usize) -> Result<usize, ReadError>
     ensures exact { result ≡ return_register_at version bytes.now at }
     ensures memory { result ≢ Err ReadError.OutOfMemory }
@@ -217,7 +217,7 @@ fn skip_return_register(version: u8, bytes: &[u8], at: usize) -> Result<usize, R
 }
 
 impl<'a> UnwindSection<'a> {
-    /// The CIE at an offset.
+    /// Returns the CIE at an offset.
     ///
     /// An offset of an FDE or of a zero length is refused by `NotCie`.
     pub fn cie_from_offset(&self, at: usize) -> Result<CommonInformationEntry, ReadError>
@@ -229,7 +229,7 @@ impl<'a> UnwindSection<'a> {
         self.read_cie_at(at)
     }
 
-    /// The CIE at an offset, read field by field.
+    /// Returns the CIE at an offset, read field by field.
     #[tactic(auto, unfolding(crate::specs::Entry::cie_at))]
     fn read_cie_at(&self, at: usize) -> Result<CommonInformationEntry, ReadError>
         ensures exact { result ≡ cie_at self.now at }
@@ -241,7 +241,7 @@ impl<'a> UnwindSection<'a> {
         }
     }
 
-    /// The CIE whose fields begin behind its id and end with the entry, or with the section.
+    /// Returns the CIE whose fields begin after its id and end with the entry, or with the section.
     #[tactic(auto, unfolding(crate::specs::Entry::cie_fields))]
     pub fn read_cie(&self, fields: usize, end: usize) -> Result<CommonInformationEntry, ReadError>
         ensures exact { result ≡ cie_fields self.now.kind self.now.bases (take end self.now.bytes) fields end }
@@ -256,7 +256,7 @@ impl<'a> UnwindSection<'a> {
         self.read_versioned(version, entry, next, end)
     }
 
-    /// The fields behind a CIE's version.
+    /// Returns the fields after a CIE's version.
     #[tactic(auto, unfolding(crate::specs::Entry::versioned_fields))]
     fn read_versioned(
         &self,
@@ -274,8 +274,8 @@ impl<'a> UnwindSection<'a> {
         self.read_alignments(version, &entry[at..terminator], entry, sizes, end)
     }
 
-    /// The sizes of addresses and of segment selectors, which version 4 has in `.debug_frame`: the
-    /// offset behind them.
+    /// Skips the sizes of addresses and of segment selectors, which version 4 has in `.debug_frame`. Returns
+    /// the offset after them.
     fn skip_sizes(&self, version: u8, entry: &[u8], at: usize) -> Result<usize, ReadError>
         ensures exact { result ≡ sizes_of self.now.kind version entry.now at }
         ensures memory { result ≢ Err ReadError.OutOfMemory }
@@ -286,7 +286,7 @@ impl<'a> UnwindSection<'a> {
         }
     }
 
-    /// The fields behind a CIE's augmentation text.
+    /// Returns the fields after a CIE's augmentation text.
     #[tactic(auto, unfolding(crate::specs::Entry::alignments_at))]
     fn read_alignments(
         &self,
@@ -314,7 +314,7 @@ impl<'a> UnwindSection<'a> {
         })
     }
 
-    /// The FDE at an offset, with the CIE at the offset that it names.
+    /// Returns the FDE at an offset, with the CIE at the offset that it names.
     ///
     /// An offset of a CIE or of a zero length is refused by `NotFde`.
     pub fn fde_from_offset(&self, at: usize) -> Result<FrameDescriptionEntry, ReadError>
@@ -326,7 +326,7 @@ impl<'a> UnwindSection<'a> {
         self.read_fde_at(at)
     }
 
-    /// The FDE at an offset, read field by field.
+    /// Returns the FDE at an offset, read field by field.
     #[tactic(auto, unfolding(crate::specs::Entry::fde_at))]
     fn read_fde_at(&self, at: usize) -> Result<FrameDescriptionEntry, ReadError>
         ensures exact { result ≡ fde_at self.now at }
@@ -341,7 +341,7 @@ impl<'a> UnwindSection<'a> {
         }
     }
 
-    /// The FDE of that CIE whose fields begin behind its CIE's offset and end with the entry, or with the
+    /// Returns the FDE of that CIE whose fields begin after its CIE's offset and end with the entry, or with the
     /// section.
     pub fn read_fde(
         &self,
@@ -359,7 +359,7 @@ impl<'a> UnwindSection<'a> {
         self.read_range(cie, front(self.bytes, end), fields, end)
     }
 
-    /// An FDE's range, and what stands behind it.
+    /// Returns an FDE's range, and what stands after it.
     #[tactic(auto, unfolding(crate::specs::Entry::fde_range))]
     fn read_range(
         &self,
@@ -386,7 +386,7 @@ impl<'a> UnwindSection<'a> {
     }
 }
 
-/// The offset behind an FDE's augmentation data, if it has any.
+/// Returns the offset after an FDE's augmentation data, if it has any.
 fn skip_augmentation_data(has_data: bool, entry: &[u8], at: usize) -> Result<usize, ReadError>
     ensures exact { result ≡ skipped_at has_data entry.now at }
     ensures memory { result ≢ Err ReadError.OutOfMemory }

@@ -55,7 +55,7 @@ impl Model for TableLayout {
     } };
 }
 
-/// The size of a table's numbers, by their format.
+/// Returns the size of a table's numbers, by their format.
 fn size_of_format(encoding: u8) -> Result<usize, ReadError>
     ensures exact { result ≡ table_size encoding }
     ensures small { IfOk result (λ size. size ≤ 8) }
@@ -72,7 +72,7 @@ fn size_of_format(encoding: u8) -> Result<usize, ReadError>
 }
 
 impl TableLayout {
-    /// The layout that a header tells. Anything that is not read here is an error.
+    /// Returns the layout that a header tells. Anything that is not read here is an error.
     #[tactic(auto, unfolding(crate::specs::Header::layout_of))]
     pub fn parse(bytes: &[u8], bases: &SectionBaseAddresses) -> Result<TableLayout, ReadError>
         ensures { result ≡ layout_of bases.now bytes.now }
@@ -84,28 +84,28 @@ impl TableLayout {
         TableLayout::parse_encodings(bytes, next, bases)
     }
 
-    /// Where `.eh_frame` begins, an SVMA.
+    /// Returns where `.eh_frame` begins, an SVMA.
     pub fn eh_frame_pointer(&self) -> u64
         ensures { result ≡ self.now.eh_frame_pointer }
     {
         self.eh_frame_pointer
     }
 
-    /// The encoding of the table's addresses.
+    /// Returns the encoding of the table's addresses.
     pub fn encoding(&self) -> u8
         ensures { result ≡ self.now.encoding }
     {
         self.encoding
     }
 
-    /// The size of the table's addresses in bytes.
+    /// Returns the size of the table's addresses in bytes.
     pub fn size(&self) -> usize
         ensures { result ≡ self.now.size }
     {
         self.size
     }
 
-    /// How many rows there are: one at least.
+    /// Returns how many rows there are: one at least.
     pub fn count(&self) -> usize
         ensures count { result ≡ self.now.count }
         ensures some { 0 < result }
@@ -113,7 +113,7 @@ impl TableLayout {
         self.count
     }
 
-    /// The offset of a row.
+    /// Returns the offset of a row.
     pub fn row(&self, index: usize) -> usize
         requires { index < self.now.count }
         ensures row { result ≡ self.now.rows + 2 * self.now.size * index }
@@ -122,7 +122,7 @@ impl TableLayout {
         self.rows + 2 * self.size * index
     }
 
-    /// The encodings behind the version.
+    /// Returns the encodings after the version.
     #[tactic(auto, unfolding(crate::specs::Header::encodings_at))]
     fn parse_encodings(
         bytes: &[u8],
@@ -147,7 +147,7 @@ impl TableLayout {
         )
     }
 
-    /// The pointer, the count and the table behind the encodings.
+    /// Returns the pointer, the count and the table after the encodings.
     #[tactic(auto, unfolding(crate::specs::Header::encoded_at))]
     fn parse_table(
         bytes: &[u8],
@@ -185,7 +185,7 @@ struct Table<'a> {
 }
 
 impl<'a> Table<'a> {
-    /// The address of the FDE in a row, an SVMA.
+    /// Returns the address of the FDE in a row, an SVMA.
     #[tactic(auto, unfolding(crate::specs::Header::fde_of_row))]
     fn fde_address(&self, index: usize) -> u64
         requires { index < self.now.layout.count }
@@ -195,7 +195,7 @@ impl<'a> Table<'a> {
         self.number_at(row + self.layout.size())
     }
 
-    /// The address that stands at an offset of the table.
+    /// Returns the address that stands at an offset of the table.
     fn number_at(&self, at: usize) -> u64
         ensures { result ≡ value_of (pointer_at self.now.bases self.now.layout.encoding self.now.bytes.now at) }
     {
@@ -208,7 +208,7 @@ impl<'a> Table<'a> {
         }
     }
 
-    /// The offset in `.eh_frame` of the FDE in the row at an address's place. The FDE may not cover
+    /// Returns the offset in `.eh_frame` of the FDE in the row at an address's place. The FDE may not cover
     /// the address.
     fn fde_offset_for_address(&self, address: u64) -> Option<u32>
         ensures exact { result ≡ fde_offset_of self.now.bases self.now.layout self.now.bytes.now address }
@@ -254,7 +254,7 @@ impl<'a> Model for EhFrameHdr<'a> {
 }
 
 impl<'a> EhFrameHdr<'a> {
-    /// The header of a section, or `None` where it is not one that is read here.
+    /// Returns the header of a section, or `None` where it is not one that is read here.
     pub fn parse(bytes: &'a [u8], bases: SectionBaseAddresses) -> Option<EhFrameHdr<'a>>
         ensures read { IfSome result (λ header. header ≡ record { bases = bases; bytes = bytes.now }) }
         ensures some { IfSome result (λ _. IsOk (layout_of bases bytes.now)) }
@@ -272,7 +272,7 @@ impl<'a> EhFrameHdr<'a> {
         }
     }
 
-    /// The offset in `.eh_frame` of the FDE in the row at an address's place. The FDE may not cover
+    /// Returns the offset in `.eh_frame` of the FDE in the row at an address's place. The FDE may not cover
     /// the address.
     #[tactic(auto, unfolding(crate::specs::Header::fde_offset_in))]
     pub fn fde_offset_for_address(&self, address: u64) -> Option<u32>

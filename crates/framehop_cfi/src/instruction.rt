@@ -48,7 +48,7 @@ pub enum CallFrameInstruction {
     },
 }
 
-/// A register's number.
+/// Returns a register's number.
 #[tactic(auto, unfolding(crate::specs::Instruction::register_at))]
 fn read_register(bytes: &[u8], at: usize) -> Result<(Register, usize), ReadError>
     ensures exact { result ≡ register_at bytes.now at }
@@ -62,7 +62,7 @@ fn read_register(bytes: &[u8], at: usize) -> Result<(Register, usize), ReadError
     }
 }
 
-/// The number, if it fits 64 bits with a sign.
+/// Returns the number, if it fits 64 bits with a sign.
 fn checked(number: i128) -> Result<i64, ReadError>
     ensures exact { result ≡ checked_i64 number }
     ensures memory { result ≢ Err ReadError.OutOfMemory }
@@ -73,7 +73,7 @@ fn checked(number: i128) -> Result<i64, ReadError>
     }
 }
 
-/// An unsigned number times the data alignment.
+/// Returns an unsigned number times the data alignment.
 #[tactic(auto, unfolding(crate::specs::Instruction::factored_at))]
 fn read_factored(alignment: i64, bytes: &[u8], at: usize) -> Result<(i64, usize), ReadError>
     ensures exact { result ≡ factored_at alignment bytes.now at }
@@ -85,7 +85,7 @@ fn read_factored(alignment: i64, bytes: &[u8], at: usize) -> Result<(i64, usize)
     Ok((product, next))
 }
 
-/// A signed number times the data alignment.
+/// Returns a signed number times the data alignment.
 #[tactic(auto, unfolding(crate::specs::Instruction::factored_signed_at))]
 fn read_factored_signed(alignment: i64, bytes: &[u8], at: usize) -> Result<(i64, usize), ReadError>
     ensures exact { result ≡ factored_signed_at alignment bytes.now at }
@@ -97,7 +97,7 @@ fn read_factored_signed(alignment: i64, bytes: &[u8], at: usize) -> Result<(i64,
     Ok((product, next))
 }
 
-/// An offset that is not factored.
+/// Returns an offset that is not factored.
 #[tactic(auto, unfolding(crate::specs::Instruction::offset_at))]
 fn read_offset(bytes: &[u8], at: usize) -> Result<(i64, usize), ReadError>
     ensures exact { result ≡ offset_at bytes.now at }
@@ -109,7 +109,7 @@ fn read_offset(bytes: &[u8], at: usize) -> Result<(i64, usize), ReadError>
     Ok((offset, next))
 }
 
-/// An expression, behind its length.
+/// Returns an expression, after its length.
 #[tactic(auto, unfolding(crate::specs::Instruction::expression_at))]
 fn read_expression(bytes: &[u8], at: usize) -> Result<(Expression, usize), ReadError>
     ensures exact { result ≡ expression_at bytes.now at }
@@ -120,7 +120,7 @@ fn read_expression(bytes: &[u8], at: usize) -> Result<(Expression, usize), ReadE
     Ok((Expression { start, end }, end))
 }
 
-/// The rule that an instruction gives to the register that it names, by its code.
+/// Returns the rule that an instruction gives to the register that it names, by its code.
 fn read_rule(
     alignment: i64,
     code: u8,
@@ -166,7 +166,7 @@ fn read_rule(
     }
 }
 
-/// An instruction that names a register and gives it a rule.
+/// Returns an instruction that names a register and gives it a rule.
 #[tactic(auto, unfolding(crate::specs::Instruction::set_rule_at))]
 fn read_set_rule(
     alignment: i64,
@@ -183,7 +183,7 @@ fn read_set_rule(
     Ok((CallFrameInstruction::SetRule { register, rule }, next))
 }
 
-/// The CFA as a register plus an offset that is not factored.
+/// Returns the CFA as a register plus an offset that is not factored.
 #[tactic(auto, unfolding(crate::specs::Instruction::def_cfa_at))]
 fn read_def_cfa(bytes: &[u8], at: usize) -> Result<(CallFrameInstruction, usize), ReadError>
     ensures exact { result ≡ def_cfa_at bytes.now at }
@@ -196,7 +196,7 @@ fn read_def_cfa(bytes: &[u8], at: usize) -> Result<(CallFrameInstruction, usize)
     Ok((CallFrameInstruction::DefCfa(rule), next))
 }
 
-/// The CFA as a register plus a factored offset.
+/// Returns the CFA as a register plus a factored offset.
 #[tactic(auto, unfolding(crate::specs::Instruction::def_cfa_factored_at))]
 fn read_def_cfa_factored(
     alignment: i64,
@@ -213,7 +213,7 @@ fn read_def_cfa_factored(
     Ok((CallFrameInstruction::DefCfa(rule), next))
 }
 
-/// An instruction on the CFA, by its code.
+/// Returns an instruction on the CFA, by its code.
 fn read_cfa(
     alignment: i64,
     code: u8,
@@ -249,7 +249,7 @@ fn read_cfa(
 }
 
 impl CommonInformationEntry {
-    /// The instruction at an offset, and the offset behind it.
+    /// Returns the instruction at an offset, and the offset after it.
     #[tactic(auto, unfolding(crate::specs::Instruction::instruction_at))]
     pub fn read_instruction(
         &self,
@@ -265,7 +265,7 @@ impl CommonInformationEntry {
         self.read_operands(bases, code, bytes, next)
     }
 
-    /// The operands behind an instruction's byte, which may hold the first of them.
+    /// Returns the operands after an instruction's byte, which may hold the first of them.
     fn read_operands(
         &self,
         bases: &SectionBaseAddresses,
@@ -294,7 +294,7 @@ impl CommonInformationEntry {
         self.read_coded(bases, code, bytes, at)
     }
 
-    /// The operands of an instruction whose byte is its code alone.
+    /// Returns the operands of an instruction whose byte is only its code.
     fn read_coded(
         &self,
         bases: &SectionBaseAddresses,
@@ -330,7 +330,7 @@ impl CommonInformationEntry {
     }
 }
 
-/// An advance of the location by one, two or four bytes, by its code.
+/// Returns an advance of the location by one, two or four bytes, by its code.
 fn read_advance(
     code: u8,
     bytes: &[u8],

@@ -5,7 +5,7 @@ ghost use Rattle.framehop_cfi.specs.Leb128.{groups_at, uleb_at, sleb_at, with_si
 
 use crate::read_error::ReadError;
 
-/// The groups of a number, up to the first byte below 128 and at most ten: their sum, and how many
+/// Returns the groups of a number, up to the first byte below 128 and at most ten: their sum, and how many
 /// bits they have.
 fn read_groups(bytes: &[u8], at: usize) -> Result<((u128, u32), usize), ReadError>
     ensures exact { result ≡ groups_at bytes.now at }
@@ -30,7 +30,7 @@ fn read_groups(bytes: &[u8], at: usize) -> Result<((u128, u32), usize), ReadErro
     Err(ReadError::BadLeb)
 }
 
-/// An unsigned number of at most ten bytes and 64 bits.
+/// Returns an unsigned number of at most ten bytes and 64 bits.
 #[inline]
 #[tactic(auto, unfolding(crate::specs::Leb128::uleb_at))]
 pub fn read_uleb128(bytes: &[u8], at: usize) -> Result<(u64, usize), ReadError>
@@ -49,7 +49,7 @@ pub fn read_uleb128(bytes: &[u8], at: usize) -> Result<(u64, usize), ReadError>
     }
 }
 
-/// A signed number of at most ten bytes and 64 bits.
+/// Returns a signed number of at most ten bytes and 64 bits.
 #[inline]
 #[tactic(auto, unfolding(crate::specs::Leb128::sleb_at))]
 pub fn read_sleb128(bytes: &[u8], at: usize) -> Result<(i64, usize), ReadError>
@@ -68,7 +68,7 @@ pub fn read_sleb128(bytes: &[u8], at: usize) -> Result<(i64, usize), ReadError>
     }
 }
 
-/// The number whose highest bit is its sign, if it fits 64 bits.
+/// Returns the number whose highest bit is its sign, if it fits 64 bits.
 fn signed(sum: u128, bits: u32) -> Option<i64>
     requires some { 0 < bits }
     requires few { bits ≤ 70 }
@@ -87,7 +87,7 @@ fn signed(sum: u128, bits: u32) -> Option<i64>
     }
 }
 
-/// The signed number of one group.
+/// Returns the signed number of one group.
 fn short_signed(group: u8) -> i64
     requires { group < 128 }
     ensures signed { result ≡ with_sign group 7 }

@@ -6,17 +6,17 @@ ghost use Rattle.framehop_cfi.specs.Place.{place_of, IsPlace, AreOrdered};
 pub trait Starts {
     ghost starts: { Self → List ℕ };
 
-    /// How many rows there are.
+    /// Returns how many rows there are.
     fn count(&self) -> usize
         ensures { result ≡ length (starts self.now) };
 
-    /// Where a row begins.
+    /// Returns where a row begins.
     fn start(&self, index: usize) -> u64
         requires { index < length (starts self.now) }
         ensures { result ≡ slice_index (starts self.now) index };
 }
 
-/// The place of an address in a table: the last row that begins at or below it, or the first row
+/// Returns the place of an address in a table: the last row that begins at or below it, or the first row
 /// where none does. In a table that is not in order it is the place that halving reaches.
 pub fn place<T: Starts>(table: &T, address: u64) -> usize
     requires { 0 < length (T.starts table.now) }

@@ -37,7 +37,7 @@ pub const DW_EH_PE_OMIT: u8 = 0xff;
 /// From this encoding on a pointer is not the value but the place of it.
 pub const DW_EH_PE_INDIRECT: u8 = 0x80;
 
-/// A pointer by its format alone (the encoding's low four bits), as a number of 64 bits.
+/// Returns a pointer by its format only (the encoding's low four bits), as a number of 64 bits.
 #[tactic(auto, unfolding(crate::specs::Raw::raw_at))]
 pub fn read_raw_pointer(bytes: &[u8], at: usize, encoding: u8) -> Result<(u64, usize), ReadError>
     ensures exact { result ≡ raw_at (format_of encoding) bytes.now at }
@@ -72,14 +72,14 @@ pub fn read_raw_pointer(bytes: &[u8], at: usize, encoding: u8) -> Result<(u64, u
     }
 }
 
-/// The signed number as one of 64 bits.
+/// Returns the signed number as one of 64 bits.
 fn sign_extend_16(number: u16) -> u64
     ensures { result ≡ sign_extended 16 number }
 {
     i64::from(number.cast_signed()).cast_unsigned()
 }
 
-/// The signed number as one of 64 bits.
+/// Returns the signed number as one of 64 bits.
 fn sign_extend_32(number: u32) -> u64
     ensures { result ≡ sign_extended 32 number }
 {
@@ -89,7 +89,7 @@ fn sign_extend_32(number: u32) -> u64
 impl SectionBaseAddresses {
     ghost use Rattle.framehop_cfi.specs.Pointer.{base_of, application_of, pointer_at};
 
-    /// What a pointer at that offset counts from.
+    /// Returns what a pointer at that offset counts from.
     fn base(&self, at: usize, encoding: u8) -> Result<u64, ReadError>
         ensures exact { result ≡ base_of self.now at (application_of encoding) }
         ensures refusal { IfErr result IsSliceRefusal }
@@ -104,7 +104,7 @@ impl SectionBaseAddresses {
         }
     }
 
-    /// A pointer of that encoding. Whether it is indirect is not looked at.
+    /// Returns a pointer of that encoding. Whether it is indirect is not looked at.
     #[tactic(auto, unfolding(crate::specs::Pointer::pointer_at))]
     pub fn read_pointer(
         &self,

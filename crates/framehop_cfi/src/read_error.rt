@@ -49,7 +49,7 @@ pub enum ReadError {
     /// A row is to be restored, and none is remembered.
     #[error("NothingRemembered")]
     NothingRemembered,
-    /// Memory was refused.
+    /// An allocation failed.
     #[error("OutOfMemory")]
     OutOfMemory,
 }

@@ -29,7 +29,7 @@ impl<S: UnwindContextStorage> Model for UnwindTableRow<S> {
 }
 
 impl<S: UnwindContextStorage> UnwindTableRow<S> {
-    /// An empty row, whose CFA is register 0, with the room that the storage wants.
+    /// Returns an empty row, whose CFA is register 0, with the room that the storage wants.
     pub(crate) fn new(alloc: Global) -> Result<Self, AllocError>
         ensures { IfOk result (λ row. row ≡ empty_row) }
     {
@@ -47,14 +47,14 @@ impl<S: UnwindContextStorage> UnwindTableRow<S> {
         })
     }
 
-    /// How the CFA is found.
+    /// Returns how the CFA is found.
     pub fn cfa(&self) -> &CfaRule
         ensures { result.now ≡ self.now.cfa }
     {
         &self.cfa
     }
 
-    /// How that register is found, or `None` where the row says nothing of it.
+    /// Returns how that register is found, or `None` where the row says nothing of it.
     pub fn register(&self, register: Register) -> Option<RegisterRule>
         ensures { result ≡ rule_of self.now.rules register }
     {
@@ -135,7 +135,7 @@ impl<S: UnwindContextStorage> UnwindTableRow<S> {
     }
 }
 
-/// The place of a register's rule.
+/// Returns the place of a register's rule.
 fn place_of(rules: &[(Register, RegisterRule)], register: Register) -> Option<usize>
     ensures exact { result ≡ position (is_of register) rules.now }
     ensures within { IfSome result (λ place. place < length rules.now) }
@@ -143,7 +143,7 @@ fn place_of(rules: &[(Register, RegisterRule)], register: Register) -> Option<us
     rules.iter().position(|entry| entry.0.0 == register.0)
 }
 
-/// The rule of a register.
+/// Returns the rule of a register.
 fn rule_in(rules: &[(Register, RegisterRule)], register: Register) -> Option<RegisterRule>
     ensures { result ≡ rule_of rules.now register }
 {

@@ -9,7 +9,7 @@ pub struct Register(pub u16);
 pub struct Expression {
     /// Where it begins.
     pub start: usize,
-    /// The offset behind it.
+    /// The offset after it.
     pub end: usize,
 }
 

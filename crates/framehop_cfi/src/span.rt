@@ -5,18 +5,18 @@ ghost use Rattle.framehop_cfi.specs.Span.{span_at, held, is_zero_length, IsWithi
 use crate::bytes::{read_u32, read_u64};
 use crate::read_error::ReadError;
 
-/// Where an entry's contents stand, behind its length.
+/// Where an entry's contents stand, after its length.
 #[derive(Clone, Copy)]
 pub struct Span {
     /// The offset of the contents.
     pub contents: usize,
-    /// The offset behind them.
+    /// The offset after them.
     pub end: usize,
     /// The size of the entry's offsets into the section: 4 or 8 bytes.
     pub offset_size: u8,
 }
 
-/// The span of the entry at an offset. Its length has 4 bytes, or 8 behind four bytes `FF`.
+/// Returns the span of the entry at an offset. Its length has 4 bytes, or 8 after four bytes `FF`.
 #[tactic(auto, unfolding(crate::specs::Span::span_at, crate::specs::Span::long_span))]
 pub fn read_span(bytes: &[u8], at: usize) -> Result<Span, ReadError>
     ensures exact { result ≡ span_at bytes.now at }
@@ -52,7 +52,7 @@ fn held_span(bytes: &[u8], offset_size: u8, contents: usize, length: u64) -> Res
 }
 
 impl Span {
-    /// Whether this is a length of 0 in 4 bytes, which is no entry.
+    /// Returns whether this is a length of 0 in 4 bytes, which is no entry.
     #[inline]
     pub fn is_zero_length(&self) -> bool
         ensures { result ≡ is_zero_length self.now }

@@ -15,7 +15,7 @@ pub struct StorageLimits {
 pub trait UnwindContextStorage {
     ghost limits: { Option StorageLimits };
 
-    /// The limits; without limits the rows grow in memory.
+    /// Returns the limits; without limits the rows grow in memory.
     fn limits() -> Option<StorageLimits>
         ensures { result ≡ limits };
 }

@@ -1,5 +1,5 @@
 -- aarch64: a direct result has the CFA, and the columns' values.
-use Rattle.std.proofs.Common.{◌≡◌, ℕ, ◌<◌, Bool, true, false, not, Option, Some, None, Result, Ok, Err, ap, sym, subst, refl, inl, inr, arith, ◌∙◌, if◌then◌else◌, List, ◌&&◌, leb}
+use Rattle.std.proofs.Common.{◌≡◌, ℕ, ◌<◌, Bool, true, false, not, Option, Some, None, Result, Ok, Err, ap, sym, subst, inl, inr, arith, ◌∙◌, List, ◌&&◌, leb}
 use Rattle.std.proofs.lemmas.Bool.{cases_Bool}
 use Rattle.std.proofs.lemmas.Bool.Decides.{nat_tests}
 use Rattle.framehop_core.specs.Memory.{Memory}

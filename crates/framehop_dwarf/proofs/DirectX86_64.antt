@@ -1,5 +1,5 @@
 -- x86_64: a direct result has the CFA, and the columns' values.
-use Rattle.std.proofs.Common.{◌≡◌, ℕ, Bool, true, false, not, Option, Some, None, Result, Ok, Err, ap, sym, refl, inl, inr, ◌∙◌, if◌then◌else◌, List, ◌&&◌, ◌==◌, ltb}
+use Rattle.std.proofs.Common.{◌≡◌, ℕ, Bool, not, Option, Some, None, Result, Ok, Err, ap, sym, refl, inl, inr, ◌∙◌, List, ◌&&◌, ◌==◌, ltb}
 use Rattle.std.specs.Prelude.{unwrap_or}
 use Rattle.std.proofs.lemmas.Bool.{cases_Bool}
 use Rattle.framehop_core.specs.Memory.{Memory}

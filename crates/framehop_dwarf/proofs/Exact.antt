@@ -1,9 +1,9 @@
 -- What an exact number of units says.
-use Rattle.std.proofs.Common.{◌≡◌, ◌≢◌, ℕ, ◌<◌, ◌^◌, Bool, true, false, Option, Some, None, ℤ, pos, negsuc, ◌*ℤ◌, ◌∙◌, ap, subst, refl, arith, inl, inr, if◌then◌else◌, ltb}
+use Rattle.std.proofs.Common.{◌≡◌, ℕ, ◌^◌, true, Option, Some, ℤ, pos, negsuc, ◌*ℤ◌, ap, subst, arith, inl, inr, ltb}
 use Rattle.std.specs.Prelude.{int_div}
 use Rattle.std.specs.Ordering.{int_eq}
 use Rattle.std.proofs.lemmas.Bool.{cases_Bool}
-use Rattle.std.proofs.lemmas.Bool.Decides.{nat_tests, Decides-int_eq}
+use Rattle.std.proofs.lemmas.Bool.Decides.{Decides-int_eq}
 use Rattle.framehop_dwarf.specs.Units.{units_of, signed_units_of, fits_u16, fits_i16, is_exact}
 
 pub int_same : (a b : ℤ) → int_eq a b ≡ true → a ≡ b

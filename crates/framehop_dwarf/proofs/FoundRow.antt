@@ -1,19 +1,18 @@
 -- What a call frame section has for an address stands in its bytes.
-use Rattle.std.proofs.Common.{◌≡◌, ℕ, ◌≤◌, ◌^◌, ◌&&◌, Bool, true, false, Option, Some, None, Result, Ok, Err, refl, sym, ap, arith, leb, ltb, if◌then◌else◌}
+use Rattle.std.proofs.Common.{◌≡◌, ℕ, ◌≤◌, ◌^◌, Option, Result, Ok, Err, refl}
 use Rattle.std.proofs.lemmas.Bool.{le-ltb}
 use Rattle.framehop_cfi.specs.Section.{Section}
 use Rattle.framehop_cfi.specs.Entry.{fde_at}
 use Rattle.framehop_cfi.specs.EntryMeaning.{IsFde}
 use Rattle.framehop_cfi.specs.Row.{Row}
 use Rattle.framehop_cfi.specs.RowAt.{row_at, rows_at}
-use Rattle.framehop_cfi.specs.RowMeaning.{IsRowAt}
 use Rattle.framehop_cfi.specs.declared.storage.StorageLimits.{StorageLimits}
 use Rattle.framehop_cfi.specs.declared.entry.FrameDescriptionEntry.{FrameDescriptionEntry}
 use Rattle.framehop_cfi.specs.declared.read_error.ReadError.{ReadError}
 use Rattle.framehop_cfi.specs.declared.read_error.ReadError.TheVariants.{NoRow}
 use Rattle.framehop_cfi.proofs.EntryMeaning.{fde_at-means, means-fde_at}
 use Rattle.framehop_cfi.proofs.RowMeaning.{row_at-means, means-row_at}
-use Rattle.framehop_dwarf.specs.Unwinder.{Reading, unread, uncovered, by_row, of_row, of_fde, reading_of, IsReading}
+use Rattle.framehop_dwarf.specs.Unwinder.{uncovered, of_row, of_fde, reading_of, IsReading}
 
 -- an address beyond 64 bits has no row
 pub no-row : (limits : Option StorageLimits) (section : Section) (fde : FrameDescriptionEntry) (address : ℕ) → 2 ^ 64 ≤ address → row_at limits section fde address ≡ Err NoRow

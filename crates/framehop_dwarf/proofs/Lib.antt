@@ -14,3 +14,4 @@ pub mod DirectX86_64
 pub mod SimulationAarch64
 pub mod DirectAarch64
 pub mod FoundRow
+pub mod Limits

@@ -1,12 +1,10 @@
 -- aarch64: a rule that a row is translated to does what the row means.
-use Rattle.std.proofs.Common.{◌≡◌, ◌≢◌, ℕ, ◌<◌, ◌*◌, Bool, true, false, Option, Some, None, Result, Ok, ℤ, pos, negsuc, ◌+ℤ◌, ◌-ℤ◌, ◌*ℤ◌, ◌∙◌, ap, sym, subst, refl, arith, inl, inr, if◌then◌else◌, ◌==◌, ◌&&◌, List}
-use Rattle.std.specs.Prelude.{option_and_then, option_map}
+use Rattle.std.proofs.Common.{◌≡◌, ℕ, ◌*◌, Bool, true, false, Option, Some, None, Result, Ok, ℤ, pos, negsuc, ◌+ℤ◌, ◌*ℤ◌, ◌∙◌, ap, sym, subst, refl, arith, inl, inr, ◌==◌, ◌&&◌, List}
 use Rattle.std.specs.Ordering.{int_eq}
 use Rattle.std.proofs.lemmas.Int.{ints}
 use Rattle.std.proofs.lemmas.Bool.{cases_Bool}
-use Rattle.std.proofs.lemmas.Bool.Decides.{nat_tests}
 use Rattle.framehop_core.specs.Memory.{Memory}
-use Rattle.framehop_core.specs.Outcome.{Outcome, answered, word_from, above, beside}
+use Rattle.framehop_core.specs.Outcome.{answered, above, beside}
 use Rattle.framehop_core.specs.Aarch64.Registers.{Registers, strip_ptr_auth}
 use Rattle.framehop_core.specs.Aarch64.Rules.{Source, kept, stored_at, Demand, nothing_more, frame_pointer_rises, caller, value_from, outcome, outcome_of_line}
 use Rattle.framehop_core.specs.Laws.Aarch64.{caller-answered}
@@ -20,7 +18,7 @@ use Rattle.framehop_cfi.specs.declared.rule.CfaRule.TheVariants as cfa
 use Rattle.framehop_cfi.specs.declared.rule.RegisterRule.{RegisterRule}
 use Rattle.framehop_cfi.specs.declared.rule.RegisterRule.TheVariants as rule
 use Rattle.framehop_dwarf.specs.Units.{units_of, signed_units_of}
-use Rattle.framehop_dwarf.specs.RowMeaning.{IsStored, IsCfa, IsColumn}
+use Rattle.framehop_dwarf.specs.RowMeaning.{IsCfa}
 use Rattle.framehop_dwarf.specs.Aarch64.{with_fp, with_fp_kept, with_lr, by_sp, by_fp, by_saved, beside_fp, translated_by, translated, scope_of, column_of, fp_column, lr_column, IsFramePointer, IsLinkRegister, RowMeans}
 use Rattle.framehop_dwarf.proofs.Exact.{int_same, units-exact, signed_units-exact}
 use Rattle.framehop_dwarf.proofs.ValueMeaning.{bind_some}
@@ -32,7 +30,7 @@ ok-same m n e = cc
 some-rule : (a b : UnwindRuleAarch64) → ◌≡◌ {A = Option UnwindRuleAarch64} (Some a) (Some b) → a ≡ b
 some-rule a b e = cc
 
-module _ (bytes : List ℕ) (limit : Option ℕ) (memory : Memory) (first : Bool) (old : Registers) (address : ℕ) (new : Registers) where
+module _ (bytes : List ℕ) (memory : Memory) (first : Bool) (old : Registers) (address : ℕ) (new : Registers) where
   -- what a line of the rules' table has found
   record Found (sp : ℤ) (lr fp : Source) : Type 0 where
     link : ℕ
@@ -68,13 +66,13 @@ module _ (bytes : List ℕ) (limit : Option ℕ) (memory : Memory) (first : Bool
   -- what the row's three rules mean
   record Means (cfa_rule : CfaRule) (fp_rule lr_rule : Option RegisterRule) : Type 0 where
     lr : ℕ
-    cfa : IsCfa (scope_of bytes limit old) cfa_rule new.sp
-    link_register : IsLinkRegister (scope_of bytes limit old) first memory old new.sp lr_rule lr
-    frame_pointer : IsFramePointer (scope_of bytes limit old) memory old new.sp fp_rule new.fp
+    cfa : IsCfa (scope_of bytes None old) cfa_rule new.sp
+    link_register : IsLinkRegister (scope_of bytes None old) first memory old new.sp lr_rule lr
+    frame_pointer : IsFramePointer (scope_of bytes None old) memory old new.sp fp_rule new.fp
     stripped : address ≡ strip_ptr_auth old.lr_mask lr
     new_lr : new.lr ≡ address
 
-  made : (cfa_rule : CfaRule) (fp_rule lr_rule : Option RegisterRule) (sp : ℤ) (lr fp : Source) → (f : Found sp lr fp) → IsCfa (scope_of bytes limit old) cfa_rule new.sp → IsLinkRegister (scope_of bytes limit old) first memory old new.sp lr_rule f.link → IsFramePointer (scope_of bytes limit old) memory old new.sp fp_rule new.fp → Means cfa_rule fp_rule lr_rule
+  made : (cfa_rule : CfaRule) (fp_rule lr_rule : Option RegisterRule) (sp : ℤ) (lr fp : Source) → (f : Found sp lr fp) → IsCfa (scope_of bytes None old) cfa_rule new.sp → IsLinkRegister (scope_of bytes None old) first memory old new.sp lr_rule f.link → IsFramePointer (scope_of bytes None old) memory old new.sp fp_rule new.fp → Means cfa_rule fp_rule lr_rule
   made cfa_rule fp_rule lr_rule sp lr fp f is_cfa is_link is_fp = record {
     lr = f.link;
     cfa = is_cfa;
@@ -101,7 +99,7 @@ module _ (bytes : List ℕ) (limit : Option ℕ) (memory : Memory) (first : Bool
 
   -- fp that is kept
   abbrev KeptFp : Option RegisterRule → Type 0
-  KeptFp fp_rule = new.fp ≡ old.fp → IsFramePointer (scope_of bytes limit old) memory old new.sp fp_rule new.fp
+  KeptFp fp_rule = new.fp ≡ old.fp → IsFramePointer (scope_of bytes None old) memory old new.sp fp_rule new.fp
 
   kept-fp : (told wanted : UnwindRuleAarch64) (fp_rule : Option RegisterRule) → with_fp_kept told fp_rule ≡ Some wanted → KeptFp fp_rule × (told ≡ wanted)
   kept-fp told wanted None is = ((λ k. k), some-rule told wanted is)
@@ -116,7 +114,7 @@ module _ (bytes : List ℕ) (limit : Option ℕ) (memory : Memory) (first : Bool
   same-kept : (own value : ℕ) → value_from memory (kept own) ≡ Ok value → value ≡ own
   same-kept own value is = sym (ok-same own value is)
 
-  by-offset_sp : (register : Register) (offset : ℤ) (x : ℕ) (fp_rule lr_rule : Option RegisterRule) → register.0 ≡ 31 → pos x *ℤ pos 16 ≡ offset → KeptFp fp_rule → ((link : ℕ) → link ≡ old.lr → IsLinkRegister (scope_of bytes limit old) first memory old new.sp lr_rule link) → Found (above old.sp (x * 16)) (kept old.lr) (kept old.fp) → Means (cfa.RegisterAndOffset register offset) fp_rule lr_rule
+  by-offset_sp : (register : Register) (offset : ℤ) (x : ℕ) (fp_rule lr_rule : Option RegisterRule) → register.0 ≡ 31 → pos x *ℤ pos 16 ≡ offset → KeptFp fp_rule → ((link : ℕ) → link ≡ old.lr → IsLinkRegister (scope_of bytes None old) first memory old new.sp lr_rule link) → Found (above old.sp (x * 16)) (kept old.lr) (kept old.fp) → Means (cfa.RegisterAndOffset register offset) fp_rule lr_rule
   by-offset_sp register offset x fp_rule lr_rule is exact keeps links f =
       made (cfa.RegisterAndOffset register offset) fp_rule lr_rule (above old.sp (x * 16)) (kept old.lr) (kept old.fp) f
       (old.sp, sp-column register is, by-cfa old.sp x 16 offset exact f.is_sp)
@@ -252,7 +250,7 @@ module _ (bytes : List ℕ) (limit : Option ℕ) (memory : Memory) (first : Bool
             ]
       ]
 
-  pub translated-means : (row : Row) (told : UnwindRuleAarch64) → translated row ≡ Some told → outcome told first old memory ≡ answered address new → RowMeans bytes limit memory row first old address new
+  pub translated-means : (row : Row) (told : UnwindRuleAarch64) → translated row ≡ Some told → outcome told first old memory ≡ answered address new → RowMeans bytes memory row first old address new
   unfolding translated
   translated-means row told tells e =
       let m = by-translated row.cfa (rule_of row.rules fp_column) (rule_of row.rules lr_column) told tells e in

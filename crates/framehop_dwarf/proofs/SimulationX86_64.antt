@@ -1,16 +1,16 @@
 -- x86_64: a rule that a row is translated to does what the row means.
-use Rattle.std.proofs.Common.{◌≡◌, ◌≢◌, ℕ, ◌<◌, ◌*◌, Bool, true, false, Option, Some, None, Result, Ok, ℤ, pos, negsuc, ◌+ℤ◌, ◌-ℤ◌, ◌*ℤ◌, ◌∙◌, ap, sym, subst, refl, arith, inl, inr, ◌⊎◌, if◌then◌else◌, ◌==◌, ◌&&◌, List, cond, nat_eq}
-use Rattle.std.specs.Prelude.{option_and_then, option_map, unwrap_or}
+use Rattle.std.proofs.Common.{◌≡◌, ℕ, ◌<◌, ◌*◌, Bool, true, false, Option, Some, None, Result, Ok, ℤ, pos, negsuc, ◌+ℤ◌, ◌-ℤ◌, ◌*ℤ◌, ◌∙◌, ap, sym, subst, refl, arith, inl, inr, ◌⊎◌, ◌==◌, ◌&&◌, List, nat_eq}
+use Rattle.std.specs.Prelude.{option_map, unwrap_or}
 use Rattle.std.specs.Ordering.{int_eq}
 use Rattle.std.proofs.lemmas.Int.{ints}
 use Rattle.std.proofs.lemmas.Bool.{cases_Bool}
 use Rattle.std.proofs.lemmas.Bool.Decides.{nat_tests}
 use Rattle.framehop_core.specs.Memory.{Memory}
-use Rattle.framehop_core.specs.Outcome.{Outcome, answered, address_at, and_then, word_at, word_from, above, beside}
-use Rattle.framehop_core.specs.Laws.Outcome.{and_then-ok, address_at-ok, word_at-ok, root_unless}
+use Rattle.framehop_core.specs.Outcome.{answered, address_at, word_at, word_from, above, beside}
+use Rattle.framehop_core.specs.Laws.Outcome.{and_then-ok, address_at-ok, word_at-ok}
 use Rattle.framehop_core.specs.X86_64.Registers.{Registers}
-use Rattle.framehop_core.specs.X86_64.Rules.{Source, kept, stored_at, stored_if_readable_at, nothing_more, stack_pointer_rises, value_from, restored_at, frame_pointer_line, outcome, outcome_of_line}
-use Rattle.framehop_core.specs.Laws.X86_64.{IsFinished, IsCaller, caller-answered}
+use Rattle.framehop_core.specs.X86_64.Rules.{kept, stored_at, nothing_more, stack_pointer_rises, value_from, restored_at, frame_pointer_line, outcome, outcome_of_line}
+use Rattle.framehop_core.specs.Laws.X86_64.{IsFinished, caller-answered}
 use Rattle.framehop_core.specs.declared.error.Error.{Error}
 use Rattle.framehop_core.specs.declared.x86_64.unwind_rule.UnwindRuleX86_64.{UnwindRuleX86_64}
 use Rattle.framehop_core.specs.declared.x86_64.unwind_rule.UnwindRuleX86_64.TheVariants.{EndOfStack, OffsetSp, OffsetSpAndRestoreBp, UseFramePointer}
@@ -118,12 +118,12 @@ pub mapped-some : {A B : Type 0} (f : A → B) (o : Option A) (y : B) → option
 mapped-some f (Some x) y is = (x, refl, cc)
 mapped-some f None y is = cc
 
-module _ (bytes : List ℕ) (limit : Option ℕ) (memory : Memory) (first : Bool) (old : Registers) (address : ℕ) (new : Registers) where
+module _ (bytes : List ℕ) (memory : Memory) (first : Bool) (old : Registers) (address : ℕ) (new : Registers) where
   -- what the rows' three rules mean
   record Means (cfa_rule : CfaRule) (bp_rule return_rule : Option RegisterRule) : Type 0 where
-    cfa : IsCfa (scope_of bytes limit old) cfa_rule new.rsp
-    return_address : IsColumn (scope_of bytes limit old) memory new.rsp old.ip return_rule address
-    frame_pointer : IsFramePointer (scope_of bytes limit old) first memory old new.rsp bp_rule new.rbp
+    cfa : IsCfa (scope_of bytes None old) cfa_rule new.rsp
+    return_address : IsColumn (scope_of bytes None old) memory new.rsp old.ip return_rule address
+    frame_pointer : IsFramePointer (scope_of bytes None old) first memory old new.rsp bp_rule new.rbp
     ip : new.ip ≡ address
 
   abbrev Answers : UnwindRuleX86_64 → Type 0
@@ -141,7 +141,7 @@ module _ (bytes : List ℕ) (limit : Option ℕ) (memory : Memory) (first : Bool
   scaled : (x : ℕ) (offset : ℤ) → pos x *ℤ pos 8 ≡ offset → above old.rsp (x * 8) ≡ pos old.rsp +ℤ offset
   scaled x offset is = rw (← is) (omega (arith, ints))
 
-  by-offset_sp : (register : Register) (offset : ℤ) (x : ℕ) (bp_rule : Option RegisterRule) → register.0 ≡ 7 → pos x *ℤ pos 8 ≡ offset → (new.rbp ≡ old.rbp → IsFramePointer (scope_of bytes limit old) first memory old new.rsp bp_rule new.rbp) → Answers (OffsetSp x) → Means (cfa.RegisterAndOffset register offset) bp_rule (Some (rule.Offset (negsuc 7)))
+  by-offset_sp : (register : Register) (offset : ℤ) (x : ℕ) (bp_rule : Option RegisterRule) → register.0 ≡ 7 → pos x *ℤ pos 8 ≡ offset → (new.rbp ≡ old.rbp → IsFramePointer (scope_of bytes None old) first memory old new.rsp bp_rule new.rbp) → Answers (OffsetSp x) → Means (cfa.RegisterAndOffset register offset) bp_rule (Some (rule.Offset (negsuc 7)))
   by-offset_sp register offset x bp_rule is exact keeps e =
       let f = offset_sp first memory old address new x e in
       record {
@@ -260,7 +260,7 @@ module _ (bytes : List ℕ) (limit : Option ℕ) (memory : Memory) (first : Bool
   by-translated cfa_rule bp_rule (Some (rule.Expression expression)) told tells e = cc
   by-translated cfa_rule bp_rule (Some (rule.ValExpression expression)) told tells e = cc
 
-  pub translated-means : (row : Row) (told : UnwindRuleX86_64) → translated row ≡ Some told → outcome told first old memory ≡ answered address new → RowMeans bytes limit memory row first old address new
+  pub translated-means : (row : Row) (told : UnwindRuleX86_64) → translated row ≡ Some told → outcome told first old memory ≡ answered address new → RowMeans bytes memory row first old address new
   unfolding translated
   translated-means row told tells e =
       let m = by-translated row.cfa (rule_of row.rules bp_column) (rule_of row.rules return_column) told tells e in

@@ -1,8 +1,8 @@
 -- The value that is found operation by operation is that to which a list of states leads.
-use Rattle.std.proofs.Common.{◌≡◌, ◌≢◌, ℕ, zero, suc, ◌+◌, ◌≤◌, ◌<◌, Bool, true, false, List, [], ◌∷◌, length, Option, Some, None, Result, Ok, Err, refl, ap, sym, subst, ◌∙◌, arith, inl, inr, if◌then◌else◌, ◌==◌, leb}
-use Rattle.std.proofs.lemmas.Bool.{cases_Bool, lt-leb, le-leb, cases_lt}
+use Rattle.std.proofs.Common.{◌≡◌, ◌≢◌, ℕ, zero, suc, ◌+◌, ◌≤◌, true, false, List, [], ◌∷◌, length, Option, Some, None, Err, refl, ap, ◌∙◌, arith, inl, inr, ◌==◌, leb}
+use Rattle.std.proofs.lemmas.Bool.{cases_Bool, lt-leb, le-leb}
 use Rattle.std.proofs.lemmas.Bool.Decides.{nat_tests}
-use Rattle.std.specs.Prelude.{option_and_then, option_to_list, slice_get, slice_range, IfOk, IfSome, IfNone}
+use Rattle.std.specs.Prelude.{option_and_then, option_to_list, slice_get, slice_range}
 use Rattle.framehop_cfi.specs.Bytes.{u8_at}
 use Rattle.framehop_cfi.specs.declared.rule.Register.{Register}
 use Rattle.framehop_cfi.specs.declared.rule.Expression.{Expression}

@@ -1,5 +1,5 @@
 -- A read of the stack against the memory.
-use Rattle.std.proofs.Common.{◌≡◌, ℕ, Option, Some, None, Result, Ok, Err, refl, sym}
+use Rattle.std.proofs.Common.{◌≡◌, ℕ, Option, Some, None, Ok, Err, refl}
 use Rattle.framehop_core.specs.Memory.{Memory, reply}
 use Rattle.framehop_core.specs.Outcome.{read_of, word_at}
 use Rattle.framehop_core.specs.declared.error.Error.{Error}

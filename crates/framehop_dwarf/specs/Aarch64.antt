@@ -137,19 +137,19 @@ IsLinkRegister scope first memory old cfa (Some rule.SameValue) lr = lr ≡ old.
 IsLinkRegister scope first memory old cfa lr_rule lr = IsColumn scope memory cfa old.lr lr_rule lr
 
 -- A row means this step, in a first frame or another: the return address is the stripped lr.
-pub record RowMeans (bytes : List ℕ) (limit : Option ℕ) (memory : Memory) (row : Row) (first : Bool) (old : Registers) (address : ℕ) (new : Registers) : Type 0 where
+pub record RowMeans (bytes : List ℕ) (memory : Memory) (row : Row) (first : Bool) (old : Registers) (address : ℕ) (new : Registers) : Type 0 where
   pub lr : ℕ
-  pub cfa : IsCfa (scope_of bytes limit old) row.cfa new.sp
-  pub link_register : IsLinkRegister (scope_of bytes limit old) first memory old new.sp (rule_of row.rules lr_column) lr
-  pub frame_pointer : IsFramePointer (scope_of bytes limit old) memory old new.sp (rule_of row.rules fp_column) new.fp
+  pub cfa : IsCfa (scope_of bytes None old) row.cfa new.sp
+  pub link_register : IsLinkRegister (scope_of bytes None old) first memory old new.sp (rule_of row.rules lr_column) lr
+  pub frame_pointer : IsFramePointer (scope_of bytes None old) memory old new.sp (rule_of row.rules fp_column) new.fp
   pub stripped : address ≡ strip_ptr_auth old.lr_mask lr
   pub new_lr : new.lr ≡ address
 
 -- what a direct result means: its sp is the CFA, each column that has a value has it, and a caller's sp rises
 pub record ColumnsMean (bytes : List ℕ) (limit : Option ℕ) (memory : Memory) (row : Row) (first : Bool) (old : Registers) (address : ℕ) (new : Registers) : Type 0 where
-  pub cfa : IsCfa (scope_of bytes limit old) row.cfa new.sp
-  pub link_register : (value : ℕ) → register_of (scope_of bytes limit old) memory new.sp old.lr (rule_of row.rules lr_column) ≡ Some value → (address ≡ strip_ptr_auth old.lr_mask value) × IsColumn (scope_of bytes limit old) memory new.sp old.lr (rule_of row.rules lr_column) value
-  pub frame_pointer : (value : ℕ) → register_of (scope_of bytes limit old) memory new.sp old.fp (rule_of row.rules fp_column) ≡ Some value → (new.fp ≡ value) × IsColumn (scope_of bytes limit old) memory new.sp old.fp (rule_of row.rules fp_column) value
+  pub cfa : IsCfa (scope_of bytes None old) row.cfa new.sp
+  pub link_register : (value : ℕ) → register_of (scope_of bytes limit old) memory new.sp old.lr (rule_of row.rules lr_column) ≡ Some value → (address ≡ strip_ptr_auth old.lr_mask value) × IsColumn (scope_of bytes None old) memory new.sp old.lr (rule_of row.rules lr_column) value
+  pub frame_pointer : (value : ℕ) → register_of (scope_of bytes limit old) memory new.sp old.fp (rule_of row.rules fp_column) ≡ Some value → (new.fp ≡ value) × IsColumn (scope_of bytes None old) memory new.sp old.fp (rule_of row.rules fp_column) value
   pub new_lr : new.lr ≡ address
   pub rises : first ≡ false → old.sp < new.sp
 

@@ -1,5 +1,5 @@
 -- The values that the rules of a row give (DWARF 5 section 6.4.1), as far as they are computed on the spot.
-use Rattle.std.specs.Prelude.{ℕ, ◌^◌, ◌-◌, Bool, true, false, List, Option, Some, None, option_and_then, Result, Ok, Err, ℤ, pos, negsuc, ◌+ℤ◌, nat_lt, if◌then◌else◌}
+use Rattle.std.specs.Prelude.{ℕ, ◌^◌, List, Option, Some, None, option_and_then, Result, Err, ℤ, pos, negsuc, ◌+ℤ◌, nat_lt, if◌then◌else◌}
 use Rattle.framehop_core.specs.Memory.{Memory}
 use Rattle.framehop_cfi.specs.declared.rule.Register.{Register}
 use Rattle.framehop_cfi.specs.declared.rule.CfaRule.{CfaRule}

@@ -1,5 +1,5 @@
 -- The value of a DWARF expression (DWARF 5 sections 2.5.1 and 7.7.1): a list of states leads from position 0 to its end.
-use Rattle.std.specs.Prelude.{ℕ, zero, suc, ◌+◌, ◌%◌, ◌^◌, ◌≤◌, ◌≡◌, Bool, true, false, List, [], ◌∷◌, length, slice_get, slice_range, Option, Some, None, option_map, option_and_then, option_to_list, Result, Ok, Err, ℤ, pos, negsuc, ◌+ℤ◌, ◌==◌, nat_le, if◌then◌else◌}
+use Rattle.std.specs.Prelude.{ℕ, zero, suc, ◌+◌, ◌%◌, ◌^◌, ◌≤◌, ◌≡◌, Bool, true, List, [], ◌∷◌, length, slice_get, slice_range, Option, Some, None, option_map, option_and_then, option_to_list, Ok, Err, ℤ, pos, negsuc, ◌+ℤ◌, ◌==◌, nat_le, if◌then◌else◌}
 use Rattle.std.specs.Int.{cast_unsigned, w64}
 use Rattle.framehop_cfi.specs.Bytes.{Reading}
 use Rattle.framehop_cfi.specs.declared.rule.Register.{Register}
@@ -52,14 +52,14 @@ abbrev pub within : ℕ → ℤ → Option ℕ
 within end (pos place) = if nat_le place end then Some place else None
 within end (negsuc place) = None
 
--- the position after an operation, by the place behind it and the stack's top
+-- the position after an operation, by the place after it and the stack's top
 abbrev pub position_after : ℕ → Operation → ℕ → Option ℕ → Option ℕ
 position_after end (Skip distance) next top = within end (pos next +ℤ distance)
 position_after end (Branch distance) next (Some top) = if top == 0 then Some next else within end (pos next +ℤ distance)
 position_after end (Branch distance) next None = None
 position_after end operation next top = Some next
 
--- the state after an operation, by the place behind it
+-- the state after an operation, by the place after it
 abbrev pub state_after : Evaluation → Operation → ℕ → List ℕ → Option State
 state_after e operation next stack =
     option_and_then (λ position. option_map (λ new. record { position = position; stack = new }) (stack_after e.limit e.columns operation stack))

@@ -39,7 +39,7 @@ pair_of_head section base at head = refused_by_reader (entry_of_head section hea
 unfoldable pub pair_at : Section → ℕ → ℕ → Result (Option (ℕ × ℕ)) DwarfCfiIndexError
 pair_at section base at = refused_by_reader (entry_at section at) >>= pair_of_entry base at
 
--- a pair, if there is one, in front of others
+-- a pair, if there is one, before others
 abbrev pub before_others : Option (ℕ × ℕ) → List (ℕ × ℕ) → List (ℕ × ℕ)
 before_others None others = others
 before_others (Some pair) others = pair ∷ others
@@ -63,7 +63,7 @@ pairs_of_entries base (entry ∷ entries) =
     pair_of_entry base entry.0 entry.1 >>= λ pair.
     pairs_of_entries base entries >>= λ others. Ok (before_others pair others)
 
--- one pair comes behind another: it starts above it, or where it starts and further on in the section
+-- one pair comes after another: it starts above it, or where it starts and further on in the section
 abbrev pub is_before : ℕ × ℕ → ℕ × ℕ → Bool
 is_before a b = nat_lt a.0 b.0 || ((a.0 == b.0) && nat_le a.1 b.1)
 
@@ -80,7 +80,7 @@ pair_for (pair ∷ pairs) address = if nat_le pair.0 address then Some (later pa
 abbrev pub fde_offset_for : List (ℕ × ℕ) → ℕ → Option ℕ
 fde_offset_for pairs address = option_map (λ pair. pair.1) (pair_for pairs address)
 
--- no pair before the address is behind that one, or none is before the address
+-- no pair before the address is after that one, or none is before the address
 abbrev pub Greatest : List (ℕ × ℕ) → ℕ → Option (ℕ × ℕ) → Type 0
 Greatest pairs address None = (k : ℕ) (d : ℕ × ℕ) → k < length pairs → address < (slice_index_or pairs k d).0
 Greatest pairs address (Some pair) = (k : ℕ) (d : ℕ × ℕ) → k < length pairs → (slice_index_or pairs k d).0 ≤ address → is_before (slice_index_or pairs k d) pair ≡ true
@@ -100,7 +100,7 @@ abbrev pub IsKnown : Section → Option (ℕ × CommonInformationEntry) → Type
 IsKnown section None = Unit {0}
 IsKnown section (Some known) = cie_at section known.0 ≡ Ok known.1
 
--- a table in order: as many starts as offsets, and no pair behind a later one
+-- a table in order: as many starts as offsets, and no pair after a later one
 pub record IsTable (starts offsets : List ℕ) : Type 0 where
   pub same : length starts ≡ length offsets
   pub ordered : (i j : ℕ) → i ≤ j → j < length starts → IsTrue (is_before (slice_index starts i, slice_index offsets i) (slice_index starts j, slice_index offsets j))

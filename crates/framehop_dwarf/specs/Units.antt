@@ -1,5 +1,5 @@
 -- Offsets in bytes as numbers of units, where they are exact and fit the field of a rule.
-use Rattle.std.specs.Prelude.{ℕ, ◌/◌, ◌^◌, Bool, Option, Some, None, ℤ, pos, negsuc, ◌*ℤ◌, int_div, nat_lt, if◌then◌else◌}
+use Rattle.std.specs.Prelude.{ℕ, ◌^◌, Bool, Option, Some, None, ℤ, pos, negsuc, ◌*ℤ◌, int_div, nat_lt, if◌then◌else◌}
 use Rattle.std.specs.Ordering.{int_eq}
 
 -- the field has 16 bits, without a sign

@@ -1,5 +1,5 @@
 -- From a row to a frame on x86_64: the rule that a row is translated to, and the values of the rows that have none (framehop 0.16.0, `x86_64/dwarf.rs`; System V ABI for AMD64, figure 3.36).
-use Rattle.std.specs.Prelude.{ℕ, ◌-◌, ◌≡◌, ◌<◌, ◌⊎◌, Bool, true, false, not, List, Option, Some, None, option_map, option_and_then, unwrap_or, Result, Ok, Err, ℤ, pos, negsuc, ◌+ℤ◌, ◌==◌, ◌&&◌, nat_le, nat_lt, if◌then◌else◌}
+use Rattle.std.specs.Prelude.{ℕ, ◌-◌, ◌≡◌, ◌<◌, ◌⊎◌, Bool, true, not, List, Option, Some, None, option_map, option_and_then, unwrap_or, Result, Ok, Err, ℤ, pos, negsuc, ◌+ℤ◌, ◌==◌, ◌&&◌, nat_lt, if◌then◌else◌}
 use Rattle.std.specs.Ordering.{int_eq}
 use Rattle.framehop_core.specs.Memory.{Memory}
 use Rattle.framehop_core.specs.X86_64.Registers.{Registers}
@@ -119,15 +119,15 @@ IsFramePointer scope first memory old cfa (Some (rule.Offset offset)) bp =
 IsFramePointer scope first memory old cfa bp_rule bp = IsColumn scope memory cfa old.rbp bp_rule bp
 
 -- A row means this step, in a first frame or another. Without a return column there is no address, and so no step.
-pub record RowMeans (bytes : List ℕ) (limit : Option ℕ) (memory : Memory) (row : Row) (first : Bool) (old : Registers) (address : ℕ) (new : Registers) : Type 0 where
-  pub cfa : IsCfa (scope_of bytes limit old) row.cfa new.rsp
-  pub return_address : IsColumn (scope_of bytes limit old) memory new.rsp old.ip (rule_of row.rules return_column) address
-  pub frame_pointer : IsFramePointer (scope_of bytes limit old) first memory old new.rsp (rule_of row.rules bp_column) new.rbp
+pub record RowMeans (bytes : List ℕ) (memory : Memory) (row : Row) (first : Bool) (old : Registers) (address : ℕ) (new : Registers) : Type 0 where
+  pub cfa : IsCfa (scope_of bytes None old) row.cfa new.rsp
+  pub return_address : IsColumn (scope_of bytes None old) memory new.rsp old.ip (rule_of row.rules return_column) address
+  pub frame_pointer : IsFramePointer (scope_of bytes None old) first memory old new.rsp (rule_of row.rules bp_column) new.rbp
   pub ip : new.ip ≡ address
 
 -- what a direct result means: its rsp is the CFA, and each column that has a value has it
 pub record ColumnsMean (bytes : List ℕ) (limit : Option ℕ) (memory : Memory) (row : Row) (first : Bool) (old : Registers) (address : ℕ) (new : Registers) : Type 0 where
-  pub cfa : IsCfa (scope_of bytes limit old) row.cfa new.rsp
-  pub return_address : (value : ℕ) → register_of (scope_of bytes limit old) memory new.rsp old.ip (rule_of row.rules return_column) ≡ Some value → (address ≡ value) × IsColumn (scope_of bytes limit old) memory new.rsp old.ip (rule_of row.rules return_column) value
-  pub frame_pointer : (value : ℕ) → register_of (scope_of bytes limit old) memory new.rsp old.rbp (rule_of row.rules bp_column) ≡ Some value → (new.rbp ≡ value) × IsColumn (scope_of bytes limit old) memory new.rsp old.rbp (rule_of row.rules bp_column) value
+  pub cfa : IsCfa (scope_of bytes None old) row.cfa new.rsp
+  pub return_address : (value : ℕ) → register_of (scope_of bytes limit old) memory new.rsp old.ip (rule_of row.rules return_column) ≡ Some value → (address ≡ value) × IsColumn (scope_of bytes None old) memory new.rsp old.ip (rule_of row.rules return_column) value
+  pub frame_pointer : (value : ℕ) → register_of (scope_of bytes limit old) memory new.rsp old.rbp (rule_of row.rules bp_column) ≡ Some value → (new.rbp ≡ value) × IsColumn (scope_of bytes None old) memory new.rsp old.rbp (rule_of row.rules bp_column) value
   pub ip : new.ip ≡ address

@@ -55,7 +55,7 @@ pub trait DwarfUnwinding: Arch {
     ghost direct: { List ℕ → Option ℕ → Memory → Row → Bool → Self.UnwindRegs → Result (ℕ × Self.UnwindRegs) DwarfRefusal };
 
     // a row means the step from these registers to the return address and those registers
-    ghost row_means: { List ℕ → Option ℕ → Memory → Row → Bool → Self.UnwindRegs → ℕ → Self.UnwindRegs → Type 0 };
+    ghost row_means: { List ℕ → Memory → Row → Bool → Self.UnwindRegs → ℕ → Self.UnwindRegs → Type 0 };
 
     // as far as the columns have values
     ghost columns_mean: { List ℕ → Option ℕ → Memory → Row → Bool → Self.UnwindRegs → ℕ → Self.UnwindRegs → Type 0 };
@@ -91,9 +91,9 @@ pub trait DwarfUnwinding: Arch {
         ensures runnable { RuleHas (λ rule. IsTrue (Self.UnwindRule.executable rule)) result }
         ensures ascends { AdvancesWithAddress (ascends is_first_frame) result regs.old regs.new }
         ensures memory { result ≡ Err no_memory → E.Stack.limit ≡ None }
-        ensures means { (rule : Self.UnwindRule) (limit : Option ℕ) (first : Bool) (old new : Self.UnwindRegs) (memory : Memory) (address : ℕ)
+        ensures means { (rule : Self.UnwindRule) (first : Bool) (old new : Self.UnwindRegs) (memory : Memory) (address : ℕ)
             → IsRule rule result → Self.UnwindRule.outcome rule first old memory ≡ answered address new
-            → row_means section.now limit memory unwind_info.now first old address new }
+            → row_means section.now memory unwind_info.now first old address new }
         ensures answers { (memory : Memory) → AnswersAs F.FnMut read_stack.old memory
             → AnswersAs F.FnMut read_stack.new memory
             × TellsDirect (direct section.now E.Stack.limit memory unwind_info.now is_first_frame regs.old) result regs.new

@@ -26,7 +26,7 @@ use thiserror::Error;
 /// Why a section has no index.
 #[derive(Clone, Copy, Debug, PartialEq, Eq, Error)]
 pub enum DwarfCfiIndexError {
-    /// An entry could not be read, or memory was refused.
+    /// An entry could not be read, or an allocation failed.
     #[error("Gimli")]
     Gimli(#[from] ReadError),
     /// An FDE starts below the base address.
@@ -40,7 +40,7 @@ pub enum DwarfCfiIndexError {
     FdeOffsetTooBig,
 }
 
-/// An FDE's start relative to the base, and its offset.
+/// Returns an FDE's start relative to the base, and its offset.
 fn pair_of(
     base_svma: u64,
     at: usize,
@@ -60,7 +60,7 @@ fn pair_of(
     }
 }
 
-/// The CIE at an offset, which is the one that was read last, if it is there.
+/// Returns the CIE at an offset, which is the one that was read last, if it is there.
 fn cie_from_offset(
     section: &UnwindSection,
     known: &mut Option<(usize, CommonInformationEntry)>,
@@ -80,7 +80,7 @@ fn cie_from_offset(
     Ok(cie)
 }
 
-/// The FDE whose CIE is at `named`, and whose fields begin behind that and end with the entry.
+/// Returns the FDE whose CIE is at `named`, and whose fields begin after that and end with the entry.
 #[tactic(auto, unfolding(framehop_cfi::specs::Entry::fde_of_head))]
 fn read_fde(
     section: &UnwindSection,
@@ -97,7 +97,7 @@ fn read_fde(
     section.read_fde(&cie, fields, end)
 }
 
-/// The pair of the entry at an offset that begins with a head. A CIE has none, and is known from
+/// Returns the pair of the entry at an offset that begins with a head. A CIE has none, and is known from
 /// then on.
 #[tactic(auto, unfolding(framehop_cfi::specs::Entry::cie_at))]
 fn read_pair(
@@ -131,7 +131,7 @@ fn read_pair(
     }
 }
 
-/// The pair of the entry in the span at an offset, whose length is not 0.
+/// Returns the pair of the entry in the span at an offset, whose length is not 0.
 #[tactic(auto, unfolding(framehop_cfi::specs::Entry::head_at, framehop_cfi::specs::Entry::entry_at, crate::specs::Index::pair_at))]
 fn visit_entry(
     section: &UnwindSection,
@@ -152,7 +152,7 @@ fn visit_entry(
     }
 }
 
-/// The pairs of all FDEs of a section, in its order.
+/// Returns the pairs of all FDEs of a section, in its order.
 fn read_pairs(
     alloc: Global,
     section: &UnwindSection,
@@ -228,7 +228,7 @@ impl<'a> Starts for SortedStarts<'a> {
 }
 
 impl DwarfCfiIndex {
-    /// The index of a section, whose pointers count from these addresses. Starts are taken relative to
+    /// Returns the index of a section, whose pointers count from these addresses. Starts are taken relative to
     /// `base_svma`.
     ///
     /// The first entry in the section that can't be read, or whose start or offset does not fit, is the
@@ -252,7 +252,7 @@ impl DwarfCfiIndex {
         }
     }
 
-    /// The index of an `.eh_frame` section, by the base addresses of its module.
+    /// Returns the index of an `.eh_frame` section, by the base addresses of its module.
     pub fn try_new_eh_frame<D, I: ModuleSectionInfo<D>>(
         alloc: Global,
         eh_frame_data: &[u8],
@@ -274,7 +274,7 @@ impl DwarfCfiIndex {
         )
     }
 
-    /// The index of a `.debug_frame` section, by the base addresses of its module.
+    /// Returns the index of a `.debug_frame` section, by the base addresses of its module.
     pub fn try_new_debug_frame<D, I: ModuleSectionInfo<D>>(
         alloc: Global,
         debug_frame_data: &[u8],
@@ -296,7 +296,7 @@ impl DwarfCfiIndex {
         )
     }
 
-    /// The offset of the FDE with the greatest start at or below a relative address; among equal starts
+    /// Returns the offset of the FDE with the greatest start at or below a relative address; among equal starts
     /// that of the last in the section.
     pub fn fde_offset_for_relative_address(&self, rel_lookup_address: u32) -> Option<u32>
         ensures exact { result ≡ fde_offset_for self.now rel_lookup_address }
@@ -305,7 +305,7 @@ impl DwarfCfiIndex {
         self.find(rel_lookup_address)
     }
 
-    /// The offset of the FDE at the address's place in the table of starts.
+    /// Returns the offset of the FDE at the address's place in the table of starts.
     fn find(&self, rel_lookup_address: u32) -> Option<u32>
         ensures { result ≡ fde_offset_for self.now rel_lookup_address }
     {
@@ -320,7 +320,7 @@ impl DwarfCfiIndex {
         Some(self.fde_offsets[index])
     }
 
-    /// The index of pairs in any order.
+    /// Returns the index of pairs in any order.
     fn from_pairs(alloc: Global, mut pairs: Vec<(u32, u32)>) -> Result<Self, AllocError>
         ensures { IfOk result (λ index. IsPermutation pairs.items index) }
     {
@@ -334,14 +334,14 @@ impl DwarfCfiIndex {
     }
 }
 
-/// The pairs' starts.
+/// Returns the pairs' starts.
 fn starts_of(alloc: Global, pairs: &[(u32, u32)]) -> Result<Vec<u32>, AllocError>
     ensures { IfOk result (λ starts. starts.items ≡ map (λ (pair : ℕ × ℕ). pair.0) pairs.now) }
 {
     pairs.iter().map(|pair| pair.0).collect(alloc)
 }
 
-/// The pairs' offsets.
+/// Returns the pairs' offsets.
 fn offsets_of(alloc: Global, pairs: &[(u32, u32)]) -> Result<Vec<u32>, AllocError>
     ensures { IfOk result (λ offsets. offsets.items ≡ map (λ (pair : ℕ × ℕ). pair.1) pairs.now) }
 {

@@ -12,4 +12,6 @@ pub mod operation;
 #[cfg(test)]
 mod tests;
 pub mod unwinder;
+#[cfg(test)]
+mod vector_tests;
 pub mod x86_64;

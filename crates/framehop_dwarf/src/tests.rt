@@ -124,7 +124,7 @@ fn rule_text(alloc: Global, rule: RegisterRule) -> Result<String, AllocError> {
 
 /// A row as `readelf` writes it, with the registers' numbers. It writes an undefined register as one
 /// without a rule.
-fn row_text<S: UnwindContextStorage>(
+pub(crate) fn row_text<S: UnwindContextStorage>(
     alloc: Global,
     row: &UnwindTableRow<S>,
 ) -> Result<String, AllocError> {
@@ -338,6 +338,15 @@ fn compare<S: UnwindContextStorage>(
         context.evaluate(&section, &fde, *place)?;
         let row = row_text(rt.alloc(), context.row())?;
         assert_eq!(rt; row.as_str(), *expected, "at {place:x}");
+    }
+    // the last address of a row is the one before the next row of its FDE
+    for (before, after) in rows.iter().zip(rows.iter().skip(1)) {
+        if before.0 == after.0 && after.1 > 0 {
+            let fde = section.fde_from_offset(before.0 as usize)?;
+            context.evaluate(&section, &fde, after.1 - 1)?;
+            let row = row_text(rt.alloc(), context.row())?;
+            assert_eq!(rt; row.as_str(), before.2, "before {:x}", after.1);
+        }
     }
     Ok(())
 }

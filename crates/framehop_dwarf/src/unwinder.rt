@@ -19,7 +19,7 @@ use framehop_core::unwind_result::UnwindResult;
 use std::alloc::Global;
 use std::marker::PhantomData;
 
-/// What a header's pointers count from.
+/// Returns what a header's pointers count from.
 pub fn header_bases(bases: &BaseAddresses) -> SectionBaseAddresses
     ensures { result ≡ header_bases bases.now }
 {
@@ -45,7 +45,7 @@ pub struct DwarfUnwinder<'a, A, S: UnwindContextStorage> {
 }
 
 impl<'a, A, S: UnwindContextStorage> DwarfUnwinder<'a, A, S> {
-    /// An unwinder over a module's sections.
+    /// Returns an unwinder over a module's sections.
     pub fn new(
         unwind_section_data: &'a [u8],
         unwind_section_type: UnwindSectionType,
@@ -72,7 +72,7 @@ impl<'a, A, S: UnwindContextStorage> DwarfUnwinder<'a, A, S> {
         }
     }
 
-    /// The offset in `.eh_frame` of the FDE that the table names for a relative address. The FDE may not
+    /// Returns the offset in `.eh_frame` of the FDE that the table names for a relative address. The FDE may not
     /// cover the address. Without a table there is none.
     pub fn get_fde_offset_for_relative_address(&self, rel_lookup_address: u32) -> Option<u32>
         ensures exact { result ≡ fde_offset_for self.now.eh_frame_hdr (self.now.base_svma + rel_lookup_address) }
@@ -150,9 +150,9 @@ impl<'a, A: DwarfUnwinding, S: UnwindContextStorage> DwarfUnwinder<'a, A, S> {
         ensures runnable { RuleHas (λ rule. IsTrue (A.UnwindRule.executable rule)) result }
         ensures ascends { AdvancesWithAddress (A.ascends is_first_frame) result regs.old regs.new }
         ensures memory { result ≡ Err no_memory → (S.limits ≡ None) ⊎ (E.Stack.limit ≡ None) }
-        ensures means { OfRow (λ row. (rule : A.UnwindRule) (limit : Option ℕ) (first : Bool) (old new : A.UnwindRegs) (memory : Memory) (address : ℕ)
+        ensures means { OfRow (λ row. (rule : A.UnwindRule) (first : Bool) (old new : A.UnwindRegs) (memory : Memory) (address : ℕ)
             → IsRule rule result → A.UnwindRule.outcome rule first old memory ≡ answered address new
-            → A.row_means self.old.section.bytes limit memory row first old address new) (reading_of S.limits self.old.section (self.old.base_svma + rel_lookup_address) fde_offset) }
+            → A.row_means self.old.section.bytes memory row first old address new) (reading_of S.limits self.old.section (self.old.base_svma + rel_lookup_address) fde_offset) }
         ensures answers { (memory : Memory) → AnswersAs F.FnMut read_stack.old memory
             → AnswersAs F.FnMut read_stack.new memory
             × TellsDirect (direct_by (λ row. A.direct self.old.section.bytes E.Stack.limit memory row is_first_frame regs.old) (reading_of S.limits self.old.section (self.old.base_svma + rel_lookup_address) fde_offset)) result regs.new

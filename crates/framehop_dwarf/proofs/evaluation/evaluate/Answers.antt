@@ -1,4 +1,3 @@
-use Rattle.std.proofs.Common.{sym, ◌∙◌}
 use Rattle.framehop_dwarf.proofs.ValueMeaning.{value_in-means, no_value_in}
 use Rattle.framehop_dwarf.proofs.evaluation.evaluate.Goals as goal
 

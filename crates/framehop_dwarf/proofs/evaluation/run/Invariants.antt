@@ -1,4 +1,4 @@
-use Rattle.std.proofs.Common.{◌≡◌, ℕ}
+use Rattle.std.proofs.Common.{◌≡◌}
 use Rattle.framehop_dwarf.specs.Evaluation.{Evaluation, value_from}
 use Rattle.framehop_dwarf.proofs.evaluation.run.Given as goal
 

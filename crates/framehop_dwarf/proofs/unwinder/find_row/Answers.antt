@@ -1,4 +1,4 @@
-use Rattle.std.proofs.Common.{◌+◌, ◌≤◌, ◌^◌, sym, arith}
+use Rattle.std.proofs.Common.{◌+◌, sym, arith}
 use Rattle.framehop_dwarf.proofs.FoundRow.{past-end}
 use Rattle.framehop_dwarf.proofs.unwinder.find_row.Goals as goal
 
