@@ -1,10 +1,10 @@
 -- A section cut by its entries' lengths.
 use Rattle.std.proofs.Common.{◌≡◌, ℕ, zero, suc, ◌+◌, ◌<◌, true, List, ◌∷◌, length, None, Result, Ok, Err, refl, ap, ◌∙◌, arith, inl, inr}
 use Rattle.std.proofs.lemmas.Bool.{lt-leb, le-leb, cases_Bool, cases_lt}
-use Rattle.framehop_cfi.specs.Span.{span_at, is_zero_length}
+use Rattle.framehop_cfi.specs.EntryExtent.{extent_at, is_zero_length}
 use Rattle.framehop_cfi.specs.Section.{Section}
 use Rattle.framehop_cfi.specs.Entries.{Cut, no_more, after_zero, cut_by, cut_from, cut, AreOffsets, at_end, at_mark, past_zero, one}
-use Rattle.framehop_cfi.specs.declared.span.Span.{Span}
+use Rattle.framehop_cfi.specs.declared.extent.EntryExtent.{EntryExtent}
 use Rattle.framehop_cfi.specs.declared.entry.UnwindSectionType.{UnwindSectionType}
 use Rattle.framehop_cfi.specs.declared.entry.UnwindSectionType.TheVariants.{EhFrame, DebugFrame}
 use Rattle.framehop_cfi.specs.declared.read_error.ReadError.{ReadError}
@@ -15,11 +15,11 @@ module _ (section : Section) where
   abbrev Goes : ℕ → Cut → Type 0
   Goes at cut = cut.refusal ≡ None → AreOffsets section at cut.offsets
 
-  on-zero : (at : ℕ) (span : Span) (kind : UnwindSectionType) (rest : Cut) → section.kind ≡ kind → span_at section.bytes at ≡ Ok span → is_zero_length span ≡ true → Goes span.end rest → Goes at (after_zero kind rest)
+  on-zero : (at : ℕ) (span : EntryExtent) (kind : UnwindSectionType) (rest : Cut) → section.kind ≡ kind → extent_at section.bytes at ≡ Ok span → is_zero_length span ≡ true → Goes span.end rest → Goes at (after_zero kind rest)
   on-zero at span EhFrame rest kind is zeros goes = λ none. at_mark kind is zeros
   on-zero at span DebugFrame rest kind is zeros goes = λ none. past_zero kind is zeros (goes none)
 
-  on-span : (n at : ℕ) (read : Result Span ReadError) → span_at section.bytes at ≡ read → ((end : ℕ) → at < end → Goes end (cut_from section n end)) → Goes at (cut_by section at (cut_from section n) read)
+  on-span : (n at : ℕ) (read : Result EntryExtent ReadError) → extent_at section.bytes at ≡ read → ((end : ℕ) → at < end → Goes end (cut_from section n end)) → Goes at (cut_by section at (cut_from section n) read)
   on-span n at (Err error) is rest = λ none. absurd cc
   on-span n at (Ok span) is rest =
       let within = span-within section.bytes at span is in
@@ -34,7 +34,7 @@ module _ (section : Section) where
   cut-goes zero at enough = λ none. at_end (omega arith)
   cut-goes (suc n) at enough =
       elim (cases_lt at (length section.bytes)) as (λ _. Goes at (cut_from section (suc n) at)) [
-        | inl inside ↦ rw (lt-leb (length section.bytes) at inside) (on-span n at (span_at section.bytes at) refl (λ end further. cut-goes n end (omega arith)))
+        | inl inside ↦ rw (lt-leb (length section.bytes) at inside) (on-span n at (extent_at section.bytes at) refl (λ end further. cut-goes n end (omega arith)))
         | inr past-end ↦ rw (le-leb (length section.bytes) at past-end) (λ none. at_end past-end)
       ]
 
@@ -47,7 +47,7 @@ module _ (section : Section) where
   abbrev Cuts : List ℕ → Cut → Type 0
   Cuts offsets cut = cut ≡ record { offsets = offsets; refusal = None }
 
-  span-inside : (at : ℕ) (span : Span) → span_at section.bytes at ≡ Ok span → (at < span.end) × (at < length section.bytes)
+  span-inside : (at : ℕ) (span : EntryExtent) → extent_at section.bytes at ≡ Ok span → (at < span.end) × (at < length section.bytes)
   span-inside at span is =
       let within = span-within section.bytes at span is in
       let behind = within.behind in let ordered = within.ordered in let inside = within.inside in

@@ -7,11 +7,11 @@ use Rattle.framehop_cfi.specs.Leb128.{uleb_at, sleb_at}
 use Rattle.framehop_cfi.specs.Raw.{raw_at, format_of}
 use Rattle.framehop_cfi.specs.Pointer.{pointer_at}
 use Rattle.framehop_cfi.specs.Augmentation.{terminator_at, augmentation_at}
-use Rattle.framehop_cfi.specs.Span.{span_at, is_zero_length}
+use Rattle.framehop_cfi.specs.EntryExtent.{extent_at, is_zero_length}
 use Rattle.framehop_cfi.specs.Section.{Section}
 use Rattle.framehop_cfi.specs.Entry.{head_at, entry_of_head, entry_at, is_known_version, sizes_of, return_register_at, alignments_at, versioned_fields, cie_fields, cie_of_head, cie_at, skipped_at, fde_range, fde_fields, fde_of_head, fde_at}
 use Rattle.framehop_cfi.specs.EntryMeaning.{Begins, HasCieFields, IsCie, IsFde, IsEntry}
-use Rattle.framehop_cfi.specs.declared.span.Span.{Span}
+use Rattle.framehop_cfi.specs.declared.extent.EntryExtent.{EntryExtent}
 use Rattle.framehop_cfi.specs.declared.pointer.SectionBaseAddresses.{SectionBaseAddresses}
 use Rattle.framehop_cfi.specs.declared.entry.UnwindSectionType.{UnwindSectionType}
 use Rattle.framehop_cfi.specs.declared.entry.EntryHead.{EntryHead}
@@ -89,10 +89,10 @@ module _ (kind : UnwindSectionType) (bases : SectionBaseAddresses) (entry : List
 
 module _ (kind : UnwindSectionType) (bases : SectionBaseAddresses) (bytes : List ℕ) where
   -- an entry's head, and the span that it begins with
-  head-begins : (at : ℕ) (head : EntryHead) → ((end : ℕ) → head ≡ ZeroLength end → ⊥) → head_at kind bytes at ≡ Ok head → (span : Span) × Begins kind bytes at span head
+  head-begins : (at : ℕ) (head : EntryHead) → ((end : ℕ) → head ≡ ZeroLength end → ⊥) → head_at kind bytes at ≡ Ok head → (span : EntryExtent) × Begins kind bytes at span head
   unfolding head_at
   head-begins at head entry is =
-      let span = bind_ok (span_at bytes at) _ head is in
+      let span = bind_ok (extent_at bytes at) _ head is in
       elim (cases_Bool (is_zero_length span.0)) [
         | inl zeros ↦
             let e = rw zeros at span.2 in
@@ -100,14 +100,14 @@ module _ (kind : UnwindSectionType) (bases : SectionBaseAddresses) (bytes : List
         | inr some ↦ (span.0, record { length = span.1; some = some; id = rw some at span.2 })
       ]
 
-  begins-head : (at : ℕ) (span : Span) (head : EntryHead) → Begins kind bytes at span head → head_at kind bytes at ≡ Ok head
+  begins-head : (at : ℕ) (span : EntryExtent) (head : EntryHead) → Begins kind bytes at span head → head_at kind bytes at ≡ Ok head
   unfolding head_at
   begins-head at span head b = rw b.length (rw b.some b.id)
 
 module _ (section : Section) where
   cie-of : (at : ℕ) (head : EntryHead) (cie : CommonInformationEntry) → head_at section.kind section.bytes at ≡ Ok head → cie_of_head section head ≡ Ok cie → IsCie section at cie
   cie-of at (ZeroLength end) cie begins is = cc
-  cie-of at (Fde named fields end) cie begins is = cc
+  cie-of at (Fde cie_offset fields end) cie begins is = cc
   cie-of at (Cie fields end) cie begins is =
       let b = head-begins section.kind section.bases section.bytes at (Cie fields end) (λ e h. cc) begins in
       let there : end ≡ b.0.end = id-ends (take b.0.end section.bytes) b.0 (Cie fields end) section.kind b.1.id in
@@ -133,9 +133,9 @@ module _ (section : Section) where
       rw (begins-head section.kind section.bases section.bytes at c.span (Cie c.fields c.span.end) c.begins)
       (means-fields section.kind section.bases (take c.span.end section.bytes) c.span.end cie c.fields c.has_fields c.ends)
 
-  range-means : (at named fields : ℕ) (span : Span) (cie : CommonInformationEntry) (fde : FrameDescriptionEntry) → Begins section.kind section.bytes at span (Fde named fields span.end) → IsCie section named cie → fde_fields section.bases cie (take span.end section.bytes) fields span.end ≡ Ok fde → IsFde section at fde
+  range-means : (at cie_offset fields : ℕ) (span : EntryExtent) (cie : CommonInformationEntry) (fde : FrameDescriptionEntry) → Begins section.kind section.bytes at span (Fde cie_offset fields span.end) → IsCie section cie_offset cie → fde_fields section.bases cie (take span.end section.bytes) fields span.end ≡ Ok fde → IsFde section at fde
   unfolding fde_range
-  range-means at named fields span cie fde begins its is =
+  range-means at cie_offset fields span cie fde begins its is =
       elim (cases_Bool (leb 128 cie.fde_pointer_encoding)) [
         | inl indirect ↦
             let e = rw indirect at is in
@@ -149,7 +149,7 @@ module _ (section : Section) where
             let made : FrameDescriptionEntry = record { cie = cie; initial_address = start.0.0; address_range = range.0.0; instructions = skipped.0; end = span.end } in
             let all : IsFde section at made = record {
               span = span;
-              named = named;
+              cie_offset = cie_offset;
               fields = fields;
               range = start.0.1;
               augmentation_data = range.0.1;
@@ -167,12 +167,12 @@ module _ (section : Section) where
   fde-of : (at : ℕ) (head : EntryHead) (fde : FrameDescriptionEntry) → head_at section.kind section.bytes at ≡ Ok head → fde_of_head section head ≡ Ok fde → IsFde section at fde
   fde-of at (ZeroLength end) fde begins is = cc
   fde-of at (Cie fields end) fde begins is = cc
-  fde-of at (Fde named fields end) fde begins is =
-      let b = head-begins section.kind section.bases section.bytes at (Fde named fields end) (λ e h. cc) begins in
-      let there : end ≡ b.0.end = id-ends (take b.0.end section.bytes) b.0 (Fde named fields end) section.kind b.1.id in
-      let its = bind_ok (cie_at section named) _ fde is in
+  fde-of at (Fde cie_offset fields end) fde begins is =
+      let b = head-begins section.kind section.bases section.bytes at (Fde cie_offset fields end) (λ e h. cc) begins in
+      let there : end ≡ b.0.end = id-ends (take b.0.end section.bytes) b.0 (Fde cie_offset fields end) section.kind b.1.id in
+      let its = bind_ok (cie_at section cie_offset) _ fde is in
       let read : fde_fields section.bases its.0 (take b.0.end section.bytes) fields b.0.end ≡ Ok fde = subst (λ e. fde_fields section.bases its.0 (take e section.bytes) fields e ≡ Ok fde) there its.2 in
-      range-means at named fields b.0 its.0 fde (subst (λ e. Begins section.kind section.bytes at b.0 (Fde named fields e)) there b.1) (cie_at-means named its.0 its.1) read
+      range-means at cie_offset fields b.0 its.0 fde (subst (λ e. Begins section.kind section.bytes at b.0 (Fde cie_offset fields e)) there b.1) (cie_at-means cie_offset its.0 its.1) read
 
   pub fde_at-means : (at : ℕ) (fde : FrameDescriptionEntry) → fde_at section at ≡ Ok fde → IsFde section at fde
   unfolding fde_at
@@ -183,8 +183,8 @@ module _ (section : Section) where
   pub means-fde_at : (at : ℕ) (fde : FrameDescriptionEntry) → IsFde section at fde → fde_at section at ≡ Ok fde
   unfolding fde_at fde_range
   means-fde_at at fde f =
-      rw (begins-head section.kind section.bases section.bytes at f.span (Fde f.named f.fields f.span.end) f.begins)
-      (rw (means-cie_at f.named fde.cie f.its_cie) (rw f.direct (rw f.is_start (rw f.is_range (rw f.is_augmentation (ap (λ e. Ok (record fde { end = e })) (sym f.ends)))))))
+      rw (begins-head section.kind section.bases section.bytes at f.span (Fde f.cie_offset f.fields f.span.end) f.begins)
+      (rw (means-cie_at f.cie_offset fde.cie f.its_cie) (rw f.direct (rw f.is_start (rw f.is_range (rw f.is_augmentation (ap (λ e. Ok (record fde { end = e })) (sym f.ends)))))))
 
   -- an entry is answered where one stands, and refused where none does
   pub cie-found : (at : ℕ) (result : Result CommonInformationEntry ReadError) → result ≡ cie_at section at → IfOk result (IsCie section at)
@@ -212,9 +212,9 @@ module _ (section : Section) where
   entry-of at (Cie fields end) entry begins is =
       let cie = bind_ok (cie_of_head section (Cie fields end)) _ entry is in
       subst (IsEntry section at) (one-entry (or.Cie cie.0) entry cie.2) (cie-of at (Cie fields end) cie.0 begins cie.1)
-  entry-of at (Fde named fields end) entry begins is =
-      let fde = bind_ok (fde_of_head section (Fde named fields end)) _ entry is in
-      subst (IsEntry section at) (one-entry (or.Fde fde.0) entry fde.2) (fde-of at (Fde named fields end) fde.0 begins fde.1)
+  entry-of at (Fde cie_offset fields end) entry begins is =
+      let fde = bind_ok (fde_of_head section (Fde cie_offset fields end)) _ entry is in
+      subst (IsEntry section at) (one-entry (or.Fde fde.0) entry fde.2) (fde-of at (Fde cie_offset fields end) fde.0 begins fde.1)
 
   pub entry_at-means : (at : ℕ) (entry : CieOrFde) → entry_at section at ≡ Ok entry → IsEntry section at entry
   unfolding entry_at
@@ -226,12 +226,12 @@ module _ (section : Section) where
   of-cie : (head : EntryHead) (cie : CommonInformationEntry) → cie_of_head section head ≡ Ok cie → entry_of_head section head ≡ Ok (or.Cie cie)
   of-cie (ZeroLength end) cie is = cc
   of-cie (Cie fields end) cie is = rw is refl
-  of-cie (Fde named fields end) cie is = cc
+  of-cie (Fde cie_offset fields end) cie is = cc
 
   of-fde : (head : EntryHead) (fde : FrameDescriptionEntry) → fde_of_head section head ≡ Ok fde → entry_of_head section head ≡ Ok (or.Fde fde)
   of-fde (ZeroLength end) fde is = cc
   of-fde (Cie fields end) fde is = cc
-  of-fde (Fde named fields end) fde is = rw is refl
+  of-fde (Fde cie_offset fields end) fde is = rw is refl
 
   pub means-entry_at : (at : ℕ) (entry : CieOrFde) → IsEntry section at entry → entry_at section at ≡ Ok entry
   unfolding entry_at cie_at fde_at

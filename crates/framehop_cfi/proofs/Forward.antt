@@ -11,7 +11,7 @@ use Rattle.framehop_cfi.specs.declared.entry.CommonInformationEntry.{CommonInfor
 use Rattle.framehop_cfi.specs.declared.rule.CfaRule.TheVariants as cfa
 use Rattle.framehop_cfi.specs.declared.rule.RegisterRule.TheVariants as rule
 use Rattle.framehop_cfi.specs.declared.instruction.CallFrameInstruction.{CallFrameInstruction}
-use Rattle.framehop_cfi.specs.declared.instruction.CallFrameInstruction.TheVariants.{Nop, SetLoc, AdvanceLoc, SetRule, Restore, DefCfa, DefCfaRegister, DefCfaOffset}
+use Rattle.framehop_cfi.specs.declared.instruction.CallFrameInstruction.TheVariants.{Nop, NegateRaState, ArgsSize, SetLoc, AdvanceLoc, SetRule, Restore, DefCfa, DefCfaRegister, DefCfaOffset}
 use Rattle.framehop_cfi.specs.declared.read_error.ReadError.{ReadError}
 use Rattle.framehop_cfi.specs.declared.read_error.ReadError.TheVariants.{Eof}
 
@@ -176,15 +176,16 @@ module _ (cie : CommonInformationEntry) (bases : SectionBaseAddresses) (bytes : 
 
   coded-reaches : (code : ℕ) → Reaches at (coded_at cie bases code bytes at)
   coded-reaches code =
-      choose at ((code == 0x00) || (code == 0x2D)) _ _ (omega arith)
+      choose at (code == 0x00) _ _ (omega arith)
+      (choose at (code == 0x2D) _ _ (omega arith)
       (choose at (code == 0x01) _ _ (less at (suc at) _ (omega arith) (mapped-reaches (suc at) SetLoc _ (pointer-reaches bytes at bases cie.fde_pointer_encoding)))
       (choose at (leb 0x02 code && leb code 0x04) _ _ (advance-reaches code)
       (choose at (code == 0x06) _ _ (less at (suc at) _ (omega arith) (mapped-reaches (suc at) Restore _ (register-reaches bytes at)))
       (choose at (code == 0x0A) _ _ (omega arith)
       (choose at (code == 0x0B) _ _ (omega arith)
-      (choose at (code == 0x2E) _ _ (less at (suc at) _ (omega arith) (mapped-reaches (suc at) (λ size. Nop) _ (uleb-reaches bytes at)))
+      (choose at (code == 0x2E) _ _ (less at (suc at) _ (omega arith) (mapped-reaches (suc at) ArgsSize _ (uleb-reaches bytes at)))
       (choose at ((leb 0x0C code && leb code 0x0F) || (code == 0x12) || (code == 0x13)) _ _ (less at (suc at) _ (omega arith) (cfa-reaches bytes at cie.data_alignment_factor code))
-      (choose at (leb code 0x16) _ _ (less at (suc at) _ (omega arith) (set-rule-reaches bytes at cie.data_alignment_factor code)) tt))))))))
+      (choose at (leb code 0x16) _ _ (less at (suc at) _ (omega arith) (set-rule-reaches bytes at cie.data_alignment_factor code)) tt)))))))))
 
   operands-reaches : (code : ℕ) → Reaches at (operands_at cie bases code bytes at)
   operands-reaches code =

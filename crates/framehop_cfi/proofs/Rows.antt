@@ -4,10 +4,10 @@ use Rattle.std.specs.Prelude.{slice_get, slice_set}
 use Rattle.std.proofs.lemmas.List.{take-set, length-take-le, get_or-take, take-take}
 use Rattle.std.proofs.lemmas.Option.{slice_get_read}
 use Rattle.framehop_cfi.specs.Row.{Row}
-use Rattle.framehop_cfi.specs.TableRows.{recalling}
+use Rattle.framehop_cfi.specs.TableRows.{restoring_state}
 
-pub recalling-front : (initial : Option Row) (row : Row) (rows : List Row) (count : ℕ) (spare latest : Row) → (count ≡ 0 → ⊥) → count ≤ length rows → latest ≡ get_or rows (count - 1) latest → recalling (record { initial = initial; row = row; remembered = take count rows }) ≡ Ok (record { initial = initial; row = latest; remembered = take (count - 1) (slice_set rows (count - 1) spare) })
-recalling-front initial row rows count spare latest some within is =
+pub restoring_state-front : (initial : Option Row) (row : Row) (rows : List Row) (count : ℕ) (spare latest : Row) → (count ≡ 0 → ⊥) → count ≤ length rows → latest ≡ get_or rows (count - 1) latest → restoring_state (record { initial = initial; row = row; remembered = take count rows }) ≡ Ok (record { initial = initial; row = latest; remembered = take (count - 1) (slice_set rows (count - 1) spare) })
+restoring_state-front initial row rows count spare latest some within is =
     let n : length (take count rows) ≡ count = length-take-le count rows within in
     let below : count - 1 < count = omega arith in
     let here : slice_get (take count rows) (count - 1) ≡ Some latest =

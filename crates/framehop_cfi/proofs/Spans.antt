@@ -2,9 +2,9 @@
 use Rattle.std.proofs.Common.{◌≡◌, ℕ, ◌+◌, ◌-◌, ◌<◌, ◌≤◌, List, length, take, Result, Ok, Err, refl, subst, arith, inl, inr, leb, ltb, ◌==◌}
 use Rattle.std.proofs.lemmas.Bool.{lt-leb, le-leb, cases_Bool, cases_lt}
 use Rattle.framehop_cfi.specs.Bytes.{◌>>=◌, u32_at, u64_at}
-use Rattle.framehop_cfi.specs.Span.{held, long_span, span_at, is_zero_length}
+use Rattle.framehop_cfi.specs.EntryExtent.{held, long_extent, extent_at, is_zero_length}
 use Rattle.framehop_cfi.specs.Entry.{eh_frame_id, short_id, long_id, id_at, head_at}
-use Rattle.framehop_cfi.specs.declared.span.Span.{Span}
+use Rattle.framehop_cfi.specs.declared.extent.EntryExtent.{EntryExtent}
 use Rattle.framehop_cfi.specs.declared.entry.UnwindSectionType.{UnwindSectionType}
 use Rattle.framehop_cfi.specs.declared.entry.UnwindSectionType.TheVariants.{EhFrame, DebugFrame}
 use Rattle.framehop_cfi.specs.declared.entry.EntryHead.{EntryHead}
@@ -16,34 +16,34 @@ use Rattle.framehop_cfi.proofs.Forward.{u32-reaches, u64-reaches}
 abbrev pub end_of : EntryHead → ℕ
 end_of (ZeroLength end) = end
 end_of (Cie fields end) = end
-end_of (Fde named fields end) = end
+end_of (Fde cie_offset fields end) = end
 
 pub bind_ok : {A B E : Type 0} (r : Result A E) (f : A → Result B E) (y : B) → (r >>= f) ≡ Ok y → (x : A) × (r ≡ Ok x) × (f x ≡ Ok y)
 bind_ok (Ok x) f y is = (x, refl, is)
 bind_ok (Err e) f y is = cc
 
 -- a span lies in the bytes, after its offset
-pub record Within (bytes : List ℕ) (at : ℕ) (span : Span) : Type 0 where
+pub record Within (bytes : List ℕ) (at : ℕ) (span : EntryExtent) : Type 0 where
   pub behind : at < span.contents
   pub ordered : span.contents ≤ span.end
   pub inside : span.end ≤ length bytes
 
-one-span : (a b : Span) → ◌≡◌ {A = Result Span ReadError} (Ok a) (Ok b) → a ≡ b
+one-span : (a b : EntryExtent) → ◌≡◌ {A = Result EntryExtent ReadError} (Ok a) (Ok b) → a ≡ b
 one-span a b is = cc
 
-held-within : (bytes : List ℕ) (at size contents len : ℕ) (span : Span) → at < contents → held bytes size contents len ≡ Ok span → Within bytes at span
+held-within : (bytes : List ℕ) (at size contents len : ℕ) (span : EntryExtent) → at < contents → held bytes size contents len ≡ Ok span → Within bytes at span
 held-within bytes at size contents len span past is =
     elim (cases_lt (length bytes) (contents + len)) [
       | inl beyond ↦ (let e = rw (lt-leb (contents + len) (length bytes) beyond) at is in cc)
       | inr fits ↦
           let e = rw (le-leb (contents + len) (length bytes) fits) at is in
-          let made : Span = record { contents = contents; end = contents + len; offset_size = size } in
+          let made : EntryExtent = record { contents = contents; end = contents + len; offset_size = size } in
           let all : Within bytes at made = record { behind = past; ordered = omega arith; inside = fits } in
           subst (λ s. Within bytes at s) (one-span made span e) all
     ]
 
-pub span-within : (bytes : List ℕ) (at : ℕ) (span : Span) → span_at bytes at ≡ Ok span → Within bytes at span
-unfolding span_at long_span
+pub span-within : (bytes : List ℕ) (at : ℕ) (span : EntryExtent) → extent_at bytes at ≡ Ok span → Within bytes at span
+unfolding extent_at long_extent
 span-within bytes at span is =
     let short = bind_ok (u32_at bytes at) _ span is in
     let past : at < short.0.1 = rw short.1 at (u32-reaches bytes at) in
@@ -65,7 +65,7 @@ one-head : (a b : EntryHead) (end : ℕ) → ◌≡◌ {A = Result EntryHead Rea
 one-head a b end is there = let e : a ≡ b = cc in subst (λ h. end_of h ≡ end) e there
 
 -- an entry ends where its span does
-module _ (bytes : List ℕ) (span : Span) (head : EntryHead) where
+module _ (bytes : List ℕ) (span : EntryExtent) (head : EntryHead) where
   eh-frame-ends : eh_frame_id bytes span ≡ Ok head → end_of head ≡ span.end
   unfolding eh_frame_id
   eh-frame-ends is =
@@ -110,7 +110,7 @@ module _ (bytes : List ℕ) (span : Span) (head : EntryHead) where
 pub head-inside : (kind : UnwindSectionType) (bytes : List ℕ) (at : ℕ) (head : EntryHead) → head_at kind bytes at ≡ Ok head → (at < end_of head) × (end_of head ≤ length bytes)
 unfolding head_at
 head-inside kind bytes at head is =
-    let span = bind_ok (span_at bytes at) _ head is in
+    let span = bind_ok (extent_at bytes at) _ head is in
     let within = span-within bytes at span.0 span.1 in
     let ends : end_of head ≡ span.0.end =
     elim (cases_Bool (is_zero_length span.0)) as (λ _. end_of head ≡ span.0.end) [

@@ -1,9 +1,9 @@
 -- The entries of a section, one after another (DWARF 5 section 6.4.1; LSB, ".eh_frame"): first where each begins, by the lengths alone, and then what each is.
 use Rattle.std.specs.Prelude.{ℕ, zero, suc, ◌≤◌, ◌≡◌, true, false, List, [], ◌∷◌, length, map, Option, Some, None, Result, Ok, Err, nat_le, if◌then◌else◌}
-use Rattle.framehop_cfi.specs.Span.{span_at, is_zero_length}
+use Rattle.framehop_cfi.specs.EntryExtent.{extent_at, is_zero_length}
 use Rattle.framehop_cfi.specs.Section.{Section}
 use Rattle.framehop_cfi.specs.EntryMeaning.{IsEntry}
-use Rattle.framehop_cfi.specs.declared.span.Span.{Span}
+use Rattle.framehop_cfi.specs.declared.extent.EntryExtent.{EntryExtent}
 use Rattle.framehop_cfi.specs.declared.entry.UnwindSectionType.{UnwindSectionType}
 use Rattle.framehop_cfi.specs.declared.entry.UnwindSectionType.TheVariants.{EhFrame, DebugFrame}
 use Rattle.framehop_cfi.specs.declared.entry.CieOrFde.{CieOrFde}
@@ -24,7 +24,7 @@ after_zero EhFrame rest = no_more
 after_zero DebugFrame rest = rest
 
 -- an entry at an offset by its length, and then the rest
-abbrev pub cut_by : Section → ℕ → (ℕ → Cut) → Result Span ReadError → Cut
+abbrev pub cut_by : Section → ℕ → (ℕ → Cut) → Result EntryExtent ReadError → Cut
 cut_by section at rest (Err error) = record { offsets = []; refusal = Some error }
 cut_by section at rest (Ok span) =
     if is_zero_length span then after_zero section.kind (rest span.end)
@@ -35,7 +35,7 @@ abbrev pub cut_from : Section → ℕ → ℕ → Cut
 cut_from section zero at = no_more
 cut_from section (suc n) at =
     if nat_le (length section.bytes) at then no_more
-    else cut_by section at (cut_from section n) (span_at section.bytes at)
+    else cut_by section at (cut_from section n) (extent_at section.bytes at)
 
 -- the whole section, cut
 unfoldable pub cut : Section → Cut
@@ -44,9 +44,9 @@ cut section = cut_from section (suc (length section.bytes)) 0
 -- These are the offsets of the entries from one on, by their lengths: up to the section's end, or in `.eh_frame` to a length of 0, which is passed over in `.debug_frame`.
 pub data AreOffsets (section : Section) : ℕ → List ℕ → Type 0 where
   at_end : {at : ℕ} → length section.bytes ≤ at → AreOffsets section at []
-  at_mark : {at : ℕ} {span : Span} → section.kind ≡ EhFrame → span_at section.bytes at ≡ Ok span → is_zero_length span ≡ true → AreOffsets section at []
-  past_zero : {at : ℕ} {span : Span} {offsets : List ℕ} → section.kind ≡ DebugFrame → span_at section.bytes at ≡ Ok span → is_zero_length span ≡ true → AreOffsets section span.end offsets → AreOffsets section at offsets
-  one : {at : ℕ} {span : Span} {offsets : List ℕ} → span_at section.bytes at ≡ Ok span → is_zero_length span ≡ false → AreOffsets section span.end offsets → AreOffsets section at (at ∷ offsets)
+  at_mark : {at : ℕ} {span : EntryExtent} → section.kind ≡ EhFrame → extent_at section.bytes at ≡ Ok span → is_zero_length span ≡ true → AreOffsets section at []
+  past_zero : {at : ℕ} {span : EntryExtent} {offsets : List ℕ} → section.kind ≡ DebugFrame → extent_at section.bytes at ≡ Ok span → is_zero_length span ≡ true → AreOffsets section span.end offsets → AreOffsets section at offsets
+  one : {at : ℕ} {span : EntryExtent} {offsets : List ℕ} → extent_at section.bytes at ≡ Ok span → is_zero_length span ≡ false → AreOffsets section span.end offsets → AreOffsets section at (at ∷ offsets)
 
 -- each entry stands at its offset
 abbrev pub EachStands : Section → List (ℕ × CieOrFde) → Type 0

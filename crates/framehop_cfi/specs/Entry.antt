@@ -5,9 +5,9 @@ use Rattle.framehop_cfi.specs.Leb128.{uleb_at, sleb_at}
 use Rattle.framehop_cfi.specs.Raw.{raw_at, format_of}
 use Rattle.framehop_cfi.specs.Augmentation.{terminator_at, counted_at, augmentation_at}
 use Rattle.framehop_cfi.specs.Pointer.{pointer_at}
-use Rattle.framehop_cfi.specs.Span.{span_at, is_zero_length}
+use Rattle.framehop_cfi.specs.EntryExtent.{extent_at, is_zero_length}
 use Rattle.framehop_cfi.specs.Section.{Section}
-use Rattle.framehop_cfi.specs.declared.span.Span.{Span}
+use Rattle.framehop_cfi.specs.declared.extent.EntryExtent.{EntryExtent}
 use Rattle.framehop_cfi.specs.declared.pointer.SectionBaseAddresses.{SectionBaseAddresses}
 use Rattle.framehop_cfi.specs.declared.entry.UnwindSectionType.{UnwindSectionType}
 use Rattle.framehop_cfi.specs.declared.entry.UnwindSectionType.TheVariants.{EhFrame, DebugFrame}
@@ -21,35 +21,35 @@ use Rattle.framehop_cfi.specs.declared.read_error.ReadError.{ReadError}
 use Rattle.framehop_cfi.specs.declared.read_error.ReadError.TheVariants.{BadEncoding, NotCie, NotFde, UnknownVersion, NumberTooBig}
 
 -- In `.eh_frame` a CIE's id is 0 in 4 bytes, and an FDE's CIE lies so many bytes before the field.
-unfoldable pub eh_frame_id : List ℕ → Span → Result EntryHead ReadError
+unfoldable pub eh_frame_id : List ℕ → EntryExtent → Result EntryHead ReadError
 eh_frame_id bytes span = do
   id ← u32_at bytes span.contents
   if id.0 == 0 then Ok (Cie id.1 span.end)
       else (if nat_le id.0 span.contents then Ok (Fde (span.contents - id.0) id.1 span.end) else Err NumberTooBig)
 
 -- In `.debug_frame` a CIE's id is all ones, and an FDE's CIE lies at the offset in the field, of 4 or 8 bytes.
-unfoldable pub short_id : List ℕ → Span → Result EntryHead ReadError
+unfoldable pub short_id : List ℕ → EntryExtent → Result EntryHead ReadError
 short_id bytes span = do
   id ← u32_at bytes span.contents
   if id.0 == 0xFFFFFFFF then Ok (Cie id.1 span.end) else Ok (Fde id.0 id.1 span.end)
 
-unfoldable pub long_id : List ℕ → Span → Result EntryHead ReadError
+unfoldable pub long_id : List ℕ → EntryExtent → Result EntryHead ReadError
 long_id bytes span = do
   id ← u64_at bytes span.contents
   if id.0 == 0xFFFFFFFFFFFFFFFF then Ok (Cie id.1 span.end) else Ok (Fde id.0 id.1 span.end)
 
-abbrev pub debug_frame_id : List ℕ → Span → Result EntryHead ReadError
+abbrev pub debug_frame_id : List ℕ → EntryExtent → Result EntryHead ReadError
 debug_frame_id bytes span = if span.offset_size == 4 then short_id bytes span else long_id bytes span
 
 -- an entry's id, by its section
-abbrev pub id_at : UnwindSectionType → List ℕ → Span → Result EntryHead ReadError
+abbrev pub id_at : UnwindSectionType → List ℕ → EntryExtent → Result EntryHead ReadError
 id_at EhFrame bytes span = eh_frame_id bytes span
 id_at DebugFrame bytes span = debug_frame_id bytes span
 
 -- what stands at an offset: a zero length, or which kind of entry, and where its fields begin and end
 unfoldable pub head_at : UnwindSectionType → List ℕ → ℕ → Result EntryHead ReadError
 head_at kind bytes at = do
-  span ← span_at bytes at
+  span ← extent_at bytes at
   if is_zero_length span then Ok (ZeroLength span.end) else id_at kind (take span.end bytes) span
 
 -- The size of addresses and of segment selectors, which version 4 has in `.debug_frame`: the place after.
@@ -135,8 +135,8 @@ fde_fields bases cie bytes at end =
 abbrev pub fde_of_head : Section → EntryHead → Result FrameDescriptionEntry ReadError
 fde_of_head section (ZeroLength end) = Err NotFde
 fde_of_head section (Cie at end) = Err NotFde
-fde_of_head section (Fde named at end) =
-    cie_at section named >>= λ cie. fde_fields section.bases cie (take end section.bytes) at end
+fde_of_head section (Fde cie_offset at end) =
+    cie_at section cie_offset >>= λ cie. fde_fields section.bases cie (take end section.bytes) at end
 
 unfoldable pub fde_at : Section → ℕ → Result FrameDescriptionEntry ReadError
 fde_at section at = do
@@ -147,7 +147,7 @@ fde_at section at = do
 abbrev pub entry_of_head : Section → EntryHead → Result CieOrFde ReadError
 entry_of_head section (ZeroLength end) = Err NotFde
 entry_of_head section (Cie at end) = cie_of_head section (Cie at end) >>= λ cie. Ok (or.Cie cie)
-entry_of_head section (Fde named at end) = fde_of_head section (Fde named at end) >>= λ fde. Ok (or.Fde fde)
+entry_of_head section (Fde cie_offset at end) = fde_of_head section (Fde cie_offset at end) >>= λ fde. Ok (or.Fde fde)
 
 unfoldable pub entry_at : Section → ℕ → Result CieOrFde ReadError
 entry_at section at = do

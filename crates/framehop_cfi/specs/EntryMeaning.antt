@@ -5,10 +5,10 @@ use Rattle.framehop_cfi.specs.Leb128.{uleb_at, sleb_at}
 use Rattle.framehop_cfi.specs.Raw.{raw_at, format_of}
 use Rattle.framehop_cfi.specs.Pointer.{pointer_at}
 use Rattle.framehop_cfi.specs.Augmentation.{terminator_at, augmentation_at}
-use Rattle.framehop_cfi.specs.Span.{span_at, is_zero_length}
+use Rattle.framehop_cfi.specs.EntryExtent.{extent_at, is_zero_length}
 use Rattle.framehop_cfi.specs.Section.{Section}
 use Rattle.framehop_cfi.specs.Entry.{id_at, is_known_version, sizes_of, return_register_at, skipped_at}
-use Rattle.framehop_cfi.specs.declared.span.Span.{Span}
+use Rattle.framehop_cfi.specs.declared.extent.EntryExtent.{EntryExtent}
 use Rattle.framehop_cfi.specs.declared.pointer.SectionBaseAddresses.{SectionBaseAddresses}
 use Rattle.framehop_cfi.specs.declared.entry.UnwindSectionType.{UnwindSectionType}
 use Rattle.framehop_cfi.specs.declared.entry.EntryHead.{EntryHead}
@@ -19,8 +19,8 @@ use Rattle.framehop_cfi.specs.declared.entry.CieOrFde.{CieOrFde}
 use Rattle.framehop_cfi.specs.declared.entry.CieOrFde.TheVariants as or
 
 -- an entry stands at an offset: its length, which is not 0, and its id
-pub record Begins (kind : UnwindSectionType) (bytes : List ℕ) (at : ℕ) (span : Span) (head : EntryHead) : Type 0 where
-  pub length : span_at bytes at ≡ Ok span
+pub record Begins (kind : UnwindSectionType) (bytes : List ℕ) (at : ℕ) (span : EntryExtent) (head : EntryHead) : Type 0 where
+  pub length : extent_at bytes at ≡ Ok span
   pub some : is_zero_length span ≡ false
   pub id : id_at kind (take span.end bytes) span ≡ Ok head
 
@@ -48,7 +48,7 @@ pub record HasCieFields (kind : UnwindSectionType) (bases : SectionBaseAddresses
 
 -- a CIE stands at an offset
 pub record IsCie (section : Section) (at : ℕ) (cie : CommonInformationEntry) : Type 0 where
-  pub span : Span
+  pub span : EntryExtent
   pub fields : ℕ
   pub begins : Begins section.kind section.bytes at span (Cie fields span.end)
   pub has_fields : HasCieFields section.kind section.bases (take span.end section.bytes) fields cie
@@ -56,13 +56,13 @@ pub record IsCie (section : Section) (at : ℕ) (cie : CommonInformationEntry) :
 
 -- an FDE stands at an offset, and its CIE at the offset that it names
 pub record IsFde (section : Section) (at : ℕ) (fde : FrameDescriptionEntry) : Type 0 where
-  pub span : Span
-  pub named : ℕ
+  pub span : EntryExtent
+  pub cie_offset : ℕ
   pub fields : ℕ
   pub range : ℕ
   pub augmentation_data : ℕ
-  pub begins : Begins section.kind section.bytes at span (Fde named fields span.end)
-  pub its_cie : IsCie section named fde.cie
+  pub begins : Begins section.kind section.bytes at span (Fde cie_offset fields span.end)
+  pub its_cie : IsCie section cie_offset fde.cie
   pub direct : nat_le 128 fde.cie.fde_pointer_encoding ≡ false
   pub is_start : pointer_at section.bases fde.cie.fde_pointer_encoding (take span.end section.bytes) fields ≡ Ok (fde.initial_address, range)
   pub is_range : raw_at (format_of fde.cie.fde_pointer_encoding) (take span.end section.bytes) range ≡ Ok (fde.address_range, augmentation_data)

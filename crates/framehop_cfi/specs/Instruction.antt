@@ -12,7 +12,7 @@ use Rattle.framehop_cfi.specs.declared.rule.CfaRule.TheVariants as cfa
 use Rattle.framehop_cfi.specs.declared.rule.RegisterRule.{RegisterRule}
 use Rattle.framehop_cfi.specs.declared.rule.RegisterRule.TheVariants as rule
 use Rattle.framehop_cfi.specs.declared.instruction.CallFrameInstruction.{CallFrameInstruction}
-use Rattle.framehop_cfi.specs.declared.instruction.CallFrameInstruction.TheVariants.{Nop, SetLoc, AdvanceLoc, SetRule, Restore, RememberState, RestoreState, DefCfa, DefCfaRegister, DefCfaOffset}
+use Rattle.framehop_cfi.specs.declared.instruction.CallFrameInstruction.TheVariants.{Nop, NegateRaState, ArgsSize, SetLoc, AdvanceLoc, SetRule, Restore, RememberState, RestoreState, DefCfa, DefCfaRegister, DefCfaOffset}
 use Rattle.framehop_cfi.specs.declared.read_error.ReadError.{ReadError}
 use Rattle.framehop_cfi.specs.declared.read_error.ReadError.TheVariants.{UnknownInstruction, NumberTooBig}
 
@@ -57,6 +57,8 @@ expression_at bytes at = do
   Ok (record { start = place.0; end = place.1 }, place.1)
 
 -- the rule that an instruction gives to the register that it names, by its code
+-- DW_CFA_offset_extended 05, DW_CFA_undefined 07, DW_CFA_same_value 08, DW_CFA_register 09, DW_CFA_expression 10,
+-- DW_CFA_offset_extended_sf 11, DW_CFA_val_offset 14, DW_CFA_val_offset_sf 15, DW_CFA_val_expression 16
 abbrev pub rule_at : ℤ → ℕ → List ℕ → ℕ → Reading RegisterRule
 rule_at alignment code bytes at =
     if code == 0x05 then mapped rule.Offset (factored_at alignment bytes at)
@@ -93,7 +95,8 @@ def_cfa_factored_at alignment bytes at = do
   offset ← factored_signed_at alignment bytes register.1
   Ok (register_and_offset register.0 offset.0, offset.1)
 
--- an instruction on the CFA, by its code
+-- An instruction on the CFA, by its code: DW_CFA_def_cfa 0C, DW_CFA_def_cfa_register 0D, DW_CFA_def_cfa_offset 0E,
+-- DW_CFA_def_cfa_expression 0F, DW_CFA_def_cfa_sf 12, DW_CFA_def_cfa_offset_sf 13.
 abbrev pub cfa_at : ℤ → ℕ → List ℕ → ℕ → Reading CallFrameInstruction
 cfa_at alignment code bytes at =
     if code == 0x0C then def_cfa_at bytes at
@@ -111,21 +114,25 @@ advance_at code bytes at =
     else (if code == 0x03 then mapped AdvanceLoc (u16_at bytes at)
     else mapped AdvanceLoc (u32_at bytes at))
 
--- an instruction with its own byte, by its code; 2D tells of pointer authentication, 2E of arguments, and neither changes a row
+-- An instruction with its own byte, by its code: DW_CFA_nop 00, DW_CFA_AARCH64_negate_ra_state 2D, DW_CFA_set_loc 01,
+-- DW_CFA_advance_loc1 to 4 02 to 04, DW_CFA_restore_extended 06, DW_CFA_remember_state 0A, DW_CFA_restore_state 0B,
+-- DW_CFA_GNU_args_size 2E, then those on the CFA, and those that give a register a rule.
 abbrev pub coded_at : CommonInformationEntry → SectionBaseAddresses → ℕ → List ℕ → ℕ → Reading CallFrameInstruction
 coded_at cie bases code bytes at =
-    if (code == 0x00) || (code == 0x2D) then Ok (Nop, at)
+    if code == 0x00 then Ok (Nop, at)
+    else (if code == 0x2D then Ok (NegateRaState, at)
     else (if code == 0x01 then mapped SetLoc (pointer_at bases cie.fde_pointer_encoding bytes at)
     else (if nat_le 0x02 code && nat_le code 0x04 then advance_at code bytes at
     else (if code == 0x06 then mapped Restore (register_at bytes at)
     else (if code == 0x0A then Ok (RememberState, at)
     else (if code == 0x0B then Ok (RestoreState, at)
-    else (if code == 0x2E then mapped (λ size. Nop) (uleb_at bytes at)
+    else (if code == 0x2E then mapped ArgsSize (uleb_at bytes at)
     else (if (nat_le 0x0C code && nat_le code 0x0F) || (code == 0x12) || (code == 0x13) then cfa_at cie.data_alignment_factor code bytes at
     else (if nat_le code 0x16 then set_rule_at cie.data_alignment_factor code bytes at
-    else Err UnknownInstruction))))))))
+    else Err UnknownInstruction)))))))))
 
--- an instruction that has its first operand in the byte: from 40 on an advance, from 80 on an offset, from C0 on a restore
+-- an instruction that has its first operand in the byte: DW_CFA_advance_loc from 40 on, DW_CFA_offset from 80 on,
+-- DW_CFA_restore from C0 on
 abbrev pub operands_at : CommonInformationEntry → SectionBaseAddresses → ℕ → List ℕ → ℕ → Reading CallFrameInstruction
 operands_at cie bases code bytes at =
     if nat_le 0xC0 code then Ok (Restore (record { 0 = code - 0xC0 }), at)

@@ -18,5 +18,5 @@ pub mod RowAt
 pub mod RowMeaning
 pub mod Section
 pub mod SectionTable
-pub mod Span
+pub mod EntryExtent
 pub mod TableRows

@@ -8,7 +8,7 @@ use Rattle.framehop_cfi.specs.declared.rule.CfaRule.TheVariants.{RegisterAndOffs
 use Rattle.framehop_cfi.specs.declared.rule.RegisterRule.{RegisterRule}
 use Rattle.framehop_cfi.specs.declared.storage.StorageLimits.{StorageLimits}
 use Rattle.framehop_cfi.specs.declared.instruction.CallFrameInstruction.{CallFrameInstruction}
-use Rattle.framehop_cfi.specs.declared.instruction.CallFrameInstruction.TheVariants.{Nop, SetLoc, AdvanceLoc, SetRule, Restore, RememberState, RestoreState, DefCfa, DefCfaRegister, DefCfaOffset}
+use Rattle.framehop_cfi.specs.declared.instruction.CallFrameInstruction.TheVariants.{Nop, NegateRaState, ArgsSize, SetLoc, AdvanceLoc, SetRule, Restore, RememberState, RestoreState, DefCfa, DefCfaRegister, DefCfaOffset}
 use Rattle.framehop_cfi.specs.declared.read_error.ReadError.{ReadError}
 use Rattle.framehop_cfi.specs.declared.read_error.ReadError.TheVariants.{InvalidContext, TooManyRows, NothingRemembered}
 
@@ -50,12 +50,12 @@ remembering limits rows =
     if rows_are_full limits (length rows.remembered) then Err TooManyRows
     else Ok (record rows { remembered = rows.remembered ++ rows.row ∷ [] })
 
-abbrev pub recalled : TableRows → Option Row → Result TableRows ReadError
-recalled rows None = Err NothingRemembered
-recalled rows (Some row) = Ok (record rows { row = row; remembered = take (length rows.remembered - 1) rows.remembered })
+abbrev pub restored_state : TableRows → Option Row → Result TableRows ReadError
+restored_state rows None = Err NothingRemembered
+restored_state rows (Some row) = Ok (record rows { row = row; remembered = take (length rows.remembered - 1) rows.remembered })
 
-abbrev pub recalling : TableRows → Result TableRows ReadError
-recalling rows = recalled rows (slice_get rows.remembered (length rows.remembered - 1))
+abbrev pub restoring_state : TableRows → Result TableRows ReadError
+restoring_state rows = restored_state rows (slice_get rows.remembered (length rows.remembered - 1))
 
 -- the CFA counted from another register, or by another offset; an expression has neither
 abbrev pub cfa_register : Register → CfaRule → Result CfaRule ReadError
@@ -69,12 +69,14 @@ cfa_offset offset (Expression expression) = Err InvalidContext
 -- what an instruction does; a move of the location does nothing here
 abbrev pub effect : Option StorageLimits → CallFrameInstruction → TableRows → Result TableRows ReadError
 effect limits Nop rows = Ok rows
+effect limits NegateRaState rows = Ok rows
+effect limits (ArgsSize size) rows = Ok rows
 effect limits (SetLoc address) rows = Ok rows
 effect limits (AdvanceLoc delta) rows = Ok rows
 effect limits (SetRule register rule) rows = setting limits register rule rows
 effect limits (Restore register) rows = restoring limits register rows rows.initial
 effect limits RememberState rows = remembering limits rows
-effect limits RestoreState rows = recalling rows
+effect limits RestoreState rows = restoring_state rows
 effect limits (DefCfa cfa) rows = Ok (with_cfa cfa rows)
 effect limits (DefCfaRegister register) rows = cfa_register register rows.row.cfa >>= λ cfa. Ok (with_cfa cfa rows)
 effect limits (DefCfaOffset offset) rows = cfa_offset offset rows.row.cfa >>= λ cfa. Ok (with_cfa cfa rows)

@@ -1,6 +1,6 @@
 //! The row of an address: the instructions of a CIE and of an FDE, run up to it (DWARF 5 section 6.4.3).
 ghost use Rattle.std.specs.Prelude.{◌≡◌, ◌≢◌, ◌*◌, IfOk, IfErr, OnOk, OnErr, IsErrOf, None, Err, vec_len};
-ghost use Rattle.framehop_cfi.specs.TableRows.{TableRows, effect, setting, restoring, remembering, recalling};
+ghost use Rattle.framehop_cfi.specs.TableRows.{TableRows, effect, setting, restoring, remembering, restoring_state};
 ghost use Rattle.framehop_cfi.specs.Outcome.{Becomes};
 ghost use Rattle.framehop_cfi.specs.Row.{Row};
 ghost use Rattle.framehop_cfi.specs.RowMeaning.{IsRowAt};
@@ -81,12 +81,14 @@ impl<S: UnwindContextStorage> UnwindContext<S> {
     {
         match instruction {
             CallFrameInstruction::Nop
+            | CallFrameInstruction::NegateRaState
+            | CallFrameInstruction::ArgsSize { .. }
             | CallFrameInstruction::SetLoc { .. }
             | CallFrameInstruction::AdvanceLoc { .. } => Ok(()),
             CallFrameInstruction::SetRule { register, rule } => self.set_rule(register, rule),
             CallFrameInstruction::Restore { register } => self.restore(register),
             CallFrameInstruction::RememberState => self.remember(),
-            CallFrameInstruction::RestoreState => self.recall(),
+            CallFrameInstruction::RestoreState => self.restore_state(),
             CallFrameInstruction::DefCfa(rule) => {
                 self.row.set_cfa(rule);
                 Ok(())
@@ -173,8 +175,8 @@ impl<S: UnwindContextStorage> UnwindContext<S> {
     }
 
     /// Makes the row the one that was remembered last, which is then not remembered any more.
-    fn recall(&mut self) -> Result<(), ReadError>
-        ensures exact { Becomes result self.new (recalling self.old) }
+    fn restore_state(&mut self) -> Result<(), ReadError>
+        ensures exact { Becomes result self.new (restoring_state self.old) }
         ensures memory { result ≢ Err ReadError.OutOfMemory }
     {
         if self.count == 0 {
@@ -290,7 +292,7 @@ impl<S: UnwindContextStorage> UnwindContext<S> {
     /// before the first move of the location beyond the address.
     ///
     /// An address that the FDE does not cover is refused by `NoRow`. After a refusal the row is any.
-    pub fn evaluate(
+    pub fn row_for_address(
         &mut self,
         section: &UnwindSection,
         fde: &FrameDescriptionEntry,

@@ -6,10 +6,10 @@ ghost use Rattle.framehop_cfi.specs.Entry.{eh_frame_id, debug_frame_id, id_at, h
 
 use crate::augmentation::{find_terminator, read_counted};
 use crate::bytes::{front, read_u8, read_u32, read_u64};
+use crate::extent::{EntryExtent, read_extent};
 use crate::leb128::{read_sleb128, read_uleb128};
 use crate::pointer::{BaseAddresses, DW_EH_PE_INDIRECT, SectionBaseAddresses, read_raw_pointer};
 use crate::read_error::ReadError;
-use crate::span::{Span, read_span};
 use std::marker::Model;
 
 /// Which of the two call frame sections the bytes are.
@@ -24,10 +24,22 @@ pub enum UnwindSectionType {
 pub enum EntryHead {
     /// A length of 0: the offset after it.
     ZeroLength(usize),
-    /// A CIE: where its fields begin after its id, and where it ends.
-    Cie(usize, usize),
-    /// An FDE: where its CIE is, where its fields begin after that, and where it ends.
-    Fde(usize, usize, usize),
+    /// A CIE.
+    Cie {
+        /// Where its fields begin, after its id.
+        fields: usize,
+        /// Where it ends.
+        end: usize,
+    },
+    /// An FDE.
+    Fde {
+        /// Where its CIE is.
+        cie_offset: usize,
+        /// Where its fields begin, after that.
+        fields: usize,
+        /// Where it ends.
+        end: usize,
+    },
 }
 
 /// A common information entry (CIE): what the FDEs that name it share.
@@ -125,7 +137,7 @@ impl<'a> UnwindSection<'a> {
         ensures exact { result ≡ head_at self.now.kind self.now.bytes at }
         ensures memory { result ≢ Err ReadError.OutOfMemory }
     {
-        let span = read_span(self.bytes, at)?;
+        let span = read_extent(self.bytes, at)?;
         if span.is_zero_length() {
             return Ok(EntryHead::ZeroLength(span.end));
         }
@@ -133,7 +145,7 @@ impl<'a> UnwindSection<'a> {
     }
 
     /// Returns the id of the entry in a span, whose length is not 0: which kind it is.
-    pub fn head_of(&self, span: &Span) -> Result<EntryHead, ReadError>
+    pub fn head_of(&self, span: &EntryExtent) -> Result<EntryHead, ReadError>
         ensures exact { result ≡ id_at self.now.kind (take span.now.end self.now.bytes) span.now }
         ensures memory { result ≢ Err ReadError.OutOfMemory }
     {
@@ -147,39 +159,60 @@ impl<'a> UnwindSection<'a> {
 
 /// Returns the id of an entry of `.eh_frame`, where an FDE's CIE lies so many bytes before the field.
 #[tactic(auto, unfolding(crate::specs::Entry::eh_frame_id))]
-fn read_eh_frame_id(entry: &[u8], span: &Span) -> Result<EntryHead, ReadError>
+fn read_eh_frame_id(entry: &[u8], span: &EntryExtent) -> Result<EntryHead, ReadError>
     ensures exact { result ≡ eh_frame_id entry.now span.now }
     ensures memory { result ≢ Err ReadError.OutOfMemory }
 {
     let (id, next) = read_u32(entry, span.contents)?;
     let distance = id as usize;
     if distance == 0 {
-        return Ok(EntryHead::Cie(next, span.end));
+        return Ok(EntryHead::Cie {
+            fields: next,
+            end: span.end,
+        });
     }
     if distance > span.contents {
         return Err(ReadError::NumberTooBig);
     }
-    Ok(EntryHead::Fde(span.contents - distance, next, span.end))
+    Ok(EntryHead::Fde {
+        cie_offset: span.contents - distance,
+        fields: next,
+        end: span.end,
+    })
 }
 
 /// Returns the id of an entry of `.debug_frame`, where an FDE's CIE lies at the offset in the field.
 #[tactic(auto, unfolding(crate::specs::Entry::short_id, crate::specs::Entry::long_id))]
-fn read_debug_frame_id(entry: &[u8], span: &Span) -> Result<EntryHead, ReadError>
+fn read_debug_frame_id(entry: &[u8], span: &EntryExtent) -> Result<EntryHead, ReadError>
     ensures exact { result ≡ debug_frame_id entry.now span.now }
     ensures memory { result ≢ Err ReadError.OutOfMemory }
 {
     if span.offset_size == 4 {
         let (id, next) = read_u32(entry, span.contents)?;
         if id == u32::MAX {
-            return Ok(EntryHead::Cie(next, span.end));
+            return Ok(EntryHead::Cie {
+                fields: next,
+                end: span.end,
+            });
         }
-        return Ok(EntryHead::Fde(id as usize, next, span.end));
+        return Ok(EntryHead::Fde {
+            cie_offset: id as usize,
+            fields: next,
+            end: span.end,
+        });
     }
     let (id, next) = read_u64(entry, span.contents)?;
     if id == u64::MAX {
-        return Ok(EntryHead::Cie(next, span.end));
+        return Ok(EntryHead::Cie {
+            fields: next,
+            end: span.end,
+        });
     }
-    Ok(EntryHead::Fde(id as usize, next, span.end))
+    Ok(EntryHead::Fde {
+        cie_offset: id as usize,
+        fields: next,
+        end: span.end,
+    })
 }
 
 /// Returns whether the CIE's version is one that is read here.
@@ -236,7 +269,7 @@ impl<'a> UnwindSection<'a> {
         ensures memory { result ≢ Err ReadError.OutOfMemory }
     {
         match self.head_at(at)? {
-            EntryHead::Cie(fields, end) => self.read_cie(fields, end),
+            EntryHead::Cie { fields, end } => self.read_cie(fields, end),
             _ => Err(ReadError::NotCie),
         }
     }
@@ -333,8 +366,12 @@ impl<'a> UnwindSection<'a> {
         ensures memory { result ≢ Err ReadError.OutOfMemory }
     {
         match self.head_at(at)? {
-            EntryHead::Fde(named, fields, end) => {
-                let cie = self.read_cie_at(named)?;
+            EntryHead::Fde {
+                cie_offset,
+                fields,
+                end,
+            } => {
+                let cie = self.read_cie_at(cie_offset)?;
                 self.read_fde(&cie, fields, end)
             }
             _ => Err(ReadError::NotFde),

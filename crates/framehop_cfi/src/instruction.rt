@@ -13,36 +13,44 @@ use crate::rule::{CfaRule, Expression, Register, RegisterRule};
 /// A call frame instruction. Factored offsets are multiplied out.
 #[derive(Clone, Copy, Debug, PartialEq, Eq)]
 pub enum CallFrameInstruction {
-    /// Nothing that a row tells.
+    /// `DW_CFA_nop`: nothing.
     Nop,
-    /// The location is that address, an SVMA.
+    /// `DW_CFA_AARCH64_negate_ra_state`: the return address is signed from here on, or no longer. A
+    /// row does not keep it: authentication bits are stripped by a mask.
+    NegateRaState,
+    /// `DW_CFA_GNU_args_size`: how many bytes of arguments are on the stack. A row does not keep it.
+    ArgsSize {
+        size: u64,
+    },
+    /// `DW_CFA_set_loc`: the location is that address, an SVMA.
     SetLoc {
         address: u64,
     },
-    /// The location rises by `delta` times the code alignment.
+    /// `DW_CFA_advance_loc` and those of 1, 2 and 4 bytes: the location rises by `delta` times the code alignment.
     AdvanceLoc {
         delta: u32,
     },
-    /// The register has that rule.
+    /// The register has that rule: `DW_CFA_offset`, `DW_CFA_undefined` and the others that name a
+    /// register and give it a rule.
     SetRule {
         register: Register,
         rule: RegisterRule,
     },
-    /// The register has the rule that the CIE gave it.
+    /// `DW_CFA_restore`, `DW_CFA_restore_extended`: the register has the rule that the CIE gave it.
     Restore {
         register: Register,
     },
-    /// The row is remembered.
+    /// `DW_CFA_remember_state`: the row is remembered.
     RememberState,
-    /// The row is the one that was remembered last.
+    /// `DW_CFA_restore_state`: the row is the one that was remembered last.
     RestoreState,
-    /// The CFA has that rule.
+    /// `DW_CFA_def_cfa`, `DW_CFA_def_cfa_sf`, `DW_CFA_def_cfa_expression`: the CFA has that rule.
     DefCfa(CfaRule),
-    /// The CFA counts from that register.
+    /// `DW_CFA_def_cfa_register`: the CFA counts from that register.
     DefCfaRegister {
         register: Register,
     },
-    /// The CFA has that offset.
+    /// `DW_CFA_def_cfa_offset`, `DW_CFA_def_cfa_offset_sf`: the CFA has that offset.
     DefCfaOffset {
         offset: i64,
     },
@@ -132,32 +140,41 @@ fn read_rule(
     ensures memory { result ≢ Err ReadError.OutOfMemory }
 {
     match code {
+        // DW_CFA_offset_extended
         0x05 => {
             let (offset, next) = read_factored(alignment, bytes, at)?;
             Ok((RegisterRule::Offset(offset), next))
         }
+        // DW_CFA_undefined
         0x07 => Ok((RegisterRule::Undefined, at)),
+        // DW_CFA_same_value
         0x08 => Ok((RegisterRule::SameValue, at)),
+        // DW_CFA_register
         0x09 => {
             let (register, next) = read_register(bytes, at)?;
             Ok((RegisterRule::Register(register), next))
         }
+        // DW_CFA_expression
         0x10 => {
             let (expression, next) = read_expression(bytes, at)?;
             Ok((RegisterRule::Expression(expression), next))
         }
+        // DW_CFA_offset_extended_sf
         0x11 => {
             let (offset, next) = read_factored_signed(alignment, bytes, at)?;
             Ok((RegisterRule::Offset(offset), next))
         }
+        // DW_CFA_val_offset
         0x14 => {
             let (offset, next) = read_factored(alignment, bytes, at)?;
             Ok((RegisterRule::ValOffset(offset), next))
         }
+        // DW_CFA_val_offset_sf
         0x15 => {
             let (offset, next) = read_factored_signed(alignment, bytes, at)?;
             Ok((RegisterRule::ValOffset(offset), next))
         }
+        // DW_CFA_val_expression
         0x16 => {
             let (expression, next) = read_expression(bytes, at)?;
             Ok((RegisterRule::ValExpression(expression), next))
@@ -225,21 +242,27 @@ fn read_cfa(
     ensures memory { result ≢ Err ReadError.OutOfMemory }
 {
     match code {
+        // DW_CFA_def_cfa
         0x0c => read_def_cfa(bytes, at),
+        // DW_CFA_def_cfa_register
         0x0d => {
             let (register, next) = read_register(bytes, at)?;
             Ok((CallFrameInstruction::DefCfaRegister { register }, next))
         }
+        // DW_CFA_def_cfa_offset
         0x0e => {
             let (offset, next) = read_offset(bytes, at)?;
             Ok((CallFrameInstruction::DefCfaOffset { offset }, next))
         }
+        // DW_CFA_def_cfa_expression
         0x0f => {
             let (expression, next) = read_expression(bytes, at)?;
             let rule = CfaRule::Expression(expression);
             Ok((CallFrameInstruction::DefCfa(rule), next))
         }
+        // DW_CFA_def_cfa_sf
         0x12 => read_def_cfa_factored(alignment, bytes, at),
+        // DW_CFA_def_cfa_offset_sf
         0x13 => {
             let (offset, next) = read_factored_signed(alignment, bytes, at)?;
             Ok((CallFrameInstruction::DefCfaOffset { offset }, next))
@@ -277,16 +300,19 @@ impl CommonInformationEntry {
         ensures forward { IfOk result (λ read. at ≤ read.1) }
         ensures memory { result ≢ Err ReadError.OutOfMemory }
     {
+        // DW_CFA_restore
         if code >= 0xc0 {
             let register = Register(u16::from(code - 0xc0));
             return Ok((CallFrameInstruction::Restore { register }, at));
         }
+        // DW_CFA_offset
         if code >= 0x80 {
             let register = Register(u16::from(code - 0x80));
             let (offset, next) = read_factored(self.data_alignment_factor, bytes, at)?;
             let rule = RegisterRule::Offset(offset);
             return Ok((CallFrameInstruction::SetRule { register, rule }, next));
         }
+        // DW_CFA_advance_loc
         if code >= 0x40 {
             let delta = u32::from(code - 0x40);
             return Ok((CallFrameInstruction::AdvanceLoc { delta }, at));
@@ -307,22 +333,30 @@ impl CommonInformationEntry {
         ensures memory { result ≢ Err ReadError.OutOfMemory }
     {
         match code {
-            0x00 | 0x2d => Ok((CallFrameInstruction::Nop, at)),
+            // DW_CFA_nop
+            0x00 => Ok((CallFrameInstruction::Nop, at)),
+            // DW_CFA_AARCH64_negate_ra_state
+            0x2d => Ok((CallFrameInstruction::NegateRaState, at)),
+            // DW_CFA_set_loc
             0x01 => {
                 let (address, next) = bases.read_pointer(bytes, at, self.fde_pointer_encoding)?;
                 Ok((CallFrameInstruction::SetLoc { address }, next))
             }
             0x02..=0x04 => read_advance(code, bytes, at),
+            // DW_CFA_restore_extended
             0x06 => {
                 let (register, next) = read_register(bytes, at)?;
                 Ok((CallFrameInstruction::Restore { register }, next))
             }
+            // DW_CFA_remember_state
             0x0a => Ok((CallFrameInstruction::RememberState, at)),
+            // DW_CFA_restore_state
             0x0b => Ok((CallFrameInstruction::RestoreState, at)),
             0x0c..=0x0f | 0x12 | 0x13 => read_cfa(self.data_alignment_factor, code, bytes, at),
+            // DW_CFA_GNU_args_size
             0x2e => {
-                let (_, next) = read_uleb128(bytes, at)?;
-                Ok((CallFrameInstruction::Nop, next))
+                let (size, next) = read_uleb128(bytes, at)?;
+                Ok((CallFrameInstruction::ArgsSize { size }, next))
             }
             0x05..=0x16 => read_set_rule(self.data_alignment_factor, code, bytes, at),
             _ => Err(ReadError::UnknownInstruction),
@@ -341,16 +375,19 @@ fn read_advance(
     ensures memory { result ≢ Err ReadError.OutOfMemory }
 {
     match code {
+        // DW_CFA_advance_loc1
         0x02 => {
             let (delta, next) = read_u8(bytes, at)?;
             let delta = u32::from(delta);
             Ok((CallFrameInstruction::AdvanceLoc { delta }, next))
         }
+        // DW_CFA_advance_loc2
         0x03 => {
             let (delta, next) = read_u16(bytes, at)?;
             let delta = u32::from(delta);
             Ok((CallFrameInstruction::AdvanceLoc { delta }, next))
         }
+        // DW_CFA_advance_loc4
         _ => {
             let (delta, next) = read_u32(bytes, at)?;
             Ok((CallFrameInstruction::AdvanceLoc { delta }, next))

@@ -3,10 +3,10 @@ use Rattle.std.proofs.Common.{◌≡◌, ℕ, zero, suc, ◌+◌, ◌<◌, List,
 use Rattle.std.proofs.lemmas.Bool.{lt-leb}
 use Rattle.std.proofs.lemmas.List.{append-nil}
 use Rattle.framehop_cfi.specs.Bytes.{◌>>=◌}
-use Rattle.framehop_cfi.specs.Span.{span_at, is_zero_length}
+use Rattle.framehop_cfi.specs.EntryExtent.{extent_at, is_zero_length}
 use Rattle.framehop_cfi.specs.Section.{Section}
 use Rattle.framehop_cfi.specs.Entries.{Cut, cut_from, cut, after_zero}
-use Rattle.framehop_cfi.specs.declared.span.Span.{Span}
+use Rattle.framehop_cfi.specs.declared.extent.EntryExtent.{EntryExtent}
 use Rattle.framehop_cfi.specs.declared.entry.UnwindSectionType.{UnwindSectionType}
 use Rattle.framehop_cfi.specs.declared.entry.UnwindSectionType.TheVariants.{EhFrame, DebugFrame}
 use Rattle.framehop_cfi.specs.declared.read_error.ReadError.{ReadError}
@@ -46,31 +46,31 @@ unchanged pairs (Ok others) = refl
 unchanged pairs (Err error) = refl
 
 module _ (section : Section) (base : ℕ) (pairs : List (ℕ × ℕ)) where
-  pub span-refused : (n at : ℕ) (error : ReadError) → IsIn section n at → span_at section.bytes at ≡ Err error → left section base pairs n at ≡ Err (Gimli error)
+  pub span-refused : (n at : ℕ) (error : ReadError) → IsIn section n at → extent_at section.bytes at ≡ Err error → left section base pairs n at ≡ Err (Gimli error)
   span-refused zero at error inside is = absurd (omega arith)
   span-refused (suc n) at error inside is = rw (lt-leb (length section.bytes) at inside.1, is) refl
 
-  pub ended : (n at : ℕ) (span : Span) → IsIn section n at → span_at section.bytes at ≡ Ok span → is_zero_length span ≡ true → section.kind ≡ EhFrame → left section base pairs n at ≡ Ok pairs
+  pub ended : (n at : ℕ) (span : EntryExtent) → IsIn section n at → extent_at section.bytes at ≡ Ok span → is_zero_length span ≡ true → section.kind ≡ EhFrame → left section base pairs n at ≡ Ok pairs
   ended zero at span inside is zeros kind = absurd (omega arith)
   ended (suc n) at span inside is zeros kind =
       rw (lt-leb (length section.bytes) at inside.1, is) (rw zeros (rw (ends section.kind (cut_from section n span.end) section base kind) (ap Ok (append-nil pairs))))
 
-  pub past-zero : (n at : ℕ) (span : Span) → IsIn section n at → at < span.end → span_at section.bytes at ≡ Ok span → is_zero_length span ≡ true → section.kind ≡ DebugFrame → GoesOn section base pairs pairs n at span.end
+  pub past-zero : (n at : ℕ) (span : EntryExtent) → IsIn section n at → at < span.end → extent_at section.bytes at ≡ Ok span → is_zero_length span ≡ true → section.kind ≡ DebugFrame → GoesOn section base pairs pairs n at span.end
   past-zero zero at span inside behind is zeros kind = absurd (omega arith)
   past-zero (suc n) at span inside behind is zeros kind =
       (n, omega arith, rw (lt-leb (length section.bytes) at inside.1, is) (rw zeros (rw (passes section.kind (cut_from section n span.end) section base kind) refl)))
 
-  pub past-cie : (n at : ℕ) (span : Span) → IsIn section n at → at < span.end → span_at section.bytes at ≡ Ok span → is_zero_length span ≡ false → pair_at section base at ≡ Ok None → GoesOn section base pairs pairs n at span.end
+  pub past-cie : (n at : ℕ) (span : EntryExtent) → IsIn section n at → at < span.end → extent_at section.bytes at ≡ Ok span → is_zero_length span ≡ false → pair_at section base at ≡ Ok None → GoesOn section base pairs pairs n at span.end
   past-cie zero at span inside behind is some read = absurd (omega arith)
   past-cie (suc n) at span inside behind is some read =
       (n, omega arith, rw (lt-leb (length section.bytes) at inside.1, is) (rw some (rw read (unchanged pairs (of_cut section base (cut_from section n span.end))))))
 
-  pub past-fde : (n at : ℕ) (span : Span) (pair : ℕ × ℕ) → IsIn section n at → at < span.end → span_at section.bytes at ≡ Ok span → is_zero_length span ≡ false → pair_at section base at ≡ Ok (Some pair) → GoesOn section base pairs (pairs ++ pair ∷ []) n at span.end
+  pub past-fde : (n at : ℕ) (span : EntryExtent) (pair : ℕ × ℕ) → IsIn section n at → at < span.end → extent_at section.bytes at ≡ Ok span → is_zero_length span ≡ false → pair_at section base at ≡ Ok (Some pair) → GoesOn section base pairs (pairs ++ pair ∷ []) n at span.end
   past-fde zero at span pair inside behind is some read = absurd (omega arith)
   past-fde (suc n) at span pair inside behind is some read =
       (n, omega arith, rw (lt-leb (length section.bytes) at inside.1, is) (rw some (rw read (joined pairs pair (of_cut section base (cut_from section n span.end))))))
 
-  pub entry-refused : (n at : ℕ) (span : Span) (error : DwarfCfiIndexError) → IsIn section n at → span_at section.bytes at ≡ Ok span → is_zero_length span ≡ false → pair_at section base at ≡ Err error → left section base pairs n at ≡ Err error
+  pub entry-refused : (n at : ℕ) (span : EntryExtent) (error : DwarfCfiIndexError) → IsIn section n at → extent_at section.bytes at ≡ Ok span → is_zero_length span ≡ false → pair_at section base at ≡ Err error → left section base pairs n at ≡ Err error
   entry-refused zero at span error inside is some read = absurd (omega arith)
   entry-refused (suc n) at span error inside is some read = rw (lt-leb (length section.bytes) at inside.1, is) (rw some (rw read refl))
 

@@ -1,7 +1,7 @@
 //! An index of a section's FDEs by their starts, for a section that has no table of its own.
 ghost use Rattle.std.specs.Prelude.{◌≡◌, ◌≢◌, IfOk, IfErr, Ok, Err, false, IsPermutation, ℕ, map};
 ghost use Rattle.framehop_cfi.specs.Section.{section_of};
-ghost use Rattle.framehop_cfi.specs.Span.{span_at, is_zero_length};
+ghost use Rattle.framehop_cfi.specs.EntryExtent.{extent_at, is_zero_length};
 ghost use Rattle.framehop_cfi.specs.Entry.{cie_at, head_at, fde_of_head};
 ghost use Rattle.framehop_dwarf.specs.Index.{pair_of, pair_of_head, pair_at, pairs_of, fde_offset_for, IsFdeFor, IsKnown, IsIndexOf, HasNoIndex};
 ghost use Rattle.framehop_dwarf.specs.declared.index.DwarfCfiIndexError.TheVariants.{Gimli};
@@ -14,11 +14,11 @@ use crate::bases::base_addresses_for_sections;
 use framehop_cfi::entry::{
     CommonInformationEntry, EntryHead, FrameDescriptionEntry, UnwindSection, UnwindSectionType,
 };
+use framehop_cfi::extent::{EntryExtent, read_extent};
 use framehop_cfi::place::{Starts, place};
 use framehop_cfi::pointer::BaseAddresses;
 use framehop_cfi::read_error::ReadError;
 use framehop_cfi::section::ModuleSectionInfo;
-use framehop_cfi::span::{Span, read_span};
 use std::alloc::{AllocError, Global};
 use std::marker::Model;
 use thiserror::Error;
@@ -80,20 +80,20 @@ fn cie_from_offset(
     Ok(cie)
 }
 
-/// Returns the FDE whose CIE is at `named`, and whose fields begin after that and end with the entry.
+/// Returns the FDE whose CIE is at `cie_offset`, and whose fields begin after that and end with the entry.
 #[tactic(auto, unfolding(framehop_cfi::specs::Entry::fde_of_head))]
 fn read_fde(
     section: &UnwindSection,
     known: &mut Option<(usize, CommonInformationEntry)>,
-    named: usize,
+    cie_offset: usize,
     fields: usize,
     end: usize,
 ) -> Result<FrameDescriptionEntry, ReadError>
     requires { IsKnown section.now known.old }
-    ensures exact { result ≡ fde_of_head section.now (Fde named fields end) }
+    ensures exact { result ≡ fde_of_head section.now (Fde cie_offset fields end) }
     ensures known { IsKnown section.now known.new }
 {
-    let cie = cie_from_offset(section, known, named)?;
+    let cie = cie_from_offset(section, known, cie_offset)?;
     section.read_fde(&cie, fields, end)
 }
 
@@ -114,14 +114,18 @@ fn read_pair(
 {
     match head {
         EntryHead::ZeroLength(_) => Err(DwarfCfiIndexError::Gimli(ReadError::NotFde)),
-        EntryHead::Cie(fields, end) => match section.read_cie(fields, end) {
+        EntryHead::Cie { fields, end } => match section.read_cie(fields, end) {
             Ok(cie) => {
                 *known = Some((at, cie));
                 Ok(None)
             }
             Err(error) => Err(DwarfCfiIndexError::Gimli(error)),
         },
-        EntryHead::Fde(named, fields, end) => match read_fde(section, known, named, fields, end) {
+        EntryHead::Fde {
+            cie_offset,
+            fields,
+            end,
+        } => match read_fde(section, known, cie_offset, fields, end) {
             Ok(fde) => {
                 let pair = pair_of(base_svma, at, &fde)?;
                 Ok(Some(pair))
@@ -138,10 +142,10 @@ fn visit_entry(
     base_svma: u64,
     known: &mut Option<(usize, CommonInformationEntry)>,
     at: usize,
-    span: &Span,
+    span: &EntryExtent,
 ) -> Result<Option<(u32, u32)>, DwarfCfiIndexError>
     requires known { IsKnown section.now known.old }
-    requires span { span_at section.now.bytes at ≡ Ok span.now }
+    requires span { extent_at section.now.bytes at ≡ Ok span.now }
     requires some { is_zero_length span.now ≡ false }
     ensures exact { result ≡ pair_at section.now base_svma at }
     ensures known { IsKnown section.now known.new }
@@ -165,7 +169,7 @@ fn read_pairs(
     let mut known = None;
     let mut at = 0;
     while at < section.bytes.len() {
-        let span = match read_span(section.bytes, at) {
+        let span = match read_extent(section.bytes, at) {
             Ok(span) => span,
             Err(error) => return Err(DwarfCfiIndexError::Gimli(error)),
         };

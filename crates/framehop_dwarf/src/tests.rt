@@ -227,12 +227,12 @@ fn rows_of_one_fde(rt: HostRuntime) -> Result<(), Fail> {
     ];
     let mut context = UnwindContext::<StoreOnStack>::new_in(rt.alloc())?;
     for (address, expected) in rows {
-        context.evaluate(&section, &fde, address)?;
+        context.row_for_address(&section, &fde, address)?;
         let row = row_text(rt.alloc(), context.row())?;
         assert_eq!(rt; row.as_str(), expected, "at {address:x}");
     }
     assert_eq!(rt;
-        context.evaluate(&section, &fde, 0x1020).err(),
+        context.row_for_address(&section, &fde, 0x1020).err(),
         Some(ReadError::NoRow)
     );
     assert_eq!(rt; section.fde_from_offset(0).err(), Some(ReadError::NotFde));
@@ -335,7 +335,7 @@ fn compare<S: UnwindContextStorage>(
     let mut context = UnwindContext::<S>::new_in(rt.alloc())?;
     for (offset, place, expected) in rows {
         let fde = section.fde_from_offset(*offset as usize)?;
-        context.evaluate(&section, &fde, *place)?;
+        context.row_for_address(&section, &fde, *place)?;
         let row = row_text(rt.alloc(), context.row())?;
         assert_eq!(rt; row.as_str(), *expected, "at {place:x}");
     }
@@ -343,7 +343,7 @@ fn compare<S: UnwindContextStorage>(
     for (before, after) in rows.iter().zip(rows.iter().skip(1)) {
         if before.0 == after.0 && after.1 > 0 {
             let fde = section.fde_from_offset(before.0 as usize)?;
-            context.evaluate(&section, &fde, after.1 - 1)?;
+            context.row_for_address(&section, &fde, after.1 - 1)?;
             let row = row_text(rt.alloc(), context.row())?;
             assert_eq!(rt; row.as_str(), before.2, "before {:x}", after.1);
         }
@@ -429,7 +429,7 @@ fn remembered<S: UnwindContextStorage>(
     let section = UnwindSection::new(data.bytes(), UnwindSectionType::EhFrame, &at(0x2000));
     let fde = section.fde_from_offset(24)?;
     let mut context = UnwindContext::<S>::new_in(rt.alloc())?;
-    Ok(context.evaluate(&section, &fde, 0x1000).err())
+    Ok(context.row_for_address(&section, &fde, 0x1000).err())
 }
 
 #[test]
@@ -470,7 +470,7 @@ fn with_rules<S: UnwindContextStorage>(
     let section = UnwindSection::new(data.bytes(), UnwindSectionType::EhFrame, &at(0x2000));
     let fde = section.fde_from_offset(24)?;
     let mut context = UnwindContext::<S>::new_in(rt.alloc())?;
-    Ok(context.evaluate(&section, &fde, 0x1000).err())
+    Ok(context.row_for_address(&section, &fde, 0x1000).err())
 }
 
 #[test]

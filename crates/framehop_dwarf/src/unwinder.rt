@@ -109,7 +109,7 @@ fn find_row<S: UnwindContextStorage>(
         Some(address) => address,
         None => return Ok(false),
     };
-    match unwind_context.evaluate(section, &fde, address) {
+    match unwind_context.row_for_address(section, &fde, address) {
         Ok(()) => Ok(true),
         Err(error) => {
             if error == ReadError::OutOfMemory {

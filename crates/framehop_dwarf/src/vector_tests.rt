@@ -31,7 +31,7 @@ fn row_at(
     let section = UnwindSection::new(data.bytes(), section_type, &BASES);
     let fde = section.fde_from_offset(offset)?;
     let mut context = UnwindContext::<StoreOnStack>::new_in(rt.alloc())?;
-    context.evaluate(&section, &fde, address)?;
+    context.row_for_address(&section, &fde, address)?;
     let row = row_text(rt.alloc(), context.row())?;
     Ok(row)
 }

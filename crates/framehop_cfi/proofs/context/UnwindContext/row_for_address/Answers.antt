@@ -1,5 +1,5 @@
 use Rattle.framehop_cfi.proofs.RowMeaning.{answered, refused, becomes-row_at}
-use Rattle.framehop_cfi.proofs.context.UnwindContext.evaluate.Goals as goal
+use Rattle.framehop_cfi.proofs.context.UnwindContext.row_for_address.Goals as goal
 
 pub returns-clause-row : goal.returns-clause-row
 returns-clause-row g c =

@@ -1,13 +1,13 @@
 //! Where an entry of a call frame section begins and ends (DWARF 5 section 7.4).
 ghost use Rattle.std.specs.Prelude.{◌≡◌, ◌≢◌, Err, ◌<◌, ℕ, IfOk};
-ghost use Rattle.framehop_cfi.specs.Span.{span_at, held, is_zero_length, IsWithin};
+ghost use Rattle.framehop_cfi.specs.EntryExtent.{extent_at, held, is_zero_length, IsWithin};
 
 use crate::bytes::{read_u32, read_u64};
 use crate::read_error::ReadError;
 
 /// Where an entry's contents stand, after its length.
 #[derive(Clone, Copy)]
-pub struct Span {
+pub struct EntryExtent {
     /// The offset of the contents.
     pub contents: usize,
     /// The offset after them.
@@ -17,25 +17,30 @@ pub struct Span {
 }
 
 /// Returns the span of the entry at an offset. Its length has 4 bytes, or 8 after four bytes `FF`.
-#[tactic(auto, unfolding(crate::specs::Span::span_at, crate::specs::Span::long_span))]
-pub fn read_span(bytes: &[u8], at: usize) -> Result<Span, ReadError>
-    ensures exact { result ≡ span_at bytes.now at }
+#[tactic(auto, unfolding(crate::specs::EntryExtent::extent_at, crate::specs::EntryExtent::long_extent))]
+pub fn read_extent(bytes: &[u8], at: usize) -> Result<EntryExtent, ReadError>
+    ensures exact { result ≡ extent_at bytes.now at }
     ensures within { IfOk result (IsWithin bytes.now at) }
     ensures memory { result ≢ Err ReadError.OutOfMemory }
 {
     let (length, next) = read_u32(bytes, at)?;
     if length < 0xffff_fff0 {
-        return held_span(bytes, 4, next, u64::from(length));
+        return held_extent(bytes, 4, next, u64::from(length));
     }
     if length == 0xffff_ffff {
         let (length, next) = read_u64(bytes, next)?;
-        return held_span(bytes, 8, next, length);
+        return held_extent(bytes, 8, next, length);
     }
     Err(ReadError::BadLength)
 }
 
 /// Contents of that length, if the section holds them.
-fn held_span(bytes: &[u8], offset_size: u8, contents: usize, length: u64) -> Result<Span, ReadError>
+fn held_extent(
+    bytes: &[u8],
+    offset_size: u8,
+    contents: usize,
+    length: u64,
+) -> Result<EntryExtent, ReadError>
     ensures exact { result ≡ held bytes.now offset_size contents length }
     ensures within { (at : ℕ) → at < contents → IfOk result (IsWithin bytes.now at) }
     ensures memory { result ≢ Err ReadError.OutOfMemory }
@@ -44,14 +49,14 @@ fn held_span(bytes: &[u8], offset_size: u8, contents: usize, length: u64) -> Res
         return Err(ReadError::Eof);
     }
     let end = contents + length as usize;
-    Ok(Span {
+    Ok(EntryExtent {
         contents,
         end,
         offset_size,
     })
 }
 
-impl Span {
+impl EntryExtent {
     /// Returns whether this is a length of 0 in 4 bytes, which is no entry.
     #[inline]
     pub fn is_zero_length(&self) -> bool
