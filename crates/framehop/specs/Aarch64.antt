@@ -47,12 +47,16 @@ abbrev pub IsSoundAarch64 : Policy → UnwinderView → CacheView UnwindRuleAarc
 IsSoundAarch64 policy unwinder cache = IsSound (aarch64 policy) unwinder cache.sets
 
 -- the cache after a step at a location
-abbrev pub aarch64_cache_after : {P Rows Values Stack : Type 0} → Policy → UnwinderView → CacheAarch64 P Rows Values Stack → FrameLocation → CacheAarch64 P Rows Values Stack
-aarch64_cache_after policy unwinder cache location = record { 0 = cache_after (aarch64 policy) unwinder cache.0 location }
+abbrev pub aarch64_cache_after : {P Rows Values Stack : Type 0} → Policy → UnwinderView
+    → CacheAarch64 P Rows Values Stack → FrameLocation → CacheAarch64 P Rows Values Stack
+aarch64_cache_after policy unwinder cache location =
+    record { 0 = cache_after (aarch64 policy) unwinder cache.0 location }
 
--- A walk to its end: the walk of some limit that it does not reach, and the cache that it leaves. It has at most two frames
--- more than sp has risen since its first step.
-pub record IsWalkToEnd {P Rows Values Stack : Type 0} (policy : Policy) (unwinder : UnwinderView) (memory : Memory) (pc : ℕ) (regs : Registers) (reply : CachedReply Registers) (old new : CacheAarch64 P Rows Values Stack) : Type 0 where
+-- A walk to its end: the walk of some limit that it does not reach, and the cache that it leaves. It has at most two
+-- frames more than sp has risen since its first step.
+pub record IsWalkToEnd {P Rows Values Stack : Type 0} (policy : Policy) (unwinder : UnwinderView) (memory : Memory)
+    (pc : ℕ) (regs : Registers) (reply : CachedReply Registers)
+    (old new : CacheAarch64 P Rows Values Stack) : Type 0 where
   pub limit : ℕ
   pub few : limit ≤ 2 ^ 64 + 2
   pub ended : (walk_from (aarch64_step policy unwinder memory) limit pc regs).end ≢ at_limit
@@ -60,4 +64,5 @@ pub record IsWalkToEnd {P Rows Values Stack : Type 0} (policy : Policy) (unwinde
   pub within : IsWalkWithinRise (λ r. r.sp)
       (registers_after regs (aarch64_step policy unwinder memory (at_instruction_pointer pc) regs))
       (walk_from (aarch64_step policy unwinder memory) limit pc regs)
-  pub cached : new ≡ cache_after_walk (aarch64_step policy unwinder memory) (aarch64_cache_after policy unwinder) limit pc regs old
+  pub cached : new ≡ cache_after_walk (aarch64_step policy unwinder memory)
+      (aarch64_cache_after policy unwinder) limit pc regs old

@@ -54,8 +54,8 @@ abbrev pub hit_or : {R : Type 0} → Option (Entry R) → Found R → Found R
 hit_or (Some entry) other = hit entry.rule
 hit_or None other = other
 
--- A lookup in a set of so many ways: a hit where the key is stored; else an empty slot where the set has room; else wrong
--- modules where no entry has the generation; else a wrong address.
+-- A lookup in a set of so many ways: a hit where the key is stored; else an empty slot where the set has room; else
+-- wrong modules where no entry has the generation; else a wrong address.
 abbrev pub found_in : {R : Type 0} → ℕ → List (Entry R) → Key → Found R
 found_in ways set key =
     hit_or (find (λ entry. same_key entry.key key) set)
@@ -73,7 +73,8 @@ inserted_in ways entry set = take ways (entry ∷ filter (λ other. not (same_ke
 
 -- an insert into the sets
 abbrev pub inserted : {R : Type 0} → ℕ → Sets R → Entry R → Sets R
-inserted ways sets entry = slice_set sets (set_number entry.key.address) (inserted_in ways entry (set_of sets entry.key.address))
+inserted ways sets entry =
+    slice_set sets (set_number entry.key.address) (inserted_in ways entry (set_of sets entry.key.address))
 
 -- one more, short of the largest `u64`
 abbrev pub one_more : ℕ → ℕ
@@ -88,7 +89,8 @@ counted stats wrong_address = record stats { miss_wrong_address_count = one_more
 
 -- how many lookups missed, and how many there were, short of the largest `u64`
 abbrev pub misses_of : CacheStats → ℕ
-misses_of stats = min (stats.miss_empty_slot_count + stats.miss_wrong_modules_count + stats.miss_wrong_address_count) (2 ^ 64 - 1)
+misses_of stats =
+    min (stats.miss_empty_slot_count + stats.miss_wrong_modules_count + stats.miss_wrong_address_count) (2 ^ 64 - 1)
 
 abbrev pub total_of : CacheStats → ℕ
 total_of stats = min (stats.hit_count + misses_of stats) (2 ^ 64 - 1)
@@ -99,7 +101,8 @@ ways = 1
 
 -- a cache as it is made
 abbrev pub no_stats : CacheStats
-no_stats = record { hit_count = 0; miss_empty_slot_count = 0; miss_wrong_modules_count = 0; miss_wrong_address_count = 0 }
+no_stats =
+    record { hit_count = 0; miss_empty_slot_count = 0; miss_wrong_modules_count = 0; miss_wrong_address_count = 0 }
 
 abbrev pub empty_cache : {R : Type 0} → CacheView R
 empty_cache = record { sets = replicate set_count []; stats = no_stats }

@@ -6,7 +6,8 @@ use Rattle.framehop.specs.declared.rule_cache.CacheEntry.{CacheEntry}
 -- the entry that a slot holds
 abbrev pub entry_of : {R : Type 0} → CacheEntry R → Entry R
 entry_of entry = record {
-  key = record { address = entry.address; generation = entry.modules_generation; is_first_frame = entry.is_first_frame };
+  key =
+      record { address = entry.address; generation = entry.modules_generation; is_first_frame = entry.is_first_frame };
   rule = entry.unwind_rule;
 }
 

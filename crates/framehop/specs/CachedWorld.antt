@@ -1,4 +1,5 @@
--- What a list of commands answers over caches, with the counts of their lookups: the world's replies, and those of `Stats`.
+-- What a list of commands answers over caches, with the counts of their lookups: the world's replies, and those of
+-- `Stats`.
 use Rattle.std.specs.Prelude.{ℕ, Bool, if◌then◌else◌, ◌+◌, ◌-◌, ◌^◌, List, [], ◌∷◌, ◌++◌, map, length, slice_set, slice_index_or, Option, Some, None, Result, Ok, Err, replicate}
 use Rattle.framehop_core.specs.Memory.{Memory}
 use Rattle.framehop_core.specs.Outcome.{Outcome, answer_of, registers_after}
@@ -23,7 +24,8 @@ pub record CachedWorld (R : Type 0) : Type 0 where
 
 -- the same without caches and generation numbers
 abbrev pub world_of : {R : Type 0} → CachedWorld R → World
-world_of state = record { unwinders = map (λ (u : UnwinderView). u.modules) state.unwinders; left = (2 ^ 64 - 1) - state.next }
+world_of state =
+    record { unwinders = map (λ (u : UnwinderView). u.modules) state.unwinders; left = (2 ^ 64 - 1) - state.next }
 
 -- a reply: the world's, or the counts of a cache
 pub data CachedReply (Regs : Type 0) : Type 0 where
@@ -57,7 +59,11 @@ cached_reply unwinding state (Stats cache) = counts (cache_at state cache).stats
 -- the state after it: a step and a walk look up each frame in their cache, and a clone has its original's generation
 abbrev pub cached_after : {D R Regs : Type 0} → Unwinding R Regs → CachedWorld R → Command D Regs → CachedWorld R
 cached_after unwinding state New =
-    record state { unwinders = state.unwinders ++ (record { modules = []; generation = state.next }) ∷ []; next = state.next + 1 }
+    record state {
+      unwinders = state.unwinders ++ (record { modules = []; generation = state.next })
+          ∷ [];
+      next = state.next + 1;
+    }
 cached_after unwinding state (Add unwinder added) =
     record state {
       unwinders = slice_set state.unwinders unwinder (record {
@@ -66,7 +72,8 @@ cached_after unwinding state (Add unwinder added) =
       });
       next = state.next + 1;
     }
-cached_after unwinding state (Clone unwinder) = record state { unwinders = state.unwinders ++ unwinder_at state unwinder ∷ [] }
+cached_after unwinding state (Clone unwinder) =
+    record state { unwinders = state.unwinders ++ unwinder_at state unwinder ∷ [] }
 cached_after unwinding state (Remove unwinder start) =
     if has_start start (unwinder_at state unwinder).modules then record state {
       unwinders = slice_set state.unwinders unwinder (record {
@@ -77,26 +84,33 @@ cached_after unwinding state (Remove unwinder start) =
     }
     else state
 cached_after unwinding state (StepCommand unwinder cache address regs memory) =
-    record state { caches = slice_set state.caches cache (cache_after unwinding (unwinder_at state unwinder) (cache_at state cache) (location_of address)) }
+    record state {
+      caches = slice_set state.caches cache (cache_after unwinding (unwinder_at state unwinder)
+          (cache_at state cache) (location_of address));
+    }
 cached_after unwinding state (WalkCommand unwinder cache pc regs memory limit) =
     let walker = unwinder_at state unwinder in
     record state {
       caches = slice_set state.caches cache
-          (cache_after_walk (step_of unwinding walker (memory_of memory)) (cache_after unwinding walker) limit pc regs (cache_at state cache));
+          (cache_after_walk (step_of unwinding walker (memory_of memory))
+          (cache_after unwinding walker) limit pc regs (cache_at state cache));
     }
 cached_after unwinding state (Stats cache) = state
 
 -- a reply before the others
-abbrev pub reply_then : {Regs : Type 0} → CachedReply Regs → Result (List (CachedReply Regs)) SessionError → Result (List (CachedReply Regs)) SessionError
+abbrev pub reply_then : {Regs : Type 0} → CachedReply Regs → Result (List (CachedReply Regs)) SessionError
+    → Result (List (CachedReply Regs)) SessionError
 reply_then reply (Ok replies) = Ok (reply ∷ replies)
 reply_then reply (Err error) = Err error
 
 -- the replies to a list of commands, or the refusal of the first command that is refused
-unfoldable pub cached_replies : {D R Regs : Type 0} → Unwinding R Regs → CachedWorld R → List (Command D Regs) → Result (List (CachedReply Regs)) SessionError
+unfoldable pub cached_replies : {D R Regs : Type 0} → Unwinding R Regs → CachedWorld R → List (Command D Regs)
+    → Result (List (CachedReply Regs)) SessionError
 cached_replies unwinding state [] = Ok []
 cached_replies unwinding state (command ∷ commands) =
     unless_refused (refusal_of (length state.caches) (world_of state) command)
-    (reply_then (cached_reply unwinding state command) (cached_replies unwinding (cached_after unwinding state command) commands))
+    (reply_then (cached_reply unwinding state command) (cached_replies unwinding
+    (cached_after unwinding state command) commands))
 
 -- the next generation when all commands, or those before the first that is refused, are done
 abbrev pub next_unless : Option SessionError → ℕ → ℕ → ℕ
@@ -122,6 +136,7 @@ unfoldable pub without_counts : {Regs : Type 0} → List (CachedReply Regs) → 
 without_counts [] = []
 without_counts (reply ∷ replies) = world_part reply (without_counts replies)
 
-abbrev pub world_result : {Regs : Type 0} → Result (List (CachedReply Regs)) SessionError → Result (List (WorldReply Regs)) SessionError
+abbrev pub world_result : {Regs : Type 0} → Result (List (CachedReply Regs)) SessionError
+    → Result (List (WorldReply Regs)) SessionError
 world_result (Ok replies) = Ok (without_counts replies)
 world_result (Err error) = Err error

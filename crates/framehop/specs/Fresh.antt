@@ -18,15 +18,17 @@ abbrev pub values_or : {Regs : Type 0} → Option (ℕ × Regs) → Outcome Regs
 values_or (Some values) other = answered values.0 values.1
 values_or None other = other
 
--- What an answer does to a frame of this kind: a rule has its outcome; where values can't be computed, the fallback rule
--- has the unchanged registers.
-abbrev pub outcome_of : {Rule Regs : Type 0} → Unwinding Rule Regs → Fresh Rule Regs → Bool → Regs → Memory → Outcome Regs
+-- What an answer does to a frame of this kind: a rule has its outcome; where values can't be computed, the fallback
+-- rule has the unchanged registers.
+abbrev pub outcome_of : {Rule Regs : Type 0} → Unwinding Rule Regs → Fresh Rule Regs → Bool → Regs → Memory
+    → Outcome Regs
 outcome_of unwinding (by_rule rule) first regs memory = unwinding.outcome rule first regs memory
 outcome_of unwinding (direct values) first regs memory =
     values_or (values regs memory) (unwinding.outcome unwinding.fallback first regs memory)
 
 -- one step: the frame at a location is unwound by what the modules give for its lookup address and its kind
-unfoldable pub step : {Rule Regs : Type 0} → Unwinding Rule Regs → List ModuleView → FrameLocation → Regs → Memory → Outcome Regs
+unfoldable pub step : {Rule Regs : Type 0} → Unwinding Rule Regs → List ModuleView → FrameLocation → Regs → Memory
+    → Outcome Regs
 step unwinding modules location regs memory =
     let first = is_first_frame location in
     outcome_of unwinding (fresh unwinding modules (lookup_address location) first) first regs memory

@@ -40,22 +40,33 @@ pub record Next (Regs : Type 0) : Type 0 where
 abbrev pub next_after : {Regs : Type 0} → FrameLocation → Regs → Outcome Regs → Next Regs
 next_after location old (answered address new) =
     if address == 0 then record { answer = Err ReturnAddressIsNull; progress = at_frame location; regs = new }
-    else record { answer = Ok (Some (at_return_address address)); progress = at_frame (at_return_address address); regs = new }
+    else record {
+      answer = Ok (Some (at_return_address address));
+      progress = at_frame
+          (at_return_address address);
+      regs = new;
+    }
 next_after location old root = record { answer = Ok None; progress = at_end; regs = old }
 next_after location old (refused error) = record { answer = Err error; progress = at_frame location; regs = old }
 
 -- the next call
 abbrev pub next_of : {Regs : Type 0} → (FrameLocation → Regs → Outcome Regs) → Progress → Regs → Next Regs
 next_of step (before pc) regs =
-    record { answer = Ok (Some (at_instruction_pointer pc)); progress = at_frame (at_instruction_pointer pc); regs = regs }
+    record {
+      answer = Ok (Some (at_instruction_pointer pc));
+      progress = at_frame
+          (at_instruction_pointer pc);
+      regs = regs;
+    }
 next_of step (at_frame location) regs = next_after location regs (step location regs)
 next_of step at_end regs = record { answer = Ok None; progress = at_end; regs = regs }
 
--- A call that answers a frame, whatever the callback replies: the first one is the frame at the instruction pointer, with the
--- registers as they are, and any other one a caller's, to which the registers have advanced.
+-- A call that answers a frame, whatever the callback replies: the first one is the frame at the instruction pointer,
+-- with the registers as they are, and any other one a caller's, to which the registers have advanced.
 abbrev pub Moves : {Regs : Type 0} → (Bool → Regs → Regs → Type 0) → Progress → Regs → FrameLocation → Regs → Type 0
 Moves advances (before pc) old location new = (location ≡ at_instruction_pointer pc) × (new ≡ old)
-Moves advances (at_frame callee) old location new = (is_first_frame location ≡ false) × advances (is_first_frame callee) old new
+Moves advances (at_frame callee) old location new =
+    (is_first_frame location ≡ false) × advances (is_first_frame callee) old new
 Moves advances at_end old location new = ⊥
 
 -- the iterator is at a frame, and its location meets a condition
@@ -100,7 +111,8 @@ walk_on step n (at_frame location) regs = callers step n location regs
 walk_on step n at_end regs = record { frames = []; end = end_after n; regs = regs }
 
 -- the cache after it
-abbrev pub cache_on : {Regs Cache : Type 0} → (FrameLocation → Regs → Outcome Regs) → (Cache → FrameLocation → Cache) → ℕ → Progress → Regs → Cache → Cache
+abbrev pub cache_on : {Regs Cache : Type 0} → (FrameLocation → Regs → Outcome Regs) → (Cache → FrameLocation → Cache)
+    → ℕ → Progress → Regs → Cache → Cache
 cache_on step cache_after n (before pc) regs cache = cache_after_walk step cache_after n pc regs cache
 cache_on step cache_after n (at_frame location) regs cache = cache_after_callers step cache_after n location regs cache
 cache_on step cache_after n at_end regs cache = cache

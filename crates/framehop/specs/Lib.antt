@@ -1,3 +1,4 @@
+-- What the contracts of this crate cite: the cache, modules, steps, walks, sessions.
 pub mod Cache
 pub mod CacheEntry
 pub mod CacheResult

@@ -59,7 +59,8 @@ last_of xs = slice_get xs (length xs - 1)
 -- the address is the module's start or lies below its end, and is at most 2^32 - 1 bytes above its base
 abbrev pub covers : ℕ → ModuleView → Bool
 covers address m =
-    ((address == m.start) || nat_lt address m.end) && nat_le m.base_avma address && nat_lt (address - m.base_avma) (2 ^ 32)
+    ((address == m.start) || nat_lt address m.end) && nat_le m.base_avma address
+    && nat_lt (address - m.base_avma) (2 ^ 32)
 
 -- the value, if it passes the test
 abbrev pub passing : {A : Type 0} → (A → Bool) → A → Option A

@@ -19,18 +19,22 @@ IsWalkWithinRise stack_pointer first walk = length walk.frames ≤ 2 + (stack_po
 -- the step at a location is that of a rule
 abbrev pub IsRuleStep : {R Regs : Type 0} → Unwinding R Regs → List ModuleView → Memory → FrameLocation → Regs → Type 0
 IsRuleStep {R} unwinding modules memory location regs =
-    (rule : R) × (step unwinding modules location regs memory ≡ unwinding.outcome rule (is_first_frame location) regs memory)
+    (rule : R) × (step unwinding modules location regs memory ≡ unwinding.outcome rule
+    (is_first_frame location) regs memory)
 
 -- where a step has answered an address: what is said of it, and of the step from the caller's frame
 abbrev pub WhereAnswered : {Regs : Type 0} → Type 0 → (FrameLocation → Regs → Type 0) → Outcome Regs → Type 0
-WhereAnswered here Next (answered address new) = here × MatchBool (address == 0) (Unit {0}) (Next (at_return_address address) new)
+WhereAnswered here Next (answered address new) =
+    here × MatchBool (address == 0) (Unit {0}) (Next (at_return_address address) new)
 WhereAnswered here Next root = Unit {0}
 WhereAnswered here Next (refused _) = Unit {0}
 
 -- each answered step of at most so many, the first one at a location, meets a condition
-unfoldable pub EachAnswered : {Regs : Type 0} → (FrameLocation → Regs → Outcome Regs) → (FrameLocation → Regs → Type 0) → ℕ → FrameLocation → Regs → Type 0
+unfoldable pub EachAnswered : {Regs : Type 0} → (FrameLocation → Regs → Outcome Regs)
+    → (FrameLocation → Regs → Type 0) → ℕ → FrameLocation → Regs → Type 0
 EachAnswered step Holds zero location regs = Unit {0}
-EachAnswered step Holds (suc n) location regs = WhereAnswered (Holds location regs) (EachAnswered step Holds n) (step location regs)
+EachAnswered step Holds (suc n) location regs =
+    WhereAnswered (Holds location regs) (EachAnswered step Holds n) (step location regs)
 
 -- a walk of at most so many frames is one of rules: each of its answered steps is a rule's
 abbrev pub IsWalkOfRules : {R Regs : Type 0} → Unwinding R Regs → List ModuleView → Memory → ℕ → ℕ → Regs → Type 0
@@ -43,7 +47,8 @@ IsWalkOfRules unwinding modules memory (suc n) pc regs =
 
 -- The reply to a command that walks is within the rise since the walk's first step, where all steps of the architecture
 -- rise, or where the walk is one of rules.
-abbrev pub IsReplyWithinRise : {D R Regs : Type 0} → Unwinding R Regs → World → Command D Regs → CachedReply Regs → Type 0
+abbrev pub IsReplyWithinRise : {D R Regs : Type 0} → Unwinding R Regs → World → Command D Regs → CachedReply Regs
+    → Type 0
 IsReplyWithinRise unwinding world (WalkCommand unwinder cache pc regs memory limit) (of_world (walked walk)) =
     let modules = modules_of world unwinder in
     let first = step unwinding modules (at_instruction_pointer pc) regs (memory_of memory) in
@@ -52,7 +57,9 @@ IsReplyWithinRise unwinding world (WalkCommand unwinder cache pc regs memory lim
 IsReplyWithinRise unwinding world command reply = Unit {0}
 
 -- each reply to a list of commands that begins in this world
-unfoldable pub AreWithinRise : {D R Regs : Type 0} → Unwinding R Regs → World → List (Command D Regs) → List (CachedReply Regs) → Type 0
+unfoldable pub AreWithinRise : {D R Regs : Type 0} → Unwinding R Regs → World → List (Command D Regs)
+    → List (CachedReply Regs) → Type 0
 AreWithinRise unwinding world (command ∷ commands) (reply ∷ replies) =
-    IsReplyWithinRise unwinding world command reply × AreWithinRise unwinding (world_after world command) commands replies
+    IsReplyWithinRise unwinding world command reply
+    × AreWithinRise unwinding (world_after world command) commands replies
 AreWithinRise unwinding world commands replies = Unit {0}

@@ -31,6 +31,7 @@ reply_view (WalkReply frames end regs) = of_world (walked (walk_of frames.items 
 reply_view (Stats stats) = counts stats
 
 -- what a session answers
-abbrev pub result_view : {Regs : Type 0} → Result (Vec (Reply Regs) Global) SessionError → Result (List (CachedReply Regs)) SessionError
+abbrev pub result_view : {Regs : Type 0} → Result (Vec (Reply Regs) Global) SessionError
+    → Result (List (CachedReply Regs)) SessionError
 result_view (Ok replies) = Ok (map reply_view replies.items)
 result_view (Err error) = Err error

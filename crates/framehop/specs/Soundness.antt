@@ -17,17 +17,20 @@ Stands entry [] = ⊥
 Stands entry (set ∷ sets) = Among entry set ⊎ Stands entry sets
 
 -- the entry is what the unwinder's modules give for its address and kind, and has their generation
-pub record IsFresh {R Regs : Type 0} (unwinding : Unwinding R Regs) (unwinder : UnwinderView) (entry : Entry R) : Type 0 where
+pub record IsFresh {R Regs : Type 0} (unwinding : Unwinding R Regs) (unwinder : UnwinderView)
+    (entry : Entry R) : Type 0 where
   pub generation : entry.key.generation ≡ unwinder.generation
   pub rule : fresh unwinding unwinder.modules entry.key.address entry.key.is_first_frame ≡ by_rule entry.rule
 
 -- A cache is sound for an unwinder: each entry of the unwinder's generation is what its modules give afresh.
-pub record IsSound {R Regs : Type 0} (unwinding : Unwinding R Regs) (unwinder : UnwinderView) (sets : Sets R) : Type 0 where
+pub record IsSound {R Regs : Type 0} (unwinding : Unwinding R Regs) (unwinder : UnwinderView)
+    (sets : Sets R) : Type 0 where
   pub each : (entry : Entry R) → Stands entry sets → entry.key.generation ≡ unwinder.generation
       → IsFresh unwinding unwinder entry
 
 -- each entry was stored before, or is what the unwinder's modules give afresh, under their generation
-pub record Extends {R Regs : Type 0} (unwinding : Unwinding R Regs) (unwinder : UnwinderView) (old new : Sets R) : Type 0 where
+pub record Extends {R Regs : Type 0} (unwinding : Unwinding R Regs) (unwinder : UnwinderView)
+    (old new : Sets R) : Type 0 where
   pub each : (entry : Entry R) → Stands entry new → Stands entry old ⊎ IsFresh unwinding unwinder entry
 
 -- unwinders of one generation have the same modules
@@ -55,12 +58,15 @@ sets_after sets key wrong_modules answer = sets_after_miss sets key answer
 sets_after sets key wrong_address answer = sets_after_miss sets key answer
 
 -- the cache after a step at a location: one lookup, counted, and at most one insert
-unfoldable pub cache_after : {R Regs : Type 0} → Unwinding R Regs → UnwinderView → CacheView R → FrameLocation → CacheView R
+unfoldable pub cache_after : {R Regs : Type 0} → Unwinding R Regs → UnwinderView → CacheView R → FrameLocation
+    → CacheView R
 cache_after unwinding unwinder cache location =
     let key = key_of unwinder location in
     let seen = found ways cache.sets key in
     record {
-      sets = sets_after cache.sets key seen (fresh unwinding unwinder.modules (lookup_address location) (is_first_frame location));
+      sets =
+          sets_after cache.sets key seen (fresh unwinding unwinder.modules (lookup_address location)
+          (is_first_frame location));
       stats = counted cache.stats seen;
     }
 
@@ -69,10 +75,12 @@ unfoldable pub cache_after_lookup : {R : Type 0} → UnwinderView → CacheView 
 cache_after_lookup unwinder cache location =
     record cache { stats = counted cache.stats (found ways cache.sets (key_of unwinder location)) }
 
--- A step at a location can run out of memory: its rule is not in the cache, and reading what the covering module has for the
--- address takes memory.
-pub record MayRunOut {R Regs : Type 0} (unwinding : Unwinding R Regs) (unwinder : UnwinderView) (cache : CacheView R) (location : FrameLocation) : Type 0 where
+-- A step at a location can run out of memory: its rule is not in the cache, and reading what the covering module has
+-- for the address takes memory.
+pub record MayRunOut {R Regs : Type 0} (unwinding : Unwinding R Regs) (unwinder : UnwinderView) (cache : CacheView R)
+    (location : FrameLocation) : Type 0 where
   pub missed : (rule : R) → found ways cache.sets (key_of unwinder location) ≢ hit rule
   pub covered_by : ModuleView
   pub covers : covering unwinder.modules (lookup_address location) ≡ Some covered_by
-  pub takes : unwinding.takes_memory covered_by (lookup_address location - covered_by.base_avma) (is_first_frame location) ≡ true
+  pub takes : unwinding.takes_memory covered_by (lookup_address location - covered_by.base_avma)
+      (is_first_frame location) ≡ true

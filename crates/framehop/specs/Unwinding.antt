@@ -1,11 +1,12 @@
--- What an architecture makes of rules and modules: the one record by which steps, walks, caches and sessions are defined.
+-- What an architecture makes of rules and modules: the one record by which steps, walks, caches and sessions are
+-- defined.
 use Rattle.std.specs.Prelude.{◌≡◌, ℕ, ◌<◌, Bool, true, false, Option, Some, None}
 use Rattle.framehop_core.specs.Memory.{Memory}
 use Rattle.framehop_core.specs.Outcome.{Outcome, answered}
 use Rattle.framehop.specs.Modules.{ModuleView, no_unwind_data}
 
--- What the unwind data of a module gives for an address: a rule, or values that are computed from registers and memory (a
--- return address and the caller's registers, or none where they can't be had).
+-- What the unwind data of a module gives for an address: a rule, or values that are computed from registers and
+-- memory (a return address and the caller's registers, or none where they can't be had).
 pub data Fresh (Rule Regs : Type 0) : Type 0 where
   by_rule : Rule → Fresh Rule Regs
   direct : (Regs → Memory → Option (ℕ × Regs)) → Fresh Rule Regs
@@ -33,7 +34,8 @@ pub record RisesAsSaid {Rule Regs : Type 0} (unwinding : Unwinding Rule Regs) : 
   pub rules : unwinding.always_rises ≡ true → (rule : Rule) (old new : Regs) (memory : Memory) (address : ℕ)
       → unwinding.outcome rule false old memory ≡ answered address new
       → unwinding.stack_pointer old < unwinding.stack_pointer new
-  pub values : unwinding.always_rises ≡ true → (m : ModuleView) (relative : ℕ) (compute : Regs → Memory → Option (ℕ × Regs))
+  pub values : unwinding.always_rises ≡ true
+      → (m : ModuleView) (relative : ℕ) (compute : Regs → Memory → Option (ℕ × Regs))
       → unwinding.module_answer m relative false ≡ Some (direct compute)
       → (old : Regs) (memory : Memory) (values : ℕ × Regs) → compute old memory ≡ Some values
       → unwinding.stack_pointer old < unwinding.stack_pointer values.1

@@ -38,7 +38,8 @@ callers step (suc n) location regs = onward (callers step n) regs (step location
 -- the walk of at most so many frames, from the one at the instruction pointer on
 unfoldable pub walk_from : {Regs : Type 0} → (FrameLocation → Regs → Outcome Regs) → ℕ → ℕ → Regs → Walk Regs
 walk_from step zero pc regs = record { frames = []; end = at_limit; regs = regs }
-walk_from step (suc n) pc regs = frame_before (at_instruction_pointer pc) (callers step n (at_instruction_pointer pc) regs)
+walk_from step (suc n) pc regs =
+    frame_before (at_instruction_pointer pc) (callers step n (at_instruction_pointer pc) regs)
 
 -- the cache after the steps of a walk, each of which looks up one frame; `next` is the cache after the steps from the
 -- caller's frame on
@@ -47,11 +48,15 @@ onward_cache next cache (answered address new) = if address == 0 then cache else
 onward_cache next cache root = cache
 onward_cache next cache (refused error) = cache
 
-unfoldable pub cache_after_callers : {Regs Cache : Type 0} → (FrameLocation → Regs → Outcome Regs) → (Cache → FrameLocation → Cache) → ℕ → FrameLocation → Regs → Cache → Cache
+unfoldable pub cache_after_callers : {Regs Cache : Type 0} → (FrameLocation → Regs → Outcome Regs)
+    → (Cache → FrameLocation → Cache) → ℕ → FrameLocation → Regs → Cache → Cache
 cache_after_callers step cache_after zero location regs cache = cache
 cache_after_callers step cache_after (suc n) location regs cache =
-    onward_cache (λ caller new. cache_after_callers step cache_after n caller new (cache_after cache location)) (cache_after cache location) (step location regs)
+    onward_cache (λ caller new. cache_after_callers step cache_after n caller new (cache_after cache location))
+    (cache_after cache location) (step location regs)
 
-unfoldable pub cache_after_walk : {Regs Cache : Type 0} → (FrameLocation → Regs → Outcome Regs) → (Cache → FrameLocation → Cache) → ℕ → ℕ → Regs → Cache → Cache
+unfoldable pub cache_after_walk : {Regs Cache : Type 0} → (FrameLocation → Regs → Outcome Regs)
+    → (Cache → FrameLocation → Cache) → ℕ → ℕ → Regs → Cache → Cache
 cache_after_walk step cache_after zero pc regs cache = cache
-cache_after_walk step cache_after (suc n) pc regs cache = cache_after_callers step cache_after n (at_instruction_pointer pc) regs cache
+cache_after_walk step cache_after (suc n) pc regs cache =
+    cache_after_callers step cache_after n (at_instruction_pointer pc) regs cache

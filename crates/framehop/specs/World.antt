@@ -1,5 +1,5 @@
--- What a list of commands answers in a world that knows no cache: unwinders, each a list of modules in order of start, and
--- how many generations are left.
+-- What a list of commands answers in a world that knows no cache: unwinders, each a list of modules in order of
+-- start, and how many generations are left.
 use Rattle.std.specs.Prelude.{ℕ, ◌-◌, ◌^◌, if◌then◌else◌, ◌==◌, nat_le, nat_lt, ◌&&◌, ◌/◌, ◌%◌, List, [], ◌∷◌, ◌++◌, length, slice_get, slice_set, slice_index_or, Option, Some, None, Result, Ok, Err}
 use Rattle.framehop_core.specs.Memory.{Memory}
 use Rattle.framehop_core.specs.Outcome.{Outcome, answer_of, registers_after}
@@ -27,7 +27,8 @@ pub data WorldReply (Regs : Type 0) : Type 0 where
 -- the memory of words of eight bytes from a base on
 abbrev pub memory_of : StackWords → Memory
 memory_of stack address =
-    if nat_le stack.base address && ((address - stack.base) % 8 == 0) then slice_get stack.words.items ((address - stack.base) / 8)
+    if nat_le stack.base address && ((address - stack.base) % 8 == 0)
+    then slice_get stack.words.items ((address - stack.base) / 8)
     else None
 
 -- the refusal of a command that names an unwinder, else another one
@@ -51,8 +52,10 @@ refusal_of caches world (Add unwinder added) = needs_unwinder world unwinder (ne
 refusal_of caches world (Clone unwinder) = needs_unwinder world unwinder None
 refusal_of caches world (Remove unwinder start) =
     needs_unwinder world unwinder (if has_start start (modules_of world unwinder) then needs_generation world else None)
-refusal_of caches world (StepCommand unwinder cache address regs memory) = needs_unwinder world unwinder (needs_cache caches cache None)
-refusal_of caches world (WalkCommand unwinder cache pc regs memory limit) = needs_unwinder world unwinder (needs_cache caches cache None)
+refusal_of caches world (StepCommand unwinder cache address regs memory) =
+    needs_unwinder world unwinder (needs_cache caches cache None)
+refusal_of caches world (WalkCommand unwinder cache pc regs memory limit) =
+    needs_unwinder world unwinder (needs_cache caches cache None)
 refusal_of caches world (Stats cache) = needs_cache caches cache None
 
 -- one step by a list of modules, at a location, over registers and memory
@@ -69,14 +72,19 @@ reply_to step world (StepCommand unwinder cache address regs memory) =
     let outcome = step (modules_of world unwinder) (location_of address) regs (memory_of memory) in
     Some (stepped (answer_of outcome) (registers_after regs outcome))
 reply_to step world (WalkCommand unwinder cache pc regs memory limit) =
-    Some (walked (walk_from (λ location old. step (modules_of world unwinder) location old (memory_of memory)) limit pc regs))
+    Some (walked (walk_from (λ location old. step (modules_of world unwinder) location old
+    (memory_of memory)) limit pc regs))
 reply_to step world (Stats cache) = None
 
 -- the world after it
 abbrev pub world_after : {D Regs : Type 0} → World → Command D Regs → World
 world_after world New = record { unwinders = world.unwinders ++ [] ∷ []; left = world.left - 1 }
 world_after world (Add unwinder added) =
-    record { unwinders = slice_set world.unwinders unwinder (with_module added (modules_of world unwinder)); left = world.left - 1 }
+    record {
+      unwinders = slice_set world.unwinders unwinder (with_module added
+          (modules_of world unwinder));
+      left = world.left - 1;
+    }
 world_after world (Clone unwinder) = record world { unwinders = world.unwinders ++ modules_of world unwinder ∷ [] }
 world_after world (Remove unwinder start) =
     if has_start start (modules_of world unwinder) then record {
@@ -89,7 +97,8 @@ world_after world (WalkCommand unwinder cache pc regs memory limit) = world
 world_after world (Stats cache) = world
 
 -- a reply, where there is one, before the others
-abbrev pub reply_before : {Regs : Type 0} → Option (WorldReply Regs) → Result (List (WorldReply Regs)) SessionError → Result (List (WorldReply Regs)) SessionError
+abbrev pub reply_before : {Regs : Type 0} → Option (WorldReply Regs) → Result (List (WorldReply Regs)) SessionError
+    → Result (List (WorldReply Regs)) SessionError
 reply_before (Some reply) (Ok replies) = Ok (reply ∷ replies)
 reply_before (Some reply) (Err error) = Err error
 reply_before None replies = replies
@@ -100,7 +109,8 @@ unless_refused (Some error) replies = Err error
 unless_refused None replies = replies
 
 -- the replies to a list of commands, or the refusal of the first command that is refused
-unfoldable pub world_replies : {D Regs : Type 0} → StepBy Regs → ℕ → World → List (Command D Regs) → Result (List (WorldReply Regs)) SessionError
+unfoldable pub world_replies : {D Regs : Type 0} → StepBy Regs → ℕ → World → List (Command D Regs)
+    → Result (List (WorldReply Regs)) SessionError
 world_replies step caches world [] = Ok []
 world_replies step caches world (command ∷ commands) =
     unless_refused (refusal_of caches world command)

@@ -1,3 +1,4 @@
+-- aarch64: instruction words, the machine, prologues and epilogues.
 pub mod Words
 pub mod Units
 pub mod Machine

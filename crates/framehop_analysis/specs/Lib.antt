@@ -1,3 +1,4 @@
+-- What the contracts of this crate cite, for each architecture.
 pub mod Answer
 pub mod Aarch64
 pub mod X86_64

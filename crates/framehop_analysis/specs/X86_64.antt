@@ -1,3 +1,4 @@
+-- x86_64: instruction bytes, the machine, prologues and epilogues.
 pub mod Bytes
 pub mod Machine
 pub mod Prologue

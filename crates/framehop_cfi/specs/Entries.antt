@@ -1,4 +1,5 @@
--- The entries of a section, one after another (DWARF 5 section 6.4.1; LSB, ".eh_frame"): first where each begins, by the lengths alone, and then what each is.
+-- The entries of a section, one after another (DWARF 5 section 6.4.1; LSB, ".eh_frame"): first where each begins, by
+-- the lengths alone, and then what each is.
 use Rattle.std.specs.Prelude.{ℕ, zero, suc, ◌≤◌, ◌≡◌, true, false, List, [], ◌∷◌, length, map, Option, Some, None, Result, Ok, Err, nat_le, if◌then◌else◌}
 use Rattle.framehop_cfi.specs.EntryExtent.{extent_at, is_zero_length}
 use Rattle.framehop_cfi.specs.Section.{Section}
@@ -41,12 +42,17 @@ cut_from section (suc n) at =
 unfoldable pub cut : Section → Cut
 cut section = cut_from section (suc (length section.bytes)) 0
 
--- These are the offsets of the entries from one on, by their lengths: up to the section's end, or in `.eh_frame` to a length of 0, which is passed over in `.debug_frame`.
+-- These are the offsets of the entries from one on, by their lengths: up to the section's end, or in `.eh_frame` to a
+-- length of 0, which is passed over in `.debug_frame`.
 pub data AreOffsets (section : Section) : ℕ → List ℕ → Type 0 where
   at_end : {at : ℕ} → length section.bytes ≤ at → AreOffsets section at []
-  at_mark : {at : ℕ} {span : EntryExtent} → section.kind ≡ EhFrame → extent_at section.bytes at ≡ Ok span → is_zero_length span ≡ true → AreOffsets section at []
-  past_zero : {at : ℕ} {span : EntryExtent} {offsets : List ℕ} → section.kind ≡ DebugFrame → extent_at section.bytes at ≡ Ok span → is_zero_length span ≡ true → AreOffsets section span.end offsets → AreOffsets section at offsets
-  one : {at : ℕ} {span : EntryExtent} {offsets : List ℕ} → extent_at section.bytes at ≡ Ok span → is_zero_length span ≡ false → AreOffsets section span.end offsets → AreOffsets section at (at ∷ offsets)
+  at_mark : {at : ℕ} {span : EntryExtent} → section.kind ≡ EhFrame → extent_at section.bytes at ≡ Ok span
+      → is_zero_length span ≡ true → AreOffsets section at []
+  past_zero : {at : ℕ} {span : EntryExtent} {offsets : List ℕ} → section.kind ≡ DebugFrame
+      → extent_at section.bytes at ≡ Ok span → is_zero_length span ≡ true → AreOffsets section span.end offsets
+      → AreOffsets section at offsets
+  one : {at : ℕ} {span : EntryExtent} {offsets : List ℕ} → extent_at section.bytes at ≡ Ok span
+      → is_zero_length span ≡ false → AreOffsets section span.end offsets → AreOffsets section at (at ∷ offsets)
 
 -- each entry stands at its offset
 abbrev pub EachStands : Section → List (ℕ × CieOrFde) → Type 0

@@ -68,10 +68,12 @@ abbrev pub place_behind : {A : Type 0} → Reading A → Result ℕ ReadError
 place_behind reading = reading >>= λ read. Ok read.1
 
 abbrev pub return_register_at : ℕ → List ℕ → ℕ → Result ℕ ReadError
-return_register_at version bytes at = if version == 1 then place_behind (u8_at bytes at) else place_behind (uleb_at bytes at)
+return_register_at version bytes at =
+    if version == 1 then place_behind (u8_at bytes at) else place_behind (uleb_at bytes at)
 
 -- a CIE's fields after the augmentation text
-unfoldable pub alignments_at : SectionBaseAddresses → ℕ → List ℕ → List ℕ → ℕ → ℕ → Result CommonInformationEntry ReadError
+unfoldable pub alignments_at : SectionBaseAddresses → ℕ → List ℕ → List ℕ → ℕ → ℕ
+    → Result CommonInformationEntry ReadError
 alignments_at bases version letters bytes at end = do
   code ← uleb_at bytes at
   factor ← sleb_at bytes code.1
@@ -90,14 +92,16 @@ alignments_at bases version letters bytes at end = do
 abbrev pub is_known_version : ℕ → Bool
 is_known_version version = (version == 1) || (version == 3) || (version == 4)
 
-unfoldable pub versioned_fields : UnwindSectionType → SectionBaseAddresses → ℕ → List ℕ → ℕ → ℕ → Result CommonInformationEntry ReadError
+unfoldable pub versioned_fields : UnwindSectionType → SectionBaseAddresses → ℕ → List ℕ → ℕ → ℕ
+    → Result CommonInformationEntry ReadError
 versioned_fields kind bases version bytes at end = do
   terminator ← terminator_at bytes at
   sizes ← sizes_of kind version bytes (terminator + 1)
   alignments_at bases version (slice_range bytes at terminator) bytes sizes end
 
 -- a CIE's fields after its id; the bytes end with the entry
-unfoldable pub cie_fields : UnwindSectionType → SectionBaseAddresses → List ℕ → ℕ → ℕ → Result CommonInformationEntry ReadError
+unfoldable pub cie_fields : UnwindSectionType → SectionBaseAddresses → List ℕ → ℕ → ℕ
+    → Result CommonInformationEntry ReadError
 cie_fields kind bases bytes at end = do
   version ← u8_at bytes at
   if is_known_version version.0 then versioned_fields kind bases version.0 bytes version.1 end
@@ -119,7 +123,8 @@ abbrev pub skipped_at : Bool → List ℕ → ℕ → Result ℕ ReadError
 skipped_at true bytes at = counted_at bytes at >>= λ place. Ok place.1
 skipped_at false bytes at = Ok at
 
-unfoldable pub fde_range : SectionBaseAddresses → CommonInformationEntry → List ℕ → ℕ → ℕ → Result FrameDescriptionEntry ReadError
+unfoldable pub fde_range : SectionBaseAddresses → CommonInformationEntry → List ℕ → ℕ → ℕ
+    → Result FrameDescriptionEntry ReadError
 fde_range bases cie bytes at end = do
   start ← pointer_at bases cie.fde_pointer_encoding bytes at
   len ← raw_at (format_of cie.fde_pointer_encoding) bytes start.1
@@ -127,7 +132,8 @@ fde_range bases cie bytes at end = do
   Ok (record { cie = cie; initial_address = start.0; address_range = len.0; instructions = instructions; end = end })
 
 -- an FDE's fields after its CIE's offset; the bytes end with the entry
-abbrev pub fde_fields : SectionBaseAddresses → CommonInformationEntry → List ℕ → ℕ → ℕ → Result FrameDescriptionEntry ReadError
+abbrev pub fde_fields : SectionBaseAddresses → CommonInformationEntry → List ℕ → ℕ → ℕ
+    → Result FrameDescriptionEntry ReadError
 fde_fields bases cie bytes at end =
     if nat_le 128 cie.fde_pointer_encoding then Err BadEncoding else fde_range bases cie bytes at end
 

@@ -8,7 +8,8 @@ use Rattle.framehop_cfi.specs.declared.read_error.ReadError.TheVariants.{Eof, Ba
 -- contents of that length, if the section holds them
 abbrev pub held : List ℕ → ℕ → ℕ → ℕ → Result EntryExtent ReadError
 held bytes size contents len =
-    if nat_le (contents + len) (length bytes) then Ok (record { contents = contents; end = contents + len; offset_size = size })
+    if nat_le (contents + len) (length bytes)
+    then Ok (record { contents = contents; end = contents + len; offset_size = size })
     else Err Eof
 
 unfoldable pub long_extent : List ℕ → ℕ → Result EntryExtent ReadError

@@ -19,13 +19,15 @@ use Rattle.framehop_cfi.specs.declared.entry.CieOrFde.{CieOrFde}
 use Rattle.framehop_cfi.specs.declared.entry.CieOrFde.TheVariants as or
 
 -- an entry stands at an offset: its length, which is not 0, and its id
-pub record Begins (kind : UnwindSectionType) (bytes : List ℕ) (at : ℕ) (span : EntryExtent) (head : EntryHead) : Type 0 where
+pub record Begins (kind : UnwindSectionType) (bytes : List ℕ) (at : ℕ) (span : EntryExtent)
+    (head : EntryHead) : Type 0 where
   pub length : extent_at bytes at ≡ Ok span
   pub some : is_zero_length span ≡ false
   pub id : id_at kind (take span.end bytes) span ≡ Ok head
 
 -- a CIE's fields after its id, in the entry's own bytes
-pub record HasCieFields (kind : UnwindSectionType) (bases : SectionBaseAddresses) (entry : List ℕ) (fields : ℕ) (cie : CommonInformationEntry) : Type 0 where
+pub record HasCieFields (kind : UnwindSectionType) (bases : SectionBaseAddresses) (entry : List ℕ) (fields : ℕ)
+    (cie : CommonInformationEntry) : Type 0 where
   pub version : ℕ
   pub text : ℕ
   pub text_end : ℕ
@@ -64,9 +66,12 @@ pub record IsFde (section : Section) (at : ℕ) (fde : FrameDescriptionEntry) : 
   pub begins : Begins section.kind section.bytes at span (Fde cie_offset fields span.end)
   pub its_cie : IsCie section cie_offset fde.cie
   pub direct : nat_le 128 fde.cie.fde_pointer_encoding ≡ false
-  pub is_start : pointer_at section.bases fde.cie.fde_pointer_encoding (take span.end section.bytes) fields ≡ Ok (fde.initial_address, range)
-  pub is_range : raw_at (format_of fde.cie.fde_pointer_encoding) (take span.end section.bytes) range ≡ Ok (fde.address_range, augmentation_data)
-  pub is_augmentation : skipped_at fde.cie.has_augmentation_data (take span.end section.bytes) augmentation_data ≡ Ok fde.instructions
+  pub is_start : pointer_at section.bases fde.cie.fde_pointer_encoding (take span.end section.bytes) fields ≡ Ok
+      (fde.initial_address, range)
+  pub is_range : raw_at (format_of fde.cie.fde_pointer_encoding) (take span.end section.bytes) range ≡ Ok
+      (fde.address_range, augmentation_data)
+  pub is_augmentation : skipped_at fde.cie.has_augmentation_data
+      (take span.end section.bytes) augmentation_data ≡ Ok fde.instructions
   pub ends : fde.end ≡ span.end
 
 -- an entry of either kind stands at an offset

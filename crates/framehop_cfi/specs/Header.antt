@@ -84,7 +84,8 @@ offset_from pointer address =
 -- the offset of the FDE in the row at the address's place
 abbrev pub fde_offset_of : SectionBaseAddresses → Layout → List ℕ → ℕ → Option ℕ
 fde_offset_of bases layout bytes address =
-    offset_from layout.eh_frame_pointer (fde_of_row bases layout bytes (place_of (starts_of bases layout bytes) address))
+    offset_from layout.eh_frame_pointer (fde_of_row bases layout bytes (place_of
+    (starts_of bases layout bytes) address))
 
 -- a header: what its pointers count from, and its bytes
 pub record Header : Type 0 where
@@ -99,7 +100,8 @@ fde_offset_by header (Err error) address = None
 unfoldable pub fde_offset_in : Header → ℕ → Option ℕ
 fde_offset_in header address = fde_offset_by header (layout_of header.bases header.bytes) address
 
--- what holds of that offset, however the starts lie: its row starts at or below the address, or is the first, and the next one starts above
+-- what holds of that offset, however the starts lie: its row starts at or below the address, or is the first, and the
+-- next one starts above
 pub record IsOfRowFor (header : Header) (address : ℕ) (offset : Option ℕ) : Type 0 where
   pub layout : Layout
   pub row : ℕ

@@ -127,7 +127,8 @@ coded_at cie bases code bytes at =
     else (if code == 0x0A then Ok (RememberState, at)
     else (if code == 0x0B then Ok (RestoreState, at)
     else (if code == 0x2E then mapped ArgsSize (uleb_at bytes at)
-    else (if (nat_le 0x0C code && nat_le code 0x0F) || (code == 0x12) || (code == 0x13) then cfa_at cie.data_alignment_factor code bytes at
+    else (if (nat_le 0x0C code && nat_le code 0x0F) || (code == 0x12) || (code == 0x13)
+    then cfa_at cie.data_alignment_factor code bytes at
     else (if nat_le code 0x16 then set_rule_at cie.data_alignment_factor code bytes at
     else Err UnknownInstruction)))))))))
 
@@ -136,12 +137,14 @@ coded_at cie bases code bytes at =
 abbrev pub operands_at : CommonInformationEntry → SectionBaseAddresses → ℕ → List ℕ → ℕ → Reading CallFrameInstruction
 operands_at cie bases code bytes at =
     if nat_le 0xC0 code then Ok (Restore (record { 0 = code - 0xC0 }), at)
-    else (if nat_le 0x80 code then mapped (λ offset. SetRule (record { 0 = code - 0x80 }) (rule.Offset offset)) (factored_at cie.data_alignment_factor bytes at)
+    else (if nat_le 0x80 code then mapped (λ offset. SetRule (record { 0 = code - 0x80 }) (rule.Offset offset))
+    (factored_at cie.data_alignment_factor bytes at)
     else (if nat_le 0x40 code then Ok (AdvanceLoc (code - 0x40), at)
     else coded_at cie bases code bytes at))
 
 -- the instruction at an offset
-unfoldable pub instruction_at : CommonInformationEntry → SectionBaseAddresses → List ℕ → ℕ → Reading CallFrameInstruction
+unfoldable pub instruction_at : CommonInformationEntry → SectionBaseAddresses → List ℕ → ℕ
+    → Reading CallFrameInstruction
 instruction_at cie bases bytes at = do
   code ← u8_at bytes at
   operands_at cie bases code.0 bytes code.1

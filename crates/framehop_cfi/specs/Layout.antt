@@ -1,7 +1,8 @@
 -- Where the table of a header lies.
 use Rattle.std.specs.Prelude.{ℕ, ◌+◌, ◌*◌, ◌^◌, ◌<◌}
 
--- where `.eh_frame` begins, how the table's addresses are encoded, the size of each, how many rows there are, and where the first one is
+-- where `.eh_frame` begins, how the table's addresses are encoded, the size of each, how many rows there are, and
+-- where the first one is
 pub record Layout : Type 0 where
   pub eh_frame_pointer : ℕ
   pub encoding : ℕ

@@ -1,3 +1,4 @@
+-- What the contracts of this crate cite: from bytes to entries, instructions, rows and the header's table.
 pub mod Augmentation
 pub mod Bytes
 pub mod Context

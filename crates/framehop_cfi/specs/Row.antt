@@ -31,12 +31,14 @@ is_full None count = false
 is_full (Some limits) count = nat_le limits.rules count
 
 -- the rules with one of a register's set: in its place, or at the end
-abbrev pub set_at : Option StorageLimits → Register → RegisterRule → List (Register × RegisterRule) → Option ℕ → Result (List (Register × RegisterRule)) ReadError
+abbrev pub set_at : Option StorageLimits → Register → RegisterRule → List (Register × RegisterRule) → Option ℕ
+    → Result (List (Register × RegisterRule)) ReadError
 set_at limits register rule rules (Some i) = Ok (slice_set rules i (register, rule))
 set_at limits register rule rules None =
     if is_full limits (length rules) then Err TooManyRules else Ok (rules ++ (register, rule) ∷ [])
 
-unfoldable pub with_rule : Option StorageLimits → Register → RegisterRule → List (Register × RegisterRule) → Result (List (Register × RegisterRule)) ReadError
+unfoldable pub with_rule : Option StorageLimits → Register → RegisterRule → List (Register × RegisterRule)
+    → Result (List (Register × RegisterRule)) ReadError
 with_rule limits register rule rules = set_at limits register rule rules (position (is_of register) rules)
 
 -- the rules without one of a register

@@ -30,7 +30,8 @@ risen location bytes =
 abbrev pub location_after : CommonInformationEntry → Option ℕ → ℕ → CallFrameInstruction → Result ℕ ReadError
 location_after cie None location (SetLoc address) = Err InvalidContext
 location_after cie None location (AdvanceLoc delta) = Err InvalidContext
-location_after cie (Some target) location (SetLoc address) = if nat_lt address location then Err InvalidContext else Ok address
+location_after cie (Some target) location (SetLoc address) =
+    if nat_lt address location then Err InvalidContext else Ok address
 location_after cie (Some target) location (AdvanceLoc delta) = risen location (delta * cie.code_alignment_factor)
 location_after cie target location instruction = Ok location
 
@@ -62,15 +63,18 @@ begun rows = record rows { initial = Some rows.row }
 
 -- a CIE's instructions, and an FDE's
 abbrev pub instructions_of_cie : Section → CommonInformationEntry → InstructionList
-instructions_of_cie section cie = record { cie = cie; bases = section.bases; bytes = take cie.end section.bytes; address = None }
+instructions_of_cie section cie =
+    record { cie = cie; bases = section.bases; bytes = take cie.end section.bytes; address = None }
 
 abbrev pub instructions_of_fde : Section → FrameDescriptionEntry → ℕ → InstructionList
-instructions_of_fde section fde address = record { cie = fde.cie; bases = section.bases; bytes = take fde.end section.bytes; address = Some address }
+instructions_of_fde section fde address =
+    record { cie = fde.cie; bases = section.bases; bytes = take fde.end section.bytes; address = Some address }
 
 -- the FDE covers the address; one beyond 64 bits is covered by none
 abbrev pub covers : FrameDescriptionEntry → ℕ → Bool
 covers fde address =
-    nat_lt address (2 ^ 64) && nat_le fde.initial_address address && nat_lt address (fde.initial_address + fde.address_range)
+    nat_lt address (2 ^ 64) && nat_le fde.initial_address address
+    && nat_lt address (fde.initial_address + fde.address_range)
 
 -- what both lists leave: the CIE's, and then the FDE's up to the address
 unfoldable pub rows_at : Option StorageLimits → Section → FrameDescriptionEntry → ℕ → Result TableRows ReadError

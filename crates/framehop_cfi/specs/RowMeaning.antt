@@ -10,24 +10,29 @@ use Rattle.framehop_cfi.specs.declared.entry.FrameDescriptionEntry.{FrameDescrip
 use Rattle.framehop_cfi.specs.declared.instruction.CallFrameInstruction.{CallFrameInstruction}
 
 -- an instruction stands at a place, and leaves the location at another one
-pub record Stands (code : InstructionList) (at location : ℕ) (instruction : CallFrameInstruction) (next moved : ℕ) : Type 0 where
+pub record Stands (code : InstructionList) (at location : ℕ) (instruction : CallFrameInstruction)
+    (next moved : ℕ) : Type 0 where
   pub inside : at < length code.bytes
   pub reads : instruction_at code.cie code.bases code.bytes at ≡ Ok (instruction, next)
   pub moves : location_after code.cie code.address location instruction ≡ Ok moved
 
--- these instructions stand one after another from a place and location to another, none of them moving beyond the address
+-- these instructions stand one after another from a place and location to another, none of them moving beyond the
+-- address
 abbrev pub Lists : InstructionList → ℕ → ℕ → List CallFrameInstruction → ℕ → ℕ → Type 0
 Lists code at location [] end last = (at ≡ end) × (location ≡ last)
 Lists code at location (instruction ∷ instructions) end last =
-    (next : ℕ) × (moved : ℕ) × Stands code at location instruction next moved × (is_beyond code.address moved ≡ false) × Lists code next moved instructions end last
+    (next : ℕ) × (moved : ℕ) × Stands code at location instruction next moved
+    × (is_beyond code.address moved ≡ false) × Lists code next moved instructions end last
 
 -- there the list ends: with the bytes, or with a move beyond the address
 abbrev pub Ends : InstructionList → ℕ → ℕ → Type 0
 Ends code at location =
-    (length code.bytes ≤ at) ⊎ ((instruction : CallFrameInstruction) × (next : ℕ) × (moved : ℕ) × Stands code at location instruction next moved × (is_beyond code.address moved ≡ true))
+    (length code.bytes ≤ at) ⊎ ((instruction : CallFrameInstruction) × (next : ℕ) × (moved : ℕ)
+    × Stands code at location instruction next moved × (is_beyond code.address moved ≡ true))
 
 -- the whole list from a place on, and its effects on the rows
-pub record HasEffect (limits : Option StorageLimits) (code : InstructionList) (at location : ℕ) (before after : TableRows) : Type 0 where
+pub record HasEffect (limits : Option StorageLimits) (code : InstructionList) (at location : ℕ)
+    (before after : TableRows) : Type 0 where
   pub instructions : List CallFrameInstruction
   pub end : ℕ
   pub last : ℕ
@@ -36,12 +41,15 @@ pub record HasEffect (limits : Option StorageLimits) (code : InstructionList) (a
   pub effect : effects limits instructions before ≡ Ok after
 
 -- the rows of an address: the effects of the CIE's list, and then of the FDE's up to the first move beyond the address
-pub record AreRowsAt (limits : Option StorageLimits) (section : Section) (fde : FrameDescriptionEntry) (address : ℕ) (rows : TableRows) : Type 0 where
+pub record AreRowsAt (limits : Option StorageLimits) (section : Section) (fde : FrameDescriptionEntry) (address : ℕ)
+    (rows : TableRows) : Type 0 where
   pub covered : covers fde address ≡ true
   pub middle : TableRows
   pub by_cie : HasEffect limits (instructions_of_cie section fde.cie) fde.cie.instructions 0 start middle
-  pub by_fde : HasEffect limits (instructions_of_fde section fde address) fde.instructions fde.initial_address (begun middle) rows
+  pub by_fde : HasEffect limits (instructions_of_fde section fde address) fde.instructions fde.initial_address
+      (begun middle) rows
 
 -- the row of an address: the current one of those rows
 abbrev pub IsRowAt : Option StorageLimits → Section → FrameDescriptionEntry → ℕ → Row → Type 0
-IsRowAt limits section fde address row = (rows : TableRows) × AreRowsAt limits section fde address rows × (rows.row ≡ row)
+IsRowAt limits section fde address row =
+    (rows : TableRows) × AreRowsAt limits section fde address rows × (rows.row ≡ row)

@@ -36,4 +36,5 @@ data_of name entries = option_and_then (λ entry. entry.contents) (entry_of name
 -- the table after the data under a name was taken: the entry stays, without data
 abbrev pub without_data : {D : Type 0} → List ℕ → List (Entry D) → List (Entry D)
 without_data name [] = []
-without_data name (entry ∷ entries) = if is_called name entry then record entry { contents = None } ∷ entries else entry ∷ without_data name entries
+without_data name (entry ∷ entries) =
+    if is_called name entry then record entry { contents = None } ∷ entries else entry ∷ without_data name entries

@@ -12,7 +12,8 @@ use Rattle.framehop_cfi.specs.declared.instruction.CallFrameInstruction.TheVaria
 use Rattle.framehop_cfi.specs.declared.read_error.ReadError.{ReadError}
 use Rattle.framehop_cfi.specs.declared.read_error.ReadError.TheVariants.{InvalidContext, TooManyRows, NothingRemembered}
 
--- what the instructions work on: the row, those that were remembered (the latest last), and, in an FDE, the row that the CIE left
+-- what the instructions work on: the row, those that were remembered (the latest last), and, in an FDE, the row that
+-- the CIE left
 pub record TableRows : Type 0 where
   pub initial : Option Row
   pub row : Row
@@ -52,7 +53,8 @@ remembering limits rows =
 
 abbrev pub restored_state : TableRows → Option Row → Result TableRows ReadError
 restored_state rows None = Err NothingRemembered
-restored_state rows (Some row) = Ok (record rows { row = row; remembered = take (length rows.remembered - 1) rows.remembered })
+restored_state rows (Some row) =
+    Ok (record rows { row = row; remembered = take (length rows.remembered - 1) rows.remembered })
 
 abbrev pub restoring_state : TableRows → Result TableRows ReadError
 restoring_state rows = restored_state rows (slice_get rows.remembered (length rows.remembered - 1))

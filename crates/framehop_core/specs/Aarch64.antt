@@ -1,2 +1,3 @@
+-- aarch64: registers and rules.
 pub mod Registers
 pub mod Rules

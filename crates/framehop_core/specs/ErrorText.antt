@@ -1,3 +1,4 @@
+-- The text of an error (framehop 0.16.0, `Display` of `Error`).
 use Rattle.std.specs.Prelude.{ℕ, false, List, ◌++◌, codes}
 use Rattle.std.specs.Fmt.{digits}
 use Rattle.framehop_core.specs.declared.error.Error.{Error}

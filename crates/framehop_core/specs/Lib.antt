@@ -1,3 +1,4 @@
+-- What the contracts of this crate cite: memory, outcomes, runs, and each architecture's registers and rules.
 pub mod AddSigned
 pub mod ErrorText
 pub mod Memory

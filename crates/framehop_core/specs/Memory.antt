@@ -13,8 +13,10 @@ reply None = Err tt
 
 -- The callback answers as the memory: through any sequence of calls, from the state it is in, each call at an
 -- address of 64 bits gives the word that the memory has there, and `Err(())` where it has none.
-pub record AnswersAs {F : Type 0} (calls : Mut F (ℕ × Unit {0}) (Result ℕ (Unit {0}))) (callback : F) (memory : Memory) : Type 0 where
-  pub replies : AlwaysReturns calls (λ arguments result. arguments.0 < 2 ^ 64 → result ≡ reply (memory arguments.0)) callback
+pub record AnswersAs {F : Type 0} (calls : Mut F (ℕ × Unit {0}) (Result ℕ (Unit {0}))) (callback : F)
+    (memory : Memory) : Type 0 where
+  pub replies : AlwaysReturns calls (λ arguments result. arguments.0 < 2 ^ 64
+      → result ≡ reply (memory arguments.0)) callback
 
 -- the memory of a stack slice from address 0 on, each of whose words has eight addresses
 abbrev pub memory_of_words : List ℕ → Memory

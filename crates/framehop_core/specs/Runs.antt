@@ -38,11 +38,14 @@ abbrev pub StepsBy : {R : Type 0} → (Bool → R → R → Type 0) → Bool →
 StepsBy advances first zero old new = old ≡ new
 StepsBy {R} advances first (suc n) old new = (next : R) × advances first old next × StepsBy advances false n next new
 
--- Over one memory: a step that answers leads to registers of a kind, and from such, in a frame that is not the first, the
--- next one raises the stack pointer.
-pub record Raises {U R : Type 0} (outcome : U → Bool → R → Memory → Outcome R) (stack_pointer : R → ℕ) (IsAfterStep : Memory → R → Type 0) : Type 0 where
-  pub leads : (rule : U) (first : Bool) (old new : R) (memory : Memory) (address : ℕ) → outcome rule first old memory ≡ answered address new → IsAfterStep memory new
-  pub rises : (rule : U) (old new : R) (memory : Memory) (address : ℕ) → IsAfterStep memory old → outcome rule false old memory ≡ answered address new → stack_pointer old < stack_pointer new
+-- Over one memory: a step that answers leads to registers of a kind, and from such, in a frame that is not the first,
+-- the next one raises the stack pointer.
+pub record Raises {U R : Type 0} (outcome : U → Bool → R → Memory → Outcome R) (stack_pointer : R → ℕ)
+    (IsAfterStep : Memory → R → Type 0) : Type 0 where
+  pub leads : (rule : U) (first : Bool) (old new : R) (memory : Memory) (address : ℕ)
+      → outcome rule first old memory ≡ answered address new → IsAfterStep memory new
+  pub rises : (rule : U) (old new : R) (memory : Memory) (address : ℕ) → IsAfterStep memory old
+      → outcome rule false old memory ≡ answered address new → stack_pointer old < stack_pointer new
 
 -- of so many answered steps each after the first has raised the stack pointer, which was here after the first
 abbrev pub IsCountWithinRise : ℕ → ℕ → ℕ → Type 0

@@ -1,3 +1,4 @@
+-- x86_64: registers, their orderings, and rules.
 pub mod Registers
 pub mod Ordering
 pub mod Rules

@@ -1,4 +1,5 @@
--- From a row to a frame on aarch64: the rule that a row is translated to, and the values of the rows that have none (framehop 0.16.0, `aarch64/dwarf.rs`; DWARF for the Arm 64-bit Architecture, section 4.1).
+-- From a row to a frame on aarch64: the rule that a row is translated to, and the values of the rows that have none
+-- (framehop 0.16.0, `aarch64/dwarf.rs`; DWARF for the Arm 64-bit Architecture, section 4.1).
 use Rattle.std.specs.Prelude.{ℕ, ◌≡◌, ◌<◌, ◌^◌, Bool, true, false, not, List, Option, Some, None, option_map, option_and_then, Result, Ok, Err, ℤ, pos, negsuc, ◌+ℤ◌, ◌==◌, ◌&&◌, nat_le, if◌then◌else◌}
 use Rattle.std.specs.Ordering.{int_eq}
 use Rattle.framehop_core.specs.Memory.{Memory}
@@ -108,7 +109,8 @@ abbrev pub stepped : Registers → ℕ → ℕ → ℕ → Result (ℕ × Regist
 stepped r cfa fp lr =
     Ok (strip_ptr_auth r.lr_mask lr, record r { lr = strip_ptr_auth r.lr_mask lr; sp = cfa; fp = fp })
 
-abbrev pub direct_by : Scope → Memory → CfaRule → Option RegisterRule → Option RegisterRule → Bool → Registers → Result (ℕ × Registers) DwarfUnwinderError
+abbrev pub direct_by : Scope → Memory → CfaRule → Option RegisterRule → Option RegisterRule → Bool → Registers
+    → Result (ℕ × Registers) DwarfUnwinderError
 direct_by scope memory cfa_rule fp_rule lr_rule first r =
     needed CouldNotRecoverCfa (cfa_of scope cfa_rule) (λ cfa.
     if not first && nat_le cfa r.sp then Err StackPointerMovedBackwards
@@ -116,9 +118,11 @@ direct_by scope memory cfa_rule fp_rule lr_rule first r =
     needed CouldNotRecoverReturnAddress (or_kept first r.lr (register_of scope memory cfa r.lr lr_rule)) (λ lr.
     stepped r cfa fp lr)))
 
-unfoldable pub direct_of : List ℕ → Option ℕ → Memory → Row → Bool → Registers → Result (ℕ × Registers) DwarfUnwinderError
+unfoldable pub direct_of : List ℕ → Option ℕ → Memory → Row → Bool → Registers
+    → Result (ℕ × Registers) DwarfUnwinderError
 direct_of bytes limit memory row first r =
-    direct_by (scope_of bytes limit r) memory row.cfa (rule_of row.rules fp_column) (rule_of row.rules lr_column) first r
+    direct_by (scope_of bytes limit r) memory row.cfa (rule_of row.rules fp_column)
+    (rule_of row.rules lr_column) first r
 
 -- ---- what a row means
 
@@ -137,7 +141,8 @@ IsLinkRegister scope first memory old cfa (Some rule.SameValue) lr = lr ≡ old.
 IsLinkRegister scope first memory old cfa lr_rule lr = IsColumn scope memory cfa old.lr lr_rule lr
 
 -- A row means this step, in a first frame or another: the return address is the stripped lr.
-pub record RowMeans (bytes : List ℕ) (memory : Memory) (row : Row) (first : Bool) (old : Registers) (address : ℕ) (new : Registers) : Type 0 where
+pub record RowMeans (bytes : List ℕ) (memory : Memory) (row : Row) (first : Bool) (old : Registers) (address : ℕ)
+    (new : Registers) : Type 0 where
   pub lr : ℕ
   pub cfa : IsCfa (scope_of bytes None old) row.cfa new.sp
   pub link_register : IsLinkRegister (scope_of bytes None old) first memory old new.sp (rule_of row.rules lr_column) lr
@@ -146,10 +151,16 @@ pub record RowMeans (bytes : List ℕ) (memory : Memory) (row : Row) (first : Bo
   pub new_lr : new.lr ≡ address
 
 -- what a direct result means: its sp is the CFA, each column that has a value has it, and a caller's sp rises
-pub record ColumnsMean (bytes : List ℕ) (limit : Option ℕ) (memory : Memory) (row : Row) (first : Bool) (old : Registers) (address : ℕ) (new : Registers) : Type 0 where
+pub record ColumnsMean (bytes : List ℕ) (limit : Option ℕ) (memory : Memory) (row : Row) (first : Bool)
+    (old : Registers) (address : ℕ) (new : Registers) : Type 0 where
   pub cfa : IsCfa (scope_of bytes None old) row.cfa new.sp
-  pub link_register : (value : ℕ) → register_of (scope_of bytes limit old) memory new.sp old.lr (rule_of row.rules lr_column) ≡ Some value → (address ≡ strip_ptr_auth old.lr_mask value) × IsColumn (scope_of bytes None old) memory new.sp old.lr (rule_of row.rules lr_column) value
-  pub frame_pointer : (value : ℕ) → register_of (scope_of bytes limit old) memory new.sp old.fp (rule_of row.rules fp_column) ≡ Some value → (new.fp ≡ value) × IsColumn (scope_of bytes None old) memory new.sp old.fp (rule_of row.rules fp_column) value
+  pub link_register : (value : ℕ)
+      → register_of (scope_of bytes limit old) memory new.sp old.lr (rule_of row.rules lr_column) ≡ Some value
+      → (address ≡ strip_ptr_auth old.lr_mask value)
+      × IsColumn (scope_of bytes None old) memory new.sp old.lr (rule_of row.rules lr_column) value
+  pub frame_pointer : (value : ℕ)
+      → register_of (scope_of bytes limit old) memory new.sp old.fp (rule_of row.rules fp_column) ≡ Some value
+      → (new.fp ≡ value) × IsColumn (scope_of bytes None old) memory new.sp old.fp (rule_of row.rules fp_column) value
   pub new_lr : new.lr ≡ address
   pub rises : first ≡ false → old.sp < new.sp
 

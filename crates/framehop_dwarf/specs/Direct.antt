@@ -25,7 +25,8 @@ sum_of base offset = if nat_lt base (2 ^ 63) then below_half (pos base +ℤ offs
 
 -- the CFA
 abbrev pub cfa_of : Scope → CfaRule → Option ℕ
-cfa_of scope (cfa.RegisterAndOffset register offset) = option_and_then (λ base. sum_of base offset) (scope.columns register)
+cfa_of scope (cfa.RegisterAndOffset register offset) =
+    option_and_then (λ base. sum_of base offset) (scope.columns register)
 cfa_of scope (cfa.Expression expression) = value_in scope.bytes scope.columns scope.limit expression None
 
 -- the value of a register that now has this value; an expression starts with the CFA
@@ -38,7 +39,8 @@ register_of scope memory cfa value (Some (rule.ValOffset offset)) = sum_of cfa o
 register_of scope memory cfa value (Some (rule.Register register)) = scope.columns register
 register_of scope memory cfa value (Some (rule.Expression expression)) =
     option_and_then memory (value_in scope.bytes scope.columns scope.limit expression (Some cfa))
-register_of scope memory cfa value (Some (rule.ValExpression expression)) = value_in scope.bytes scope.columns scope.limit expression (Some cfa)
+register_of scope memory cfa value (Some (rule.ValExpression expression)) =
+    value_in scope.bytes scope.columns scope.limit expression (Some cfa)
 
 -- a value that is needed, and what follows it
 abbrev pub needed : {A B E : Type 0} → E → Option A → (A → Result B E) → Result B E

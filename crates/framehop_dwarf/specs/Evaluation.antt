@@ -1,4 +1,5 @@
--- The value of a DWARF expression (DWARF 5 sections 2.5.1 and 7.7.1): a list of states leads from position 0 to its end.
+-- The value of a DWARF expression (DWARF 5 sections 2.5.1 and 7.7.1): a list of states leads from position 0 to its
+-- end.
 use Rattle.std.specs.Prelude.{ℕ, zero, suc, ◌+◌, ◌%◌, ◌^◌, ◌≤◌, ◌≡◌, Bool, true, List, [], ◌∷◌, length, slice_get, slice_range, Option, Some, None, option_map, option_and_then, option_to_list, Ok, Err, ℤ, pos, negsuc, ◌+ℤ◌, ◌==◌, nat_le, if◌then◌else◌}
 use Rattle.std.specs.Int.{cast_unsigned, w64}
 use Rattle.framehop_cfi.specs.Bytes.{Reading}
@@ -34,7 +35,8 @@ stack_after limit columns Nop stack = Some stack
 stack_after limit columns (Constant value) stack = pushed limit value stack
 stack_after limit columns (RegisterOffset register offset) stack =
     option_and_then (λ value. pushed limit ((value + cast_unsigned w64 offset) % 2 ^ 64) stack) (columns register)
-stack_after limit columns (Pick depth) stack = option_and_then (λ value. pushed limit value stack) (slice_get stack depth)
+stack_after limit columns (Pick depth) stack =
+    option_and_then (λ value. pushed limit value stack) (slice_get stack depth)
 stack_after limit columns Discard (top ∷ rest) = Some rest
 stack_after limit columns Swap (top ∷ second ∷ rest) = option_and_then (pushed limit second) (pushed limit top rest)
 stack_after limit columns Rot (top ∷ second ∷ third ∷ rest) =
@@ -62,7 +64,8 @@ position_after end operation next top = Some next
 -- the state after an operation, by the place after it
 abbrev pub state_after : Evaluation → Operation → ℕ → List ℕ → Option State
 state_after e operation next stack =
-    option_and_then (λ position. option_map (λ new. record { position = position; stack = new }) (stack_after e.limit e.columns operation stack))
+    option_and_then (λ position. option_map (λ new. record { position = position; stack = new })
+    (stack_after e.limit e.columns operation stack))
     (position_after (length e.code) operation next (slice_get stack 0))
 
 abbrev pub state_by : Evaluation → List ℕ → Reading Operation → Option State
@@ -95,22 +98,28 @@ value_from e (suc n) s =
     if s.position == length e.code then slice_get s.stack 0 else option_and_then (value_from e n) (step e s)
 
 unfoldable pub value_of : Evaluation → List ℕ → Option ℕ
-value_of e initial = if fits e.limit (length initial) then value_from e 4096 (record { position = 0; stack = initial }) else None
+value_of e initial =
+    if fits e.limit (length initial) then value_from e 4096 (record { position = 0; stack = initial }) else None
 
 -- an expression's bytes, where they lie in the section
 abbrev pub code_of : List ℕ → Expression → Option (List ℕ)
 code_of bytes expression =
     if nat_le expression.start expression.end
-    then (if nat_le expression.end (length bytes) then Some (slice_range bytes expression.start expression.end) else None)
+    then (if nat_le expression.end (length bytes) then Some (slice_range bytes expression.start expression.end)
+    else None)
     else None
 
 -- the value of an expression of a section, from a first value or an empty stack
 abbrev pub value_in : List ℕ → (Register → Option ℕ) → Option ℕ → Expression → Option ℕ → Option ℕ
 value_in bytes columns limit expression first =
-    option_and_then (λ code. value_of (record { code = code; columns = columns; limit = limit }) (option_to_list first)) (code_of bytes expression)
+    option_and_then (λ code. value_of (record { code = code; columns = columns; limit = limit })
+    (option_to_list first)) (code_of bytes expression)
 
 -- the same, by a list of states
-pub record IsValueIn (bytes : List ℕ) (columns : Register → Option ℕ) (limit : Option ℕ) (expression : Expression) (first : Option ℕ) (v : ℕ) : Type 0 where
+pub record IsValueIn (bytes : List ℕ) (columns : Register → Option ℕ) (limit : Option ℕ) (expression : Expression)
+    (first : Option ℕ) (v : ℕ) : Type 0 where
   pub ordered : expression.start ≤ expression.end
   pub inside : expression.end ≤ length bytes
-  pub is_value : IsValue (record { code = slice_range bytes expression.start expression.end; columns = columns; limit = limit }) (option_to_list first) v
+  pub is_value : IsValue
+      (record { code = slice_range bytes expression.start expression.end; columns = columns; limit = limit })
+      (option_to_list first) v

@@ -1,4 +1,5 @@
--- The FDE of an address, among all FDEs of a section: each has a pair of its start, relative to the module's base, and its offset.
+-- The FDE of an address, among all FDEs of a section: each has a pair of its start, relative to the module's base,
+-- and its offset.
 use Rattle.std.specs.Prelude.{ℕ, ◌-◌, ◌^◌, ◌<◌, ◌≤◌, ◌≡◌, Bool, true, IsTrue, length, slice_index, slice_index_or, List, [], ◌∷◌, Option, Some, None, option_map, Result, Ok, Err, nat_le, nat_lt, ◌==◌, ◌||◌, ◌&&◌, if◌then◌else◌}
 use Rattle.framehop_cfi.specs.Bytes.{◌>>=◌}
 use Rattle.framehop_cfi.specs.Section.{Section}
@@ -71,10 +72,12 @@ abbrev pub later : ℕ × ℕ → Option (ℕ × ℕ) → ℕ × ℕ
 later pair None = pair
 later pair (Some other) = if is_before pair other then other else pair
 
--- The pair of an address: among those that start at or below it the one with the greatest start, and among equal starts the last.
+-- The pair of an address: among those that start at or below it the one with the greatest start, and among equal
+-- starts the last.
 abbrev pub pair_for : List (ℕ × ℕ) → ℕ → Option (ℕ × ℕ)
 pair_for [] address = None
-pair_for (pair ∷ pairs) address = if nat_le pair.0 address then Some (later pair (pair_for pairs address)) else pair_for pairs address
+pair_for (pair ∷ pairs) address =
+    if nat_le pair.0 address then Some (later pair (pair_for pairs address)) else pair_for pairs address
 
 -- the offset of its FDE
 abbrev pub fde_offset_for : List (ℕ × ℕ) → ℕ → Option ℕ
@@ -83,17 +86,22 @@ fde_offset_for pairs address = option_map (λ pair. pair.1) (pair_for pairs addr
 -- no pair before the address is after that one, or none is before the address
 abbrev pub Greatest : List (ℕ × ℕ) → ℕ → Option (ℕ × ℕ) → Type 0
 Greatest pairs address None = (k : ℕ) (d : ℕ × ℕ) → k < length pairs → address < (slice_index_or pairs k d).0
-Greatest pairs address (Some pair) = (k : ℕ) (d : ℕ × ℕ) → k < length pairs → (slice_index_or pairs k d).0 ≤ address → is_before (slice_index_or pairs k d) pair ≡ true
+Greatest pairs address (Some pair) =
+    (k : ℕ) (d : ℕ × ℕ) → k < length pairs → (slice_index_or pairs k d).0 ≤ address
+    → is_before (slice_index_or pairs k d) pair ≡ true
 
 -- the pair is one of them, and starts at or below the address
 abbrev pub Among : List (ℕ × ℕ) → ℕ → Option (ℕ × ℕ) → Type 0
 Among pairs address None = Unit {0}
-Among pairs address (Some pair) = (k : ℕ) × (k < length pairs) × (slice_index_or pairs k pair ≡ pair) × (pair.0 ≤ address)
+Among pairs address (Some pair) =
+    (k : ℕ) × (k < length pairs) × (slice_index_or pairs k pair ≡ pair) × (pair.0 ≤ address)
 
--- the FDE of an address by what it is: that of a pair that is one of them, and the greatest that starts at or below the address
+-- the FDE of an address by what it is: that of a pair that is one of them, and the greatest that starts at or below
+-- the address
 abbrev pub IsFdeFor : List (ℕ × ℕ) → ℕ → Option ℕ → Type 0
 IsFdeFor pairs address offset =
-    (pair : Option (ℕ × ℕ)) × (option_map (λ (p : ℕ × ℕ). p.1) pair ≡ offset) × Greatest pairs address pair × Among pairs address pair
+    (pair : Option (ℕ × ℕ)) × (option_map (λ (p : ℕ × ℕ). p.1) pair ≡ offset) × Greatest pairs address pair
+    × Among pairs address pair
 
 -- a CIE that was read before is the one at its offset
 abbrev pub IsKnown : Section → Option (ℕ × CommonInformationEntry) → Type 0
@@ -103,7 +111,8 @@ IsKnown section (Some known) = cie_at section known.0 ≡ Ok known.1
 -- a table in order: as many starts as offsets, and no pair after a later one
 pub record IsTable (starts offsets : List ℕ) : Type 0 where
   pub same : length starts ≡ length offsets
-  pub ordered : (i j : ℕ) → i ≤ j → j < length starts → IsTrue (is_before (slice_index starts i, slice_index offsets i) (slice_index starts j, slice_index offsets j))
+  pub ordered : (i j : ℕ) → i ≤ j → j < length starts
+      → IsTrue (is_before (slice_index starts i, slice_index offsets i) (slice_index starts j, slice_index offsets j))
 
 -- an index of a section: for each address it has the FDE that the section's entries have
 pub record IsIndexOf (section : Section) (base : ℕ) (index : List (ℕ × ℕ)) : Type 0 where
@@ -116,4 +125,5 @@ pub record IsIndexOf (section : Section) (base : ℕ) (index : List (ℕ × ℕ)
 -- the section has no list of entries with pairs: an entry can't be read, or an FDE's start or offset does not fit
 abbrev pub HasNoIndex : Section → ℕ → Type 0
 HasNoIndex section base =
-    (entries : List (ℕ × CieOrFde)) (pairs : List (ℕ × ℕ)) → AreEntries section entries → pairs_of_entries base entries ≡ Ok pairs → ⊥
+    (entries : List (ℕ × CieOrFde)) (pairs : List (ℕ × ℕ)) → AreEntries section entries
+    → pairs_of_entries base entries ≡ Ok pairs → ⊥

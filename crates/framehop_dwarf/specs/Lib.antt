@@ -1,3 +1,4 @@
+-- What the contracts of this crate cite: the index, expressions, and from a row to a frame.
 pub mod Aarch64
 pub mod Bases
 pub mod Direct

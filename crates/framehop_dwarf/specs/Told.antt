@@ -23,7 +23,8 @@ WritesWithAddress (Ok (Uncacheable address)) old new = Unit {0}
 WritesWithAddress (Err error) old new = new ≡ old
 
 -- an address and the registers are the direct result; a refusal is that of the direct result, unless memory ran out
-abbrev pub TellsDirect : {R S : Type 0} → Result (ℕ × S) DwarfUnwinderError → Result (UnwindResult R) DwarfUnwinderError → S → Type 0
+abbrev pub TellsDirect : {R S : Type 0} → Result (ℕ × S) DwarfUnwinderError
+    → Result (UnwindResult R) DwarfUnwinderError → S → Type 0
 TellsDirect wanted (Ok (ExecRule rule)) new = Unit {0}
 TellsDirect wanted (Ok (Uncacheable address)) new = wanted ≡ Ok (address, new)
 TellsDirect wanted (Err error) new = error ≢ no_memory → wanted ≡ Err error
@@ -52,7 +53,8 @@ RuleHas P (Ok (Uncacheable address)) = Unit {0}
 RuleHas P (Err error) = Unit {0}
 
 -- where an address is computed, the registers with it are related to those before
-abbrev pub AdvancesWithAddress : {R S : Type 0} → (S → S → Type 0) → Result (UnwindResult R) DwarfUnwinderError → S → S → Type 0
+abbrev pub AdvancesWithAddress : {R S : Type 0} → (S → S → Type 0) → Result (UnwindResult R) DwarfUnwinderError → S
+    → S → Type 0
 AdvancesWithAddress Advances (Ok (ExecRule rule)) old new = Unit {0}
 AdvancesWithAddress Advances (Ok (Uncacheable address)) old new = Advances old new
 AdvancesWithAddress Advances (Err error) old new = Unit {0}

@@ -17,7 +17,9 @@ abbrev pub is_exact : ℤ → ℕ → ℤ → Bool
 is_exact units size bytes = int_eq (units *ℤ pos size) bytes
 
 unfoldable pub units_of : ℕ → ℤ → Option ℕ
-units_of size bytes = if is_exact (int_div bytes (pos size)) size bytes then fits_u16 (int_div bytes (pos size)) else None
+units_of size bytes =
+    if is_exact (int_div bytes (pos size)) size bytes then fits_u16 (int_div bytes (pos size)) else None
 
 unfoldable pub signed_units_of : ℕ → ℤ → Option ℤ
-signed_units_of size bytes = if is_exact (int_div bytes (pos size)) size bytes then fits_i16 (int_div bytes (pos size)) else None
+signed_units_of size bytes =
+    if is_exact (int_div bytes (pos size)) size bytes then fits_i16 (int_div bytes (pos size)) else None

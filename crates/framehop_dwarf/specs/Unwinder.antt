@@ -31,7 +31,8 @@ abbrev pub fde_offset_for : Option Header → ℕ → Option ℕ
 fde_offset_for None address = None
 fde_offset_for (Some header) address = fde_offset_in header address
 
--- what a call frame section has for an address, by the FDE at an offset: no FDE is there, it has no row for the address, or this row
+-- what a call frame section has for an address, by the FDE at an offset: no FDE is there, it has no row for the
+-- address, or this row
 pub data Reading : Type 0 where
   unread : ReadError → Reading
   uncovered : Reading
@@ -52,7 +53,8 @@ reading_of limits section address offset = of_fde limits section address (fde_at
 abbrev pub IsReading : Option StorageLimits → Section → ℕ → ℕ → Reading → Type 0
 IsReading limits section address offset (unread error) = (fde : FrameDescriptionEntry) → IsFde section offset fde → ⊥
 IsReading limits section address offset uncovered =
-    (fde : FrameDescriptionEntry) × IsFde section offset fde × ((row : Row) → IsRowAt limits section fde address row → ⊥)
+    (fde : FrameDescriptionEntry) × IsFde section offset fde × ((row : Row)
+    → IsRowAt limits section fde address row → ⊥)
 IsReading limits section address offset (by_row row) =
     (fde : FrameDescriptionEntry) × IsFde section offset fde × IsRowAt limits section fde address row
 
@@ -78,4 +80,5 @@ OfRow P (by_row row) = P row
 abbrev pub HasFound : Result Bool DwarfUnwinderError → Row → Reading → Type 0
 HasFound (Ok true) row reading = reading ≡ by_row row
 HasFound (Ok false) row reading = reading ≡ uncovered
-HasFound (Err error) row reading = error ≢ no_memory → (e : ReadError) × (error ≡ FdeFromOffsetFailed e) × (reading ≡ unread e)
+HasFound (Err error) row reading =
+    error ≢ no_memory → (e : ReadError) × (error ≡ FdeFromOffsetFailed e) × (reading ≡ unread e)

@@ -1,4 +1,5 @@
--- From a row to a frame on x86_64: the rule that a row is translated to, and the values of the rows that have none (framehop 0.16.0, `x86_64/dwarf.rs`; System V ABI for AMD64, figure 3.36).
+-- From a row to a frame on x86_64: the rule that a row is translated to, and the values of the rows that have none
+-- (framehop 0.16.0, `x86_64/dwarf.rs`; System V ABI for AMD64, figure 3.36).
 use Rattle.std.specs.Prelude.{ℕ, ◌-◌, ◌≡◌, ◌<◌, ◌⊎◌, Bool, true, not, List, Option, Some, None, option_map, option_and_then, unwrap_or, Result, Ok, Err, ℤ, pos, negsuc, ◌+ℤ◌, ◌==◌, ◌&&◌, nat_lt, if◌then◌else◌}
 use Rattle.std.specs.Ordering.{int_eq}
 use Rattle.framehop_core.specs.Memory.{Memory}
@@ -41,7 +42,8 @@ abbrev pub with_bp : ℕ → ℤ → Option RegisterRule → Option UnwindRuleX8
 with_bp words offset None = Some (OffsetSp words)
 with_bp words offset (Some rule.Undefined) = Some (OffsetSp words)
 with_bp words offset (Some rule.SameValue) = Some (OffsetSp words)
-with_bp words offset (Some (rule.Offset saved)) = option_map (OffsetSpAndRestoreBp words) (signed_units_of 8 (offset +ℤ saved))
+with_bp words offset (Some (rule.Offset saved)) =
+    option_map (OffsetSpAndRestoreBp words) (signed_units_of 8 (offset +ℤ saved))
 with_bp words offset (Some other) = None
 
 abbrev pub by_sp : ℤ → Option RegisterRule → Option UnwindRuleX86_64
@@ -49,7 +51,8 @@ by_sp offset bp = option_and_then (λ words. with_bp words offset bp) (units_of 
 
 -- the CFA is rbp plus 16, and rbp is saved 16 bytes below it
 abbrev pub by_bp : ℤ → Option RegisterRule → Option UnwindRuleX86_64
-by_bp offset (Some (rule.Offset saved)) = if int_eq offset (pos 16) && int_eq saved (negsuc 15) then Some UseFramePointer else None
+by_bp offset (Some (rule.Offset saved)) =
+    if int_eq offset (pos 16) && int_eq saved (negsuc 15) then Some UseFramePointer else None
 by_bp offset other = None
 
 abbrev pub by_cfa : CfaRule → Option RegisterRule → Option UnwindRuleX86_64
@@ -88,20 +91,25 @@ stepped first r cfa bp address =
 abbrev pub scope_of : List ℕ → Option ℕ → Registers → Scope
 scope_of bytes limit r = record { bytes = bytes; columns = column_of r; limit = limit }
 
-abbrev pub direct_by : Scope → Memory → CfaRule → Option RegisterRule → Option RegisterRule → Bool → Registers → Result (ℕ × Registers) DwarfUnwinderError
+abbrev pub direct_by : Scope → Memory → CfaRule → Option RegisterRule → Option RegisterRule → Bool → Registers
+    → Result (ℕ × Registers) DwarfUnwinderError
 direct_by scope memory cfa_rule bp_rule return_rule first r =
     needed CouldNotRecoverCfa (cfa_of scope cfa_rule) (λ cfa.
-    needed CouldNotRecoverReturnAddress (or_below (register_of scope memory cfa r.ip return_rule) (below memory cfa)) (λ address.
+    needed CouldNotRecoverReturnAddress (or_below (register_of scope memory cfa r.ip return_rule)
+    (below memory cfa)) (λ address.
     stepped first r cfa (unwrap_or (register_of scope memory cfa r.rbp bp_rule) r.rbp) address))
 
-unfoldable pub direct_of : List ℕ → Option ℕ → Memory → Row → Bool → Registers → Result (ℕ × Registers) DwarfUnwinderError
+unfoldable pub direct_of : List ℕ → Option ℕ → Memory → Row → Bool → Registers
+    → Result (ℕ × Registers) DwarfUnwinderError
 direct_of bytes limit memory row first r =
-    direct_by (scope_of bytes limit r) memory row.cfa (rule_of row.rules bp_column) (rule_of row.rules return_column) first r
+    direct_by (scope_of bytes limit r) memory row.cfa (rule_of row.rules bp_column)
+    (rule_of row.rules return_column) first r
 
 -- ---- what a row means
 
 -- a saved rbp below rsp that can't be read is kept in a first frame
-pub record IsUnreadable (first : Bool) (memory : Memory) (old : Registers) (cfa : ℕ) (offset : ℤ) (bp : ℕ) : Type 0 where
+pub record IsUnreadable (first : Bool) (memory : Memory) (old : Registers) (cfa : ℕ) (offset : ℤ)
+    (bp : ℕ) : Type 0 where
   pub in_first : first ≡ true
   pub at : ℕ
   pub is_at : pos cfa +ℤ offset ≡ pos at
@@ -119,15 +127,25 @@ IsFramePointer scope first memory old cfa (Some (rule.Offset offset)) bp =
 IsFramePointer scope first memory old cfa bp_rule bp = IsColumn scope memory cfa old.rbp bp_rule bp
 
 -- A row means this step, in a first frame or another. Without a return column there is no address, and so no step.
-pub record RowMeans (bytes : List ℕ) (memory : Memory) (row : Row) (first : Bool) (old : Registers) (address : ℕ) (new : Registers) : Type 0 where
+pub record RowMeans (bytes : List ℕ) (memory : Memory) (row : Row) (first : Bool) (old : Registers) (address : ℕ)
+    (new : Registers) : Type 0 where
   pub cfa : IsCfa (scope_of bytes None old) row.cfa new.rsp
-  pub return_address : IsColumn (scope_of bytes None old) memory new.rsp old.ip (rule_of row.rules return_column) address
-  pub frame_pointer : IsFramePointer (scope_of bytes None old) first memory old new.rsp (rule_of row.rules bp_column) new.rbp
+  pub return_address : IsColumn (scope_of bytes None old) memory new.rsp old.ip
+      (rule_of row.rules return_column) address
+  pub frame_pointer : IsFramePointer (scope_of bytes None old) first memory old new.rsp
+      (rule_of row.rules bp_column) new.rbp
   pub ip : new.ip ≡ address
 
 -- what a direct result means: its rsp is the CFA, and each column that has a value has it
-pub record ColumnsMean (bytes : List ℕ) (limit : Option ℕ) (memory : Memory) (row : Row) (first : Bool) (old : Registers) (address : ℕ) (new : Registers) : Type 0 where
+pub record ColumnsMean (bytes : List ℕ) (limit : Option ℕ) (memory : Memory) (row : Row) (first : Bool)
+    (old : Registers) (address : ℕ) (new : Registers) : Type 0 where
   pub cfa : IsCfa (scope_of bytes None old) row.cfa new.rsp
-  pub return_address : (value : ℕ) → register_of (scope_of bytes limit old) memory new.rsp old.ip (rule_of row.rules return_column) ≡ Some value → (address ≡ value) × IsColumn (scope_of bytes None old) memory new.rsp old.ip (rule_of row.rules return_column) value
-  pub frame_pointer : (value : ℕ) → register_of (scope_of bytes limit old) memory new.rsp old.rbp (rule_of row.rules bp_column) ≡ Some value → (new.rbp ≡ value) × IsColumn (scope_of bytes None old) memory new.rsp old.rbp (rule_of row.rules bp_column) value
+  pub return_address : (value : ℕ)
+      → register_of (scope_of bytes limit old) memory new.rsp old.ip (rule_of row.rules return_column) ≡ Some value
+      → (address ≡ value) × IsColumn (scope_of bytes None old) memory new.rsp old.ip
+      (rule_of row.rules return_column) value
+  pub frame_pointer : (value : ℕ)
+      → register_of (scope_of bytes limit old) memory new.rsp old.rbp (rule_of row.rules bp_column) ≡ Some value
+      → (new.rbp ≡ value) × IsColumn (scope_of bytes None old) memory new.rsp old.rbp
+      (rule_of row.rules bp_column) value
   pub ip : new.ip ≡ address

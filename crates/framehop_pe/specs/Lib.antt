@@ -1,3 +1,4 @@
+-- What the contracts of this crate cite: sections, unwind info and its codes, epilogs, and frames.
 pub mod Sections
 pub mod FunctionTable
 pub mod Register

@@ -46,12 +46,16 @@ count_text name count = 32 ∷ name ++ 61 ∷ decimal count
 
 -- the counts of a cache
 abbrev pub stats_line : CacheStats → List ℕ
-stats_line stats = line (codes "stats" ++ count_text (codes "hits") stats.hit_count ++ count_text (codes "empty") stats.miss_empty_slot_count
-    ++ count_text (codes "modules") stats.miss_wrong_modules_count ++ count_text (codes "address") stats.miss_wrong_address_count)
+stats_line stats =
+    line (codes "stats" ++ count_text (codes "hits") stats.hit_count
+    ++ count_text (codes "empty") stats.miss_empty_slot_count
+    ++ count_text (codes "modules") stats.miss_wrong_modules_count
+    ++ count_text (codes "address") stats.miss_wrong_address_count)
 
 -- the registers of aarch64, each after a blank
 abbrev pub aarch64_text : Registers → List ℕ
-aarch64_text regs = codes " lr=" ++ hexadecimal regs.lr ++ codes " sp=" ++ hexadecimal regs.sp ++ codes " fp=" ++ hexadecimal regs.fp
+aarch64_text regs =
+    codes " lr=" ++ hexadecimal regs.lr ++ codes " sp=" ++ hexadecimal regs.sp ++ codes " fp=" ++ hexadecimal regs.fp
 
 -- a register after its name
 unfoldable pub register_text : List ℕ → ℕ → List ℕ
@@ -59,13 +63,18 @@ register_text name value = 32 ∷ name ++ 61 ∷ hexadecimal value
 
 -- the registers of x86_64 in the order of their numbers in DWARF: those with names, and those with numbers
 abbrev pub named_registers_text : RegistersX86_64 → List ℕ
-named_registers_text regs = register_text (codes "ip") regs.ip ++ register_text (codes "rax") regs.rax ++ register_text (codes "rdx") regs.rdx
-    ++ register_text (codes "rcx") regs.rcx ++ register_text (codes "rbx") regs.rbx ++ register_text (codes "rsi") regs.rsi
-    ++ register_text (codes "rdi") regs.rdi ++ register_text (codes "rbp") regs.rbp ++ register_text (codes "rsp") regs.rsp
+named_registers_text regs =
+    register_text (codes "ip") regs.ip ++ register_text (codes "rax") regs.rax ++ register_text (codes "rdx") regs.rdx
+    ++ register_text (codes "rcx") regs.rcx ++ register_text (codes "rbx") regs.rbx
+    ++ register_text (codes "rsi") regs.rsi
+    ++ register_text (codes "rdi") regs.rdi ++ register_text (codes "rbp") regs.rbp
+    ++ register_text (codes "rsp") regs.rsp
 
 abbrev pub numbered_registers_text : RegistersX86_64 → List ℕ
-numbered_registers_text regs = register_text (codes "r8") regs.r8 ++ register_text (codes "r9") regs.r9 ++ register_text (codes "r10") regs.r10
-    ++ register_text (codes "r11") regs.r11 ++ register_text (codes "r12") regs.r12 ++ register_text (codes "r13") regs.r13
+numbered_registers_text regs =
+    register_text (codes "r8") regs.r8 ++ register_text (codes "r9") regs.r9 ++ register_text (codes "r10") regs.r10
+    ++ register_text (codes "r11") regs.r11 ++ register_text (codes "r12") regs.r12
+    ++ register_text (codes "r13") regs.r13
     ++ register_text (codes "r14") regs.r14 ++ register_text (codes "r15") regs.r15
 
 unfoldable pub x86_64_text : RegistersX86_64 → List ℕ

@@ -90,7 +90,8 @@ outcome_of_line (caller sp lr fp demand) first r memory =
 abbrev pub outcome : UnwindRuleAarch64 → Bool → Registers → Memory → Outcome Registers
 outcome rule first r memory = outcome_of_line (line_of rule first r) first r memory
 
--- a step to the caller's frame: sp does not fall, and it rises in a frame that is not the first; it stays one of 64 bits
+-- a step to the caller's frame: sp does not fall, and it rises in a frame that is not the first; it stays one of 64
+-- bits
 pub record Advances (first : Bool) (callee caller : Registers) : Type 0 where
   pub not_below : callee.sp ≤ caller.sp
   pub rises : first ≡ false → callee.sp < caller.sp
@@ -100,8 +101,8 @@ pub record Advances (first : Bool) (callee caller : Registers) : Type 0 where
 abbrev pub AdvancesWhereAnswered : Bool → Result (Option ℕ) Error → Registers → Registers → Type 0
 AdvancesWhereAnswered first result old new = IfOk result (λ answer. OnSome answer (Advances first old new))
 
--- So many steps lead from these registers to those: none leaves them, and else one leads to the registers after the first
--- step, and no more than sp has risen since follow.
+-- So many steps lead from these registers to those: none leaves them, and else one leads to the registers after the
+-- first step, and no more than sp has risen since follow.
 pub record IsBoundedRun (count : ℕ) (start end : Registers) : Type 0 where
   pub first : Registers
   pub none : count ≡ 0 → end ≡ start

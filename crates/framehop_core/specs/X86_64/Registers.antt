@@ -87,7 +87,9 @@ registers_of ip words = record {
 
 -- the general registers as a list, in the order of `Reg`
 abbrev pub words_of : Registers → List ℕ
-words_of r = r.rax ∷ r.rdx ∷ r.rcx ∷ r.rbx ∷ r.rsi ∷ r.rdi ∷ r.rbp ∷ r.rsp ∷ r.r8 ∷ r.r9 ∷ r.r10 ∷ r.r11 ∷ r.r12 ∷ r.r13 ∷ r.r14 ∷ r.r15 ∷ []
+words_of r =
+    r.rax ∷ r.rdx ∷ r.rcx ∷ r.rbx ∷ r.rsi ∷ r.rdi ∷ r.rbp ∷ r.rsp ∷ r.r8 ∷ r.r9 ∷ r.r10 ∷ r.r11 ∷ r.r12 ∷ r.r13
+    ∷ r.r14 ∷ r.r15 ∷ []
 
 -- the n words from the place i on, and that they are the rest of a list of i + n words
 listed : List ℕ → ℕ → ℕ → List ℕ
@@ -98,7 +100,8 @@ listed-drop : (words : List ℕ) (i n : ℕ) → i + n ≡ length words → list
 unfolding listed
 listed-drop words i zero e = sym (drop_all i words (omega arith))
 listed-drop words i (suc n) e =
-    ap (λ rest. slice_index words i ∷ rest) (listed-drop words (suc i) n (omega arith)) ∙ sym (drop-cons words i 0 (omega arith))
+    ap (λ rest. slice_index words i ∷ rest) (listed-drop words (suc i) n (omega arith)) ∙ sym (drop-cons words i 0
+    (omega arith))
 
 -- a list of sixteen words is that of its registers
 pub words_of-registers_of : (ip : ℕ) (words : List ℕ) → length words ≡ 16 → words_of (registers_of ip words) ≡ words
