@@ -37,7 +37,7 @@ not-eq m n e = λ same. grind (arith, nat_tests)
 plain-register : (opcode : ℕ) → is_plain_pop opcode ≡ true → (opcode / 8 ≡ 11) × (opcode % 8 ≢ 4) × (nat_eq (opcode % 8) 5 ≡ nat_eq opcode 0x5D)
 plain-register opcode is =
     let code : opcode / 8 ≡ 11 = eq-true _ _ (and-left _ _ is) in
-    let other = not-eq opcode 0x5C (and-right _ _ is) in
+    let other : opcode ≢ 0x5C = not-eq opcode 0x5C (and-right _ _ is) in
     (code, λ four. other (omega arith), test-iff (opcode % 8) 5 opcode 0x5D (λ five. omega arith) (λ same. omega arith))
 
 read-pop : (text : List ℕ) (at byte : ℕ) (pop : Pop) (next register : ℕ) → slice_get text at ≡ Some byte → IsPopBytes byte (slice_get text (at + 1)) pop → IsPop text at next register → IsSamePop at pop next register
