@@ -10,6 +10,7 @@ use Rattle.framehop_core.specs.Laws.X86_64.{IsCaller, caller-answered}
 use Rattle.framehop_core.specs.declared.error.Error.{Error}
 use Rattle.framehop_core.specs.declared.x86_64.unwind_rule.UnwindRuleX86_64.{UnwindRuleX86_64}
 use Rattle.framehop_core.specs.declared.x86_64.unwind_rule.UnwindRuleX86_64.TheVariants.{EndOfStack, JustReturn, JustReturnIfFirstFrameOtherwiseFp, OffsetSp, OffsetSpAndRestoreBp, UseFramePointer, OffsetSpAndPopRegisters}
+use Rattle.framehop_analysis.specs.X86_64.Bytes.{is_pop_opcode}
 use Rattle.framehop_analysis.specs.X86_64.Machine.{State, HasRegisters, IsPop, short, long, Pops, is_jump, is_end, Caller, caller_of, RunOut}
 use Rattle.framehop_analysis.specs.X86_64.Epilogue.{is_plain_pop, Pop, pop_at, ArePops, Popped, none_popped, after_pop, after_pops, IsEnd, returns, jumps, IsRuleOfPopped, IsEpilogueRule, DoesEpilogue}
 use Rattle.framehop_analysis.proofs.X86_64Pops.{some-same, eq-true, and-left, and-right, or-cases, IsPopBytes, alone, after_40, after_41, pop-bytes, pop-low, jump-high}
@@ -37,7 +38,7 @@ not-eq m n e = λ same. grind (arith, nat_tests)
 plain-register : (opcode : ℕ) → is_plain_pop opcode ≡ true → (opcode / 8 ≡ 11) × (opcode % 8 ≢ 4) × (nat_eq (opcode % 8) 5 ≡ nat_eq opcode 0x5D)
 plain-register opcode is =
     let code : opcode / 8 ≡ 11 = eq-true _ _ (and-left _ _ is) in
-    let other = not-eq opcode 0x5C (and-right _ _ is) in
+    let other : opcode ≢ 0x5C = not-eq opcode 0x5C (and-right (is_pop_opcode opcode) (not (opcode == 0x5C)) is) in
     (code, λ four. other (omega arith), test-iff (opcode % 8) 5 opcode 0x5D (λ five. omega arith) (λ same. omega arith))
 
 read-pop : (text : List ℕ) (at byte : ℕ) (pop : Pop) (next register : ℕ) → slice_get text at ≡ Some byte → IsPopBytes byte (slice_get text (at + 1)) pop → IsPop text at next register → IsSamePop at pop next register

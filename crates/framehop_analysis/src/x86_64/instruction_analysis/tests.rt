@@ -223,6 +223,21 @@ fn undoes_a_prologue(rt: HostRuntime) -> Result<(), Error> {
     Ok(())
 }
 
+#[test]
+fn counts_up_to_the_fields(rt: HostRuntime) {
+    let pushes = [0x53u8; 65540];
+    assert_prologue(&rt, &pushes, 65534, offset_sp(65535));
+    assert_prologue(&rt, &pushes, 65535, None);
+    let mut pops = [0x5bu8; 65536];
+    pops[65535] = 0xc3;
+    assert_epilogue(&rt, &pops, 1, offset_sp(65535));
+    assert_epilogue(&rt, &pops, 0, None);
+    // 25535 pops come after the one of rbp
+    pops[40000] = 0x5d;
+    assert_epilogue(&rt, &pops, 7233, restore_bp(58303, 32767));
+    assert_epilogue(&rt, &pops, 7232, None);
+}
+
 /// A word of a stack in which each address has another one.
 fn word_at(address: u64) -> u64 {
     address ^ 0x5000_0000
