@@ -1,5 +1,5 @@
 -- What an iterator gives that shows the list of what is left.
-use Rattle.std.proofs.Common.{◌≡◌, List, [], ◌∷◌, Option, Some, None, Result, Ok, Err, refl, ap, sym, ◌∙◌}
+use Rattle.std.proofs.Common.{◌≡◌, List, [], ◌∷◌, Option, Some, None, refl, sym, ◌∙◌}
 use Rattle.std.specs.Result.{result_ok}
 use Rattle.std.specs.Iterator.{AlwaysYields, YieldsFirst}
 use Rattle.std.proofs.lemmas.Iterator.{YieldsList}

@@ -1,5 +1,5 @@
 -- Pops read one by one, and what is left of an epilog.
-use Rattle.std.proofs.Common.{◌≡◌, Bool, true, false, cond, ℤ, pos, negsuc, ℕ, zero, suc, ◌+◌, ◌-◌, ◌<◌, ◌≤◌, List, [], ◌∷◌, length, drop, Option, Some, None, refl, ap, sym, ◌∙◌, arith}
+use Rattle.std.proofs.Common.{◌≡◌, Bool, true, false, cond, ℤ, pos, negsuc, ℕ, zero, suc, ◌-◌, ◌<◌, ◌≤◌, List, [], ◌∷◌, length, drop, Option, Some, None, refl, ap, sym, ◌∙◌, arith}
 use lib.Signed.{lt_z, le_z}
 use Rattle.framehop_core.specs.declared.x86_64.unwindregs.Reg.{Reg}
 use Rattle.framehop_pe.specs.Epilog.{release_at, is_end, is_outside, epilog_of, pop_at, pops_in, and_pops, instructions_of}

@@ -1,5 +1,5 @@
 -- A rule of offsets and pops does what the operations or instructions do that it is made of.
-use Rattle.std.proofs.Common.{◌≡◌, ◌≢◌, ℕ, zero, suc, ◌+◌, ◌-◌, ◌*◌, ◌/◌, ◌%◌, ◌^◌, ◌<◌, ◌≤◌, ℤ, pos, negsuc, ◌-ℤ◌, ◌+ℤ◌, Bool, true, false, cond, ◌&&◌, nat_eq, nat_lt, nat_le, List, [], ◌∷◌, map, length, Option, Some, None, Result, Ok, Err, ◌⊎◌, inl, inr, refl, sym, ap, subst, ◌∙◌, arith, Contains, All, get_or, IsTrue}
+use Rattle.std.proofs.Common.{◌≡◌, ◌≢◌, ℕ, zero, suc, ◌+◌, ◌*◌, ◌/◌, ◌%◌, ◌^◌, ◌<◌, pos, ◌-ℤ◌, Bool, true, false, cond, ◌&&◌, nat_eq, nat_lt, nat_le, List, [], ◌∷◌, map, Option, Some, None, Result, Ok, Err, ◌⊎◌, inl, inr, refl, sym, ap, subst, ◌∙◌, arith, Contains, All, get_or, IsTrue}
 use Rattle.std.proofs.lemmas.Int.{ints}
 use Rattle.std.proofs.lemmas.Bool.Decides.{nat_tests}
 use Rattle.std.specs.Option.{option_map}
@@ -7,9 +7,9 @@ use Rattle.std.proofs.lemmas.Option.{some_pair_parts}
 use Rattle.framehop_core.specs.Memory.{Memory}
 use Rattle.framehop_core.specs.Outcome.{answered, address_at, above, word_at, word_from, and_then}
 use Rattle.framehop_core.specs.Laws.Outcome.{address_at-ok, word_at-ok, and_then-ok}
-use Rattle.framehop_core.specs.X86_64.Ordering.{eight, ordering, IsArrangement, IsEncoding}
+use Rattle.framehop_core.specs.X86_64.Ordering.{eight, ordering, IsEncoding}
 use Rattle.framehop_core.specs.X86_64.Registers.{Registers, with_register}
-use Rattle.framehop_core.specs.Laws.X86_64.{caller-answered, pops-answered, IsFinished}
+use Rattle.framehop_core.specs.Laws.X86_64.{caller-answered, pops-answered}
 use Rattle.framehop_core.specs.X86_64.Rules.{nothing_more, kept, popped, outcome, pops_of, offset_and_pops_of, IsRuleOf, IsRuleOfOperations, is_executable}
 use Rattle.framehop_core.proofs.Orderings.{IsArrangement-encoding, IsArrangement-number}
 use Rattle.framehop_core.specs.declared.error.Error.{Error}
@@ -21,7 +21,7 @@ use Rattle.framehop_core.specs.declared.x86_64.unwind_rule.UnwindRuleX86_64.{Unw
 use Rattle.framehop_core.specs.declared.x86_64.unwind_rule.UnwindRuleX86_64.TheVariants.{EndOfStack, JustReturn, JustReturnIfFirstFrameOtherwiseFp, OffsetSp, OffsetSpAndRestoreBp, UseFramePointer, OffsetSpAndPopRegisters}
 use Rattle.framehop_pe.specs.Resolve.{◌>>=◌, sum, popped_at, popped_word, undone, and_then as undone_then, resolved}
 use Rattle.framehop_pe.specs.EpilogRun.{with_sp, with_popped, stepped, stepped_then, ran}
-use Rattle.std.specs.declared.ops.ControlFlow.TheVariants.{Continue, Break}
+use Rattle.std.specs.declared.ops.ControlFlow.TheVariants.{Continue}
 use Rattle.framehop_pe.specs.declared.unwind_info.epilog.FunctionEpilogInstruction.{FunctionEpilogInstruction}
 use Rattle.framehop_pe.specs.declared.unwind_info.epilog.FunctionEpilogInstruction.TheVariants.{AddSP, AddSPFromFP, Pop as PopOf}
 use Rattle.framehop_core.specs.declared.unwind_result.UnwindResult.{UnwindResult}

@@ -1,10 +1,10 @@
 -- The starts of a function table.
-use Rattle.std.proofs.Common.{◌≡◌, ℕ, ◌+◌, ◌*◌, ◌/◌, ◌<◌, ◌≤◌, Bool, true, false, cond, nat_le, List, length, get_or, drop, Option, Some, None, refl, ap, sym, ◌∙◌, arith, rules}
+use Rattle.std.proofs.Common.{◌≡◌, ℕ, ◌*◌, ◌/◌, ◌<◌, ◌≤◌, Bool, true, false, cond, nat_le, List, length, get_or, drop, Some, None, refl, ap, sym, ◌∙◌, arith, rules}
 use Rattle.std.specs.Option.{option_and_then}
 use Rattle.std.proofs.lemmas.List.{get_or-drop, length-drop}
 use Rattle.std.proofs.lemmas.List.FromFn.{length-map-range_with_len, get_or-map-range_with_len}
 use Rattle.std.proofs.lemmas.Bool.Decides.{nat_tests}
-use Rattle.framehop_cfi.specs.Bytes.{le2, le4}
+use Rattle.framehop_cfi.specs.Bytes.{le4}
 use Rattle.framehop_cfi.specs.Place.{place_of}
 use Rattle.framehop_pe.specs.FunctionTable.{starts_of, function_at, function_of, covers}
 use Rattle.framehop_pe.specs.declared.unwind_info.function_table.RuntimeFunction.{RuntimeFunction}

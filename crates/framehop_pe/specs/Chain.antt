@@ -1,6 +1,6 @@
 -- Chained unwind info, and the operations of an address (Microsoft, "x64 exception handling", "Chained unwind info
 -- structures").
-use Rattle.std.specs.Prelude.{ℕ, zero, suc, Bool, true, not, List, [], ◌∷◌, ◌++◌, map, Option, Some, None, Result, Ok, Err}
+use Rattle.std.specs.Prelude.{ℕ, zero, suc, true, not, List, [], ◌∷◌, ◌++◌, map, Option, Some, None, Result, Ok, Err}
 use Rattle.std.specs.List.{flat_map}
 use Rattle.std.specs.Option.{ok_or}
 use Rattle.framehop_cfi.specs.Bytes.{◌>>=◌}

@@ -1,5 +1,5 @@
 -- Epilogs (Microsoft, "x64 exception handling", "Epilog code"; encodings from Intel's manual, volume 2).
-use Rattle.std.specs.Prelude.{ℕ, zero, suc, ◌+◌, ◌-◌, ◌/◌, ◌%◌, ℤ, pos, negsuc, ◌+ℤ◌, Bool, true, false, ◌==◌, ◌&&◌, ◌||◌, nat_le, nat_lt, if◌then◌else◌, List, [], ◌∷◌, ◌++◌, length, drop, map, slice_index, option_to_list, Option, Some, None}
+use Rattle.std.specs.Prelude.{ℕ, zero, suc, ◌+◌, ◌-◌, ◌/◌, ◌%◌, ℤ, pos, negsuc, ◌+ℤ◌, Bool, true, false, ◌==◌, ◌&&◌, nat_le, nat_lt, if◌then◌else◌, List, [], ◌∷◌, ◌++◌, length, drop, map, slice_index, option_to_list, Option, Some, None}
 use Rattle.std.specs.Int.{cast_signed, w8, w32}
 use Rattle.framehop_cfi.specs.Bytes.{le4}
 use Rattle.framehop_core.specs.declared.x86_64.unwindregs.Reg.{Reg}

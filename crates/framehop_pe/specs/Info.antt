@@ -1,5 +1,5 @@
 -- Unwind info (Microsoft, "x64 exception handling", struct UNWIND_INFO).
-use Rattle.std.specs.Prelude.{ℕ, ◌+◌, ◌*◌, ◌/◌, ◌%◌, Bool, true, false, ◌&&◌, ◌||◌, ◌==◌, nat_le, nat_lt, if◌then◌else◌, List, [], ◌∷◌, length, take, drop, slice_index, Option, Some, None, is_some, option_map, option_and_then}
+use Rattle.std.specs.Prelude.{ℕ, ◌+◌, ◌*◌, ◌/◌, ◌%◌, Bool, true, false, ◌&&◌, ◌||◌, ◌==◌, nat_le, if◌then◌else◌, List, [], ◌∷◌, length, take, drop, slice_index, Option, Some, None, is_some, option_map}
 use Rattle.framehop_core.specs.declared.x86_64.unwindregs.Reg.{Reg}
 use Rattle.framehop_core.specs.declared.x86_64.unwindregs.Reg.TheVariants.{RSP}
 use Rattle.framehop_pe.specs.Codes.{read_codes}
@@ -11,7 +11,7 @@ use Rattle.framehop_pe.specs.declared.unwind_info.info.UnwindCodes.{UnwindCodes}
 use Rattle.framehop_pe.specs.declared.unwind_info.info.UnwindInfo.{UnwindInfo}
 use Rattle.framehop_pe.specs.declared.unwind_info.operation.UnwindCode.{UnwindCode}
 use Rattle.framehop_pe.specs.declared.unwind_info.operation.UnwindOperation.{UnwindOperation}
-use Rattle.framehop_pe.specs.declared.unwind_info.operation.UnwindOperation.TheVariants.{UnStackAlloc, PopNonVolatile, RestoreSp, Read, Skip, MachineFrame}
+use Rattle.framehop_pe.specs.declared.unwind_info.operation.UnwindOperation.TheVariants.{RestoreSp}
 
 -- the frame register in the header's last byte: its number in the low half, 0 for none, and its offset in units of 16
 unfoldable pub frame_register_of : ℕ → Option FrameRegister

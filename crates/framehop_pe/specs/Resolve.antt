@@ -1,7 +1,6 @@
 -- Resolve: operations undone one by one, on sixteen registers and memory (Microsoft, "x64 exception handling", "Unwind
 -- procedure").
 use Rattle.std.specs.Prelude.{ℕ, ◌+◌, ◌-◌, ◌^◌, Bool, true, false, nat_le, nat_lt, if◌then◌else◌, List, [], ◌∷◌, Option, Some, None, Result, Ok, Err}
-use Rattle.std.specs.Option.{ok_or}
 use Rattle.std.specs.declared.ops.ControlFlow.{ControlFlow}
 use Rattle.std.specs.declared.ops.ControlFlow.TheVariants.{Continue, Break}
 use Rattle.framehop_core.specs.Memory.{Memory}

@@ -73,6 +73,17 @@ fn unwind_info(
     regs: &mut UnwindRegsX86_64,
     stack: &[(u64, u64)],
 ) -> Answer {
+    unwind_without_code(info, address, false, regs, stack)
+}
+
+/// Unwinds a frame of the function by this unwind info at 0x2000, in a module without code.
+fn unwind_without_code(
+    info: &[u8],
+    address: u32,
+    is_first_frame: bool,
+    regs: &mut UnwindRegsX86_64,
+    stack: &[(u64, u64)],
+) -> Answer {
     let end = 0x2000 + info.len().min(0x1000) as u32;
     let rdata = DataAtRvaRange {
         bytes: Lent(info),
@@ -85,7 +96,7 @@ fn unwind_info(
         xdata: None,
         text: None,
     };
-    unwind(sections, address, regs, false, stack)
+    unwind(sections, address, regs, is_first_frame, stack)
 }
 
 /// Unwinds a first frame of the function, whose code ends in these bytes, from the first of them.
@@ -95,8 +106,23 @@ fn unwind_end<'x>(
     regs: &mut UnwindRegsX86_64,
     stack: &[(u64, u64)],
 ) -> Answer {
-    let size = code.len().min(0x40) as u32;
-    let start = 0x1040 - size;
+    unwind_code(
+        code,
+        0x1040 - code.len().min(0x40) as u32,
+        info,
+        regs,
+        stack,
+    )
+}
+
+/// Unwinds a first frame of the function at an address from which on its code is these bytes.
+fn unwind_code<'x>(
+    code: &'x [u8],
+    address: u32,
+    info: &'x [u8],
+    regs: &mut UnwindRegsX86_64,
+    stack: &[(u64, u64)],
+) -> Answer {
     let end = 0x2000 + info.len().min(0x1000) as u32;
     let rdata = DataAtRvaRange {
         bytes: Lent(info),
@@ -104,7 +130,7 @@ fn unwind_end<'x>(
     };
     let text = DataAtRvaRange {
         bytes: Lent(code),
-        rva_range: start..0x1040,
+        rva_range: address..0x1040,
     };
     let pdata = Lent(&FUNCTION);
     let sections = PeSections {
@@ -113,7 +139,7 @@ fn unwind_end<'x>(
         xdata: None,
         text: Some(&text),
     };
-    unwind(sections, start, regs, true, stack)
+    unwind(sections, address, regs, true, stack)
 }
 
 #[test]
@@ -534,28 +560,37 @@ fn takes_sections_in_their_order(rt: HostRuntime) -> Result<(), Fail> {
     Ok(())
 }
 
-#[test]
-fn reads_each_word_once(rt: HostRuntime) -> Result<(), Fail> {
-    // UWOP_PUSH_NONVOL rsi, UWOP_SAVE_NONVOL rdi at 2 words, and the return address
-    let info = [1, 0, 3, 0, 0, 0x60, 0, 0x74, 2, 0];
-    let pdata = Lent(&FUNCTION);
+/// Unwinds a frame and lists the addresses of the words that it reads.
+fn unwind_listed(
+    info: &[u8],
+    regs: &mut UnwindRegsX86_64,
+    read: &mut Vec<u64>,
+) -> Result<UnwindResult<UnwindRuleX86_64>, PeUnwinderError> {
     let rdata = DataAtRvaRange {
-        bytes: Lent(&info),
+        bytes: Lent(info),
         rva_range: 0x2000..0x200a,
     };
+    let pdata = Lent(&FUNCTION);
     let sections = PeSections {
         pdata: &pdata,
         rdata: None,
         xdata: Some(&rdata),
         text: None,
     };
-    let mut read = Vec::new(rt.alloc());
     let mut read_stack = |address: u64| -> Result<u64, ()> {
         read.push(address).map_err(|_| ())?;
-        Ok(address + 1)
+        Ok(address ^ 1)
     };
+    ArchX86_64::unwind_frame(sections, 0x1000, regs, false, &mut read_stack)
+}
+
+#[test]
+fn reads_each_word_once(rt: HostRuntime) -> Result<(), Fail> {
+    // UWOP_PUSH_NONVOL rsi, UWOP_SAVE_NONVOL rdi at 2 words, and the return address
+    let info = [1, 0, 3, 0, 0, 0x60, 0, 0x74, 2, 0];
+    let mut read = Vec::new(rt.alloc());
     let mut regs = UnwindRegsX86_64::new(0x1000, 0x100, 0);
-    let answer = ArchX86_64::unwind_frame(sections, 0x1000, &mut regs, false, &mut read_stack)?;
+    let answer = unwind_listed(&info, &mut regs, &mut read)?;
     assert!(rt; matches!(answer, UnwindResult::Uncacheable(0x109)));
     assert_eq!(rt; (regs.get(Reg::RSI), regs.get(Reg::RDI)), (0x101, 0x119));
     assert_eq!(rt; read.as_slice(), [0x100, 0x118, 0x108].as_slice());
@@ -564,34 +599,32 @@ fn reads_each_word_once(rt: HostRuntime) -> Result<(), Fail> {
 
 #[test]
 fn needs_the_code_up_to_the_end(rt: HostRuntime) {
-    let mut regs = UnwindRegsX86_64::new(0x1000, 0x100, 0);
-    let pdata = Lent(&FUNCTION);
-    let rdata = DataAtRvaRange {
-        bytes: Lent(&PUSH_AND_ALLOC),
-        rva_range: 0x2000..0x2008,
-    };
-    let text = DataAtRvaRange {
-        bytes: Lent(&[0x90, 0x90]),
-        rva_range: 0x103e..0x1040,
-    };
-    let missing = |rva: u32| Answer::Refused(PeUnwinderError::MissingInstructionData(rva));
-    for (text, address, answer) in [
-        (None, 0x103e, missing(0x103e)),
-        (Some(&text), 0x103d, missing(0x103d)),
-        (Some(&text), 0x103e, pops(4, 1, 0)),
-    ] {
-        let sections = PeSections {
-            pdata: &pdata,
-            rdata: Some(&rdata),
-            xdata: None,
-            text,
-        };
-        assert_eq!(rt; unwind(sections, address, &mut regs, true, &[]), answer);
-        assert_eq!(rt;
-            unwind(sections, address, &mut regs, false, &[]),
-            pops(4, 1, 0)
-        );
-    }
+    let mut regs = UnwindRegsX86_64::new(0x103e, 0x100, 0);
+    let missing = Answer::Refused(PeUnwinderError::MissingInstructionData(0x103e));
+    let info = PUSH_AND_ALLOC;
+    assert_eq!(rt;
+        unwind_code(&[0x90, 0x90], 0x103e, &info, &mut regs, &[]),
+        pops(4, 1, 0)
+    );
+    assert_eq!(rt;
+        unwind_code(&[0xc3], 0x103e, &info, &mut regs, &[]),
+        missing
+    );
+    assert_eq!(rt;
+        unwind_without_code(&info, 0x103e, true, &mut regs, &[]),
+        missing
+    );
+    // only the header is judged before the code
+    let unknown = [2, 0, 0, 0];
+    let refused = Answer::Refused(PeUnwinderError::UnwindInfoParseError);
+    assert_eq!(rt;
+        unwind_without_code(&unknown, 0x103e, true, &mut regs, &[]),
+        refused
+    );
+    assert_eq!(rt;
+        unwind_code(&[0x5b, 0xc3], 0x103e, &[1, 0, 9, 4], &mut regs, &[]),
+        pops(0, 1, 0)
+    );
 }
 
 #[test]

@@ -1,8 +1,8 @@
-use Rattle.std.proofs.Common.{◌≡◌, Ok, Err, None, Some, ap, refl, arith, sym, ◌∙◌, rules}
+use Rattle.std.proofs.Common.{refl, arith}
 use Rattle.std.proofs.lemmas.Result.{err_from_is_err_and}
 use Rattle.framehop_pe.specs.Sections.{sections_of}
 use Rattle.framehop_pe.specs.Info.{read_by}
-use Rattle.framehop_pe.proofs.Chains.{Leads, Leads-full, Leads-refused, Leads-more, Leads-end}
+use Rattle.framehop_pe.proofs.Chains.{Leads-full, Leads-refused, Leads-more, Leads-end}
 use Rattle.framehop_pe.proofs.unwind_info.chain.check_chain.Goals as goal
 
 pub returns-then-left-eq0 : goal.returns-then-left-eq0

@@ -1,4 +1,4 @@
-use Rattle.std.proofs.Common.{◌≡◌, ℤ, pos, arith, ap, sym, ◌∙◌}
+use Rattle.std.proofs.Common.{◌≡◌, pos, arith}
 use Rattle.std.proofs.lemmas.Int.{ints}
 use Rattle.std.specs.Int.{cast_signed, cast_unsigned, w64}
 use Rattle.framehop_pe.proofs.Pops.{is_outside-at_least}

@@ -1,7 +1,4 @@
-use Rattle.std.proofs.Common.{◌≡◌, Ok, Err, sym, ap, subst, ◌∙◌, rules}
 use Rattle.std.proofs.lemmas.Result.{err_from_is_err_and}
-use Rattle.framehop_core.specs.Memory.{Memory, AnswersAs}
-use Rattle.framehop_pe.specs.Frame.{returned}
 use Rattle.framehop_pe.proofs.x86_64.pe.unwind_codes.Goals as goal
 
 pub returns-in_err-return_address-clause-decides : goal.returns-in_err-return_address-clause-decides

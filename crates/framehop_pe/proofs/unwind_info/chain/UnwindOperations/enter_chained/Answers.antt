@@ -1,4 +1,4 @@
-use Rattle.std.proofs.Common.{◌≡◌, ◌<◌, ◌-◌, Ok, Err, None, Some, ap, refl, arith, sym, ◌∙◌}
+use Rattle.std.proofs.Common.{◌<◌, ◌-◌, ap, refl, arith, sym, ◌∙◌}
 use Rattle.std.specs.List.{flat_map}
 use Rattle.framehop_pe.specs.Sections.{sections_of}
 use Rattle.framehop_pe.specs.Chain.{all_of, infos_from}

@@ -1,5 +1,4 @@
-use Rattle.std.proofs.Common.{◌≡◌, List, ◌∷◌, [], ◌++◌, Some, None, sym, ap, length, map, rules, ◌∙◌}
-use Rattle.framehop_pe.specs.Epilog.{instructions_of, pops_in}
+use Rattle.std.proofs.Common.{sym, ap, length, rules}
 use Rattle.framehop_pe.proofs.Pops.{pops_in-more, pops_in-none, left-none, left-more}
 use Rattle.framehop_pe.proofs.unwind_info.epilog.EpilogInstructionsIterator.next.Goals as goal
 

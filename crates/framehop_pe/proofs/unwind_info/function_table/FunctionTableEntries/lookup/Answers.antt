@@ -1,4 +1,4 @@
-use Rattle.std.proofs.Common.{arith, sym}
+use Rattle.std.proofs.Common.{arith}
 use Rattle.framehop_pe.proofs.Starts.{length-starts_of, function_of-empty}
 use Rattle.framehop_pe.proofs.unwind_info.function_table.FunctionTableEntries.lookup.Goals as goal
 

@@ -1,4 +1,4 @@
-use Rattle.std.proofs.Common.{◌<◌, ◌/◌, ◌*◌, length, arith, sym, ◌∙◌}
+use Rattle.std.proofs.Common.{◌*◌, arith, sym, ◌∙◌}
 use Rattle.framehop_pe.proofs.Starts.{length-starts_of, get_or-starts_of, start-entry, entry-there}
 use Rattle.framehop_pe.proofs.unwind_info.function_table.FunctionTableEntriesStarts.start.Goals as goal
 

@@ -1,4 +1,4 @@
-use Rattle.std.proofs.Common.{◌≡◌, sym, ◌∙◌}
+use Rattle.std.proofs.Common.{sym, ◌∙◌}
 use Rattle.framehop_pe.proofs.CodeLists.{read_codes-whole, read_codes-end}
 use Rattle.framehop_pe.proofs.unwind_info.info.UnwindCodes.are_known.Goals as goal
 

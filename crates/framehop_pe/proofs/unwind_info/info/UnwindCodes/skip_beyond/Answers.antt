@@ -1,7 +1,7 @@
-use Rattle.std.proofs.Common.{◌≡◌, ◌||◌, Bool, Some, None, sym, ◌∙◌, ap, refl}
+use Rattle.std.proofs.Common.{◌||◌, sym, ◌∙◌, ap}
 use Rattle.framehop_pe.specs.Codes.{read_codes}
-use Rattle.framehop_pe.specs.Info.{from_first, skips_frame, sets_frame}
-use Rattle.framehop_pe.proofs.CodeLists.{read_codes-more, read_codes-front, read_codes-none, from_first-beyond, from_first-here, skips_frame-beyond, skipped-none, skipped-more, skipped-end}
+use Rattle.framehop_pe.specs.Info.{from_first, skips_frame}
+use Rattle.framehop_pe.proofs.CodeLists.{read_codes-more, read_codes-front, read_codes-none, skipped-none, skipped-more, skipped-end}
 use Rattle.framehop_pe.proofs.unwind_info.info.UnwindCodes.skip_beyond.Goals as goal
 
 pub loop-code-preserved : goal.loop-code-preserved

@@ -1,4 +1,4 @@
-use Rattle.std.proofs.Common.{◌≡◌, Some, None, sym, ap, length, rules}
+use Rattle.std.proofs.Common.{ap, length, rules}
 use Rattle.framehop_pe.proofs.CodeLists.{read_codes-more, read_codes-none}
 use Rattle.framehop_pe.proofs.unwind_info.info.UnwindCodesIterator.next.Goals as goal
 

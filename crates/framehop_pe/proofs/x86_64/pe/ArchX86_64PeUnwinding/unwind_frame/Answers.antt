@@ -1,4 +1,4 @@
-use Rattle.std.proofs.Common.{◌≡◌, Ok, Some, None, refl, sym, ap, ◌∙◌, []}
+use Rattle.std.proofs.Common.{sym, ap, ◌∙◌, []}
 use Rattle.framehop_pe.specs.Frame.{way_of, way_or_leaf, by_codes}
 use Rattle.framehop_pe.specs.FunctionTable.{function_of}
 use Rattle.framehop_pe.specs.Sections.{sections_of}
