@@ -1,0 +1,4 @@
+//! Apple's compact unwind info of Mach-O modules.
+#![tactic(auto)]
+
+pub mod unwind_info;
