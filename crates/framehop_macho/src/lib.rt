@@ -2,3 +2,4 @@
 #![tactic(auto)]
 
 pub mod unwind_info;
+pub mod x86_64;

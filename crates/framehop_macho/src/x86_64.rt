@@ -1,0 +1,2 @@
+//! Unwinding by compact unwind info on the x86_64 CPU architecture.
+pub mod saved_registers;
