@@ -1,5 +1,5 @@
 //! The registers that a frameless function has saved (Apple, mach-o/compact_unwind_encoding.h).
-ghost use Rattle.std.specs.Prelude.{◌≡◌, ◌≤◌, ◌<◌, MatchOption, Some, None};
+ghost use Rattle.std.specs.Prelude.{◌≡◌, ◌≤◌, ◌<◌, MatchOption, IfSome, length, Some, None};
 ghost use Rattle.framehop_macho.specs.SavedRegisters.{list_count, saved_registers, bp_position};
 
 use arrayvec::ArrayVec;
@@ -28,9 +28,10 @@ const SAVED_REGISTERS: [RegisterNameX86_64; 6] = [
 /// Returns the list of so many distinct registers that has this rank, from 0, in lexicographic
 /// order, or `None` where there is no such list.
 pub fn saved_registers(count: usize, rank: usize) -> Option<ArrayVec<RegisterNameX86_64, 6>>
-    ensures { MatchOption result
+    ensures exact { MatchOption result
         (saved_registers count rank ≡ None)
         (λ saved. saved_registers count rank ≡ Some saved.items) }
+    ensures few { IfSome result (λ saved. length saved.items ≤ 6) }
 {
     if count > 6 {
         return None;
@@ -62,7 +63,8 @@ fn list_count(count: usize, members: usize) -> usize
 
 /// Returns the place of rbp, counted from the end of a list, where the last one has place 0.
 pub fn bp_position(saved: &[RegisterNameX86_64]) -> Option<usize>
-    ensures { result ≡ bp_position saved.now }
+    ensures exact { result ≡ bp_position saved.now }
+    ensures within { IfSome result (λ place. place < length saved.now) }
 {
     saved
         .iter()

@@ -3,13 +3,13 @@ use Rattle.framehop_macho.specs.SavedRegisters.{saved_registers, six}
 use Rattle.framehop_macho.proofs.Lists.{next-kept, next-none, last-found, last-none, beyond-none, list_count-same}
 use Rattle.framehop_macho.proofs.x86_64.saved_registers.saved_registers.Goals as goal
 
-pub returns-then-count-gt6 : goal.returns-then-count-gt6
+pub returns-then-count-gt6-clause-exact : goal.returns-then-count-gt6-clause-exact
 unfolding saved_registers
-returns-then-count-gt6 c = beyond-none c.args.count c.args.rank six (omega arith)
+returns-then-count-gt6-clause-exact c = beyond-none c.args.count c.args.rank six (omega arith)
 
-pub returns-in_err-pop_at : goal.returns-in_err-pop_at
+pub returns-in_err-pop_at-clause-exact : goal.returns-in_err-pop_at-clause-exact
 unfolding saved_registers
-returns-in_err-pop_at c =
+returns-in_err-pop_at-clause-exact c =
     let kept = c.loop-place.invariant in
     let block = c.list_count-block.ensures in
     let saved = c.loop-place.saved.items in
@@ -33,14 +33,14 @@ loop-place-preserved c =
       found = next-kept saved pool _ _ c.in_ok-pop_at.field-0 (c.args.count - place) after c.loop-place.rest c.list_count-block.result _ (omega (arith, c.loop-place-test.true)) (list_count-same _ _ after (length pool - 1) c.list_count-block.result block.exact (omega arith) (omega (arith, kept.pool))) block.some c.in_ok-pop_at.ensures.value c.push.ensures.items c.in_ok-pop_at.ensures.items kept.found;
     }
 
-pub returns-then-rest-eq0 : goal.returns-then-rest-eq0
+pub returns-then-rest-eq0-clause-exact : goal.returns-then-rest-eq0-clause-exact
 unfolding saved_registers
-returns-then-rest-eq0 c =
+returns-then-rest-eq0-clause-exact c =
     let kept = c.loop-place.invariant in
     sym kept.found ∙ last-found c.loop-place.saved.items c.loop-place.pool.items (c.args.count - c.loop-place.place) c.loop-place.rest (omega (arith, c.loop-place-test.false)) c.if-rest-eq0.true
 
-pub returns-else-rest-eq0 : goal.returns-else-rest-eq0
+pub returns-else-rest-eq0-clause-exact : goal.returns-else-rest-eq0-clause-exact
 unfolding saved_registers
-returns-else-rest-eq0 c =
+returns-else-rest-eq0-clause-exact c =
     let kept = c.loop-place.invariant in
     sym kept.found ∙ last-none c.loop-place.saved.items c.loop-place.pool.items (c.args.count - c.loop-place.place) c.loop-place.rest (omega (arith, c.loop-place-test.false)) (omega (arith, c.if-rest-eq0.false))
