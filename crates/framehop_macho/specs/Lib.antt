@@ -4,3 +4,4 @@ pub mod SavedRegisters
 pub mod Answer
 pub mod X86_64
 pub mod Aarch64
+pub mod Unwinder

@@ -1,7 +1,7 @@
 //! The function of an address, by the index of `__unwind_info` and its pages (Apple,
 //! mach-o/compact_unwind_encoding.h, struct unwind_info_section_header).
-ghost use Rattle.std.specs.Prelude.{◌≡◌, Ok, Err, MatchResult};
-ghost use Rattle.framehop_macho.specs.UnwindInfo.{lists_of, in_lists, shared_lists, page_entry_of};
+ghost use Rattle.std.specs.Prelude.{◌≡◌, Ok, Err, IfOk, IfSome, MatchResult};
+ghost use Rattle.framehop_macho.specs.UnwindInfo.{lists_of, in_lists, shared_lists, page_entry_of, Covers};
 
 use super::error::CompactReadError;
 use super::page::Page;
@@ -68,7 +68,8 @@ impl<'a> UnwindInfo<'a> {
     ///
     /// Those of the page and of the function.
     pub fn lookup(&self, address: u32) -> Result<Option<Function>, CompactReadError>
-        ensures { result ≡ in_lists self.now.bytes.now (shared_lists self.now) address }
+        ensures covers { IfOk result (λ found. IfSome found (Covers address)) }
+        ensures exact { result ≡ in_lists self.now.bytes.now (shared_lists self.now) address }
     {
         let Some(entry) = page_entry(self.index, address) else {
             return Ok(None);

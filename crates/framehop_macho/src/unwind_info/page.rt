@@ -1,7 +1,7 @@
 //! The pages of `__unwind_info` (Apple, mach-o/compact_unwind_encoding.h, structs
 //! unwind_info_regular_second_level_page_header and .._compressed_..).
-ghost use Rattle.std.specs.Prelude.{◌≡◌, ◌+◌, ◌≤◌, ◌<◌, ◌^◌, length, Ok, Err, MatchResult};
-ghost use Rattle.framehop_macho.specs.UnwindInfo.{page_at, regular_page, compressed_page, in_page, in_regular, in_compressed, page_of};
+ghost use Rattle.std.specs.Prelude.{◌≡◌, ◌+◌, ◌≤◌, ◌<◌, ◌^◌, length, Ok, Err, IfOk, IfSome, MatchResult};
+ghost use Rattle.framehop_macho.specs.UnwindInfo.{page_at, regular_page, compressed_page, in_page, in_regular, in_compressed, page_of, Covers};
 ghost use Rattle.framehop_macho.specs.Table.{regular_starts, compressed_starts, row_of};
 
 use super::error::CompactReadError;
@@ -65,7 +65,8 @@ impl<'a> Page<'a> {
         next_page_address: u32,
         address: u32,
     ) -> Result<Option<Function>, CompactReadError>
-        ensures { result ≡ in_page common_opcodes.now page_address next_page_address address (page_of self.entry) }
+        ensures covers { IfOk result (λ found. IfSome found (Covers address)) }
+        ensures exact { result ≡ in_page common_opcodes.now page_address next_page_address address (page_of self.entry) }
     {
         match self {
             Page::Regular(entries) => Ok(lookup_regular(entries, next_page_address, address)),
@@ -123,7 +124,8 @@ fn parse_compressed(bytes: &[u8], at: usize) -> Result<Page<'_>, CompactReadErro
 
 /// Returns the function of an address among the entries of a regular page.
 fn lookup_regular(entries: &[u8], next_page_address: u32, address: u32) -> Option<Function>
-    ensures { result ≡ in_regular entries.now next_page_address address (row_of (regular_starts entries.now) address) }
+    ensures covers { IfSome result (Covers address) }
+    ensures exact { result ≡ in_regular entries.now next_page_address address (row_of (regular_starts entries.now) address) }
 {
     let row = row_of_address(&RegularEntries { bytes: entries }, u64::from(address))?;
     let function = Function {
@@ -146,7 +148,8 @@ fn lookup_compressed(
     next_page_address: u32,
     address: u32,
 ) -> Result<Option<Function>, CompactReadError>
-    ensures { result ≡ in_compressed common_opcodes.now entries.now.bytes.now opcodes.now next_page_address address
+    ensures covers { IfOk result (λ found. IfSome found (Covers address)) }
+    ensures exact { result ≡ in_compressed common_opcodes.now entries.now.bytes.now opcodes.now next_page_address address
         (row_of (compressed_starts entries.now.page_address entries.now.bytes.now) address) }
 {
     let Some(row) = row_of_address(entries, u64::from(address)) else {
