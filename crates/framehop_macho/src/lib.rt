@@ -3,5 +3,7 @@
 
 pub mod aarch64;
 pub mod macho;
+#[cfg(test)]
+mod tests;
 pub mod unwind_info;
 pub mod x86_64;
