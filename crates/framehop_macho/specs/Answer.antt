@@ -1,0 +1,25 @@
+-- What unwinding by compact unwind info returns.
+use Rattle.std.specs.Prelude.{◌≡◌, ℕ, ◌⊎◌, ◌/◌, ◌%◌, ◌^◌, Bool, Option, Result, Ok, Err}
+use Rattle.framehop_macho.specs.declared.macho.CuiUnwindResult.{CuiUnwindResult}
+use Rattle.framehop_macho.specs.declared.macho.CuiUnwindResult.TheVariants.{ExecRule, NeedDwarf}
+
+-- so many bits of a word, from a lowest one on
+abbrev pub bits_at : ℕ → ℕ → ℕ → ℕ
+bits_at word low count = word / 2 ^ low % 2 ^ count
+
+-- a rule, where one is found
+abbrev pub exec_rule : {Rule E : Type 0} → Result Rule E → Result (CuiUnwindResult Rule) E
+exec_rule (Ok rule) = Ok (ExecRule rule)
+exec_rule (Err error) = Err error
+
+-- a fact of the rule, where one is returned
+abbrev pub IfExecRule : {Rule E : Type 0} → Result (CuiUnwindResult Rule) E → (Rule → Type 0) → Type 0
+IfExecRule (Ok (ExecRule rule)) P = P rule
+IfExecRule (Ok (NeedDwarf _)) P = Unit {0}
+IfExecRule (Err _) P = Unit {0}
+
+-- the rule that a code analysis finds, or another answer where it finds none
+abbrev pub AnalysedOr : {Rule E : Type 0} → (Rule → Type 0) → Result (CuiUnwindResult Rule) E → Result (CuiUnwindResult Rule) E → Type 0
+AnalysedOr {Rule} IsRule otherwise result =
+    ((rule : Rule) × IsRule rule × (result ≡ Ok (ExecRule rule)))
+    ⊎ (((rule : Rule) → IsRule rule → ⊥) × (result ≡ otherwise))

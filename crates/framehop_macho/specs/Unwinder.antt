@@ -1,0 +1,91 @@
+-- Unwinding a frame of a module by its compact unwind info, for any architecture.
+use Rattle.std.specs.Prelude.{◌≡◌, ℕ, ◌-◌, ◌==◌, ◌&&◌, nat_le, nat_lt, Bool, true, false, List, length, take, drop, if◌then◌else◌, MatchBool, Option, Some, None, option_map, option_and_then, Result, Ok, Err}
+use Rattle.framehop_macho.specs.UnwindInfo.{function_of}
+use Rattle.framehop_macho.specs.declared.macho.CompactUnwindInfoUnwinder.{CompactUnwindInfoUnwinder}
+use Rattle.framehop_macho.specs.declared.macho.CompactUnwindInfoUnwinderError.{CompactUnwindInfoUnwinderError}
+use Rattle.framehop_macho.specs.declared.macho.CompactUnwindInfoUnwinderError.TheVariants.{BadFormat, AddressOutsideRange, StubFunctionCannotBeCaller}
+use Rattle.framehop_macho.specs.declared.macho.CuiUnwindResult.{CuiUnwindResult}
+use Rattle.framehop_macho.specs.declared.macho.CuiUnwindResult.TheVariants.{ExecRule}
+use Rattle.framehop_macho.specs.declared.macho.TextBytes.{TextBytes}
+use Rattle.framehop_macho.specs.declared.unwind_info.error.CompactReadError.{CompactReadError}
+use Rattle.framehop_macho.specs.declared.unwind_info.info.Function.{Function}
+
+-- code, and the offset from the module's base where it begins
+pub record Text : Type 0 where
+  pub from : ℕ
+  pub bytes : List ℕ
+
+-- what a module lends; ranges are of relative addresses, from the first on, up to the second
+pub record Module : Type 0 where
+  pub unwind_info : List ℕ
+  pub text : Option Text
+  pub stubs : ℕ × ℕ
+  pub stub_helper : ℕ × ℕ
+
+-- lent code, and what an unwinder was made of
+abbrev pub text_of : TextBytes → Text
+text_of text = record { from = text.offset_from_base_address; bytes = text.bytes.now }
+
+abbrev pub module_of : {A Regs Rule : Type 0} → CompactUnwindInfoUnwinder A Regs Rule → Module
+module_of unwinder = record {
+  unwind_info = unwinder.unwind_info_data.now;
+  text = option_map text_of unwinder.text_bytes;
+  stubs = unwinder.stubs_range;
+  stub_helper = unwinder.stub_helper_range;
+}
+
+-- the code between two addresses, if all of it is there
+abbrev pub code_between : Text → ℕ → ℕ → Option (List ℕ)
+code_between text start end =
+    if nat_le text.from start && nat_le start end && nat_le (end - text.from) (length text.bytes)
+    then Some (take (end - start) (drop (start - text.from) text.bytes)) else None
+
+-- an address in a range
+abbrev pub is_in : ℕ × ℕ → ℕ → Bool
+is_in range address = nat_le range.0 address && nat_lt address range.1
+
+-- the function of an address, or the refusal
+abbrev pub function_for : Result (Option Function) CompactReadError → ℕ → Result Function CompactUnwindInfoUnwinderError
+function_for (Ok (Some function)) address = Ok function
+function_for (Ok None) address = Err (AddressOutsideRange address)
+function_for (Err error) address = Err (BadFormat error)
+
+-- what an architecture gives
+pub record Words (Rule : Type 0) : Type 1 where
+  pub stub_rule : Rule
+  pub start_rule : Rule
+  pub helper_rule : ℕ → Rule
+  pub says : Function → Bool → ℕ → Option (List ℕ) → Result (CuiUnwindResult Rule) CompactUnwindInfoUnwinderError → Type 0
+
+-- the same rule for each first frame; a caller frame is refused
+abbrev pub first_only : {Rule : Type 0} → Bool → Rule → CompactUnwindInfoUnwinderError → Result (CuiUnwindResult Rule) CompactUnwindInfoUnwinderError
+first_only true rule error = Ok (ExecRule rule)
+first_only false rule error = Err error
+
+-- the code of a function, if all of it is there
+abbrev pub code_of : Option Text → Function → Option (List ℕ)
+code_of text function = option_and_then (λ t. code_between t function.start_address function.end_address) text
+
+-- in a function: a first frame at its start has done nothing yet
+abbrev pub UnwindsIn : {Rule : Type 0} → Words Rule → Option Text → ℕ → Bool → Function → Result (CuiUnwindResult Rule) CompactUnwindInfoUnwinderError → Type 0
+UnwindsIn words text address first function result =
+    MatchBool (first && (address == function.start_address))
+    (result ≡ Ok (ExecRule words.start_rule))
+    (words.says function first (address - function.start_address) (code_of text function) result)
+
+module _ {Rule : Type 0} (words : Words Rule) (m : Module) (address : ℕ) (first : Bool) where
+  -- by the function of the address; outside the functions a first frame can be in a stub
+  abbrev pub UnwindsBy : Result (Option Function) CompactReadError → Result (CuiUnwindResult Rule) CompactUnwindInfoUnwinderError → Type 0
+  UnwindsBy (Err error) result = result ≡ Err (BadFormat error)
+  UnwindsBy (Ok None) result = result ≡ first_only first words.stub_rule (AddressOutsideRange address)
+  UnwindsBy (Ok (Some function)) result = UnwindsIn words m.text address first function result
+
+  -- What unwinding a frame (`true`: the first) at a relative address returns. `__unwind_info` does not describe
+  -- `__stubs` and `__stub_helper`.
+  abbrev pub Unwinds : Result (CuiUnwindResult Rule) CompactUnwindInfoUnwinderError → Type 0
+  Unwinds result =
+      MatchBool (is_in m.stubs address)
+      (result ≡ first_only first words.stub_rule StubFunctionCannotBeCaller)
+      (MatchBool (is_in m.stub_helper address)
+      (result ≡ first_only first (words.helper_rule (address - m.stub_helper.0)) StubFunctionCannotBeCaller)
+      (UnwindsBy (function_of m.unwind_info address) result))

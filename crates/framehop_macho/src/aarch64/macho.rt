@@ -1,0 +1,123 @@
+//! What the opcodes of compact unwind info say of a frame on aarch64 (framehop 0.16.0,
+//! `aarch64/macho.rs`).
+ghost use Rattle.std.specs.Prelude.{◌≡◌, ◌≤◌, ◌↔◌, length, take, drop, Some};
+ghost use Rattle.framehop_core.specs.declared.aarch64.unwind_rule.UnwindRuleAarch64.{UnwindRuleAarch64};
+ghost use Rattle.framehop_analysis.specs.Aarch64.Prologue.{IsPrologueRule};
+ghost use Rattle.framehop_analysis.specs.Answer.{IsOnly};
+ghost use Rattle.framehop_macho.specs.Aarch64.{by_opcode, IsAnalysisRule};
+
+use super::opcode::OpcodeArm64;
+use crate::macho::{CompactUnwindInfoUnwinderError, CompactUnwindInfoUnwinding, CuiUnwindResult};
+use crate::unwind_info::info::Function;
+use framehop_analysis::aarch64::instruction_analysis::{
+    unwind_rule_from_detected_epilogue, unwind_rule_from_detected_prologue,
+};
+use framehop_core::aarch64::{ArchAarch64, UnwindRuleAarch64};
+
+/// Returns what an opcode says.
+fn unwind_by_opcode(
+    opcode: OpcodeArm64,
+    is_first_frame: bool,
+) -> Result<CuiUnwindResult<UnwindRuleAarch64>, CompactUnwindInfoUnwinderError>
+    ensures { result ≡ by_opcode opcode is_first_frame }
+{
+    let rule = match opcode {
+        OpcodeArm64::Null if is_first_frame => UnwindRuleAarch64::NoOp,
+        OpcodeArm64::Null => return Err(CompactUnwindInfoUnwinderError::FunctionHasNoInfo),
+        OpcodeArm64::Frameless { .. } if !is_first_frame => {
+            return Err(CompactUnwindInfoUnwinderError::CallerCannotBeFrameless);
+        }
+        OpcodeArm64::Frameless {
+            stack_size_by_16: 0,
+        } => UnwindRuleAarch64::NoOp,
+        OpcodeArm64::Frameless { stack_size_by_16 } => {
+            UnwindRuleAarch64::OffsetSp {
+                sp_offset_by_16: stack_size_by_16,
+            }
+        }
+        OpcodeArm64::Dwarf { eh_frame_fde } => return Ok(CuiUnwindResult::NeedDwarf(eh_frame_fde)),
+        OpcodeArm64::FrameBased => UnwindRuleAarch64::UseFramePointer,
+        OpcodeArm64::UnrecognizedKind(kind) => {
+            return Err(CompactUnwindInfoUnwinderError::BadOpcodeKind(kind));
+        }
+    };
+    Ok(CuiUnwindResult::ExecRule(rule))
+}
+
+/// Returns the rule of a prologue, if the address is in one.
+fn rule_from_prologue_analysis(text_bytes: &[u8], pc_offset: usize) -> Option<UnwindRuleAarch64>
+    requires { pc_offset ≤ length text_bytes.now }
+    ensures { (rule : UnwindRuleAarch64) → (result ≡ Some rule)
+        ↔ IsPrologueRule (take pc_offset text_bytes.now) (drop pc_offset text_bytes.now) rule }
+{
+    let (slice_from_start, slice_to_end) = text_bytes.split_at(pc_offset);
+    unwind_rule_from_detected_prologue(slice_from_start, slice_to_end)
+}
+
+/// Returns the rule of the code analysis, if it has one.
+fn rule_from_instruction_analysis(text_bytes: &[u8], pc_offset: usize) -> Option<UnwindRuleAarch64>
+    requires { pc_offset ≤ length text_bytes.now }
+    ensures { IsOnly (IsAnalysisRule text_bytes.now pc_offset) result }
+{
+    if let Some(rule) = rule_from_prologue_analysis(text_bytes, pc_offset) {
+        return Some(rule);
+    }
+    unwind_rule_from_detected_epilogue(text_bytes, pc_offset)
+}
+
+impl CompactUnwindInfoUnwinding for ArchAarch64 {
+    ghost use Rattle.framehop_macho.specs.Aarch64.{Says, helper_rule};
+
+    ghost says = { Says };
+
+    ghost helper_rule = { helper_rule };
+
+    fn unwind_frame(
+        function: Function,
+        is_first_frame: bool,
+        address_offset_within_function: usize,
+        function_bytes: Option<&[u8]>,
+    ) -> Result<CuiUnwindResult<UnwindRuleAarch64>, CompactUnwindInfoUnwinderError> {
+        let opcode = OpcodeArm64::parse(function.opcode);
+        if !is_first_frame {
+            return unwind_by_opcode(opcode, false);
+        }
+        if let OpcodeArm64::Null = opcode {
+            return unwind_by_opcode(opcode, true);
+        }
+        // The pc might be in a prologue or an epilogue, which the opcodes do not describe.
+        if let Some(code) = function_bytes {
+            if let Some(rule) = rule_from_instruction_analysis(
+                code,
+                address_offset_within_function,
+            ) {
+                return Ok(CuiUnwindResult::ExecRule(rule));
+            }
+        }
+        unwind_by_opcode(opcode, true)
+    }
+
+    fn rule_for_stub_helper(
+        offset: u32,
+    ) -> Result<CuiUnwindResult<UnwindRuleAarch64>, CompactUnwindInfoUnwinderError> {
+        //     shared:
+        // +0x00  adr  x17, ..
+        // +0x04  nop
+        // +0x08  stp  x16, x17, [sp, #-0x10]!
+        // +0x0c  nop
+        // +0x10  ldr  x16, ..
+        // +0x14  br   x16
+        //     a stub:
+        // +0x18  ldr  w16, ..
+        // +0x1c  b    shared
+        let rule = if offset < 0xc {
+            UnwindRuleAarch64::NoOp
+        } else if offset < 0x18 {
+            // The two registers lie on the stack.
+            UnwindRuleAarch64::OffsetSp { sp_offset_by_16: 1 }
+        } else {
+            UnwindRuleAarch64::NoOp
+        };
+        Ok(CuiUnwindResult::ExecRule(rule))
+    }
+}

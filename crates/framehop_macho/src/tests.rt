@@ -1,0 +1,351 @@
+//! Worked examples, made by hand after the format.
+use crate::macho::{
+    CompactUnwindInfoUnwinder, CompactUnwindInfoUnwinderError, CompactUnwindInfoUnwinding,
+    CuiUnwindResult, TextBytes,
+};
+use crate::unwind_info::error::CompactReadError;
+use crate::unwind_info::info::Function;
+use framehop_core::aarch64::{ArchAarch64, UnwindRuleAarch64};
+use framehop_core::x86_64::{ArchX86_64, UnwindRuleX86_64};
+use std::test::Fail;
+
+// one page, regular, with one function from 0x1000 to 0x2000 and the opcode 0x01000000
+const REGULAR: [u8; 68] = [
+    1, 0, 0, 0, 0x1c, 0, 0, 0, 0, 0, 0, 0, 0x1c, 0, 0, 0, 0, 0, 0, 0, 0x1c, 0, 0, 0, 2, 0, 0, 0, 0,
+    0x10, 0, 0, 0x34, 0, 0, 0, 0x34, 0, 0, 0, 0, 0x20, 0, 0, 0, 0, 0, 0, 0x34, 0, 0, 0, 2, 0, 0, 0,
+    8, 0, 1, 0, 0, 0x10, 0, 0, 0, 0, 0, 1,
+];
+
+// one page, compressed, from 0x1000 to 0x2000: a common opcode 0x02020000, the page's own 0x01000000; functions at
+// 0x1000 with opcode number 0, at 0x1010 with 1, at 0x1020 with 2
+const COMPRESSED: [u8; 84] = [
+    1, 0, 0, 0, 0x1c, 0, 0, 0, 1, 0, 0, 0, 0x20, 0, 0, 0, 0, 0, 0, 0, 0x20, 0, 0, 0, 2, 0, 0, 0, 0,
+    0, 2, 2, 0, 0x10, 0, 0, 0x38, 0, 0, 0, 0, 0, 0, 0, 0, 0x20, 0, 0, 0, 0, 0, 0, 0, 0, 0, 0, 3, 0,
+    0, 0, 12, 0, 3, 0, 24, 0, 1, 0, 0, 0, 0, 0, 0x10, 0, 0, 1, 0x20, 0, 0, 2, 0, 0, 0, 1,
+];
+
+fn function(opcode: u32) -> Function {
+    Function {
+        start_address: 0x1000,
+        end_address: 0x1100,
+        opcode,
+    }
+}
+
+fn x86_64(
+    opcode: u32,
+    is_first_frame: bool,
+    code: Option<&[u8]>,
+) -> Result<CuiUnwindResult<UnwindRuleX86_64>, CompactUnwindInfoUnwinderError> {
+    <ArchX86_64 as CompactUnwindInfoUnwinding>::unwind_frame(
+        function(opcode),
+        is_first_frame,
+        0,
+        code,
+    )
+}
+
+fn aarch64(
+    opcode: u32,
+    is_first_frame: bool,
+) -> Result<CuiUnwindResult<UnwindRuleAarch64>, CompactUnwindInfoUnwinderError> {
+    <ArchAarch64 as CompactUnwindInfoUnwinding>::unwind_frame(
+        function(opcode),
+        is_first_frame,
+        0,
+        None,
+    )
+}
+
+#[test]
+fn reads_a_regular_page(rt: HostRuntime) {
+    let unwinder = CompactUnwindInfoUnwinder::<ArchX86_64>::new(
+        REGULAR.as_slice(),
+        None,
+        (0, 0),
+        (0, 0),
+    );
+    let whole = Function {
+        start_address: 0x1000,
+        end_address: 0x2000,
+        opcode: 0x0100_0000,
+    };
+    assert_eq!(rt; unwinder.function_for_address(0x1000), Ok(whole));
+    assert_eq!(rt; unwinder.function_for_address(0x1fff), Ok(whole));
+    for outside in [0u32, 0xfff, 0x2000, 0x3000] {
+        assert_eq!(rt;
+            unwinder.function_for_address(outside),
+            Err(CompactUnwindInfoUnwinderError::AddressOutsideRange(outside))
+        );
+    }
+    assert_eq!(rt;
+        unwinder.unwind_frame(0x1000, true),
+        Ok(CuiUnwindResult::ExecRule(UnwindRuleX86_64::JustReturn))
+    );
+    assert_eq!(rt;
+        unwinder.unwind_frame(0x1000, false),
+        Ok(CuiUnwindResult::ExecRule(UnwindRuleX86_64::UseFramePointer))
+    );
+    assert_eq!(rt;
+        unwinder.unwind_frame(0xfff, true),
+        Ok(CuiUnwindResult::ExecRule(UnwindRuleX86_64::JustReturn))
+    );
+    assert_eq!(rt;
+        unwinder.unwind_frame(0xfff, false),
+        Err(CompactUnwindInfoUnwinderError::AddressOutsideRange(0xfff))
+    );
+}
+
+#[test]
+fn reads_a_compressed_page(rt: HostRuntime) {
+    let unwinder = CompactUnwindInfoUnwinder::<ArchAarch64>::new(
+        COMPRESSED.as_slice(),
+        None,
+        (0, 0),
+        (0, 0),
+    );
+    let first = Function {
+        start_address: 0x1000,
+        end_address: 0x1010,
+        opcode: 0x0202_0000,
+    };
+    let second = Function {
+        start_address: 0x1010,
+        end_address: 0x1020,
+        opcode: 0x0100_0000,
+    };
+    assert_eq!(rt; unwinder.function_for_address(0x100f), Ok(first));
+    assert_eq!(rt; unwinder.function_for_address(0x1010), Ok(second));
+    assert_eq!(rt;
+        unwinder.function_for_address(0x1020),
+        Err(CompactUnwindInfoUnwinderError::BadFormat(CompactReadError::BadEncodingIndex))
+    );
+    assert_eq!(rt;
+        unwinder.unwind_frame(0x1001, true),
+        Ok(CuiUnwindResult::ExecRule(UnwindRuleAarch64::OffsetSp {
+            sp_offset_by_16: 32
+        }))
+    );
+}
+
+#[test]
+fn refuses_bytes(rt: HostRuntime) {
+    for end in [0usize, 27, 51, 59, 67] {
+        let unwinder = CompactUnwindInfoUnwinder::<ArchX86_64>::new(
+            &REGULAR[..end],
+            None,
+            (0, 0),
+            (0, 0),
+        );
+        assert_eq!(rt;
+            unwinder.function_for_address(0x1000),
+            Err(CompactUnwindInfoUnwinderError::BadFormat(CompactReadError::Eof))
+        );
+    }
+    let mut version = REGULAR;
+    version[0] = 2;
+    let unwinder = CompactUnwindInfoUnwinder::<ArchX86_64>::new(
+        version.as_slice(),
+        None,
+        (0, 0),
+        (0, 0),
+    );
+    assert_eq!(rt;
+        unwinder.function_for_address(0x1000),
+        Err(CompactUnwindInfoUnwinderError::BadFormat(CompactReadError::BadVersion))
+    );
+    let mut kind = REGULAR;
+    kind[52] = 4;
+    let unwinder = CompactUnwindInfoUnwinder::<ArchX86_64>::new(
+        kind.as_slice(),
+        None,
+        (0, 0),
+        (0, 0),
+    );
+    assert_eq!(rt;
+        unwinder.function_for_address(0x1000),
+        Err(CompactUnwindInfoUnwinderError::BadFormat(CompactReadError::BadPageKind))
+    );
+}
+
+#[test]
+fn excepts_stubs(rt: HostRuntime) {
+    let unwinder = CompactUnwindInfoUnwinder::<ArchX86_64>::new(
+        REGULAR.as_slice(),
+        None,
+        (0x1100, 0x1200),
+        (0x1200, 0x1300),
+    );
+    let refused = Err(CompactUnwindInfoUnwinderError::StubFunctionCannotBeCaller);
+    assert_eq!(rt;
+        unwinder.unwind_frame(0x1100, true),
+        Ok(CuiUnwindResult::ExecRule(UnwindRuleX86_64::JustReturn))
+    );
+    assert_eq!(rt; unwinder.unwind_frame(0x1100, false), refused);
+    assert_eq!(rt;
+        unwinder.unwind_frame(0x1207, true),
+        Ok(CuiUnwindResult::ExecRule(UnwindRuleX86_64::OffsetSp { sp_offset_by_8: 3 }))
+    );
+    assert_eq!(rt; unwinder.unwind_frame(0x12ff, false), refused);
+    assert_eq!(rt;
+        unwinder.unwind_frame(0x1300, false),
+        Ok(CuiUnwindResult::ExecRule(UnwindRuleX86_64::UseFramePointer))
+    );
+}
+
+#[test]
+fn uses_the_code(rt: HostRuntime) {
+    // push rbp; mov rbp, rsp; and what follows
+    let mut code = [0x90u8; 0x1000];
+    code[0] = 0x55;
+    code[1] = 0x48;
+    code[2] = 0x89;
+    code[3] = 0xe5;
+    let text = TextBytes::new(0x1000, code.as_slice());
+    let unwinder = CompactUnwindInfoUnwinder::<ArchX86_64>::new(
+        REGULAR.as_slice(),
+        Some(text),
+        (0, 0),
+        (0, 0),
+    );
+    assert_eq!(rt;
+        unwinder.unwind_frame(0x1001, true),
+        Ok(CuiUnwindResult::ExecRule(UnwindRuleX86_64::OffsetSp { sp_offset_by_8: 2 }))
+    );
+    assert_eq!(rt;
+        unwinder.unwind_frame(0x1004, true),
+        Ok(CuiUnwindResult::ExecRule(UnwindRuleX86_64::UseFramePointer))
+    );
+}
+
+#[test]
+fn reads_opcodes_of_x86_64(rt: HostRuntime) {
+    for (opcode, sp_offset_by_8, bp_storage_offset_from_sp_by_8) in [
+        (0x0203_0405u32, 3u16, 1i16),
+        (0x0204_0804, 4, 2),
+        (0x0204_0819, 4, 1),
+    ] {
+        assert_eq!(rt;
+            x86_64(opcode, false, None),
+            Ok(CuiUnwindResult::ExecRule(UnwindRuleX86_64::OffsetSpAndRestoreBp {
+                sp_offset_by_8,
+                bp_storage_offset_from_sp_by_8
+            }))
+        );
+    }
+    for opcode in [0x0203_0406u32, 0x0204_081e, 0x0202_0001, 0x0202_1c00] {
+        assert_eq!(rt;
+            x86_64(opcode, false, None),
+            Err(CompactUnwindInfoUnwinderError::InvalidFrameless)
+        );
+    }
+    assert_eq!(rt;
+        x86_64(0x0400_0018, false, None),
+        Ok(CuiUnwindResult::NeedDwarf(24))
+    );
+    assert_eq!(rt;
+        x86_64(0, false, None),
+        Err(CompactUnwindInfoUnwinderError::FunctionHasNoInfo)
+    );
+    assert_eq!(rt;
+        x86_64(0x0500_0000, false, None),
+        Err(CompactUnwindInfoUnwinderError::BadOpcodeKind(5))
+    );
+    assert_eq!(rt;
+        x86_64(0x0201_0405, false, None),
+        Ok(CuiUnwindResult::ExecRule(UnwindRuleX86_64::JustReturn))
+    );
+}
+
+#[test]
+fn reads_a_stack_size_in_code(rt: HostRuntime) {
+    let sub_rsp = [0x48u8, 0x81, 0xec, 0x80, 0, 0, 0, 0x90];
+    assert_eq!(rt;
+        x86_64(0x0303_2000, false, Some(sub_rsp.as_slice())),
+        Ok(CuiUnwindResult::ExecRule(UnwindRuleX86_64::OffsetSp { sp_offset_by_8: 17 }))
+    );
+    assert_eq!(rt;
+        x86_64(0x0303_2000, false, None),
+        Err(CompactUnwindInfoUnwinderError::NoTextBytesToLookUpIndirectStackOffset)
+    );
+    assert_eq!(rt;
+        x86_64(0x0305_2000, false, Some(sub_rsp.as_slice())),
+        Err(CompactUnwindInfoUnwinderError::IndirectStackOffsetOutOfBounds)
+    );
+    let great = [0xffu8, 0xff, 0xff, 0xff, 7, 0, 0, 0];
+    assert_eq!(rt;
+        x86_64(0x0300_2000, false, Some(great.as_slice())),
+        Err(CompactUnwindInfoUnwinderError::StackAdjustOverflow)
+    );
+    assert_eq!(rt;
+        x86_64(0x0304_0000, false, Some(great.as_slice())),
+        Err(CompactUnwindInfoUnwinderError::StackSizeDoesNotFit)
+    );
+    let words = [0xf8u8, 0xff, 7, 0];
+    assert_eq!(rt;
+        x86_64(0x0300_0405, false, Some(words.as_slice())),
+        Err(CompactUnwindInfoUnwinderError::BpOffsetDoesNotFit)
+    );
+}
+
+#[test]
+fn reads_opcodes_of_aarch64(rt: HostRuntime) {
+    assert_eq!(rt;
+        aarch64(0x0200_2000, true),
+        Ok(CuiUnwindResult::ExecRule(UnwindRuleAarch64::OffsetSp { sp_offset_by_16: 2 }))
+    );
+    assert_eq!(rt;
+        aarch64(0x0200_2000, false),
+        Err(CompactUnwindInfoUnwinderError::CallerCannotBeFrameless)
+    );
+    assert_eq!(rt;
+        aarch64(0x0200_0000, true),
+        Ok(CuiUnwindResult::ExecRule(UnwindRuleAarch64::NoOp))
+    );
+    assert_eq!(rt;
+        aarch64(0, true),
+        Ok(CuiUnwindResult::ExecRule(UnwindRuleAarch64::NoOp))
+    );
+    assert_eq!(rt;
+        aarch64(0, false),
+        Err(CompactUnwindInfoUnwinderError::FunctionHasNoInfo)
+    );
+    assert_eq!(rt;
+        aarch64(0x0100_0000, false),
+        Err(CompactUnwindInfoUnwinderError::BadOpcodeKind(1))
+    );
+    assert_eq!(rt;
+        aarch64(0x0300_0018, false),
+        Ok(CuiUnwindResult::NeedDwarf(24))
+    );
+    assert_eq!(rt;
+        aarch64(0x0400_0000, false),
+        Ok(CuiUnwindResult::ExecRule(UnwindRuleAarch64::UseFramePointer))
+    );
+}
+
+#[test]
+fn knows_stub_helpers(rt: HostRuntime) {
+    for (offset, sp_offset_by_8) in [(0u32, 2u16), (7, 3), (0x15, 2)] {
+        assert_eq!(rt;
+            <ArchX86_64 as CompactUnwindInfoUnwinding>::rule_for_stub_helper(offset),
+            Ok(CuiUnwindResult::ExecRule(UnwindRuleX86_64::OffsetSp { sp_offset_by_8 }))
+        );
+    }
+    for offset in [0x10u32, 0x1a] {
+        assert_eq!(rt;
+            <ArchX86_64 as CompactUnwindInfoUnwinding>::rule_for_stub_helper(offset),
+            Ok(CuiUnwindResult::ExecRule(UnwindRuleX86_64::JustReturn))
+        );
+    }
+    for offset in [0u32, 0x18] {
+        assert_eq!(rt;
+            <ArchAarch64 as CompactUnwindInfoUnwinding>::rule_for_stub_helper(offset),
+            Ok(CuiUnwindResult::ExecRule(UnwindRuleAarch64::NoOp))
+        );
+    }
+    assert_eq!(rt;
+        <ArchAarch64 as CompactUnwindInfoUnwinding>::rule_for_stub_helper(0xc),
+        Ok(CuiUnwindResult::ExecRule(UnwindRuleAarch64::OffsetSp { sp_offset_by_16: 1 }))
+    );
+}
