@@ -3,6 +3,9 @@ use crate::macho::{
     CompactUnwindInfoUnwinder, CompactUnwindInfoUnwinderError, CompactUnwindInfoUnwinding,
     CuiUnwindResult, TextBytes,
 };
+use crate::real_info::{
+    AARCH64_END, AARCH64_FUNCTIONS, AARCH64_INFO, X86_64_END, X86_64_FUNCTIONS, X86_64_INFO,
+};
 use crate::unwind_info::error::CompactReadError;
 use crate::unwind_info::info::Function;
 use framehop_core::aarch64::{ArchAarch64, UnwindRuleAarch64};
@@ -130,13 +133,14 @@ fn reads_a_compressed_page(rt: HostRuntime) {
 
 #[test]
 fn refuses_bytes(rt: HostRuntime) {
-    for end in [0usize, 27, 51, 59, 67] {
-        let unwinder = CompactUnwindInfoUnwinder::<ArchX86_64>::new(
-            &REGULAR[..end],
-            None,
-            (0, 0),
-            (0, 0),
-        );
+    for bytes in [
+        &REGULAR[..0],
+        &REGULAR[..27],
+        &REGULAR[..51],
+        &REGULAR[..59],
+        &REGULAR[..67],
+    ] {
+        let unwinder = CompactUnwindInfoUnwinder::<ArchX86_64>::new(bytes, None, (0, 0), (0, 0));
         assert_eq!(rt;
             unwinder.function_for_address(0x1000),
             Err(CompactUnwindInfoUnwinderError::BadFormat(CompactReadError::Eof))
@@ -348,4 +352,52 @@ fn knows_stub_helpers(rt: HostRuntime) {
         <ArchAarch64 as CompactUnwindInfoUnwinding>::rule_for_stub_helper(0xc),
         Ok(CuiUnwindResult::ExecRule(UnwindRuleAarch64::OffsetSp { sp_offset_by_16: 1 }))
     );
+}
+
+#[test]
+fn reads_what_a_linker_wrote_for_x86_64(rt: HostRuntime) {
+    let unwinder = CompactUnwindInfoUnwinder::<ArchX86_64>::new(
+        X86_64_INFO.as_slice(),
+        None,
+        (0, 0),
+        (0, 0),
+    );
+    let mut end_address = X86_64_END;
+    for (start_address, opcode) in X86_64_FUNCTIONS.iter().copied().rev() {
+        let function = Function {
+            start_address,
+            end_address,
+            opcode,
+        };
+        assert_eq!(rt; unwinder.function_for_address(start_address), Ok(function));
+        assert_eq!(rt;
+            unwinder.function_for_address(end_address.saturating_sub(1)),
+            Ok(function)
+        );
+        end_address = start_address;
+    }
+}
+
+#[test]
+fn reads_what_a_linker_wrote_for_aarch64(rt: HostRuntime) {
+    let unwinder = CompactUnwindInfoUnwinder::<ArchAarch64>::new(
+        AARCH64_INFO.as_slice(),
+        None,
+        (0, 0),
+        (0, 0),
+    );
+    let mut end_address = AARCH64_END;
+    for (start_address, opcode) in AARCH64_FUNCTIONS.iter().copied().rev() {
+        let function = Function {
+            start_address,
+            end_address,
+            opcode,
+        };
+        assert_eq!(rt; unwinder.function_for_address(start_address), Ok(function));
+        assert_eq!(rt;
+            unwinder.function_for_address(end_address.saturating_sub(1)),
+            Ok(function)
+        );
+        end_address = start_address;
+    }
 }
