@@ -1,4 +1,4 @@
--- Compact unwind info on aarch64 (Apple, mach-o/compact_unwind_encoding.h, UNWIND_ARM64_..): the opcodes and their rules.
+-- Compact unwind info on aarch64 (Apple, compact_unwind_encoding.h, UNWIND_ARM64_..): opcodes and their rules.
 use Rattle.std.specs.Prelude.{◌≡◌, ℕ, ◌==◌, ◌||◌, nat_le, nat_lt, Bool, true, false, List, take, drop, if◌then◌else◌, Option, Some, None, Result, Ok, Err}
 use Rattle.framehop_core.specs.declared.aarch64.unwind_rule.UnwindRuleAarch64.{UnwindRuleAarch64}
 use Rattle.framehop_core.specs.declared.aarch64.unwind_rule.UnwindRuleAarch64.TheVariants.{NoOp, OffsetSp, UseFramePointer}
@@ -33,7 +33,7 @@ by_opcode (Dwarf fde) first = Ok (NeedDwarf fde)
 by_opcode FrameBased first = Ok (ExecRule UseFramePointer)
 by_opcode (UnrecognizedKind kind) first = Err (BadOpcodeKind kind)
 
--- the rule of the code analysis at an offset of a function's code: of a prologue or, where none is recognised, an epilogue
+-- the rule of the code analysis at an offset of code: of a prologue or, where none is recognised, an epilogue
 abbrev pub IsAnalysisRule : List ℕ → ℕ → UnwindRuleAarch64 → Type 0
 IsAnalysisRule code offset rule =
     FirstOf (IsPrologueRule (take offset code) (drop offset code)) (IsEpilogueRule code offset) rule

@@ -1,5 +1,5 @@
--- The registers that a frameless function of x86_64 has saved (Apple, mach-o/compact_unwind_encoding.h): a number stands
--- for a list of distinct registers.
+-- The registers that a frameless function of x86_64 has saved (Apple, mach-o/compact_unwind_encoding.h): a number
+-- stands for a list of distinct registers.
 use Rattle.std.specs.Prelude.{ℕ, zero, suc, ◌*◌, Bool, true, false, List, [], ◌∷◌, map, reverse, slice_get, Option}
 use Rattle.std.specs.List.{flat_map, position}
 use Rattle.framehop_macho.specs.declared.x86_64.saved_registers.RegisterNameX86_64.{RegisterNameX86_64}

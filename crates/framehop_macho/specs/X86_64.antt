@@ -1,4 +1,4 @@
--- Compact unwind info on x86_64 (Apple, mach-o/compact_unwind_encoding.h, UNWIND_X86_64_..): the opcodes and their rules.
+-- Compact unwind info on x86_64 (Apple, compact_unwind_encoding.h, UNWIND_X86_64_..): opcodes and their rules.
 use Rattle.std.specs.Prelude.{◌≡◌, ℕ, zero, suc, ◌+◌, ◌-◌, ◌*◌, ◌/◌, ◌%◌, ◌^◌, ◌==◌, ◌&&◌, nat_eq, nat_le, nat_lt, pos, ◌-ℤ◌, Bool, true, false, List, [], ◌∷◌, length, if◌then◌else◌, Option, Some, None, Result, Ok, Err}
 use Rattle.std.specs.List.{starts_with}
 use Rattle.framehop_cfi.specs.Bytes.{le4}
@@ -96,7 +96,7 @@ by_opcode (Dwarf fde) first code = Ok (NeedDwarf fde)
 by_opcode NoSuchList first code = Err InvalidFrameless
 by_opcode (UnrecognizedKind kind) first code = Err (BadOpcodeKind kind)
 
--- the rule of the code analysis at an offset of a function's code: of a prologue or, where none is recognised, an epilogue
+-- the rule of the code analysis at an offset of code: of a prologue or, where none is recognised, an epilogue
 abbrev pub IsAnalysisRule : List ℕ → ℕ → UnwindRuleX86_64 → Type 0
 IsAnalysisRule code offset rule = FirstOf (IsPrologueRule code offset) (IsEpilogueRule code offset) rule
 
