@@ -1,5 +1,5 @@
 -- aarch64: a function with info whose code analysis has a rule.
-use Rattle.std.proofs.Common.{◌≡◌, ◌↔◌, subst, ℕ, Bool, true, false, List, Option, Some, Ok, inl, refl}
+use Rattle.std.proofs.Common.{◌≡◌, ◌↔◌, subst, ℕ, Bool, true, List, Option, Some, Ok, inl, refl}
 use Rattle.std.specs.Borrow.{Bor}
 use Rattle.std.specs.Option.{option_copied}
 use Rattle.framehop_core.specs.declared.aarch64.unwind_rule.UnwindRuleAarch64.{UnwindRuleAarch64}

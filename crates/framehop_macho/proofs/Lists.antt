@@ -1,5 +1,5 @@
 -- Lists of distinct members in lexicographic order, and the one of a rank.
-use Rattle.std.proofs.Common.{◌≡◌, ℕ, zero, suc, ◌+◌, ◌-◌, ◌*◌, ◌/◌, ◌%◌, ◌<◌, ◌≤◌, List, [], ◌∷◌, ◌++◌, length, map, get_or, Option, Some, None, refl, ap, sym, ◌∙◌, arith, length-append, append_assoc, sub-one, lit≤}
+use Rattle.std.proofs.Common.{◌≡◌, ℕ, zero, suc, ◌+◌, ◌-◌, ◌*◌, ◌/◌, ◌%◌, ◌<◌, ◌≤◌, List, [], ◌∷◌, ◌++◌, length, map, Option, Some, None, refl, ap, sym, ◌∙◌, arith, length-append, append_assoc, sub-one, lit≤}
 use Rattle.std.specs.List.{slice_get, flat_map, remove}
 use Rattle.std.specs.Option.{option_map, option_and_then}
 use Rattle.std.proofs.Math.Nat.{suc-mul, mul-zero, mul-le-mul_left, div-add-mod, mul_comm, mod-lt, zero-mul}

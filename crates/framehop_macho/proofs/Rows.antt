@@ -1,15 +1,14 @@
 -- The columns of tables, and lists of opcodes.
-use Rattle.std.proofs.Common.{◌≡◌, ℕ, ◌+◌, ◌*◌, ◌/◌, ◌%◌, bit_and, ◌^◌, ◌<◌, ◌≤◌, List, ◌++◌, length, get_or, map, Option, Some, None, Ok, Err, refl, ap, sym, ◌∙◌, arith, w8, Fits, length-append}
-use Rattle.std.specs.List.{slice_get, range_with_len}
+use Rattle.std.proofs.Common.{◌≡◌, ℕ, ◌+◌, ◌*◌, ◌/◌, ◌%◌, bit_and, ◌^◌, ◌<◌, ◌≤◌, List, ◌++◌, length, get_or, Option, Some, None, Ok, Err, refl, ap, ◌∙◌, arith, w8, Fits, length-append}
+use Rattle.std.specs.List.{slice_get}
 use Rattle.std.specs.Option.{unwrap_or}
 use Rattle.std.proofs.lemmas.List.{get_or_append_left, get_or-append-add}
 use Rattle.std.proofs.lemmas.List.FromFn.{length-map-range_with_len, get_or-map-range_with_len}
 use Rattle.std.proofs.lemmas.Nat.{and_mask}
 use Rattle.std.proofs.lemmas.Option.{slice_get-get_or, slice_get_past, slice_get_within, get_or_from_slice_get}
-use Rattle.framehop_cfi.specs.Bytes.{le2, le4}
+use Rattle.framehop_cfi.specs.Bytes.{le4}
 use Rattle.framehop_macho.specs.Table.{column, index_starts, regular_starts, compressed_starts, opcodes_of}
 use Rattle.framehop_macho.specs.UnwindInfo.{opcode_of, found_opcode}
-use Rattle.framehop_macho.specs.declared.unwind_info.error.CompactReadError.{CompactReadError}
 use Rattle.framehop_macho.specs.declared.unwind_info.error.CompactReadError.TheVariants.{BadEncodingIndex}
 
 pub length-column : (number : ℕ → ℕ) (size : ℕ) (table : List ℕ) → length (column number size table) ≡ length table / size

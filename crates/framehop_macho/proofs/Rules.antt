@@ -1,6 +1,5 @@
 -- Rules that a code analysis finds first, and offsets that fit.
-use Rattle.std.proofs.Common.{◌≡◌, ◌≢◌, ℕ, ◌+◌, ◌^◌, ◌<◌, ◌↔◌, ◌⊎◌, inl, inr, ℤ, pos, ◌-ℤ◌, Bool, true, false, nat_lt, Option, Some, None, Ok, Err, refl, sym, arith, cond, FitsSigned, w16}
-use Rattle.std.proofs.lemmas.Bool.Decides.{nat_tests}
+use Rattle.std.proofs.Common.{◌≡◌, ◌↔◌, inl, inr, Option, Some, None, refl}
 use Rattle.framehop_analysis.specs.Answer.{IsOnly, FirstOf}
 
 -- the first analysis has found a rule

@@ -1,5 +1,5 @@
 -- Compact unwind info on aarch64 (Apple, compact_unwind_encoding.h, UNWIND_ARM64_..): opcodes and their rules.
-use Rattle.std.specs.Prelude.{◌≡◌, ℕ, ◌==◌, ◌||◌, nat_le, nat_lt, Bool, true, false, List, take, drop, if◌then◌else◌, Option, Some, None, Result, Ok, Err}
+use Rattle.std.specs.Prelude.{◌≡◌, ℕ, ◌==◌, nat_lt, Bool, true, false, List, take, drop, if◌then◌else◌, Option, Some, None, Result, Ok, Err}
 use Rattle.framehop_core.specs.declared.aarch64.unwind_rule.UnwindRuleAarch64.{UnwindRuleAarch64}
 use Rattle.framehop_core.specs.declared.aarch64.unwind_rule.UnwindRuleAarch64.TheVariants.{NoOp, OffsetSp, UseFramePointer}
 use Rattle.framehop_analysis.specs.Answer.{FirstOf}

@@ -1,5 +1,5 @@
 -- What unwinding by compact unwind info returns.
-use Rattle.std.specs.Prelude.{◌≡◌, ℕ, ◌⊎◌, ◌/◌, ◌%◌, ◌^◌, Bool, Option, Result, Ok, Err}
+use Rattle.std.specs.Prelude.{◌≡◌, ℕ, ◌⊎◌, ◌/◌, ◌%◌, ◌^◌, Result, Ok, Err}
 use Rattle.framehop_macho.specs.declared.macho.CuiUnwindResult.{CuiUnwindResult}
 use Rattle.framehop_macho.specs.declared.macho.CuiUnwindResult.TheVariants.{ExecRule, NeedDwarf}
 

@@ -1,4 +1,4 @@
-use Rattle.std.proofs.Common.{◌≡◌, ◌-◌, ◌+◌, ◌<◌, suc, length, get_or, arith, sym, ◌∙◌}
+use Rattle.std.proofs.Common.{◌-◌, ◌+◌, length, arith, sym, ◌∙◌}
 use Rattle.framehop_macho.specs.SavedRegisters.{saved_registers, six}
 use Rattle.framehop_macho.proofs.Lists.{next-kept, next-none, last-found, last-none, beyond-none, list_count-same}
 use Rattle.framehop_macho.proofs.x86_64.saved_registers.saved_registers.Goals as goal

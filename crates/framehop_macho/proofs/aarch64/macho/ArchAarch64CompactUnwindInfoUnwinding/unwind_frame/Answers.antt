@@ -1,4 +1,4 @@
-use Rattle.std.proofs.Common.{◌≡◌, Bool, true, rules}
+use Rattle.std.proofs.Common.{◌≡◌, true, rules}
 use Rattle.framehop_macho.proofs.Aarch64Says.{Says-analysed}
 use Rattle.framehop_macho.proofs.aarch64.macho.ArchAarch64CompactUnwindInfoUnwinding.unwind_frame.Goals as goal
 
