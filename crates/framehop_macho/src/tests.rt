@@ -8,6 +8,8 @@ use crate::real_info::{
 };
 use crate::unwind_info::error::CompactReadError;
 use crate::unwind_info::info::Function;
+use framehop_cfi::entry::{UnwindSection, UnwindSectionType};
+use framehop_cfi::pointer::BaseAddresses;
 use framehop_core::aarch64::{ArchAarch64, UnwindRuleAarch64};
 use framehop_core::x86_64::{ArchX86_64, UnwindRuleX86_64};
 use std::test::Fail;
@@ -400,4 +402,30 @@ fn reads_what_a_linker_wrote_for_aarch64(rt: HostRuntime) {
         );
         end_address = start_address;
     }
+}
+
+#[test]
+fn an_offset_leads_to_its_fde(rt: HostRuntime) -> Result<(), Fail> {
+    // `.eh_frame` at 0x2000: a CIE, and one FDE for 0x1000 to 0x1020
+    let eh_frame = [
+        0x14, 0x0, 0x0, 0x0, 0x0, 0x0, 0x0, 0x0, 0x1, 0x7a, 0x52, 0x0, 0x1, 0x78, 0x10, 0x1, 0x1b,
+        0xc, 0x7, 0x8, 0x90, 0x1, 0x0, 0x0, 0x18, 0x0, 0x0, 0x0, 0x1c, 0x0, 0x0, 0x0, 0xe0, 0xef,
+        0xff, 0xff, 0x20, 0x0, 0x0, 0x0, 0x0, 0x41, 0xe, 0x10, 0x86, 0x2, 0x43, 0xd, 0x6, 0x0, 0x0,
+        0x0, 0x0, 0x0, 0x0, 0x0,
+    ];
+    let Ok(CuiUnwindResult::NeedDwarf(offset)) = x86_64(0x0400_0018, false, None) else {
+        assert!(rt; false);
+        return Ok(());
+    };
+    let bases = BaseAddresses {
+        eh_frame: 0x2000,
+        eh_frame_hdr: 0,
+        text: 0,
+        got: 0,
+    };
+    let section = UnwindSection::new(&eh_frame, UnwindSectionType::EhFrame, &bases);
+    let fde = section.fde_from_offset(offset as usize)?;
+    assert_eq!(rt; (fde.initial_address, fde.address_range), (0x1000, 0x20));
+    assert_eq!(rt; fde.end, 52);
+    Ok(())
 }
