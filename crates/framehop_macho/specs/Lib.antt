@@ -1,3 +1,4 @@
+-- What the contracts of this crate cite: tables, functions and saved registers, opcodes of both architectures, frames.
 pub mod Table
 pub mod UnwindInfo
 pub mod SavedRegisters

@@ -61,7 +61,7 @@ fn steps_x86_64_by_frame_pointers(rt: HostRuntime) -> Result<(), Fail> {
         assert!(rt; false, "no return address");
         return Ok(());
     };
-    for (address, sp, bp, answer, sp_behind, bp_behind) in [
+    for (address, sp, bp, answer, sp_after, bp_after) in [
         (first, 0x10, 0x20, Ok(Some(0x100200)), 0x30, 0x40),
         (caller, 0x30, 0x40, Ok(Some(0x100100)), 0x50, 0x70),
         (last, 0x50, 0x70, Ok(None), 0x50, 0x70),
@@ -93,7 +93,7 @@ fn steps_x86_64_by_frame_pointers(rt: HostRuntime) -> Result<(), Fail> {
         match replies.as_slice() {
             [Reply::Made(0), Reply::Step { result, regs }] => {
                 assert_eq!(rt; *result, answer);
-                assert_eq!(rt; (regs.sp(), regs.bp()), (sp_behind, bp_behind));
+                assert_eq!(rt; (regs.sp(), regs.bp()), (sp_after, bp_after));
             }
             _ => assert!(rt; false, "other replies"),
         }
@@ -108,7 +108,7 @@ fn steps_aarch64_by_frame_pointers(rt: HostRuntime) -> Result<(), Fail> {
         assert!(rt; false, "no return address");
         return Ok(());
     };
-    for (lr, sp, fp, answer, lr_behind, sp_behind, fp_behind) in [
+    for (lr, sp, fp, answer, lr_after, sp_after, fp_after) in [
         (0x100300, 0x10, 0x20, Some(0x100200), 0x100200, 0x30, 0x40),
         (0x100200, 0x30, 0x40, Some(0x100100), 0x100100, 0x50, 0x70),
         (0x100100, 0x50, 0x70, None, 0x100100, 0x50, 0x70),
@@ -140,7 +140,7 @@ fn steps_aarch64_by_frame_pointers(rt: HostRuntime) -> Result<(), Fail> {
                 assert_eq!(rt; *result, Ok(answer));
                 assert_eq!(rt;
                     (regs.lr(), regs.sp(), regs.fp()),
-                    (lr_behind, sp_behind, fp_behind)
+                    (lr_after, sp_after, fp_after)
                 );
             }
             _ => assert!(rt; false, "other replies"),

@@ -88,7 +88,7 @@ fn refuses_inputs(rt: HostRuntime) -> Result<(), Fail> {
     Ok(())
 }
 
-/// The fields behind `policy`: those of all commands are read before the first is carried out, in
+/// The fields after `policy`: those of all commands are read before the first is carried out, in
 /// their order.
 #[test]
 fn refuses_fields(rt: HostRuntime) -> Result<(), Fail> {
@@ -294,7 +294,7 @@ fn strips_and_stops(rt: HostRuntime) -> Result<(), Fail> {
     Ok(())
 }
 
-/// A reader that gives seven bytes a read, and fails behind so many reads.
+/// A reader that gives seven bytes a read, and fails after so many reads.
 #[derive(Drop)]
 struct FailingReader<'i> {
     rest: &'i [u8],

@@ -1,3 +1,4 @@
+//! Unwinding by hand-made sections, and by those of a DLL.
 mod table;
 
 use super::*;
