@@ -4,6 +4,8 @@
 #[cfg(test)]
 mod commands;
 #[cfg(test)]
+mod libc_table;
+#[cfg(test)]
 mod library;
 #[cfg(test)]
 mod program;
@@ -11,6 +13,8 @@ mod program;
 mod readme;
 #[cfg(test)]
 mod replies;
+#[cfg(test)]
+mod rows_of_libc;
 #[cfg(test)]
 mod sections;
 #[cfg(test)]
