@@ -8,7 +8,6 @@ pub mod Exact
 pub mod Saturated
 pub mod SimulationX86_64
 pub mod Entries
-pub mod Telling
 pub mod Columns
 pub mod DirectX86_64
 pub mod SimulationAarch64

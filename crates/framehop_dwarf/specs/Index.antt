@@ -122,6 +122,12 @@ pub record IsIndexOf (section : Section) (base : ℕ) (index : List (ℕ × ℕ)
   pub have : pairs_of_entries base entries ≡ Ok pairs
   pub same : (address : ℕ) → fde_offset_for index address ≡ fde_offset_for pairs address
 
+-- the same, by the pairs of all the FDEs
+pub record IsIndexOfAll (section : Section) (base : ℕ) (index : List (ℕ × ℕ)) : Type 0 where
+  pub pairs : List (ℕ × ℕ)
+  pub are_all : pairs_of section base ≡ Ok pairs
+  pub same : (address : ℕ) → fde_offset_for index address ≡ fde_offset_for pairs address
+
 -- the section has no list of entries with pairs: an entry can't be read, or an FDE's start or offset does not fit
 abbrev pub HasNoIndex : Section → ℕ → Type 0
 HasNoIndex section base =

@@ -4,17 +4,34 @@ use Rattle.framehop_core.specs.declared.unwind_result.UnwindResult.{UnwindResult
 use Rattle.framehop_core.specs.declared.unwind_result.UnwindResult.TheVariants.{ExecRule, Uncacheable}
 use Rattle.framehop_cfi.specs.declared.read_error.ReadError.TheVariants.{OutOfMemory}
 use Rattle.framehop_dwarf.specs.declared.dwarf.DwarfUnwinderError.{DwarfUnwinderError}
-use Rattle.framehop_dwarf.specs.declared.dwarf.DwarfUnwinderError.TheVariants.{UnwindInfoForAddressFailed}
+use Rattle.framehop_dwarf.specs.declared.dwarf.DwarfUnwinderError.TheVariants.{FdeFromOffsetFailed, UnwindInfoForAddressFailed, StackPointerMovedBackwards, DidNotAdvance, CouldNotRecoverCfa, CouldNotRecoverReturnAddress, CouldNotRecoverFramePointer}
 
 -- out of memory
 abbrev pub no_memory : DwarfUnwinderError
 no_memory = UnwindInfoForAddressFailed OutOfMemory
 
--- the rule is told exactly where there is one
-abbrev pub TellsRule : {R : Type 0} → Option R → Result (UnwindResult R) DwarfUnwinderError → Type 0
-TellsRule wanted (Ok (ExecRule rule)) = wanted ≡ Some rule
-TellsRule wanted (Ok (Uncacheable address)) = wanted ≡ None
-TellsRule wanted (Err error) = wanted ≡ None
+-- the refusals of values that are computed on the spot: one can't be had, or memory ran out
+abbrev pub IsOfValues : DwarfUnwinderError → Type 0
+IsOfValues (FdeFromOffsetFailed error) = ⊥
+IsOfValues (UnwindInfoForAddressFailed error) = error ≡ OutOfMemory
+IsOfValues StackPointerMovedBackwards = Unit {0}
+IsOfValues DidNotAdvance = Unit {0}
+IsOfValues CouldNotRecoverCfa = Unit {0}
+IsOfValues CouldNotRecoverReturnAddress = Unit {0}
+IsOfValues CouldNotRecoverFramePointer = Unit {0}
+
+-- values are computed, or refused
+abbrev pub AreComputed : {R : Type 0} → Result (UnwindResult R) DwarfUnwinderError → Type 0
+AreComputed (Ok (ExecRule rule)) = ⊥
+AreComputed (Ok (Uncacheable address)) = Unit {0}
+AreComputed (Err error) = IsOfValues error
+
+-- what the bytes say is told, whatever the callback replies: a refusal, a rule, or (`None`) that values are computed
+abbrev pub TellsFound : {R : Type 0} → Result (Option R) DwarfUnwinderError
+    → Result (UnwindResult R) DwarfUnwinderError → Type 0
+TellsFound (Err error) result = result ≡ Err error
+TellsFound (Ok (Some rule)) result = result ≡ Ok (ExecRule rule)
+TellsFound (Ok None) result = AreComputed result
 
 -- registers are written only with an address
 abbrev pub WritesWithAddress : {R S : Type 0} → Result (UnwindResult R) DwarfUnwinderError → S → S → Type 0

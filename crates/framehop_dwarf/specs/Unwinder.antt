@@ -58,11 +58,12 @@ IsReading limits section address offset uncovered =
 IsReading limits section address offset (by_row row) =
     (fde : FrameDescriptionEntry) × IsFde section offset fde × IsRowAt limits section fde address row
 
--- the rule of what is read: that of the row, or that of an address without a row
-abbrev pub rule_by : {R : Type 0} → (Row → Option R) → R → Reading → Option R
-rule_by translated rule (unread error) = None
-rule_by translated rule uncovered = Some rule
-rule_by translated rule (by_row row) = translated row
+-- what is found by what is read: a refusal where there is no FDE, the rule of an address without a row, that of the
+-- row, or none where its values are computed
+abbrev pub found_by : {R : Type 0} → (Row → Option R) → R → Reading → Result (Option R) DwarfUnwinderError
+found_by translated rule (unread error) = Err (FdeFromOffsetFailed error)
+found_by translated rule uncovered = Ok (Some rule)
+found_by translated rule (by_row row) = Ok (translated row)
 
 -- the direct result of what is read, where there is no rule
 abbrev pub direct_by : {A : Type 0} → (Row → Result A DwarfUnwinderError) → Reading → Result A DwarfUnwinderError

@@ -1,9 +1,9 @@
 //! From a row of call frame information to a frame: what both architectures share.
-ghost use Rattle.std.specs.Prelude.{◌≡◌, ◌≢◌, ◌^◌, ℕ, Bool, IsTrue, List, Option, Result, Err, None, IfOk, IfErr, OnErr, pos, negsuc, ◌+ℤ◌, ◌≤ℤ◌, option_and_then};
+ghost use Rattle.std.specs.Prelude.{◌≡◌, ◌≢◌, ◌^◌, ℕ, Bool, IsTrue, List, Option, Result, Ok, Err, None, IfOk, IfErr, OnErr, pos, negsuc, ◌+ℤ◌, ◌≤ℤ◌, option_and_then};
 ghost use Rattle.framehop_core.specs.Memory.{Memory, AnswersAs};
 ghost use Rattle.framehop_core.specs.Outcome.{answered};
 ghost use Rattle.framehop_cfi.specs.Row.{Row};
-ghost use Rattle.framehop_dwarf.specs.Told.{no_memory, TellsRule, WritesWithAddress, TellsDirect, IsRule, IsMeant, RuleHas, AdvancesWithAddress};
+ghost use Rattle.framehop_dwarf.specs.Told.{no_memory, TellsFound, WritesWithAddress, TellsDirect, IsRule, IsMeant, RuleHas, AdvancesWithAddress};
 ghost use Rattle.framehop_dwarf.specs.declared.dwarf.DwarfUnwinderError.{DwarfUnwinderError as DwarfRefusal};
 ghost use Rattle.framehop_dwarf.specs.Units.{units_of, signed_units_of};
 ghost use Rattle.framehop_dwarf.specs.Direct.{sum_of, cfa_of, register_of};
@@ -86,7 +86,7 @@ pub trait DwarfUnwinding: Arch {
         F: FnMut(u64) -> Result<u64, ()>,
         requires { F.IsAlwaysCallable read_stack.old }
         ensures callable { F.IsAlwaysCallable read_stack.new }
-        ensures rule { TellsRule (translated unwind_info.now) result }
+        ensures found { TellsFound (Ok (translated unwind_info.now)) result }
         ensures kept { WritesWithAddress result regs.old regs.new }
         ensures runnable { RuleHas (λ rule. IsTrue (Self.UnwindRule.executable rule)) result }
         ensures ascends { AdvancesWithAddress (ascends is_first_frame) result regs.old regs.new }

@@ -3,7 +3,7 @@ ghost use Rattle.std.specs.Prelude.{◌≡◌, ◌≢◌, IfOk, IfErr, Ok, Err, 
 ghost use Rattle.framehop_cfi.specs.Section.{section_of};
 ghost use Rattle.framehop_cfi.specs.EntryExtent.{extent_at, is_zero_length};
 ghost use Rattle.framehop_cfi.specs.Entry.{cie_at, head_at, fde_of_head};
-ghost use Rattle.framehop_dwarf.specs.Index.{pair_of, pair_of_head, pair_at, pairs_of, fde_offset_for, IsFdeFor, IsKnown, IsIndexOf, HasNoIndex};
+ghost use Rattle.framehop_dwarf.specs.Index.{pair_of, pair_of_head, pair_at, pairs_of, fde_offset_for, IsFdeFor, IsKnown, IsIndexOf, IsIndexOfAll, HasNoIndex};
 ghost use Rattle.framehop_dwarf.specs.declared.index.DwarfCfiIndexError.TheVariants.{Gimli};
 ghost use Rattle.framehop_cfi.specs.declared.read_error.ReadError.TheVariants.{OutOfMemory};
 ghost use Rattle.framehop_dwarf.specs.Bases.{section_in};
@@ -245,6 +245,7 @@ impl DwarfCfiIndex {
         base_svma: u64,
     ) -> Result<Self, DwarfCfiIndexError>
         ensures found { IfOk result (IsIndexOf (section_of section_type bases section.now) base_svma) }
+        ensures all { IfOk result (IsIndexOfAll (section_of section_type bases section.now) base_svma) }
         ensures refused { IfErr result (λ error. error ≢ Gimli OutOfMemory → HasNoIndex (section_of section_type bases section.now) base_svma) }
         ensures first { IfErr result (λ error. error ≢ Gimli OutOfMemory → pairs_of (section_of section_type bases section.now) base_svma ≡ Err error) }
     {

@@ -1,9 +1,9 @@
 //! From a row of call frame information to a frame on aarch64: the rule that most rows are translated
 //! to, and the values of the others.
-ghost use Rattle.std.specs.Prelude.{◌≡◌, ◌^◌, ◌<◌, None, OnOk, OnErr, Ok, Err};
+ghost use Rattle.std.specs.Prelude.{◌≡◌, ◌^◌, ◌<◌, None, IfErr, OnOk, OnErr, Ok, Err};
 ghost use Rattle.framehop_core.specs.Memory.{Memory, AnswersAs};
 ghost use Rattle.framehop_dwarf.specs.Aarch64.{translated_by, by_sp, by_fp, by_saved, beside_fp, with_fp, with_fp_kept, with_lr, or_kept, stepped, scope_of, direct_by, translated, direct_of, Ascends};
-ghost use Rattle.framehop_dwarf.specs.Told.{no_memory, Has};
+ghost use Rattle.framehop_dwarf.specs.Told.{no_memory, Has, IsOfValues};
 
 use crate::dwarf::{
     DwarfUnwinderError, DwarfUnwinding, eval_cfa_rule, eval_register_rule, units_of, words_of_sum,
@@ -246,6 +246,7 @@ where
     requires { F.IsAlwaysCallable read_stack.old }
     ensures callable { F.IsAlwaysCallable read_stack.new }
     ensures kept { OnErr result (regs.new ≡ regs.old) }
+    ensures refused { IfErr result IsOfValues }
     ensures ascends { OnOk result (Ascends is_first_frame regs.old regs.new) }
     ensures memory { result ≡ Err no_memory → E.Stack.limit ≡ None }
     ensures answers { (memory : Memory) → AnswersAs F.FnMut read_stack.old memory
@@ -309,6 +310,7 @@ where
     requires { F.IsAlwaysCallable read_stack.old }
     ensures callable { F.IsAlwaysCallable read_stack.new }
     ensures kept { OnErr result (regs.new ≡ regs.old) }
+    ensures refused { IfErr result IsOfValues }
     ensures ascends { OnOk result (Ascends is_first_frame regs.old regs.new) }
     ensures memory { result ≡ Err no_memory → E.Stack.limit ≡ None }
     ensures answers { (memory : Memory) → AnswersAs F.FnMut read_stack.old memory

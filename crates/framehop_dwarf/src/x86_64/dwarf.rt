@@ -1,10 +1,10 @@
 //! From a row of call frame information to a frame on x86_64: the rule that most rows are translated to,
 //! and the values of the others.
-ghost use Rattle.std.specs.Prelude.{◌≡◌, ◌≢◌, true, None, IfSome, OnErr, Err};
+ghost use Rattle.std.specs.Prelude.{◌≡◌, ◌≢◌, true, None, IfSome, IfErr, OnErr, Err};
 ghost use Rattle.framehop_core.specs.Memory.{Memory, AnswersAs};
 ghost use Rattle.framehop_core.specs.X86_64.Rules.{is_executable};
 ghost use Rattle.framehop_dwarf.specs.X86_64.{translated_by, by_cfa, by_sp, by_bp, with_bp, below, or_below, scope_of, stepped, direct_by, translated, direct_of};
-ghost use Rattle.framehop_dwarf.specs.Told.{no_memory, Has};
+ghost use Rattle.framehop_dwarf.specs.Told.{no_memory, Has, IsOfValues};
 
 use crate::dwarf::{
     DwarfUnwinderError, DwarfUnwinding, eval_cfa_rule, eval_register_rule, read_word, units_of,
@@ -165,6 +165,7 @@ fn step_to(
     return_address: u64,
 ) -> Result<u64, DwarfUnwinderError>
     ensures kept { OnErr result (regs.new ≡ regs.old) }
+    ensures refused { IfErr result IsOfValues }
     ensures memory { result ≢ Err no_memory }
     ensures answers { Has (stepped is_first_frame regs.old cfa new_bp return_address) result regs.new }
 {
@@ -196,6 +197,7 @@ where
     requires { F.IsAlwaysCallable read_stack.old }
     ensures callable { F.IsAlwaysCallable read_stack.new }
     ensures kept { OnErr result (regs.new ≡ regs.old) }
+    ensures refused { IfErr result IsOfValues }
     ensures memory { result ≡ Err no_memory → E.Stack.limit ≡ None }
     ensures answers { (memory : Memory) → AnswersAs F.FnMut read_stack.old memory
         → AnswersAs F.FnMut read_stack.new memory
@@ -257,6 +259,7 @@ where
     requires { F.IsAlwaysCallable read_stack.old }
     ensures callable { F.IsAlwaysCallable read_stack.new }
     ensures kept { OnErr result (regs.new ≡ regs.old) }
+    ensures refused { IfErr result IsOfValues }
     ensures memory { result ≡ Err no_memory → E.Stack.limit ≡ None }
     ensures answers { (memory : Memory) → AnswersAs F.FnMut read_stack.old memory
         → AnswersAs F.FnMut read_stack.new memory

@@ -26,3 +26,12 @@ returns-in-Ok-clause-found c =
       have = list.2;
       same = λ address. ap (λ o. option_map (λ (pair : ℕ × ℕ). pair.1) o) (sym (pair_for-permutation pairs c.in-Ok.index address c.in-Ok.ensures));
     }
+
+pub returns-in-Ok-clause-all : goal.returns-in-Ok-clause-all
+returns-in-Ok-clause-all c =
+    let pairs = c.in_ok-pairs.pairs.items in
+    record {
+      pairs = pairs;
+      are_all = rw c.new-section.ensures at c.in_ok-pairs.ensures.read;
+      same = λ address. ap (λ o. option_map (λ (pair : ℕ × ℕ). pair.1) o) (sym (pair_for-permutation pairs c.in-Ok.index address c.in-Ok.ensures));
+    }
