@@ -9,7 +9,8 @@ use Rattle.framehop_core.specs.Outcome.{registers_after}
 use Rattle.framehop_core.specs.Laws.Aarch64.{raises}
 use Rattle.framehop.specs.Policy.{Policy}
 use Rattle.framehop.specs.Modules.{UnwinderView}
-use Rattle.framehop.specs.Aarch64.{aarch64, aarch64_step, Ascends}
+use Rattle.framehop_dwarf.specs.Aarch64.{Ascends}
+use Rattle.framehop.specs.Aarch64.{aarch64, aarch64_step}
 use Rattle.framehop.specs.Laws.Aarch64.{rises-as-said}
 use Rattle.framehop.specs.Rise.{IsWalkWithinRise}
 use Rattle.framehop.proofs.RiseLemmas.{walk-rise}

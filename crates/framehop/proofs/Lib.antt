@@ -1,10 +1,12 @@
 mod Slots
 pub mod SoundnessLemmas
 pub mod ModuleLemmas
-mod FreshLemmas
 mod WalkLemmas
 mod CachedWorldLemmas
 mod WorldLemmas
+mod ToldLemmas
+mod FramesLemmas
+mod AnswerLemmas
 mod RunLemmas
 mod RiseLemmas
 pub mod EndingLemmas

@@ -9,7 +9,8 @@ use Rattle.framehop_core.specs.CodeAddress.{FrameLocation, at_instruction_pointe
 use Rattle.framehop_core.specs.Runs.{Raises}
 use Rattle.framehop_core.specs.declared.error.Error.TheVariants.{ReturnAddressIsNull}
 use Rattle.framehop.specs.Modules.{ModuleView, covering}
-use Rattle.framehop.specs.Unwinding.{Unwinding, Fresh, by_rule, direct, RisesAsSaid}
+use Rattle.framehop.specs.Answer.{Fresh, by_rule, direct}
+use Rattle.framehop.specs.Unwinding.{Unwinding, RisesAsSaid}
 use Rattle.framehop.specs.Fresh.{fresh, values_or, outcome_of, step}
 use Rattle.framehop.specs.Walk.{Walk, at_refusal, frame_before, onward, callers, walk_from}
 use Rattle.framehop.specs.World.{memory_of, refusal_of, unless_refused}

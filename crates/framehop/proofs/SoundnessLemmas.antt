@@ -1,15 +1,18 @@
 -- A lookup in a sound cache, and what an insert leaves standing.
-use Rattle.std.proofs.Common.{eqb-true, ◌≡◌, ℕ, zero, suc, Bool, true, false, not, cond, ◌&&◌, ◌==◌, ◌⊎◌, List, [], ◌∷◌, take, filter, find, slice_index_or, slice_set, replicate, Option, Some, None, refl, sym, ap, ◌∙◌, subst, inl, inr, ⊎_elim}
+use Rattle.std.proofs.Common.{eqb-true, ◌≡◌, ◌≢◌, ℕ, zero, suc, Bool, true, false, not, cond, ◌&&◌, ◌==◌, ◌⊎◌, List, [], ◌∷◌, take, filter, find, slice_index_or, slice_set, replicate, Option, Some, None, Result, Ok, Err, refl, sym, ap, ◌∙◌, subst, inl, inr, ⊎_elim}
 use mathlib.Core.Bool.{beq}
 use Rattle.framehop_core.specs.CodeAddress.{FrameLocation, lookup_address, is_first_frame}
 use Rattle.framehop.specs.Cache.{Key, Entry, Sets, CacheView, Found, hit, empty_slot, wrong_modules, wrong_address, found, hit_or, inserted, inserted_in, same_key, set_of, set_number, counted, ways, empty_cache, set_count}
 use Rattle.framehop_core.specs.Memory.{Memory}
 use Rattle.framehop.specs.CacheResult.{result_of}
 use Rattle.framehop.specs.declared.rule_cache.CacheResult.TheVariants.{Hit, Miss}
-use Rattle.framehop.specs.Unwinding.{Unwinding, Fresh, by_rule, direct}
-use Rattle.framehop.specs.Fresh.{fresh, step}
+use Rattle.framehop.specs.Answer.{Fresh, by_rule, direct}
+use Rattle.framehop.specs.Unwinding.{Unwinding}
+use Rattle.framehop_core.specs.declared.error.Error.{Error}
+use Rattle.framehop_core.specs.declared.error.Error.TheVariants.{CouldNotReadStack, FramepointerUnwindingMovedBackwards, DidNotAdvance, IntegerOverflow, ReturnAddressIsNull, OutOfMemory}
+use Rattle.framehop.specs.Fresh.{fresh, outcome_of, step}
 use Rattle.framehop.specs.Modules.{ModuleView, UnwinderView}
-use Rattle.framehop.specs.Soundness.{Among, Stands, IsFresh, IsSound, Extends, AreApart, key_of, sets_after, sets_after_miss, cache_after}
+use Rattle.framehop.specs.Soundness.{Among, Stands, IsFresh, IsSound, Extends, AreApart, key_of, sets_after, sets_after_miss, cache_after, cache_after_lookup}
 
 -- ---- what is among a list
 
@@ -211,23 +214,43 @@ module _ {R Regs : Type 0} (unwinding : Unwinding R Regs) where
         let known = fresh-hit unwinder cache.sets location rule sound (hit-answered (key_of unwinder location) (found ways cache.sets (key_of unwinder location)) rule e) in
         rw known refl
 
-    pub cache_after-miss : (between new : CacheView R) (handle : Key) (rule : R) → between.sets ≡ cache.sets → between.stats ≡ counted cache.stats (found ways cache.sets (key_of unwinder location)) → result_of (key_of unwinder location) (found ways cache.sets (key_of unwinder location)) ≡ Miss handle → fresh unwinding unwinder.modules (lookup_address location) (is_first_frame location) ≡ by_rule rule → new ≡ record between { sets = inserted ways between.sets (record { key = handle; rule = rule }) } → new ≡ cache_after unwinding unwinder cache location
+    pub cache_after-miss : (between new : CacheView R) (handle : Key) (answer : Fresh R Regs) → between.sets ≡ cache.sets → between.stats ≡ counted cache.stats (found ways cache.sets (key_of unwinder location)) → result_of (key_of unwinder location) (found ways cache.sets (key_of unwinder location)) ≡ Miss handle → fresh unwinding unwinder.modules (lookup_address location) (is_first_frame location) ≡ answer → new ≡ record between { sets = sets_after_miss between.sets handle answer } → new ≡ cache_after unwinding unwinder cache location
     unfolding cache_after
-    cache_after-miss between new handle rule kept counts e known is =
-        let answer : Fresh R Regs = fresh unwinding unwinder.modules (lookup_address location) (is_first_frame location) in
+    cache_after-miss between new handle answer kept counts e known is =
         let key = key_of unwinder location in
         let m = miss-answered cache.sets key handle (found ways cache.sets key) answer e in
-        let stored : inserted ways between.sets (record { key = handle; rule = rule }) ≡ inserted ways cache.sets (record { key = key; rule = rule }) =
-        ap (λ k. inserted ways between.sets (record { key = k; rule = rule })) (sym m.0) ∙ ap (λ sets. inserted ways sets (record { key = key; rule = rule })) kept in
+        let stored : sets_after_miss between.sets handle answer ≡ sets_after_miss cache.sets key answer =
+        ap (λ k. sets_after_miss between.sets k answer) (sym m.0) ∙ ap (λ sets. sets_after_miss sets key answer) kept in
         CacheView-equal new (cache_after unwinding unwinder cache location)
-        (ap (λ (c : CacheView R). c.sets) is ∙ stored ∙ sym (ap (sets_after_miss cache.sets key) known) ∙ sym m.1)
+        (ap (λ (c : CacheView R). c.sets) is ∙ stored ∙ sym m.1 ∙ ap (sets_after cache.sets key (found ways cache.sets key)) (sym known))
         (ap (λ (c : CacheView R). c.stats) is ∙ counts)
 
-    pub step-miss : (rule : R) (regs : Regs) (memory : Memory) → fresh unwinding unwinder.modules (lookup_address location) (is_first_frame location) ≡ by_rule rule → unwinding.outcome rule (is_first_frame location) regs memory ≡ step unwinding unwinder.modules location regs memory
-    unfolding step
-    step-miss rule regs memory known = rw known refl
+    pub cache_after_lookup-miss : (new : CacheView R) → new.sets ≡ cache.sets → new.stats ≡ counted cache.stats (found ways cache.sets (key_of unwinder location)) → new ≡ cache_after_lookup unwinder cache location
+    unfolding cache_after_lookup
+    cache_after_lookup-miss new kept counts = CacheView-equal new (cache_after_lookup unwinder cache location) kept counts
+
+    pub missed : (handle : Key) → result_of (key_of unwinder location) (found ways cache.sets (key_of unwinder location)) ≡ Miss handle → (rule : R) → found ways cache.sets (key_of unwinder location) ≢ hit rule
+    missed handle e rule is = let hit-is = sym (ap (result_of (key_of unwinder location)) is) ∙ e in cc
+
+    pub Extends-same : (sets : Sets R) → sets ≡ cache.sets → Extends unwinding unwinder cache.sets sets
+    Extends-same sets same = subst (Extends unwinding unwinder cache.sets) (sym same) (Extends-refl unwinder cache.sets)
 
   -- the answer for an address and a kind that are those of a location
-  pub fresh-at : (modules : List ModuleView) (location : FrameLocation) (address : ℕ) (first : Bool) (rule : R) → address ≡ lookup_address location → first ≡ is_first_frame location → fresh unwinding modules address first ≡ by_rule rule → fresh unwinding modules (lookup_address location) (is_first_frame location) ≡ by_rule rule
-  fresh-at modules location address first rule at kind h =
-      ap (λ a. fresh unwinding modules a (is_first_frame location)) (sym at) ∙ ap (fresh unwinding modules address) (sym kind) ∙ h
+  pub fresh-at : (modules : List ModuleView) (location : FrameLocation) (address : ℕ) (first : Bool) → address ≡ lookup_address location → first ≡ is_first_frame location → fresh unwinding modules (lookup_address location) (is_first_frame location) ≡ fresh unwinding modules address first
+  fresh-at modules location address first at kind =
+      ap (λ a. fresh unwinding modules a (is_first_frame location)) (sym at) ∙ ap (fresh unwinding modules address) (sym kind)
+
+  -- its step
+  pub step-at : (modules : List ModuleView) (location : FrameLocation) (address : ℕ) (first : Bool) (regs : Regs) (memory : Memory) → address ≡ lookup_address location → first ≡ is_first_frame location → outcome_of unwinding (fresh unwinding modules address first) first regs memory ≡ step unwinding modules location regs memory
+  unfolding step
+  step-at modules location address first regs memory at kind = rw (at, kind) refl
+
+-- memory ran out, or not
+pub out-or-not : {A : Type 0} (result : Result A Error) → (result ≡ Err OutOfMemory) ⊎ (result ≢ Err OutOfMemory)
+out-or-not (Ok x) = inr (λ e. cc)
+out-or-not (Err OutOfMemory) = inl refl
+out-or-not (Err (CouldNotReadStack address)) = inr (λ e. cc)
+out-or-not (Err FramepointerUnwindingMovedBackwards) = inr (λ e. cc)
+out-or-not (Err DidNotAdvance) = inr (λ e. cc)
+out-or-not (Err IntegerOverflow) = inr (λ e. cc)
+out-or-not (Err ReturnAddressIsNull) = inr (λ e. cc)

@@ -6,11 +6,13 @@ use Rattle.framehop_core.specs.CodeAddress.{FrameLocation, at_instruction_pointe
 use Rattle.framehop_core.specs.Aarch64.Registers.{Registers}
 use Rattle.framehop_core.specs.Aarch64.Rules.{outcome}
 use Rattle.framehop_core.specs.declared.aarch64.unwind_rule.UnwindRuleAarch64.{UnwindRuleAarch64}
-use Rattle.framehop_core.specs.declared.aarch64.unwind_rule.UnwindRuleAarch64.TheVariants.{UseFramePointer}
+use Rattle.framehop_core.specs.declared.aarch64.unwind_rule.UnwindRuleAarch64.TheVariants.{UseFramePointer, NoOpIfFirstFrameOtherwiseFp}
+use Rattle.framehop_dwarf.specs.Aarch64.{translated, direct_of}
 use Rattle.framehop.specs.Cache.{CacheView}
-use Rattle.framehop.specs.Modules.{UnwindData, no_unwind_data, UnwinderView}
+use Rattle.framehop.specs.Modules.{UnwinderView}
 use Rattle.framehop.specs.Policy.{Policy}
-use Rattle.framehop.specs.Unwinding.{Unwinding, Fresh}
+use Rattle.framehop.specs.CallFrames.{RowWords}
+use Rattle.framehop.specs.Unwinding.{Unwinding, Words, answer_by, takes_memory_by}
 use Rattle.framehop.specs.Soundness.{IsSound, cache_after}
 use Rattle.framehop.specs.Walk.{at_limit, walk_from, cache_after_walk}
 use Rattle.framehop.specs.Rise.{IsWalkWithinRise}
@@ -18,25 +20,21 @@ use Rattle.framehop.specs.World.{walked}
 use Rattle.framehop.specs.CachedWorld.{CachedReply, of_world, step_of}
 use Rattle.framehop.specs.declared.aarch64.cache.CacheAarch64.{CacheAarch64}
 
--- what unwind data gives for a relative address in a frame of this kind
-abbrev pub data_answer : UnwindData → ℕ → Bool → Option (Fresh UnwindRuleAarch64 Registers)
-data_answer no_unwind_data relative first = None
+-- what aarch64 makes of unwind data
+abbrev pub aarch64_words : Words UnwindRuleAarch64 Registers
+aarch64_words =
+    record { rows = record { translated = translated; uncovered = NoOpIfFirstFrameOtherwiseFp; direct = direct_of } }
 
 -- aarch64 under a policy
 unfoldable pub aarch64 : Policy → Unwinding UnwindRuleAarch64 Registers
 aarch64 policy = record {
   outcome = outcome;
   fallback = UseFramePointer;
-  module_answer = λ m relative first. data_answer m.unwind_data relative first;
-  takes_memory = λ m relative first. false;
+  module_answer = answer_by aarch64_words policy;
+  takes_memory = takes_memory_by policy;
   stack_pointer = λ r. r.sp;
   always_rises = true;
 }
-
--- a step to the caller's frame: sp rises, unless the callee's is the first frame, and stays one of 64 bits
-pub record Ascends (first : Bool) (callee caller : Registers) : Type 0 where
-  pub rises : first ≡ false → callee.sp < caller.sp
-  pub fits : caller.sp < 2 ^ 64
 
 -- the step of an unwinder over a memory
 abbrev pub aarch64_step : Policy → UnwinderView → Memory → FrameLocation → Registers → Outcome Registers

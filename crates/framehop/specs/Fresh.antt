@@ -4,7 +4,8 @@ use Rattle.framehop_core.specs.Memory.{Memory}
 use Rattle.framehop_core.specs.Outcome.{Outcome, answered}
 use Rattle.framehop_core.specs.CodeAddress.{FrameLocation, lookup_address, is_first_frame}
 use Rattle.framehop.specs.Modules.{ModuleView, covering}
-use Rattle.framehop.specs.Unwinding.{Unwinding, Fresh, by_rule, direct}
+use Rattle.framehop.specs.Answer.{Fresh, by_rule, direct}
+use Rattle.framehop.specs.Unwinding.{Unwinding}
 
 -- the answer of the modules for a lookup address: what the covering module's data gives, else the fallback rule
 unfoldable pub fresh : {Rule Regs : Type 0} → Unwinding Rule Regs → List ModuleView → ℕ → Bool → Fresh Rule Regs

@@ -1,4 +1,5 @@
 -- Laws that the code's traits ask for, proved here since an `impl` cites `specs/`. They define nothing.
 pub mod Policy
+pub mod Values
 pub mod Aarch64
 pub mod X86_64

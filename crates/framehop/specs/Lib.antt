@@ -2,10 +2,14 @@
 pub mod Cache
 pub mod CacheEntry
 pub mod CacheResult
+pub mod Answer
+pub mod CallFrames
 pub mod Modules
+pub mod ModuleData
 pub mod UnwindData
 pub mod Policy
 pub mod Unwinding
+pub mod Told
 pub mod Fresh
 pub mod Walk
 pub mod Soundness

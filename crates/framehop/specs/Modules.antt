@@ -1,20 +1,20 @@
 -- The modules of an unwinder, in order of start (framehop 0.16.0, `Module` and `Unwinder::add_module`).
 use Rattle.std.specs.Prelude.{ℕ, ◌-◌, ◌^◌, Bool, not, ◌&&◌, ◌||◌, ◌==◌, nat_le, nat_lt, if◌then◌else◌, max, List, [], ◌∷◌, ◌++◌, length, filter, slice_get, Option, Some, None, option_and_then}
 use Rattle.std.specs.List.{list_any}
+use Rattle.framehop.specs.CallFrames.{CallFrames}
 use Rattle.std.specs.List.Sorted.{IsNonDecreasingBy}
 
 -- what unwind data a module has
 pub data UnwindData : Type 0 where
   no_unwind_data : UnwindData
+  call_frames : CallFrames → UnwindData
 
--- a module: its name, its addresses from start to below end, its base (all AVMAs), the base that its file states (an
--- SVMA), and its unwind data
+-- a module: its name, its addresses from start to below end, its base (all AVMAs), and its unwind data
 pub record ModuleView : Type 0 where
   pub name : List ℕ
   pub start : ℕ
   pub end : ℕ
   pub base_avma : ℕ
-  pub base_svma : ℕ
   pub unwind_data : UnwindData
 
 -- the modules of an unwinder, and their generation: a number that no other list of modules has

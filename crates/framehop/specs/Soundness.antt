@@ -1,8 +1,9 @@
 -- When a cache that other steps have filled changes no answer.
-use Rattle.std.specs.Prelude.{◌≡◌, ◌≢◌, ◌-◌, ◌⊎◌, true, List, [], ◌∷◌, Some}
+use Rattle.std.specs.Prelude.{◌≡◌, ◌≢◌, ℕ, ◌-◌, ◌⊎◌, true, List, [], ◌∷◌, Some}
 use Rattle.framehop_core.specs.CodeAddress.{FrameLocation, lookup_address, is_first_frame}
 use Rattle.framehop.specs.Cache.{Key, Entry, Sets, CacheView, Found, hit, empty_slot, wrong_modules, wrong_address, found, counted, inserted, ways}
-use Rattle.framehop.specs.Unwinding.{Unwinding, Fresh, by_rule, direct}
+use Rattle.framehop.specs.Answer.{Fresh, by_rule, direct}
+use Rattle.framehop.specs.Unwinding.{Unwinding}
 use Rattle.framehop.specs.Fresh.{fresh}
 use Rattle.framehop.specs.Modules.{ModuleView, UnwinderView, covering}
 
@@ -75,12 +76,16 @@ unfoldable pub cache_after_lookup : {R : Type 0} → UnwinderView → CacheView 
 cache_after_lookup unwinder cache location =
     record cache { stats = counted cache.stats (found ways cache.sets (key_of unwinder location)) }
 
+-- reading what the covering module has for an address takes memory
+pub record TakesMemory {R Regs : Type 0} (unwinding : Unwinding R Regs) (modules : List ModuleView)
+    (address : ℕ) : Type 0 where
+  pub covered_by : ModuleView
+  pub covers : covering modules address ≡ Some covered_by
+  pub takes : unwinding.takes_memory covered_by (address - covered_by.base_avma) ≡ true
+
 -- A step at a location can run out of memory: its rule is not in the cache, and reading what the covering module has
 -- for the address takes memory.
 pub record MayRunOut {R Regs : Type 0} (unwinding : Unwinding R Regs) (unwinder : UnwinderView) (cache : CacheView R)
     (location : FrameLocation) : Type 0 where
   pub missed : (rule : R) → found ways cache.sets (key_of unwinder location) ≢ hit rule
-  pub covered_by : ModuleView
-  pub covers : covering unwinder.modules (lookup_address location) ≡ Some covered_by
-  pub takes : unwinding.takes_memory covered_by (lookup_address location - covered_by.base_avma)
-      (is_first_frame location) ≡ true
+  pub takes : TakesMemory unwinding unwinder.modules (lookup_address location)

@@ -1,33 +1,48 @@
 -- What an architecture makes of rules and modules: the one record by which steps, walks, caches and sessions are
 -- defined.
-use Rattle.std.specs.Prelude.{◌≡◌, ℕ, ◌<◌, Bool, true, false, Option, Some, None}
+use Rattle.std.specs.Prelude.{◌≡◌, ℕ, ◌<◌, ◌&&◌, Bool, true, false, Option, Some, None, is_some}
 use Rattle.framehop_core.specs.Memory.{Memory}
 use Rattle.framehop_core.specs.Outcome.{Outcome, answered}
-use Rattle.framehop.specs.Modules.{ModuleView, no_unwind_data}
-
--- What the unwind data of a module gives for an address: a rule, or values that are computed from registers and
--- memory (a return address and the caller's registers, or none where they can't be had).
-pub data Fresh (Rule Regs : Type 0) : Type 0 where
-  by_rule : Rule → Fresh Rule Regs
-  direct : (Regs → Memory → Option (ℕ × Regs)) → Fresh Rule Regs
+use Rattle.framehop.specs.Policy.{Policy}
+use Rattle.framehop.specs.Answer.{Fresh, direct}
+use Rattle.framehop.specs.CallFrames.{RowWords, frames_answer, fde_offset_of}
+use Rattle.framehop.specs.Modules.{ModuleView, UnwindData, no_unwind_data, call_frames}
 
 -- `outcome`: what a rule does to a frame, a first one (`true`) or another. `fallback`: the rule where nothing is known.
 -- `module_answer`: what the unwind data of a module gives for a relative address in a frame of this kind, if anything.
--- `takes_memory`: whether finding that out can take memory. `stack_pointer`: that of registers. `always_rises`: whether
+-- `takes_memory`: whether finding that out for a relative address can take memory. `stack_pointer`: that of registers. `always_rises`: whether
 -- each step that leaves a frame other than the first raises the stack pointer.
 pub record Unwinding (Rule Regs : Type 0) : Type 0 where
   pub outcome : Rule → Bool → Regs → Memory → Outcome Regs
   pub fallback : Rule
   pub module_answer : ModuleView → ℕ → Bool → Option (Fresh Rule Regs)
-  pub takes_memory : ModuleView → ℕ → Bool → Bool
+  pub takes_memory : ModuleView → ℕ → Bool
   pub stack_pointer : Regs → ℕ
   pub always_rises : Bool
 
--- a module without unwind data gives nothing
-abbrev pub GivesNothingWithoutData : {Rule Regs : Type 0} → Unwinding Rule Regs → Type 0
-GivesNothingWithoutData unwinding =
-    (m : ModuleView) (relative : ℕ) (first : Bool) → m.unwind_data ≡ no_unwind_data
-    → unwinding.module_answer m relative first ≡ None
+-- what an architecture makes of unwind data
+pub record Words (Rule Regs : Type 0) : Type 0 where
+  pub rows : RowWords Rule Regs
+
+-- what unwind data gives for a relative address in a frame of this kind, if anything
+abbrev pub data_answer : {Rule Regs : Type 0} → Words Rule Regs → Policy → UnwindData → ℕ → Bool
+    → Option (Fresh Rule Regs)
+data_answer words policy no_unwind_data relative first = None
+data_answer words policy (call_frames frames) relative first = frames_answer words.rows policy frames relative first
+
+-- unwind data names an FDE for a relative address
+abbrev pub names_fde : UnwindData → ℕ → Bool
+names_fde no_unwind_data relative = false
+names_fde (call_frames frames) relative = is_some (fde_offset_of frames relative)
+
+-- what the unwind data of a module gives
+unfoldable pub answer_by : {Rule Regs : Type 0} → Words Rule Regs → Policy → ModuleView → ℕ → Bool
+    → Option (Fresh Rule Regs)
+answer_by words policy m relative first = data_answer words policy m.unwind_data relative first
+
+-- reading it takes memory only where the policy allows it and an FDE is named
+unfoldable pub takes_memory_by : Policy → ModuleView → ℕ → Bool
+takes_memory_by policy m relative = policy.may_allocate && names_fde m.unwind_data relative
 
 -- that is so where it is said: a rule's step, and computed values, raise the stack pointer
 pub record RisesAsSaid {Rule Regs : Type 0} (unwinding : Unwinding Rule Regs) : Type 0 where

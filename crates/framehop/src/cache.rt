@@ -81,7 +81,7 @@ impl AllocationPolicy for MayAllocateDuringUnwind {
 pub struct Cache<R: UnwindRule, P: AllocationPolicy = MayAllocateDuringUnwind> {
     rule_cache: RuleCache<R>,
     /// Where rows of DWARF call frame tables are made, with its room made before.
-    gimli_unwind_context: Box<UnwindContext<P::GimliUnwindContextStorage>>,
+    pub(crate) gimli_unwind_context: Box<UnwindContext<P::GimliUnwindContextStorage>>,
 }
 
 impl<R: UnwindRule, P: AllocationPolicy> Model for Cache<R, P> {

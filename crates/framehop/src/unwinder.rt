@@ -1,28 +1,42 @@
 //! Modules, unwinders over them, and the iterator over the frames of a stack.
-ghost use Rattle.std.specs.Prelude.{◌≡◌, ◌≢◌, ◌+◌, ◌-◌, ◌^◌, ◌<◌, ◌↔◌, Bool, true, false, IfOk, IfErr, IfSome, IfNone, IsOk, OnOk, OnSome, IsErrAnd, remove, slice_index_or, MatchOption, MatchResult, SomeIff, string_bytes, slice_get, length, take, drop, ◌≤◌, Option, []};
+ghost use Rattle.std.specs.Prelude.{◌≡◌, ◌≢◌, ◌+◌, ◌-◌, ◌^◌, ◌<◌, ◌↔◌, Bool, true, false, IfOk, IfErr, IfSome, IfNone, IsOk, OnOk, OnSome, IsErrAnd, remove, slice_index_or, MatchOption, MatchResult, SomeIff, IsTrue, codes, is_some, string_bytes, slice_get, length, take, drop, ◌≤◌, Option, []};
 ghost use Rattle.framehop.specs.Memory.{Memory, AnswersAs};
 ghost use Rattle.framehop.specs.Outcome.{Outcome, answer_of, registers_after};
 ghost use Rattle.framehop.specs.CodeAddress.{FrameLocation, location_of, is_first_frame};
 ghost use Rattle.framehop.specs.Iterator.{before};
 ghost use Rattle.framehop.specs.UnwindIterator.{unwinder_of, progress_in, regs_of, cache_of, read_stack_of};
-ghost use Rattle.framehop.specs.Unwinding.{Unwinding, GivesNothingWithoutData, RisesAsSaid, by_rule};
+ghost use Rattle.framehop.specs.Unwinding.{Unwinding, Words, data_answer, names_fde, answer_by, takes_memory_by, RisesAsSaid};
+ghost use Rattle.framehop.specs.CallFrames.{frames_with_header, frames_answer, fde_answer, fde_offset_of};
+ghost use Rattle.framehop.specs.UnwindData.{unwind_data_of};
+ghost use Rattle.framehop.specs.ModuleData.{ask_either, with_eh_frame, with_index, by_eh_frame, call_frame_data, pdata_data, unwind_data_in};
+ghost use Rattle.framehop.specs.Told.{out_of_memory, is_of_row_values, is_of_values, TellsAnswer, TellsValues, WritesWithAddress, RuleHas, TellsFresh, TellsFreshValues, WritesComputed, AnswerHas, IsAnswerOf};
+ghost use Rattle.framehop_cfi.specs.Section.{section_of};
+ghost use Rattle.framehop_dwarf.specs.Bases.{section_in};
 ghost use Rattle.framehop.specs.Policy.{Policy};
-ghost use Rattle.framehop.specs.Fresh.{fresh};
+ghost use Rattle.framehop.specs.Fresh.{fresh, outcome_of};
 ghost use Rattle.framehop.specs.Cache.{found, counted, ways};
 ghost use Rattle.framehop.specs.CacheResult.{result_of, HitRuns};
-ghost use Rattle.framehop.specs.Soundness.{key_of, AreApart};
+ghost use Rattle.framehop.specs.Soundness.{key_of, AreApart, sets_after_miss, TakesMemory};
 ghost use Rattle.std.specs.List.Sorted.{IsPartitionPoint};
-ghost use Rattle.framehop.specs.Modules.{ModuleView, UnwinderView, AreInOrder, no_unwind_data, starting_by, starting_above, with_module, has_start, without_module, starts_by, covers, covering, greatest_end};
+ghost use Rattle.framehop.specs.Modules.{ModuleView, UnwinderView, AreInOrder, starting_by, starting_above, with_module, has_start, without_module, starts_by, covers, covering, greatest_end};
 
 use crate::cache::{AllocationPolicy, Cache};
 use crate::generations::Generations;
-use crate::rule_cache::CacheResult;
+use crate::rule_cache::{CacheHandle, CacheResult};
+use framehop_cfi::context::UnwindContext;
+use framehop_cfi::entry::UnwindSectionType;
+use framehop_cfi::pointer::BaseAddresses;
+use framehop_cfi::read_error::ReadError;
 use framehop_cfi::section::{ModuleSectionInfo, SectionBytes};
 use framehop_core::aarch64::ArchAarch64;
-use framehop_core::arch::Arch;
+use framehop_core::unwind_result::UnwindResult;
 use framehop_core::unwind_rule::UnwindRule;
 use framehop_core::x86_64::ArchX86_64;
 use framehop_core::{Error, FrameAddress};
+use framehop_dwarf::bases::base_addresses_for_sections;
+use framehop_dwarf::dwarf::{DwarfUnwinderError, DwarfUnwinding};
+use framehop_dwarf::index::{DwarfCfiIndex, DwarfCfiIndexError};
+use framehop_dwarf::unwinder::DwarfUnwinder;
 use std::alloc::{AllocError, Global};
 use std::marker::{Model, PhantomData};
 use std::ops::Range;
@@ -47,8 +61,28 @@ pub struct RefusedModule<M> {
     pub cause: ModuleListError,
 }
 
+/// Why the unwind data of a module gives no rule and no return address for a frame.
+#[derive(Clone, Copy, Debug, PartialEq, Eq, thiserror::Error)]
+pub enum UnwinderError {
+    /// The call frame information gives none.
+    #[error("Dwarf")]
+    Dwarf(#[from] DwarfUnwinderError),
+
+    /// The module has no unwind data.
+    #[error("NoModuleUnwindData")]
+    NoModuleUnwindData,
+
+    /// `.eh_frame_hdr` has no FDE for the address.
+    #[error("EhFrameHdrCouldNotFindAddress")]
+    EhFrameHdrCouldNotFindAddress,
+
+    /// The index has no FDE for the address.
+    #[error("DwarfCfiIndexCouldNotFindAddress")]
+    DwarfCfiIndexCouldNotFindAddress,
+}
+
 /// A CPU architecture whose unwind data can be read: what it makes of rules and modules.
-pub trait Unwinding: Arch {
+pub trait Unwinding: DwarfUnwinding {
     // what a step gives by the modules' bytes, under an allocation policy
     ghost unwinding: { Policy → Unwinding Self.UnwindRule Self.UnwindRegs };
 
@@ -63,7 +97,13 @@ pub trait Unwinding: Arch {
 
     ghost stack_pointer_is: { (policy : Policy) → (unwinding policy).stack_pointer ≡ Self.UnwindRule.stack_pointer };
 
-    ghost no_data: { (policy : Policy) → GivesNothingWithoutData (unwinding policy) };
+    // what a module's unwind data gives is by the words of the readers
+    ghost answer_is: { (policy : Policy) → (unwinding policy).module_answer
+        ≡ answer_by (record { rows = record { translated = Self.translated; uncovered = Self.uncovered; direct = Self.direct } }) policy };
+
+    ghost memory_is: { (policy : Policy) → (unwinding policy).takes_memory ≡ takes_memory_by policy };
+
+    ghost values_advance: { (first : Bool) (old new : Self.UnwindRegs) → Self.ascends first old new → step_advances first old new };
 
     ghost rule_advances: { (first : Bool) (old new : Self.UnwindRegs) → Self.UnwindRule.advances first old new → step_advances first old new };
 
@@ -71,8 +111,9 @@ pub trait Unwinding: Arch {
 }
 
 impl Unwinding for ArchAarch64 {
-    ghost use Rattle.framehop.specs.Aarch64.{aarch64, Ascends};
-    ghost use Rattle.framehop.specs.Laws.Aarch64.{outcome-is, fallback-is, stack_pointer-is, no-data, Ascends-rule, rises-as-said};
+    ghost use Rattle.framehop_dwarf.specs.Aarch64.{Ascends};
+    ghost use Rattle.framehop.specs.Aarch64.{aarch64};
+    ghost use Rattle.framehop.specs.Laws.Aarch64.{outcome-is, fallback-is, stack_pointer-is, answer-is, memory-is, Ascends-rule, rises-as-said};
 
     ghost unwinding = { aarch64 };
 
@@ -84,7 +125,11 @@ impl Unwinding for ArchAarch64 {
 
     ghost stack_pointer_is = { stack_pointer-is };
 
-    ghost no_data = { no-data };
+    ghost answer_is = { answer-is };
+
+    ghost memory_is = { memory-is };
+
+    ghost values_advance = { λ first old new advances. advances };
 
     ghost rule_advances = { Ascends-rule };
 
@@ -93,7 +138,7 @@ impl Unwinding for ArchAarch64 {
 
 impl Unwinding for ArchX86_64 {
     ghost use Rattle.framehop.specs.X86_64.{x86_64};
-    ghost use Rattle.framehop.specs.Laws.X86_64.{outcome-is, fallback-is, stack_pointer-is, no-data, rises-as-said};
+    ghost use Rattle.framehop.specs.Laws.X86_64.{outcome-is, fallback-is, stack_pointer-is, answer-is, memory-is, rises-as-said};
 
     ghost unwinding = { x86_64 };
 
@@ -106,7 +151,11 @@ impl Unwinding for ArchX86_64 {
 
     ghost stack_pointer_is = { stack_pointer-is };
 
-    ghost no_data = { no-data };
+    ghost answer_is = { answer-is };
+
+    ghost memory_is = { memory-is };
+
+    ghost values_advance = { λ first old new advances. tt };
 
     ghost rule_advances = { λ first old new advances. tt };
 
@@ -404,14 +453,185 @@ pub struct Module<D: SectionBytes> {
     name: String,
     avma_range: Range<u64>,
     base_avma: u64,
-    base_svma: u64,
     unwind_data: Rc<ModuleUnwindDataInternal<D>>,
 }
 
 /// What unwind data a module has. Clones of a module share it.
 #[derive(Drop)]
-enum ModuleUnwindDataInternal<D> {
-    None(PhantomData<D>),
+enum ModuleUnwindDataInternal<D: SectionBytes> {
+    /// `.eh_frame`, and its table of FDEs.
+    EhFrameHdrAndEhFrame {
+        eh_frame_hdr: D,
+        eh_frame: D,
+        base_addresses: BaseAddresses,
+        /// The module's base, an SVMA.
+        base_svma: u64,
+    },
+    /// `.eh_frame` or `.debug_frame`, and an index of its FDEs.
+    DwarfCfiIndexAndFrames(IndexedFrames<D>),
+    /// None that can be read.
+    None,
+}
+
+/// A call frame section, and an index of its FDEs.
+#[derive(Drop)]
+struct IndexedFrames<D: SectionBytes> {
+    index: DwarfCfiIndex,
+    section_data: D,
+    section_type: UnwindSectionType,
+    base_addresses: BaseAddresses,
+    /// The module's base, an SVMA.
+    base_svma: u64,
+}
+
+impl<D: SectionBytes> Model for IndexedFrames<D> {
+    ghost use Rattle.std.specs.Prelude.{None};
+    ghost use Rattle.framehop_cfi.specs.Section.{section_of};
+    ghost use Rattle.framehop_dwarf.specs.Index.{IsIndexOfAll};
+    ghost use Rattle.framehop.specs.CallFrames.{CallFrames};
+
+    ghost Value = { CallFrames };
+
+    ghost view = { λ f. record {
+      section = section_of f.section_type f.base_addresses (D.contents f.section_data);
+      header = None;
+      base_svma = f.base_svma;
+    } };
+
+    ghost invariant = { λ f. IsIndexOfAll (section_of f.section_type f.base_addresses (D.contents f.section_data)) f.base_svma f.index };
+}
+
+impl<D: SectionBytes + Drop> ModuleUnwindDataInternal<D> {
+    /// The unwind data of a module with these sections: the first that there is. Each name is asked
+    /// at most once, and its data is taken out. Refused only where memory is.
+    #[tactic(auto, unfolding(crate::specs::ModuleData::unwind_data_in))]
+    fn new<I: ModuleSectionInfo<D>>(
+        alloc: Global,
+        section_info: &mut I,
+    ) -> Result<Self, ModuleListError>
+        ensures made { IfOk result (λ made. unwind_data_of D.contents made ≡ unwind_data_in D.contents (I.table section_info.old)) }
+        ensures refused { IfErr result (λ error. error ≡ ModuleListError.OutOfMemory) }
+    {
+        match section_info.section_data(b"__unwind_info") {
+            Some(_) => Ok(ModuleUnwindDataInternal::None),
+            None => Self::with_pdata(alloc, section_info),
+        }
+    }
+
+    // the unwind data of a module without `__unwind_info`
+    fn with_pdata<I: ModuleSectionInfo<D>>(
+        alloc: Global,
+        section_info: &mut I,
+    ) -> Result<Self, ModuleListError>
+        ensures made { IfOk result (λ made. unwind_data_of D.contents made ≡ pdata_data D.contents (I.table section_info.old)) }
+        ensures refused { IfErr result (λ error. error ≡ ModuleListError.OutOfMemory) }
+    {
+        match section_info.section_data(b".pdata") {
+            Some(_) => Ok(ModuleUnwindDataInternal::None),
+            None => Self::with_call_frames(alloc, section_info),
+        }
+    }
+
+    // the unwind data of a module by its call frame sections
+    fn with_call_frames<I: ModuleSectionInfo<D>>(
+        alloc: Global,
+        section_info: &mut I,
+    ) -> Result<Self, ModuleListError>
+        ensures made { IfOk result (λ made. unwind_data_of D.contents made ≡ call_frame_data D.contents (I.table section_info.old)) }
+        ensures refused { IfErr result (λ error. error ≡ ModuleListError.OutOfMemory) }
+    {
+        match data_under(section_info, b".eh_frame", b"__eh_frame") {
+            Some(eh_frame) => Self::with_eh_frame(alloc, eh_frame, section_info),
+            None => Self::with_debug_frame(alloc, section_info),
+        }
+    }
+
+    // `.debug_frame` with an index, if there is one
+    fn with_debug_frame<I: ModuleSectionInfo<D>>(
+        alloc: Global,
+        section_info: &mut I,
+    ) -> Result<Self, ModuleListError>
+        ensures made { IfOk result (λ made. unwind_data_of D.contents made ≡ by_eh_frame D.contents None (I.table section_info.old)) }
+        ensures refused { IfErr result (λ error. error ≡ ModuleListError.OutOfMemory) }
+    {
+        match section_info.section_data(b".debug_frame") {
+            Some(debug_frame) => {
+                Self::with_index(alloc, debug_frame, UnwindSectionType::DebugFrame, section_info)
+            }
+            None => Ok(ModuleUnwindDataInternal::None),
+        }
+    }
+
+    // `.eh_frame` with its table of FDEs or, where there is none, with an index
+    fn with_eh_frame<I: ModuleSectionInfo<D>>(
+        alloc: Global,
+        eh_frame: D,
+        section_info: &mut I,
+    ) -> Result<Self, ModuleListError>
+        ensures made { IfOk result (λ made. unwind_data_of D.contents made ≡ with_eh_frame D.contents eh_frame (I.table section_info.old)) }
+        ensures refused { IfErr result (λ error. error ≡ ModuleListError.OutOfMemory) }
+    {
+        match data_under(section_info, b".eh_frame_hdr", b"__eh_frame_hdr") {
+            Some(eh_frame_hdr) => Ok(ModuleUnwindDataInternal::EhFrameHdrAndEhFrame {
+                eh_frame_hdr,
+                eh_frame,
+                base_addresses: base_addresses_for_sections(section_info),
+                base_svma: section_info.base_svma(),
+            }),
+            None => Self::with_index(alloc, eh_frame, UnwindSectionType::EhFrame, section_info),
+        }
+    }
+
+    // a call frame section with an index of its FDEs, if it has one
+    fn with_index<I: ModuleSectionInfo<D>>(
+        alloc: Global,
+        section_data: D,
+        section_type: UnwindSectionType,
+        section_info: &mut I,
+    ) -> Result<Self, ModuleListError>
+        ensures made { IfOk result (λ made. unwind_data_of D.contents made
+            ≡ with_index (section_in section_type (I.table section_info.old) (D.contents section_data)) (I.table section_info.old).base_svma) }
+        ensures refused { IfErr result (λ error. error ≡ ModuleListError.OutOfMemory) }
+    {
+        let base_addresses = base_addresses_for_sections(section_info);
+        let base_svma = section_info.base_svma();
+        match DwarfCfiIndex::try_new(
+            alloc,
+            section_data.bytes(),
+            section_type,
+            base_addresses,
+            base_svma,
+        ) {
+            Ok(index) => Ok(ModuleUnwindDataInternal::DwarfCfiIndexAndFrames(IndexedFrames {
+                index,
+                section_data,
+                section_type,
+                base_addresses,
+                base_svma,
+            })),
+            Err(error) => {
+                if error == DwarfCfiIndexError::Gimli(ReadError::OutOfMemory) {
+                    return Err(ModuleListError::OutOfMemory);
+                }
+                Ok(ModuleUnwindDataInternal::None)
+            }
+        }
+    }
+}
+
+// the data under the first name, or else under the second
+fn data_under<D, I: ModuleSectionInfo<D>>(
+    section_info: &mut I,
+    first: &[u8],
+    second: &[u8],
+) -> Option<D>
+    ensures found { result ≡ (ask_either first.now second.now (I.table section_info.old)).found }
+    ensures left { I.table section_info.new ≡ (ask_either first.now second.now (I.table section_info.old)).left }
+{
+    match section_info.section_data(first) {
+        Some(found) => Some(found),
+        None => section_info.section_data(second),
+    }
 }
 
 impl<D: SectionBytes> Model for Module<D> {
@@ -427,12 +647,11 @@ impl<D: SectionBytes> Model for Module<D> {
       start = m.avma_range.start;
       end = m.avma_range.end;
       base_avma = m.base_avma;
-      base_svma = m.base_svma;
-      unwind_data = unwind_data_of m.unwind_data.value;
+      unwind_data = unwind_data_of D.contents m.unwind_data.value;
     } };
 }
 
-impl<D: SectionBytes> Clone for Module<D> {
+impl<D: SectionBytes + Drop> Clone for Module<D> {
     ghost is_clone = { λ m copy. copy ≡ m };
 
     fn clone(&self) -> Result<Self, AllocError> {
@@ -440,13 +659,12 @@ impl<D: SectionBytes> Clone for Module<D> {
             name: self.name.clone()?,
             avma_range: self.avma_range.start..self.avma_range.end,
             base_avma: self.base_avma,
-            base_svma: self.base_svma,
             unwind_data: self.unwind_data.clone()?,
         })
     }
 }
 
-impl<D: SectionBytes> Module<D> {
+impl<D: SectionBytes + Drop> Module<D> {
     /// A module of the name that is loaded at the addresses (AVMAs) from `avma_range.start` to
     /// below `avma_range.end`. Its relative address 0 is `base_avma`. The sections are asked for
     /// the unwind data. Refused only with `OutOfMemory`.
@@ -455,27 +673,25 @@ impl<D: SectionBytes> Module<D> {
         name: String,
         avma_range: Range<u64>,
         base_avma: u64,
-        section_info: I,
+        mut section_info: I,
     ) -> Result<Self, ModuleListError>
         ensures made { IfOk result (λ made. made ≡ record {
           name = string_bytes name;
           start = avma_range.start;
           end = avma_range.end;
           base_avma = base_avma;
-          base_svma = (I.table section_info).base_svma;
-          unwind_data = no_unwind_data;
+          unwind_data = unwind_data_in D.contents (I.table section_info);
         }) }
         ensures refused { IfErr result (λ error. error ≡ ModuleListError.OutOfMemory) }
     {
-        let base_svma = section_info.base_svma();
-        let Ok(unwind_data) = Rc::new(alloc, ModuleUnwindDataInternal::None(PhantomData)) else {
+        let unwind_data = ModuleUnwindDataInternal::new(alloc, &mut section_info)?;
+        let Ok(unwind_data) = Rc::new(alloc, unwind_data) else {
             return Err(ModuleListError::OutOfMemory);
         };
         Ok(Module {
             name,
             avma_range,
             base_avma,
-            base_svma,
             unwind_data,
         })
     }
@@ -517,6 +733,285 @@ impl<D: SectionBytes> Module<D> {
             return None;
         }
         u32::try_from(address.checked_sub(self.base_avma)?).ok()
+    }
+}
+
+// whether memory ran out
+fn is_out_of_memory(error: &UnwinderError) -> bool
+    ensures { IsTrue result ↔ (error.now ≡ out_of_memory) }
+{
+    *error
+        == UnwinderError::Dwarf(DwarfUnwinderError::UnwindInfoForAddressFailed(
+            ReadError::OutOfMemory,
+        ))
+}
+
+// whether registers or stack words are why a row's values can't be computed
+fn is_of_row_values(error: &DwarfUnwinderError) -> bool
+    ensures { result ≡ is_of_row_values error.now }
+{
+    match error {
+        DwarfUnwinderError::FdeFromOffsetFailed(_)
+        | DwarfUnwinderError::UnwindInfoForAddressFailed(_) => false,
+        DwarfUnwinderError::StackPointerMovedBackwards
+        | DwarfUnwinderError::DidNotAdvance
+        | DwarfUnwinderError::CouldNotRecoverCfa
+        | DwarfUnwinderError::CouldNotRecoverReturnAddress
+        | DwarfUnwinderError::CouldNotRecoverFramePointer => true,
+    }
+}
+
+// whether registers or stack words are why values can't be computed, and not the module's bytes
+fn is_of_values(error: &UnwinderError) -> bool
+    ensures { result ≡ is_of_values error.now }
+{
+    match error {
+        UnwinderError::Dwarf(error) => is_of_row_values(error),
+        UnwinderError::NoModuleUnwindData
+        | UnwinderError::EhFrameHdrCouldNotFindAddress
+        | UnwinderError::DwarfCfiIndexCouldNotFindAddress => false,
+    }
+}
+
+/// Unwinds a frame by the FDE at an offset.
+#[tactic(auto, unfolding(crate::specs::CallFrames::fde_answer))]
+fn unwind_frame_with_fde<A: Unwinding, P: AllocationPolicy, F>(
+    unwinder: &mut DwarfUnwinder<'_, A, P::GimliUnwindContextStorage>,
+    alloc: Global,
+    relative_address: u32,
+    fde_offset: u32,
+    is_first_frame: bool,
+    regs: &mut A::UnwindRegs,
+    read_stack: &mut F,
+) -> Result<UnwindResult<A::UnwindRule>, UnwinderError>
+where
+    F: FnMut(u64) -> Result<u64, ()>,
+    requires { F.IsAlwaysCallable read_stack.old }
+    ensures callable { F.IsAlwaysCallable read_stack.new }
+    ensures written { WritesWithAddress (A.step_advances is_first_frame) result regs.old regs.new }
+    ensures executable { RuleHas (λ rule. IsTrue (A.UnwindRule.executable rule)) result }
+    ensures memory { result ≡ Err out_of_memory → P.policy.may_allocate ≡ true }
+    ensures told { result ≢ Err out_of_memory → TellsAnswer
+        (fde_answer (record { translated = A.translated; uncovered = A.uncovered; direct = A.direct })
+        P.policy unwinder.old.section (unwinder.old.base_svma + relative_address) is_first_frame fde_offset) result }
+    ensures answers { (memory : Memory) → AnswersAs F.FnMut read_stack.old memory
+        → AnswersAs F.FnMut read_stack.new memory
+        × (result ≢ Err out_of_memory → TellsValues
+        (fde_answer (record { translated = A.translated; uncovered = A.uncovered; direct = A.direct })
+        P.policy unwinder.old.section (unwinder.old.base_svma + relative_address) is_first_frame fde_offset)
+        regs.old memory result regs.new) }
+{
+    match unwinder.unwind_frame_with_fde::<P::GimliEvaluationStorage, F>(
+        alloc,
+        regs,
+        is_first_frame,
+        relative_address,
+        fde_offset,
+        read_stack,
+    ) {
+        Ok(found) => Ok(found),
+        Err(error) => Err(UnwinderError::Dwarf(error)),
+    }
+}
+
+/// Unwinds a frame by `.eh_frame` and its table of FDEs.
+fn unwind_frame_by_header<A: Unwinding, P: AllocationPolicy, F>(
+    eh_frame_hdr: &[u8],
+    eh_frame: &[u8],
+    base_addresses: BaseAddresses,
+    base_svma: u64,
+    alloc: Global,
+    unwind_context: &mut UnwindContext<P::GimliUnwindContextStorage>,
+    relative_address: u32,
+    is_first_frame: bool,
+    regs: &mut A::UnwindRegs,
+    read_stack: &mut F,
+) -> Result<UnwindResult<A::UnwindRule>, UnwinderError>
+where
+    F: FnMut(u64) -> Result<u64, ()>,
+    requires { F.IsAlwaysCallable read_stack.old }
+    ensures callable { F.IsAlwaysCallable read_stack.new }
+    ensures written { WritesWithAddress (A.step_advances is_first_frame) result regs.old regs.new }
+    ensures executable { RuleHas (λ rule. IsTrue (A.UnwindRule.executable rule)) result }
+    ensures memory { result ≡ Err out_of_memory → (P.policy.may_allocate ≡ true)
+        × (is_some (fde_offset_of (frames_with_header eh_frame_hdr.now eh_frame.now base_addresses base_svma) relative_address) ≡ true) }
+    ensures told { result ≢ Err out_of_memory → TellsAnswer
+        (frames_answer (record { translated = A.translated; uncovered = A.uncovered; direct = A.direct })
+        P.policy (frames_with_header eh_frame_hdr.now eh_frame.now base_addresses base_svma) relative_address is_first_frame) result }
+    ensures answers { (memory : Memory) → AnswersAs F.FnMut read_stack.old memory
+        → AnswersAs F.FnMut read_stack.new memory
+        × (result ≢ Err out_of_memory → TellsValues
+        (frames_answer (record { translated = A.translated; uncovered = A.uncovered; direct = A.direct })
+        P.policy (frames_with_header eh_frame_hdr.now eh_frame.now base_addresses base_svma) relative_address is_first_frame)
+        regs.old memory result regs.new) }
+{
+    let mut unwinder = DwarfUnwinder::new(
+        eh_frame,
+        UnwindSectionType::EhFrame,
+        Some(eh_frame_hdr),
+        unwind_context,
+        base_addresses,
+        base_svma,
+    );
+    match unwinder.get_fde_offset_for_relative_address(relative_address) {
+        Some(fde_offset) => unwind_frame_with_fde::<A, P, F>(
+            &mut unwinder,
+            alloc,
+            relative_address,
+            fde_offset,
+            is_first_frame,
+            regs,
+            read_stack,
+        ),
+        None => Err(UnwinderError::EhFrameHdrCouldNotFindAddress),
+    }
+}
+
+impl<D: SectionBytes> IndexedFrames<D> {
+    // the offset of the FDE for a relative address, if there is one
+    fn fde_offset(&self, relative_address: u32) -> Option<u32>
+        ensures { result ≡ fde_offset_of self.now relative_address }
+    {
+        self.index.fde_offset_for_relative_address(relative_address)
+    }
+
+    /// Unwinds a frame by the section.
+    fn unwind_frame<A: Unwinding, P: AllocationPolicy, F>(
+        &self,
+        alloc: Global,
+        unwind_context: &mut UnwindContext<P::GimliUnwindContextStorage>,
+        relative_address: u32,
+        is_first_frame: bool,
+        regs: &mut A::UnwindRegs,
+        read_stack: &mut F,
+    ) -> Result<UnwindResult<A::UnwindRule>, UnwinderError>
+    where
+        F: FnMut(u64) -> Result<u64, ()>,
+        requires { F.IsAlwaysCallable read_stack.old }
+        ensures callable { F.IsAlwaysCallable read_stack.new }
+        ensures written { WritesWithAddress (A.step_advances is_first_frame) result regs.old regs.new }
+        ensures executable { RuleHas (λ rule. IsTrue (A.UnwindRule.executable rule)) result }
+        ensures memory { result ≡ Err out_of_memory → (P.policy.may_allocate ≡ true) × (is_some (fde_offset_of self.now relative_address) ≡ true) }
+        ensures told { result ≢ Err out_of_memory → TellsAnswer
+            (frames_answer (record { translated = A.translated; uncovered = A.uncovered; direct = A.direct })
+            P.policy self.now relative_address is_first_frame) result }
+        ensures answers { (memory : Memory) → AnswersAs F.FnMut read_stack.old memory
+            → AnswersAs F.FnMut read_stack.new memory
+            × (result ≢ Err out_of_memory → TellsValues
+            (frames_answer (record { translated = A.translated; uncovered = A.uncovered; direct = A.direct })
+            P.policy self.now relative_address is_first_frame) regs.old memory result regs.new) }
+    {
+        let Some(fde_offset) = self.fde_offset(relative_address) else {
+            return Err(UnwinderError::DwarfCfiIndexCouldNotFindAddress);
+        };
+        let mut unwinder = DwarfUnwinder::new(
+            self.section_data.bytes(),
+            self.section_type,
+            None,
+            unwind_context,
+            self.base_addresses,
+            self.base_svma,
+        );
+        unwind_frame_with_fde::<A, P, F>(
+            &mut unwinder,
+            alloc,
+            relative_address,
+            fde_offset,
+            is_first_frame,
+            regs,
+            read_stack,
+        )
+    }
+}
+
+impl<D: SectionBytes> Module<D> {
+    /// Unwinds a frame at a relative address by the module's unwind data.
+    #[tactic(auto, unfolding(crate::specs::Unwinding::answer_by, crate::specs::Unwinding::takes_memory_by))]
+    fn unwind_frame<A: Unwinding, P: AllocationPolicy, F>(
+        &self,
+        alloc: Global,
+        unwind_context: &mut UnwindContext<P::GimliUnwindContextStorage>,
+        relative_address: u32,
+        is_first_frame: bool,
+        regs: &mut A::UnwindRegs,
+        read_stack: &mut F,
+    ) -> Result<UnwindResult<A::UnwindRule>, UnwinderError>
+    where
+        F: FnMut(u64) -> Result<u64, ()>,
+        requires { F.IsAlwaysCallable read_stack.old }
+        ensures callable { F.IsAlwaysCallable read_stack.new }
+        ensures written { WritesWithAddress (A.step_advances is_first_frame) result regs.old regs.new }
+        ensures executable { RuleHas (λ rule. IsTrue (A.UnwindRule.executable rule)) result }
+        ensures memory { result ≡ Err out_of_memory → takes_memory_by P.policy self.now relative_address ≡ true }
+        ensures told { result ≢ Err out_of_memory → TellsAnswer
+            (answer_by (record { rows = record { translated = A.translated; uncovered = A.uncovered; direct = A.direct } })
+            P.policy self.now relative_address is_first_frame) result }
+        ensures answers { (memory : Memory) → AnswersAs F.FnMut read_stack.old memory
+            → AnswersAs F.FnMut read_stack.new memory
+            × (result ≢ Err out_of_memory → TellsValues
+            (answer_by (record { rows = record { translated = A.translated; uncovered = A.uncovered; direct = A.direct } })
+            P.policy self.now relative_address is_first_frame) regs.old memory result regs.new) }
+    {
+        match &*self.unwind_data {
+            ModuleUnwindDataInternal::EhFrameHdrAndEhFrame {
+                eh_frame_hdr,
+                eh_frame,
+                base_addresses,
+                base_svma,
+            } => unwind_frame_by_header::<A, P, F>(
+                eh_frame_hdr.bytes(),
+                eh_frame.bytes(),
+                *base_addresses,
+                *base_svma,
+                alloc,
+                unwind_context,
+                relative_address,
+                is_first_frame,
+                regs,
+                read_stack,
+            ),
+            ModuleUnwindDataInternal::DwarfCfiIndexAndFrames(frames) => frames
+                .unwind_frame::<A, P, F>(
+                    alloc,
+                    unwind_context,
+                    relative_address,
+                    is_first_frame,
+                    regs,
+                    read_stack,
+                ),
+            ModuleUnwindDataInternal::None => Err(UnwinderError::NoModuleUnwindData),
+        }
+    }
+}
+
+/// What the modules give for a frame.
+enum FrameAnswer<R> {
+    /// A rule, which can be stored.
+    Rule(R),
+    /// The return address (AVMA); the caller's registers are written.
+    Computed(u64),
+    /// Values that registers or stack words don't allow to compute.
+    NotComputed,
+}
+
+// a module's answer, with the fallback rule where the module's bytes give none
+fn frame_answer<R: UnwindRule>(
+    told: Result<UnwindResult<R>, UnwinderError>,
+) -> Result<FrameAnswer<R>, Error>
+    ensures { IsAnswerOf R.fallback told result }
+{
+    match told {
+        Ok(UnwindResult::ExecRule(rule)) => Ok(FrameAnswer::Rule(rule)),
+        Ok(UnwindResult::Uncacheable(return_address)) => Ok(FrameAnswer::Computed(return_address)),
+        Err(error) => {
+            if is_out_of_memory(&error) {
+                return Err(Error::OutOfMemory);
+            }
+            if is_of_values(&error) {
+                return Ok(FrameAnswer::NotComputed);
+            }
+            Ok(FrameAnswer::Rule(R::fallback_rule()))
+        }
     }
 }
 
@@ -610,15 +1105,16 @@ impl<D: SectionBytes + Drop, A: Unwinding, P: AllocationPolicy> UnwinderInternal
         }
     }
 
-    // the covering module of an address: its index, and the relative address
-    fn find_module_for_address(&self, address: u64) -> Option<(usize, u32)>
+    // the covering module of an address, and the relative address
+    fn find_module_for_address(&self, address: u64) -> Option<(&Module<D>, u32)>
         ensures { MatchOption result (covering self.now.modules address ≡ None)
-            (λ found. (m : ModuleView) × (covering self.now.modules address ≡ Some m)
-            × (slice_get self.now.modules found.0 ≡ Some m) × (found.1 ≡ address - m.base_avma)) }
+            (λ found. (covering self.now.modules address ≡ Some found.0.now)
+            × (found.1 ≡ address - found.0.now.base_avma)) }
     {
         let index = self.place_behind(address).checked_sub(1)?;
-        let relative_address = self.modules[index].relative_address(address)?;
-        Some((index, relative_address))
+        let module = &self.modules[index];
+        let relative_address = module.relative_address(address)?;
+        Some((module, relative_address))
     }
 
     // looks for the rule of a frame in the cache
@@ -639,16 +1135,86 @@ impl<D: SectionBytes + Drop, A: Unwinding, P: AllocationPolicy> UnwinderInternal
         )
     }
 
-    // the rule of an address by the modules' unwind data, else the fallback rule
-    fn rule_for_address(&self, lookup_address: u64, is_first_frame: bool) -> A::UnwindRule
-        ensures fresh { fresh (A.unwinding P.policy) self.now.modules lookup_address is_first_frame ≡ by_rule result }
-        ensures runnable { A.UnwindRule.executable result ≡ true }
+    // unwinds a frame by the unwind data of the module that covers it, else by the fallback rule
+    fn unwind_frame_by_modules<F>(
+        &self,
+        lookup_address: u64,
+        is_first_frame: bool,
+        regs: &mut A::UnwindRegs,
+        cache: &mut Cache<A::UnwindRule, P>,
+        read_stack: &mut F,
+    ) -> Result<FrameAnswer<A::UnwindRule>, Error>
+    where
+        F: FnMut(u64) -> Result<u64, ()>,
+        requires { F.IsAlwaysCallable read_stack.old }
+        ensures callable { F.IsAlwaysCallable read_stack.new }
+        ensures kept { cache.new ≡ cache.old }
+        ensures refused { IfErr result (λ error. (error ≡ Error.OutOfMemory) × (regs.new ≡ regs.old)
+            × TakesMemory (A.unwinding P.policy) self.now.modules lookup_address) }
+        ensures written { IfOk result (λ answer. WritesComputed (A.step_advances is_first_frame) answer regs.old regs.new) }
+        ensures executable { IfOk result (AnswerHas (λ rule. A.UnwindRule.executable rule ≡ true)) }
+        ensures told { IfOk result (TellsFresh (fresh (A.unwinding P.policy) self.now.modules lookup_address is_first_frame)) }
+        ensures answers { (memory : Memory) → AnswersAs F.FnMut read_stack.old memory
+            → AnswersAs F.FnMut read_stack.new memory
+            × IfOk result (λ answer. TellsFreshValues (fresh (A.unwinding P.policy) self.now.modules lookup_address is_first_frame) regs.old memory answer regs.new) }
     {
-        match self.find_module_for_address(lookup_address) {
-            None => A::UnwindRule::fallback_rule(),
-            Some((index, _relative_address)) => match *self.modules[index].unwind_data {
-                ModuleUnwindDataInternal::None(_) => A::UnwindRule::fallback_rule(),
-            },
+        let Some((module, relative_address)) = self.find_module_for_address(lookup_address) else {
+            return Ok(FrameAnswer::Rule(A::UnwindRule::fallback_rule()));
+        };
+        frame_answer(module.unwind_frame::<A, P, F>(
+            *self.modules.allocator(),
+            &mut cache.gimli_unwind_context,
+            relative_address,
+            is_first_frame,
+            regs,
+            read_stack,
+        ))
+    }
+
+    // unwinds a frame whose rule is not in the cache
+    fn unwind_uncached<F>(
+        &self,
+        handle: CacheHandle,
+        lookup_address: u64,
+        is_first_frame: bool,
+        regs: &mut A::UnwindRegs,
+        cache: &mut Cache<A::UnwindRule, P>,
+        read_stack: &mut F,
+    ) -> Result<Option<u64>, Error>
+    where
+        F: FnMut(u64) -> Result<u64, ()>,
+        requires { F.IsAlwaysCallable read_stack.old }
+        ensures callable { F.IsAlwaysCallable read_stack.new }
+        ensures kept { MatchResult result
+            (λ answer. IfNone answer (regs.new ≡ regs.old))
+            (λ _. regs.new ≡ regs.old) }
+        ensures advances { IfOk result (λ answer. OnSome answer (A.step_advances is_first_frame regs.old regs.new)) }
+        ensures may_run_out { result ≡ Err Error.OutOfMemory → TakesMemory (A.unwinding P.policy) self.now.modules lookup_address }
+        ensures stored { result ≢ Err Error.OutOfMemory → cache.new ≡ record cache.old {
+          sets = sets_after_miss cache.old.sets handle (fresh (A.unwinding P.policy) self.now.modules lookup_address is_first_frame);
+        } }
+        ensures not_stored { result ≡ Err Error.OutOfMemory → cache.new ≡ cache.old }
+        ensures answers { (memory : Memory) → AnswersAs F.FnMut read_stack.old memory
+            → AnswersAs F.FnMut read_stack.new memory
+            × (result ≢ Err Error.OutOfMemory →
+            let outcome = outcome_of (A.unwinding P.policy) (fresh (A.unwinding P.policy) self.now.modules lookup_address is_first_frame) is_first_frame regs.old memory in
+            (result ≡ answer_of outcome) × (regs.new ≡ registers_after regs.old outcome)) }
+    {
+        match self.unwind_frame_by_modules(
+            lookup_address,
+            is_first_frame,
+            regs,
+            cache,
+            read_stack,
+        )? {
+            FrameAnswer::Rule(rule) => {
+                cache.insert(handle, rule);
+                rule.exec(is_first_frame, regs, read_stack)
+            }
+            FrameAnswer::Computed(return_address) => Ok(Some(return_address)),
+            FrameAnswer::NotComputed => {
+                A::UnwindRule::fallback_rule().exec(is_first_frame, regs, read_stack)
+            }
         }
     }
 }
@@ -743,11 +1309,14 @@ impl<D: SectionBytes + Drop, A: Unwinding, P: AllocationPolicy> Unwinder
         let is_first_frame = !address.is_return_address();
         match self.lookup_rule(address, cache) {
             CacheResult::Hit(rule) => rule.exec(is_first_frame, regs, read_stack),
-            CacheResult::Miss(handle) => {
-                let rule = self.rule_for_address(address.address_for_lookup(), is_first_frame);
-                cache.insert(handle, rule);
-                rule.exec(is_first_frame, regs, read_stack)
-            }
+            CacheResult::Miss(handle) => self.unwind_uncached(
+                handle,
+                address.address_for_lookup(),
+                is_first_frame,
+                regs,
+                cache,
+                read_stack,
+            ),
         }
     }
 }

@@ -3,10 +3,9 @@ use Rattle.std.proofs.Common.{◌≡◌, ℕ, Bool, true, false, None, refl}
 use Rattle.framehop_core.specs.X86_64.Registers.{Registers}
 use Rattle.framehop_core.specs.X86_64.Rules.{outcome}
 use Rattle.framehop_core.specs.declared.x86_64.unwind_rule.UnwindRuleX86_64.TheVariants.{UseFramePointer}
-use Rattle.framehop.specs.Modules.{UnwindData, no_unwind_data}
 use Rattle.framehop.specs.Policy.{Policy}
-use Rattle.framehop.specs.Unwinding.{GivesNothingWithoutData, RisesAsSaid}
-use Rattle.framehop.specs.X86_64.{x86_64, data_answer}
+use Rattle.framehop.specs.Unwinding.{RisesAsSaid, answer_by, takes_memory_by}
+use Rattle.framehop.specs.X86_64.{x86_64, x86_64_words}
 
 pub outcome-is : (policy : Policy) → (x86_64 policy).outcome ≡ outcome
 unfolding x86_64
@@ -20,12 +19,13 @@ pub stack_pointer-is : (policy : Policy) → (x86_64 policy).stack_pointer ≡ (
 unfolding x86_64
 stack_pointer-is policy = refl
 
-no-answer : (known : UnwindData) (relative : ℕ) (first : Bool) → known ≡ no_unwind_data → data_answer known relative first ≡ None
-no-answer no_unwind_data relative first e = refl
-
-pub no-data : (policy : Policy) → GivesNothingWithoutData (x86_64 policy)
+pub answer-is : (policy : Policy) → (x86_64 policy).module_answer ≡ answer_by x86_64_words policy
 unfolding x86_64
-no-data policy = λ m relative first e. no-answer m.unwind_data relative first e
+answer-is policy = refl
+
+pub memory-is : (policy : Policy) → (x86_64 policy).takes_memory ≡ takes_memory_by policy
+unfolding x86_64
+memory-is policy = refl
 
 -- it is not said
 pub rises-as-said : (policy : Policy) → RisesAsSaid (x86_64 policy)

@@ -50,7 +50,8 @@ impl<D: SectionBytes + Drop, P: AllocationPolicy> UnwinderAarch64<D, P> {
 impl<D: SectionBytes + Drop, P: AllocationPolicy> Unwinder for UnwinderAarch64<D, P> {
     ghost use Rattle.framehop.specs.Fresh.{step};
     ghost use Rattle.framehop.specs.Soundness.{IsSound, Extends, MayRunOut, cache_after, cache_after_lookup};
-    ghost use Rattle.framehop.specs.Aarch64.{aarch64, Ascends};
+    ghost use Rattle.framehop_dwarf.specs.Aarch64.{Ascends};
+    ghost use Rattle.framehop.specs.Aarch64.{aarch64};
 
     type UnwindRegs = UnwindRegsAarch64;
 

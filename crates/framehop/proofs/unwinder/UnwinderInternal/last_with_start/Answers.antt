@@ -12,7 +12,7 @@ returns-then-module_start-start g c =
     let modules = c.args.self.now.modules in
     let last : c.in_ok-index.index + 1 ≡ c.place_behind.result = omega (arith, c.in_ok-index.ensures) in
     let within : c.in_ok-index.index < length modules = omega (arith, c.place_behind.ensures.within) in
-    let unread : ModuleView = record { name = []; start = 0; end = 0; base_avma = 0; base_svma = 0; unwind_data = no_unwind_data } in
+    let unread : ModuleView = record { name = []; start = 0; end = 0; base_avma = 0; unwind_data = no_unwind_data } in
     let found = start-at c.args.start modules c.place_behind.result c.place_behind.ensures.point c.in_ok-index.index unread last within (sym (c.module_start.ensures.start unread) ∙ c.if-module_start-start.true) in
     (within, found.0, found.1)
 

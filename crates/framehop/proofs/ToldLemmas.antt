@@ -1,0 +1,120 @@
+-- What a row's unwinding tells is what the call frame section gives.
+use Rattle.std.proofs.Common.{◌≡◌, ◌≢◌, ℕ, Bool, true, false, List, Option, Some, None, Result, Ok, Err, refl, sym, ap, subst}
+use Rattle.std.specs.Prelude.{MatchBool}
+use Rattle.framehop_core.specs.Memory.{Memory}
+use Rattle.framehop_core.specs.declared.unwind_result.UnwindResult.{UnwindResult}
+use Rattle.framehop_core.specs.declared.unwind_result.UnwindResult.TheVariants.{ExecRule, Uncacheable}
+use Rattle.framehop_cfi.specs.Row.{Row}
+use Rattle.framehop_cfi.specs.declared.read_error.ReadError.TheVariants.{OutOfMemory}
+use Rattle.framehop_dwarf.specs.Told.{no_memory, IsOfValues, TellsFound, TellsDirect}
+use Rattle.framehop_cfi.specs.Section.{Section}
+use Rattle.framehop_cfi.specs.declared.storage.StorageLimits.{StorageLimits}
+use Rattle.framehop_dwarf.specs.Unwinder.{Reading, unread, uncovered, by_row, reading_of, found_by, direct_by}
+use Rattle.framehop_dwarf.specs.declared.dwarf.DwarfUnwinderError.{DwarfUnwinderError}
+use Rattle.framehop_dwarf.specs.declared.dwarf.DwarfUnwinderError.TheVariants.{FdeFromOffsetFailed, UnwindInfoForAddressFailed, StackPointerMovedBackwards, DidNotAdvance, CouldNotRecoverCfa, CouldNotRecoverReturnAddress, CouldNotRecoverFramePointer}
+use Rattle.framehop.specs.Policy.{Policy}
+use Rattle.framehop.specs.Answer.{Fresh, by_rule, direct, values_of, fresh_of}
+use Rattle.framehop.specs.CallFrames.{RowWords, answer_of_reading, fde_answer}
+use Rattle.framehop.specs.Told.{is_of_row_values, is_of_values, TellsAnswer, TellsValues}
+use Rattle.framehop.specs.declared.unwinder.UnwinderError.{UnwinderError}
+use Rattle.framehop.specs.declared.unwinder.UnwinderError.TheVariants.{Dwarf}
+
+-- an error in a result, or another one
+error-in : {A E : Type 0} → E → Result A E → E
+error-in other (Ok x) = other
+error-in other (Err error) = error
+
+pub err-same : {A E : Type 0} (a b : E) → ◌≡◌ {A = Result A E} (Err a) (Err b) → a ≡ b
+err-same a b e = cc
+
+-- the refusals of values, but for out of memory
+values-refused : (error : DwarfUnwinderError) → error ≢ no_memory → IsOfValues error → is_of_row_values error ≡ true
+values-refused (FdeFromOffsetFailed e) some of = absurd of
+values-refused (UnwindInfoForAddressFailed e) some of = absurd (some (ap UnwindInfoForAddressFailed of))
+values-refused StackPointerMovedBackwards some of = refl
+values-refused DidNotAdvance some of = refl
+values-refused CouldNotRecoverCfa some of = refl
+values-refused CouldNotRecoverReturnAddress some of = refl
+values-refused CouldNotRecoverFramePointer some of = refl
+
+where-true : {P : Type 0} (Q : Type 0) (b : Bool) → b ≡ true → P → MatchBool b P Q
+where-true Q true e p = p
+where-true Q false e p = cc
+
+either-way : {P : Type 0} (b : Bool) → P → MatchBool b P (Unit {0})
+either-way true p = p
+either-way false p = tt
+
+module _ {Rule Regs : Type 0} (words : RowWords Rule Regs) (policy : Policy) (bytes : List ℕ) (first : Bool) where
+  abbrev Gives : Reading → Option (Fresh Rule Regs)
+  Gives reading = answer_of_reading words policy bytes first reading
+
+  abbrev Finds : Reading → Result (UnwindResult Rule) DwarfUnwinderError → Type 0
+  Finds reading result = TellsFound (found_by words.translated words.uncovered reading) result
+
+  row-err-told : (translated : Option Rule) (compute : Regs → Memory → Result (ℕ × Regs) DwarfUnwinderError) (error : DwarfUnwinderError) → error ≢ no_memory → TellsFound (Ok translated) (Err error) → TellsAnswer (fresh_of (Ok translated) compute) (Err (Dwarf error))
+  row-err-told (Some rule) compute error some told = cc
+  row-err-told None compute error some told = where-true _ (is_of_row_values error) (values-refused error some told) tt
+
+  pub err-told : (reading : Reading) (error : DwarfUnwinderError) → error ≢ no_memory → Finds reading (Err error) → TellsAnswer (Gives reading) (Err (Dwarf error))
+  unfolding error-in
+  err-told (unread e) error some told =
+      let same : error ≡ FdeFromOffsetFailed e = ap (error-in error) told in
+      subst (λ (x : DwarfUnwinderError). TellsAnswer (Gives (unread e)) (Err (Dwarf x))) (sym same) refl
+  err-told uncovered error some told = cc
+  err-told (by_row row) error some told = row-err-told (words.translated row) _ error some told
+
+  module _ (memory : Memory) (old new : Regs) where
+    abbrev Computes : Reading → Result (ℕ × Regs) DwarfUnwinderError
+    Computes reading = direct_by (λ row. words.direct bytes policy.values memory row first old) reading
+
+    row-err-values : (translated : Option Rule) (compute : Regs → Memory → Result (ℕ × Regs) DwarfUnwinderError) (error : DwarfUnwinderError) → TellsFound (Ok translated) (Err error) → compute old memory ≡ Err error → TellsValues (fresh_of (Ok translated) compute) old memory (Err (Dwarf error)) new
+    row-err-values (Some rule) compute error told is = cc
+    row-err-values None compute error told is = either-way (is_of_row_values error) (ap values_of is)
+
+    pub err-values : (reading : Reading) (error : DwarfUnwinderError) → error ≢ no_memory → Finds reading (Err error) → TellsDirect {R = Rule} (Computes reading) (Err error) new → TellsValues (Gives reading) old memory (Err (Dwarf error)) new
+    err-values (unread e) error some told is = either-way (is_of_row_values error) refl
+    err-values uncovered error some told is = cc
+    err-values (by_row row) error some told is = row-err-values (words.translated row) _ error told (is some)
+
+    row-ok-values : (translated : Option Rule) (compute : Regs → Memory → Result (ℕ × Regs) DwarfUnwinderError) (address : ℕ) → TellsFound (Ok translated) (Ok (Uncacheable address)) → compute old memory ≡ Ok (address, new) → TellsValues (fresh_of (Ok translated) compute) old memory (Ok (Uncacheable address)) new
+    row-ok-values (Some rule) compute address told is = cc
+    row-ok-values None compute address told is = ap values_of is
+
+    pub ok-values : (reading : Reading) (found : UnwindResult Rule) → Finds reading (Ok found) → TellsDirect {R = Rule} (Computes reading) (Ok found) new → TellsValues (Gives reading) old memory (Ok found) new
+    ok-values reading (ExecRule rule) told is = tt
+    ok-values (unread e) (Uncacheable address) told is = cc
+    ok-values uncovered (Uncacheable address) told is = cc
+    ok-values (by_row row) (Uncacheable address) told is = row-ok-values (words.translated row) _ address told is
+
+-- the same of the FDE at an offset, by the limits of a policy
+module _ {Rule Regs : Type 0} (words : RowWords Rule Regs) (policy : Policy) (section : Section) (address : ℕ) (first : Bool) (offset : ℕ) (rows : Option StorageLimits) (values : Option ℕ) (same_rows : policy.rows ≡ rows) (same_values : policy.values ≡ values) where
+  abbrev Found : Result (UnwindResult Rule) DwarfUnwinderError → Type 0
+  Found result = TellsFound (found_by words.translated words.uncovered (reading_of rows section address offset)) result
+
+  same-found : (result : Result (UnwindResult Rule) DwarfUnwinderError) → Found result → TellsFound (found_by words.translated words.uncovered (reading_of policy.rows section address offset)) result
+  same-found result told =
+      subst (λ (limits : Option StorageLimits). TellsFound (found_by words.translated words.uncovered (reading_of limits section address offset)) result) (sym same_rows) told
+
+  pub fde-err-told : (error : DwarfUnwinderError) → error ≢ no_memory → Found (Err error) → TellsAnswer (fde_answer words policy section address first offset) (Err (Dwarf error))
+  unfolding fde_answer
+  fde-err-told error some told = err-told words policy section.bytes first _ error some (same-found (Err error) told)
+
+  module _ (memory : Memory) (old new : Regs) where
+    abbrev Direct : Option StorageLimits → Option ℕ → Result (ℕ × Regs) DwarfUnwinderError
+    Direct limits most = direct_by (λ row. words.direct section.bytes most memory row first old) (reading_of limits section address offset)
+
+    same-direct : (result : Result (UnwindResult Rule) DwarfUnwinderError) → TellsDirect {R = Rule} (Direct rows values) result new → TellsDirect {R = Rule} (Direct policy.rows policy.values) result new
+    same-direct result told =
+        subst (λ (limits : Option StorageLimits). TellsDirect {R = Rule} (Direct limits policy.values) result new) (sym same_rows)
+        (subst (λ (most : Option ℕ). TellsDirect {R = Rule} (Direct rows most) result new) (sym same_values) told)
+
+    pub fde-err-values : (error : DwarfUnwinderError) → error ≢ no_memory → Found (Err error) → TellsDirect {R = Rule} (Direct rows values) (Err error) new → TellsValues (fde_answer words policy section address first offset) old memory (Err (Dwarf error)) new
+    unfolding fde_answer
+    fde-err-values error some told is =
+        err-values words policy section.bytes first memory old new _ error some (same-found (Err error) told) (same-direct (Err error) is)
+
+    pub fde-ok-values : (found : UnwindResult Rule) → Found (Ok found) → TellsDirect {R = Rule} (Direct rows values) (Ok found) new → TellsValues (fde_answer words policy section address first offset) old memory (Ok found) new
+    unfolding fde_answer
+    fde-ok-values found told is =
+        ok-values words policy section.bytes first memory old new _ found (same-found (Ok found) told) (same-direct (Ok found) is)

@@ -1,0 +1,60 @@
+-- Values that a module's unwind data gives are those of a row.
+use Rattle.std.proofs.Common.{◌≡◌, ℕ, ◌+◌, Bool, List, Option, Some, None, Result, Ok, Err, refl, ap, ◌∙◌}
+use Rattle.std.specs.Option.{option_and_then}
+use Rattle.framehop_core.specs.Memory.{Memory}
+use Rattle.framehop_cfi.specs.Row.{Row}
+use Rattle.framehop_dwarf.specs.Unwinder.{Reading, unread, uncovered, by_row, reading_of, direct_by, found_by}
+use Rattle.framehop_dwarf.specs.declared.dwarf.DwarfUnwinderError.{DwarfUnwinderError}
+use Rattle.framehop.specs.Policy.{Policy}
+use Rattle.framehop.specs.Answer.{Fresh, by_rule, direct, values_of, fresh_of}
+use Rattle.framehop.specs.CallFrames.{RowWords, CallFrames, answer_of_reading, fde_answer, frames_answer, fde_offset_of}
+use Rattle.framehop.specs.Modules.{ModuleView, UnwindData, no_unwind_data, call_frames}
+use Rattle.framehop.specs.Unwinding.{Words, data_answer, answer_by}
+
+-- the values are those of a row
+pub record AreOfRow {Rule Regs : Type 0} (words : RowWords Rule Regs) (policy : Policy) (first : Bool) (old : Regs)
+    (memory : Memory) (values : ℕ × Regs) : Type 0 where
+  pub bytes : List ℕ
+  pub row : Row
+  pub direct_is : words.direct bytes policy.values memory row first old ≡ Ok values
+
+ok-values : {A E : Type 0} (result : Result A E) (values : A) → values_of result ≡ Some values → result ≡ Ok values
+ok-values (Ok x) values e = cc
+ok-values (Err error) values e = cc
+
+module _ {Rule Regs : Type 0} where
+  compute-in : Option (Fresh Rule Regs) → Regs → Memory → Option (ℕ × Regs)
+  compute-in None old memory = None
+  compute-in (Some (by_rule rule)) old memory = None
+  compute-in (Some (direct compute)) old memory = compute old memory
+
+  of-found : {E : Type 0} (found : Result (Option Rule) E) (compute' : Regs → Memory → Result (ℕ × Regs) E) (compute : Regs → Memory → Option (ℕ × Regs)) (old : Regs) (memory : Memory) (values : ℕ × Regs) → fresh_of found compute' ≡ Some (direct compute) → compute old memory ≡ Some values → compute' old memory ≡ Ok values
+  unfolding compute-in
+  of-found (Err error) compute' compute old memory values e is = cc
+  of-found (Ok (Some rule)) compute' compute old memory values e is = cc
+  of-found (Ok None) compute' compute old memory values e is =
+      ok-values (compute' old memory) values (ap (λ answer. compute-in answer old memory) e ∙ is)
+
+  module _ (words : RowWords Rule Regs) (policy : Policy) (first : Bool) (old : Regs) (memory : Memory) (values : ℕ × Regs) where
+    of-reading : (bytes : List ℕ) (reading : Reading) → direct_by (λ row. words.direct bytes policy.values memory row first old) reading ≡ Ok values → AreOfRow words policy first old memory values
+    of-reading bytes (unread error) e = cc
+    of-reading bytes uncovered e = cc
+    of-reading bytes (by_row row) e = record { bytes = bytes; row = row; direct_is = e }
+
+    of-offset : (frames : CallFrames) (relative : ℕ) (offset : Option ℕ) (compute : Regs → Memory → Option (ℕ × Regs)) → option_and_then (fde_answer words policy frames.section (frames.base_svma + relative) first) offset ≡ Some (direct compute) → compute old memory ≡ Some values → AreOfRow words policy first old memory values
+    unfolding fde_answer
+    of-offset frames relative None compute e is = cc
+    of-offset frames relative (Some offset) compute e is =
+        let reading = reading_of policy.rows frames.section (frames.base_svma + relative) offset in
+        of-reading frames.section.bytes reading
+        (of-found (found_by words.translated words.uncovered reading) _ compute old memory values e is)
+
+  of-data : (words : Words Rule Regs) (policy : Policy) (known : UnwindData) (relative : ℕ) (first : Bool) (compute : Regs → Memory → Option (ℕ × Regs)) → data_answer words policy known relative first ≡ Some (direct compute) → (old : Regs) (memory : Memory) (values : ℕ × Regs) → compute old memory ≡ Some values → AreOfRow words.rows policy first old memory values
+  of-data words policy no_unwind_data relative first compute e old memory values is = cc
+  of-data words policy (call_frames frames) relative first compute e old memory values is =
+      of-offset words.rows policy first old memory values frames relative (fde_offset_of frames relative) compute e is
+
+  pub values-read : (words : Words Rule Regs) (policy : Policy) (m : ModuleView) (relative : ℕ) (first : Bool) (compute : Regs → Memory → Option (ℕ × Regs)) → answer_by words policy m relative first ≡ Some (direct compute) → (old : Regs) (memory : Memory) (values : ℕ × Regs) → compute old memory ≡ Some values → AreOfRow words.rows policy first old memory values
+  unfolding answer_by
+  values-read words policy m relative first compute e old memory values is =
+      of-data words policy m.unwind_data relative first compute e old memory values is

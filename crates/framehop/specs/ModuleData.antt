@@ -1,0 +1,91 @@
+-- The unwind data of a module, from the table of its sections (framehop 0.16.0, `Module::new`).
+use Rattle.std.specs.Prelude.{ℕ, List, codes, Option, Some, None, Result, Ok, Err}
+use Rattle.framehop_cfi.specs.Section.{Section}
+use Rattle.framehop_cfi.specs.SectionTable.{SectionTable, data_of, without_data}
+use Rattle.framehop_cfi.specs.declared.entry.UnwindSectionType.TheVariants.{EhFrame, DebugFrame}
+use Rattle.framehop_dwarf.specs.Bases.{base_addresses_of, section_in}
+use Rattle.framehop_dwarf.specs.Index.{pairs_of}
+use Rattle.framehop_dwarf.specs.declared.index.DwarfCfiIndexError.{DwarfCfiIndexError}
+use Rattle.framehop.specs.CallFrames.{CallFrames, frames_with_header}
+use Rattle.framehop.specs.Modules.{UnwindData, no_unwind_data, call_frames}
+
+-- what is found under a name, and the table that is left: data is handed out once
+pub record Asked (D : Type 0) : Type 0 where
+  pub found : Option D
+  pub left : SectionTable D
+
+abbrev pub ask : {D : Type 0} → List ℕ → SectionTable D → Asked D
+ask name table = record {
+  found = data_of name table.sections;
+  left = record table { sections = without_data name table.sections };
+}
+
+-- the first, if it has found something, else the second
+abbrev pub or_second : {D : Type 0} → Option D → Asked D → Asked D → Asked D
+or_second (Some bytes) first second = first
+or_second None first second = second
+
+-- the same under the second name, where nothing is found under the first
+abbrev pub ask_either : {D : Type 0} → List ℕ → List ℕ → SectionTable D → Asked D
+ask_either first second table =
+    let asked = ask first table in
+    or_second asked.found asked (ask second asked.left)
+
+-- a call frame section without a header has an index of its FDEs, or else is of no use
+abbrev pub indexed : Result (List (ℕ × ℕ)) DwarfCfiIndexError → CallFrames → UnwindData
+indexed (Ok pairs) frames = call_frames frames
+indexed (Err error) frames = no_unwind_data
+
+abbrev pub with_index : Section → ℕ → UnwindData
+with_index section base_svma =
+    indexed (pairs_of section base_svma) (record { section = section; header = None; base_svma = base_svma })
+
+module _ {D : Type 0} (contents : D → List ℕ) where
+  -- `.eh_frame`, with `.eh_frame_hdr` where there is one
+  abbrev pub eh_frame_data : D → Option D → SectionTable D → UnwindData
+  eh_frame_data eh_frame (Some header) table =
+      call_frames (frames_with_header (contents header) (contents eh_frame) (base_addresses_of table.sections)
+      table.base_svma)
+  eh_frame_data eh_frame None table = with_index (section_in EhFrame table (contents eh_frame)) table.base_svma
+
+  abbrev pub with_eh_frame : D → SectionTable D → UnwindData
+  with_eh_frame eh_frame table =
+      let header = ask_either (codes ".eh_frame_hdr") (codes "__eh_frame_hdr") table in
+      eh_frame_data eh_frame header.found header.left
+
+  -- `.debug_frame`
+  abbrev pub debug_frame_data : Option D → SectionTable D → UnwindData
+  debug_frame_data (Some debug_frame) table =
+      with_index (section_in DebugFrame table (contents debug_frame)) table.base_svma
+  debug_frame_data None table = no_unwind_data
+
+  -- `.eh_frame`, else `.debug_frame`
+  abbrev pub by_eh_frame : Option D → SectionTable D → UnwindData
+  by_eh_frame (Some eh_frame) table = with_eh_frame eh_frame table
+  by_eh_frame None table =
+      let debug_frame = ask (codes ".debug_frame") table in
+      debug_frame_data debug_frame.found debug_frame.left
+
+  abbrev pub call_frame_data : SectionTable D → UnwindData
+  call_frame_data table =
+      let eh_frame = ask_either (codes ".eh_frame") (codes "__eh_frame") table in
+      by_eh_frame eh_frame.found eh_frame.left
+
+  -- `.pdata`, else the call frame sections
+  abbrev pub by_pdata : Option D → SectionTable D → UnwindData
+  by_pdata (Some pdata) table = no_unwind_data
+  by_pdata None table = call_frame_data table
+
+  abbrev pub pdata_data : SectionTable D → UnwindData
+  pdata_data table = let pdata = ask (codes ".pdata") table in by_pdata pdata.found pdata.left
+
+  -- `__unwind_info`, else the others
+  abbrev pub by_unwind_info : Option D → SectionTable D → UnwindData
+  by_unwind_info (Some unwind_info) table = no_unwind_data
+  by_unwind_info None table = pdata_data table
+
+  -- The unwind data of a module with this table: the first that there is.
+  unfoldable pub unwind_data_in : SectionTable D → UnwindData
+  unwind_data_in table =
+      let unwind_info = ask (codes "__unwind_info") table in
+      by_unwind_info unwind_info.found unwind_info.left

@@ -1,0 +1,113 @@
+-- What unwinding by the data of a module has told, against what the data gives.
+use Rattle.std.specs.Prelude.{◌≡◌, ◌≢◌, ℕ, Bool, true, false, MatchBool, Option, Some, None, Result, Ok, Err}
+use Rattle.framehop_core.specs.Memory.{Memory}
+use Rattle.framehop_core.specs.declared.unwind_result.UnwindResult.{UnwindResult}
+use Rattle.framehop_core.specs.declared.unwind_result.UnwindResult.TheVariants.{ExecRule, Uncacheable}
+use Rattle.framehop_cfi.specs.declared.read_error.ReadError.TheVariants.{OutOfMemory}
+use Rattle.framehop_dwarf.specs.declared.dwarf.DwarfUnwinderError.{DwarfUnwinderError}
+use Rattle.framehop_dwarf.specs.declared.dwarf.DwarfUnwinderError.TheVariants.{FdeFromOffsetFailed, UnwindInfoForAddressFailed, StackPointerMovedBackwards, DidNotAdvance, CouldNotRecoverCfa, CouldNotRecoverReturnAddress, CouldNotRecoverFramePointer}
+use Rattle.framehop_core.specs.declared.error.Error.{Error}
+use Rattle.framehop_core.specs.declared.error.Error.TheVariants.{OutOfMemory as NoMemory}
+use Rattle.framehop.specs.Answer.{Fresh, by_rule, direct}
+use Rattle.framehop.specs.declared.unwinder.UnwinderError.{UnwinderError}
+use Rattle.framehop.specs.declared.unwinder.UnwinderError.TheVariants.{Dwarf, NoModuleUnwindData, EhFrameHdrCouldNotFindAddress, DwarfCfiIndexCouldNotFindAddress}
+use Rattle.framehop.specs.declared.unwinder.FrameAnswer.{FrameAnswer}
+use Rattle.framehop.specs.declared.unwinder.FrameAnswer.TheVariants.{Rule, Computed, NotComputed}
+
+-- out of memory
+abbrev pub out_of_memory : UnwinderError
+out_of_memory = Dwarf (UnwindInfoForAddressFailed OutOfMemory)
+
+-- the refusals of values, which registers and memory decide; the bytes decide the others, but for out of memory
+abbrev pub is_of_row_values : DwarfUnwinderError → Bool
+is_of_row_values (FdeFromOffsetFailed error) = false
+is_of_row_values (UnwindInfoForAddressFailed error) = false
+is_of_row_values StackPointerMovedBackwards = true
+is_of_row_values DidNotAdvance = true
+is_of_row_values CouldNotRecoverCfa = true
+is_of_row_values CouldNotRecoverReturnAddress = true
+is_of_row_values CouldNotRecoverFramePointer = true
+
+abbrev pub is_of_values : UnwinderError → Bool
+is_of_values (Dwarf error) = is_of_row_values error
+is_of_values NoModuleUnwindData = false
+is_of_values EhFrameHdrCouldNotFindAddress = false
+is_of_values DwarfCfiIndexCouldNotFindAddress = false
+
+-- values are to be computed
+abbrev pub IsDirect : {Rule Regs : Type 0} → Option (Fresh Rule Regs) → Type 0
+IsDirect None = ⊥
+IsDirect (Some (by_rule rule)) = ⊥
+IsDirect (Some (direct compute)) = Unit {0}
+
+-- the values, if there are any
+abbrev pub values_in : {Rule Regs : Type 0} → Option (Fresh Rule Regs) → Regs → Memory → Option (ℕ × Regs)
+values_in None regs memory = None
+values_in (Some (by_rule rule)) regs memory = None
+values_in (Some (direct compute)) regs memory = compute regs memory
+
+-- what is told whatever the callback replies: the rule, that values are computed, or that there is nothing
+abbrev pub TellsAnswer : {Rule Regs : Type 0} → Option (Fresh Rule Regs) → Result (UnwindResult Rule) UnwinderError
+    → Type 0
+TellsAnswer answer (Ok (ExecRule rule)) = answer ≡ Some (by_rule rule)
+TellsAnswer answer (Ok (Uncacheable address)) = IsDirect answer
+TellsAnswer answer (Err error) = MatchBool (is_of_values error) (IsDirect answer) (answer ≡ None)
+
+-- the values over memory, or that there are none
+abbrev pub TellsValues : {Rule Regs : Type 0} → Option (Fresh Rule Regs) → Regs → Memory
+    → Result (UnwindResult Rule) UnwinderError → Regs → Type 0
+TellsValues answer old memory (Ok (ExecRule rule)) new = Unit {0}
+TellsValues answer old memory (Ok (Uncacheable address)) new = values_in answer old memory ≡ Some (address, new)
+TellsValues answer old memory (Err error) new =
+    MatchBool (is_of_values error) (values_in answer old memory ≡ None) (Unit {0})
+
+-- registers are written only with an address that is computed, and advance then
+abbrev pub WritesWithAddress : {Rule Regs E : Type 0} → (Regs → Regs → Type 0) → Result (UnwindResult Rule) E → Regs
+    → Regs → Type 0
+WritesWithAddress Advances (Ok (ExecRule rule)) old new = new ≡ old
+WritesWithAddress Advances (Ok (Uncacheable address)) old new = Advances old new
+WritesWithAddress Advances (Err error) old new = new ≡ old
+
+-- a fact of the rule that is told
+abbrev pub RuleHas : {Rule E : Type 0} → (Rule → Type 0) → Result (UnwindResult Rule) E → Type 0
+RuleHas P (Ok (ExecRule rule)) = P rule
+RuleHas P (Ok (Uncacheable address)) = Unit {0}
+RuleHas P (Err error) = Unit {0}
+
+-- ---- with the fallback rule where there is nothing
+
+-- what is made of a refusal: out of memory is answered, values that can't be computed are told, and where the bytes give
+-- nothing it is the fallback rule
+pub data IsMadeOf {R : Type 0} (fallback : R) (error : UnwinderError)
+    (answer : Result (FrameAnswer R) Error) : Type 0 where
+  no_memory : error ≡ out_of_memory → answer ≡ Err NoMemory → IsMadeOf fallback error answer
+  no_values : error ≢ out_of_memory → is_of_values error ≡ true → answer ≡ Ok NotComputed
+      → IsMadeOf fallback error answer
+  nothing : error ≢ out_of_memory → is_of_values error ≡ false → answer ≡ Ok (Rule fallback)
+      → IsMadeOf fallback error answer
+
+abbrev pub IsAnswerOf : {R : Type 0} → R → Result (UnwindResult R) UnwinderError → Result (FrameAnswer R) Error → Type 0
+IsAnswerOf fallback (Ok (ExecRule rule)) answer = answer ≡ Ok (Rule rule)
+IsAnswerOf fallback (Ok (Uncacheable address)) answer = answer ≡ Ok (Computed address)
+IsAnswerOf fallback (Err error) answer = IsMadeOf fallback error answer
+
+-- what is told of the modules' answer for an address
+abbrev pub TellsFresh : {Rule Regs : Type 0} → Fresh Rule Regs → FrameAnswer Rule → Type 0
+TellsFresh answer (Rule rule) = answer ≡ by_rule rule
+TellsFresh answer (Computed address) = IsDirect (Some answer)
+TellsFresh answer NotComputed = IsDirect (Some answer)
+
+abbrev pub TellsFreshValues : {Rule Regs : Type 0} → Fresh Rule Regs → Regs → Memory → FrameAnswer Rule → Regs → Type 0
+TellsFreshValues answer old memory (Rule rule) new = Unit {0}
+TellsFreshValues answer old memory (Computed address) new = values_in (Some answer) old memory ≡ Some (address, new)
+TellsFreshValues answer old memory NotComputed new = values_in (Some answer) old memory ≡ None
+
+abbrev pub WritesComputed : {Rule Regs : Type 0} → (Regs → Regs → Type 0) → FrameAnswer Rule → Regs → Regs → Type 0
+WritesComputed Advances (Rule rule) old new = new ≡ old
+WritesComputed Advances (Computed address) old new = Advances old new
+WritesComputed Advances NotComputed old new = new ≡ old
+
+abbrev pub AnswerHas : {Rule : Type 0} → (Rule → Type 0) → FrameAnswer Rule → Type 0
+AnswerHas P (Rule rule) = P rule
+AnswerHas P (Computed address) = Unit {0}
+AnswerHas P NotComputed = Unit {0}
