@@ -6,7 +6,7 @@ use Rattle.framehop_core.specs.declared.aarch64.unwind_rule.UnwindRuleAarch64.{U
 use Rattle.framehop_analysis.specs.Answer.{IsOnly}
 use Rattle.framehop_analysis.specs.Aarch64.Words.{word_at, AreWordsAt, is_load, is_return, is_b, addressing, pair_offset}
 use Rattle.framehop_analysis.specs.Aarch64.Epilogue.{Places, at_pc, is_restoring, places_after, places_after_all, place_after_load, AllRestoring, IsAuthenticatedCall, IsEnd, returns, branches, calls, IsInsideCallAfter, IsRestored, IsRuleOfPlaces, IsRestOfEpilogue, IsEpilogueRule, restored, restores}
-use Rattle.framehop_analysis.proofs.Answers.{only-map}
+use Rattle.framehop_analysis.specs.Laws.Answer.{only-map}
 use Rattle.framehop_analysis.proofs.Aarch64Calls.{some-same, call-same, call-short, end-not-restoring}
 
 -- ---- ends

@@ -4,7 +4,7 @@ use Rattle.framehop_core.specs.declared.aarch64.unwind_rule.UnwindRuleAarch64.{U
 use Rattle.framehop_analysis.specs.Answer.{IsOnly}
 use Rattle.framehop_analysis.specs.Aarch64.Words.{word_at}
 use Rattle.framehop_analysis.specs.Aarch64.Prologue.{lowered, IsLongestRun, is_prologue_word, is_plain_store, IsRuleOfDepth, IsPrologueRule}
-use Rattle.framehop_analysis.proofs.Answers.{only-map}
+use Rattle.framehop_analysis.specs.Laws.Answer.{only-map}
 use Rattle.framehop_analysis.proofs.Aarch64Runs.{longest-same}
 
 some-same : (x y : ℕ) → Some x ≡ Some y → x ≡ y

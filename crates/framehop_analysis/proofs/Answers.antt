@@ -11,11 +11,6 @@ only-iff P None only x = (λ e. cc, λ p. absurd (only x p))
 only-iff {A} P (Some y) only x =
     (λ e. (let same : y ≡ x = some-same y x e in subst P same only.0), λ p. (let same : x ≡ y = only.1 x p in cc))
 
--- two facts that the same values meet
-pub only-map : {A : Type 0} (P Q : A → Type 0) (found : Option A) → ((x : A) → P x → Q x) → ((x : A) → Q x → P x) → IsOnly P found → IsOnly Q found
-only-map P Q None to from only = λ x q. only x (from x q)
-only-map P Q (Some y) to from only = (to y only.0, λ x q. only.1 x (from x q))
-
 -- what each value that meets the fact has, the answer has
 pub only-some : {A : Type 0} (P Q : A → Type 0) (found : Option A) → IsOnly P found → ((x : A) → P x → Q x) → IfSome found Q
 only-some P Q None only to = tt

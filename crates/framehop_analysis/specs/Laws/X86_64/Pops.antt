@@ -6,10 +6,7 @@ use Rattle.framehop_analysis.specs.Answer.{IsOnly}
 use Rattle.framehop_analysis.specs.X86_64.Bytes.{is_pop_opcode}
 use Rattle.framehop_analysis.specs.X86_64.Machine.{is_jump}
 use Rattle.framehop_analysis.specs.X86_64.Epilogue.{is_plain_pop, Pop, prefixed_pop, pop_of, pop_at, ArePops, Popped, none_popped, after_pop, after_pops, FollowsPop, IsEnd, returns, jumps, IsRuleOfPopped, IsRestOfEpilogue, IsEpilogueRule}
-use Rattle.framehop_analysis.proofs.Answers.{only-map}
-
-pub some-same : {A : Type 0} (x y : A) → Some x ≡ Some y → x ≡ y
-some-same x y e = cc
+use Rattle.framehop_analysis.specs.Laws.Answer.{only-map, some-same}
 
 pub eq-true : (m n : ℕ) → nat_eq m n ≡ true → m ≡ n
 eq-true m n e = grind (arith, nat_tests)

@@ -5,10 +5,7 @@ use Rattle.framehop_core.specs.declared.x86_64.unwind_rule.UnwindRuleX86_64.{Unw
 use Rattle.framehop_analysis.specs.Answer.{IsOnly}
 use Rattle.framehop_analysis.specs.X86_64.Bytes.{is_prefix, is_push}
 use Rattle.framehop_analysis.specs.X86_64.Prologue.{IsPush, plain, prefixed, IsPrefixBefore, IsPushBefore, ArePushes, AreLongestPushes, IsNext, IsRuleOfPushes, IsPrologueRule}
-use Rattle.framehop_analysis.proofs.Answers.{only-map}
-
-some-same : (x y : ℕ) → Some x ≡ Some y → x ≡ y
-some-same x y e = cc
+use Rattle.framehop_analysis.specs.Laws.Answer.{only-map, some-same}
 
 eq-true : (m n : ℕ) → nat_eq m n ≡ true → m ≡ n
 eq-true m n e = grind (arith, nat_tests)
