@@ -1,9 +1,7 @@
 mod Answers
 mod Offsets
-mod Aarch64Runs
 mod Aarch64Prologue
 mod Aarch64Undoes
-mod Aarch64Calls
 mod Aarch64Ends
 mod Aarch64Does
 mod X86_64Undoes

@@ -76,8 +76,10 @@ is-decidable None value = inr (λ e. cc)
 is-decidable (Some x) value = decidable-map (λ e. ap Some e) (some-same x value) (eq-decidable x value)
 
 -- there is a value, and it passes a test
-pub passes-decidable : (found : Option ℕ) (test : ℕ → Bool)
-    → Decidable ((value : ℕ) × (found ≡ Some value) × (test value ≡ true))
+abbrev pub Passes : Option ℕ → (ℕ → Bool) → Type 0
+Passes found test = (value : ℕ) × (found ≡ Some value) × (test value ≡ true)
+
+pub passes-decidable : (found : Option ℕ) (test : ℕ → Bool) → Decidable (Passes found test)
 passes-decidable None test = inr (λ passed. (let e = passed.1 in cc))
 passes-decidable (Some x) test =
     decidable-map (λ e. (x, refl, e)) (λ passed. ap test (some-same x passed.0 passed.1) ∙ passed.2)

@@ -5,13 +5,13 @@ use Rattle.framehop_core.specs.declared.x86_64.unwind_rule.UnwindRuleX86_64.TheV
 use Rattle.framehop_analysis.specs.Answer.{Decided}
 use Rattle.framehop_analysis.specs.X86_64.Bytes.{is_prefix, is_push}
 use Rattle.framehop_analysis.specs.X86_64.Prologue.{IsPrefixBefore, IsPushBefore, IsFrameSetUpBefore, AreLongestPushes, begins_prologue, IsNext, IsRuleOfPushes, IsPrologueRule}
-use Rattle.framehop_analysis.specs.Laws.Answer.{Decidable, decidable-map, decidable-and, true-decidable, lt-decidable, le-decidable, is-decidable, passes-decidable}
+use Rattle.framehop_analysis.specs.Laws.Answer.{Decidable, Passes, decidable-map, decidable-and, true-decidable, lt-decidable, le-decidable, is-decidable, passes-decidable}
 use Rattle.framehop_analysis.specs.Laws.X86_64.Pushes.{IsWalked, walk-none, walk-back, walk-end, before-below, push-with-prefix, push-alone, only-pushes}
 
 -- ---- the pushes before the pc
 
 -- no push ends at an offset
-NoPush : List ℕ → ℕ → Type 0
+abbrev NoPush : List ℕ → ℕ → Type 0
 NoPush text end =
     (opcode : ℕ) → 0 < end → slice_get text (end - 1) ≡ Some opcode → is_push opcode ≡ true → ⊥
 
@@ -21,21 +21,23 @@ prefix-decidable text at =
     (decidable-and (lt-decidable 0 at) (passes-decidable (slice_get text (at - 1)) is_prefix))
 
 push-or_stop : (text : List ℕ) (end : ℕ) → ((before : ℕ) × IsPushBefore text end before) ⊎ NoPush text end
-unfolding NoPush
 push-or_stop text end =
-    by_parts (lt-decidable 0 end) (passes-decidable (slice_get text (end - 1)) is_push) (prefix-decidable text (end - 1)) where
-      by_parts : Decidable (0 < end) → Decidable ((opcode : ℕ) × (slice_get text (end - 1) ≡ Some opcode) × (is_push opcode ≡ true)) → Decidable (IsPrefixBefore text (end - 1)) → ((before : ℕ) × IsPushBefore text end before) ⊎ NoPush text end
+    by_parts (lt-decidable 0 end) (passes-decidable (slice_get text (end - 1)) is_push)
+    (prefix-decidable text (end - 1)) where
+      by_parts : Decidable (0 < end) → Decidable (Passes (slice_get text (end - 1)) is_push)
+          → Decidable (IsPrefixBefore text (end - 1)) → ((before : ℕ) × IsPushBefore text end before) ⊎ NoPush text end
       by_parts (inl above) (inl o) (inl p) =
           let at : end - 1 - 1 ≡ end - 2 = omega arith in
           let room = p.1 in
-          inl (end - 2, push-with-prefix text end p.0 o.0 (omega arith) (sym p.2 ∙ ap (slice_get text) at) p.3 (sym o.1) o.2)
+          let before = sym p.2 ∙ ap (slice_get text) at in
+          inl (end - 2, push-with-prefix text end p.0 o.0 (omega arith) before p.3 (sym o.1) o.2)
       by_parts (inl above) (inl o) (inr none) = inl (end - 1, push-alone text end o.0 above (sym o.1) o.2 none)
       by_parts (inl above) (inr none) p = inr (λ opcode above there push. none (opcode, there, push))
       by_parts (inr at_start) o p = inr (λ opcode above there push. at_start above)
 
 -- the pushes that end at the pc, from those that the walk has passed
-pushes-from : (text : List ℕ) (pc fuel start count : ℕ) → start ≤ fuel → IsWalked text pc start count → (start : ℕ) × (count : ℕ) × AreLongestPushes text pc start count
-unfolding NoPush
+pushes-from : (text : List ℕ) (pc fuel start count : ℕ) → start ≤ fuel → IsWalked text pc start count
+    → (start : ℕ) × (count : ℕ) × AreLongestPushes text pc start count
 pushes-from text pc zero start count enough walked =
     (start, count, walk-end text pc start count walked (λ opcode above there push. omega arith))
 pushes-from text pc (suc fuel) start count enough walked = elim (push-or_stop text start) [
@@ -55,21 +57,25 @@ frame-decidable text at =
     decidable-map (λ b. record { room = b.0; push = b.1.0; rex = b.1.1.0; mov = b.1.1.1.0; registers = b.1.1.1.1 })
     (λ f. (f.room, (f.push, (f.rex, (f.mov, f.registers)))))
     (decidable-and (le-decidable 4 at) (decidable-and (is-decidable (slice_get text (at - 4)) 0x55)
-    (decidable-and (is-decidable (slice_get text (at - 3)) 0x48) (decidable-and (is-decidable (slice_get text (at - 2)) 0x89)
+    (decidable-and (is-decidable (slice_get text (at - 3)) 0x48)
+    (decidable-and (is-decidable (slice_get text (at - 2)) 0x89)
     (is-decidable (slice_get text (at - 1)) 0xE5)))))
 
-framed-only : (text : List ℕ) (start count : ℕ) → IsFrameSetUpBefore text start → (rule : UnwindRuleX86_64) → IsRuleOfPushes text start count rule → rule ≡ UseFramePointer
+framed-only : (text : List ℕ) (start count : ℕ) → IsFrameSetUpBefore text start → (rule : UnwindRuleX86_64)
+    → IsRuleOfPushes text start count rule → rule ≡ UseFramePointer
 framed-only text start count framed UseFramePointer made = refl
 framed-only text start count framed (OffsetSp x) made = absurd (made.0 framed)
 framed-only text start count framed rule made = absurd made
 
-offset-only : (text : List ℕ) (start count : ℕ) → (IsFrameSetUpBefore text start → ⊥) → (rule : UnwindRuleX86_64) → IsRuleOfPushes text start count rule → (rule ≡ OffsetSp (count + 1)) × (count + 1 < 2 ^ 16)
+offset-only : (text : List ℕ) (start count : ℕ) → (IsFrameSetUpBefore text start → ⊥) → (rule : UnwindRuleX86_64)
+    → IsRuleOfPushes text start count rule → (rule ≡ OffsetSp (count + 1)) × (count + 1 < 2 ^ 16)
 offset-only text start count none UseFramePointer made = absurd (none made)
 offset-only text start count none (OffsetSp x) made =
     let e = made.1 in let fits = made.2 in (ap OffsetSp e, omega arith)
 offset-only text start count none rule made = absurd made
 
-rule-decided : (text : List ℕ) (start count : ℕ) → Decidable (IsFrameSetUpBefore text start) → Decidable (count + 1 < 2 ^ 16) → Decided (IsRuleOfPushes text start count)
+rule-decided : (text : List ℕ) (start count : ℕ) → Decidable (IsFrameSetUpBefore text start)
+    → Decidable (count + 1 < 2 ^ 16) → Decided (IsRuleOfPushes text start count)
 rule-decided text start count (inl framed) fits = (Some UseFramePointer, (framed, framed-only text start count framed))
 rule-decided text start count (inr none) (inl fits) =
     (Some (OffsetSp (count + 1)), ((none, refl, fits), λ rule made. (offset-only text start count none rule made).0))
@@ -88,7 +94,8 @@ pub prologue-decided : (text : List ℕ) (pc : ℕ) → Decided (IsPrologueRule 
 prologue-decided text pc = elim (next-decidable text pc) [
   | inl next ↦
       let found = longest-pushes text pc in
-      let rule = rule-decided text found.0 found.1 (frame-decidable text found.0) (lt-decidable (found.1 + 1) (2 ^ 16)) in
+      let fits = lt-decidable (found.1 + 1) (2 ^ 16) in
+      let rule = rule-decided text found.0 found.1 (frame-decidable text found.0) fits in
       (rule.0, only-pushes text pc found.0 found.1 rule.0 next found.2 rule.1)
   | inr none ↦ (None, λ rule p. none p.next)
 ]
