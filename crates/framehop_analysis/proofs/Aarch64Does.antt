@@ -14,7 +14,8 @@ use Rattle.framehop_analysis.specs.Aarch64.Words.{AreWordsAt, is_load, is_add_sp
 use Rattle.framehop_analysis.specs.Aarch64.Machine.{State, Step, Signs, RunOut, SameAddress, HasRegisters, offset_by, access_address}
 use Rattle.framehop_analysis.specs.Aarch64.Epilogue.{Places, at_pc, is_restoring, places_after, places_after_all, place_after_load, AllRestoring, IsAuthenticatedCall, by_b, by_braa, IsEnd, returns, branches, calls, IsRestored, inside_call, at_tail_call, IsPlace, IsRuleOfPlaces, IsEpilogueRule, restored, restores, DoesEpilogue}
 use Rattle.framehop_analysis.proofs.Offsets.{offset_by-fits, offset_by-zero, offset_by-offset_by}
-use Rattle.framehop_analysis.proofs.Aarch64Calls.{some-same, branch-not-restoring, return-branch, b-branch, br-branch, braa-branch, or-left, or-right, or-cases}
+use Rattle.framehop_analysis.specs.Laws.Answer.{some-same}
+use Rattle.framehop_analysis.specs.Laws.Aarch64.Calls.{branch-not-restoring, return-branch, b-branch, br-branch, braa-branch, or-left, or-right, or-cases}
 use Rattle.framehop_analysis.proofs.Aarch64Undoes.{stripped-again, ok-same}
 
 -- ---- what restores

@@ -5,7 +5,7 @@ use Rattle.framehop_core.specs.declared.aarch64.unwind_rule.UnwindRuleAarch64.{U
 use Rattle.framehop_analysis.specs.Aarch64.Words.{AreWordsAt, bits_at, is_store, is_load, is_sub_sp, is_add_sp, is_signing, is_pacibsp, is_autibsp, is_other, is_b, is_mov, is_check, is_branch, immediate}
 use Rattle.framehop_analysis.specs.Aarch64.Machine.{State, Step, RunOut, after_load, with_sp_moved}
 use Rattle.framehop_analysis.specs.Aarch64.Epilogue.{Places, at_pc, is_restoring, places_after, places_after_all, AllRestoring, IsEnd, IsEpilogueRule, restored, restores, EndsFrom}
-use Rattle.framehop_analysis.proofs.Aarch64Calls.{eq-true, and-left, or-left, or-right, or-cases, not-true, pair-high, b-high, branch-high, branch-not-restoring}
+use Rattle.framehop_analysis.specs.Laws.Aarch64.Calls.{eq-true, and-left, or-left, or-right, or-cases, not-true, pair-high, b-high, branch-high, branch-not-restoring}
 use Rattle.framehop_analysis.proofs.Aarch64Does.{is_quiet, IsQuiet, IsQuietList, end-quiet, restored-quiet}
 
 -- ---- words of different shapes

@@ -1,18 +1,14 @@
--- Epilogues on aarch64, read forwards word by word: the rest of an epilogue from one place to the next.
-use Rattle.std.proofs.Common.{◌≡◌, ◌≢◌, ◌↔◌, ℕ, ◌+◌, ◌-◌, ◌*◌, ◌<◌, ◌≤◌, ℤ, pos, ◌+ℤ◌, ◌≤ℤ◌, Bool, true, false, ◌==◌, IsTrue, nat_lt, cond, List, [], ◌∷◌, ◌++◌, length, Option, Some, None, MatchOption, is_some, refl, sym, ap, ◌∙◌, subst, arith}
-use Rattle.std.proofs.lemmas.Bool.Decides.{nat_tests}
+-- The detector of an epilogue on aarch64: each end, each instruction and the walk forwards.
+use Rattle.std.proofs.Common.{◌≡◌, ◌≢◌, ◌↔◌, ℕ, ◌+◌, ◌*◌, ℤ, pos, ◌+ℤ◌, ◌≤ℤ◌, Bool, true, false, ◌==◌, IsTrue, cond, List, [], ◌∷◌, length, Option, Some, None, MatchOption, is_some, refl, sym, ap, ◌∙◌, subst, arith}
 use Rattle.std.proofs.lemmas.Int.{ints}
 use Rattle.framehop_core.specs.declared.aarch64.unwind_rule.UnwindRuleAarch64.{UnwindRuleAarch64}
 use Rattle.framehop_analysis.specs.Answer.{IsOnly}
 use Rattle.framehop_analysis.specs.Aarch64.Words.{word_at, AreWordsAt, is_load, is_return, is_b, addressing, pair_offset}
-use Rattle.framehop_analysis.specs.Aarch64.Epilogue.{Places, at_pc, is_restoring, places_after, places_after_all, place_after_load, AllRestoring, IsAuthenticatedCall, IsEnd, returns, branches, calls, IsInsideCallAfter, IsRestored, IsRuleOfPlaces, IsRestOfEpilogue, IsEpilogueRule, restored, restores}
-use Rattle.framehop_analysis.proofs.Answers.{only-map}
-use Rattle.framehop_analysis.proofs.Aarch64Calls.{some-same, call-same, call-short, end-not-restoring}
+use Rattle.framehop_analysis.specs.Aarch64.Epilogue.{Places, at_pc, is_restoring, places_after, place_after_load, IsAuthenticatedCall, IsEnd, returns, branches, calls, IsRestored, IsRuleOfPlaces, IsRestOfEpilogue, IsEpilogueRule, restored, restores}
+use Rattle.framehop_analysis.specs.Laws.Answer.{only-map, some-same}
+use Rattle.framehop_analysis.specs.Laws.Aarch64.Ends.{Ends, rest-forward, rest-back, rest-end, end-rest}
 
 -- ---- ends
-
-abbrev pub Ends : List ℕ → ℕ → ℤ → Type 0
-Ends text at by = (words : List ℕ) × AreWordsAt text at words × IsEnd by words
 
 pub end-return : (text : List ℕ) (at word : ℕ) (by : ℤ) → Some word ≡ word_at text at → is_return word ≡ true → Ends text at by
 end-return text at word by there is = (word ∷ [], (sym there, tt), returns word is refl)
@@ -32,41 +28,6 @@ end-call text at word by None there no_return no_branch call = (λ t. cc, λ e. 
       let P : List ℕ → Type 0 = AreWordsAt text at in
       no_branch (ap is_b (some-same word w (there ∙ (subst P e stands).0)) ∙ is) apart
   no_end words stands (calls is) = call words stands is
-
--- ---- calls
-
-lt-of : (m n : ℕ) → IsTrue (nat_lt m n) → m < n
-lt-of m n test = grind (arith, nat_tests)
-
-of-lt : (m n : ℕ) → m < n → IsTrue (nat_lt m n)
-of-lt m n below = grind (arith, nat_tests)
-
-pub inside-iff : (text : List ℕ) (pc before len : ℕ) → 4 * before ≤ pc → ((words : List ℕ) × AreWordsAt text (pc - 4 * before) words × IsAuthenticatedCall words × (len ≡ length words)) → IsTrue (nat_lt before len) ↔ IsInsideCallAfter text pc before
-inside-iff text pc before len room found = (
-  λ test. record {
-    start = pc - 4 * before;
-    words = found.0;
-    stands = found.1;
-    call = found.2;
-    place = omega arith;
-    inside = (let e = found.3 in let below = lt-of before len test in omega arith);
-  },
-  λ i.
-      let at : i.start ≡ pc - 4 * before = (let e = i.place in omega arith) in
-      let P : ℕ → Type 0 = λ n. AreWordsAt text n i.words in
-      let same : i.words ≡ found.0 = call-same text (pc - 4 * before) i.words found.0 (subst P at i.stands) i.call found.1 found.2 in
-      let n : length i.words ≡ length found.0 = ap length same in
-      let e = found.3 in let inside = i.inside in of-lt before len (omega arith),
-)
-
-pub not-inside : (text : List ℕ) (pc before : ℕ) → ((words : List ℕ) → AreWordsAt text (pc - 4 * before) words → IsAuthenticatedCall words → ⊥) → IsInsideCallAfter text pc before → ⊥
-not-inside text pc before none i =
-    let at : i.start ≡ pc - 4 * before = (let e = i.place in omega arith) in
-    let P : ℕ → Type 0 = λ n. AreWordsAt text n i.words in
-    none i.words (subst P at i.stands) i.call
-
-pub inside-short : (text : List ℕ) (pc before : ℕ) → IsInsideCallAfter text pc before → before < 6
-inside-short text pc before i = let short = call-short i.words i.call in let inside = i.inside in omega arith
 
 -- ---- one instruction
 
@@ -95,54 +56,6 @@ places-load p word old moved sp sp' old' moved' place place' fp lr load sp_is sp
     (fp_is ∙ ap (λ q. place_after_load word 29 q p.fp) at)
     (lr_is ∙ ap (λ q. place_after_load word 30 q p.lr) at)
     ∙ sym (cond-true (is_load word) _ _ load)
-
--- ---- the rest of an epilogue
-
-pub rest-forward : (text : List ℕ) (at word : ℕ) (places : Places) → word_at text at ≡ Some word → is_restoring word ≡ true → (rule : UnwindRuleAarch64) → IsRestOfEpilogue text at places rule → IsRestOfEpilogue text (at + 4) (places_after places word) rule
-rest-forward text at word places there is rule rest =
-    forward rest.restoring rest.end rest.stands rest.restore rest.ends rest.made where
-      forward : (restoring end : List ℕ) → AreWordsAt text at (restoring ++ end) → AllRestoring restoring → IsEnd (places_after_all places restoring).sp end → IsRuleOfPlaces (places_after_all places restoring) rule → IsRestOfEpilogue text (at + 4) (places_after places word) rule
-      forward [] end stands restore ends made =
-          let unlike : is_restoring word ≡ false = end-not-restoring text at word places.sp end ends stands there in cc
-      forward (w ∷ restoring) end stands restore ends made =
-          let same : w ≡ word = some-same w word (sym stands.0 ∙ there) in
-          let P : ℕ → Type 0 = λ v. IsRestOfEpilogue text (at + 4) (places_after places v) rule in
-          subst P same (record {
-            restoring = restoring;
-            end = end;
-            stands = stands.1;
-            restore = restore.1;
-            ends = ends;
-            made = made;
-          })
-
-pub rest-back : (text : List ℕ) (at word : ℕ) (places : Places) → word_at text at ≡ Some word → is_restoring word ≡ true → (rule : UnwindRuleAarch64) → IsRestOfEpilogue text (at + 4) (places_after places word) rule → IsRestOfEpilogue text at places rule
-rest-back text at word places there is rule rest = record {
-  restoring = word ∷ rest.restoring;
-  end = rest.end;
-  stands = (there, rest.stands);
-  restore = (is, rest.restore);
-  ends = rest.ends;
-  made = rest.made;
-}
-
--- where nothing restores any more, the end is there, and the rule is that of the places
-pub rest-end : (text : List ℕ) (at : ℕ) (places : Places) → ((word : ℕ) → word_at text at ≡ Some word → is_restoring word ≡ true → ⊥) → (rule : UnwindRuleAarch64) → IsRestOfEpilogue text at places rule → Ends text at places.sp × IsRuleOfPlaces places rule
-rest-end text at places none rule rest =
-    at_end rest.restoring rest.end rest.stands rest.restore rest.ends rest.made where
-      at_end : (restoring end : List ℕ) → AreWordsAt text at (restoring ++ end) → AllRestoring restoring → IsEnd (places_after_all places restoring).sp end → IsRuleOfPlaces (places_after_all places restoring) rule → Ends text at places.sp × IsRuleOfPlaces places rule
-      at_end [] end stands restore ends made = ((end, stands, ends), made)
-      at_end (w ∷ restoring) end stands restore ends made = absurd (none w stands.0 restore.0)
-
-pub end-rest : (text : List ℕ) (at : ℕ) (places : Places) → Ends text at places.sp → (rule : UnwindRuleAarch64) → IsRuleOfPlaces places rule → IsRestOfEpilogue text at places rule
-end-rest text at places (words, stands, ends) rule made = record {
-  restoring = [];
-  end = words;
-  stands = stands;
-  restore = tt;
-  ends = ends;
-  made = made;
-}
 
 -- ---- the walk forwards
 

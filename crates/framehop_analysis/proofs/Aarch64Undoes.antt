@@ -15,7 +15,7 @@ use Rattle.framehop_analysis.specs.Aarch64.Words.{is_store, is_sub_sp, is_pacibs
 use Rattle.framehop_analysis.specs.Aarch64.Machine.{State, Step, Run, SameAddress, HasRegisters, offset_by}
 use Rattle.framehop_analysis.specs.Aarch64.Prologue.{lowered_by, lowered, IsRun, IsRuleOfDepth, IsPrologueRule, UndoesRun, UndoesPrologue}
 use Rattle.framehop_analysis.proofs.Offsets.{offset_by-fits, offset_by-zero, offset_by-offset_by, offset_by-below}
-use Rattle.framehop_analysis.proofs.Aarch64Runs.{longest-same}
+use Rattle.framehop_analysis.specs.Laws.Aarch64.Runs.{longest-same}
 
 -- ---- the machine's run
 

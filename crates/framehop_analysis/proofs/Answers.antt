@@ -1,9 +1,7 @@
 -- Answers that find at most one thing: from one fact to another, and to the clause of a public function.
 use Rattle.std.proofs.Common.{◌≡◌, Option, Some, None, ◌↔◌, inl, inr, refl, sym, ◌∙◌, subst, IfSome, OnSome, MatchOption}
 use Rattle.framehop_analysis.specs.Answer.{IsOnly, FirstOf}
-
-some-same : {A : Type 0} (x y : A) → Some x ≡ Some y → x ≡ y
-some-same x y e = cc
+use Rattle.framehop_analysis.specs.Laws.Answer.{some-same}
 
 -- the answer is a value exactly where the value meets the fact
 pub only-iff : {A : Type 0} (P : A → Type 0) (found : Option A) → IsOnly P found → (x : A) → (found ≡ Some x) ↔ P x
@@ -11,10 +9,11 @@ only-iff P None only x = (λ e. cc, λ p. absurd (only x p))
 only-iff {A} P (Some y) only x =
     (λ e. (let same : y ≡ x = some-same y x e in subst P same only.0), λ p. (let same : x ≡ y = only.1 x p in cc))
 
--- two facts that the same values meet
-pub only-map : {A : Type 0} (P Q : A → Type 0) (found : Option A) → ((x : A) → P x → Q x) → ((x : A) → Q x → P x) → IsOnly P found → IsOnly Q found
-only-map P Q None to from only = λ x q. only x (from x q)
-only-map P Q (Some y) to from only = (to y only.0, λ x q. only.1 x (from x q))
+-- there is one answer to a fact
+pub only-same : {A : Type 0} (P : A → Type 0) (result found : Option A) → ((x : A) → (result ≡ Some x) ↔ P x) → IsOnly P found → result ≡ found
+only-same P None None exact only = refl
+only-same P (Some x) None exact only = absurd (only x ((exact x).0 refl))
+only-same P result (Some y) exact only = (exact y).1 only.0
 
 -- what each value that meets the fact has, the answer has
 pub only-some : {A : Type 0} (P Q : A → Type 0) (found : Option A) → IsOnly P found → ((x : A) → P x → Q x) → IfSome found Q

@@ -1,13 +1,9 @@
 mod Answers
 mod Offsets
-mod Aarch64Runs
 mod Aarch64Prologue
 mod Aarch64Undoes
-mod Aarch64Calls
 mod Aarch64Ends
 mod Aarch64Does
-mod X86_64Pushes
-mod X86_64Pops
 mod X86_64Undoes
 mod X86_64Does
 mod Aarch64Ending

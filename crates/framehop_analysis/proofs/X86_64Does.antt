@@ -13,7 +13,8 @@ use Rattle.framehop_core.specs.declared.x86_64.unwind_rule.UnwindRuleX86_64.TheV
 use Rattle.framehop_analysis.specs.X86_64.Bytes.{is_pop_opcode}
 use Rattle.framehop_analysis.specs.X86_64.Machine.{State, HasRegisters, IsPop, short, long, Pops, is_jump, is_end, Caller, caller_of, RunOut}
 use Rattle.framehop_analysis.specs.X86_64.Epilogue.{is_plain_pop, Pop, pop_at, ArePops, Popped, none_popped, after_pop, after_pops, IsEnd, returns, jumps, IsRuleOfPopped, IsEpilogueRule, DoesEpilogue}
-use Rattle.framehop_analysis.proofs.X86_64Pops.{some-same, eq-true, and-left, and-right, or-cases, IsPopBytes, alone, after_40, after_41, pop-bytes, pop-low, jump-high}
+use Rattle.framehop_analysis.specs.Laws.Answer.{some-same}
+use Rattle.framehop_analysis.specs.Laws.X86_64.Pops.{eq-true, and-left, and-right, or-cases, IsPopBytes, alone, after_40, after_41, pop-bytes, pop-low, jump-high}
 use Rattle.framehop_analysis.proofs.X86_64Undoes.{read-word, IsFound, found}
 
 -- ---- the grammar's pops are the machine's

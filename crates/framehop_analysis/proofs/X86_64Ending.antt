@@ -3,8 +3,8 @@ use Rattle.std.proofs.Common.{◌≡◌, ℕ, suc, ◌+◌, Bool, ◌==◌, cond
 use Rattle.framehop_core.specs.declared.x86_64.unwind_rule.UnwindRuleX86_64.{UnwindRuleX86_64}
 use Rattle.framehop_analysis.specs.X86_64.Machine.{State, IsPop, short, long, Pops, is_jump, Caller, caller_of, RunOut}
 use Rattle.framehop_analysis.specs.X86_64.Epilogue.{Pop, ArePops, IsEnd, returns, jumps, IsEpilogueRule, EndsFrom}
-use Rattle.framehop_analysis.proofs.Aarch64Calls.{or-right}
-use Rattle.framehop_analysis.proofs.X86_64Pops.{eq-true, and-left, IsPopBytes, alone, after_40, after_41, pop-bytes}
+use Rattle.framehop_analysis.specs.Laws.Aarch64.Calls.{or-right}
+use Rattle.framehop_analysis.specs.Laws.X86_64.Pops.{eq-true, and-left, IsPopBytes, alone, after_40, after_41, pop-bytes}
 
 -- a pop of the grammar is one of the machine's
 machine-bytes : (text : List ℕ) (at byte : ℕ) (pop : Pop) → slice_get text at ≡ Some byte → IsPopBytes byte (slice_get text (at + 1)) pop → (register : ℕ) × IsPop text at (at + pop.size) register

@@ -1,7 +1,7 @@
 //! Unwind rules from the instructions around a pc: inside a prologue or an epilogue the registers
 //! are not yet saved, or are already restored, which unwind data often does not say.
-ghost use Rattle.std.specs.Prelude.{◌≡◌, ℕ, ◌≤◌, ◌↔◌, ◌⊎◌, List, length, Some, IsTrue, IfSome};
-ghost use Rattle.framehop_analysis.specs.Answer.{FirstOf};
+ghost use Rattle.std.specs.Prelude.{◌≡◌, ℕ, ◌≤◌, ◌↔◌, ◌⊎◌, List, length, Option, Some, IsTrue, IfSome};
+ghost use Rattle.framehop_analysis.specs.Answer.{IsOnly, FirstOf};
 
 use framehop_core::arch::Arch;
 
@@ -15,6 +15,9 @@ pub trait InstructionAnalysis: Arch {
 
     // the rule of a pc inside an epilogue
     ghost epilogue_rule: { List ℕ → ℕ → Self.UnwindRule → Type 0 };
+
+    // the rule of a pc inside a prologue or, where none is recognised, inside an epilogue
+    ghost analysed: { List ℕ → ℕ → Option Self.UnwindRule };
 
     // the rule undoes what the prologue has done
     ghost undoes_prologue: { List ℕ → ℕ → Self.UnwindRule → Type 0 };
@@ -48,6 +51,7 @@ pub trait InstructionAnalysis: Arch {
         ensures exact { (rule : Self.UnwindRule) → (result ≡ Some rule)
             ↔ FirstOf (prologue_rule text_bytes.now pc_offset)
             (epilogue_rule text_bytes.now pc_offset) rule }
+        ensures value { result ≡ analysed text_bytes.now pc_offset }
         ensures simulation { IfSome result (λ rule. undoes_prologue text_bytes.now pc_offset rule
             ⊎ does_epilogue text_bytes.now pc_offset rule) }
         ensures executable { IfSome result (λ rule. IsTrue (Self.UnwindRule.executable rule)) }
@@ -56,4 +60,8 @@ pub trait InstructionAnalysis: Arch {
             || Self::rule_from_epilogue_analysis(text_bytes, pc_offset),
         )
     }
+
+    // the analysed rule is the only one there is, or there is none
+    ghost analysed_only: { (text : List ℕ) (pc : ℕ)
+        → IsOnly (FirstOf (prologue_rule text pc) (epilogue_rule text pc)) (analysed text pc) };
 }

@@ -13,10 +13,15 @@ impl InstructionAnalysis for ArchAarch64 {
     ghost use Rattle.std.specs.Prelude.{take, drop};
     ghost use Rattle.framehop_analysis.specs.Aarch64.Prologue.{IsPrologueRule, UndoesPrologue};
     ghost use Rattle.framehop_analysis.specs.Aarch64.Epilogue.{IsEpilogueRule, DoesEpilogue};
+    ghost use Rattle.framehop_analysis.specs.Aarch64.Analysed.{analysed, analysed-only};
 
     ghost prologue_rule = { λ text pc rule. IsPrologueRule (take pc text) (drop pc text) rule };
 
     ghost epilogue_rule = { IsEpilogueRule };
+
+    ghost analysed = { analysed };
+
+    ghost analysed_only = { analysed-only };
 
     ghost undoes_prologue = { λ text pc rule. UndoesPrologue (take pc text) rule };
 

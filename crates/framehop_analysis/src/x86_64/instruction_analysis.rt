@@ -11,10 +11,15 @@ pub use prologue::unwind_rule_from_detected_prologue;
 impl InstructionAnalysis for ArchX86_64 {
     ghost use Rattle.framehop_analysis.specs.X86_64.Prologue.{IsPrologueRule, UndoesPrologue};
     ghost use Rattle.framehop_analysis.specs.X86_64.Epilogue.{IsEpilogueRule, DoesEpilogue};
+    ghost use Rattle.framehop_analysis.specs.X86_64.Analysed.{analysed, analysed-only};
 
     ghost prologue_rule = { IsPrologueRule };
 
     ghost epilogue_rule = { IsEpilogueRule };
+
+    ghost analysed = { analysed };
+
+    ghost analysed_only = { analysed-only };
 
     ghost undoes_prologue = { UndoesPrologue };
 

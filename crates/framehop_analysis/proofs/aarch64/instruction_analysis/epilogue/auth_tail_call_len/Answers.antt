@@ -1,5 +1,5 @@
 use Rattle.std.proofs.Common.{sym}
-use Rattle.framehop_analysis.proofs.Aarch64Calls.{call-by_b, call-by_braa}
+use Rattle.framehop_analysis.specs.Laws.Aarch64.Calls.{call-by_b, call-by_braa}
 use Rattle.framehop_analysis.proofs.aarch64.instruction_analysis.epilogue.auth_tail_call_len.Goals as goal
 
 pub returns-then-is_b : goal.returns-then-is_b

@@ -1,4 +1,4 @@
-use Rattle.framehop_analysis.proofs.Aarch64Ends.{inside-iff, not-inside}
+use Rattle.framehop_analysis.specs.Laws.Aarch64.Ends.{inside-iff, not-inside}
 use Rattle.framehop_analysis.proofs.aarch64.instruction_analysis.epilogue.is_in_auth_tail_call_after.Goals as goal
 
 pub returns-in-Some : goal.returns-in-Some

@@ -1,6 +1,6 @@
 use Rattle.std.proofs.Common.{arith}
 use Rattle.std.proofs.lemmas.Int.{ints}
-use Rattle.framehop_analysis.proofs.Aarch64Runs.{run-none, run-back, run-longest}
+use Rattle.framehop_analysis.specs.Laws.Aarch64.Runs.{run-none, run-back, run-longest}
 use Rattle.framehop_analysis.proofs.aarch64.instruction_analysis.prologue.sp_offset_of_run.Goals as goal
 
 pub loop-lowered_by-init : goal.loop-lowered_by-init

@@ -1,4 +1,4 @@
-use Rattle.framehop_analysis.proofs.Aarch64Runs.{IsRunFrom}
+use Rattle.framehop_analysis.specs.Laws.Aarch64.Runs.{IsRunFrom}
 use Rattle.framehop_analysis.proofs.aarch64.instruction_analysis.prologue.sp_offset_of_run.Given as goal
 
 abbrev pub invariant-loop-lowered_by : goal.invariant-loop-lowered_by

@@ -1,6 +1,6 @@
 use Rattle.std.proofs.Common.{refl, sym}
 use Rattle.framehop_analysis.proofs.Aarch64Ends.{never}
-use Rattle.framehop_analysis.proofs.X86_64Pops.{read-more, no-end, only-end, popped-same}
+use Rattle.framehop_analysis.specs.Laws.X86_64.Pops.{read-more, no-end, only-end, popped-same}
 use Rattle.framehop_analysis.proofs.x86_64.instruction_analysis.epilogue.detect_epilogue.Goals as goal
 
 pub loop-size-preserved : goal.loop-size-preserved

@@ -1,5 +1,5 @@
 use Rattle.std.proofs.Common.{length, ◌-◌}
-use Rattle.framehop_analysis.proofs.X86_64Pops.{IsReadUpTo}
+use Rattle.framehop_analysis.specs.Laws.X86_64.Pops.{IsReadUpTo}
 use Rattle.framehop_analysis.proofs.x86_64.instruction_analysis.epilogue.detect_epilogue.Given as goal
 
 abbrev pub invariant-loop-size : goal.invariant-loop-size

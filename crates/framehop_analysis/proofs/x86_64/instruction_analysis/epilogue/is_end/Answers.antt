@@ -1,5 +1,5 @@
 use Rattle.std.proofs.Common.{sym}
-use Rattle.framehop_analysis.proofs.X86_64Pops.{end-jump}
+use Rattle.framehop_analysis.specs.Laws.X86_64.Pops.{end-jump}
 use Rattle.framehop_analysis.proofs.x86_64.instruction_analysis.epilogue.is_end.Goals as goal
 
 pub returns-then-is_jump : goal.returns-then-is_jump

@@ -1,6 +1,6 @@
 use Rattle.std.proofs.Common.{◌≡◌, ℕ, ◌-◌, sym, subst, arith}
 use Rattle.framehop_analysis.specs.X86_64.Prologue.{IsPushBefore}
-use Rattle.framehop_analysis.proofs.X86_64Pushes.{push-with-prefix, push-alone, not-prefixed, no-byte}
+use Rattle.framehop_analysis.specs.Laws.X86_64.Pushes.{push-with-prefix, push-alone, not-prefixed, no-byte}
 use Rattle.framehop_analysis.proofs.x86_64.instruction_analysis.prologue.push_before.Goals as goal
 use Rattle.framehop_analysis.proofs.x86_64.instruction_analysis.prologue.push_before.Goals.{in_default-via-in-Some+else-is_prefix, in_default-via-in_default}
 

@@ -1,4 +1,4 @@
-use Rattle.framehop_analysis.proofs.X86_64Pushes.{walk-none, walk-back, walk-end}
+use Rattle.framehop_analysis.specs.Laws.X86_64.Pushes.{walk-none, walk-back, walk-end}
 use Rattle.framehop_analysis.proofs.x86_64.instruction_analysis.prologue.pushes_before.Goals as goal
 
 pub loop-before-init : goal.loop-before-init

@@ -1,4 +1,4 @@
-use Rattle.framehop_analysis.proofs.X86_64Pushes.{IsWalked}
+use Rattle.framehop_analysis.specs.Laws.X86_64.Pushes.{IsWalked}
 use Rattle.framehop_analysis.proofs.x86_64.instruction_analysis.prologue.pushes_before.Given as goal
 
 abbrev pub invariant-loop-before : goal.invariant-loop-before

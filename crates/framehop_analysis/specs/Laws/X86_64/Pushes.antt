@@ -5,10 +5,7 @@ use Rattle.framehop_core.specs.declared.x86_64.unwind_rule.UnwindRuleX86_64.{Unw
 use Rattle.framehop_analysis.specs.Answer.{IsOnly}
 use Rattle.framehop_analysis.specs.X86_64.Bytes.{is_prefix, is_push}
 use Rattle.framehop_analysis.specs.X86_64.Prologue.{IsPush, plain, prefixed, IsPrefixBefore, IsPushBefore, ArePushes, AreLongestPushes, IsNext, IsRuleOfPushes, IsPrologueRule}
-use Rattle.framehop_analysis.proofs.Answers.{only-map}
-
-some-same : (x y : ℕ) → Some x ≡ Some y → x ≡ y
-some-same x y e = cc
+use Rattle.framehop_analysis.specs.Laws.Answer.{only-map, some-same}
 
 eq-true : (m n : ℕ) → nat_eq m n ≡ true → m ≡ n
 eq-true m n e = grind (arith, nat_tests)
@@ -21,14 +18,16 @@ push-prefix-apart byte push prefix =
     omega arith
 
 -- a push ends with its opcode
-push-opcode : (text : List ℕ) (at next : ℕ) → IsPush text at next → (opcode : ℕ) × (at < next) × (slice_get text (next - 1) ≡ Some opcode) × (is_push opcode ≡ true)
+push-opcode : (text : List ℕ) (at next : ℕ) → IsPush text at next
+    → (opcode : ℕ) × (at < next) × (slice_get text (next - 1) ≡ Some opcode) × (is_push opcode ≡ true)
 push-opcode text at next (plain opcode there is e) =
     let same : next - 1 ≡ at = omega arith in (opcode, omega arith, ap (slice_get text) same ∙ there, is)
 push-opcode text at next (prefixed prefix opcode before is_pre there is e) =
     let same : next - 1 ≡ at + 1 = omega arith in (opcode, omega arith, ap (slice_get text) same ∙ there, is)
 
 -- one more push in front
-pushes-before : (text : List ℕ) (count a b end : ℕ) → IsPush text a b → ArePushes text count b end → ArePushes text (suc count) a end
+pushes-before : (text : List ℕ) (count a b end : ℕ) → IsPush text a b → ArePushes text count b end
+    → ArePushes text (suc count) a end
 pushes-before text zero a b end push e = (a, refl, (let P : ℕ → Type 0 = IsPush text a in subst P e push))
 pushes-before text (suc count) a b end push rest = (rest.0, pushes-before text count a b rest.0 push rest.1, rest.2)
 
@@ -47,13 +46,19 @@ pub walk-none : (text : List ℕ) (pc : ℕ) → IsWalked text pc pc 0
 unfolding Passes
 walk-none text pc = record { pushes = refl; through = λ s n p. inr (n, p, omega arith); small = omega arith }
 
-last-of : (text : List ℕ) (start before last : ℕ) → IsPushBefore text start before → IsPush text last start → (last ≡ before) ⊎ ((last ≡ before + 1) × ((prefix : ℕ) × (slice_get text before ≡ Some prefix) × (is_prefix prefix ≡ true)))
+last-of : (text : List ℕ) (start before last : ℕ) → IsPushBefore text start before → IsPush text last start
+    → (last ≡ before) ⊎ ((last ≡ before + 1)
+    × ((prefix : ℕ) × (slice_get text before ≡ Some prefix) × (is_prefix prefix ≡ true)))
 last-of text start before last b (plain opcode there is e) = by_push b.push where
-  by_push : IsPush text before start → (last ≡ before) ⊎ ((last ≡ before + 1) × ((prefix : ℕ) × (slice_get text before ≡ Some prefix) × (is_prefix prefix ≡ true)))
+  by_push : IsPush text before start
+      → (last ≡ before) ⊎ ((last ≡ before + 1)
+      × ((prefix : ℕ) × (slice_get text before ≡ Some prefix) × (is_prefix prefix ≡ true)))
   by_push (plain opcode' there' is' e') = inl (omega arith)
   by_push (prefixed prefix' opcode' first' is_pre' there' is' e') = inr (omega arith, (prefix', first', is_pre'))
 last-of text start before last b (prefixed prefix opcode first is_pre there is e) = by_push b.push where
-  by_push : IsPush text before start → (last ≡ before) ⊎ ((last ≡ before + 1) × ((prefix : ℕ) × (slice_get text before ≡ Some prefix) × (is_prefix prefix ≡ true)))
+  by_push : IsPush text before start
+      → (last ≡ before) ⊎ ((last ≡ before + 1)
+      × ((prefix : ℕ) × (slice_get text before ≡ Some prefix) × (is_prefix prefix ≡ true)))
   by_push (plain opcode' there' is' e') =
       let same : before - 1 ≡ last = omega arith in
       absurd (b.whole (omega arith) (prefix, omega arith, ap (slice_get text) same ∙ first, is_pre))
@@ -62,7 +67,8 @@ last-of text start before last b (prefixed prefix opcode first is_pre there is e
 pub before-below : (text : List ℕ) (start before : ℕ) → IsPushBefore text start before → before < start
 before-below text start before b = (push-opcode text before start b.push).1
 
-pub walk-back : (text : List ℕ) (pc start count before : ℕ) → IsWalked text pc start count → IsPushBefore text start before → IsWalked text pc before (count + 1)
+pub walk-back : (text : List ℕ) (pc start count before : ℕ) → IsWalked text pc start count
+    → IsPushBefore text start before → IsWalked text pc before (count + 1)
 unfolding Passes
 walk-back text pc start count before w b = record {
   pushes = (let more : suc count ≡ count + 1 = omega arith in let P : ℕ → Type 0 = λ n. ArePushes text n before pc in
@@ -81,7 +87,8 @@ walk-back text pc start count before w b = record {
     | inr past ↦ let at = past.0 in inl (omega arith, omega arith)
   ]
   on s n (inr (suc (suc m), (last, (last', rest, push'), push), e)) = elim (last-of text start before last b push) [
-    | inl at ↦ (let P : ℕ → Type 0 = ArePushes text (suc m) s in inr (suc m, subst P at (last', rest, push'), omega arith))
+    | inl at ↦ (let P : ℕ → Type 0 = ArePushes text (suc m) s in
+        inr (suc m, subst P at (last', rest, push'), omega arith))
     | inr past ↦
         let found = push-opcode text last' last push' in
         let at : last - 1 ≡ before = (let e = past.0 in omega arith) in
@@ -89,7 +96,9 @@ walk-back text pc start count before w b = record {
         absurd (push-prefix-apart past.1.0 (ap is_push (sym same) ∙ found.3) past.1.2)
   ]
 
-pub walk-end : (text : List ℕ) (pc start count : ℕ) → IsWalked text pc start count → ((opcode : ℕ) → 0 < start → slice_get text (start - 1) ≡ Some opcode → is_push opcode ≡ true → ⊥) → AreLongestPushes text pc start count
+pub walk-end : (text : List ℕ) (pc start count : ℕ) → IsWalked text pc start count
+    → ((opcode : ℕ) → 0 < start → slice_get text (start - 1) ≡ Some opcode → is_push opcode ≡ true → ⊥)
+    → AreLongestPushes text pc start count
 unfolding Passes
 walk-end text pc start count w stopped = record { pushes = w.pushes; longest = λ s n p. on s n (w.through s n p) } where
   on : (s n : ℕ) → Passes text start count s n → (start ≤ s) × (n ≤ count)
@@ -102,7 +111,9 @@ walk-end text pc start count w stopped = record { pushes = w.pushes; longest = �
 
 -- ---- one push
 
-pub push-with-prefix : (text : List ℕ) (start prefix opcode : ℕ) → 1 < start → Some prefix ≡ slice_get text (start - 2) → is_prefix prefix ≡ true → Some opcode ≡ slice_get text (start - 1) → is_push opcode ≡ true → IsPushBefore text start (start - 2)
+pub push-with-prefix : (text : List ℕ) (start prefix opcode : ℕ) → 1 < start → Some prefix ≡ slice_get text (start - 2)
+    → is_prefix prefix ≡ true → Some opcode ≡ slice_get text (start - 1) → is_push opcode ≡ true
+    → IsPushBefore text start (start - 2)
 push-with-prefix text start prefix opcode above there is later push =
     let at : start - 2 + 1 ≡ start - 1 = omega arith in
     record {
@@ -110,13 +121,15 @@ push-with-prefix text start prefix opcode above there is later push =
       whole = λ e. absurd (omega arith);
     }
 
-pub push-alone : (text : List ℕ) (start opcode : ℕ) → 0 < start → Some opcode ≡ slice_get text (start - 1) → is_push opcode ≡ true → (IsPrefixBefore text (start - 1) → ⊥) → IsPushBefore text start (start - 1)
+pub push-alone : (text : List ℕ) (start opcode : ℕ) → 0 < start → Some opcode ≡ slice_get text (start - 1)
+    → is_push opcode ≡ true → (IsPrefixBefore text (start - 1) → ⊥) → IsPushBefore text start (start - 1)
 push-alone text start opcode above there push none = record {
   push = plain opcode (sym there) push (omega arith);
   whole = λ e. none;
 }
 
-pub not-prefixed : (text : List ℕ) (start byte : ℕ) → Some byte ≡ slice_get text (start - 2) → false ≡ is_prefix byte → IsPrefixBefore text (start - 1) → ⊥
+pub not-prefixed : (text : List ℕ) (start byte : ℕ) → Some byte ≡ slice_get text (start - 2) → false ≡ is_prefix byte
+    → IsPrefixBefore text (start - 1) → ⊥
 not-prefixed text start byte there none p =
     let at : start - 1 - 1 ≡ start - 2 = omega arith in
     let same : byte ≡ p.0 = some-same byte p.0 (there ∙ ap (slice_get text) (sym at) ∙ p.2) in
@@ -129,7 +142,9 @@ no-byte text start none p =
 
 -- ---- the rule
 
-pub only-pushes : (text : List ℕ) (pc start count : ℕ) (found : Option UnwindRuleX86_64) → IsNext text pc → AreLongestPushes text pc start count → IsOnly (IsRuleOfPushes text start count) found → IsOnly (IsPrologueRule text pc) found
+pub only-pushes : (text : List ℕ) (pc start count : ℕ) (found : Option UnwindRuleX86_64) → IsNext text pc
+    → AreLongestPushes text pc start count → IsOnly (IsRuleOfPushes text start count) found
+    → IsOnly (IsPrologueRule text pc) found
 only-pushes text pc start count found next longest only =
     only-map (IsRuleOfPushes text start count) (IsPrologueRule text pc) found
     (λ rule made. record { next = next; start = start; count = count; longest = longest; made = made })
