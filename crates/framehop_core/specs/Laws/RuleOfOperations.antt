@@ -143,7 +143,8 @@ find-none :
 find-none test from zero m above below e = absurd (omega arith)
 find-none test from (suc count) m above below e =
     let rest = find test (range_with_len (from + 1) count) in
-    let later = λ (none : rest ≡ None) (next : from + 1 ≤ m). find-none test (from + 1) count m next (omega arith) none in
+    let later =
+    λ (none : rest ≡ None) (next : from + 1 ≤ m). find-none test (from + 1) count m next (omega arith) none in
     none-step test from m (test from) rest refl above later e
 
 least_below-some : (bound : ℕ) (test : ℕ → Bool) (n : ℕ) → least_below bound test ≡ Some n → IsLeast test 0 bound n
@@ -189,7 +190,8 @@ register_eq-Decides a b =
 -- what the test of a number says
 number-Decides :
     (registers : List Reg) (n : ℕ)
-    → let ordered = ordering (length registers) n in Decides (pointwise register_eq ordered registers) (ordered ≡ registers)
+    → let ordered = ordering (length registers) n in
+    Decides (pointwise register_eq ordered registers) (ordered ≡ registers)
 number-Decides registers n = slice_eq-Decides register_eq-Decides (ordering (length registers) n) registers _ refl
 
 not_less : (m n : ℕ) → (m < n → ⊥) → n ≤ m
