@@ -18,7 +18,7 @@ IsNoRule (Ok (ExecRule _)) = ⊥
 IsNoRule (Ok (Uncacheable _)) = Unit {0}
 IsNoRule (Err error) = IsMissingStackData error
 
--- What is returned by what the bytes give: their refusal, their rule, or no rule.
+-- What is returned, by what the bytes give: a refusal and a rule as they are, and where there is none, no rule.
 abbrev pub TellsFound :
     {Rule : Type 0} → Result (Option Rule) PeUnwinderError → Result (UnwindResult Rule) PeUnwinderError → Type 0
 TellsFound (Err error) result = result ≡ Err error

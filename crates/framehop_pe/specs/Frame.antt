@@ -116,7 +116,7 @@ found_of told = do
   way ← told
   Ok (rule_along way)
 
-abbrev pub found_at : Sections → ℕ → Bool → Result (Option UnwindRuleX86_64) PeUnwinderError
+unfoldable pub found_at : Sections → ℕ → Bool → Result (Option UnwindRuleX86_64) PeUnwinderError
 found_at sections address first = found_of (way_at sections address first)
 
 -- the return address and the caller's registers along the way that the bytes say, over memory
@@ -125,5 +125,5 @@ computed_of told memory r = do
   way ← told
   along way memory r
 
-abbrev pub computed_at : Sections → ℕ → Bool → Memory → Registers → Caller
+unfoldable pub computed_at : Sections → ℕ → Bool → Memory → Registers → Caller
 computed_at sections address first = computed_of (way_at sections address first)

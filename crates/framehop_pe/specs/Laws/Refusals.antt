@@ -137,6 +137,7 @@ way_or_leaf-of_bytes first sections address (Some function) = way_of-of_bytes fi
 
 -- the refusal that the bytes give is none of the stack
 pub found_at-of_bytes : (sections : Sections) (address : ℕ) (first : Bool) → IsOfBytes (found_at sections address first)
+unfolding found_at
 found_at-of_bytes sections address first =
     then-of_bytes (way_at sections address first) (λ way. Ok (rule_along way))
     (way_or_leaf-of_bytes first sections address (function_of sections.pdata address)) (λ way. tt)

@@ -313,6 +313,7 @@ impl PeUnwinding for ArchX86_64 {
 
     ghost computed = { computed_at };
 
+    #[tactic(auto, unfolding(crate::specs::Frame::found_at, crate::specs::Frame::computed_at))]
     fn unwind_frame<F, D>(
         sections: PeSections<'_, D>,
         address: u32,
