@@ -1,16 +1,12 @@
 -- Operations read one by one: what those that are left give, after some have been read.
-use Rattle.std.proofs.Common.{◌≡◌, ◌≢◌, ℕ, ◌<◌, ◌≤◌, Bool, true, false, List, [], ◌∷◌, ◌++◌, length, Option, Some, None, ◌⊎◌, inl, inr, refl, sym, ap, subst, ◌∙◌, append_assoc, append-nil, length-append, arith}
+use Rattle.std.proofs.Common.{◌≡◌, ◌≢◌, ℕ, ◌<◌, ◌≤◌, Bool, true, false, List, [], ◌∷◌, ◌++◌, length, Option, Some, None, refl, sym, ap, ◌∙◌, append_assoc, append-nil, length-append, arith}
 use Rattle.std.specs.Option.{option_map}
 use Rattle.std.proofs.lemmas.Option.{none-some, some_pair_parts}
 use Rattle.std.specs.Iterator.{AlwaysYields}
-use Rattle.framehop_core.specs.X86_64.Ordering.{ordering, IsArrangement, IsEncoding}
-use Rattle.framehop_core.specs.X86_64.Rules.{pops_of, offset_and_pops_of, IsRuleOf, IsRuleOfOperations}
-use Rattle.framehop_core.proofs.Orderings.{IsArrangement-encoding}
+use Rattle.framehop_core.specs.X86_64.Rules.{pops_of, offset_and_pops_of}
 use Rattle.framehop_core.specs.declared.x86_64.unwindregs.Reg.{Reg}
 use Rattle.framehop_core.specs.declared.x86_64.unwind_rule.OffsetOrPop.{OffsetOrPop}
 use Rattle.framehop_core.specs.declared.x86_64.unwind_rule.OffsetOrPop.TheVariants.{OffsetBy8, Pop}
-use Rattle.framehop_core.specs.declared.x86_64.unwind_rule.UnwindRuleX86_64.{UnwindRuleX86_64}
-use Rattle.framehop_core.specs.declared.x86_64.unwind_rule.UnwindRuleX86_64.TheVariants.{EndOfStack, JustReturn, JustReturnIfFirstFrameOtherwiseFp, OffsetSp, OffsetSpAndRestoreBp, UseFramePointer, OffsetSpAndPopRegisters}
 
 -- the offset and the registers, where these are the ones so far; `true`: no operation has been read
 abbrev pub continued : Bool → ℕ → List Reg → List OffsetOrPop → Option (ℕ × List Reg)
@@ -118,46 +114,3 @@ module _ {S : Type 0} (steps : S → Option OffsetOrPop → S → Type 0) (state
   Gives-other operation other step g =
       let n = next_of operation g.rest g.yields g.same step in
       sym n.2 ∙ other n.0
-
--- ---- one rule
-
-pub one-encoding : (registers : List Reg) (c d m n : ℕ) → IsEncoding registers c m → IsEncoding registers d n → (c ≡ d) × (m ≡ n)
-one-encoding registers c d m n e f =
-    let same : c ≡ d = e.counted ∙ sym f.counted in
-    let below : m ≤ n = e.least n (ap (λ k. ordering k n) same ∙ f.orders) in
-    let above : n ≤ m = f.least m (ap (λ k. ordering k m) (sym same) ∙ e.orders) in
-    (same, omega arith)
-
--- the two kinds of rules that operations have
-kinds : (x : ℕ) (registers : List Reg) (rule : UnwindRuleX86_64) → IsRuleOf x registers rule → ((rule ≡ JustReturn) × (x ≡ 0) × (registers ≡ [])) ⊎ ((count : ℕ) × (n : ℕ) × (rule ≡ OffsetSpAndPopRegisters x count n) × IsEncoding registers count n × ¬ ((x ≡ 0) × (registers ≡ [])))
-kinds x registers EndOfStack h = absurd h
-kinds x registers JustReturn h = inl (refl, h.0, h.1)
-kinds x registers JustReturnIfFirstFrameOtherwiseFp h = absurd h
-kinds x registers (OffsetSp y) h = absurd h
-kinds x registers (OffsetSpAndRestoreBp y z) h = absurd h
-kinds x registers UseFramePointer h = absurd h
-kinds x registers (OffsetSpAndPopRegisters y count n) h = inr (count, n, ap (λ k. OffsetSpAndPopRegisters k count n) h.0, h.1, h.2)
-
-one-kind : (x : ℕ) (registers : List Reg) (a b : UnwindRuleX86_64) → ((a ≡ JustReturn) × (x ≡ 0) × (registers ≡ [])) ⊎ ((count : ℕ) × (n : ℕ) × (a ≡ OffsetSpAndPopRegisters x count n) × IsEncoding registers count n × ¬ ((x ≡ 0) × (registers ≡ []))) → ((b ≡ JustReturn) × (x ≡ 0) × (registers ≡ [])) ⊎ ((count : ℕ) × (n : ℕ) × (b ≡ OffsetSpAndPopRegisters x count n) × IsEncoding registers count n × ¬ ((x ≡ 0) × (registers ≡ []))) → a ≡ b
-one-kind x registers a b (inl p) (inl q) = p.0 ∙ sym q.0
-one-kind x registers a b (inl p) (inr q) = absurd (q.4 (p.1, p.2))
-one-kind x registers a b (inr p) (inl q) = absurd (p.4 (q.1, q.2))
-one-kind x registers a b (inr p) (inr q) =
-    let same = one-encoding registers p.0 q.0 p.1 q.1 p.3 q.3 in
-    p.2 ∙ ap (λ c. OffsetSpAndPopRegisters x c p.1) same.0 ∙ ap (OffsetSpAndPopRegisters x q.0) same.1 ∙ sym q.2
-
--- the registers of a rule have an ordering
-arrangement_of : (x : ℕ) (registers : List Reg) (rule : UnwindRuleX86_64) → ((rule ≡ JustReturn) × (x ≡ 0) × (registers ≡ [])) ⊎ ((count : ℕ) × (n : ℕ) × (rule ≡ OffsetSpAndPopRegisters x count n) × IsEncoding registers count n × ¬ ((x ≡ 0) × (registers ≡ []))) → IsArrangement registers
-arrangement_of x registers rule (inl p) =
-    subst IsArrangement (sym p.2) (record { distinct = λ i j d less h. absurd (omega arith); among = λ i d h. absurd (omega arith) })
-arrangement_of x registers rule (inr p) = IsArrangement-encoding registers p.0 p.1 p.3
-
--- operations have one rule, or none
-pub one-IsRuleOfOperations : (operations : List OffsetOrPop) (a b : Option UnwindRuleX86_64) → IsRuleOfOperations operations a → IsRuleOfOperations operations b → a ≡ b
-one-IsRuleOfOperations operations None None p q = refl
-one-IsRuleOfOperations operations None (Some b) p q = absurd (p q.0 q.1 q.2 (arrangement_of q.0 q.1 b (kinds q.0 q.1 b q.3)))
-one-IsRuleOfOperations operations (Some a) None p q = absurd (q p.0 p.1 p.2 (arrangement_of p.0 p.1 a (kinds p.0 p.1 a p.3)))
-one-IsRuleOfOperations operations (Some a) (Some b) p q =
-    let same = some_pair_parts p.0 q.0 p.1 q.1 (sym p.2 ∙ q.2) in
-    let moved : IsRuleOf p.0 p.1 b = subst (λ k. IsRuleOf k p.1 b) (sym same.0) (subst (λ rs. IsRuleOf q.0 rs b) (sym same.1) q.3) in
-    ap Some (one-kind p.0 p.1 a b (kinds p.0 p.1 a p.3) (kinds p.0 p.1 b moved))

@@ -3,3 +3,5 @@
 pub mod Outcome
 pub mod Aarch64
 pub mod X86_64
+pub mod Orderings
+pub mod RuleOfOperations

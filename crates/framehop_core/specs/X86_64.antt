@@ -2,3 +2,4 @@
 pub mod Registers
 pub mod Ordering
 pub mod Rules
+pub mod RuleOfOperations

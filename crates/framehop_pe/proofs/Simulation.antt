@@ -11,7 +11,9 @@ use Rattle.framehop_core.specs.X86_64.Ordering.{eight, ordering, IsEncoding}
 use Rattle.framehop_core.specs.X86_64.Registers.{Registers, with_register}
 use Rattle.framehop_core.specs.Laws.X86_64.{caller-answered, pops-answered}
 use Rattle.framehop_core.specs.X86_64.Rules.{nothing_more, kept, popped, outcome, pops_of, offset_and_pops_of, IsRuleOf, IsRuleOfOperations, is_executable}
-use Rattle.framehop_core.proofs.Orderings.{IsArrangement-encoding, IsArrangement-number}
+use Rattle.framehop_core.specs.Laws.Orderings.{IsArrangement-encoding, IsArrangement-number}
+use Rattle.framehop_core.specs.Laws.RuleOfOperations.{rule_of_operations-is}
+use Rattle.framehop_core.specs.X86_64.RuleOfOperations.{rule_of, rule_of_operations}
 use Rattle.framehop_core.specs.declared.error.Error.{Error}
 use Rattle.framehop_core.specs.declared.x86_64.unwindregs.Reg.{Reg}
 use Rattle.framehop_core.specs.declared.x86_64.unwindregs.Reg.TheVariants.{RAX, RDX, RCX, RBX, RSI, RDI, RBP, RSP, R8, R9, R10, R11, R12, R13, R14, R15}
@@ -26,8 +28,8 @@ use Rattle.framehop_pe.specs.declared.unwind_info.epilog.FunctionEpilogInstructi
 use Rattle.framehop_pe.specs.declared.unwind_info.epilog.FunctionEpilogInstruction.TheVariants.{AddSP, AddSPFromFP, Pop as PopOf}
 use Rattle.framehop_core.specs.declared.unwind_result.UnwindResult.{UnwindResult}
 use Rattle.framehop_core.specs.declared.unwind_result.UnwindResult.TheVariants.{ExecRule, Uncacheable}
-use Rattle.framehop_pe.specs.Answer.{IfRule}
-use Rattle.framehop_pe.specs.Frame.{Way, by_epilog, by_codes, offsets_and_pops, returned, Says, Simulates}
+use Rattle.framehop_pe.specs.Answer.{TellsFound, Simulates, IfRule}
+use Rattle.framehop_pe.specs.Frame.{Way, by_epilog, by_codes, Told, offsets_and_pops, returned, along, rule_along, found_of, computed_of}
 use Rattle.framehop_pe.specs.declared.pe.PeUnwinderError.{PeUnwinderError}
 use Rattle.framehop_pe.specs.Offsets.{offset_of, of_operation, of_instruction}
 use Rattle.framehop_pe.specs.declared.unwind_info.chain.FrameBase.{FrameBase}
@@ -376,15 +378,15 @@ rule-popped x registers UseFramePointer first r memory address new h e = absurd 
 rule-popped x registers (OffsetSpAndPopRegisters y count n) first r memory address new h e = several x registers y count n first r memory address new h.0 h.1 e
 
 -- the rule of a way simulates it
-pub Simulates-way : (rule : UnwindRuleX86_64) (way : Way) → IsRuleOfOperations (offsets_and_pops way) (Some rule) → Simulates rule way
-Simulates-way rule (by_epilog frame instructions) h = λ first memory r address new e.
+pub Simulates-way : (rule : UnwindRuleX86_64) (way : Way) → IsRuleOfOperations (offsets_and_pops way) (Some rule) → Simulates outcome (along way) rule
+Simulates-way rule (by_epilog frame instructions) h = λ first r new memory address e.
     let p = rule-popped h.0 h.1 rule first r memory address new h.3 e in
     ap returned (ran-sequence memory frame instructions h.0 h.1 address r p.restored p.apart h.2 p.fits p.pops_are p.word) ∙ ap (λ s. Ok (address, s)) p.new_is
-Simulates-way rule (by_codes operations) h = λ first memory r address new e.
+Simulates-way rule (by_codes operations) h = λ first r new memory address e.
     let p = rule-popped h.0 h.1 rule first r memory address new h.3 e in
     ap returned (resolved-sequence memory operations h.0 h.1 address r p.restored h.2 p.fits p.pops_are p.word) ∙ ap (λ s. Ok (address, s)) p.new_is
 
--- ---- what a call returns
+-- ---- what is found
 
 executable : (x : ℕ) (registers : List Reg) (rule : UnwindRuleX86_64) → IsRuleOf x registers rule → is_executable rule ≡ true
 executable x registers EndOfStack h = absurd h
@@ -400,27 +402,44 @@ executable x registers (OffsetSpAndPopRegisters y count n) h =
     let below : nat_lt n 40320 ≡ true = (let b = encoding.below in grind (arith, nat_tests)) in
     rw (fits, below) refl
 
-pub says-executable : (told : Result Way PeUnwinderError) (result : Result (UnwindResult UnwindRuleX86_64) PeUnwinderError) → Says told result → IfRule result (λ rule. IsTrue (is_executable rule))
-says-executable (Ok way) (Ok (ExecRule rule)) h = executable h.0 h.1 rule h.3
-says-executable (Ok way) (Ok (Uncacheable address)) h = tt
-says-executable (Ok way) (Err error) h = tt
-says-executable (Err error) (Ok (ExecRule rule)) h = cc
-says-executable (Err error) (Ok (Uncacheable address)) h = tt
-says-executable (Err error) (Err other) h = tt
+-- a rule that is found is that of the way that the bytes say
+found-way : (told : Told) (rule : UnwindRuleX86_64) → found_of told ≡ Ok (Some rule) → (way : Way) × (told ≡ Ok way) × IsRuleOfOperations (offsets_and_pops way) (Some rule)
+found-way (Ok way) rule e =
+    let same : rule_along way ≡ Some rule = cc in
+    (way, refl, subst (IsRuleOfOperations (offsets_and_pops way)) same (rule_of_operations-is (offsets_and_pops way)))
+found-way (Err error) rule e = cc
 
-pub says-simulated : (told : Result Way PeUnwinderError) (result : Result (UnwindResult UnwindRuleX86_64) PeUnwinderError) → Says told result → IfRule result (λ rule. (way : Way) × (told ≡ Ok way) × Simulates rule way)
-says-simulated (Ok way) (Ok (ExecRule rule)) h = (way, refl, Simulates-way rule way h)
-says-simulated (Ok way) (Ok (Uncacheable address)) h = tt
-says-simulated (Ok way) (Err error) h = tt
-says-simulated (Err error) (Ok (ExecRule rule)) h = cc
-says-simulated (Err error) (Ok (Uncacheable address)) h = tt
-says-simulated (Err error) (Err other) h = tt
+-- what holds of a rule that is found holds of one that is returned
+returned-rule : {Rule : Type 0} (P : Rule → Type 0) (found : Result (Option Rule) PeUnwinderError) (result : Result (UnwindResult Rule) PeUnwinderError) → TellsFound found result → ((rule : Rule) → found ≡ Ok (Some rule) → P rule) → IfRule result P
+returned-rule P (Err error) result h all = subst (λ r. IfRule r P) (sym h) tt
+returned-rule P (Ok (Some rule)) result h all = subst (λ r. IfRule r P) (sym h) (all rule refl)
+returned-rule P (Ok None) (Ok (ExecRule rule)) h all = absurd h
+returned-rule P (Ok None) (Ok (Uncacheable address)) h all = tt
+returned-rule P (Ok None) (Err error) h all = tt
 
--- the same, told under another name
-pub says-simulated_at : (told whole : Result Way PeUnwinderError) (result : Result (UnwindResult UnwindRuleX86_64) PeUnwinderError) → whole ≡ told → Says told result → IfRule result (λ rule. (way : Way) × (whole ≡ Ok way) × Simulates rule way)
-says-simulated_at told whole result e h =
-    subst (λ t. IfRule result (λ rule. (way : Way) × (t ≡ Ok way) × Simulates rule way)) (sym e) (says-simulated told result h)
+pub found-executable : (told : Told) (result : Result (UnwindResult UnwindRuleX86_64) PeUnwinderError) → TellsFound (found_of told) result → IfRule result (λ rule. IsTrue (is_executable rule))
+found-executable told result h =
+    returned-rule (λ rule. IsTrue (is_executable rule)) (found_of told) result h (λ rule e.
+    let p = (found-way told rule e).2 in
+    executable p.0 p.1 rule p.3)
+
+pub found-simulated : (told whole : Told) (result : Result (UnwindResult UnwindRuleX86_64) PeUnwinderError) → whole ≡ told → TellsFound (found_of told) result → IfRule result (Simulates outcome (computed_of whole))
+found-simulated told whole result same h =
+    returned-rule (Simulates outcome (computed_of whole)) (found_of told) result h (λ rule e first old new memory address answers.
+    let p = found-way told rule e in
+    ap (λ t. computed_of t memory old) (same ∙ p.1) ∙ Simulates-way rule p.0 p.2 first old new memory address answers)
 
 -- a function that the table does not have
-pub leaf-simulated : Simulates JustReturn (by_codes [])
-leaf-simulated = Simulates-way JustReturn (by_codes []) (0, [], refl, (refl, refl))
+leaf-rule : rule_along (by_codes []) ≡ Some JustReturn
+unfolding rule_of_operations rule_of
+leaf-rule = refl
+
+pub leaf-found : (whole : Told) → whole ≡ Ok (by_codes []) → TellsFound (found_of whole) (Ok (ExecRule JustReturn))
+leaf-found whole same =
+    let found : found_of whole ≡ Ok (Some JustReturn) = ap found_of same ∙ ap Ok leaf-rule in
+    subst (λ f. TellsFound f (Ok (ExecRule JustReturn))) (sym found) refl
+
+pub leaf-simulated : (whole : Told) → whole ≡ Ok (by_codes []) → Simulates outcome (computed_of whole) JustReturn
+leaf-simulated whole same = λ first old new memory address answers.
+    ap (λ t. computed_of t memory old) same
+    ∙ Simulates-way JustReturn (by_codes []) (0, [], refl, (refl, refl)) first old new memory address answers

@@ -3,7 +3,8 @@ use Rattle.std.specs.Prelude.{ℕ, zero, suc, ◌+◌, ◌-◌, ◌/◌, ◌%◌
 use Rattle.std.specs.Int.{cast_signed, w8, w32}
 use Rattle.framehop_cfi.specs.Bytes.{le4}
 use Rattle.framehop_core.specs.declared.x86_64.unwindregs.Reg.{Reg}
-use Rattle.framehop_pe.specs.Register.{register_of, register_eq}
+use Rattle.framehop_core.specs.X86_64.RuleOfOperations.{register_eq}
+use Rattle.framehop_pe.specs.Register.{register_of}
 use Rattle.framehop_pe.specs.declared.unwind_info.epilog.FunctionEpilogInstruction.{FunctionEpilogInstruction}
 use Rattle.framehop_pe.specs.declared.unwind_info.epilog.FunctionEpilogInstruction.TheVariants.{AddSP, AddSPFromFP, Pop}
 

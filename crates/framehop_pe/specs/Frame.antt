@@ -1,12 +1,9 @@
 -- A frame of a function with x64 unwind info (Microsoft, "x64 exception handling", "Unwind procedure").
-use Rattle.std.specs.Prelude.{◌≡◌, ℕ, ◌-◌, Bool, true, false, nat_le, if◌then◌else◌, List, [], length, take, map, Option, Some, None, option_map, Result, Ok, Err}
+use Rattle.std.specs.Prelude.{ℕ, ◌-◌, Bool, true, false, nat_le, if◌then◌else◌, List, [], length, take, map, Option, Some, None, option_map, Result, Ok, Err}
 use Rattle.framehop_cfi.specs.Bytes.{◌>>=◌}
 use Rattle.framehop_core.specs.Memory.{Memory}
-use Rattle.framehop_core.specs.Outcome.{answered}
 use Rattle.framehop_core.specs.X86_64.Registers.{Registers}
-use Rattle.framehop_core.specs.X86_64.Rules.{outcome, IsRuleOfOperations}
-use Rattle.framehop_core.specs.declared.unwind_result.UnwindResult.{UnwindResult}
-use Rattle.framehop_core.specs.declared.unwind_result.UnwindResult.TheVariants.{ExecRule, Uncacheable}
+use Rattle.framehop_core.specs.X86_64.RuleOfOperations.{rule_of_operations}
 use Rattle.framehop_core.specs.declared.x86_64.unwindregs.Reg.{Reg}
 use Rattle.framehop_core.specs.declared.x86_64.unwind_rule.OffsetOrPop.{OffsetOrPop}
 use Rattle.framehop_core.specs.declared.x86_64.unwind_rule.UnwindRuleX86_64.{UnwindRuleX86_64}
@@ -16,7 +13,7 @@ use Rattle.framehop_pe.specs.EpilogRun.{ran}
 use Rattle.framehop_pe.specs.FunctionTable.{function_of}
 use Rattle.framehop_pe.specs.Info.{Header}
 use Rattle.framehop_pe.specs.Offsets.{of_instruction, of_operation}
-use Rattle.framehop_pe.specs.Resolve.{Caller, IsMissingStackData, resolved}
+use Rattle.framehop_pe.specs.Resolve.{Caller, resolved}
 use Rattle.framehop_pe.specs.Sections.{Sections, text_at}
 use Rattle.framehop_pe.specs.declared.pe.PeUnwinderError.{PeUnwinderError}
 use Rattle.framehop_pe.specs.declared.pe.PeUnwinderError.TheVariants.{MissingInstructionData}
@@ -107,43 +104,26 @@ abbrev pub along : Way → Memory → Registers → Caller
 along (by_epilog frame instructions) memory r = returned (ran memory frame instructions r)
 along (by_codes operations) memory r = returned (resolved memory operations r)
 
--- ---- what a call returns
+-- ---- what is returned
 
--- what a call returns
-abbrev pub Answer : Type 0
-Answer = Result (UnwindResult UnwindRuleX86_64) PeUnwinderError
+-- the rule of a way, if its offsets and pops have one
+abbrev pub rule_along : Way → Option UnwindRuleX86_64
+rule_along way = rule_of_operations (offsets_and_pops way)
 
--- a rule where the offsets and pops have one, else a return address or a failure of the stack
-abbrev pub Decides : List OffsetOrPop → Answer → Type 0
-Decides operations (Ok (ExecRule rule)) = IsRuleOfOperations operations (Some rule)
-Decides operations (Ok (Uncacheable _)) = IsRuleOfOperations operations None
-Decides operations (Err error) = IsRuleOfOperations operations None × IsMissingStackData error
+-- what the bytes give: their refusal, or a rule, or none
+abbrev pub found_of : Told → Result (Option UnwindRuleX86_64) PeUnwinderError
+found_of told = do
+  way ← told
+  Ok (rule_along way)
 
--- what a call returns by the way that the bytes say, or by the refusal that they give
-abbrev pub Says : Told → Answer → Type 0
-Says (Ok way) result = Decides (offsets_and_pops way) result
-Says (Err error) result = result ≡ Err error
+unfoldable pub found_at : Sections → ℕ → Bool → Result (Option UnwindRuleX86_64) PeUnwinderError
+found_at sections address first = found_of (way_at sections address first)
 
--- where no rule is returned: the return address and the caller's registers of a run, or its failure
-abbrev pub HasRun : Caller → Answer → Registers → Type 0
-HasRun run (Ok (ExecRule _)) new = Unit {0}
-HasRun run (Ok (Uncacheable address)) new = run ≡ Ok (address, new)
-HasRun run (Err error) new = run ≡ Err error
+-- the return address and the caller's registers along the way that the bytes say, over memory
+abbrev pub computed_of : Told → Memory → Registers → Caller
+computed_of told memory r = do
+  way ← told
+  along way memory r
 
--- the same along the way that the bytes say, if there is one
-abbrev pub Computes : Told → Memory → Registers → Answer → Registers → Type 0
-Computes (Ok way) memory old result new = HasRun (along way memory old) result new
-Computes (Err _) memory old result new = Unit {0}
-
--- ---- the simulation
-
--- Where the rule answers an address, in a frame of either kind, it is that of the way, and so are the sixteen registers
--- and the instruction pointer.
-abbrev pub Simulates : UnwindRuleX86_64 → Way → Type 0
-Simulates rule way =
-    (first : Bool) (memory : Memory) (r : Registers) (address : ℕ) (new : Registers)
-    → outcome rule first r memory ≡ answered address new → along way memory r ≡ Ok (address, new)
-
--- the bytes say a way that the rule simulates
-abbrev pub IsSimulated : Sections → ℕ → Bool → UnwindRuleX86_64 → Type 0
-IsSimulated sections address first rule = (way : Way) × (way_at sections address first ≡ Ok way) × Simulates rule way
+unfoldable pub computed_at : Sections → ℕ → Bool → Memory → Registers → Caller
+computed_at sections address first = computed_of (way_at sections address first)

@@ -13,3 +13,4 @@ pub mod EpilogRun
 pub mod Answer
 pub mod Offsets
 pub mod Frame
+pub mod Laws

@@ -90,11 +90,6 @@ undone memory (MachineFrame error_code) base r = undone_machine_frame memory err
 abbrev pub Caller : Type 0
 Caller = Result (ℕ × Registers) PeUnwinderError
 
--- the error of a stack that can't be read, or of an address that does not fit
-abbrev pub IsMissingStackData : PeUnwinderError → Type 0
-IsMissingStackData (MissingStackData _) = Unit {0}
-IsMissingStackData _ = ⊥
-
 -- a word at rsp that may not be there, popped: rsp rises to a sum that may not fit
 abbrev pub popped_at : Option ℕ → Option ℕ → Registers → Caller
 popped_at None sp r = Err (MissingStackData (Some r.rsp))

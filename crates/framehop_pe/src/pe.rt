@@ -1,9 +1,8 @@
 //! What a PE module lends for unwinding, and the trait of an architecture that unwinds by it
 //! (framehop 0.16.0, `pe.rs`).
-ghost use Rattle.std.specs.Prelude.{◌≡◌, ℕ, Bool, IsTrue, Some, None, Result, MatchOption, MatchResult};
+ghost use Rattle.std.specs.Prelude.{◌≡◌, ℕ, Bool, IsTrue, Option, Some, None, Result, MatchOption, MatchResult, IfErr};
 ghost use Rattle.framehop_core.specs.Memory.{Memory, AnswersAs};
-ghost use Rattle.framehop_core.specs.declared.unwind_result.UnwindResult.{UnwindResult};
-ghost use Rattle.framehop_pe.specs.Answer.{KeptUnlessDirect, IfRule};
+ghost use Rattle.framehop_pe.specs.Answer.{IsMissingStackData, TellsFound, IsComputed, Simulates, KeptUnlessDirect, IfRule};
 ghost use Rattle.framehop_pe.specs.declared.pe.PeUnwinderError.{PeUnwinderError};
 ghost use Rattle.framehop_pe.specs.Sections.{Sections, sections_of, placed_of, bytes_at, unwind_info_at, text_at};
 
@@ -116,16 +115,13 @@ fn memory_at_rva<D: SectionBytes>(data: &DataAtRvaRange<D>, address: u32) -> Opt
 
 /// An architecture that unwinds by the unwind info of PE modules.
 pub trait PeUnwinding: Arch {
-    // what a call returns by the bytes only, whatever the stack: of sections, a relative address
-    // and the kind of the frame (`true`: the first)
-    ghost says: { Sections → ℕ → Bool → Result (UnwindResult Self.UnwindRule) PeUnwinderError → Type 0 };
+    // what the bytes give: a refusal, a rule, or none; of sections, a relative address and the kind
+    // of the frame (`true`: the first)
+    ghost found: { Sections → ℕ → Bool → Result (Option Self.UnwindRule) PeUnwinderError };
 
-    // what a call that returns no rule does, over memory: with its result, from the registers of
-    // the callee to those of the caller
-    ghost computes: { Sections → ℕ → Bool → Memory → Self.UnwindRegs → Result (UnwindResult Self.UnwindRule) PeUnwinderError → Self.UnwindRegs → Type 0 };
-
-    // a rule does to registers and memory what the unwind info says
-    ghost is_simulated: { Sections → ℕ → Bool → Self.UnwindRule → Type 0 };
+    // the return address and the caller's registers by what the bytes say, over memory, from the
+    // registers of the callee, or why there are none
+    ghost computed: { Sections → ℕ → Bool → Memory → Self.UnwindRegs → Result (ℕ × Self.UnwindRegs) PeUnwinderError };
 
     /// Unwinds one frame of a function at a relative address (RVA): returns a rule for the address,
     /// or the return address (AVMA) of this frame, after it has written the caller's registers.
@@ -149,10 +145,11 @@ pub trait PeUnwinding: Arch {
         requires { F.IsAlwaysCallable read_stack.old }
         ensures callable { F.IsAlwaysCallable read_stack.new }
         ensures kept { KeptUnlessDirect result regs.old regs.new }
-        ensures bytes { says (sections_of D.contents sections.entry) address is_first_frame result }
+        ensures found { TellsFound (found (sections_of D.contents sections.entry) address is_first_frame) result }
+        ensures refusal { IfErr (found (sections_of D.contents sections.entry) address is_first_frame) (λ error. ¬ IsMissingStackData error) }
         ensures executable { IfRule result (λ rule. IsTrue (Self.UnwindRule.executable rule)) }
-        ensures simulation { IfRule result (is_simulated (sections_of D.contents sections.entry) address is_first_frame) }
+        ensures simulation { IfRule result (Simulates Self.UnwindRule.outcome (computed (sections_of D.contents sections.entry) address is_first_frame)) }
         ensures answers { (memory : Memory) → AnswersAs F.FnMut read_stack.old memory
             → AnswersAs F.FnMut read_stack.new memory
-            × computes (sections_of D.contents sections.entry) address is_first_frame memory regs.old result regs.new };
+            × IsComputed (computed (sections_of D.contents sections.entry) address is_first_frame memory regs.old) result regs.new };
 }

@@ -6,14 +6,12 @@ use framehop_core::aarch64::{ArchAarch64, UnwindRegsAarch64, UnwindRuleAarch64};
 use framehop_core::unwind_result::UnwindResult;
 
 impl PeUnwinding for ArchAarch64 {
-    ghost use Rattle.std.specs.Prelude.{◌≡◌, Err};
+    ghost use Rattle.std.specs.Prelude.{Err};
     ghost use Rattle.framehop_pe.specs.declared.pe.PeUnwinderError.TheVariants.{Aarch64Unsupported};
 
-    ghost says = { λ sections address first result. result ≡ Err Aarch64Unsupported };
+    ghost found = { λ sections address first. Err Aarch64Unsupported };
 
-    ghost computes = { λ sections address first memory old result new. Unit {0} };
-
-    ghost is_simulated = { λ sections address first rule. Unit {0} };
+    ghost computed = { λ sections address first memory old. Err Aarch64Unsupported };
 
     fn unwind_frame<F, D>(
         _sections: PeSections<'_, D>,

@@ -5,7 +5,7 @@ ghost use Rattle.std.specs.Iterator.{YieldsFirst, item_count};
 ghost use Rattle.framehop_pe.specs.Epilog.{instruction_at, release_at, add_at, short_add_at, long_add_at, lea_at, is_register, displaced_at, pop_at, high_pop_at, is_end, is_return, is_indirect_jump, is_wide_indirect_jump, is_near_jump_outside, is_short_jump_outside, target_of, is_outside, pops_in, epilog_of};
 ghost use Rattle.framehop_core.specs.Memory.{Memory};
 ghost use Rattle.framehop_pe.specs.EpilogRun.{with_sp, beside_register, stepped, ran};
-ghost use Rattle.framehop_pe.specs.Resolve.{IsMissingStackData};
+ghost use Rattle.framehop_pe.specs.Answer.{IsMissingStackData};
 ghost use Rattle.framehop_pe.specs.Instructions.{left_instructions};
 
 use super::info::skip_bytes;

@@ -2,7 +2,8 @@
 ghost use Rattle.std.specs.Prelude.{◌≡◌, Ok, Err, Some, None, MatchOption, MatchResult, IfErr};
 ghost use Rattle.framehop_core.specs.Memory.{Memory};
 ghost use Rattle.framehop_pe.specs.Operations.{left_operations};
-ghost use Rattle.framehop_pe.specs.Resolve.{IsMissingStackData, base_of, restored_sp, saves_base, machine_frame_at, popped_register, undone_machine_frame, undone, resolved};
+ghost use Rattle.framehop_pe.specs.Answer.{IsMissingStackData};
+ghost use Rattle.framehop_pe.specs.Resolve.{base_of, restored_sp, saves_base, machine_frame_at, popped_register, undone_machine_frame, undone, resolved};
 ghost use Rattle.framehop_core.specs.X86_64.Registers.{with_register};
 
 use super::chain::{FrameBase, FramedOperation, UnwindOperations};

@@ -3,7 +3,8 @@ ghost use Rattle.std.specs.Prelude.{◌≡◌, Ok, Err, MatchResult, IfErr};
 ghost use Rattle.std.specs.Borrow.{GName};
 ghost use Rattle.framehop_core.specs.Memory.{Memory};
 ghost use Rattle.framehop_core.specs.X86_64.Registers.{Registers, register, with_register};
-ghost use Rattle.framehop_pe.specs.Resolve.{IsMissingStackData, popped_word};
+ghost use Rattle.framehop_pe.specs.Answer.{IsMissingStackData};
+ghost use Rattle.framehop_pe.specs.Resolve.{popped_word};
 
 use crate::pe::PeUnwinderError;
 use framehop_core::x86_64::Reg;

@@ -1,14 +1,14 @@
 //! Unwinding by Microsoft's x64 unwind info (framehop 0.16.0, `x86_64/pe.rs`).
 ghost use Rattle.std.specs.Prelude.{◌≡◌, ◌<◌, Some, None, Ok, Err, MatchOption, MatchResult, option_map, map};
 ghost use Rattle.framehop_core.specs.Memory.{Memory, AnswersAs};
-ghost use Rattle.framehop_core.specs.X86_64.Rules.{IsRuleOfOperations};
-ghost use Rattle.framehop_pe.specs.Answer.{KeptUnlessDirect, IfRule};
+ghost use Rattle.framehop_core.specs.X86_64.RuleOfOperations.{rule_of_operations};
+ghost use Rattle.framehop_pe.specs.Answer.{TellsFound, IsComputed, KeptUnlessDirect};
 ghost use Rattle.framehop_pe.specs.Sections.{sections_of};
 ghost use Rattle.framehop_pe.specs.Info.{shown};
 ghost use Rattle.framehop_pe.specs.Operations.{left_operations};
 ghost use Rattle.framehop_pe.specs.Instructions.{left_instructions};
 ghost use Rattle.framehop_pe.specs.Offsets.{offset_of, of_instruction};
-ghost use Rattle.framehop_pe.specs.Frame.{by_epilog, by_codes, frame_register, code_at, epilog_at, codes_way, way_of, offsets_and_pops, along, Decides, Says, HasRun, Computes};
+ghost use Rattle.framehop_pe.specs.Frame.{by_epilog, by_codes, frame_register, code_at, epilog_at, codes_way, way_of, along, rule_along, found_of, computed_of};
 
 use crate::pe::{PeSections, PeUnwinderError, PeUnwinding};
 use crate::unwind_info::chain::UnwindOperations;
@@ -96,7 +96,7 @@ impl From<&'_ UnwindOperation> for OffsetOrPop {
 fn rule_of_codes<D: SectionBytes>(
     operations: UnwindOperations<'_, '_, D>,
 ) -> Option<UnwindRuleX86_64>
-    ensures { IsRuleOfOperations (offsets_and_pops (by_codes (left_operations D.contents operations.entry))) result }
+    ensures { result ≡ rule_along (by_codes (left_operations D.contents operations.entry)) }
 {
     let offsets_and_pops = operations.map(|framed| OffsetOrPop::from(&framed.operation));
     UnwindRuleX86_64::for_sequence_of_offset_or_pop(offsets_and_pops)
@@ -104,7 +104,7 @@ fn rule_of_codes<D: SectionBytes>(
 
 /// Returns the rule that does what these instructions do, if there is one.
 fn rule_of_epilog(instructions: EpilogInstructions<'_>) -> Option<UnwindRuleX86_64>
-    ensures { IsRuleOfOperations (map of_instruction (left_instructions instructions.entry)) result }
+    ensures { result ≡ rule_of_operations (map of_instruction (left_instructions instructions.entry)) }
 {
     let offsets_and_pops = instructions.map(|instruction| OffsetOrPop::from(&instruction));
     UnwindRuleX86_64::for_sequence_of_offset_or_pop(offsets_and_pops)
@@ -150,10 +150,10 @@ where
     requires { F.IsAlwaysCallable read_stack.old }
     ensures callable { F.IsAlwaysCallable read_stack.new }
     ensures kept { KeptUnlessDirect result regs.old regs.new }
-    ensures decides { Decides (offsets_and_pops (by_codes (left_operations D.contents operations.entry))) result }
+    ensures found { TellsFound (Ok (rule_along (by_codes (left_operations D.contents operations.entry)))) result }
     ensures answers { (memory : Memory) → AnswersAs F.FnMut read_stack.old memory
         → AnswersAs F.FnMut read_stack.new memory
-        × HasRun (along (by_codes (left_operations D.contents operations.entry)) memory regs.old) result regs.new }
+        × IsComputed (along (by_codes (left_operations D.contents operations.entry)) memory regs.old) result regs.new }
 {
     if let Some(rule) = rule_of_codes(operations) {
         return Ok(UnwindResult::ExecRule(rule));
@@ -176,10 +176,10 @@ fn unwind_epilog<F: FnMut(u64) -> Result<u64, ()>>(
     requires { F.IsAlwaysCallable read_stack.old }
     ensures callable { F.IsAlwaysCallable read_stack.new }
     ensures kept { KeptUnlessDirect result regs.old regs.new }
-    ensures decides { Decides (offsets_and_pops (by_epilog frame_register (left_instructions instructions.entry))) result }
+    ensures found { TellsFound (Ok (rule_along (by_epilog frame_register (left_instructions instructions.entry)))) result }
     ensures answers { (memory : Memory) → AnswersAs F.FnMut read_stack.old memory
         → AnswersAs F.FnMut read_stack.new memory
-        × HasRun (along (by_epilog frame_register (left_instructions instructions.entry)) memory regs.old) result regs.new }
+        × IsComputed (along (by_epilog frame_register (left_instructions instructions.entry)) memory regs.old) result regs.new }
 {
     if let Some(rule) = rule_of_epilog(instructions) {
         return Ok(UnwindResult::ExecRule(rule));
@@ -256,10 +256,10 @@ where
     requires { F.IsAlwaysCallable read_stack.old }
     ensures callable { F.IsAlwaysCallable read_stack.new }
     ensures kept { KeptUnlessDirect result regs.old regs.new }
-    ensures says { Says (codes_way (sections_of D.contents sections.now) function (shown info.entry) address) result }
+    ensures found { TellsFound (found_of (codes_way (sections_of D.contents sections.now) function (shown info.entry) address)) result }
     ensures answers { (memory : Memory) → AnswersAs F.FnMut read_stack.old memory
         → AnswersAs F.FnMut read_stack.new memory
-        × Computes (codes_way (sections_of D.contents sections.now) function (shown info.entry) address) memory regs.old result regs.new }
+        × IsComputed (computed_of (codes_way (sections_of D.contents sections.now) function (shown info.entry) address) memory regs.old) result regs.new }
 {
     let offset = address.saturating_sub(function.begin_address);
     match UnwindOperations::new(sections, info, offset) {
@@ -285,10 +285,10 @@ where
     requires { F.IsAlwaysCallable read_stack.old }
     ensures callable { F.IsAlwaysCallable read_stack.new }
     ensures kept { KeptUnlessDirect result regs.old regs.new }
-    ensures says { Says (way_of is_first_frame (sections_of D.contents sections.now) function address) result }
+    ensures found { TellsFound (found_of (way_of is_first_frame (sections_of D.contents sections.now) function address)) result }
     ensures answers { (memory : Memory) → AnswersAs F.FnMut read_stack.old memory
         → AnswersAs F.FnMut read_stack.new memory
-        × Computes (way_of is_first_frame (sections_of D.contents sections.now) function address) memory regs.old result regs.new }
+        × IsComputed (computed_of (way_of is_first_frame (sections_of D.contents sections.now) function address) memory regs.old) result regs.new }
 {
     let info = match sections.unwind_info(function.unwind_info_address) {
         Ok(info) => info,
@@ -307,14 +307,13 @@ where
 }
 
 impl PeUnwinding for ArchX86_64 {
-    ghost use Rattle.framehop_pe.specs.Frame.{way_at, Says, Computes, IsSimulated};
+    ghost use Rattle.framehop_pe.specs.Frame.{found_at, computed_at};
 
-    ghost says = { λ sections address first result. Says (way_at sections address first) result };
+    ghost found = { found_at };
 
-    ghost computes = { λ sections address first memory old result new. Computes (way_at sections address first) memory old result new };
+    ghost computed = { computed_at };
 
-    ghost is_simulated = { λ sections address first rule. IsSimulated sections address first rule };
-
+    #[tactic(auto, unfolding(crate::specs::Frame::found_at, crate::specs::Frame::computed_at))]
     fn unwind_frame<F, D>(
         sections: PeSections<'_, D>,
         address: u32,

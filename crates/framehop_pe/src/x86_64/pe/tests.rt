@@ -36,6 +36,17 @@ const FUNCTION: [u8; 12] = [0, 0x10, 0, 0, 0x40, 0x10, 0, 0, 0, 0x20, 0, 0];
 /// The offset 32 and a pop of rbx: the codes of `push rbx` and `sub rsp, 32`.
 const PUSH_AND_ALLOC: [u8; 8] = [1, 6, 2, 0, 6, 0x32, 2, 0x30];
 
+/// Their epilog: `add rsp, 32`, `pop rbx` and `ret`.
+const ADD_AND_POP: [u8; 6] = [0x48, 0x83, 0xc4, 0x20, 0x5b, 0xc3];
+
+/// Unwind info that is chained to itself.
+const CHAINED_TO_ITSELF: [u8; 16] = [
+    0x21, 0, 0, 0, 0, 0x10, 0, 0, 0x40, 0x10, 0, 0, 0, 0x20, 0, 0,
+];
+
+/// The code UWOP_PUSH_MACHFRAME, without an error code.
+const MACHINE_FRAME: [u8; 6] = [1, 0, 1, 0, 0, 0x0a];
+
 fn pops(sp_offset_by_8: u16, register_count: u8, encoded_registers_to_pop: u16) -> Answer {
     Answer::Rule(UnwindRuleX86_64::OffsetSpAndPopRegisters {
         sp_offset_by_8,
@@ -626,6 +637,101 @@ fn needs_the_code_up_to_the_end(rt: HostRuntime) {
         unwind_code(&[0x5b, 0xc3], 0x103e, &[1, 0, 9, 4], &mut regs, &[]),
         pops(0, 1, 0)
     );
+}
+
+/// Unwinds a caller frame of the function from rsp 0x100, and returns the registers too.
+fn unwind_from_start(
+    info: &[u8],
+    address: u32,
+    stack: &[(u64, u64)],
+) -> (Answer, UnwindRegsX86_64) {
+    let mut regs = UnwindRegsX86_64::new(0x1006, 0x100, 0);
+    let answer = unwind_info(info, address, &mut regs, stack);
+    (answer, regs)
+}
+
+/// Unwinds frames of the function: by codes, in an epilog, by a chain without an end and by a
+/// machine frame.
+fn unwind_frames<'x>(
+    codes: &'x [u8],
+    epilog: &'x [u8],
+    chain: &'x [u8],
+    machine_frame: &'x [u8],
+) -> [(Answer, UnwindRegsX86_64); 7] {
+    let mut in_epilog = UnwindRegsX86_64::new(0x103a, 0x100, 0);
+    let rule = unwind_end(epilog, codes, &mut in_epilog, &[]);
+    let stack = [(0x100, 0x6000), (0x118, 0x900)];
+    [
+        unwind_from_start(codes, 0x1006, &[]),
+        unwind_from_start(codes, 0x1002, &[]),
+        unwind_from_start(codes, 0x1001, &[]),
+        unwind_from_start(codes, 0x1040, &[]),
+        (rule, in_epilog),
+        unwind_from_start(chain, 0x1006, &[]),
+        unwind_from_start(machine_frame, 0x1006, &stack),
+    ]
+}
+
+/// What `unwind_frames` gives.
+fn frames() -> [(Answer, UnwindRegsX86_64); 7] {
+    let start = UnwindRegsX86_64::new(0x1006, 0x100, 0);
+    let plain = Answer::Rule(UnwindRuleX86_64::JustReturn);
+    let refusal = Answer::Refused(PeUnwinderError::UnwindInfoParseError);
+    let in_epilog = UnwindRegsX86_64::new(0x103a, 0x100, 0);
+    let interrupted = UnwindRegsX86_64::new(0x6000, 0x900, 0);
+    [
+        (pops(4, 1, 0), start),
+        (pops(0, 1, 0), start),
+        (plain, start),
+        (plain, start),
+        (pops(4, 1, 0), in_epilog),
+        (refusal, start),
+        (Answer::Direct(0x6000), interrupted),
+    ]
+}
+
+#[test]
+fn unwinds_frames_of_each_kind(rt: HostRuntime) {
+    assert_eq!(rt;
+        unwind_frames(
+            &PUSH_AND_ALLOC,
+            &ADD_AND_POP,
+            &CHAINED_TO_ITSELF,
+            &MACHINE_FRAME
+        ),
+        frames()
+    );
+}
+
+/// `unwind_frame` asks for no memory: this test and the next ask for it as often, which
+/// `scripts/count-requests.sh` shows by refusing one request after another.
+#[test]
+fn requests_of_the_sections(rt: HostRuntime) -> Result<(), Fail> {
+    let alloc = rt.alloc();
+    let _codes = Vec::from_slice(alloc, &PUSH_AND_ALLOC)?;
+    let _epilog = Vec::from_slice(alloc, &ADD_AND_POP)?;
+    let _chain = Vec::from_slice(alloc, &CHAINED_TO_ITSELF)?;
+    let _machine_frame = Vec::from_slice(alloc, &MACHINE_FRAME)?;
+    let _last: Vec<u8> = Vec::with_capacity(alloc, 1)?;
+    Ok(())
+}
+
+#[test]
+fn requests_of_the_sections_and_frames(rt: HostRuntime) -> Result<(), Fail> {
+    let alloc = rt.alloc();
+    let codes = Vec::from_slice(alloc, &PUSH_AND_ALLOC)?;
+    let epilog = Vec::from_slice(alloc, &ADD_AND_POP)?;
+    let chain = Vec::from_slice(alloc, &CHAINED_TO_ITSELF)?;
+    let machine_frame = Vec::from_slice(alloc, &MACHINE_FRAME)?;
+    let found = unwind_frames(
+        codes.as_slice(),
+        epilog.as_slice(),
+        chain.as_slice(),
+        machine_frame.as_slice(),
+    );
+    assert_eq!(rt; found, frames());
+    let _last: Vec<u8> = Vec::with_capacity(alloc, 1)?;
+    Ok(())
 }
 
 #[test]

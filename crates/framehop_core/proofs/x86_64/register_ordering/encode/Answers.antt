@@ -1,6 +1,7 @@
 use Rattle.std.proofs.Common.{arith, refl}
 use Rattle.framehop_core.specs.declared.x86_64.unwindregs.Reg.TheVariants.{RAX}
-use Rattle.framehop_core.proofs.Orderings.{IsArrangement-number, Encodes-start, Encodes-place, Encodes-fits, Encodes-refused, IsEncoding-end, IsArrangement-encoding}
+use Rattle.framehop_core.specs.Laws.Orderings.{IsArrangement-number, IsArrangement-encoding}
+use Rattle.framehop_core.proofs.Orderings.{Encodes-start, Encodes-place, Encodes-fits, Encodes-refused, IsEncoding-end}
 use Rattle.framehop_core.proofs.x86_64.register_ordering.encode.Goals as goal
 
 pub returns-then-registers-gt8-clause-exact : goal.returns-then-registers-gt8-clause-exact

@@ -1,5 +1,5 @@
 use Rattle.std.proofs.Common.{arith}
-use Rattle.framehop_core.proofs.Orderings.{IsArrangement-number}
+use Rattle.framehop_core.specs.Laws.Orderings.{IsArrangement-number}
 use Rattle.framehop_core.proofs.x86_64.unwind_rule.UnwindRuleX86_64.for_sequence_of_offset_or_pop.Goals as goal
 
 pub returns-in_err-sp_offset_by_8-clause-rule : goal.returns-in_err-sp_offset_by_8-clause-rule
