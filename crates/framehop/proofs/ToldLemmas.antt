@@ -1,5 +1,5 @@
 -- What a row's unwinding tells is what the call frame section gives.
-use Rattle.std.proofs.Common.{◌≡◌, ◌≢◌, ℕ, Bool, true, false, List, Option, Some, None, Result, Ok, Err, refl, sym, ap, subst}
+use Rattle.std.proofs.Common.{◌≡◌, ◌≢◌, ℕ, Bool, true, false, List, Option, Some, None, Result, Ok, Err, IfErr, refl, sym, ap, subst}
 use Rattle.std.specs.Prelude.{MatchBool}
 use Rattle.framehop_core.specs.Memory.{Memory}
 use Rattle.framehop_core.specs.declared.unwind_result.UnwindResult.{UnwindResult}
@@ -15,9 +15,12 @@ use Rattle.framehop_dwarf.specs.declared.dwarf.DwarfUnwinderError.TheVariants.{F
 use Rattle.framehop.specs.Policy.{Policy}
 use Rattle.framehop.specs.Answer.{Fresh, by_rule, direct, values_of, fresh_of}
 use Rattle.framehop.specs.CallFrames.{RowWords, answer_of_reading, fde_answer}
-use Rattle.framehop.specs.Told.{is_of_row_values, is_of_values, TellsAnswer, TellsValues}
+use Rattle.framehop_pe.specs.Answer.{IsMissingStackData, TellsFound as PeTellsFound, IsComputed, KeptUnlessDirect}
+use Rattle.framehop_pe.specs.declared.pe.PeUnwinderError.{PeUnwinderError}
+use Rattle.framehop_pe.specs.declared.pe.PeUnwinderError.TheVariants.{MissingUnwindInfoData, MissingInstructionData, MissingStackData, UnwindInfoParseError, Aarch64Unsupported}
+use Rattle.framehop.specs.Told.{is_of_row_values, is_of_pe_values, is_of_values, TellsAnswer, TellsValues, WritesWithAddress}
 use Rattle.framehop.specs.declared.unwinder.UnwinderError.{UnwinderError}
-use Rattle.framehop.specs.declared.unwinder.UnwinderError.TheVariants.{Dwarf}
+use Rattle.framehop.specs.declared.unwinder.UnwinderError.TheVariants.{Dwarf, Pe}
 
 -- an error in a result, or another one
 error-in : {A E : Type 0} → E → Result A E → E
@@ -86,6 +89,62 @@ module _ {Rule Regs : Type 0} (words : RowWords Rule Regs) (policy : Policy) (by
     ok-values (unread e) (Uncacheable address) told is = cc
     ok-values uncovered (Uncacheable address) told is = cc
     ok-values (by_row row) (Uncacheable address) told is = row-ok-values (words.translated row) _ address told is
+
+-- ---- PE unwind info
+
+pe-values-refused : (error : PeUnwinderError) → IsMissingStackData error → is_of_pe_values error ≡ true
+pe-values-refused (MissingStackData address) missing = refl
+pe-values-refused (MissingUnwindInfoData rva) missing = absurd missing
+pe-values-refused (MissingInstructionData rva) missing = absurd missing
+pe-values-refused UnwindInfoParseError missing = absurd missing
+pe-values-refused Aarch64Unsupported missing = absurd missing
+
+pe-bytes-refused : (error : PeUnwinderError) → (IsMissingStackData error → ⊥) → is_of_pe_values error ≡ false
+pe-bytes-refused (MissingStackData address) bytes = absurd (bytes tt)
+pe-bytes-refused (MissingUnwindInfoData rva) bytes = refl
+pe-bytes-refused (MissingInstructionData rva) bytes = refl
+pe-bytes-refused UnwindInfoParseError bytes = refl
+pe-bytes-refused Aarch64Unsupported bytes = refl
+
+where-false : {Q : Type 0} (P : Type 0) (b : Bool) → b ≡ false → Q → MatchBool b P Q
+where-false P false e q = q
+where-false P true e q = cc
+
+abbrev pub as_pe : {Rule : Type 0} → Result (UnwindResult Rule) PeUnwinderError → Result (UnwindResult Rule) UnwinderError
+as_pe (Ok found) = Ok found
+as_pe (Err error) = Err (Pe error)
+
+module _ {Rule Regs : Type 0} where
+  pub pe-told : (found : Result (Option Rule) PeUnwinderError) (compute : Regs → Memory → Result (ℕ × Regs) PeUnwinderError) (result : Result (UnwindResult Rule) PeUnwinderError) → IfErr found (λ error. IsMissingStackData error → ⊥) → PeTellsFound found result → TellsAnswer (fresh_of found compute) (as_pe result)
+  pe-told (Err error) compute (Ok found) bytes told = cc
+  pe-told (Err error) compute (Err other) bytes told =
+      let same : other ≡ error = err-same other error told in
+      where-false _ (is_of_pe_values other) (rw same (pe-bytes-refused error bytes)) refl
+  pe-told (Ok (Some rule)) compute (Ok (ExecRule other)) bytes told = let same : other ≡ rule = cc in ap (λ r. Some (by_rule r)) (sym same)
+  pe-told (Ok (Some rule)) compute (Ok (Uncacheable address)) bytes told = cc
+  pe-told (Ok (Some rule)) compute (Err error) bytes told = cc
+  pe-told (Ok None) compute (Ok (ExecRule rule)) bytes told = absurd told
+  pe-told (Ok None) compute (Ok (Uncacheable address)) bytes told = tt
+  pe-told (Ok None) compute (Err error) bytes told = where-true _ (is_of_pe_values error) (pe-values-refused error told) tt
+
+  pub pe-values : (found : Result (Option Rule) PeUnwinderError) (compute : Regs → Memory → Result (ℕ × Regs) PeUnwinderError) (result : Result (UnwindResult Rule) PeUnwinderError) (old new : Regs) (memory : Memory) → IfErr found (λ error. IsMissingStackData error → ⊥) → PeTellsFound found result → IsComputed (compute old memory) result new → TellsValues (fresh_of found compute) old memory (as_pe result) new
+  pe-values found compute (Ok (ExecRule rule)) old new memory bytes told is = tt
+  pe-values (Err error) compute (Ok (Uncacheable address)) old new memory bytes told is = cc
+  pe-values (Ok (Some rule)) compute (Ok (Uncacheable address)) old new memory bytes told is = cc
+  pe-values (Ok None) compute (Ok (Uncacheable address)) old new memory bytes told is = ap values_of is
+  pe-values (Err error) compute (Err other) old new memory bytes told is = either-way (is_of_pe_values other) refl
+  pe-values (Ok (Some rule)) compute (Err error) old new memory bytes told is = cc
+  pe-values (Ok None) compute (Err error) old new memory bytes told is = either-way (is_of_pe_values error) (ap values_of is)
+
+  -- registers are written only with values that are computed
+  pub pe-written : (Advances : Regs → Regs → Type 0) (found : Result (Option Rule) PeUnwinderError) (result : Result (UnwindResult Rule) PeUnwinderError) (old new : Regs) → PeTellsFound found result → KeptUnlessDirect result old new → (found ≡ Ok None → Advances old new) → WritesWithAddress Advances (as_pe result) old new
+  pe-written Advances found (Ok (ExecRule rule)) old new told kept advance = kept
+  pe-written Advances (Err error) (Ok (Uncacheable address)) old new told kept advance = cc
+  pe-written Advances (Ok (Some rule)) (Ok (Uncacheable address)) old new told kept advance = cc
+  pe-written Advances (Ok None) (Ok (Uncacheable address)) old new told kept advance = advance refl
+  pe-written Advances found (Err error) old new told kept advance = kept
+
+-- ---- call frame sections
 
 -- the same of the FDE at an offset, by the limits of a policy
 module _ {Rule Regs : Type 0} (words : RowWords Rule Regs) (policy : Policy) (section : Section) (address : ℕ) (first : Bool) (offset : ℕ) (rows : Option StorageLimits) (values : Option ℕ) (same_rows : policy.rows ≡ rows) (same_values : policy.values ≡ values) where

@@ -1,5 +1,5 @@
 -- Unwinding on aarch64, and a walk to its end, in the words of contracts.
-use Rattle.std.specs.Prelude.{◌≡◌, ◌≢◌, ℕ, ◌+◌, ◌^◌, ◌<◌, ◌≤◌, Bool, true, false, Option, None}
+use Rattle.std.specs.Prelude.{◌≡◌, ◌≢◌, ℕ, ◌+◌, ◌^◌, ◌<◌, ◌≤◌, Bool, true, false, Option, None, Err}
 use Rattle.framehop_core.specs.Memory.{Memory}
 use Rattle.framehop_core.specs.Outcome.{Outcome, registers_after}
 use Rattle.framehop_core.specs.CodeAddress.{FrameLocation, at_instruction_pointer}
@@ -8,6 +8,7 @@ use Rattle.framehop_core.specs.Aarch64.Rules.{outcome}
 use Rattle.framehop_core.specs.declared.aarch64.unwind_rule.UnwindRuleAarch64.{UnwindRuleAarch64}
 use Rattle.framehop_core.specs.declared.aarch64.unwind_rule.UnwindRuleAarch64.TheVariants.{UseFramePointer, NoOpIfFirstFrameOtherwiseFp}
 use Rattle.framehop_dwarf.specs.Aarch64.{translated, direct_of}
+use Rattle.framehop_pe.specs.declared.pe.PeUnwinderError.TheVariants.{Aarch64Unsupported}
 use Rattle.framehop.specs.Cache.{CacheView}
 use Rattle.framehop.specs.Modules.{UnwinderView}
 use Rattle.framehop.specs.Policy.{Policy}
@@ -22,8 +23,11 @@ use Rattle.framehop.specs.declared.aarch64.cache.CacheAarch64.{CacheAarch64}
 
 -- what aarch64 makes of unwind data
 abbrev pub aarch64_words : Words UnwindRuleAarch64 Registers
-aarch64_words =
-    record { rows = record { translated = translated; uncovered = NoOpIfFirstFrameOtherwiseFp; direct = direct_of } }
+aarch64_words = record {
+  rows = record { translated = translated; uncovered = NoOpIfFirstFrameOtherwiseFp; direct = direct_of };
+  pe_found = λ sections relative first. Err Aarch64Unsupported;
+  pe_computed = λ sections relative first memory old. Err Aarch64Unsupported;
+}
 
 -- aarch64 under a policy
 unfoldable pub aarch64 : Policy → Unwinding UnwindRuleAarch64 Registers

@@ -1,13 +1,15 @@
 -- The unwind data of a module, from the table of its sections (framehop 0.16.0, `Module::new`).
-use Rattle.std.specs.Prelude.{ℕ, List, codes, Option, Some, None, Result, Ok, Err}
+use Rattle.std.specs.Prelude.{ℕ, ◌-◌, ◌^◌, ◌&&◌, nat_le, nat_lt, if◌then◌else◌, List, codes, Option, Some, None, option_map, Result, Ok, Err}
+use Rattle.std.specs.declared.ops.Range.{Range}
 use Rattle.framehop_cfi.specs.Section.{Section}
-use Rattle.framehop_cfi.specs.SectionTable.{SectionTable, data_of, without_data}
+use Rattle.framehop_cfi.specs.SectionTable.{SectionTable, range_of, data_of, without_data}
 use Rattle.framehop_cfi.specs.declared.entry.UnwindSectionType.TheVariants.{EhFrame, DebugFrame}
 use Rattle.framehop_dwarf.specs.Bases.{base_addresses_of, section_in}
 use Rattle.framehop_dwarf.specs.Index.{pairs_of}
 use Rattle.framehop_dwarf.specs.declared.index.DwarfCfiIndexError.{DwarfCfiIndexError}
+use Rattle.framehop_pe.specs.Sections.{Placed}
 use Rattle.framehop.specs.CallFrames.{CallFrames, frames_with_header}
-use Rattle.framehop.specs.Modules.{UnwindData, no_unwind_data, call_frames}
+use Rattle.framehop.specs.Modules.{UnwindData, no_unwind_data, call_frames, pe_sections}
 
 -- what is found under a name, and the table that is left: data is handed out once
 pub record Asked (D : Type 0) : Type 0 where
@@ -40,6 +42,13 @@ abbrev pub with_index : Section → ℕ → UnwindData
 with_index section base_svma =
     indexed (pairs_of section base_svma) (record { section = section; header = None; base_svma = base_svma })
 
+-- a range relative to a base, if both its ends fit 32 bits
+abbrev pub relative_range : ℕ → Range ℕ → Option (ℕ × ℕ)
+relative_range base range =
+    if nat_le base range.start && nat_le base range.end
+    && nat_lt (range.start - base) (2 ^ 32) && nat_lt (range.end - base) (2 ^ 32)
+    then Some (range.start - base, range.end - base) else None
+
 module _ {D : Type 0} (contents : D → List ℕ) where
   -- `.eh_frame`, with `.eh_frame_hdr` where there is one
   abbrev pub eh_frame_data : D → Option D → SectionTable D → UnwindData
@@ -71,9 +80,31 @@ module _ {D : Type 0} (contents : D → List ℕ) where
       let eh_frame = ask_either (codes ".eh_frame") (codes "__eh_frame") table in
       by_eh_frame eh_frame.found eh_frame.left
 
+  -- the data under a name with its range relative to the module's base, where both are there and the range fits
+  abbrev pub placed : ℕ → Option (Range ℕ) → Option D → Option Placed
+  placed base (Some range) (Some bytes) =
+      option_map (λ ends. record { bytes = contents bytes; from = ends.0; to = ends.1 }) (relative_range base range)
+  placed base (Some range) None = None
+  placed base None bytes = None
+
+  abbrev pub placed_in : List ℕ → SectionTable D → Option Placed
+  placed_in name table = placed table.base_svma (range_of name table.sections) (data_of name table.sections)
+
+  -- `.pdata`, with `.rdata`, `.xdata` and `.text`
+  abbrev pub with_pdata : D → SectionTable D → UnwindData
+  with_pdata pdata table =
+      let xdata = (ask (codes ".rdata") table).left in
+      let text = (ask (codes ".xdata") xdata).left in
+      pe_sections (record {
+        pdata = contents pdata;
+        rdata = placed_in (codes ".rdata") table;
+        xdata = placed_in (codes ".xdata") xdata;
+        text = placed_in (codes ".text") text;
+      })
+
   -- `.pdata`, else the call frame sections
   abbrev pub by_pdata : Option D → SectionTable D → UnwindData
-  by_pdata (Some pdata) table = no_unwind_data
+  by_pdata (Some pdata) table = with_pdata pdata table
   by_pdata None table = call_frame_data table
 
   abbrev pub pdata_data : SectionTable D → UnwindData

@@ -1,6 +1,7 @@
 -- The modules of an unwinder, in order of start (framehop 0.16.0, `Module` and `Unwinder::add_module`).
 use Rattle.std.specs.Prelude.{ℕ, ◌-◌, ◌^◌, Bool, not, ◌&&◌, ◌||◌, ◌==◌, nat_le, nat_lt, if◌then◌else◌, max, List, [], ◌∷◌, ◌++◌, length, filter, slice_get, Option, Some, None, option_and_then}
 use Rattle.std.specs.List.{list_any}
+use Rattle.framehop_pe.specs.Sections.{Sections}
 use Rattle.framehop.specs.CallFrames.{CallFrames}
 use Rattle.std.specs.List.Sorted.{IsNonDecreasingBy}
 
@@ -8,6 +9,7 @@ use Rattle.std.specs.List.Sorted.{IsNonDecreasingBy}
 pub data UnwindData : Type 0 where
   no_unwind_data : UnwindData
   call_frames : CallFrames → UnwindData
+  pe_sections : Sections → UnwindData
 
 -- a module: its name, its addresses from start to below end, its base (all AVMAs), and its unwind data
 pub record ModuleView : Type 0 where

@@ -8,9 +8,11 @@ use Rattle.framehop_dwarf.specs.declared.dwarf.DwarfUnwinderError.{DwarfUnwinder
 use Rattle.framehop_dwarf.specs.declared.dwarf.DwarfUnwinderError.TheVariants.{FdeFromOffsetFailed, UnwindInfoForAddressFailed, StackPointerMovedBackwards, DidNotAdvance, CouldNotRecoverCfa, CouldNotRecoverReturnAddress, CouldNotRecoverFramePointer}
 use Rattle.framehop_core.specs.declared.error.Error.{Error}
 use Rattle.framehop_core.specs.declared.error.Error.TheVariants.{OutOfMemory as NoMemory}
+use Rattle.framehop_pe.specs.declared.pe.PeUnwinderError.{PeUnwinderError}
+use Rattle.framehop_pe.specs.declared.pe.PeUnwinderError.TheVariants.{MissingUnwindInfoData, MissingInstructionData, MissingStackData, UnwindInfoParseError, Aarch64Unsupported}
 use Rattle.framehop.specs.Answer.{Fresh, by_rule, direct}
 use Rattle.framehop.specs.declared.unwinder.UnwinderError.{UnwinderError}
-use Rattle.framehop.specs.declared.unwinder.UnwinderError.TheVariants.{Dwarf, NoModuleUnwindData, EhFrameHdrCouldNotFindAddress, DwarfCfiIndexCouldNotFindAddress}
+use Rattle.framehop.specs.declared.unwinder.UnwinderError.TheVariants.{Dwarf, Pe, NoModuleUnwindData, EhFrameHdrCouldNotFindAddress, DwarfCfiIndexCouldNotFindAddress}
 use Rattle.framehop.specs.declared.unwinder.FrameAnswer.{FrameAnswer}
 use Rattle.framehop.specs.declared.unwinder.FrameAnswer.TheVariants.{Rule, Computed, NotComputed}
 
@@ -28,8 +30,16 @@ is_of_row_values CouldNotRecoverCfa = true
 is_of_row_values CouldNotRecoverReturnAddress = true
 is_of_row_values CouldNotRecoverFramePointer = true
 
+abbrev pub is_of_pe_values : PeUnwinderError → Bool
+is_of_pe_values (MissingStackData address) = true
+is_of_pe_values (MissingUnwindInfoData rva) = false
+is_of_pe_values (MissingInstructionData rva) = false
+is_of_pe_values UnwindInfoParseError = false
+is_of_pe_values Aarch64Unsupported = false
+
 abbrev pub is_of_values : UnwinderError → Bool
 is_of_values (Dwarf error) = is_of_row_values error
+is_of_values (Pe error) = is_of_pe_values error
 is_of_values NoModuleUnwindData = false
 is_of_values EhFrameHdrCouldNotFindAddress = false
 is_of_values DwarfCfiIndexCouldNotFindAddress = false

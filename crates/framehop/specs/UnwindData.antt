@@ -1,12 +1,25 @@
 -- The unwind data of a module in memory, as what it is.
-use Rattle.std.specs.Prelude.{List, ℕ}
+use Rattle.std.specs.Prelude.{List, ℕ, option_map}
+use Rattle.framehop_pe.specs.Sections.{Placed}
+use Rattle.framehop_pe.specs.declared.pe.DataAtRvaRange.{DataAtRvaRange}
 use Rattle.framehop.specs.CallFrames.{frames_with_header}
-use Rattle.framehop.specs.Modules.{UnwindData, no_unwind_data, call_frames}
+use Rattle.framehop.specs.Modules.{UnwindData, no_unwind_data, call_frames, pe_sections}
 use Rattle.framehop.specs.declared.unwinder.ModuleUnwindDataInternal.{ModuleUnwindDataInternal}
-use Rattle.framehop.specs.declared.unwinder.ModuleUnwindDataInternal.TheVariants.{EhFrameHdrAndEhFrame, DwarfCfiIndexAndFrames, None as NoUnwindData}
+use Rattle.framehop.specs.declared.unwinder.ModuleUnwindDataInternal.TheVariants.{EhFrameHdrAndEhFrame, DwarfCfiIndexAndFrames, PeUnwindInfo, None as NoUnwindData}
+
+-- data, and where it lies
+abbrev pub placed_data : {D : Type 0} → (D → List ℕ) → DataAtRvaRange D → Placed
+placed_data contents d = record { bytes = contents d.bytes; from = d.rva_range.start; to = d.rva_range.end }
 
 abbrev pub unwind_data_of : {D : Type 0} → (D → List ℕ) → ModuleUnwindDataInternal D → UnwindData
 unwind_data_of contents (EhFrameHdrAndEhFrame header eh_frame bases base_svma) =
     call_frames (frames_with_header (contents header) (contents eh_frame) bases base_svma)
 unwind_data_of contents (DwarfCfiIndexAndFrames frames) = call_frames frames
+unwind_data_of contents (PeUnwindInfo pdata rdata xdata text) =
+    pe_sections (record {
+      pdata = contents pdata;
+      rdata = option_map (placed_data contents) rdata;
+      xdata = option_map (placed_data contents) xdata;
+      text = option_map (placed_data contents) text;
+    })
 unwind_data_of contents NoUnwindData = no_unwind_data

@@ -1,12 +1,14 @@
 -- What an architecture makes of rules and modules: the one record by which steps, walks, caches and sessions are
 -- defined.
-use Rattle.std.specs.Prelude.{◌≡◌, ℕ, ◌<◌, ◌&&◌, Bool, true, false, Option, Some, None, is_some}
+use Rattle.std.specs.Prelude.{◌≡◌, ℕ, ◌<◌, ◌&&◌, Bool, true, false, Option, Some, None, is_some, Result}
 use Rattle.framehop_core.specs.Memory.{Memory}
 use Rattle.framehop_core.specs.Outcome.{Outcome, answered}
+use Rattle.framehop_pe.specs.Sections.{Sections}
+use Rattle.framehop_pe.specs.declared.pe.PeUnwinderError.{PeUnwinderError}
 use Rattle.framehop.specs.Policy.{Policy}
-use Rattle.framehop.specs.Answer.{Fresh, direct}
+use Rattle.framehop.specs.Answer.{Fresh, direct, fresh_of}
 use Rattle.framehop.specs.CallFrames.{RowWords, frames_answer, fde_offset_of}
-use Rattle.framehop.specs.Modules.{ModuleView, UnwindData, no_unwind_data, call_frames}
+use Rattle.framehop.specs.Modules.{ModuleView, UnwindData, no_unwind_data, call_frames, pe_sections}
 
 -- `outcome`: what a rule does to a frame, a first one (`true`) or another. `fallback`: the rule where nothing is known.
 -- `module_answer`: what the unwind data of a module gives for a relative address in a frame of this kind, if anything.
@@ -23,17 +25,27 @@ pub record Unwinding (Rule Regs : Type 0) : Type 0 where
 -- what an architecture makes of unwind data
 pub record Words (Rule Regs : Type 0) : Type 0 where
   pub rows : RowWords Rule Regs
+  pub pe_found : Sections → ℕ → Bool → Result (Option Rule) PeUnwinderError
+  pub pe_computed : Sections → ℕ → Bool → Memory → Regs → Result (ℕ × Regs) PeUnwinderError
+
+-- what the unwind info of a PE module gives for a relative address in a frame of this kind, if anything
+abbrev pub pe_answer : {Rule Regs : Type 0} → Words Rule Regs → Sections → ℕ → Bool → Option (Fresh Rule Regs)
+pe_answer words sections relative first =
+    fresh_of (words.pe_found sections relative first)
+    (λ regs memory. words.pe_computed sections relative first memory regs)
 
 -- what unwind data gives for a relative address in a frame of this kind, if anything
 abbrev pub data_answer : {Rule Regs : Type 0} → Words Rule Regs → Policy → UnwindData → ℕ → Bool
     → Option (Fresh Rule Regs)
 data_answer words policy no_unwind_data relative first = None
 data_answer words policy (call_frames frames) relative first = frames_answer words.rows policy frames relative first
+data_answer words policy (pe_sections sections) relative first = pe_answer words sections relative first
 
 -- unwind data names an FDE for a relative address
 abbrev pub names_fde : UnwindData → ℕ → Bool
 names_fde no_unwind_data relative = false
 names_fde (call_frames frames) relative = is_some (fde_offset_of frames relative)
+names_fde (pe_sections sections) relative = false
 
 -- what the unwind data of a module gives
 unfoldable pub answer_by : {Rule Regs : Type 0} → Words Rule Regs → Policy → ModuleView → ℕ → Bool

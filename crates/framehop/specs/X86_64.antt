@@ -5,6 +5,7 @@ use Rattle.framehop_core.specs.X86_64.Rules.{outcome}
 use Rattle.framehop_core.specs.declared.x86_64.unwind_rule.UnwindRuleX86_64.{UnwindRuleX86_64}
 use Rattle.framehop_core.specs.declared.x86_64.unwind_rule.UnwindRuleX86_64.TheVariants.{UseFramePointer, JustReturnIfFirstFrameOtherwiseFp}
 use Rattle.framehop_dwarf.specs.X86_64.{translated, direct_of}
+use Rattle.framehop_pe.specs.Frame.{found_at, computed_at}
 use Rattle.framehop.specs.Cache.{CacheView}
 use Rattle.framehop.specs.Modules.{UnwinderView}
 use Rattle.framehop.specs.Policy.{Policy}
@@ -14,8 +15,11 @@ use Rattle.framehop.specs.Soundness.{IsSound}
 
 -- what x86_64 makes of unwind data
 abbrev pub x86_64_words : Words UnwindRuleX86_64 Registers
-x86_64_words =
-    record { rows = record { translated = translated; uncovered = JustReturnIfFirstFrameOtherwiseFp; direct = direct_of } }
+x86_64_words = record {
+  rows = record { translated = translated; uncovered = JustReturnIfFirstFrameOtherwiseFp; direct = direct_of };
+  pe_found = found_at;
+  pe_computed = computed_at;
+}
 
 -- x86_64 under a policy
 unfoldable pub x86_64 : Policy → Unwinding UnwindRuleX86_64 Registers

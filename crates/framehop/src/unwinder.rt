@@ -1,5 +1,5 @@
 //! Modules, unwinders over them, and the iterator over the frames of a stack.
-ghost use Rattle.std.specs.Prelude.{◌≡◌, ◌≢◌, ◌+◌, ◌-◌, ◌^◌, ◌<◌, ◌↔◌, Bool, true, false, IfOk, IfErr, IfSome, IfNone, IsOk, OnOk, OnSome, IsErrAnd, remove, slice_index_or, MatchOption, MatchResult, SomeIff, IsTrue, codes, is_some, string_bytes, slice_get, length, take, drop, ◌≤◌, Option, []};
+ghost use Rattle.std.specs.Prelude.{◌≡◌, ◌≢◌, ◌+◌, ◌-◌, ◌^◌, ◌<◌, ◌↔◌, Bool, true, false, IfOk, IfErr, IfSome, IfNone, IsOk, OnOk, OnSome, IsErrAnd, remove, slice_index_or, MatchOption, MatchResult, SomeIff, IsTrue, codes, is_some, option_map, ℕ, List, Ok, Err, None, string_bytes, slice_get, length, take, drop, ◌≤◌, Option, []};
 ghost use Rattle.framehop.specs.Memory.{Memory, AnswersAs};
 ghost use Rattle.framehop.specs.Outcome.{Outcome, answer_of, registers_after};
 ghost use Rattle.framehop.specs.CodeAddress.{FrameLocation, location_of, is_first_frame};
@@ -7,9 +7,11 @@ ghost use Rattle.framehop.specs.Iterator.{before};
 ghost use Rattle.framehop.specs.UnwindIterator.{unwinder_of, progress_in, regs_of, cache_of, read_stack_of};
 ghost use Rattle.framehop.specs.Unwinding.{Unwinding, Words, data_answer, names_fde, answer_by, takes_memory_by, RisesAsSaid};
 ghost use Rattle.framehop.specs.CallFrames.{frames_with_header, frames_answer, fde_answer, fde_offset_of};
-ghost use Rattle.framehop.specs.UnwindData.{unwind_data_of};
-ghost use Rattle.framehop.specs.ModuleData.{ask_either, with_eh_frame, with_index, by_eh_frame, call_frame_data, pdata_data, unwind_data_in};
-ghost use Rattle.framehop.specs.Told.{out_of_memory, is_of_row_values, is_of_values, TellsAnswer, TellsValues, WritesWithAddress, RuleHas, TellsFresh, TellsFreshValues, WritesComputed, AnswerHas, IsAnswerOf};
+ghost use Rattle.framehop.specs.UnwindData.{unwind_data_of, placed_data};
+ghost use Rattle.framehop.specs.Answer.{fresh_of};
+ghost use Rattle.framehop_pe.specs.Sections.{Sections, sections_of, placed_of};
+ghost use Rattle.framehop.specs.ModuleData.{ask_either, with_eh_frame, with_index, by_eh_frame, call_frame_data, pdata_data, ask, placed_in, relative_range, unwind_data_in};
+ghost use Rattle.framehop.specs.Told.{out_of_memory, is_of_row_values, is_of_pe_values, is_of_values, TellsAnswer, TellsValues, WritesWithAddress, RuleHas, TellsFresh, TellsFreshValues, WritesComputed, AnswerHas, IsAnswerOf};
 ghost use Rattle.framehop_cfi.specs.Section.{section_of};
 ghost use Rattle.framehop_dwarf.specs.Bases.{section_in};
 ghost use Rattle.framehop.specs.Policy.{Policy};
@@ -37,6 +39,7 @@ use framehop_dwarf::bases::base_addresses_for_sections;
 use framehop_dwarf::dwarf::{DwarfUnwinderError, DwarfUnwinding};
 use framehop_dwarf::index::{DwarfCfiIndex, DwarfCfiIndexError};
 use framehop_dwarf::unwinder::DwarfUnwinder;
+use framehop_pe::pe::{DataAtRvaRange, PeSections, PeUnwinderError, PeUnwinding};
 use std::alloc::{AllocError, Global};
 use std::marker::{Model, PhantomData};
 use std::ops::Range;
@@ -68,6 +71,10 @@ pub enum UnwinderError {
     #[error("Dwarf")]
     Dwarf(#[from] DwarfUnwinderError),
 
+    /// The unwind info of a PE module gives none.
+    #[error("Pe")]
+    Pe(#[from] PeUnwinderError),
+
     /// The module has no unwind data.
     #[error("NoModuleUnwindData")]
     NoModuleUnwindData,
@@ -82,7 +89,7 @@ pub enum UnwinderError {
 }
 
 /// A CPU architecture whose unwind data can be read: what it makes of rules and modules.
-pub trait Unwinding: DwarfUnwinding {
+pub trait Unwinding: DwarfUnwinding + PeUnwinding {
     // what a step gives by the modules' bytes, under an allocation policy
     ghost unwinding: { Policy → Unwinding Self.UnwindRule Self.UnwindRegs };
 
@@ -99,11 +106,17 @@ pub trait Unwinding: DwarfUnwinding {
 
     // what a module's unwind data gives is by the words of the readers
     ghost answer_is: { (policy : Policy) → (unwinding policy).module_answer
-        ≡ answer_by (record { rows = record { translated = Self.translated; uncovered = Self.uncovered; direct = Self.direct } }) policy };
+        ≡ answer_by (record {
+          rows = record { translated = Self.translated; uncovered = Self.uncovered; direct = Self.direct };
+          pe_found = Self.found;
+          pe_computed = Self.computed;
+        }) policy };
 
     ghost memory_is: { (policy : Policy) → (unwinding policy).takes_memory ≡ takes_memory_by policy };
 
     ghost values_advance: { (first : Bool) (old new : Self.UnwindRegs) → Self.ascends first old new → step_advances first old new };
+
+    ghost pe_values_advance: { (sections : Sections) (relative : ℕ) (first : Bool) → Self.found sections relative first ≡ Ok None → (old new : Self.UnwindRegs) → step_advances first old new };
 
     ghost rule_advances: { (first : Bool) (old new : Self.UnwindRegs) → Self.UnwindRule.advances first old new → step_advances first old new };
 
@@ -113,7 +126,7 @@ pub trait Unwinding: DwarfUnwinding {
 impl Unwinding for ArchAarch64 {
     ghost use Rattle.framehop_dwarf.specs.Aarch64.{Ascends};
     ghost use Rattle.framehop.specs.Aarch64.{aarch64};
-    ghost use Rattle.framehop.specs.Laws.Aarch64.{outcome-is, fallback-is, stack_pointer-is, answer-is, memory-is, Ascends-rule, rises-as-said};
+    ghost use Rattle.framehop.specs.Laws.Aarch64.{outcome-is, fallback-is, stack_pointer-is, answer-is, memory-is, no-pe-values, Ascends-rule, rises-as-said};
 
     ghost unwinding = { aarch64 };
 
@@ -130,6 +143,8 @@ impl Unwinding for ArchAarch64 {
     ghost memory_is = { memory-is };
 
     ghost values_advance = { λ first old new advances. advances };
+
+    ghost pe_values_advance = { no-pe-values };
 
     ghost rule_advances = { Ascends-rule };
 
@@ -156,6 +171,8 @@ impl Unwinding for ArchX86_64 {
     ghost memory_is = { memory-is };
 
     ghost values_advance = { λ first old new advances. tt };
+
+    ghost pe_values_advance = { λ sections relative first none old new. tt };
 
     ghost rule_advances = { λ first old new advances. tt };
 
@@ -469,6 +486,13 @@ enum ModuleUnwindDataInternal<D: SectionBytes> {
     },
     /// `.eh_frame` or `.debug_frame`, and an index of its FDEs.
     DwarfCfiIndexAndFrames(IndexedFrames<D>),
+    /// `.pdata`, and the sections with unwind info and code.
+    PeUnwindInfo {
+        pdata: D,
+        rdata: Option<DataAtRvaRange<D>>,
+        xdata: Option<DataAtRvaRange<D>>,
+        text: Option<DataAtRvaRange<D>>,
+    },
     /// None that can be read.
     None,
 }
@@ -527,7 +551,12 @@ impl<D: SectionBytes + Drop> ModuleUnwindDataInternal<D> {
         ensures refused { IfErr result (λ error. error ≡ ModuleListError.OutOfMemory) }
     {
         match section_info.section_data(b".pdata") {
-            Some(_) => Ok(ModuleUnwindDataInternal::None),
+            Some(pdata) => Ok(ModuleUnwindDataInternal::PeUnwindInfo {
+                pdata,
+                rdata: data_at_rva_range(section_info, b".rdata"),
+                xdata: data_at_rva_range(section_info, b".xdata"),
+                text: data_at_rva_range(section_info, b".text"),
+            }),
             None => Self::with_call_frames(alloc, section_info),
         }
     }
@@ -619,6 +648,45 @@ impl<D: SectionBytes + Drop> ModuleUnwindDataInternal<D> {
     }
 }
 
+// a range relative to a base, if both its ends fit 32 bits
+fn relative_range(base: u64, range: &Range<u64>) -> Option<Range<u32>>
+    ensures { option_map (λ (r : Range ℕ). (r.start, r.end)) result ≡ relative_range base range.now }
+{
+    let (Some(start), Some(end)) = (
+        range.start.checked_sub(base),
+        range.end.checked_sub(base),
+    ) else {
+        return None;
+    };
+    let (Ok(start), Ok(end)) = (u32::try_from(start), u32::try_from(end)) else {
+        return None;
+    };
+    Some(start..end)
+}
+
+// the data under a name with its range, where both are there and the range fits
+fn data_at_rva_range<D: SectionBytes + Drop, I: ModuleSectionInfo<D>>(
+    section_info: &mut I,
+    name: &[u8],
+) -> Option<DataAtRvaRange<D>>
+    ensures found { option_map (placed_data D.contents) result ≡ placed_in D.contents name.now (I.table section_info.old) }
+    ensures left { I.table section_info.new ≡ (ask name.now (I.table section_info.old)).left }
+{
+    let range = section_info.section_svma_range(name);
+    let bytes = section_info.section_data(name);
+    let base_svma = section_info.base_svma();
+    let Some(range) = range else {
+        return None;
+    };
+    let Some(bytes) = bytes else {
+        return None;
+    };
+    match relative_range(base_svma, &range) {
+        Some(rva_range) => Some(DataAtRvaRange { bytes, rva_range }),
+        None => None,
+    }
+}
+
 // the data under the first name, or else under the second
 fn data_under<D, I: ModuleSectionInfo<D>>(
     section_info: &mut I,
@@ -640,7 +708,9 @@ impl<D: SectionBytes> Model for Module<D> {
 
     ghost Value = { ModuleView };
 
-    ghost use Rattle.framehop.specs.UnwindData.{unwind_data_of};
+    ghost use Rattle.framehop.specs.UnwindData.{unwind_data_of, placed_data};
+ghost use Rattle.framehop.specs.Answer.{fresh_of};
+ghost use Rattle.framehop_pe.specs.Sections.{Sections, sections_of, placed_of};
 
     ghost view = { λ m. record {
       name = string_bytes m.name;
@@ -761,12 +831,26 @@ fn is_of_row_values(error: &DwarfUnwinderError) -> bool
     }
 }
 
+// whether stack words are why the values of unwind info can't be computed
+fn is_of_pe_values(error: &PeUnwinderError) -> bool
+    ensures { result ≡ is_of_pe_values error.now }
+{
+    match error {
+        PeUnwinderError::MissingStackData(_) => true,
+        PeUnwinderError::MissingUnwindInfoData(_)
+        | PeUnwinderError::MissingInstructionData(_)
+        | PeUnwinderError::UnwindInfoParseError
+        | PeUnwinderError::Aarch64Unsupported => false,
+    }
+}
+
 // whether registers or stack words are why values can't be computed, and not the module's bytes
 fn is_of_values(error: &UnwinderError) -> bool
     ensures { result ≡ is_of_values error.now }
 {
     match error {
         UnwinderError::Dwarf(error) => is_of_row_values(error),
+        UnwinderError::Pe(error) => is_of_pe_values(error),
         UnwinderError::NoModuleUnwindData
         | UnwinderError::EhFrameHdrCouldNotFindAddress
         | UnwinderError::DwarfCfiIndexCouldNotFindAddress => false,
@@ -924,6 +1008,51 @@ impl<D: SectionBytes> IndexedFrames<D> {
     }
 }
 
+/// Unwinds a frame by the unwind info of a PE module.
+fn unwind_frame_by_pe<D: SectionBytes, A: Unwinding, F>(
+    sections: PeSections<'_, D>,
+    relative_address: u32,
+    is_first_frame: bool,
+    regs: &mut A::UnwindRegs,
+    read_stack: &mut F,
+) -> Result<UnwindResult<A::UnwindRule>, UnwinderError>
+where
+    F: FnMut(u64) -> Result<u64, ()>,
+    requires { F.IsAlwaysCallable read_stack.old }
+    ensures callable { F.IsAlwaysCallable read_stack.new }
+    ensures written { WritesWithAddress (A.step_advances is_first_frame) result regs.old regs.new }
+    ensures executable { RuleHas (λ rule. IsTrue (A.UnwindRule.executable rule)) result }
+    ensures memory { result ≢ Err out_of_memory }
+    ensures told { TellsAnswer (fresh_of (A.found (sections_of D.contents sections.entry) relative_address is_first_frame)
+        (λ old memory. A.computed (sections_of D.contents sections.entry) relative_address is_first_frame memory old)) result }
+    ensures answers { (memory : Memory) → AnswersAs F.FnMut read_stack.old memory
+        → AnswersAs F.FnMut read_stack.new memory
+        × TellsValues (fresh_of (A.found (sections_of D.contents sections.entry) relative_address is_first_frame)
+        (λ old memory. A.computed (sections_of D.contents sections.entry) relative_address is_first_frame memory old))
+        regs.old memory result regs.new }
+{
+    match <A as PeUnwinding>::unwind_frame(
+        sections,
+        relative_address,
+        regs,
+        is_first_frame,
+        read_stack,
+    ) {
+        Ok(found) => Ok(found),
+        Err(error) => Err(UnwinderError::Pe(error)),
+    }
+}
+
+// the data of a section that a module may not have, lent
+fn lent<D>(section: &Option<DataAtRvaRange<D>>) -> Option<&DataAtRvaRange<D>>
+    ensures { (contents : D → List ℕ) → placed_of contents result ≡ option_map (placed_data contents) section.now }
+{
+    match section {
+        Some(section) => Some(section),
+        None => None,
+    }
+}
+
 impl<D: SectionBytes> Module<D> {
     /// Unwinds a frame at a relative address by the module's unwind data.
     #[tactic(auto, unfolding(crate::specs::Unwinding::answer_by, crate::specs::Unwinding::takes_memory_by))]
@@ -944,12 +1073,12 @@ impl<D: SectionBytes> Module<D> {
         ensures executable { RuleHas (λ rule. IsTrue (A.UnwindRule.executable rule)) result }
         ensures memory { result ≡ Err out_of_memory → takes_memory_by P.policy self.now relative_address ≡ true }
         ensures told { result ≢ Err out_of_memory → TellsAnswer
-            (answer_by (record { rows = record { translated = A.translated; uncovered = A.uncovered; direct = A.direct } })
+            (answer_by (record { rows = record { translated = A.translated; uncovered = A.uncovered; direct = A.direct }; pe_found = A.found; pe_computed = A.computed })
             P.policy self.now relative_address is_first_frame) result }
         ensures answers { (memory : Memory) → AnswersAs F.FnMut read_stack.old memory
             → AnswersAs F.FnMut read_stack.new memory
             × (result ≢ Err out_of_memory → TellsValues
-            (answer_by (record { rows = record { translated = A.translated; uncovered = A.uncovered; direct = A.direct } })
+            (answer_by (record { rows = record { translated = A.translated; uncovered = A.uncovered; direct = A.direct }; pe_found = A.found; pe_computed = A.computed })
             P.policy self.now relative_address is_first_frame) regs.old memory result regs.new) }
     {
         match &*self.unwind_data {
@@ -979,6 +1108,23 @@ impl<D: SectionBytes> Module<D> {
                     regs,
                     read_stack,
                 ),
+            ModuleUnwindDataInternal::PeUnwindInfo {
+                pdata,
+                rdata,
+                xdata,
+                text,
+            } => unwind_frame_by_pe::<D, A, F>(
+                PeSections {
+                    pdata,
+                    rdata: lent(rdata),
+                    xdata: lent(xdata),
+                    text: lent(text),
+                },
+                relative_address,
+                is_first_frame,
+                regs,
+                read_stack,
+            ),
             ModuleUnwindDataInternal::None => Err(UnwinderError::NoModuleUnwindData),
         }
     }
@@ -1071,11 +1217,11 @@ impl<D: SectionBytes + Drop, A: Unwinding, P: AllocationPolicy> UnwinderInternal
     }
 
     // the place after the modules that start at or below the address
-    fn place_behind(&self, address: u64) -> usize
+    fn place_after(&self, address: u64) -> usize
         ensures within { result ≤ length self.now.modules }
         ensures point { IsPartitionPoint (λ m. starts_by address m ≡ true) (λ m. starts_by address m ≡ false) self.now.modules result }
         ensures before { take result self.now.modules ≡ starting_by address self.now.modules }
-        ensures behind { drop result self.now.modules ≡ starting_above address self.now.modules }
+        ensures after { drop result self.now.modules ≡ starting_above address self.now.modules }
     {
         self.modules
             .as_slice()
@@ -1097,7 +1243,7 @@ impl<D: SectionBytes + Drop, A: Unwinding, P: AllocationPolicy> UnwinderInternal
             (λ index. (index < length self.now.modules) × (has_start start self.now.modules ≡ true)
             × (remove self.now.modules index ≡ without_module start self.now.modules)) }
     {
-        let index = self.place_behind(start).checked_sub(1)?;
+        let index = self.place_after(start).checked_sub(1)?;
         if self.module_start(index) == start {
             Some(index)
         } else {
@@ -1111,7 +1257,7 @@ impl<D: SectionBytes + Drop, A: Unwinding, P: AllocationPolicy> UnwinderInternal
             (λ found. (covering self.now.modules address ≡ Some found.0.now)
             × (found.1 ≡ address - found.0.now.base_avma)) }
     {
-        let index = self.place_behind(address).checked_sub(1)?;
+        let index = self.place_after(address).checked_sub(1)?;
         let module = &self.modules[index];
         let relative_address = module.relative_address(address)?;
         Some((module, relative_address))
@@ -1259,7 +1405,7 @@ impl<D: SectionBytes + Drop, A: Unwinding, P: AllocationPolicy> Unwinder
                 cause: ModuleListError::GenerationsExhausted,
             });
         }
-        let index = self.place_behind(module.avma_range.start);
+        let index = self.place_after(module.avma_range.start);
         if let Err(refused) = self.modules.insert(index, module) {
             return Err(RefusedModule {
                 module: refused.value,

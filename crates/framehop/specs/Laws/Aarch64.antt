@@ -10,6 +10,7 @@ use Rattle.framehop_dwarf.specs.Aarch64.{direct_of, Ascends}
 use Rattle.framehop_dwarf.specs.Unwinder.{Reading, unread, uncovered, by_row, direct_by}
 use Rattle.framehop_dwarf.specs.declared.dwarf.DwarfUnwinderError.{DwarfUnwinderError}
 use Rattle.framehop_dwarf.proofs.DirectAarch64.{direct-means}
+use Rattle.framehop_pe.specs.Sections.{Sections}
 use Rattle.framehop.specs.Policy.{Policy}
 use Rattle.framehop.specs.Answer.{direct}
 use Rattle.framehop.specs.Unwinding.{RisesAsSaid, answer_by, takes_memory_by}
@@ -36,6 +37,10 @@ pub memory-is : (policy : Policy) → (aarch64 policy).takes_memory ≡ takes_me
 unfolding aarch64
 memory-is policy = refl
 
+-- there are no values by PE unwind info
+pub no-pe-values : (sections : Sections) (relative : ℕ) (first : Bool) → aarch64_words.pe_found sections relative first ≡ Ok None → (old new : Registers) → Ascends first old new
+no-pe-values sections relative first none old new = cc
+
 -- a rule's step ascends
 pub Ascends-rule : (first : Bool) (old new : Registers) → Advances first old new → Ascends first old new
 Ascends-rule first old new advances = record { rises = advances.rises; fits = advances.fits }
@@ -45,6 +50,6 @@ unfolding aarch64
 rises-as-said policy = record {
   rules = λ said rule old new memory address e. (outcome-Advances rule false old memory address new e).rises refl;
   values = λ said m relative compute e old memory values computed.
-      let read = values-read aarch64_words policy m relative false compute e old memory values computed in
+      let read = values-read aarch64_words (λ sections at kind none. cc) policy m relative false compute e old memory values computed in
       (direct-means read.bytes policy.values memory read.row false old values.0 values.1 read.direct_is).rises refl;
 }

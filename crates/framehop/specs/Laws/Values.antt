@@ -1,14 +1,16 @@
 -- Values that a module's unwind data gives are those of a row.
-use Rattle.std.proofs.Common.{◌≡◌, ℕ, ◌+◌, Bool, List, Option, Some, None, Result, Ok, Err, refl, ap, ◌∙◌}
+use Rattle.std.proofs.Common.{◌≡◌, ◌≢◌, ℕ, ◌+◌, Bool, List, Option, Some, None, Result, Ok, Err, refl, ap, ◌∙◌}
 use Rattle.std.specs.Option.{option_and_then}
 use Rattle.framehop_core.specs.Memory.{Memory}
 use Rattle.framehop_cfi.specs.Row.{Row}
 use Rattle.framehop_dwarf.specs.Unwinder.{Reading, unread, uncovered, by_row, reading_of, direct_by, found_by}
 use Rattle.framehop_dwarf.specs.declared.dwarf.DwarfUnwinderError.{DwarfUnwinderError}
+use Rattle.framehop_pe.specs.Sections.{Sections}
+use Rattle.framehop_pe.specs.declared.pe.PeUnwinderError.{PeUnwinderError}
 use Rattle.framehop.specs.Policy.{Policy}
 use Rattle.framehop.specs.Answer.{Fresh, by_rule, direct, values_of, fresh_of}
 use Rattle.framehop.specs.CallFrames.{RowWords, CallFrames, answer_of_reading, fde_answer, frames_answer, fde_offset_of}
-use Rattle.framehop.specs.Modules.{ModuleView, UnwindData, no_unwind_data, call_frames}
+use Rattle.framehop.specs.Modules.{ModuleView, UnwindData, no_unwind_data, call_frames, pe_sections}
 use Rattle.framehop.specs.Unwinding.{Words, data_answer, answer_by}
 
 -- the values are those of a row
@@ -49,12 +51,20 @@ module _ {Rule Regs : Type 0} where
         of-reading frames.section.bytes reading
         (of-found (found_by words.translated words.uncovered reading) _ compute old memory values e is)
 
-  of-data : (words : Words Rule Regs) (policy : Policy) (known : UnwindData) (relative : ℕ) (first : Bool) (compute : Regs → Memory → Option (ℕ × Regs)) → data_answer words policy known relative first ≡ Some (direct compute) → (old : Regs) (memory : Memory) (values : ℕ × Regs) → compute old memory ≡ Some values → AreOfRow words.rows policy first old memory values
-  of-data words policy no_unwind_data relative first compute e old memory values is = cc
-  of-data words policy (call_frames frames) relative first compute e old memory values is =
+  pe-none : (found : Result (Option Rule) PeUnwinderError) (compute' : Regs → Memory → Result (ℕ × Regs) PeUnwinderError) (compute : Regs → Memory → Option (ℕ × Regs)) → found ≢ Ok None → fresh_of found compute' ≡ Some (direct compute) → ⊥
+  pe-none (Err error) compute' compute none e = cc
+  pe-none (Ok (Some rule)) compute' compute none e = cc
+  pe-none (Ok None) compute' compute none e = none refl
+
+  of-data : (words : Words Rule Regs) → ((sections : Sections) (relative : ℕ) (first : Bool) → words.pe_found sections relative first ≢ Ok None) → (policy : Policy) (known : UnwindData) (relative : ℕ) (first : Bool) (compute : Regs → Memory → Option (ℕ × Regs)) → data_answer words policy known relative first ≡ Some (direct compute) → (old : Regs) (memory : Memory) (values : ℕ × Regs) → compute old memory ≡ Some values → AreOfRow words.rows policy first old memory values
+  of-data words none policy no_unwind_data relative first compute e old memory values is = cc
+  of-data words none policy (pe_sections sections) relative first compute e old memory values is =
+      absurd (pe-none (words.pe_found sections relative first) _ compute (none sections relative first) e)
+  of-data words none policy (call_frames frames) relative first compute e old memory values is =
       of-offset words.rows policy first old memory values frames relative (fde_offset_of frames relative) compute e is
 
-  pub values-read : (words : Words Rule Regs) (policy : Policy) (m : ModuleView) (relative : ℕ) (first : Bool) (compute : Regs → Memory → Option (ℕ × Regs)) → answer_by words policy m relative first ≡ Some (direct compute) → (old : Regs) (memory : Memory) (values : ℕ × Regs) → compute old memory ≡ Some values → AreOfRow words.rows policy first old memory values
+  -- where PE unwind info gives no values
+  pub values-read : (words : Words Rule Regs) → ((sections : Sections) (relative : ℕ) (first : Bool) → words.pe_found sections relative first ≢ Ok None) → (policy : Policy) (m : ModuleView) (relative : ℕ) (first : Bool) (compute : Regs → Memory → Option (ℕ × Regs)) → answer_by words policy m relative first ≡ Some (direct compute) → (old : Regs) (memory : Memory) (values : ℕ × Regs) → compute old memory ≡ Some values → AreOfRow words.rows policy first old memory values
   unfolding answer_by
-  values-read words policy m relative first compute e old memory values is =
-      of-data words policy m.unwind_data relative first compute e old memory values is
+  values-read words none policy m relative first compute e old memory values is =
+      of-data words none policy m.unwind_data relative first compute e old memory values is

@@ -2,7 +2,7 @@ use Rattle.std.proofs.Common.{◌≡◌, rules}
 use Rattle.std.proofs.lemmas.List.Sorted.{IsPartitionPoint-from_clause, IsPartitionedBy-leb}
 use Rattle.framehop.specs.Modules.{AreInOrder, starts_by}
 use Rattle.framehop.proofs.ModuleLemmas.{taken-starting_by, dropped-starting_above}
-use Rattle.framehop.proofs.unwinder.UnwinderInternal.place_behind.Goals as goal
+use Rattle.framehop.proofs.unwinder.UnwinderInternal.place_after.Goals as goal
 
 pub returns-clause-point : goal.returns-clause-point
 returns-clause-point g c =
@@ -14,5 +14,5 @@ returns-clause-point g c =
 pub returns-clause-before : goal.returns-clause-before
 returns-clause-before g c = taken-starting_by c.args.address _ _ (returns-clause-point g c)
 
-pub returns-clause-behind : goal.returns-clause-behind
-returns-clause-behind g c = dropped-starting_above c.args.address _ _ (returns-clause-point g c)
+pub returns-clause-after : goal.returns-clause-after
+returns-clause-after g c = dropped-starting_above c.args.address _ _ (returns-clause-point g c)
