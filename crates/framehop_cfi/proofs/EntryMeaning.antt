@@ -52,7 +52,7 @@ module _ (kind : UnwindSectionType) (bases : SectionBaseAddresses) (entry : List
               data_alignment_factor = factor.0.0;
               fde_pointer_encoding = augmentation.0.encoding;
               has_augmentation_data = augmentation.0.has_data;
-              instructions = augmentation.0.behind;
+              instructions = augmentation.0.after_data;
               end = end;
             } in
             let all : HasCieFields kind bases entry fields made × (made.end ≡ end) = (

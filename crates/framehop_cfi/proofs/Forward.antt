@@ -11,7 +11,7 @@ use Rattle.framehop_cfi.specs.declared.entry.CommonInformationEntry.{CommonInfor
 use Rattle.framehop_cfi.specs.declared.rule.CfaRule.TheVariants as cfa
 use Rattle.framehop_cfi.specs.declared.rule.RegisterRule.TheVariants as rule
 use Rattle.framehop_cfi.specs.declared.instruction.CallFrameInstruction.{CallFrameInstruction}
-use Rattle.framehop_cfi.specs.declared.instruction.CallFrameInstruction.TheVariants.{Nop, NegateRaState, ArgsSize, SetLoc, AdvanceLoc, SetRule, Restore, DefCfa, DefCfaRegister, DefCfaOffset}
+use Rattle.framehop_cfi.specs.declared.instruction.CallFrameInstruction.TheVariants.{ArgsSize, SetLoc, AdvanceLoc, SetRule, Restore, DefCfa, DefCfaRegister, DefCfaOffset}
 use Rattle.framehop_cfi.specs.declared.read_error.ReadError.{ReadError}
 use Rattle.framehop_cfi.specs.declared.read_error.ReadError.TheVariants.{Eof}
 

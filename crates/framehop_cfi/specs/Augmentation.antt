@@ -22,9 +22,9 @@ counted_at bytes at = do
   count ← uleb_at bytes at
   if nat_le (count.1 + count.0) (length bytes) then Ok (count.1, count.1 + count.0) else Err Eof
 
--- a value that is read past, with another one in its place
-abbrev pub behind : {A : Type 0} → ℕ → Reading A → Reading ℕ
-behind value reading = reading >>= λ read. Ok (value, read.1)
+-- this value, with the place after something that is read past
+abbrev pub unchanged_after : {A : Type 0} → ℕ → Reading A → Reading ℕ
+unchanged_after value reading = reading >>= λ read. Ok (value, read.1)
 
 -- a personality routine's encoding and pointer; encoding FF has no pointer
 unfoldable pub personality_at : SectionBaseAddresses → List ℕ → ℕ → Reading ℕ
@@ -36,8 +36,8 @@ personality_at bases bytes at = do
 abbrev pub letter_at : SectionBaseAddresses → ℕ → List ℕ → ℕ → ℕ → Reading ℕ
 letter_at bases letter bytes at encoding =
     if letter == 82 then u8_at bytes at
-    else (if letter == 76 then behind encoding (u8_at bytes at)
-    else (if letter == 80 then behind encoding (personality_at bases bytes at)
+    else (if letter == 76 then unchanged_after encoding (u8_at bytes at)
+    else (if letter == 80 then unchanged_after encoding (personality_at bases bytes at)
     else (if (letter == 83) || (letter == 66) || (letter == 71) then Ok (encoding, at)
     else Err UnknownAugmentation)))
 
@@ -52,9 +52,9 @@ unfoldable pub augmentation_data : SectionBaseAddresses → List ℕ → List �
 augmentation_data bases letters bytes at = do
   place ← counted_at bytes at
   encoding ← letters_at bases letters (take place.1 bytes) place.0 0
-  Ok (record { encoding = encoding; has_data = true; behind = place.1 })
+  Ok (record { encoding = encoding; has_data = true; after_data = place.1 })
 
 abbrev pub augmentation_at : SectionBaseAddresses → List ℕ → List ℕ → ℕ → Result Augmentation ReadError
-augmentation_at bases [] bytes at = Ok (record { encoding = 0; has_data = false; behind = at })
+augmentation_at bases [] bytes at = Ok (record { encoding = 0; has_data = false; after_data = at })
 augmentation_at bases (first ∷ letters) bytes at =
     if first == 122 then augmentation_data bases letters bytes at else Err UnknownAugmentation

@@ -64,12 +64,12 @@ sizes_of EhFrame version bytes at = Ok at
 sizes_of DebugFrame version bytes at = if version == 4 then sizes_at bytes at else Ok at
 
 -- the place after the return register, which is not used: a byte in version 1, else a ULEB
-abbrev pub place_behind : {A : Type 0} → Reading A → Result ℕ ReadError
-place_behind reading = reading >>= λ read. Ok read.1
+abbrev pub place_after : {A : Type 0} → Reading A → Result ℕ ReadError
+place_after reading = reading >>= λ read. Ok read.1
 
 abbrev pub return_register_at : ℕ → List ℕ → ℕ → Result ℕ ReadError
 return_register_at version bytes at =
-    if version == 1 then place_behind (u8_at bytes at) else place_behind (uleb_at bytes at)
+    if version == 1 then place_after (u8_at bytes at) else place_after (uleb_at bytes at)
 
 -- a CIE's fields after the augmentation text
 unfoldable pub alignments_at : SectionBaseAddresses → ℕ → List ℕ → List ℕ → ℕ → ℕ
@@ -84,7 +84,7 @@ alignments_at bases version letters bytes at end = do
     data_alignment_factor = factor.0;
     fde_pointer_encoding = augmentation.encoding;
     has_augmentation_data = augmentation.has_data;
-    instructions = augmentation.behind;
+    instructions = augmentation.after_data;
     end = end;
   })
 

@@ -45,7 +45,7 @@ pub record HasCieFields (kind : UnwindSectionType) (bases : SectionBaseAddresses
   pub is_augmentation : augmentation_at bases (slice_range entry text text_end) entry augmentation_data ≡ Ok (record {
     encoding = cie.fde_pointer_encoding;
     has_data = cie.has_augmentation_data;
-    behind = cie.instructions;
+    after_data = cie.instructions;
   })
 
 -- a CIE stands at an offset

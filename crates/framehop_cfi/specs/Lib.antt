@@ -5,6 +5,7 @@ pub mod Context
 pub mod Entries
 pub mod Entry
 pub mod EntryMeaning
+pub mod ExplicitSections
 pub mod Header
 pub mod Instruction
 pub mod Layout

@@ -15,7 +15,7 @@ pub struct Augmentation {
     /// Whether the FDEs have augmentation data.
     pub has_data: bool,
     /// The offset after the CIE's augmentation data.
-    pub behind: usize,
+    pub after_data: usize,
 }
 
 /// Returns where the zero byte stands that ends a text.
@@ -71,7 +71,7 @@ impl SectionBaseAddresses {
             [] => Ok(Augmentation {
                 encoding: 0,
                 has_data: false,
-                behind: at,
+                after_data: at,
             }),
             [b'z', rest @ ..] => self.read_augmentation_data(rest, bytes, at),
             _ => Err(ReadError::UnknownAugmentation),
@@ -94,7 +94,7 @@ impl SectionBaseAddresses {
         Ok(Augmentation {
             encoding,
             has_data: true,
-            behind: end,
+            after_data: end,
         })
     }
 

@@ -276,14 +276,14 @@ impl<S: UnwindContextStorage> UnwindContext<S> {
         let mut location = start;
         let mut next = at;
         while next < bytes.len() {
-            let (instruction, behind) = cie.read_instruction(bases, bytes, next)?;
+            let (instruction, after_instruction) = cie.read_instruction(bases, bytes, next)?;
             let moved = location_after(cie, address, location, instruction)?;
             if is_beyond(address, moved) {
                 return Ok(());
             }
             self.execute(instruction)?;
             location = moved;
-            next = behind;
+            next = after_instruction;
         }
         Ok(())
     }

@@ -342,7 +342,7 @@ impl<'a> UnwindSection<'a> {
             data_alignment_factor,
             fde_pointer_encoding: augmentation.encoding,
             has_augmentation_data: augmentation.has_data,
-            instructions: augmentation.behind,
+            instructions: augmentation.after_data,
             end,
         })
     }

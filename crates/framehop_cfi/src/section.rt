@@ -1,8 +1,16 @@
 //! How a module lends the bytes of its sections, and tells where they lie.
-ghost use Rattle.std.specs.Prelude.{◌≡◌, ℕ, List, Option};
+ghost use Rattle.std.specs.Prelude.{◌≡◌, ℕ, List, [], ◌∷◌, Option, nat_eq, IfOk, IsOk};
+ghost use Rattle.std.specs.Box.{boxed_slice_items};
+ghost use Rattle.std.specs.Rc.{rc_slice_items};
+ghost use Rattle.std.specs.List.{list_any};
+ghost use Rattle.std.specs.Cmp.Lexicographic.{pointwise};
 ghost use Rattle.framehop_cfi.specs.SectionTable.{SectionTable, range_of, data_of, without_data};
+ghost use Rattle.framehop_cfi.specs.ExplicitSections.{table_of, ClonesEqual, IsCloneBy, IsDataCloneBy};
 
+use std::alloc::AllocError;
+use std::boxed::BoxedSlice;
 use std::ops::Range;
+use std::rc::{Rc, RcSlice};
 
 /// The bytes of a section, as they lie in the file. They are lent, never copied.
 ///
@@ -20,6 +28,39 @@ impl SectionBytes for Vec<u8> {
 
     fn bytes(&self) -> &[u8] {
         self.as_slice()
+    }
+}
+
+impl SectionBytes for &[u8] {
+    ghost contents = { λ bytes. bytes.now };
+
+    fn bytes(&self) -> &[u8] {
+        *self
+    }
+}
+
+impl SectionBytes for BoxedSlice<u8> {
+    ghost contents = { boxed_slice_items };
+
+    fn bytes(&self) -> &[u8] {
+        BoxedSlice::as_slice(self)
+    }
+}
+
+impl SectionBytes for RcSlice<u8> {
+    ghost contents = { rc_slice_items };
+
+    fn bytes(&self) -> &[u8] {
+        RcSlice::as_slice(self)
+    }
+}
+
+impl SectionBytes for Rc<Vec<u8>> {
+    ghost contents = { λ shared. shared.value.items };
+
+    fn bytes(&self) -> &[u8] {
+        let bytes: &Vec<u8> = self;
+        bytes.as_slice()
     }
 }
 
@@ -54,4 +95,185 @@ pub trait ModuleSectionInfo<D> {
     fn segment_data(&mut self, name: &[u8]) -> Option<D>
         ensures answer { result ≡ data_of name.now (table self.old).segments }
         ensures taken { table self.new ≡ record (table self.old) { segments = without_data name.now (table self.old).segments } };
+}
+
+/// The addresses and data of a module's sections and segments, given one by one. This implements
+/// `ModuleSectionInfo`: data is taken out of its field when it is asked for.
+///
+/// Addresses are SVMAs, "stated virtual memory addresses", as stated in the object, as opposed to
+/// AVMAs, "actual virtual memory addresses", in the memory of the profiled process.
+///
+/// Code addresses inside a module's unwind information are usually written down as SVMAs, or as
+/// relative addresses. For example, DWARF CFI can have code addresses expressed as relative-to-.text
+/// addresses or as absolute SVMAs. Mach-O compact unwind info contains addresses relative to the image
+/// base address.
+#[derive(Debug, PartialEq, Eq, Drop)]
+#[derive_where(Default)]
+pub struct ExplicitModuleSectionInfo<D> {
+    /// The image base address, as stated in the object. For Mach-O objects, this is the vmaddr of the
+    /// `__TEXT` segment. For ELF objects, this is zero.
+    ///
+    /// This is used to convert between SVMAs and relative addresses.
+    pub base_svma: u64,
+    /// The address range of the `__text` or `.text` section, in which most of the compiled code is
+    /// stored.
+    ///
+    /// This is used to detect whether instruction analysis is needed for an address.
+    pub text_svma: Option<Range<u64>>,
+    /// The data of the `__text` or `.text` section. For Mach-O binaries, this does not need to be
+    /// supplied if `text_segment` is supplied.
+    ///
+    /// This is used to handle function prologues and epilogues in some cases.
+    pub text: Option<D>,
+    /// The address range of the Mach-O `__stubs` section. It contains small pieces of executable code
+    /// for calling imported functions, which the unwind information in `__unwind_info` does not cover.
+    ///
+    /// This is used to exclude addresses in this section from incorrectly applying `__unwind_info`
+    /// opcodes, and to infer unwind rules for the known structure of stub functions.
+    pub stubs_svma: Option<Range<u64>>,
+    /// The address range of the Mach-O `__stub_helper` section. It contains small pieces of executable
+    /// code for calling imported functions, which the unwind information in `__unwind_info` does not
+    /// cover.
+    ///
+    /// This is used to exclude addresses in this section from incorrectly applying `__unwind_info`
+    /// opcodes, and to infer unwind rules for the known structure of stub helper functions.
+    pub stub_helper_svma: Option<Range<u64>>,
+    /// The address range of the `__got` or `.got` section (global offset table).
+    ///
+    /// This is used for DWARF CFI, to resolve addresses that are relative to it.
+    pub got_svma: Option<Range<u64>>,
+    /// The data of the `__unwind_info` section of Mach-O binaries.
+    pub unwind_info: Option<D>,
+    /// The address range of the `__eh_frame` or `.eh_frame` section.
+    ///
+    /// This is used for DWARF CFI, to resolve addresses that are relative to it.
+    pub eh_frame_svma: Option<Range<u64>>,
+    /// The data of the `__eh_frame` or `.eh_frame` section.
+    pub eh_frame: Option<D>,
+    /// The address range of the `__eh_frame_hdr` or `.eh_frame_hdr` section.
+    ///
+    /// This is used for DWARF CFI, to resolve addresses that are relative to it.
+    pub eh_frame_hdr_svma: Option<Range<u64>>,
+    /// The data of the `__eh_frame_hdr` or `.eh_frame_hdr` section.
+    pub eh_frame_hdr: Option<D>,
+    /// The data of the `__debug_frame` or `.debug_frame` section. Its address range is not needed.
+    pub debug_frame: Option<D>,
+    /// The address range of the `__TEXT` segment of Mach-O binaries, if available.
+    pub text_segment_svma: Option<Range<u64>>,
+    /// The data of the `__TEXT` segment of Mach-O binaries, if available.
+    pub text_segment: Option<D>,
+}
+
+impl<D: Clone> ExplicitModuleSectionInfo<D> {
+    /// Returns a clone: the same addresses, and clones of the data. Where clones of the data equal
+    /// them, it equals its original.
+    pub fn clone(&self) -> Result<Self, AllocError>
+        ensures clone { IfOk result (IsCloneBy D.is_clone self.now) }
+        ensures equal { ClonesEqual D.is_clone → IfOk result (λ copy. copy ≡ self.now) }
+        ensures succeeds { ((contents : D) → D.is_infallible contents) → IsOk result }
+    {
+        Ok(ExplicitModuleSectionInfo {
+            base_svma: self.base_svma,
+            text_svma: copy_of(&self.text_svma),
+            text: clone_of(&self.text)?,
+            stubs_svma: copy_of(&self.stubs_svma),
+            stub_helper_svma: copy_of(&self.stub_helper_svma),
+            got_svma: copy_of(&self.got_svma),
+            unwind_info: clone_of(&self.unwind_info)?,
+            eh_frame_svma: copy_of(&self.eh_frame_svma),
+            eh_frame: clone_of(&self.eh_frame)?,
+            eh_frame_hdr_svma: copy_of(&self.eh_frame_hdr_svma),
+            eh_frame_hdr: clone_of(&self.eh_frame_hdr)?,
+            debug_frame: clone_of(&self.debug_frame)?,
+            text_segment_svma: copy_of(&self.text_segment_svma),
+            text_segment: clone_of(&self.text_segment)?,
+        })
+    }
+}
+
+impl<D> ModuleSectionInfo<D> for ExplicitModuleSectionInfo<D> {
+    ghost table = { table_of };
+
+    fn base_svma(&self) -> u64 {
+        self.base_svma
+    }
+
+    fn section_svma_range(&mut self, name: &[u8]) -> Option<Range<u64>> {
+        if is_either(name, b"__text", b".text") {
+            copy_of(&self.text_svma)
+        } else if name == b"__stubs".as_slice() {
+            copy_of(&self.stubs_svma)
+        } else if name == b"__stub_helper".as_slice() {
+            copy_of(&self.stub_helper_svma)
+        } else if is_either(name, b"__got", b".got") {
+            copy_of(&self.got_svma)
+        } else if is_either(name, b"__eh_frame", b".eh_frame") {
+            copy_of(&self.eh_frame_svma)
+        } else if is_either(name, b"__eh_frame_hdr", b".eh_frame_hdr") {
+            copy_of(&self.eh_frame_hdr_svma)
+        } else {
+            None
+        }
+    }
+
+    fn section_data(&mut self, name: &[u8]) -> Option<D> {
+        if is_either(name, b"__text", b".text") {
+            self.text.take()
+        } else if name == b"__unwind_info".as_slice() {
+            self.unwind_info.take()
+        } else if is_either(name, b"__eh_frame", b".eh_frame") {
+            self.eh_frame.take()
+        } else if is_either(name, b"__eh_frame_hdr", b".eh_frame_hdr") {
+            self.eh_frame_hdr.take()
+        } else if is_either(name, b"__debug_frame", b".debug_frame") {
+            self.debug_frame.take()
+        } else {
+            None
+        }
+    }
+
+    fn segment_svma_range(&mut self, name: &[u8]) -> Option<Range<u64>> {
+        if name == b"__TEXT".as_slice() {
+            copy_of(&self.text_segment_svma)
+        } else {
+            None
+        }
+    }
+
+    fn segment_data(&mut self, name: &[u8]) -> Option<D> {
+        if name == b"__TEXT".as_slice() {
+            self.text_segment.take()
+        } else {
+            None
+        }
+    }
+}
+
+/// Returns whether a name is one of the two that a section goes by.
+fn is_either(name: &[u8], first: &[u8], second: &[u8]) -> bool
+    ensures { result ≡ list_any (pointwise nat_eq name.now) (first.now ∷ second.now ∷ []) }
+{
+    name == first || name == second
+}
+
+/// Returns a copy of a range.
+fn copy_of(range: &Option<Range<u64>>) -> Option<Range<u64>>
+    ensures { result ≡ range.now }
+{
+    match range {
+        Some(range) => Some(range.start..range.end),
+        None => None,
+    }
+}
+
+/// Returns a clone of data, where there are data.
+fn clone_of<D: Clone>(contents: &Option<D>) -> Result<Option<D>, AllocError>
+    ensures clone { IfOk result (IsDataCloneBy D.is_clone contents.now) }
+    ensures equal { ClonesEqual D.is_clone → IfOk result (λ copy. copy ≡ contents.now) }
+    ensures succeeds { ((contents : D) → D.is_infallible contents) → IsOk result }
+{
+    match contents {
+        Some(contents) => Ok(Some(contents.clone()?)),
+        None => Ok(None),
+    }
 }

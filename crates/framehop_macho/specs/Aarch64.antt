@@ -1,16 +1,14 @@
 -- Compact unwind info on aarch64 (Apple, compact_unwind_encoding.h, UNWIND_ARM64_..): opcodes and their rules.
-use Rattle.std.specs.Prelude.{◌≡◌, ℕ, ◌==◌, nat_lt, Bool, true, false, List, take, drop, if◌then◌else◌, Option, Some, None, Result, Ok, Err}
+use Rattle.std.specs.Prelude.{◌≡◌, ℕ, ◌==◌, nat_lt, Bool, true, false, List, take, drop, if◌then◌else◌, Option, Some, None, Ok, Err}
 use Rattle.framehop_core.specs.declared.aarch64.unwind_rule.UnwindRuleAarch64.{UnwindRuleAarch64}
 use Rattle.framehop_core.specs.declared.aarch64.unwind_rule.UnwindRuleAarch64.TheVariants.{NoOp, OffsetSp, UseFramePointer}
 use Rattle.framehop_analysis.specs.Answer.{FirstOf}
 use Rattle.framehop_analysis.specs.Aarch64.Prologue.{IsPrologueRule}
 use Rattle.framehop_analysis.specs.Aarch64.Epilogue.{IsEpilogueRule}
-use Rattle.framehop_macho.specs.Answer.{bits_at, AnalysedOr}
+use Rattle.framehop_macho.specs.Answer.{Answer, bits_at, AnalysedOr}
 use Rattle.framehop_macho.specs.declared.aarch64.opcode.OpcodeArm64.{OpcodeArm64}
 use Rattle.framehop_macho.specs.declared.aarch64.opcode.OpcodeArm64.TheVariants.{Null, Frameless, Dwarf, FrameBased, UnrecognizedKind}
-use Rattle.framehop_macho.specs.declared.macho.CompactUnwindInfoUnwinderError.{CompactUnwindInfoUnwinderError}
 use Rattle.framehop_macho.specs.declared.macho.CompactUnwindInfoUnwinderError.TheVariants.{CallerCannotBeFrameless, FunctionHasNoInfo, BadOpcodeKind}
-use Rattle.framehop_macho.specs.declared.macho.CuiUnwindResult.{CuiUnwindResult}
 use Rattle.framehop_macho.specs.declared.macho.CuiUnwindResult.TheVariants.{ExecRule, NeedDwarf}
 use Rattle.framehop_macho.specs.declared.unwind_info.info.Function.{Function}
 
@@ -24,7 +22,7 @@ opcode_of word = (let mode = bits_at word 24 4 in
     else UnrecognizedKind mode))))
 
 -- what an opcode says, of a first frame (`true`) or another
-abbrev pub by_opcode : OpcodeArm64 → Bool → Result (CuiUnwindResult UnwindRuleAarch64) CompactUnwindInfoUnwinderError
+abbrev pub by_opcode : OpcodeArm64 → Bool → Answer UnwindRuleAarch64
 by_opcode Null true = Ok (ExecRule NoOp)
 by_opcode Null false = Err FunctionHasNoInfo
 by_opcode (Frameless size) true = if size == 0 then Ok (ExecRule NoOp) else Ok (ExecRule (OffsetSp size))
@@ -39,13 +37,13 @@ IsAnalysisRule code offset rule =
     FirstOf (IsPrologueRule (take offset code) (drop offset code)) (IsEpilogueRule code offset) rule
 
 -- a function with info, in a first frame: the code analysis comes first
-abbrev pub says_first : OpcodeArm64 → ℕ → Option (List ℕ) → Result (CuiUnwindResult UnwindRuleAarch64) CompactUnwindInfoUnwinderError → Type 0
+abbrev pub says_first : OpcodeArm64 → ℕ → Option (List ℕ) → Answer UnwindRuleAarch64 → Type 0
 says_first Null offset code result = result ≡ by_opcode Null true
 says_first opcode offset None result = result ≡ by_opcode opcode true
 says_first opcode offset (Some code) result = AnalysedOr (IsAnalysisRule code offset) (by_opcode opcode true) result
 
 -- What unwinding a frame at an offset of a function returns.
-abbrev pub Says : Function → Bool → ℕ → Option (List ℕ) → Result (CuiUnwindResult UnwindRuleAarch64) CompactUnwindInfoUnwinderError → Type 0
+abbrev pub Says : Function → Bool → ℕ → Option (List ℕ) → Answer UnwindRuleAarch64 → Type 0
 Says function true offset code result = says_first (opcode_of function.opcode) offset code result
 Says function false offset code result = result ≡ by_opcode (opcode_of function.opcode) false
 

@@ -1,7 +1,12 @@
 -- What unwinding by compact unwind info returns.
 use Rattle.std.specs.Prelude.{◌≡◌, ℕ, ◌⊎◌, ◌/◌, ◌%◌, ◌^◌, Result, Ok, Err}
+use Rattle.framehop_macho.specs.declared.macho.CompactUnwindInfoUnwinderError.{CompactUnwindInfoUnwinderError}
 use Rattle.framehop_macho.specs.declared.macho.CuiUnwindResult.{CuiUnwindResult}
 use Rattle.framehop_macho.specs.declared.macho.CuiUnwindResult.TheVariants.{ExecRule, NeedDwarf}
+
+-- a rule, an FDE's offset, or a refusal
+abbrev pub Answer : Type 0 → Type 0
+Answer Rule = Result (CuiUnwindResult Rule) CompactUnwindInfoUnwinderError
 
 -- so many bits of a word, from a lowest one on
 abbrev pub bits_at : ℕ → ℕ → ℕ → ℕ
@@ -19,7 +24,7 @@ IfExecRule (Ok (NeedDwarf _)) P = Unit {0}
 IfExecRule (Err _) P = Unit {0}
 
 -- the rule that a code analysis finds, or another answer where it finds none
-abbrev pub AnalysedOr : {Rule E : Type 0} → (Rule → Type 0) → Result (CuiUnwindResult Rule) E → Result (CuiUnwindResult Rule) E → Type 0
+abbrev pub AnalysedOr : {Rule : Type 0} → (Rule → Type 0) → (otherwise result : Answer Rule) → Type 0
 AnalysedOr {Rule} IsRule otherwise result =
     ((rule : Rule) × IsRule rule × (result ≡ Ok (ExecRule rule)))
     ⊎ (((rule : Rule) → IsRule rule → ⊥) × (result ≡ otherwise))

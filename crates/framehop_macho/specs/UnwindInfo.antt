@@ -26,16 +26,16 @@ pub record Lists : Type 0 where
 
 -- The header has seven words: the version; offset and count of the common opcodes, of the personalities and of the
 -- index entries. The last index entry is a sentinel.
-abbrev pub lists_in : List ℕ → Result Lists CompactReadError
-lists_in data' =
+abbrev pub shared_lists_in : List ℕ → Result Lists CompactReadError
+shared_lists_in data' =
     part_of data' (le4 data' 4) (4 * le4 data' 8) >>= (λ opcodes.
     part_of data' (le4 data' 20) (12 * le4 data' 24) >>= (λ index.
     Ok (record { opcodes = opcodes; index = index })))
 
-unfoldable pub lists_of : List ℕ → Result Lists CompactReadError
-lists_of data' =
+unfoldable pub shared_lists_of : List ℕ → Result Lists CompactReadError
+shared_lists_of data' =
     if nat_lt (length data') 28 then Err Eof
-    else (if le4 data' 0 == 1 then lists_in data' else Err BadVersion)
+    else (if le4 data' 0 == 1 then shared_lists_in data' else Err BadVersion)
 
 -- the same, as they are lent
 abbrev pub shared_lists : UnwindInfo → Lists
@@ -153,4 +153,4 @@ in_lists data' lists address = in_entry data' lists address (page_entry_of lists
 
 -- the function of an address (relative to the module's base), found by place in the index and then in a page
 unfoldable pub function_of : List ℕ → ℕ → Result (Option Function) CompactReadError
-function_of data' address = lists_of data' >>= (λ lists. in_lists data' lists address)
+function_of data' address = shared_lists_of data' >>= (λ lists. in_lists data' lists address)

@@ -1,10 +1,10 @@
 -- Unwinding a frame of a module by its compact unwind info, for any architecture.
 use Rattle.std.specs.Prelude.{◌≡◌, ℕ, ◌-◌, ◌==◌, ◌&&◌, nat_le, nat_lt, Bool, true, false, List, length, take, drop, if◌then◌else◌, MatchBool, Option, Some, None, option_map, option_and_then, Result, Ok, Err}
+use Rattle.framehop_macho.specs.Answer.{Answer}
 use Rattle.framehop_macho.specs.UnwindInfo.{function_of}
 use Rattle.framehop_macho.specs.declared.macho.CompactUnwindInfoUnwinder.{CompactUnwindInfoUnwinder}
 use Rattle.framehop_macho.specs.declared.macho.CompactUnwindInfoUnwinderError.{CompactUnwindInfoUnwinderError}
 use Rattle.framehop_macho.specs.declared.macho.CompactUnwindInfoUnwinderError.TheVariants.{BadFormat, AddressOutsideRange, StubFunctionCannotBeCaller}
-use Rattle.framehop_macho.specs.declared.macho.CuiUnwindResult.{CuiUnwindResult}
 use Rattle.framehop_macho.specs.declared.macho.CuiUnwindResult.TheVariants.{ExecRule}
 use Rattle.framehop_macho.specs.declared.macho.TextBytes.{TextBytes}
 use Rattle.framehop_macho.specs.declared.unwind_info.error.CompactReadError.{CompactReadError}
@@ -55,10 +55,10 @@ pub record Words (Rule : Type 0) : Type 1 where
   pub stub_rule : Rule
   pub start_rule : Rule
   pub helper_rule : ℕ → Rule
-  pub says : Function → Bool → ℕ → Option (List ℕ) → Result (CuiUnwindResult Rule) CompactUnwindInfoUnwinderError → Type 0
+  pub says : Function → Bool → ℕ → Option (List ℕ) → Answer Rule → Type 0
 
 -- the same rule for each first frame; a caller frame is refused
-abbrev pub first_only : {Rule : Type 0} → Bool → Rule → CompactUnwindInfoUnwinderError → Result (CuiUnwindResult Rule) CompactUnwindInfoUnwinderError
+abbrev pub first_only : {Rule : Type 0} → Bool → Rule → CompactUnwindInfoUnwinderError → Answer Rule
 first_only true rule error = Ok (ExecRule rule)
 first_only false rule error = Err error
 
@@ -67,7 +67,7 @@ abbrev pub code_of : Option Text → Function → Option (List ℕ)
 code_of text function = option_and_then (λ t. code_between t function.start_address function.end_address) text
 
 -- in a function: a first frame at its start has done nothing yet
-abbrev pub UnwindsIn : {Rule : Type 0} → Words Rule → Option Text → ℕ → Bool → Function → Result (CuiUnwindResult Rule) CompactUnwindInfoUnwinderError → Type 0
+abbrev pub UnwindsIn : {Rule : Type 0} → Words Rule → Option Text → ℕ → Bool → Function → Answer Rule → Type 0
 UnwindsIn words text address first function result =
     MatchBool (first && (address == function.start_address))
     (result ≡ Ok (ExecRule words.start_rule))
@@ -75,14 +75,14 @@ UnwindsIn words text address first function result =
 
 module _ {Rule : Type 0} (words : Words Rule) (m : Module) (address : ℕ) (first : Bool) where
   -- by the function of the address; outside the functions a first frame can be in a stub
-  abbrev pub UnwindsBy : Result (Option Function) CompactReadError → Result (CuiUnwindResult Rule) CompactUnwindInfoUnwinderError → Type 0
+  abbrev pub UnwindsBy : Result (Option Function) CompactReadError → Answer Rule → Type 0
   UnwindsBy (Err error) result = result ≡ Err (BadFormat error)
   UnwindsBy (Ok None) result = result ≡ first_only first words.stub_rule (AddressOutsideRange address)
   UnwindsBy (Ok (Some function)) result = UnwindsIn words m.text address first function result
 
   -- What unwinding a frame (`true`: the first) at a relative address returns. `__unwind_info` does not describe
   -- `__stubs` and `__stub_helper`.
-  abbrev pub Unwinds : Result (CuiUnwindResult Rule) CompactUnwindInfoUnwinderError → Type 0
+  abbrev pub Unwinds : Answer Rule → Type 0
   Unwinds result =
       MatchBool (is_in m.stubs address)
       (result ≡ first_only first words.stub_rule StubFunctionCannotBeCaller)

@@ -7,12 +7,11 @@ use Rattle.framehop_core.specs.declared.x86_64.unwind_rule.UnwindRuleX86_64.TheV
 use Rattle.framehop_analysis.specs.Answer.{FirstOf}
 use Rattle.framehop_analysis.specs.X86_64.Prologue.{IsPrologueRule}
 use Rattle.framehop_analysis.specs.X86_64.Epilogue.{IsEpilogueRule}
-use Rattle.framehop_macho.specs.Answer.{bits_at, exec_rule, AnalysedOr}
+use Rattle.framehop_macho.specs.Answer.{Answer, bits_at, exec_rule, AnalysedOr}
 use Rattle.framehop_macho.specs.SavedRegisters.{saved_registers, bp_position}
 use Rattle.framehop_macho.specs.UnwindInfo.{◌>>=◌}
 use Rattle.framehop_macho.specs.declared.macho.CompactUnwindInfoUnwinderError.{CompactUnwindInfoUnwinderError}
 use Rattle.framehop_macho.specs.declared.macho.CompactUnwindInfoUnwinderError.TheVariants.{FunctionHasNoInfo, BpOffsetDoesNotFit, BadOpcodeKind, NoTextBytesToLookUpIndirectStackOffset, IndirectStackOffsetOutOfBounds, StackAdjustOverflow, StackSizeDoesNotFit, InvalidFrameless}
-use Rattle.framehop_macho.specs.declared.macho.CuiUnwindResult.{CuiUnwindResult}
 use Rattle.framehop_macho.specs.declared.macho.CuiUnwindResult.TheVariants.{ExecRule, NeedDwarf}
 use Rattle.framehop_macho.specs.declared.unwind_info.info.Function.{Function}
 use Rattle.framehop_macho.specs.declared.x86_64.opcode.OpcodeX86_64.{OpcodeX86_64}
@@ -30,13 +29,22 @@ frameless opcode (Some saved) = opcode (bp_position saved)
 abbrev pub saved_in : ℕ → Option (List RegisterNameX86_64)
 saved_in word = saved_registers (bits_at word 10 3) (bits_at word 0 10)
 
+-- a stack size in the opcode: bits 16 to 23, in units of 8 bytes
+abbrev pub size_in_word : ℕ → Option ℕ → OpcodeX86_64
+size_in_word word bp = FramelessImmediate (bits_at word 16 8 * 8) bp
+
+-- a stack size in the function's code, at the offset in bits 16 to 23; what pushes add is in bits 13 to 15, in units
+-- of 8 bytes
+abbrev pub size_in_code : ℕ → Option ℕ → OpcodeX86_64
+size_in_code word bp = FramelessIndirect (bits_at word 16 8) (bits_at word 13 3 * 8) bp
+
 -- the opcode of a word, by its mode in bits 24 to 27
 unfoldable pub opcode_of : ℕ → OpcodeX86_64
 opcode_of word = (let mode = bits_at word 24 4 in
     if mode == 0 then Null
     else (if mode == 1 then FrameBased
-    else (if mode == 2 then frameless (λ bp. FramelessImmediate (bits_at word 16 8 * 8) bp) (saved_in word)
-    else (if mode == 3 then frameless (λ bp. FramelessIndirect (bits_at word 16 8) (bits_at word 13 3 * 8) bp) (saved_in word)
+    else (if mode == 2 then frameless (size_in_word word) (saved_in word)
+    else (if mode == 3 then frameless (size_in_code word) (saved_in word)
     else (if mode == 4 then Dwarf (bits_at word 0 24)
     else UnrecognizedKind mode)))))
 
@@ -86,7 +94,7 @@ null_rule true code = Ok (uncovered_rule code)
 null_rule false code = Err FunctionHasNoInfo
 
 -- what an opcode says, of a first frame (`true`) or another, and the function's code
-abbrev pub by_opcode : OpcodeX86_64 → Bool → Option (List ℕ) → Result (CuiUnwindResult UnwindRuleX86_64) CompactUnwindInfoUnwinderError
+abbrev pub by_opcode : OpcodeX86_64 → Bool → Option (List ℕ) → Answer UnwindRuleX86_64
 by_opcode Null first code = exec_rule (null_rule first code)
 by_opcode FrameBased first code = Ok (ExecRule UseFramePointer)
 by_opcode (FramelessImmediate size bp) first code = exec_rule (immediate_rule size bp)
@@ -101,7 +109,7 @@ abbrev pub IsAnalysisRule : List ℕ → ℕ → UnwindRuleX86_64 → Type 0
 IsAnalysisRule code offset rule = FirstOf (IsPrologueRule code offset) (IsEpilogueRule code offset) rule
 
 -- What unwinding a frame at an offset of a function returns. In a first frame the code analysis comes first.
-abbrev pub Says : Function → Bool → ℕ → Option (List ℕ) → Result (CuiUnwindResult UnwindRuleX86_64) CompactUnwindInfoUnwinderError → Type 0
+abbrev pub Says : Function → Bool → ℕ → Option (List ℕ) → Answer UnwindRuleX86_64 → Type 0
 Says function true offset (Some code) result =
     AnalysedOr (IsAnalysisRule code offset) (by_opcode (opcode_of function.opcode) true (Some code)) result
 Says function true offset None result = result ≡ by_opcode (opcode_of function.opcode) true None

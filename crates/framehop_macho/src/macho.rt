@@ -1,7 +1,7 @@
 //! Unwinding by compact unwind info, for any architecture (framehop 0.16.0, `macho.rs`).
 ghost use Rattle.std.specs.Prelude.{◌≡◌, ◌≤◌, ◌-◌, ℕ, IfOk, IfSome, option_map, List, length, Bool, IsTrue, Some, None, Ok, Err, Result, Option};
 ghost use Rattle.std.specs.Option.{ForSome, option_copied};
-ghost use Rattle.framehop_macho.specs.Answer.{IfExecRule};
+ghost use Rattle.framehop_macho.specs.Answer.{Answer, IfExecRule};
 ghost use Rattle.framehop_macho.specs.UnwindInfo.{function_of, Covers};
 ghost use Rattle.framehop_macho.specs.Unwinder.{text_of, module_of, code_between, code_of, is_in, function_for, UnwindsIn, UnwindsBy, Unwinds};
 ghost use Rattle.framehop_macho.specs.declared.macho.CuiUnwindResult.{CuiUnwindResult};
@@ -81,7 +81,7 @@ pub enum CuiUnwindResult<R> {
 pub trait CompactUnwindInfoUnwinding: Arch {
     // what a call returns: of the function, the kind of the frame (`true`: the first), the offset of the
     // address in the function, and the function's code
-    ghost says: { Function → Bool → ℕ → Option (List ℕ) → Result (CuiUnwindResult Self.UnwindRule) CompactUnwindInfoUnwinderError → Type 0 };
+    ghost says: { Function → Bool → ℕ → Option (List ℕ) → Answer Self.UnwindRule → Type 0 };
 
     // the rule at an offset of `__stub_helper`
     ghost helper_rule: { ℕ → Self.UnwindRule };

@@ -29,6 +29,24 @@ const COMPRESSED: [u8; 84] = [
     0, 0, 12, 0, 3, 0, 24, 0, 1, 0, 0, 0, 0, 0, 0x10, 0, 0, 1, 0x20, 0, 0, 2, 0, 0, 0, 1,
 ];
 
+// no entries in the index
+const EMPTY_INDEX: [u8; 28] = [
+    1, 0, 0, 0, 0x1c, 0, 0, 0, 0, 0, 0, 0, 0x1c, 0, 0, 0, 0, 0, 0, 0, 0x1c, 0, 0, 0, 0, 0, 0, 0,
+];
+
+// only the sentinel in the index, at 0x1000
+const ONLY_SENTINEL: [u8; 40] = [
+    1, 0, 0, 0, 0x1c, 0, 0, 0, 0, 0, 0, 0, 0x1c, 0, 0, 0, 0, 0, 0, 0, 0x1c, 0, 0, 0, 1, 0, 0, 0, 0,
+    0x10, 0, 0, 0, 0, 0, 0, 0, 0, 0, 0,
+];
+
+// one page, compressed, from 0xfffff000 to 0xffffffff: functions at 0xfffff000, 0xfffff800 and 0x100000000
+const HIGH: [u8; 80] = [
+    1, 0, 0, 0, 0x1c, 0, 0, 0, 0, 0, 0, 0, 0x1c, 0, 0, 0, 0, 0, 0, 0, 0x1c, 0, 0, 0, 2, 0, 0, 0, 0,
+    0xf0, 0xff, 0xff, 0x34, 0, 0, 0, 0, 0, 0, 0, 0xff, 0xff, 0xff, 0xff, 0, 0, 0, 0, 0, 0, 0, 0, 3,
+    0, 0, 0, 12, 0, 3, 0, 24, 0, 1, 0, 0, 0, 0, 0, 0, 8, 0, 0, 0, 0x10, 0, 0, 0, 0, 0, 1,
+];
+
 fn function(opcode: u32) -> Function {
     Function {
         start_address: 0x1000,
@@ -221,6 +239,196 @@ fn uses_the_code(rt: HostRuntime) {
     assert_eq!(rt;
         unwinder.unwind_frame(0x1004, true),
         Ok(CuiUnwindResult::ExecRule(UnwindRuleX86_64::UseFramePointer))
+    );
+}
+
+/// The bytes from 0 to 0x2000 of a module whose code, at 0x1000, begins with these.
+fn segment(code: &[u8]) -> [u8; 0x2000] {
+    let mut bytes = [0x90u8; 0x2000];
+    for (at, byte) in code.iter().enumerate() {
+        if at < 0x1000 {
+            bytes[0x1000 + at] = *byte;
+        }
+    }
+    bytes
+}
+
+/// The code from the segment's start, from the section's, and from between them; each has the function from
+/// 0x1000 to 0x2000 as a whole.
+fn texts_with_the_function(segment: &[u8; 0x2000]) -> [TextBytes<'_>; 3] {
+    [
+        TextBytes::new(0, &segment[..]),
+        TextBytes::new(0x1000, &segment[0x1000..]),
+        TextBytes::new(0xff8, &segment[0xff8..]),
+    ]
+}
+
+/// Code that begins after the function, ends before its end, or lies elsewhere.
+fn texts_without_the_function(segment: &[u8; 0x2000]) -> [TextBytes<'_>; 5] {
+    [
+        TextBytes::new(0x1001, &segment[0x1001..]),
+        TextBytes::new(0, &segment[..0x1fff]),
+        TextBytes::new(0x1000, &segment[0x1000..0x1fff]),
+        TextBytes::new(0x2000, &segment[..]),
+        TextBytes::new(0x1000, &[]),
+    ]
+}
+
+#[test]
+fn finds_code_in_the_segment_and_in_the_section(rt: HostRuntime) {
+    // push rbp; mov rbp, rsp; the opcode is that of a frame
+    let segment = segment(&[0x55, 0x48, 0x89, 0xe5]);
+    for text in texts_with_the_function(&segment) {
+        let unwinder = CompactUnwindInfoUnwinder::<ArchX86_64>::new(
+            REGULAR.as_slice(),
+            Some(text),
+            (0, 0),
+            (0, 0),
+        );
+        assert_eq!(rt;
+            unwinder.unwind_frame(0x1001, true),
+            Ok(CuiUnwindResult::ExecRule(UnwindRuleX86_64::OffsetSp { sp_offset_by_8: 2 }))
+        );
+    }
+    for text in texts_without_the_function(&segment) {
+        let unwinder = CompactUnwindInfoUnwinder::<ArchX86_64>::new(
+            REGULAR.as_slice(),
+            Some(text),
+            (0, 0),
+            (0, 0),
+        );
+        assert_eq!(rt;
+            unwinder.unwind_frame(0x1001, true),
+            Ok(CuiUnwindResult::ExecRule(UnwindRuleX86_64::UseFramePointer))
+        );
+    }
+}
+
+#[test]
+fn finds_a_stack_size_in_the_segment_and_in_the_section(rt: HostRuntime) {
+    // sub rsp, 0x80; the opcode, 0x03032000, has its size there
+    let segment = segment(&[0x48, 0x81, 0xec, 0x80, 0, 0, 0]);
+    let mut info = REGULAR;
+    info[65] = 0x20;
+    info[66] = 3;
+    info[67] = 3;
+    for text in texts_with_the_function(&segment) {
+        let unwinder = CompactUnwindInfoUnwinder::<ArchX86_64>::new(
+            info.as_slice(),
+            Some(text),
+            (0, 0),
+            (0, 0),
+        );
+        assert_eq!(rt;
+            unwinder.unwind_frame(0x1010, false),
+            Ok(CuiUnwindResult::ExecRule(UnwindRuleX86_64::OffsetSp { sp_offset_by_8: 17 }))
+        );
+    }
+    for text in texts_without_the_function(&segment) {
+        let unwinder = CompactUnwindInfoUnwinder::<ArchX86_64>::new(
+            info.as_slice(),
+            Some(text),
+            (0, 0),
+            (0, 0),
+        );
+        assert_eq!(rt;
+            unwinder.unwind_frame(0x1010, false),
+            Err(CompactUnwindInfoUnwinderError::NoTextBytesToLookUpIndirectStackOffset)
+        );
+    }
+}
+
+#[test]
+fn finds_code_of_aarch64_in_the_segment_and_in_the_section(rt: HostRuntime) {
+    // sub sp, sp, #0x50; stp x22, x21, [sp, #0x20]; stp x20, x19, [sp, #0x30]; stp x29, x30, [sp, #0x40];
+    // the opcode is that of a frame
+    let segment = segment(&[
+        0xff, 0x43, 0x01, 0xd1, 0xf6, 0x57, 0x02, 0xa9, 0xf4, 0x4f, 0x03, 0xa9, 0xfd, 0x7b, 0x04,
+        0xa9,
+    ]);
+    let mut info = REGULAR;
+    info[67] = 4;
+    for text in texts_with_the_function(&segment) {
+        let unwinder = CompactUnwindInfoUnwinder::<ArchAarch64>::new(
+            info.as_slice(),
+            Some(text),
+            (0, 0),
+            (0, 0),
+        );
+        assert_eq!(rt;
+            unwinder.unwind_frame(0x1004, true),
+            Ok(CuiUnwindResult::ExecRule(UnwindRuleAarch64::OffsetSp { sp_offset_by_16: 5 }))
+        );
+    }
+    for text in texts_without_the_function(&segment) {
+        let unwinder = CompactUnwindInfoUnwinder::<ArchAarch64>::new(
+            info.as_slice(),
+            Some(text),
+            (0, 0),
+            (0, 0),
+        );
+        assert_eq!(rt;
+            unwinder.unwind_frame(0x1004, true),
+            Ok(CuiUnwindResult::ExecRule(UnwindRuleAarch64::UseFramePointer))
+        );
+    }
+}
+
+#[test]
+fn finds_nothing_in_an_empty_level(rt: HostRuntime) {
+    let mut regular = REGULAR;
+    regular[58] = 0;
+    let mut compressed = COMPRESSED;
+    compressed[62] = 0;
+    for info in [
+        EMPTY_INDEX.as_slice(),
+        ONLY_SENTINEL.as_slice(),
+        regular.as_slice(),
+        compressed.as_slice(),
+    ] {
+        let x86_64 = CompactUnwindInfoUnwinder::<ArchX86_64>::new(info, None, (0, 0), (0, 0));
+        let aarch64 = CompactUnwindInfoUnwinder::<ArchAarch64>::new(info, None, (0, 0), (0, 0));
+        for address in [0u32, 0xfff, 0x1000, 0x1fff, 0x2000, 0xffff_ffff] {
+            let outside = CompactUnwindInfoUnwinderError::AddressOutsideRange(address);
+            assert_eq!(rt; x86_64.function_for_address(address), Err(outside));
+            assert_eq!(rt; x86_64.unwind_frame(address, false), Err(outside));
+            assert_eq!(rt; aarch64.unwind_frame(address, false), Err(outside));
+            assert_eq!(rt;
+                x86_64.unwind_frame(address, true),
+                Ok(CuiUnwindResult::ExecRule(UnwindRuleX86_64::JustReturn))
+            );
+            assert_eq!(rt;
+                aarch64.unwind_frame(address, true),
+                Ok(CuiUnwindResult::ExecRule(UnwindRuleAarch64::NoOp))
+            );
+        }
+    }
+}
+
+#[test]
+fn refuses_an_address_above_32_bits(rt: HostRuntime) {
+    let unwinder = CompactUnwindInfoUnwinder::<ArchX86_64>::new(
+        HIGH.as_slice(),
+        None,
+        (0, 0),
+        (0, 0),
+    );
+    let low = Function {
+        start_address: 0xffff_f000,
+        end_address: 0xffff_f800,
+        opcode: 0x0100_0000,
+    };
+    assert_eq!(rt; unwinder.function_for_address(0xffff_f7ff), Ok(low));
+    let too_big = CompactUnwindInfoUnwinderError::BadFormat(CompactReadError::AddressTooBig);
+    for address in [0xffff_f800u32, 0xffff_fffe] {
+        assert_eq!(rt; unwinder.function_for_address(address), Err(too_big));
+        assert_eq!(rt; unwinder.unwind_frame(address, true), Err(too_big));
+        assert_eq!(rt; unwinder.unwind_frame(address, false), Err(too_big));
+    }
+    // the sentinel
+    assert_eq!(rt;
+        unwinder.function_for_address(0xffff_ffff),
+        Err(CompactUnwindInfoUnwinderError::AddressOutsideRange(0xffff_ffff))
     );
 }
 
@@ -427,5 +635,70 @@ fn an_offset_leads_to_its_fde(rt: HostRuntime) -> Result<(), Fail> {
     let fde = section.fde_from_offset(offset as usize)?;
     assert_eq!(rt; (fde.initial_address, fde.address_range), (0x1000, 0x20));
     assert_eq!(rt; fde.end, 52);
+    Ok(())
+}
+
+#[test]
+fn prints_the_names_of_errors(rt: HostRuntime) -> Result<(), Fail> {
+    let alloc = rt.alloc();
+    for (error, name) in [
+        (CompactReadError::Eof, "Eof"),
+        (CompactReadError::BadVersion, "BadVersion"),
+        (CompactReadError::BadPageKind, "BadPageKind"),
+        (CompactReadError::BadEncodingIndex, "BadEncodingIndex"),
+        (CompactReadError::AddressTooBig, "AddressTooBig"),
+    ] {
+        assert_eq!(rt; error.to_string(alloc)?.as_str(), name);
+        let outer = CompactUnwindInfoUnwinderError::from(error);
+        assert_eq!(rt; outer.to_string(alloc)?.as_str(), "BadFormat");
+    }
+    for (error, name) in [
+        (
+            CompactUnwindInfoUnwinderError::AddressOutsideRange(0x1000),
+            "AddressOutsideRange",
+        ),
+        (
+            CompactUnwindInfoUnwinderError::CallerCannotBeFrameless,
+            "CallerCannotBeFrameless",
+        ),
+        (
+            CompactUnwindInfoUnwinderError::FunctionHasNoInfo,
+            "FunctionHasNoInfo",
+        ),
+        (
+            CompactUnwindInfoUnwinderError::BpOffsetDoesNotFit,
+            "BpOffsetDoesNotFit",
+        ),
+        (
+            CompactUnwindInfoUnwinderError::BadOpcodeKind(5),
+            "BadOpcodeKind",
+        ),
+        (
+            CompactUnwindInfoUnwinderError::NoTextBytesToLookUpIndirectStackOffset,
+            "NoTextBytesToLookUpIndirectStackOffset",
+        ),
+        (
+            CompactUnwindInfoUnwinderError::IndirectStackOffsetOutOfBounds,
+            "IndirectStackOffsetOutOfBounds",
+        ),
+        (
+            CompactUnwindInfoUnwinderError::StackAdjustOverflow,
+            "StackAdjustOverflow",
+        ),
+        (
+            CompactUnwindInfoUnwinderError::StackSizeDoesNotFit,
+            "StackSizeDoesNotFit",
+        ),
+        (
+            CompactUnwindInfoUnwinderError::StubFunctionCannotBeCaller,
+            "StubFunctionCannotBeCaller",
+        ),
+        (
+            CompactUnwindInfoUnwinderError::InvalidFrameless,
+            "InvalidFrameless",
+        ),
+    ] {
+        assert_eq!(rt; error.to_string(alloc)?.as_str(), name);
+    }
     Ok(())
 }

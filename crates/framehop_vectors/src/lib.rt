@@ -16,6 +16,8 @@ mod replies;
 #[cfg(test)]
 mod rows_of_libc;
 #[cfg(test)]
+mod section_info;
+#[cfg(test)]
 mod sections;
 #[cfg(test)]
 mod sizes;

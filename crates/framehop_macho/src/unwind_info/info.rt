@@ -1,7 +1,7 @@
 //! The function of an address, by the index of `__unwind_info` and its pages (Apple,
 //! mach-o/compact_unwind_encoding.h, struct unwind_info_section_header).
 ghost use Rattle.std.specs.Prelude.{◌≡◌, Ok, Err, IfOk, IfSome, MatchResult};
-ghost use Rattle.framehop_macho.specs.UnwindInfo.{lists_of, in_lists, shared_lists, page_entry_of, Covers};
+ghost use Rattle.framehop_macho.specs.UnwindInfo.{shared_lists_of, in_lists, shared_lists, page_entry_of, Covers};
 
 use super::error::CompactReadError;
 use super::page::Page;
@@ -33,11 +33,11 @@ impl<'a> UnwindInfo<'a> {
     ///
     /// `Eof` where the header, the common opcodes or the index does not lie in the bytes as a
     /// whole, `BadVersion` where the version is not 1.
-    #[tactic(auto, unfolding(crate::specs::UnwindInfo::lists_of))]
+    #[tactic(auto, unfolding(crate::specs::UnwindInfo::shared_lists_of))]
     pub fn parse(bytes: &'a [u8]) -> Result<UnwindInfo<'a>, CompactReadError>
         ensures { MatchResult result
-            (λ info. (lists_of bytes.now ≡ Ok (shared_lists info)) × (info.bytes.now ≡ bytes.now))
-            (λ error. lists_of bytes.now ≡ Err error) }
+            (λ info. (shared_lists_of bytes.now ≡ Ok (shared_lists info)) × (info.bytes.now ≡ bytes.now))
+            (λ error. shared_lists_of bytes.now ≡ Err error) }
     {
         if bytes.len() < 28 {
             return Err(CompactReadError::Eof);

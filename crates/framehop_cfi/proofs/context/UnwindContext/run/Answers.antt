@@ -18,10 +18,10 @@ pub returns-in_err-moved-clause-exact : goal.returns-in_err-moved-clause-exact
 returns-in_err-moved-clause-exact g c =
     let p = err_from_is_err_and c.from_residual-in_err-moved.result c.from_residual-in_err-moved.ensures.1 in
     let inv = c.loop-next.invariant in
-    rw (p.1, p.2) (λ kept. sym inv.2 ∙ run-unmoved _ _ inv.0 c.loop-next.next c.loop-next.location c.loop-next.self (c.in_ok-instruction.instruction, c.in_ok-instruction.behind) _ (inv.1, c.loop-next-test.true) (sym c.in_ok-instruction.ensures.exact) (sym c.in_err-moved.ensures.exact))
+    rw (p.1, p.2) (λ kept. sym inv.2 ∙ run-unmoved _ _ inv.0 c.loop-next.next c.loop-next.location c.loop-next.self (c.in_ok-instruction.instruction, c.in_ok-instruction.after_instruction) _ (inv.1, c.loop-next-test.true) (sym c.in_ok-instruction.ensures.exact) (sym c.in_err-moved.ensures.exact))
 
 pub returns-in_err-execute-clause-exact : goal.returns-in_err-execute-clause-exact
 returns-in_err-execute-clause-exact g c =
     let p = err_from_is_err_and c.from_residual-in_err-execute.result c.from_residual-in_err-execute.ensures.1 in
     let inv = c.loop-next.invariant in
-    rw (p.1, p.2) (λ kept. sym inv.2 ∙ run-refused _ _ inv.0 c.loop-next.next c.loop-next.location c.in_ok-moved.moved c.loop-next.self (c.in_ok-instruction.instruction, c.in_ok-instruction.behind) _ (inv.1, c.loop-next-test.true) (sym c.in_ok-instruction.ensures.exact) (sym c.in_ok-moved.ensures.exact) (sym c.is_beyond.ensures ∙ c.if-is_beyond.false) (c.in_err-execute.ensures.exact kept))
+    rw (p.1, p.2) (λ kept. sym inv.2 ∙ run-refused _ _ inv.0 c.loop-next.next c.loop-next.location c.in_ok-moved.moved c.loop-next.self (c.in_ok-instruction.instruction, c.in_ok-instruction.after_instruction) _ (inv.1, c.loop-next-test.true) (sym c.in_ok-instruction.ensures.exact) (sym c.in_ok-moved.ensures.exact) (sym c.is_beyond.ensures ∙ c.if-is_beyond.false) (c.in_err-execute.ensures.exact kept))
