@@ -1,11 +1,9 @@
 -- Compact unwind info on aarch64 (Apple, compact_unwind_encoding.h, UNWIND_ARM64_..): opcodes and their rules.
-use Rattle.std.specs.Prelude.{◌≡◌, ℕ, ◌==◌, nat_lt, Bool, true, false, List, take, drop, if◌then◌else◌, Option, Some, None, Ok, Err}
+use Rattle.std.specs.Prelude.{ℕ, ◌==◌, nat_lt, Bool, true, false, List, if◌then◌else◌, Option, Some, None, Ok, Err}
 use Rattle.framehop_core.specs.declared.aarch64.unwind_rule.UnwindRuleAarch64.{UnwindRuleAarch64}
 use Rattle.framehop_core.specs.declared.aarch64.unwind_rule.UnwindRuleAarch64.TheVariants.{NoOp, OffsetSp, UseFramePointer}
-use Rattle.framehop_analysis.specs.Answer.{FirstOf}
-use Rattle.framehop_analysis.specs.Aarch64.Prologue.{IsPrologueRule}
-use Rattle.framehop_analysis.specs.Aarch64.Epilogue.{IsEpilogueRule}
-use Rattle.framehop_macho.specs.Answer.{Answer, bits_at, AnalysedOr}
+use Rattle.framehop_analysis.specs.Aarch64.Analysed.{analysed}
+use Rattle.framehop_macho.specs.Answer.{Answer, bits_at, rule_or}
 use Rattle.framehop_macho.specs.declared.aarch64.opcode.OpcodeArm64.{OpcodeArm64}
 use Rattle.framehop_macho.specs.declared.aarch64.opcode.OpcodeArm64.TheVariants.{Null, Frameless, Dwarf, FrameBased, UnrecognizedKind}
 use Rattle.framehop_macho.specs.declared.macho.CompactUnwindInfoUnwinderError.TheVariants.{CallerCannotBeFrameless, FunctionHasNoInfo, BadOpcodeKind}
@@ -31,21 +29,16 @@ by_opcode (Dwarf fde) first = Ok (NeedDwarf fde)
 by_opcode FrameBased first = Ok (ExecRule UseFramePointer)
 by_opcode (UnrecognizedKind kind) first = Err (BadOpcodeKind kind)
 
--- the rule of the code analysis at an offset of code: of a prologue or, where none is recognised, an epilogue
-abbrev pub IsAnalysisRule : List ℕ → ℕ → UnwindRuleAarch64 → Type 0
-IsAnalysisRule code offset rule =
-    FirstOf (IsPrologueRule (take offset code) (drop offset code)) (IsEpilogueRule code offset) rule
-
--- a function with info, in a first frame: the code analysis comes first
-abbrev pub says_first : OpcodeArm64 → ℕ → Option (List ℕ) → Answer UnwindRuleAarch64 → Type 0
-says_first Null offset code result = result ≡ by_opcode Null true
-says_first opcode offset None result = result ≡ by_opcode opcode true
-says_first opcode offset (Some code) result = AnalysedOr (IsAnalysisRule code offset) (by_opcode opcode true) result
+-- a first frame: in a function with info the code analysis comes first
+abbrev pub says_first : OpcodeArm64 → ℕ → Option (List ℕ) → Answer UnwindRuleAarch64
+says_first Null offset code = by_opcode Null true
+says_first opcode offset None = by_opcode opcode true
+says_first opcode offset (Some code) = rule_or (analysed code offset) (by_opcode opcode true)
 
 -- What unwinding a frame at an offset of a function returns.
-abbrev pub Says : Function → Bool → ℕ → Option (List ℕ) → Answer UnwindRuleAarch64 → Type 0
-Says function true offset code result = says_first (opcode_of function.opcode) offset code result
-Says function false offset code result = result ≡ by_opcode (opcode_of function.opcode) false
+abbrev pub says : Function → Bool → ℕ → Option (List ℕ) → Answer UnwindRuleAarch64
+says function true offset code = says_first (opcode_of function.opcode) offset code
+says function false offset code = by_opcode (opcode_of function.opcode) false
 
 -- ---- `__stub_helper`
 

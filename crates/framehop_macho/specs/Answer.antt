@@ -1,5 +1,5 @@
 -- What unwinding by compact unwind info returns.
-use Rattle.std.specs.Prelude.{◌≡◌, ℕ, ◌⊎◌, ◌/◌, ◌%◌, ◌^◌, Result, Ok, Err}
+use Rattle.std.specs.Prelude.{ℕ, ◌/◌, ◌%◌, ◌^◌, Option, Some, None, Result, Ok, Err}
 use Rattle.framehop_macho.specs.declared.macho.CompactUnwindInfoUnwinderError.{CompactUnwindInfoUnwinderError}
 use Rattle.framehop_macho.specs.declared.macho.CuiUnwindResult.{CuiUnwindResult}
 use Rattle.framehop_macho.specs.declared.macho.CuiUnwindResult.TheVariants.{ExecRule, NeedDwarf}
@@ -24,7 +24,6 @@ IfExecRule (Ok (NeedDwarf _)) P = Unit {0}
 IfExecRule (Err _) P = Unit {0}
 
 -- the rule that a code analysis finds, or another answer where it finds none
-abbrev pub AnalysedOr : {Rule : Type 0} → (Rule → Type 0) → (otherwise result : Answer Rule) → Type 0
-AnalysedOr {Rule} IsRule otherwise result =
-    ((rule : Rule) × IsRule rule × (result ≡ Ok (ExecRule rule)))
-    ⊎ (((rule : Rule) → IsRule rule → ⊥) × (result ≡ otherwise))
+abbrev pub rule_or : {Rule : Type 0} → Option Rule → (otherwise : Answer Rule) → Answer Rule
+rule_or (Some rule) otherwise = Ok (ExecRule rule)
+rule_or None otherwise = otherwise

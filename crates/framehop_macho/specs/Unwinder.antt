@@ -1,5 +1,5 @@
 -- Unwinding a frame of a module by its compact unwind info, for any architecture.
-use Rattle.std.specs.Prelude.{◌≡◌, ℕ, ◌-◌, ◌==◌, ◌&&◌, nat_le, nat_lt, Bool, true, false, List, length, take, drop, if◌then◌else◌, MatchBool, Option, Some, None, option_map, option_and_then, Result, Ok, Err}
+use Rattle.std.specs.Prelude.{ℕ, ◌-◌, ◌==◌, ◌&&◌, nat_le, nat_lt, Bool, true, false, List, length, take, drop, if◌then◌else◌, Option, Some, None, option_map, option_and_then, Result, Ok, Err}
 use Rattle.framehop_macho.specs.Answer.{Answer}
 use Rattle.framehop_macho.specs.UnwindInfo.{function_of}
 use Rattle.framehop_macho.specs.declared.macho.CompactUnwindInfoUnwinder.{CompactUnwindInfoUnwinder}
@@ -51,11 +51,11 @@ function_for (Ok None) address = Err (AddressOutsideRange address)
 function_for (Err error) address = Err (BadFormat error)
 
 -- what an architecture gives
-pub record Words (Rule : Type 0) : Type 1 where
+pub record Words (Rule : Type 0) : Type 0 where
   pub stub_rule : Rule
   pub start_rule : Rule
   pub helper_rule : ℕ → Rule
-  pub says : Function → Bool → ℕ → Option (List ℕ) → Answer Rule → Type 0
+  pub says : Function → Bool → ℕ → Option (List ℕ) → Answer Rule
 
 -- the same rule for each first frame; a caller frame is refused
 abbrev pub first_only : {Rule : Type 0} → Bool → Rule → CompactUnwindInfoUnwinderError → Answer Rule
@@ -67,25 +67,23 @@ abbrev pub code_of : Option Text → Function → Option (List ℕ)
 code_of text function = option_and_then (λ t. code_between t function.start_address function.end_address) text
 
 -- in a function: a first frame at its start has done nothing yet
-abbrev pub UnwindsIn : {Rule : Type 0} → Words Rule → Option Text → ℕ → Bool → Function → Answer Rule → Type 0
-UnwindsIn words text address first function result =
-    MatchBool (first && (address == function.start_address))
-    (result ≡ Ok (ExecRule words.start_rule))
-    (words.says function first (address - function.start_address) (code_of text function) result)
+abbrev pub unwound_in : {Rule : Type 0} → Words Rule → Option Text → ℕ → Bool → Function → Answer Rule
+unwound_in words text address first function =
+    if first && (address == function.start_address) then Ok (ExecRule words.start_rule)
+    else words.says function first (address - function.start_address) (code_of text function)
 
 module _ {Rule : Type 0} (words : Words Rule) (m : Module) (address : ℕ) (first : Bool) where
   -- by the function of the address; outside the functions a first frame can be in a stub
-  abbrev pub UnwindsBy : Result (Option Function) CompactReadError → Answer Rule → Type 0
-  UnwindsBy (Err error) result = result ≡ Err (BadFormat error)
-  UnwindsBy (Ok None) result = result ≡ first_only first words.stub_rule (AddressOutsideRange address)
-  UnwindsBy (Ok (Some function)) result = UnwindsIn words m.text address first function result
+  abbrev pub unwound_by : Result (Option Function) CompactReadError → Answer Rule
+  unwound_by (Err error) = Err (BadFormat error)
+  unwound_by (Ok None) = first_only first words.stub_rule (AddressOutsideRange address)
+  unwound_by (Ok (Some function)) = unwound_in words m.text address first function
 
   -- What unwinding a frame (`true`: the first) at a relative address returns. `__unwind_info` does not describe
   -- `__stubs` and `__stub_helper`.
-  abbrev pub Unwinds : Answer Rule → Type 0
-  Unwinds result =
-      MatchBool (is_in m.stubs address)
-      (result ≡ first_only first words.stub_rule StubFunctionCannotBeCaller)
-      (MatchBool (is_in m.stub_helper address)
-      (result ≡ first_only first (words.helper_rule (address - m.stub_helper.0)) StubFunctionCannotBeCaller)
-      (UnwindsBy (function_of m.unwind_info address) result))
+  abbrev pub unwound : Answer Rule
+  unwound =
+      if is_in m.stubs address then first_only first words.stub_rule StubFunctionCannotBeCaller
+      else (if is_in m.stub_helper address
+      then first_only first (words.helper_rule (address - m.stub_helper.0)) StubFunctionCannotBeCaller
+      else unwound_by (function_of m.unwind_info address))

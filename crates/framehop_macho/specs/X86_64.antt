@@ -1,13 +1,11 @@
 -- Compact unwind info on x86_64 (Apple, compact_unwind_encoding.h, UNWIND_X86_64_..): opcodes and their rules.
-use Rattle.std.specs.Prelude.{◌≡◌, ℕ, ◌+◌, ◌-◌, ◌*◌, ◌/◌, ◌%◌, ◌^◌, ◌==◌, ◌&&◌, nat_eq, nat_le, nat_lt, pos, ◌-ℤ◌, Bool, true, false, List, [], ◌∷◌, length, if◌then◌else◌, Option, Some, None, Result, Ok, Err}
+use Rattle.std.specs.Prelude.{ℕ, ◌+◌, ◌-◌, ◌*◌, ◌/◌, ◌%◌, ◌^◌, ◌==◌, ◌&&◌, nat_eq, nat_le, nat_lt, pos, ◌-ℤ◌, Bool, true, false, List, [], ◌∷◌, length, if◌then◌else◌, Option, Some, None, Result, Ok, Err}
 use Rattle.std.specs.List.{starts_with}
 use Rattle.framehop_cfi.specs.Bytes.{le4}
 use Rattle.framehop_core.specs.declared.x86_64.unwind_rule.UnwindRuleX86_64.{UnwindRuleX86_64}
 use Rattle.framehop_core.specs.declared.x86_64.unwind_rule.UnwindRuleX86_64.TheVariants.{JustReturn, OffsetSp, OffsetSpAndRestoreBp, UseFramePointer}
-use Rattle.framehop_analysis.specs.Answer.{FirstOf}
-use Rattle.framehop_analysis.specs.X86_64.Prologue.{IsPrologueRule}
-use Rattle.framehop_analysis.specs.X86_64.Epilogue.{IsEpilogueRule}
-use Rattle.framehop_macho.specs.Answer.{Answer, bits_at, exec_rule, AnalysedOr}
+use Rattle.framehop_analysis.specs.X86_64.Analysed.{analysed}
+use Rattle.framehop_macho.specs.Answer.{Answer, bits_at, exec_rule, rule_or}
 use Rattle.framehop_macho.specs.SavedRegisters.{saved_registers, bp_position}
 use Rattle.framehop_macho.specs.UnwindInfo.{◌>>=◌}
 use Rattle.framehop_macho.specs.declared.macho.CompactUnwindInfoUnwinderError.{CompactUnwindInfoUnwinderError}
@@ -104,16 +102,12 @@ by_opcode (Dwarf fde) first code = Ok (NeedDwarf fde)
 by_opcode NoSuchList first code = Err InvalidFrameless
 by_opcode (UnrecognizedKind kind) first code = Err (BadOpcodeKind kind)
 
--- the rule of the code analysis at an offset of code: of a prologue or, where none is recognised, an epilogue
-abbrev pub IsAnalysisRule : List ℕ → ℕ → UnwindRuleX86_64 → Type 0
-IsAnalysisRule code offset rule = FirstOf (IsPrologueRule code offset) (IsEpilogueRule code offset) rule
-
 -- What unwinding a frame at an offset of a function returns. In a first frame the code analysis comes first.
-abbrev pub Says : Function → Bool → ℕ → Option (List ℕ) → Answer UnwindRuleX86_64 → Type 0
-Says function true offset (Some code) result =
-    AnalysedOr (IsAnalysisRule code offset) (by_opcode (opcode_of function.opcode) true (Some code)) result
-Says function true offset None result = result ≡ by_opcode (opcode_of function.opcode) true None
-Says function false offset code result = result ≡ by_opcode (opcode_of function.opcode) false code
+abbrev pub says : Function → Bool → ℕ → Option (List ℕ) → Answer UnwindRuleX86_64
+says function true offset (Some code) =
+    rule_or (analysed code offset) (by_opcode (opcode_of function.opcode) true (Some code))
+says function true offset None = by_opcode (opcode_of function.opcode) true None
+says function false offset code = by_opcode (opcode_of function.opcode) false code
 
 -- ---- `__stub_helper`
 

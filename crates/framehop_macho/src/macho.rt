@@ -3,7 +3,7 @@ ghost use Rattle.std.specs.Prelude.{◌≡◌, ◌≤◌, ◌-◌, ℕ, IfOk, If
 ghost use Rattle.std.specs.Option.{ForSome, option_copied};
 ghost use Rattle.framehop_macho.specs.Answer.{Answer, IfExecRule};
 ghost use Rattle.framehop_macho.specs.UnwindInfo.{function_of, Covers};
-ghost use Rattle.framehop_macho.specs.Unwinder.{text_of, module_of, code_between, code_of, is_in, function_for, UnwindsIn, UnwindsBy, Unwinds};
+ghost use Rattle.framehop_macho.specs.Unwinder.{text_of, module_of, code_between, code_of, is_in, function_for, unwound_in, unwound_by, unwound};
 ghost use Rattle.framehop_macho.specs.declared.macho.CuiUnwindResult.{CuiUnwindResult};
 ghost use Rattle.framehop_macho.specs.declared.macho.CuiUnwindResult.TheVariants.{ExecRule};
 ghost use Rattle.framehop_macho.specs.declared.macho.CompactUnwindInfoUnwinderError.{CompactUnwindInfoUnwinderError};
@@ -81,7 +81,7 @@ pub enum CuiUnwindResult<R> {
 pub trait CompactUnwindInfoUnwinding: Arch {
     // what a call returns: of the function, the kind of the frame (`true`: the first), the offset of the
     // address in the function, and the function's code
-    ghost says: { Function → Bool → ℕ → Option (List ℕ) → Answer Self.UnwindRule → Type 0 };
+    ghost says: { Function → Bool → ℕ → Option (List ℕ) → Answer Self.UnwindRule };
 
     // the rule at an offset of `__stub_helper`
     ghost helper_rule: { ℕ → Self.UnwindRule };
@@ -100,7 +100,7 @@ pub trait CompactUnwindInfoUnwinding: Arch {
         function_bytes: Option<&[u8]>,
     ) -> Result<CuiUnwindResult<Self::UnwindRule>, CompactUnwindInfoUnwinderError>
         requires { ForSome function_bytes (λ code. address_offset_within_function ≤ length code.now) }
-        ensures says { says function is_first_frame address_offset_within_function (option_copied function_bytes.entry) result }
+        ensures says { result ≡ says function is_first_frame address_offset_within_function (option_copied function_bytes.entry) }
         ensures executable { IfExecRule result (λ rule. IsTrue (Self.UnwindRule.executable rule)) };
 
     /// Returns the rule at an offset of `__stub_helper`, in bytes, for a first frame.
@@ -212,12 +212,12 @@ impl<'a, A: CompactUnwindInfoUnwinding> CompactUnwindInfoUnwinder<'a, A> {
         rel_lookup_address: u32,
         is_first_frame: bool,
     ) -> Result<CuiUnwindResult<A::UnwindRule>, CompactUnwindInfoUnwinderError>
-        ensures says { Unwinds (record {
+        ensures says { result ≡ unwound (record {
           stub_rule = A.UnwindRule.stub_rule;
           start_rule = A.UnwindRule.function_start_rule;
           helper_rule = A.helper_rule;
           says = A.says;
-        }) (module_of self.now) rel_lookup_address is_first_frame result }
+        }) (module_of self.now) rel_lookup_address is_first_frame }
         ensures executable { IfExecRule result (λ rule. IsTrue (A.UnwindRule.executable rule)) }
     {
         if is_in(self.stubs_range, rel_lookup_address) {
@@ -243,12 +243,12 @@ impl<'a, A: CompactUnwindInfoUnwinding> CompactUnwindInfoUnwinder<'a, A> {
         address: u32,
         is_first_frame: bool,
     ) -> Result<CuiUnwindResult<A::UnwindRule>, CompactUnwindInfoUnwinderError>
-        ensures says { UnwindsBy (record {
+        ensures says { result ≡ unwound_by (record {
           stub_rule = A.UnwindRule.stub_rule;
           start_rule = A.UnwindRule.function_start_rule;
           helper_rule = A.helper_rule;
           says = A.says;
-        }) (module_of self.now) address is_first_frame (function_of (module_of self.now).unwind_info address) result }
+        }) (module_of self.now) address is_first_frame (function_of (module_of self.now).unwind_info address) }
         ensures executable { IfExecRule result (λ rule. IsTrue (A.UnwindRule.executable rule)) }
     {
         match find_function(self.unwind_info_data, address) {
@@ -282,12 +282,12 @@ fn unwind_frame_of_function<A: CompactUnwindInfoUnwinding>(
     is_first_frame: bool,
 ) -> Result<CuiUnwindResult<A::UnwindRule>, CompactUnwindInfoUnwinderError>
     requires { Covers address function }
-    ensures says { UnwindsIn (record {
+    ensures says { result ≡ unwound_in (record {
       stub_rule = A.UnwindRule.stub_rule;
       start_rule = A.UnwindRule.function_start_rule;
       helper_rule = A.helper_rule;
       says = A.says;
-    }) (option_map text_of text_bytes.entry) address is_first_frame function result }
+    }) (option_map text_of text_bytes.entry) address is_first_frame function }
     ensures executable { IfExecRule result (λ rule. IsTrue (A.UnwindRule.executable rule)) }
 {
     if is_first_frame && address == function.start_address {

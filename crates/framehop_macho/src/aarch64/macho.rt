@@ -1,17 +1,12 @@
 //! What the opcodes of compact unwind info say of a frame on aarch64 (framehop 0.16.0,
 //! `aarch64/macho.rs`).
-ghost use Rattle.std.specs.Prelude.{◌≡◌, ◌≤◌, ◌↔◌, length, take, drop, Some};
-ghost use Rattle.framehop_core.specs.declared.aarch64.unwind_rule.UnwindRuleAarch64.{UnwindRuleAarch64};
-ghost use Rattle.framehop_analysis.specs.Aarch64.Prologue.{IsPrologueRule};
-ghost use Rattle.framehop_analysis.specs.Answer.{IsOnly};
-ghost use Rattle.framehop_macho.specs.Aarch64.{by_opcode, IsAnalysisRule};
+ghost use Rattle.std.specs.Prelude.{◌≡◌};
+ghost use Rattle.framehop_macho.specs.Aarch64.{by_opcode};
 
 use super::opcode::OpcodeArm64;
 use crate::macho::{CompactUnwindInfoUnwinderError, CompactUnwindInfoUnwinding, CuiUnwindResult};
 use crate::unwind_info::info::Function;
-use framehop_analysis::aarch64::instruction_analysis::{
-    unwind_rule_from_detected_epilogue, unwind_rule_from_detected_prologue,
-};
+use framehop_analysis::InstructionAnalysis;
 use framehop_core::aarch64::{ArchAarch64, UnwindRuleAarch64};
 
 /// Returns what an opcode says.
@@ -44,31 +39,10 @@ fn unwind_by_opcode(
     Ok(CuiUnwindResult::ExecRule(rule))
 }
 
-/// Returns the rule of a prologue, if the address is in one.
-fn rule_from_prologue_analysis(text_bytes: &[u8], pc_offset: usize) -> Option<UnwindRuleAarch64>
-    requires { pc_offset ≤ length text_bytes.now }
-    ensures { (rule : UnwindRuleAarch64) → (result ≡ Some rule)
-        ↔ IsPrologueRule (take pc_offset text_bytes.now) (drop pc_offset text_bytes.now) rule }
-{
-    let (slice_from_start, slice_to_end) = text_bytes.split_at(pc_offset);
-    unwind_rule_from_detected_prologue(slice_from_start, slice_to_end)
-}
-
-/// Returns the rule of the code analysis, if it has one.
-fn rule_from_instruction_analysis(text_bytes: &[u8], pc_offset: usize) -> Option<UnwindRuleAarch64>
-    requires { pc_offset ≤ length text_bytes.now }
-    ensures { IsOnly (IsAnalysisRule text_bytes.now pc_offset) result }
-{
-    if let Some(rule) = rule_from_prologue_analysis(text_bytes, pc_offset) {
-        return Some(rule);
-    }
-    unwind_rule_from_detected_epilogue(text_bytes, pc_offset)
-}
-
 impl CompactUnwindInfoUnwinding for ArchAarch64 {
-    ghost use Rattle.framehop_macho.specs.Aarch64.{Says, helper_rule};
+    ghost use Rattle.framehop_macho.specs.Aarch64.{says, helper_rule};
 
-    ghost says = { Says };
+    ghost says = { says };
 
     ghost helper_rule = { helper_rule };
 
@@ -87,7 +61,7 @@ impl CompactUnwindInfoUnwinding for ArchAarch64 {
         }
         // The pc might be in a prologue or an epilogue, which the opcodes do not describe.
         if let Some(code) = function_bytes {
-            if let Some(rule) = rule_from_instruction_analysis(
+            if let Some(rule) = Self::rule_from_instruction_analysis(
                 code,
                 address_offset_within_function,
             ) {

@@ -1,19 +1,14 @@
 //! What the opcodes of compact unwind info say of a frame on x86_64 (framehop 0.16.0,
 //! `x86_64/macho.rs`).
-ghost use Rattle.std.specs.Prelude.{◌≡◌, ◌≤◌, ◌↔◌, length, Some, IsTrue, IfSome};
+ghost use Rattle.std.specs.Prelude.{◌≡◌};
 ghost use Rattle.std.specs.Option.{option_copied};
-ghost use Rattle.framehop_analysis.specs.Answer.{IsOnly};
-ghost use Rattle.framehop_core.specs.X86_64.Rules.{is_executable};
-ghost use Rattle.framehop_macho.specs.Answer.{IfExecRule};
-ghost use Rattle.framehop_macho.specs.X86_64.{with_bp, frameless_rule, immediate_rule, indirect_size, uncovered_rule, by_opcode, IsAnalysisRule};
+ghost use Rattle.framehop_macho.specs.X86_64.{with_bp, frameless_rule, indirect_size, uncovered_rule, by_opcode};
 
 use super::opcode::OpcodeX86_64;
 use crate::macho::{CompactUnwindInfoUnwinderError, CompactUnwindInfoUnwinding, CuiUnwindResult};
 use crate::unwind_info::info::Function;
 use crate::unwind_info::table::u32_at;
-use framehop_analysis::x86_64::instruction_analysis::{
-    unwind_rule_from_detected_epilogue, unwind_rule_from_detected_prologue,
-};
+use framehop_analysis::InstructionAnalysis;
 use framehop_core::x86_64::{ArchX86_64, UnwindRuleX86_64};
 
 /// Returns the rule of a stack of so many words of 8 bytes, with rbp stored at a place, if it is.
@@ -125,21 +120,10 @@ fn unwind_by_opcode(
     Ok(CuiUnwindResult::ExecRule(rule))
 }
 
-/// Returns the rule of the code analysis, if it has one.
-fn rule_from_instruction_analysis(text_bytes: &[u8], pc_offset: usize) -> Option<UnwindRuleX86_64>
-    requires { pc_offset ≤ length text_bytes.now }
-    ensures { IsOnly (IsAnalysisRule text_bytes.now pc_offset) result }
-{
-    if let Some(rule) = unwind_rule_from_detected_prologue(text_bytes, pc_offset) {
-        return Some(rule);
-    }
-    unwind_rule_from_detected_epilogue(text_bytes, pc_offset)
-}
-
 impl CompactUnwindInfoUnwinding for ArchX86_64 {
-    ghost use Rattle.framehop_macho.specs.X86_64.{Says, helper_rule};
+    ghost use Rattle.framehop_macho.specs.X86_64.{says, helper_rule};
 
-    ghost says = { Says };
+    ghost says = { says };
 
     ghost helper_rule = { helper_rule };
 
@@ -152,7 +136,7 @@ impl CompactUnwindInfoUnwinding for ArchX86_64 {
         if is_first_frame {
             // The pc might be in a prologue or an epilogue, which the opcodes do not describe.
             if let Some(code) = function_bytes {
-                if let Some(rule) = rule_from_instruction_analysis(
+                if let Some(rule) = Self::rule_from_instruction_analysis(
                     code,
                     address_offset_within_function,
                 ) {
