@@ -2,6 +2,8 @@
 #![tactic(auto)]
 
 #[cfg(test)]
+mod asked_names;
+#[cfg(test)]
 mod call_frames;
 #[cfg(test)]
 mod commands;
