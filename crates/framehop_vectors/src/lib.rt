@@ -2,6 +2,10 @@
 #![tactic(auto)]
 
 #[cfg(test)]
+mod asked_names;
+#[cfg(test)]
+mod call_frames;
+#[cfg(test)]
 mod commands;
 #[cfg(test)]
 mod libc_table;

@@ -1,6 +1,7 @@
 //! The stack and the module of the README.
 use crate::sections::NoSections;
 use framehop::aarch64::{CacheAarch64, UnwindRegsAarch64, UnwinderAarch64};
+use framehop::section::ExplicitModuleSectionInfo;
 use framehop::{Generations, Module, ModuleSectionInfo, Unwinder};
 use std::alloc::Global;
 use std::test::Fail;
@@ -83,5 +84,39 @@ fn prints_the_stack(rt: HostRuntime) -> Result<(), Fail> {
     let mut out = String::new(alloc);
     print_stack(alloc, &mut out, sections, &STACK)?;
     assert_eq!(rt; out.as_str(), "1005252c0 1004fcdc4 100528a28 ");
+    Ok(())
+}
+
+/// The sections of the example, without their bytes.
+fn explicit_sections(alloc: Global) -> ExplicitModuleSectionInfo<Vec<u8>> {
+    ExplicitModuleSectionInfo {
+        base_svma: 0x100000000,
+        text_svma: Some(0x100000b64..0x1001d2d18),
+        text: Some(Vec::new(alloc)),
+        stubs_svma: Some(0x1001d2d18..0x1001d309c),
+        stub_helper_svma: Some(0x1001d309c..0x1001d3438),
+        got_svma: Some(0x100238000..0x100238010),
+        unwind_info: Some(Vec::new(alloc)),
+        eh_frame_svma: Some(0x100237f80..0x100237ffc),
+        eh_frame: Some(Vec::new(alloc)),
+        text_segment_svma: Some(0x1003fc000..0x100634000),
+        text_segment: Some(Vec::new(alloc)),
+        ..ExplicitModuleSectionInfo::default()
+    }
+}
+
+#[test]
+fn prints_the_stack_with_explicit_sections(rt: HostRuntime) -> Result<(), Fail> {
+    let alloc = rt.alloc();
+    let sections = explicit_sections(alloc);
+    let copy = sections.clone()?;
+    assert!(rt; copy == sections);
+    let mut out = String::new(alloc);
+    print_stack(alloc, &mut out, sections, &STACK)?;
+    print_stack(alloc, &mut out, copy, &STACK)?;
+    assert_eq!(rt;
+        out.as_str(),
+        "1005252c0 1004fcdc4 100528a28 1005252c0 1004fcdc4 100528a28 "
+    );
     Ok(())
 }
