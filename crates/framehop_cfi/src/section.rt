@@ -97,70 +97,75 @@ pub trait ModuleSectionInfo<D> {
         ensures taken { table self.new ≡ record (table self.old) { segments = without_data name.now (table self.old).segments } };
 }
 
-/// The addresses and data of a module's sections and segments, given one by one. This implements
-/// `ModuleSectionInfo`: data is taken out of its field when it is asked for.
+/// Explicit addresses and data of various sections in the module. This implements
+/// the `ModuleSectionInfo` trait.
 ///
-/// Addresses are SVMAs, "stated virtual memory addresses", as stated in the object, as opposed to
-/// AVMAs, "actual virtual memory addresses", in the memory of the profiled process.
+/// Unless otherwise stated, these are SVMAs, "stated virtual memory addresses", i.e. addresses as
+/// stated in the object, as opposed to AVMAs, "actual virtual memory addresses", i.e. addresses in
+/// the virtual memory of the profiled process.
 ///
-/// Code addresses inside a module's unwind information are usually written down as SVMAs, or as
-/// relative addresses. For example, DWARF CFI can have code addresses expressed as relative-to-.text
-/// addresses or as absolute SVMAs. Mach-O compact unwind info contains addresses relative to the image
-/// base address.
+/// Code addresses inside a module's unwind information are usually written down as SVMAs,
+/// or as relative addresses. For example, DWARF CFI can have code addresses expressed as
+/// relative-to-.text addresses or as absolute SVMAs. And mach-O compact unwind info
+/// contains addresses relative to the image base address.
+///
+/// Data is taken out of its field when it is asked for.
 #[derive(Debug, PartialEq, Eq, Drop)]
 #[derive_where(Default)]
 pub struct ExplicitModuleSectionInfo<D> {
-    /// The image base address, as stated in the object. For Mach-O objects, this is the vmaddr of the
-    /// `__TEXT` segment. For ELF objects, this is zero.
+    /// The image base address, as stated in the object. For mach-O objects, this is the
+    /// vmaddr of the `__TEXT` segment. For ELF objects, this is zero.
     ///
     /// This is used to convert between SVMAs and relative addresses.
     pub base_svma: u64,
-    /// The address range of the `__text` or `.text` section, in which most of the compiled code is
-    /// stored.
+    /// The address range of the `__text` or `.text` section. This is where most of the compiled
+    /// code is stored.
     ///
-    /// This is used to detect whether instruction analysis is needed for an address.
+    /// This is used to detect whether we need to do instruction analysis for an address.
     pub text_svma: Option<Range<u64>>,
-    /// The data of the `__text` or `.text` section. For Mach-O binaries, this does not need to be
-    /// supplied if `text_segment` is supplied.
+    /// The data of the `__text` or `.text` section. This is where most of the compiled code is
+    /// stored. For mach-O binaries, this does not need to be supplied if `text_segment` is supplied.
     ///
     /// This is used to handle function prologues and epilogues in some cases.
     pub text: Option<D>,
-    /// The address range of the Mach-O `__stubs` section. It contains small pieces of executable code
-    /// for calling imported functions, which the unwind information in `__unwind_info` does not cover.
+    /// The address range of the mach-O `__stubs` section. Contains small pieces of
+    /// executable code for calling imported functions. Code inside this section is not
+    /// covered by the unwind information in `__unwind_info`.
     ///
-    /// This is used to exclude addresses in this section from incorrectly applying `__unwind_info`
-    /// opcodes, and to infer unwind rules for the known structure of stub functions.
+    /// This is used to exclude addresses in this section from incorrectly applying
+    /// `__unwind_info` opcodes. It is also used to infer unwind rules for the known
+    /// structure of stub functions.
     pub stubs_svma: Option<Range<u64>>,
-    /// The address range of the Mach-O `__stub_helper` section. It contains small pieces of executable
-    /// code for calling imported functions, which the unwind information in `__unwind_info` does not
-    /// cover.
+    /// The address range of the mach-O `__stub_helper` section. Contains small pieces of
+    /// executable code for calling imported functions. Code inside this section is not
+    /// covered by the unwind information in `__unwind_info`.
     ///
-    /// This is used to exclude addresses in this section from incorrectly applying `__unwind_info`
-    /// opcodes, and to infer unwind rules for the known structure of stub helper functions.
+    /// This is used to exclude addresses in this section from incorrectly applying
+    /// `__unwind_info` opcodes. It is also used to infer unwind rules for the known
+    /// structure of stub helper functions.
     pub stub_helper_svma: Option<Range<u64>>,
-    /// The address range of the `__got` or `.got` section (global offset table).
-    ///
-    /// This is used for DWARF CFI, to resolve addresses that are relative to it.
+    /// The address range of the `.got` section (Global Offset Table). This is used
+    /// during DWARF CFI processing, to resolve got-relative addresses.
     pub got_svma: Option<Range<u64>>,
-    /// The data of the `__unwind_info` section of Mach-O binaries.
+    /// The data of the `__unwind_info` section of mach-O binaries.
     pub unwind_info: Option<D>,
-    /// The address range of the `__eh_frame` or `.eh_frame` section.
-    ///
-    /// This is used for DWARF CFI, to resolve addresses that are relative to it.
+    /// The address range of the `__eh_frame` or `.eh_frame` section. This is used during DWARF CFI
+    /// processing, to resolve eh_frame-relative addresses.
     pub eh_frame_svma: Option<Range<u64>>,
-    /// The data of the `__eh_frame` or `.eh_frame` section.
+    /// The data of the `__eh_frame` or `.eh_frame` section. This is used during DWARF CFI
+    /// processing, to resolve eh_frame-relative addresses.
     pub eh_frame: Option<D>,
-    /// The address range of the `__eh_frame_hdr` or `.eh_frame_hdr` section.
-    ///
-    /// This is used for DWARF CFI, to resolve addresses that are relative to it.
+    /// The address range of the `.eh_frame_hdr` section. This is used during DWARF CFI processing,
+    /// to resolve eh_frame_hdr-relative addresses.
     pub eh_frame_hdr_svma: Option<Range<u64>>,
-    /// The data of the `__eh_frame_hdr` or `.eh_frame_hdr` section.
+    /// The data of the `.eh_frame_hdr` section. This is used during DWARF CFI processing, to
+    /// resolve eh_frame_hdr-relative addresses.
     pub eh_frame_hdr: Option<D>,
-    /// The data of the `__debug_frame` or `.debug_frame` section. Its address range is not needed.
+    /// The data of the `.debug_frame` section. The related address range is not needed.
     pub debug_frame: Option<D>,
-    /// The address range of the `__TEXT` segment of Mach-O binaries, if available.
+    /// The address range of the `__TEXT` segment of mach-O binaries, if available.
     pub text_segment_svma: Option<Range<u64>>,
-    /// The data of the `__TEXT` segment of Mach-O binaries, if available.
+    /// The data of the `__TEXT` segment of mach-O binaries, if available.
     pub text_segment: Option<D>,
 }
 
