@@ -585,7 +585,12 @@ impl<D: SectionBytes + Drop> ModuleUnwindDataInternal<D> {
     {
         match section_info.section_data(b".debug_frame") {
             Some(debug_frame) => {
-                Self::with_index(alloc, debug_frame, UnwindSectionType::DebugFrame, section_info)
+                Self::with_index(
+                    alloc,
+                    debug_frame,
+                    UnwindSectionType::DebugFrame,
+                    section_info,
+                )
             }
             None => Ok(ModuleUnwindDataInternal::None),
         }
@@ -652,10 +657,8 @@ impl<D: SectionBytes + Drop> ModuleUnwindDataInternal<D> {
 fn relative_range(base: u64, range: &Range<u64>) -> Option<Range<u32>>
     ensures { option_map (λ (r : Range ℕ). (r.start, r.end)) result ≡ relative_range base range.now }
 {
-    let (Some(start), Some(end)) = (
-        range.start.checked_sub(base),
-        range.end.checked_sub(base),
-    ) else {
+    let (Some(start), Some(end)) = (range.start.checked_sub(base), range.end.checked_sub(base))
+    else {
         return None;
     };
     let (Ok(start), Ok(end)) = (u32::try_from(start), u32::try_from(end)) else {
@@ -709,8 +712,8 @@ impl<D: SectionBytes> Model for Module<D> {
     ghost Value = { ModuleView };
 
     ghost use Rattle.framehop.specs.UnwindData.{unwind_data_of, placed_data};
-ghost use Rattle.framehop.specs.Answer.{fresh_of};
-ghost use Rattle.framehop_pe.specs.Sections.{Sections, sections_of, placed_of};
+    ghost use Rattle.framehop.specs.Answer.{fresh_of};
+    ghost use Rattle.framehop_pe.specs.Sections.{Sections, sections_of, placed_of};
 
     ghost view = { λ m. record {
       name = string_bytes m.name;
@@ -1099,15 +1102,18 @@ impl<D: SectionBytes> Module<D> {
                 regs,
                 read_stack,
             ),
-            ModuleUnwindDataInternal::DwarfCfiIndexAndFrames(frames) => frames
-                .unwind_frame::<A, P, F>(
-                    alloc,
-                    unwind_context,
-                    relative_address,
-                    is_first_frame,
-                    regs,
-                    read_stack,
-                ),
+            ModuleUnwindDataInternal::DwarfCfiIndexAndFrames(frames) => frames.unwind_frame::<
+                A,
+                P,
+                F,
+            >(
+                alloc,
+                unwind_context,
+                relative_address,
+                is_first_frame,
+                regs,
+                read_stack,
+            ),
             ModuleUnwindDataInternal::PeUnwindInfo {
                 pdata,
                 rdata,
