@@ -1,4 +1,6 @@
 //! How often `Module::new` asks for each name: at most once by each call.
+ghost use Rattle.framehop_cfi.specs.ExplicitSections.{table_of};
+
 use framehop::Module;
 use framehop::section::{ExplicitModuleSectionInfo, ModuleSectionInfo};
 use framehop_walk::section_bytes;
@@ -107,7 +109,7 @@ struct Counting<'a> {
 }
 
 impl ModuleSectionInfo<Vec<u8>> for Counting<'_> {
-    ghost table = { λ s. ExplicitModuleSectionInfo.table s.info };
+    ghost table = { λ s. table_of s.info };
 
     fn base_svma(&self) -> u64 {
         self.info.base_svma()

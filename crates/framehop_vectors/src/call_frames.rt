@@ -115,7 +115,7 @@ fn section(
         return Ok((None, None));
     }
     let bytes = section_bytes(alloc, digits)?;
-    Ok((Some(start..start + bytes.len() as u64), Some(bytes)))
+    Ok((Some(start..start.saturating_add(bytes.len() as u64)), Some(bytes)))
 }
 
 /// A module of the base 0 with these sections.
@@ -301,7 +301,7 @@ fn takes_another_rule_for_another_module(rt: HostRuntime) -> Result<(), Fail> {
 
 /// The steps at an address, as a first frame over cache 0 and as a caller's over cache 1.
 fn steps_at<R: Abort>(rt: &R, commands: &mut Vec<Do>, at: u64) -> Result<(), Fail> {
-    let Some(caller) = FrameAddress::from_return_address(at + 1) else {
+    let Some(caller) = FrameAddress::from_return_address(at.saturating_add(1)) else {
         assert!(rt; false, "no return address");
         return Ok(());
     };
