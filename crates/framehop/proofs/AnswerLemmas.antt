@@ -1,7 +1,6 @@
 -- A module's answer, with the fallback rule where its bytes give none.
-use Rattle.std.proofs.Common.{◌≡◌, ◌≢◌, ℕ, ◌-◌, Bool, true, false, List, Option, Some, None, Result, Ok, Err, IfOk, IfErr, refl, sym, ap, ◌∙◌}
-use Rattle.std.specs.Prelude.{MatchBool}
-use Rattle.std.specs.Option.{option_and_then, unwrap_or}
+use Rattle.std.proofs.Common.{◌≡◌, ◌≢◌, ℕ, ◌-◌, Bool, true, List, Option, Some, None, Result, Ok, Err, IfOk, IfErr, refl, sym, ap, ◌∙◌}
+use Rattle.std.specs.Option.{unwrap_or}
 use Rattle.std.proofs.lemmas.Bool.{MatchBool-at_true, MatchBool-at_false}
 use Rattle.framehop_core.specs.Memory.{Memory}
 use Rattle.framehop_core.specs.declared.error.Error.{Error}
@@ -14,7 +13,7 @@ use Rattle.framehop.specs.Policy.{Policy}
 use Rattle.framehop.specs.Unwinding.{Unwinding, Words, answer_by, takes_memory_by}
 use Rattle.framehop.specs.Soundness.{TakesMemory}
 use Rattle.framehop.specs.Fresh.{fresh, outcome_of}
-use Rattle.framehop.specs.Told.{out_of_memory, is_of_values, IsDirect, values_in, TellsAnswer, TellsValues, WritesWithAddress, RuleHas, TellsFresh, TellsFreshValues, WritesComputed, AnswerHas, IsMadeOf, no_memory, no_values, nothing, IsAnswerOf}
+use Rattle.framehop.specs.Told.{out_of_memory, IsDirect, values_in, TellsAnswer, TellsValues, WritesWithAddress, RuleHas, TellsFresh, TellsFreshValues, WritesComputed, AnswerHas, no_memory, no_values, nothing, IsAnswerOf}
 use Rattle.framehop.proofs.ToldLemmas.{err-same}
 use Rattle.framehop.specs.declared.unwinder.UnwinderError.{UnwinderError}
 use Rattle.framehop.specs.declared.unwinder.FrameAnswer.{FrameAnswer}

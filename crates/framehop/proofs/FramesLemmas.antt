@@ -1,13 +1,11 @@
 -- The FDE of an address, by the header or by the index.
-use Rattle.std.proofs.Common.{◌≡◌, ◌≢◌, ℕ, ◌+◌, ◌⊎◌, inl, inr, Bool, true, false, List, Option, Some, None, Result, Ok, Err, refl, sym, ap, ◌∙◌}
-use Rattle.std.specs.Prelude.{IsOk, IsErr}
+use Rattle.std.proofs.Common.{◌≡◌, ℕ, ◌+◌, ◌⊎◌, inl, inr, Bool, true, false, List, Option, Some, None, Result, Ok, Err, refl, sym, ap, ◌∙◌}
 use Rattle.std.specs.Result.{is_err}
 use Rattle.framehop_cfi.specs.Header.{Header, layout_of, fde_offset_in, fde_offset_by}
 use Rattle.framehop_cfi.specs.Layout.{Layout}
 use Rattle.framehop_cfi.specs.declared.pointer.SectionBaseAddresses.{SectionBaseAddresses}
 use Rattle.framehop_cfi.specs.declared.read_error.ReadError.{ReadError}
-use Rattle.framehop_cfi.specs.declared.storage.StorageLimits.{StorageLimits}
-use Rattle.framehop_dwarf.specs.Index.{pairs_of, IsIndexOfAll, fde_offset_for as offset_in_index}
+use Rattle.framehop_dwarf.specs.Index.{IsIndexOfAll, fde_offset_for as offset_in_index}
 use Rattle.framehop_cfi.specs.declared.pointer.BaseAddresses.{BaseAddresses}
 use Rattle.framehop_dwarf.specs.Unwinder.{HasHeader, fde_offset_for, header_bases}
 use Rattle.framehop.specs.Policy.{Policy, IsLimited}

@@ -4,8 +4,6 @@ use Rattle.std.specs.Prelude.{MatchBool}
 use Rattle.framehop_core.specs.Memory.{Memory}
 use Rattle.framehop_core.specs.declared.unwind_result.UnwindResult.{UnwindResult}
 use Rattle.framehop_core.specs.declared.unwind_result.UnwindResult.TheVariants.{ExecRule, Uncacheable}
-use Rattle.framehop_cfi.specs.Row.{Row}
-use Rattle.framehop_cfi.specs.declared.read_error.ReadError.TheVariants.{OutOfMemory}
 use Rattle.framehop_dwarf.specs.Told.{no_memory, IsOfValues, TellsFound, TellsDirect}
 use Rattle.framehop_cfi.specs.Section.{Section}
 use Rattle.framehop_cfi.specs.declared.storage.StorageLimits.{StorageLimits}
@@ -13,12 +11,12 @@ use Rattle.framehop_dwarf.specs.Unwinder.{Reading, unread, uncovered, by_row, re
 use Rattle.framehop_dwarf.specs.declared.dwarf.DwarfUnwinderError.{DwarfUnwinderError}
 use Rattle.framehop_dwarf.specs.declared.dwarf.DwarfUnwinderError.TheVariants.{FdeFromOffsetFailed, UnwindInfoForAddressFailed, StackPointerMovedBackwards, DidNotAdvance, CouldNotRecoverCfa, CouldNotRecoverReturnAddress, CouldNotRecoverFramePointer}
 use Rattle.framehop.specs.Policy.{Policy}
-use Rattle.framehop.specs.Answer.{Fresh, by_rule, direct, values_of, fresh_of}
+use Rattle.framehop.specs.Answer.{Fresh, by_rule, values_of, fresh_of}
 use Rattle.framehop.specs.CallFrames.{RowWords, answer_of_reading, fde_answer}
 use Rattle.framehop_pe.specs.Answer.{IsMissingStackData, TellsFound as PeTellsFound, IsComputed, KeptUnlessDirect}
 use Rattle.framehop_pe.specs.declared.pe.PeUnwinderError.{PeUnwinderError}
 use Rattle.framehop_pe.specs.declared.pe.PeUnwinderError.TheVariants.{MissingUnwindInfoData, MissingInstructionData, MissingStackData, UnwindInfoParseError, Aarch64Unsupported}
-use Rattle.framehop.specs.Told.{is_of_row_values, is_of_pe_values, is_of_values, TellsAnswer, TellsValues, WritesWithAddress}
+use Rattle.framehop.specs.Told.{is_of_row_values, is_of_pe_values, TellsAnswer, TellsValues, WritesWithAddress}
 use Rattle.framehop.specs.declared.unwinder.UnwinderError.{UnwinderError}
 use Rattle.framehop.specs.declared.unwinder.UnwinderError.TheVariants.{Dwarf, Pe}
 

@@ -1,5 +1,5 @@
 -- Unwinding on aarch64, and a walk to its end, in the words of contracts.
-use Rattle.std.specs.Prelude.{◌≡◌, ◌≢◌, ℕ, ◌+◌, ◌^◌, ◌<◌, ◌≤◌, Bool, true, false, Option, None, Err}
+use Rattle.std.specs.Prelude.{◌≡◌, ◌≢◌, ℕ, ◌+◌, ◌^◌, ◌≤◌, true, Err}
 use Rattle.framehop_core.specs.Memory.{Memory}
 use Rattle.framehop_core.specs.Outcome.{Outcome, registers_after}
 use Rattle.framehop_core.specs.CodeAddress.{FrameLocation, at_instruction_pointer}
@@ -12,7 +12,6 @@ use Rattle.framehop_pe.specs.declared.pe.PeUnwinderError.TheVariants.{Aarch64Uns
 use Rattle.framehop.specs.Cache.{CacheView}
 use Rattle.framehop.specs.Modules.{UnwinderView}
 use Rattle.framehop.specs.Policy.{Policy}
-use Rattle.framehop.specs.CallFrames.{RowWords}
 use Rattle.framehop.specs.Unwinding.{Unwinding, Words, answer_by, takes_memory_by}
 use Rattle.framehop.specs.Soundness.{IsSound, cache_after}
 use Rattle.framehop.specs.Walk.{at_limit, walk_from, cache_after_walk}

@@ -1,5 +1,5 @@
 -- What the unwind data of a module gives for an address.
-use Rattle.std.specs.Prelude.{◌≡◌, ℕ, Option, Some, None, Result, Ok, Err}
+use Rattle.std.specs.Prelude.{ℕ, Option, Some, None, Result, Ok, Err}
 use Rattle.framehop_core.specs.Memory.{Memory}
 
 -- a rule, or values that are computed from registers and memory: a return address and the caller's registers, or none

@@ -1,5 +1,5 @@
 -- Unwinding on x86_64, in the words of contracts.
-use Rattle.std.specs.Prelude.{◌≡◌, ℕ, Bool, true, false, Option, None}
+use Rattle.std.specs.Prelude.{false}
 use Rattle.framehop_core.specs.X86_64.Registers.{Registers}
 use Rattle.framehop_core.specs.X86_64.Rules.{outcome}
 use Rattle.framehop_core.specs.declared.x86_64.unwind_rule.UnwindRuleX86_64.{UnwindRuleX86_64}
@@ -9,7 +9,6 @@ use Rattle.framehop_pe.specs.Frame.{found_at, computed_at}
 use Rattle.framehop.specs.Cache.{CacheView}
 use Rattle.framehop.specs.Modules.{UnwinderView}
 use Rattle.framehop.specs.Policy.{Policy}
-use Rattle.framehop.specs.CallFrames.{RowWords}
 use Rattle.framehop.specs.Unwinding.{Unwinding, Words, answer_by, takes_memory_by}
 use Rattle.framehop.specs.Soundness.{IsSound}
 

@@ -1,18 +1,13 @@
 -- The laws of `Unwinding` on aarch64.
-use Rattle.std.proofs.Common.{◌≡◌, ℕ, ◌<◌, Bool, true, false, Option, Some, None, Result, Ok, Err, refl}
-use Rattle.framehop_core.specs.Memory.{Memory}
+use Rattle.std.proofs.Common.{◌≡◌, ℕ, Bool, false, None, Ok, refl}
 use Rattle.framehop_core.specs.Aarch64.Registers.{Registers}
 use Rattle.framehop_core.specs.Aarch64.Rules.{outcome, Advances}
 use Rattle.framehop_core.specs.Laws.Aarch64.{outcome-Advances}
 use Rattle.framehop_core.specs.declared.aarch64.unwind_rule.UnwindRuleAarch64.TheVariants.{UseFramePointer}
-use Rattle.framehop_cfi.specs.Row.{Row}
-use Rattle.framehop_dwarf.specs.Aarch64.{direct_of, Ascends}
-use Rattle.framehop_dwarf.specs.Unwinder.{Reading, unread, uncovered, by_row, direct_by}
-use Rattle.framehop_dwarf.specs.declared.dwarf.DwarfUnwinderError.{DwarfUnwinderError}
+use Rattle.framehop_dwarf.specs.Aarch64.{Ascends}
 use Rattle.framehop_dwarf.proofs.DirectAarch64.{direct-means}
 use Rattle.framehop_pe.specs.Sections.{Sections}
 use Rattle.framehop.specs.Policy.{Policy}
-use Rattle.framehop.specs.Answer.{direct}
 use Rattle.framehop.specs.Unwinding.{RisesAsSaid, answer_by, takes_memory_by}
 use Rattle.framehop.specs.Laws.Values.{values-read}
 use Rattle.framehop.specs.Aarch64.{aarch64, aarch64_words}

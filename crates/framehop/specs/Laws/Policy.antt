@@ -1,5 +1,4 @@
 -- The laws of `AllocationPolicy`.
-use Rattle.std.proofs.Common.{◌≡◌, true, false, None}
 use Rattle.framehop.specs.Policy.{IsLimited, with_allocation, without_allocation}
 
 pub limited-without_allocation : IsLimited without_allocation

@@ -4,12 +4,11 @@ use Rattle.std.specs.Option.{option_and_then}
 use Rattle.framehop_core.specs.Memory.{Memory}
 use Rattle.framehop_cfi.specs.Row.{Row}
 use Rattle.framehop_dwarf.specs.Unwinder.{Reading, unread, uncovered, by_row, reading_of, direct_by, found_by}
-use Rattle.framehop_dwarf.specs.declared.dwarf.DwarfUnwinderError.{DwarfUnwinderError}
 use Rattle.framehop_pe.specs.Sections.{Sections}
 use Rattle.framehop_pe.specs.declared.pe.PeUnwinderError.{PeUnwinderError}
 use Rattle.framehop.specs.Policy.{Policy}
 use Rattle.framehop.specs.Answer.{Fresh, by_rule, direct, values_of, fresh_of}
-use Rattle.framehop.specs.CallFrames.{RowWords, CallFrames, answer_of_reading, fde_answer, frames_answer, fde_offset_of}
+use Rattle.framehop.specs.CallFrames.{RowWords, CallFrames, fde_answer, fde_offset_of}
 use Rattle.framehop.specs.Modules.{ModuleView, UnwindData, no_unwind_data, call_frames, pe_sections}
 use Rattle.framehop.specs.Unwinding.{Words, data_answer, answer_by}
 

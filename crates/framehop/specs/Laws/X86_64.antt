@@ -1,5 +1,5 @@
 -- The laws of `Unwinding` on x86_64.
-use Rattle.std.proofs.Common.{◌≡◌, ℕ, Bool, true, false, None, refl}
+use Rattle.std.proofs.Common.{◌≡◌, refl}
 use Rattle.framehop_core.specs.X86_64.Registers.{Registers}
 use Rattle.framehop_core.specs.X86_64.Rules.{outcome}
 use Rattle.framehop_core.specs.declared.x86_64.unwind_rule.UnwindRuleX86_64.TheVariants.{UseFramePointer}

@@ -1,5 +1,4 @@
-use Rattle.std.proofs.Common.{◌≡◌, Err, rules}
-use Rattle.framehop_core.specs.declared.error.Error.{Error}
+use Rattle.std.proofs.Common.{rules}
 use Rattle.framehop.specs.World.{memory_of}
 use Rattle.framehop_core.proofs.Callback.{AnswersAs-unchanged}
 use Rattle.framehop.proofs.session.step_stack.Goals as goal

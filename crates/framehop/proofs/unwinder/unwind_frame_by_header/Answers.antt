@@ -1,4 +1,4 @@
-use Rattle.std.proofs.Common.{◌≡◌, refl}
+use Rattle.std.proofs.Common.{refl}
 use Rattle.framehop.proofs.FramesLemmas.{header-found}
 use Rattle.framehop.proofs.unwinder.unwind_frame_by_header.Goals as goal
 

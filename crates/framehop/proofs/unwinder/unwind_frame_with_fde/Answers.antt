@@ -1,4 +1,4 @@
-use Rattle.std.proofs.Common.{◌≡◌, ◌≢◌, ◌+◌, Err, ap}
+use Rattle.std.proofs.Common.{◌≢◌, ◌+◌, Err, ap}
 use Rattle.framehop_dwarf.specs.Told.{no_memory}
 use Rattle.framehop.specs.declared.unwinder.UnwinderError.TheVariants.{Dwarf}
 use Rattle.framehop.proofs.ToldLemmas.{fde-err-told, fde-err-values, fde-ok-values, err-same}
