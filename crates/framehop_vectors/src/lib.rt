@@ -12,6 +12,8 @@ mod libc_table;
 #[cfg(test)]
 mod library;
 #[cfg(test)]
+mod pe_sections;
+#[cfg(test)]
 mod program;
 #[cfg(test)]
 mod readme;
