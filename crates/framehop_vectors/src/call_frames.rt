@@ -54,6 +54,10 @@ const THREE_FDES_HDR: &str = "011b033bfcefffff03000000\
 const VALUE_OF_RBP: &str = "1400000000000000017a5200017810011b0c070890010000\
      140000001c000000e0efffff20000000000e10160602230800000000";
 
+/// The CIE with an FDE of four `DW_CFA_remember_state`.
+const FOUR_REMEMBERED: &str = "1400000000000000017a5200017810011b0c070890010000\
+     140000001c000000e0efffff20000000000a0a0a0a00000000000000";
+
 /// A section of 52 bytes in the form of `.debug_frame`, with the FDE up to its first two rows.
 const DEBUG_FRAME: &str = "10000000ffffffff040008000178100c07089001\
      1c0000000000000000100000000000002000000000000000410e108602000000";
@@ -115,7 +119,10 @@ fn section(
         return Ok((None, None));
     }
     let bytes = section_bytes(alloc, digits)?;
-    Ok((Some(start..start.saturating_add(bytes.len() as u64)), Some(bytes)))
+    Ok((
+        Some(start..start.saturating_add(bytes.len() as u64)),
+        Some(bytes),
+    ))
 }
 
 /// A module of the base 0 with these sections.
@@ -512,6 +519,42 @@ fn computes_a_register_by_its_expression(rt: HostRuntime) -> Result<(), Fail> {
         &commands,
         "made 0\ndone\n2000 sp=110 bp=118\nhits=0 empty=1 modules=0 address=0\n",
     )
+}
+
+/// Where no memory may be taken, a fourth remembered row is refused, and the frame has the rule of an address that
+/// no FDE covers. Either rule is stored.
+#[test]
+fn remembers_three_rows_without_memory(rt: HostRuntime) -> Result<(), Fail> {
+    let alloc = rt.alloc();
+    let Some(address) = FrameAddress::from_return_address(0x1001) else {
+        assert!(rt; false, "no return address");
+        return Ok(());
+    };
+    let step = Do::Step {
+        unwinder: 0,
+        cache: 0,
+        address,
+        sp: 0x10,
+        bp: 0x20,
+        base: 0,
+        words: &STACK,
+    };
+    let commands = [
+        Do::New,
+        Do::Add(0, 0, 0x3000, eh_frame(FOUR_REMEMBERED)),
+        step,
+        step,
+        Do::Stats(0),
+    ];
+    assert_eq!(rt;
+        replies::<MayAllocateDuringUnwind>(alloc, &commands)?.as_str(),
+        "made 0\ndone\n100300 sp=18 bp=20\n100300 sp=18 bp=20\nhits=1 empty=1 modules=0 address=0\n"
+    );
+    assert_eq!(rt;
+        replies::<MustNotAllocateDuringUnwind>(alloc, &commands)?.as_str(),
+        "made 0\ndone\n100200 sp=30 bp=40\n100200 sp=30 bp=40\nhits=1 empty=1 modules=0 address=0\n"
+    );
+    Ok(())
 }
 
 /// A clone has its original's generation, until one of both is changed.

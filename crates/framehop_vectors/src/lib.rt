@@ -6,6 +6,8 @@ mod asked_names;
 #[cfg(test)]
 mod call_frames;
 #[cfg(test)]
+mod call_frames_aarch64;
+#[cfg(test)]
 mod commands;
 #[cfg(test)]
 mod libc_table;
