@@ -35,11 +35,11 @@ given-fresh unwinding words policy fallback answers default modules address firs
     ∙ ap (λ at. unwrap_or (answer_by words policy m at first) (by_rule unwinding.fallback)) (sym is)
     ∙ ap (λ rule. unwrap_or (answer_by words policy m relative first) (by_rule rule)) default)
 
-pub takes-memory : {R Regs : Type 0} (unwinding : Unwinding R Regs) (policy : Policy) → unwinding.takes_memory ≡ takes_memory_by policy → (modules : List ModuleView) (address : ℕ) (m : ModuleView) (relative : ℕ) → covering modules address ≡ Some m → relative ≡ address - m.base_avma → takes_memory_by policy m relative ≡ true → TakesMemory unwinding modules address
-takes-memory unwinding policy memory modules address m relative covers is takes = record {
+pub takes-memory : {R Regs : Type 0} (unwinding : Unwinding R Regs) (words : Words R Regs) (policy : Policy) → unwinding.takes_memory ≡ takes_memory_by words policy → (modules : List ModuleView) (address : ℕ) (first : Bool) (m : ModuleView) (relative : ℕ) → covering modules address ≡ Some m → relative ≡ address - m.base_avma → takes_memory_by words policy m relative first ≡ true → TakesMemory unwinding modules address first
+takes-memory unwinding words policy memory modules address first m relative covers is takes = record {
   covered_by = m;
   covers = covers;
-  takes = ap (λ test. test m (address - m.base_avma)) memory ∙ ap (takes_memory_by policy m) (sym is) ∙ takes;
+  takes = ap (λ test. test m (address - m.base_avma) first) memory ∙ ap (λ at. takes_memory_by words policy m at first) (sym is) ∙ takes;
 }
 
 error-is : {A : Type 0} (error : UnwinderError) → error ≢ out_of_memory → ◌≢◌ {A = Result A UnwinderError} (Err error) (Err out_of_memory)

@@ -6,9 +6,10 @@ use Rattle.framehop_core.specs.CodeAddress.{FrameLocation, at_instruction_pointe
 use Rattle.framehop_core.specs.Aarch64.Registers.{Registers}
 use Rattle.framehop_core.specs.Aarch64.Rules.{outcome}
 use Rattle.framehop_core.specs.declared.aarch64.unwind_rule.UnwindRuleAarch64.{UnwindRuleAarch64}
-use Rattle.framehop_core.specs.declared.aarch64.unwind_rule.UnwindRuleAarch64.TheVariants.{UseFramePointer, NoOpIfFirstFrameOtherwiseFp}
+use Rattle.framehop_core.specs.declared.aarch64.unwind_rule.UnwindRuleAarch64.TheVariants.{NoOp, UseFramePointer, NoOpIfFirstFrameOtherwiseFp}
 use Rattle.framehop_dwarf.specs.Aarch64.{translated, direct_of}
 use Rattle.framehop_pe.specs.declared.pe.PeUnwinderError.TheVariants.{Aarch64Unsupported}
+use Rattle.framehop_macho.specs.Aarch64.{says, helper_rule}
 use Rattle.framehop.specs.Cache.{CacheView}
 use Rattle.framehop.specs.Modules.{UnwinderView}
 use Rattle.framehop.specs.Policy.{Policy}
@@ -26,6 +27,7 @@ aarch64_words = record {
   rows = record { translated = translated; uncovered = NoOpIfFirstFrameOtherwiseFp; direct = direct_of };
   pe_found = λ sections relative first. Err Aarch64Unsupported;
   pe_computed = λ sections relative first memory old. Err Aarch64Unsupported;
+  compact = record { stub_rule = NoOp; start_rule = NoOp; helper_rule = helper_rule; says = says };
 }
 
 -- aarch64 under a policy
@@ -34,7 +36,7 @@ aarch64 policy = record {
   outcome = outcome;
   fallback = UseFramePointer;
   module_answer = answer_by aarch64_words policy;
-  takes_memory = takes_memory_by policy;
+  takes_memory = takes_memory_by aarch64_words policy;
   stack_pointer = λ r. r.sp;
   always_rises = true;
 }

@@ -28,6 +28,11 @@ frames_with_header header bytes bases base_svma = record {
   base_svma = base_svma;
 }
 
+-- `.eh_frame` by itself
+abbrev pub frames_without_header : List ℕ → BaseAddresses → ℕ → CallFrames
+frames_without_header bytes bases base_svma =
+    record { section = section_of EhFrame bases bytes; header = None; base_svma = base_svma }
+
 -- the offset of the FDE by all FDEs of the section
 abbrev pub offset_among : Result (List (ℕ × ℕ)) DwarfCfiIndexError → ℕ → Option ℕ
 offset_among (Ok pairs) relative = fde_offset_for pairs relative

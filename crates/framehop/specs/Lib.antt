@@ -4,8 +4,10 @@ pub mod CacheEntry
 pub mod CacheResult
 pub mod Answer
 pub mod CallFrames
+pub mod Compact
 pub mod Modules
 pub mod ModuleData
+pub mod TextData
 pub mod UnwindData
 pub mod Policy
 pub mod Unwinding

@@ -1,5 +1,5 @@
 -- The unwind data of a module, from the table of its sections (framehop 0.16.0, `Module::new`).
-use Rattle.std.specs.Prelude.{ℕ, ◌-◌, ◌^◌, ◌&&◌, nat_le, nat_lt, if◌then◌else◌, List, codes, Option, Some, None, option_map, Result, Ok, Err}
+use Rattle.std.specs.Prelude.{ℕ, ◌-◌, ◌^◌, ◌&&◌, nat_le, nat_lt, if◌then◌else◌, List, codes, Option, Some, None, option_map, option_and_then, unwrap_or, Result, Ok, Err}
 use Rattle.std.specs.declared.ops.Range.{Range}
 use Rattle.framehop_cfi.specs.Section.{Section}
 use Rattle.framehop_cfi.specs.SectionTable.{SectionTable, range_of, data_of, without_data}
@@ -7,9 +7,10 @@ use Rattle.framehop_cfi.specs.declared.entry.UnwindSectionType.TheVariants.{EhFr
 use Rattle.framehop_dwarf.specs.Bases.{base_addresses_of, section_in}
 use Rattle.framehop_dwarf.specs.Index.{pairs_of}
 use Rattle.framehop_dwarf.specs.declared.index.DwarfCfiIndexError.{DwarfCfiIndexError}
+use Rattle.framehop_macho.specs.Unwinder.{Text}
 use Rattle.framehop_pe.specs.Sections.{Placed}
-use Rattle.framehop.specs.CallFrames.{CallFrames, frames_with_header}
-use Rattle.framehop.specs.Modules.{UnwindData, no_unwind_data, call_frames, pe_sections}
+use Rattle.framehop.specs.CallFrames.{CallFrames, frames_with_header, frames_without_header}
+use Rattle.framehop.specs.Modules.{UnwindData, no_unwind_data, call_frames, pe_sections, compact_info}
 
 -- what is found under a name, and the table that is left: data is handed out once
 pub record Asked (D : Type 0) : Type 0 where
@@ -48,6 +49,10 @@ relative_range base range =
     if nat_le base range.start && nat_le base range.end
     && nat_lt (range.start - base) (2 ^ 32) && nat_lt (range.end - base) (2 ^ 32)
     then Some (range.start - base, range.end - base) else None
+
+-- the same, or an empty one
+abbrev pub range_or_empty : ℕ → Option (Range ℕ) → ℕ × ℕ
+range_or_empty base range = unwrap_or (option_and_then (relative_range base) range) (0, 0)
 
 module _ {D : Type 0} (contents : D → List ℕ) where
   -- `.eh_frame`, with `.eh_frame_hdr` where there is one
@@ -110,9 +115,40 @@ module _ {D : Type 0} (contents : D → List ℕ) where
   abbrev pub pdata_data : SectionTable D → UnwindData
   pdata_data table = let pdata = ask (codes ".pdata") table in by_pdata pdata.found pdata.left
 
+  -- code, from its range's start relative to the base on, where data and range are both there, and else other code; a
+  -- range that does not fit gives none
+  abbrev pub text_or : ℕ → Option (Range ℕ) → Option D → Option Text → Option Text
+  text_or base (Some range) (Some bytes) other =
+      option_map (λ ends. record { from = ends.0; bytes = contents bytes }) (relative_range base range)
+  text_or base (Some range) None other = other
+  text_or base None bytes other = other
+
+  -- the code of the segment `__TEXT`, else that of the section `__text`, which has this range
+  abbrev pub text_in : Option (Range ℕ) → SectionTable D → Option Text
+  text_in range table =
+      text_or table.base_svma (range_of (codes "__TEXT") table.segments) (data_of (codes "__TEXT") table.segments)
+      (text_or table.base_svma range (data_of (codes "__text") table.sections) None)
+
+  -- `__unwind_info`, with `__eh_frame`, whose FDEs it names by their offsets, `__stubs`, `__stub_helper` and the code
+  abbrev pub with_unwind_info : D → SectionTable D → UnwindData
+  with_unwind_info unwind_info table =
+      let eh_frame = ask (codes "__eh_frame") table in
+      compact_info (record {
+        info = record {
+          unwind_info = contents unwind_info;
+          text = text_in (range_of (codes "__text") table.sections) eh_frame.left;
+          stubs = range_or_empty table.base_svma (range_of (codes "__stubs") table.sections);
+          stub_helper = range_or_empty table.base_svma (range_of (codes "__stub_helper") table.sections);
+        };
+        frames =
+            option_map
+            (λ bytes. frames_without_header (contents bytes) (base_addresses_of table.sections) table.base_svma)
+            eh_frame.found;
+      })
+
   -- `__unwind_info`, else the others
   abbrev pub by_unwind_info : Option D → SectionTable D → UnwindData
-  by_unwind_info (Some unwind_info) table = no_unwind_data
+  by_unwind_info (Some unwind_info) table = with_unwind_info unwind_info table
   by_unwind_info None table = pdata_data table
 
   -- The unwind data of a module with this table: the first that there is.

@@ -3,6 +3,7 @@ use Rattle.std.specs.Prelude.{ℕ, ◌-◌, ◌^◌, Bool, not, ◌&&◌, ◌||�
 use Rattle.std.specs.List.{list_any}
 use Rattle.framehop_pe.specs.Sections.{Sections}
 use Rattle.framehop.specs.CallFrames.{CallFrames}
+use Rattle.framehop.specs.Compact.{CompactData}
 use Rattle.std.specs.List.Sorted.{IsNonDecreasingBy}
 
 -- what unwind data a module has
@@ -10,6 +11,7 @@ pub data UnwindData : Type 0 where
   no_unwind_data : UnwindData
   call_frames : CallFrames → UnwindData
   pe_sections : Sections → UnwindData
+  compact_info : CompactData → UnwindData
 
 -- a module: its name, its addresses from start to below end, its base (all AVMAs), and its unwind data
 pub record ModuleView : Type 0 where

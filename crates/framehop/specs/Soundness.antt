@@ -1,5 +1,5 @@
 -- When a cache that other steps have filled changes no answer.
-use Rattle.std.specs.Prelude.{◌≡◌, ◌≢◌, ℕ, ◌-◌, ◌⊎◌, true, List, [], ◌∷◌, Some}
+use Rattle.std.specs.Prelude.{◌≡◌, ◌≢◌, ℕ, ◌-◌, Bool, ◌⊎◌, true, List, [], ◌∷◌, Some}
 use Rattle.framehop_core.specs.CodeAddress.{FrameLocation, lookup_address, is_first_frame}
 use Rattle.framehop.specs.Cache.{Key, Entry, Sets, CacheView, Found, hit, empty_slot, wrong_modules, wrong_address, found, counted, inserted, ways}
 use Rattle.framehop.specs.Answer.{Fresh, by_rule, direct}
@@ -78,14 +78,14 @@ cache_after_lookup unwinder cache location =
 
 -- reading what the covering module has for an address takes memory
 pub record TakesMemory {R Regs : Type 0} (unwinding : Unwinding R Regs) (modules : List ModuleView)
-    (address : ℕ) : Type 0 where
+    (address : ℕ) (first : Bool) : Type 0 where
   pub covered_by : ModuleView
   pub covers : covering modules address ≡ Some covered_by
-  pub takes : unwinding.takes_memory covered_by (address - covered_by.base_avma) ≡ true
+  pub takes : unwinding.takes_memory covered_by (address - covered_by.base_avma) first ≡ true
 
 -- A step at a location can run out of memory: its rule is not in the cache, and reading what the covering module has
 -- for the address takes memory.
 pub record MayRunOut {R Regs : Type 0} (unwinding : Unwinding R Regs) (unwinder : UnwinderView) (cache : CacheView R)
     (location : FrameLocation) : Type 0 where
   pub missed : (rule : R) → found ways cache.sets (key_of unwinder location) ≢ hit rule
-  pub takes : TakesMemory unwinding unwinder.modules (lookup_address location)
+  pub takes : TakesMemory unwinding unwinder.modules (lookup_address location) (is_first_frame location)

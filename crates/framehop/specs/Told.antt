@@ -12,7 +12,7 @@ use Rattle.framehop_pe.specs.declared.pe.PeUnwinderError.{PeUnwinderError}
 use Rattle.framehop_pe.specs.declared.pe.PeUnwinderError.TheVariants.{MissingUnwindInfoData, MissingInstructionData, MissingStackData, UnwindInfoParseError, Aarch64Unsupported}
 use Rattle.framehop.specs.Answer.{Fresh, by_rule, direct}
 use Rattle.framehop.specs.declared.unwinder.UnwinderError.{UnwinderError}
-use Rattle.framehop.specs.declared.unwinder.UnwinderError.TheVariants.{Dwarf, Pe, NoModuleUnwindData, EhFrameHdrCouldNotFindAddress, DwarfCfiIndexCouldNotFindAddress}
+use Rattle.framehop.specs.declared.unwinder.UnwinderError.TheVariants.{CompactUnwindInfo, Dwarf, Pe, NoDwarfData, NoModuleUnwindData, EhFrameHdrCouldNotFindAddress, DwarfCfiIndexCouldNotFindAddress}
 use Rattle.framehop.specs.declared.unwinder.FrameAnswer.{FrameAnswer}
 use Rattle.framehop.specs.declared.unwinder.FrameAnswer.TheVariants.{Rule, Computed, NotComputed}
 
@@ -40,6 +40,8 @@ is_of_pe_values Aarch64Unsupported = false
 abbrev pub is_of_values : UnwinderError → Bool
 is_of_values (Dwarf error) = is_of_row_values error
 is_of_values (Pe error) = is_of_pe_values error
+is_of_values (CompactUnwindInfo error) = false
+is_of_values NoDwarfData = false
 is_of_values NoModuleUnwindData = false
 is_of_values EhFrameHdrCouldNotFindAddress = false
 is_of_values DwarfCfiIndexCouldNotFindAddress = false

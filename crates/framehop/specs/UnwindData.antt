@@ -3,9 +3,9 @@ use Rattle.std.specs.Prelude.{List, ℕ, option_map}
 use Rattle.framehop_pe.specs.Sections.{Placed}
 use Rattle.framehop_pe.specs.declared.pe.DataAtRvaRange.{DataAtRvaRange}
 use Rattle.framehop.specs.CallFrames.{frames_with_header}
-use Rattle.framehop.specs.Modules.{UnwindData, no_unwind_data, call_frames, pe_sections}
+use Rattle.framehop.specs.Modules.{UnwindData, no_unwind_data, call_frames, pe_sections, compact_info}
 use Rattle.framehop.specs.declared.unwinder.ModuleUnwindDataInternal.{ModuleUnwindDataInternal}
-use Rattle.framehop.specs.declared.unwinder.ModuleUnwindDataInternal.TheVariants.{EhFrameHdrAndEhFrame, DwarfCfiIndexAndFrames, PeUnwindInfo, None as NoUnwindData}
+use Rattle.framehop.specs.declared.unwinder.ModuleUnwindDataInternal.TheVariants.{EhFrameHdrAndEhFrame, DwarfCfiIndexAndFrames, PeUnwindInfo, CompactUnwindInfoAndEhFrame, None as NoUnwindData}
 
 -- data, and where it lies
 abbrev pub placed_data : {D : Type 0} → (D → List ℕ) → DataAtRvaRange D → Placed
@@ -22,4 +22,5 @@ unwind_data_of contents (PeUnwindInfo pdata rdata xdata text) =
       xdata = option_map (placed_data contents) xdata;
       text = option_map (placed_data contents) text;
     })
+unwind_data_of contents (CompactUnwindInfoAndEhFrame compact) = compact_info compact
 unwind_data_of contents NoUnwindData = no_unwind_data

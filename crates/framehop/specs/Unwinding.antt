@@ -5,10 +5,12 @@ use Rattle.framehop_core.specs.Memory.{Memory}
 use Rattle.framehop_core.specs.Outcome.{Outcome, answered}
 use Rattle.framehop_pe.specs.Sections.{Sections}
 use Rattle.framehop_pe.specs.declared.pe.PeUnwinderError.{PeUnwinderError}
+use Rattle.framehop_macho.specs.Unwinder.{Words as CompactWords, unwound}
 use Rattle.framehop.specs.Policy.{Policy}
+use Rattle.framehop.specs.Compact.{compact_answer, needs_fde}
 use Rattle.framehop.specs.Answer.{Fresh, direct, fresh_of}
 use Rattle.framehop.specs.CallFrames.{RowWords, frames_answer, fde_offset_of}
-use Rattle.framehop.specs.Modules.{ModuleView, UnwindData, no_unwind_data, call_frames, pe_sections}
+use Rattle.framehop.specs.Modules.{ModuleView, UnwindData, no_unwind_data, call_frames, pe_sections, compact_info}
 
 -- `outcome`: what a rule does to a frame, a first one (`true`) or another. `fallback`: the rule where nothing is known.
 -- `module_answer`: what the unwind data of a module gives for a relative address in a frame of this kind, if anything.
@@ -18,7 +20,7 @@ pub record Unwinding (Rule Regs : Type 0) : Type 0 where
   pub outcome : Rule → Bool → Regs → Memory → Outcome Regs
   pub fallback : Rule
   pub module_answer : ModuleView → ℕ → Bool → Option (Fresh Rule Regs)
-  pub takes_memory : ModuleView → ℕ → Bool
+  pub takes_memory : ModuleView → ℕ → Bool → Bool
   pub stack_pointer : Regs → ℕ
   pub always_rises : Bool
 
@@ -27,6 +29,7 @@ pub record Words (Rule Regs : Type 0) : Type 0 where
   pub rows : RowWords Rule Regs
   pub pe_found : Sections → ℕ → Bool → Result (Option Rule) PeUnwinderError
   pub pe_computed : Sections → ℕ → Bool → Memory → Regs → Result (ℕ × Regs) PeUnwinderError
+  pub compact : CompactWords Rule
 
 -- what the unwind info of a PE module gives for a relative address in a frame of this kind, if anything
 abbrev pub pe_answer : {Rule Regs : Type 0} → Words Rule Regs → Sections → ℕ → Bool → Option (Fresh Rule Regs)
@@ -40,12 +43,15 @@ abbrev pub data_answer : {Rule Regs : Type 0} → Words Rule Regs → Policy →
 data_answer words policy no_unwind_data relative first = None
 data_answer words policy (call_frames frames) relative first = frames_answer words.rows policy frames relative first
 data_answer words policy (pe_sections sections) relative first = pe_answer words sections relative first
+data_answer words policy (compact_info d) relative first =
+    compact_answer words.compact words.rows policy d relative first
 
--- unwind data names an FDE for a relative address
-abbrev pub names_fde : UnwindData → ℕ → Bool
-names_fde no_unwind_data relative = false
-names_fde (call_frames frames) relative = is_some (fde_offset_of frames relative)
-names_fde (pe_sections sections) relative = false
+-- unwind data names an FDE for a relative address in a frame of this kind
+abbrev pub names_fde : {Rule Regs : Type 0} → Words Rule Regs → UnwindData → ℕ → Bool → Bool
+names_fde words no_unwind_data relative first = false
+names_fde words (call_frames frames) relative first = is_some (fde_offset_of frames relative)
+names_fde words (pe_sections sections) relative first = false
+names_fde words (compact_info d) relative first = needs_fde d.frames (unwound words.compact d.info relative first)
 
 -- what the unwind data of a module gives
 unfoldable pub answer_by : {Rule Regs : Type 0} → Words Rule Regs → Policy → ModuleView → ℕ → Bool
@@ -53,8 +59,8 @@ unfoldable pub answer_by : {Rule Regs : Type 0} → Words Rule Regs → Policy �
 answer_by words policy m relative first = data_answer words policy m.unwind_data relative first
 
 -- reading it takes memory only where the policy allows it and an FDE is named
-unfoldable pub takes_memory_by : Policy → ModuleView → ℕ → Bool
-takes_memory_by policy m relative = policy.may_allocate && names_fde m.unwind_data relative
+unfoldable pub takes_memory_by : {Rule Regs : Type 0} → Words Rule Regs → Policy → ModuleView → ℕ → Bool → Bool
+takes_memory_by words policy m relative first = policy.may_allocate && names_fde words m.unwind_data relative first
 
 -- that is so where it is said: a rule's step, and computed values, raise the stack pointer
 pub record RisesAsSaid {Rule Regs : Type 0} (unwinding : Unwinding Rule Regs) : Type 0 where

@@ -3,9 +3,10 @@ use Rattle.std.specs.Prelude.{false}
 use Rattle.framehop_core.specs.X86_64.Registers.{Registers}
 use Rattle.framehop_core.specs.X86_64.Rules.{outcome}
 use Rattle.framehop_core.specs.declared.x86_64.unwind_rule.UnwindRuleX86_64.{UnwindRuleX86_64}
-use Rattle.framehop_core.specs.declared.x86_64.unwind_rule.UnwindRuleX86_64.TheVariants.{UseFramePointer, JustReturnIfFirstFrameOtherwiseFp}
+use Rattle.framehop_core.specs.declared.x86_64.unwind_rule.UnwindRuleX86_64.TheVariants.{JustReturn, UseFramePointer, JustReturnIfFirstFrameOtherwiseFp}
 use Rattle.framehop_dwarf.specs.X86_64.{translated, direct_of}
 use Rattle.framehop_pe.specs.Frame.{found_at, computed_at}
+use Rattle.framehop_macho.specs.X86_64.{says, helper_rule}
 use Rattle.framehop.specs.Cache.{CacheView}
 use Rattle.framehop.specs.Modules.{UnwinderView}
 use Rattle.framehop.specs.Policy.{Policy}
@@ -18,6 +19,7 @@ x86_64_words = record {
   rows = record { translated = translated; uncovered = JustReturnIfFirstFrameOtherwiseFp; direct = direct_of };
   pe_found = found_at;
   pe_computed = computed_at;
+  compact = record { stub_rule = JustReturn; start_rule = JustReturn; helper_rule = helper_rule; says = says };
 }
 
 -- x86_64 under a policy
@@ -26,7 +28,7 @@ x86_64 policy = record {
   outcome = outcome;
   fallback = UseFramePointer;
   module_answer = answer_by x86_64_words policy;
-  takes_memory = takes_memory_by policy;
+  takes_memory = takes_memory_by x86_64_words policy;
   stack_pointer = λ r. r.rsp;
   always_rises = false;
 }

@@ -8,9 +8,17 @@ ghost use Rattle.framehop.specs.UnwindIterator.{unwinder_of, progress_in, regs_o
 ghost use Rattle.framehop.specs.Unwinding.{Unwinding, Words, data_answer, names_fde, answer_by, takes_memory_by, RisesAsSaid};
 ghost use Rattle.framehop.specs.CallFrames.{frames_with_header, frames_answer, fde_answer, fde_offset_of};
 ghost use Rattle.framehop.specs.UnwindData.{unwind_data_of, placed_data};
+ghost use Rattle.framehop.specs.TextData.{text_data};
+ghost use Rattle.framehop.specs.Modules.{compact_info};
+ghost use Rattle.framehop.specs.Compact.{by_info, compact_answer, needs_fde};
+ghost use Rattle.framehop_cfi.specs.SectionTable.{range_of};
+ghost use Rattle.framehop_dwarf.specs.Bases.{base_addresses_of};
+ghost use Rattle.framehop_macho.specs.Answer.{IfExecRule};
+ghost use Rattle.framehop_macho.specs.Unwinder.{unwound};
+ghost use Rattle.framehop_macho.specs.declared.macho.CuiUnwindResult.TheVariants.{NeedDwarf};
 ghost use Rattle.framehop.specs.Answer.{fresh_of};
 ghost use Rattle.framehop_pe.specs.Sections.{Sections, sections_of, placed_of};
-ghost use Rattle.framehop.specs.ModuleData.{ask_either, with_eh_frame, with_index, by_eh_frame, call_frame_data, pdata_data, ask, placed_in, relative_range, unwind_data_in};
+ghost use Rattle.framehop.specs.ModuleData.{ask_either, with_eh_frame, with_index, by_eh_frame, call_frame_data, pdata_data, ask, placed_in, relative_range, range_or_empty, text_or, text_in, with_unwind_info, unwind_data_in};
 ghost use Rattle.framehop.specs.Told.{out_of_memory, is_of_row_values, is_of_pe_values, is_of_values, TellsAnswer, TellsValues, WritesWithAddress, RuleHas, TellsFresh, TellsFreshValues, WritesComputed, AnswerHas, IsAnswerOf};
 ghost use Rattle.framehop_cfi.specs.Section.{section_of};
 ghost use Rattle.framehop_dwarf.specs.Bases.{section_in};
@@ -35,10 +43,14 @@ use framehop_core::unwind_result::UnwindResult;
 use framehop_core::unwind_rule::UnwindRule;
 use framehop_core::x86_64::ArchX86_64;
 use framehop_core::{Error, FrameAddress};
-use framehop_dwarf::bases::base_addresses_for_sections;
+use framehop_dwarf::bases::{base_addresses_for_ranges, base_addresses_for_sections, range_under};
 use framehop_dwarf::dwarf::{DwarfUnwinderError, DwarfUnwinding};
 use framehop_dwarf::index::{DwarfCfiIndex, DwarfCfiIndexError};
 use framehop_dwarf::unwinder::DwarfUnwinder;
+use framehop_macho::macho::{
+    CompactUnwindInfoUnwinder, CompactUnwindInfoUnwinderError, CompactUnwindInfoUnwinding,
+    CuiUnwindResult, TextBytes,
+};
 use framehop_pe::pe::{DataAtRvaRange, PeSections, PeUnwinderError, PeUnwinding};
 use std::alloc::{AllocError, Global};
 use std::marker::{Model, PhantomData};
@@ -67,6 +79,10 @@ pub struct RefusedModule<M> {
 /// Why the unwind data of a module gives no rule and no return address for a frame.
 #[derive(Clone, Copy, Debug, PartialEq, Eq, thiserror::Error)]
 pub enum UnwinderError {
+    /// The compact unwind info gives none.
+    #[error("CompactUnwindInfo")]
+    CompactUnwindInfo(#[from] CompactUnwindInfoUnwinderError),
+
     /// The call frame information gives none.
     #[error("Dwarf")]
     Dwarf(#[from] DwarfUnwinderError),
@@ -74,6 +90,10 @@ pub enum UnwinderError {
     /// The unwind info of a PE module gives none.
     #[error("Pe")]
     Pe(#[from] PeUnwinderError),
+
+    /// The compact unwind info names an FDE, and the module has no `__eh_frame`.
+    #[error("NoDwarfData")]
+    NoDwarfData,
 
     /// The module has no unwind data.
     #[error("NoModuleUnwindData")]
@@ -89,7 +109,7 @@ pub enum UnwinderError {
 }
 
 /// A CPU architecture whose unwind data can be read: what it makes of rules and modules.
-pub trait Unwinding: DwarfUnwinding + PeUnwinding {
+pub trait Unwinding: DwarfUnwinding + PeUnwinding + CompactUnwindInfoUnwinding {
     // what a step gives by the modules' bytes, under an allocation policy
     ghost unwinding: { Policy → Unwinding Self.UnwindRule Self.UnwindRegs };
 
@@ -110,9 +130,16 @@ pub trait Unwinding: DwarfUnwinding + PeUnwinding {
           rows = record { translated = Self.translated; uncovered = Self.uncovered; direct = Self.direct };
           pe_found = Self.found;
           pe_computed = Self.computed;
+          compact = record { stub_rule = Self.UnwindRule.stub_rule; start_rule = Self.UnwindRule.function_start_rule; helper_rule = Self.helper_rule; says = Self.says };
         }) policy };
 
-    ghost memory_is: { (policy : Policy) → (unwinding policy).takes_memory ≡ takes_memory_by policy };
+    ghost memory_is: { (policy : Policy) → (unwinding policy).takes_memory
+        ≡ takes_memory_by (record {
+          rows = record { translated = Self.translated; uncovered = Self.uncovered; direct = Self.direct };
+          pe_found = Self.found;
+          pe_computed = Self.computed;
+          compact = record { stub_rule = Self.UnwindRule.stub_rule; start_rule = Self.UnwindRule.function_start_rule; helper_rule = Self.helper_rule; says = Self.says };
+        }) policy };
 
     ghost values_advance: { (first : Bool) (old new : Self.UnwindRegs) → Self.ascends first old new → step_advances first old new };
 
@@ -476,6 +503,8 @@ pub struct Module<D: SectionBytes> {
 /// What unwind data a module has. Clones of a module share it.
 #[derive(Drop)]
 enum ModuleUnwindDataInternal<D: SectionBytes> {
+    /// `__unwind_info`, `__eh_frame`, the code and the stubs.
+    CompactUnwindInfoAndEhFrame(CompactInfo<D>),
     /// `.eh_frame`, and its table of FDEs.
     EhFrameHdrAndEhFrame {
         eh_frame_hdr: D,
@@ -495,6 +524,46 @@ enum ModuleUnwindDataInternal<D: SectionBytes> {
     },
     /// None that can be read.
     None,
+}
+
+/// The compact unwind info of a module, with what it needs.
+#[derive(Drop)]
+struct CompactInfo<D: SectionBytes> {
+    unwind_info: D,
+    eh_frame: Option<D>,
+    text: Option<TextByteData<D>>,
+    /// Where `__stubs` and `__stub_helper` lie, as relative addresses.
+    stubs: (u32, u32),
+    stub_helper: (u32, u32),
+    base_addresses: BaseAddresses,
+    /// The module's base, an SVMA.
+    base_svma: u64,
+}
+
+impl<D: SectionBytes> Model for CompactInfo<D> {
+    ghost use Rattle.std.specs.Prelude.{option_map};
+    ghost use Rattle.framehop.specs.Compact.{CompactData};
+    ghost use Rattle.framehop.specs.CallFrames.{frames_without_header};
+    ghost use Rattle.framehop.specs.TextData.{text_data};
+
+    ghost Value = { CompactData };
+
+    ghost view = { λ c. record {
+      info = record {
+        unwind_info = D.contents c.unwind_info;
+        text = option_map (text_data D.contents) c.text;
+        stubs = c.stubs;
+        stub_helper = c.stub_helper;
+      };
+      frames = option_map (λ bytes. frames_without_header (D.contents bytes) c.base_addresses c.base_svma) c.eh_frame;
+    } };
+}
+
+/// The code of a module, and the relative address where it begins.
+#[derive(Drop)]
+struct TextByteData<D> {
+    bytes: D,
+    offset_from_base: u32,
 }
 
 /// A call frame section, and an index of its FDEs.
@@ -537,7 +606,9 @@ impl<D: SectionBytes + Drop> ModuleUnwindDataInternal<D> {
         ensures refused { IfErr result (λ error. error ≡ ModuleListError.OutOfMemory) }
     {
         match section_info.section_data(b"__unwind_info") {
-            Some(_) => Ok(ModuleUnwindDataInternal::None),
+            Some(unwind_info) => Ok(ModuleUnwindDataInternal::CompactUnwindInfoAndEhFrame(
+                CompactInfo::new(unwind_info, section_info),
+            )),
             None => Self::with_pdata(alloc, section_info),
         }
     }
@@ -653,6 +724,106 @@ impl<D: SectionBytes + Drop> ModuleUnwindDataInternal<D> {
     }
 }
 
+impl<D: SectionBytes + Drop> CompactInfo<D> {
+    // the info with what the module's sections have for it
+    fn new<I: ModuleSectionInfo<D>>(unwind_info: D, section_info: &mut I) -> Self
+        ensures { compact_info result ≡ with_unwind_info D.contents unwind_info (I.table section_info.old) }
+    {
+        let base_svma = section_info.base_svma();
+        let text_range = section_info.section_svma_range(b"__text");
+        let base_addresses = base_addresses_beside_text(section_info, &text_range);
+        let stubs = range_or_empty(base_svma, section_info.section_svma_range(b"__stubs"));
+        let stub_helper = range_or_empty(
+            base_svma,
+            section_info.section_svma_range(b"__stub_helper"),
+        );
+        let eh_frame = section_info.section_data(b"__eh_frame");
+        let text = text_data(section_info, text_range);
+        CompactInfo {
+            unwind_info,
+            eh_frame,
+            text,
+            stubs,
+            stub_helper,
+            base_addresses,
+            base_svma,
+        }
+    }
+}
+
+// the base addresses of a module whose section `__text` has this range
+fn base_addresses_beside_text<D, I: ModuleSectionInfo<D>>(
+    section_info: &mut I,
+    text_range: &Option<Range<u64>>,
+) -> BaseAddresses
+    requires { text_range.now ≡ range_of (codes "__text") (I.table section_info.old).sections }
+    ensures bases { result ≡ base_addresses_of (I.table section_info.old).sections }
+    ensures kept { I.table section_info.new ≡ I.table section_info.old }
+{
+    let eh_frame = range_under(section_info, b"__eh_frame", b".eh_frame");
+    let eh_frame_hdr = range_under(section_info, b"__eh_frame_hdr", b".eh_frame_hdr");
+    let got = range_under(section_info, b"__got", b".got");
+    match text_range {
+        Some(_) => base_addresses_for_ranges(&eh_frame, &eh_frame_hdr, text_range, &got),
+        None => {
+            let text = section_info.section_svma_range(b".text");
+            base_addresses_for_ranges(&eh_frame, &eh_frame_hdr, &text, &got)
+        }
+    }
+}
+
+// a range relative to a base, or an empty one
+fn range_or_empty(base: u64, range: Option<Range<u64>>) -> (u32, u32)
+    ensures { result ≡ range_or_empty base range }
+{
+    let Some(range) = range else {
+        return (0, 0);
+    };
+    match relative_range(base, &range) {
+        Some(range) => (range.start, range.end),
+        None => (0, 0),
+    }
+}
+
+// code that lies at a range, if the range fits
+fn text_at<D>(base: u64, range: Range<u64>, bytes: D) -> Option<TextByteData<D>>
+where
+    D: SectionBytes + Drop,
+    ensures { option_map (text_data D.contents) result ≡ text_or D.contents base (Some range) (Some bytes) None }
+{
+    match relative_range(base, &range) {
+        Some(range) => Some(TextByteData {
+            bytes,
+            offset_from_base: range.start,
+        }),
+        None => None,
+    }
+}
+
+// the code of the segment `__TEXT`, else that of the section `__text`, which has this range
+fn text_data<D: SectionBytes + Drop, I: ModuleSectionInfo<D>>(
+    section_info: &mut I,
+    text_range: Option<Range<u64>>,
+) -> Option<TextByteData<D>>
+    ensures { option_map (text_data D.contents) result ≡ text_in D.contents text_range (I.table section_info.old) }
+{
+    let base_svma = section_info.base_svma();
+    let segment_range = section_info.segment_svma_range(b"__TEXT");
+    let segment = section_info.segment_data(b"__TEXT");
+    if let Some(range) = segment_range
+        && let Some(bytes) = segment
+    {
+        return text_at(base_svma, range, bytes);
+    }
+    let Some(range) = text_range else {
+        return None;
+    };
+    let Some(bytes) = section_info.section_data(b"__text") else {
+        return None;
+    };
+    text_at(base_svma, range, bytes)
+}
+
 // a range relative to a base, if both its ends fit 32 bits
 fn relative_range(base: u64, range: &Range<u64>) -> Option<Range<u32>>
     ensures { option_map (λ (r : Range ℕ). (r.start, r.end)) result ≡ relative_range base range.now }
@@ -711,9 +882,7 @@ impl<D: SectionBytes> Model for Module<D> {
 
     ghost Value = { ModuleView };
 
-    ghost use Rattle.framehop.specs.UnwindData.{unwind_data_of, placed_data};
-    ghost use Rattle.framehop.specs.Answer.{fresh_of};
-    ghost use Rattle.framehop_pe.specs.Sections.{Sections, sections_of, placed_of};
+    ghost use Rattle.framehop.specs.UnwindData.{unwind_data_of};
 
     ghost view = { λ m. record {
       name = string_bytes m.name;
@@ -854,7 +1023,9 @@ fn is_of_values(error: &UnwinderError) -> bool
     match error {
         UnwinderError::Dwarf(error) => is_of_row_values(error),
         UnwinderError::Pe(error) => is_of_pe_values(error),
-        UnwinderError::NoModuleUnwindData
+        UnwinderError::CompactUnwindInfo(_)
+        | UnwinderError::NoDwarfData
+        | UnwinderError::NoModuleUnwindData
         | UnwinderError::EhFrameHdrCouldNotFindAddress
         | UnwinderError::DwarfCfiIndexCouldNotFindAddress => false,
     }
@@ -1011,6 +1182,123 @@ impl<D: SectionBytes> IndexedFrames<D> {
     }
 }
 
+impl<D: SectionBytes> CompactInfo<D> {
+    // what the info gives: a rule, or the offset of an FDE
+    fn unwind_frame_by_info<A: Unwinding>(
+        &self,
+        relative_address: u32,
+        is_first_frame: bool,
+    ) -> Result<CuiUnwindResult<A::UnwindRule>, CompactUnwindInfoUnwinderError>
+        ensures says { result ≡ unwound (record { stub_rule = A.UnwindRule.stub_rule; start_rule = A.UnwindRule.function_start_rule; helper_rule = A.helper_rule; says = A.says }) self.now.info relative_address is_first_frame }
+        ensures executable { IfExecRule result (λ rule. IsTrue (A.UnwindRule.executable rule)) }
+    {
+        let text = match &self.text {
+            Some(text) => Some(TextBytes::new(text.offset_from_base, text.bytes.bytes())),
+            None => None,
+        };
+        let unwinder: CompactUnwindInfoUnwinder<'_, A> = CompactUnwindInfoUnwinder::new(
+            self.unwind_info.bytes(),
+            text,
+            self.stubs,
+            self.stub_helper,
+        );
+        unwinder.unwind_frame(relative_address, is_first_frame)
+    }
+
+    // unwinds a frame by the FDE that the info names
+    fn unwind_frame_by_eh_frame<A: Unwinding, P: AllocationPolicy, F>(
+        &self,
+        alloc: Global,
+        unwind_context: &mut UnwindContext<P::GimliUnwindContextStorage>,
+        relative_address: u32,
+        fde_offset: u32,
+        is_first_frame: bool,
+        regs: &mut A::UnwindRegs,
+        read_stack: &mut F,
+    ) -> Result<UnwindResult<A::UnwindRule>, UnwinderError>
+    where
+        F: FnMut(u64) -> Result<u64, ()>,
+        requires { F.IsAlwaysCallable read_stack.old }
+        ensures callable { F.IsAlwaysCallable read_stack.new }
+        ensures written { WritesWithAddress (A.step_advances is_first_frame) result regs.old regs.new }
+        ensures executable { RuleHas (λ rule. IsTrue (A.UnwindRule.executable rule)) result }
+        ensures memory { result ≡ Err out_of_memory → (P.policy.may_allocate ≡ true) × (is_some self.now.frames ≡ true) }
+        ensures told { result ≢ Err out_of_memory → TellsAnswer
+            (by_info (record { translated = A.translated; uncovered = A.uncovered; direct = A.direct })
+            P.policy self.now.frames relative_address is_first_frame (Ok (NeedDwarf fde_offset))) result }
+        ensures answers { (memory : Memory) → AnswersAs F.FnMut read_stack.old memory
+            → AnswersAs F.FnMut read_stack.new memory
+            × (result ≢ Err out_of_memory → TellsValues
+            (by_info (record { translated = A.translated; uncovered = A.uncovered; direct = A.direct })
+            P.policy self.now.frames relative_address is_first_frame (Ok (NeedDwarf fde_offset))) regs.old memory result regs.new) }
+    {
+        let Some(eh_frame) = &self.eh_frame else {
+            return Err(UnwinderError::NoDwarfData);
+        };
+        let mut unwinder = DwarfUnwinder::new(
+            eh_frame.bytes(),
+            UnwindSectionType::EhFrame,
+            None,
+            unwind_context,
+            self.base_addresses,
+            self.base_svma,
+        );
+        unwind_frame_with_fde::<A, P, F>(
+            &mut unwinder,
+            alloc,
+            relative_address,
+            fde_offset,
+            is_first_frame,
+            regs,
+            read_stack,
+        )
+    }
+
+    /// Unwinds a frame by the info.
+    fn unwind_frame<A: Unwinding, P: AllocationPolicy, F>(
+        &self,
+        alloc: Global,
+        unwind_context: &mut UnwindContext<P::GimliUnwindContextStorage>,
+        relative_address: u32,
+        is_first_frame: bool,
+        regs: &mut A::UnwindRegs,
+        read_stack: &mut F,
+    ) -> Result<UnwindResult<A::UnwindRule>, UnwinderError>
+    where
+        F: FnMut(u64) -> Result<u64, ()>,
+        requires { F.IsAlwaysCallable read_stack.old }
+        ensures callable { F.IsAlwaysCallable read_stack.new }
+        ensures written { WritesWithAddress (A.step_advances is_first_frame) result regs.old regs.new }
+        ensures executable { RuleHas (λ rule. IsTrue (A.UnwindRule.executable rule)) result }
+        ensures memory { result ≡ Err out_of_memory → (P.policy.may_allocate ≡ true)
+            × (needs_fde self.now.frames (unwound (record { stub_rule = A.UnwindRule.stub_rule; start_rule = A.UnwindRule.function_start_rule; helper_rule = A.helper_rule; says = A.says }) self.now.info relative_address is_first_frame) ≡ true) }
+        ensures told { result ≢ Err out_of_memory → TellsAnswer
+            (compact_answer (record { stub_rule = A.UnwindRule.stub_rule; start_rule = A.UnwindRule.function_start_rule; helper_rule = A.helper_rule; says = A.says })
+            (record { translated = A.translated; uncovered = A.uncovered; direct = A.direct })
+            P.policy self.now relative_address is_first_frame) result }
+        ensures answers { (memory : Memory) → AnswersAs F.FnMut read_stack.old memory
+            → AnswersAs F.FnMut read_stack.new memory
+            × (result ≢ Err out_of_memory → TellsValues
+            (compact_answer (record { stub_rule = A.UnwindRule.stub_rule; start_rule = A.UnwindRule.function_start_rule; helper_rule = A.helper_rule; says = A.says })
+            (record { translated = A.translated; uncovered = A.uncovered; direct = A.direct })
+            P.policy self.now relative_address is_first_frame) regs.old memory result regs.new) }
+    {
+        match self.unwind_frame_by_info::<A>(relative_address, is_first_frame) {
+            Ok(CuiUnwindResult::ExecRule(rule)) => Ok(UnwindResult::ExecRule(rule)),
+            Ok(CuiUnwindResult::NeedDwarf(fde_offset)) => self.unwind_frame_by_eh_frame::<A, P, F>(
+                alloc,
+                unwind_context,
+                relative_address,
+                fde_offset,
+                is_first_frame,
+                regs,
+                read_stack,
+            ),
+            Err(error) => Err(UnwinderError::CompactUnwindInfo(error)),
+        }
+    }
+}
+
 /// Unwinds a frame by the unwind info of a PE module.
 fn unwind_frame_by_pe<D: SectionBytes, A: Unwinding, F>(
     sections: PeSections<'_, D>,
@@ -1074,14 +1362,16 @@ impl<D: SectionBytes> Module<D> {
         ensures callable { F.IsAlwaysCallable read_stack.new }
         ensures written { WritesWithAddress (A.step_advances is_first_frame) result regs.old regs.new }
         ensures executable { RuleHas (λ rule. IsTrue (A.UnwindRule.executable rule)) result }
-        ensures memory { result ≡ Err out_of_memory → takes_memory_by P.policy self.now relative_address ≡ true }
+        ensures memory { result ≡ Err out_of_memory → takes_memory_by
+            (record { rows = record { translated = A.translated; uncovered = A.uncovered; direct = A.direct }; pe_found = A.found; pe_computed = A.computed; compact = record { stub_rule = A.UnwindRule.stub_rule; start_rule = A.UnwindRule.function_start_rule; helper_rule = A.helper_rule; says = A.says } })
+            P.policy self.now relative_address is_first_frame ≡ true }
         ensures told { result ≢ Err out_of_memory → TellsAnswer
-            (answer_by (record { rows = record { translated = A.translated; uncovered = A.uncovered; direct = A.direct }; pe_found = A.found; pe_computed = A.computed })
+            (answer_by (record { rows = record { translated = A.translated; uncovered = A.uncovered; direct = A.direct }; pe_found = A.found; pe_computed = A.computed; compact = record { stub_rule = A.UnwindRule.stub_rule; start_rule = A.UnwindRule.function_start_rule; helper_rule = A.helper_rule; says = A.says } })
             P.policy self.now relative_address is_first_frame) result }
         ensures answers { (memory : Memory) → AnswersAs F.FnMut read_stack.old memory
             → AnswersAs F.FnMut read_stack.new memory
             × (result ≢ Err out_of_memory → TellsValues
-            (answer_by (record { rows = record { translated = A.translated; uncovered = A.uncovered; direct = A.direct }; pe_found = A.found; pe_computed = A.computed })
+            (answer_by (record { rows = record { translated = A.translated; uncovered = A.uncovered; direct = A.direct }; pe_found = A.found; pe_computed = A.computed; compact = record { stub_rule = A.UnwindRule.stub_rule; start_rule = A.UnwindRule.function_start_rule; helper_rule = A.helper_rule; says = A.says } })
             P.policy self.now relative_address is_first_frame) regs.old memory result regs.new) }
     {
         match &*self.unwind_data {
@@ -1102,6 +1392,15 @@ impl<D: SectionBytes> Module<D> {
                 regs,
                 read_stack,
             ),
+            ModuleUnwindDataInternal::CompactUnwindInfoAndEhFrame(compact) =>
+                compact.unwind_frame::<A, P, F>(
+                    alloc,
+                    unwind_context,
+                    relative_address,
+                    is_first_frame,
+                    regs,
+                    read_stack,
+                ),
             ModuleUnwindDataInternal::DwarfCfiIndexAndFrames(frames) => frames.unwind_frame::<
                 A,
                 P,
@@ -1302,7 +1601,7 @@ impl<D: SectionBytes + Drop, A: Unwinding, P: AllocationPolicy> UnwinderInternal
         ensures callable { F.IsAlwaysCallable read_stack.new }
         ensures kept { cache.new ≡ cache.old }
         ensures refused { IfErr result (λ error. (error ≡ Error.OutOfMemory) × (regs.new ≡ regs.old)
-            × TakesMemory (A.unwinding P.policy) self.now.modules lookup_address) }
+            × TakesMemory (A.unwinding P.policy) self.now.modules lookup_address is_first_frame) }
         ensures written { IfOk result (λ answer. WritesComputed (A.step_advances is_first_frame) answer regs.old regs.new) }
         ensures executable { IfOk result (AnswerHas (λ rule. A.UnwindRule.executable rule ≡ true)) }
         ensures told { IfOk result (TellsFresh (fresh (A.unwinding P.policy) self.now.modules lookup_address is_first_frame)) }
@@ -1341,7 +1640,7 @@ impl<D: SectionBytes + Drop, A: Unwinding, P: AllocationPolicy> UnwinderInternal
             (λ answer. IfNone answer (regs.new ≡ regs.old))
             (λ _. regs.new ≡ regs.old) }
         ensures advances { IfOk result (λ answer. OnSome answer (A.step_advances is_first_frame regs.old regs.new)) }
-        ensures may_run_out { result ≡ Err Error.OutOfMemory → TakesMemory (A.unwinding P.policy) self.now.modules lookup_address }
+        ensures may_run_out { result ≡ Err Error.OutOfMemory → TakesMemory (A.unwinding P.policy) self.now.modules lookup_address is_first_frame }
         ensures stored { result ≢ Err Error.OutOfMemory → cache.new ≡ record cache.old {
           sets = sets_after_miss cache.old.sets handle (fresh (A.unwinding P.policy) self.now.modules lookup_address is_first_frame);
         } }

@@ -49,8 +49,8 @@ fn start_of(range: &Option<Range<u64>>) -> u64
     }
 }
 
-/// Returns the range of the section of the first name, or else of the second.
-fn range_under<D, I: ModuleSectionInfo<D>>(
+/// Returns the range of the section of the first name, or else of the second, as SVMAs.
+pub fn range_under<D, I: ModuleSectionInfo<D>>(
     section_info: &mut I,
     first: &[u8],
     second: &[u8],

@@ -10,6 +10,8 @@ mod call_frames_aarch64;
 #[cfg(test)]
 mod commands;
 #[cfg(test)]
+mod compact;
+#[cfg(test)]
 mod libc_table;
 #[cfg(test)]
 mod library;

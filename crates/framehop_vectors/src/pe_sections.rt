@@ -5,10 +5,12 @@ use std::process::Abort;
 use std::test::Fail;
 
 /// The registers and the stack of a step, whose words begin at the stack pointer.
-const STEP: &str = r#""regs":{"ip":"1000","sp":"100","bp":"200","rbx":"99"},"memory":{"base":"100","words":["4000","4008","0","0","77","5000"]}}"#;
+const STEP: &str =
+    r#""regs":{"ip":"1000","sp":"100","bp":"200","rbx":"99"},"memory":{"base":"100","words":["4000","4008","0","0","77","5000"]}}"#;
 
 /// The same without its last word.
-const STEP_WITHOUT_THE_LAST_WORD: &str = r#""regs":{"ip":"1000","sp":"100","bp":"200","rbx":"99"},"memory":{"base":"100","words":["4000","4008","0","0","77"]}}"#;
+const STEP_WITHOUT_THE_LAST_WORD: &str =
+    r#""regs":{"ip":"1000","sp":"100","bp":"200","rbx":"99"},"memory":{"base":"100","words":["4000","4008","0","0","77"]}}"#;
 
 /// A function from 0x1000 to 0x1040 whose info is at 0x2000: it pushes rbx and takes 0x20 bytes, which its code
 /// at 0x103a gives back.
@@ -82,7 +84,12 @@ const MACHINE_FRAME_REPLIES: &str = "new 0\nadd\n\
     stats hits=0 empty=2 modules=0 address=0\n";
 
 /// Carries out the commands under both policies, and compares what is printed.
-fn prints<R: Abort>(rt: &R, alloc: Global, commands: &str, want: &str) -> Result<(), Fail> {
+pub(crate) fn prints<R: Abort>(
+    rt: &R,
+    alloc: Global,
+    commands: &str,
+    want: &str,
+) -> Result<(), Fail> {
     for policy in ["may", "must"] {
         let input = commands.replace(alloc, "POLICY", policy)?;
         let mut reader = input.as_bytes();

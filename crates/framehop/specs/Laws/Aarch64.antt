@@ -28,7 +28,7 @@ pub answer-is : (policy : Policy) → (aarch64 policy).module_answer ≡ answer_
 unfolding aarch64
 answer-is policy = refl
 
-pub memory-is : (policy : Policy) → (aarch64 policy).takes_memory ≡ takes_memory_by policy
+pub memory-is : (policy : Policy) → (aarch64 policy).takes_memory ≡ takes_memory_by aarch64_words policy
 unfolding aarch64
 memory-is policy = refl
 

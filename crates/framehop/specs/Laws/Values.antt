@@ -6,10 +6,14 @@ use Rattle.framehop_cfi.specs.Row.{Row}
 use Rattle.framehop_dwarf.specs.Unwinder.{Reading, unread, uncovered, by_row, reading_of, direct_by, found_by}
 use Rattle.framehop_pe.specs.Sections.{Sections}
 use Rattle.framehop_pe.specs.declared.pe.PeUnwinderError.{PeUnwinderError}
+use Rattle.framehop_macho.specs.Answer.{Answer}
+use Rattle.framehop_macho.specs.Unwinder.{unwound}
+use Rattle.framehop_macho.specs.declared.macho.CuiUnwindResult.TheVariants.{ExecRule, NeedDwarf}
 use Rattle.framehop.specs.Policy.{Policy}
+use Rattle.framehop.specs.Compact.{by_info}
 use Rattle.framehop.specs.Answer.{Fresh, by_rule, direct, values_of, fresh_of}
 use Rattle.framehop.specs.CallFrames.{RowWords, CallFrames, fde_answer, fde_offset_of}
-use Rattle.framehop.specs.Modules.{ModuleView, UnwindData, no_unwind_data, call_frames, pe_sections}
+use Rattle.framehop.specs.Modules.{ModuleView, UnwindData, no_unwind_data, call_frames, pe_sections, compact_info}
 use Rattle.framehop.specs.Unwinding.{Words, data_answer, answer_by}
 
 -- the values are those of a row
@@ -50,6 +54,12 @@ module _ {Rule Regs : Type 0} where
         of-reading frames.section.bytes reading
         (of-found (found_by words.translated words.uncovered reading) _ compute old memory values e is)
 
+    of-info : (frames : Option CallFrames) (relative : ℕ) (told : Answer Rule) (compute : Regs → Memory → Option (ℕ × Regs)) → by_info words policy frames relative first told ≡ Some (direct compute) → compute old memory ≡ Some values → AreOfRow words policy first old memory values
+    of-info frames relative (Ok (ExecRule rule)) compute e is = cc
+    of-info None relative (Ok (NeedDwarf offset)) compute e is = cc
+    of-info (Some frames) relative (Ok (NeedDwarf offset)) compute e is = of-offset frames relative (Some offset) compute e is
+    of-info frames relative (Err error) compute e is = cc
+
   pe-none : (found : Result (Option Rule) PeUnwinderError) (compute' : Regs → Memory → Result (ℕ × Regs) PeUnwinderError) (compute : Regs → Memory → Option (ℕ × Regs)) → found ≢ Ok None → fresh_of found compute' ≡ Some (direct compute) → ⊥
   pe-none (Err error) compute' compute none e = cc
   pe-none (Ok (Some rule)) compute' compute none e = cc
@@ -59,6 +69,8 @@ module _ {Rule Regs : Type 0} where
   of-data words none policy no_unwind_data relative first compute e old memory values is = cc
   of-data words none policy (pe_sections sections) relative first compute e old memory values is =
       absurd (pe-none (words.pe_found sections relative first) _ compute (none sections relative first) e)
+  of-data words none policy (compact_info d) relative first compute e old memory values is =
+      of-info words.rows policy first old memory values d.frames relative (unwound words.compact d.info relative first) compute e is
   of-data words none policy (call_frames frames) relative first compute e old memory values is =
       of-offset words.rows policy first old memory values frames relative (fde_offset_of frames relative) compute e is
 

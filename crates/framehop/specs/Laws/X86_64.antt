@@ -23,7 +23,7 @@ pub answer-is : (policy : Policy) → (x86_64 policy).module_answer ≡ answer_b
 unfolding x86_64
 answer-is policy = refl
 
-pub memory-is : (policy : Policy) → (x86_64 policy).takes_memory ≡ takes_memory_by policy
+pub memory-is : (policy : Policy) → (x86_64 policy).takes_memory ≡ takes_memory_by x86_64_words policy
 unfolding x86_64
 memory-is policy = refl
 

@@ -14,7 +14,7 @@ pub returns-clause-refused : goal.returns-clause-refused
 returns-clause-refused g c =
     let policy = g.P.AllocationPolicy.policy in
     refused g.A.UnwindRule.UnwindRule.fallback _ c.unwind_frame.result c.frame_answer.result c.args.regs.now c.unwind_frame.new.regs c.frame_answer.ensures c.unwind_frame.ensures.written
-    (λ out. takes-memory (g.A.Unwinding.unwinding policy) policy (g.A.Unwinding.memory_is policy) c.args.self.now.modules c.args.lookup_address c.in-Some.module.now c.in-Some.relative_address c.in-Some.ensures.0 c.in-Some.ensures.1 (c.unwind_frame.ensures.memory out))
+    (λ out. takes-memory (g.A.Unwinding.unwinding policy) _ policy (g.met.A.Unwinding.memory_is policy) c.args.self.now.modules c.args.lookup_address c.args.is_first_frame c.in-Some.module.now c.in-Some.relative_address c.in-Some.ensures.0 c.in-Some.ensures.1 (c.unwind_frame.ensures.memory out))
 
 pub returns-clause-told : goal.returns-clause-told
 returns-clause-told g c =

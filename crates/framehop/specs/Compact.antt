@@ -1,0 +1,35 @@
+-- The compact unwind info of a module, and what it gives (framehop 0.16.0, `ModuleUnwindDataInternal` and
+-- `CompactUnwindInfoUnwinder`).
+use Rattle.std.specs.Prelude.{ℕ, ◌+◌, Bool, false, Option, Some, None, option_and_then, is_some, Ok, Err}
+use Rattle.framehop_macho.specs.Answer.{Answer}
+use Rattle.framehop_macho.specs.Unwinder.{Module, Words as CompactWords, unwound}
+use Rattle.framehop_macho.specs.declared.macho.CuiUnwindResult.TheVariants.{ExecRule, NeedDwarf}
+use Rattle.framehop.specs.Policy.{Policy}
+use Rattle.framehop.specs.Answer.{Fresh, by_rule}
+use Rattle.framehop.specs.CallFrames.{CallFrames, RowWords, fde_answer}
+
+-- the info with the module's code and stubs, and `__eh_frame`, if it has one
+pub record CompactData : Type 0 where
+  pub info : Module
+  pub frames : Option CallFrames
+
+-- what the info gives: a rule, or what the FDE at an offset of `__eh_frame` gives
+abbrev pub by_info : {Rule Regs : Type 0} → RowWords Rule Regs → Policy → Option CallFrames → ℕ → Bool → Answer Rule
+    → Option (Fresh Rule Regs)
+by_info rows policy frames relative first (Ok (ExecRule rule)) = Some (by_rule rule)
+by_info rows policy frames relative first (Ok (NeedDwarf offset)) =
+    option_and_then
+    (λ (f : CallFrames). fde_answer rows policy f.section (f.base_svma + relative) first offset)
+    frames
+by_info rows policy frames relative first (Err error) = None
+
+abbrev pub compact_answer : {Rule Regs : Type 0} → CompactWords Rule → RowWords Rule Regs → Policy → CompactData → ℕ
+    → Bool → Option (Fresh Rule Regs)
+compact_answer words rows policy d relative first =
+    by_info rows policy d.frames relative first (unwound words d.info relative first)
+
+-- the info names an FDE
+abbrev pub needs_fde : {Rule : Type 0} → Option CallFrames → Answer Rule → Bool
+needs_fde frames (Ok (ExecRule rule)) = false
+needs_fde frames (Ok (NeedDwarf offset)) = is_some frames
+needs_fde frames (Err error) = false
