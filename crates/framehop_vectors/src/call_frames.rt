@@ -100,7 +100,8 @@ enum Do {
     Step {
         unwinder: usize,
         cache: usize,
-        address: FrameAddress,
+        is_caller: bool,
+        address: u64,
         sp: u64,
         bp: u64,
         base: u64,
@@ -147,6 +148,14 @@ fn module(
     Ok(Module::new(alloc, name, start..end, 0, info)?)
 }
 
+/// A frame at a return address, or else at an instruction pointer.
+fn frame_at(is_caller: bool, address: u64) -> FrameAddress {
+    if is_caller && let Some(caller) = FrameAddress::from_return_address(address) {
+        return caller;
+    }
+    FrameAddress::from_instruction_pointer(address)
+}
+
 /// The commands of a session.
 fn commands_of(
     alloc: Global,
@@ -165,6 +174,7 @@ fn commands_of(
             Do::Step {
                 unwinder,
                 cache,
+                is_caller,
                 address,
                 sp,
                 bp,
@@ -173,8 +183,8 @@ fn commands_of(
             } => Command::Step {
                 unwinder,
                 cache,
-                address,
-                regs: UnwindRegsX86_64::new(address.address(), sp, bp),
+                address: frame_at(is_caller, address),
+                regs: UnwindRegsX86_64::new(address, sp, bp),
                 memory: Memory {
                     base,
                     words: words.to_vec(alloc)?,
@@ -254,7 +264,8 @@ const fn step(
     Do::Step {
         unwinder,
         cache: 0,
-        address: FrameAddress::InstructionPointer(address),
+        is_caller: false,
+        address,
         sp,
         bp,
         base,
@@ -307,16 +318,12 @@ fn takes_another_rule_for_another_module(rt: HostRuntime) -> Result<(), Fail> {
 }
 
 /// The steps at an address, as a first frame over cache 0 and as a caller's over cache 1.
-fn steps_at<R: Abort>(rt: &R, commands: &mut Vec<Do>, at: u64) -> Result<(), Fail> {
-    let Some(caller) = FrameAddress::from_return_address(at.saturating_add(1)) else {
-        assert!(rt; false, "no return address");
-        return Ok(());
-    };
-    let first = FrameAddress::from_instruction_pointer(at);
-    for (cache, address) in [(0, first), (1, caller)] {
+fn steps_at(commands: &mut Vec<Do>, at: u64) -> Result<(), Fail> {
+    for (cache, is_caller, address) in [(0, false, at), (1, true, at.saturating_add(1))] {
         commands.push(Do::Step {
             unwinder: 0,
             cache,
+            is_caller,
             address,
             sp: 0x10,
             bp: 0x20,
@@ -340,7 +347,7 @@ fn steps_through_rows<R: Abort>(
     let mut text = String::from_str(alloc, "made 0\ndone\n")?;
     for _ in 0..2u32 {
         for at in [0x1000, 0x1001, 0x1003, 0x1004, 0x1020, 0xfff] {
-            steps_at(rt, &mut commands, at)?;
+            steps_at(&mut commands, at)?;
         }
         for line in want {
             write!(text, "{line}\n")?;
@@ -526,14 +533,11 @@ fn computes_a_register_by_its_expression(rt: HostRuntime) -> Result<(), Fail> {
 #[test]
 fn remembers_three_rows_without_memory(rt: HostRuntime) -> Result<(), Fail> {
     let alloc = rt.alloc();
-    let Some(address) = FrameAddress::from_return_address(0x1001) else {
-        assert!(rt; false, "no return address");
-        return Ok(());
-    };
     let step = Do::Step {
         unwinder: 0,
         cache: 0,
-        address,
+        is_caller: true,
+        address: 0x1001,
         sp: 0x10,
         bp: 0x20,
         base: 0,
