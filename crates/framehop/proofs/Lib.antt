@@ -10,3 +10,4 @@ mod AnswerLemmas
 mod RunLemmas
 mod RiseLemmas
 pub mod EndingLemmas
+mod MeaningLemmas

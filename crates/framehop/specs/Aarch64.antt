@@ -1,17 +1,20 @@
 -- Unwinding on aarch64, and a walk to its end, in the words of contracts.
-use Rattle.std.specs.Prelude.{◌≡◌, ◌≢◌, ℕ, ◌+◌, ◌^◌, ◌≤◌, true, Err}
+use Rattle.std.specs.Prelude.{◌≡◌, ◌≢◌, ℕ, ◌+◌, ◌^◌, ◌≤◌, true, List, take, ◌⊎◌, Err}
 use Rattle.framehop_core.specs.Memory.{Memory}
 use Rattle.framehop_core.specs.Outcome.{Outcome, registers_after}
-use Rattle.framehop_core.specs.CodeAddress.{FrameLocation, at_instruction_pointer}
+use Rattle.framehop_core.specs.CodeAddress.{FrameLocation, at_instruction_pointer, is_first_frame, lookup_address}
 use Rattle.framehop_core.specs.Aarch64.Registers.{Registers}
 use Rattle.framehop_core.specs.Aarch64.Rules.{outcome}
 use Rattle.framehop_core.specs.declared.aarch64.unwind_rule.UnwindRuleAarch64.{UnwindRuleAarch64}
 use Rattle.framehop_core.specs.declared.aarch64.unwind_rule.UnwindRuleAarch64.TheVariants.{NoOp, UseFramePointer, NoOpIfFirstFrameOtherwiseFp}
-use Rattle.framehop_dwarf.specs.Aarch64.{translated, direct_of}
+use Rattle.framehop_dwarf.specs.Aarch64.{translated, direct_of, RowMeans, ColumnsMean}
+use Rattle.framehop_analysis.specs.Aarch64.Prologue.{UndoesPrologue}
+use Rattle.framehop_analysis.specs.Aarch64.Epilogue.{DoesEpilogue}
 use Rattle.framehop_pe.specs.declared.pe.PeUnwinderError.TheVariants.{Aarch64Unsupported}
-use Rattle.framehop_macho.specs.Aarch64.{says, helper_rule}
+use Rattle.framehop_macho.specs.Aarch64.{says, helper_rule, by_code}
 use Rattle.framehop.specs.Cache.{CacheView}
-use Rattle.framehop.specs.Modules.{UnwinderView}
+use Rattle.framehop.specs.Modules.{ModuleView, UnwinderView}
+use Rattle.framehop.specs.Meaning.{Meanings, MeansStep}
 use Rattle.framehop.specs.Policy.{Policy}
 use Rattle.framehop.specs.Unwinding.{Unwinding, Words, answer_by, takes_memory_by}
 use Rattle.framehop.specs.Soundness.{IsSound, cache_after}
@@ -29,6 +32,22 @@ aarch64_words = record {
   pe_computed = λ sections relative first memory old. Err Aarch64Unsupported;
   compact = record { stub_rule = NoOp; start_rule = NoOp; helper_rule = helper_rule; says = says };
 }
+
+-- what the sources of rules mean on aarch64
+abbrev pub aarch64_meanings : Meanings UnwindRuleAarch64 Registers
+aarch64_meanings = record {
+  row = RowMeans;
+  columns = ColumnsMean;
+  by_code = by_code;
+  undoes = λ code offset rule. UndoesPrologue (take offset code) rule ⊎ DoesEpilogue code offset rule;
+}
+
+-- a step is what the source of its rule means
+abbrev pub aarch64_means : Policy → List ModuleView → FrameLocation → Registers → Memory → ℕ → Registers → Type 0
+aarch64_means policy modules location old memory address new =
+    MeansStep aarch64_words aarch64_meanings outcome policy
+    (record { first = is_first_frame location; old = old; memory = memory; address = address; new = new })
+    modules (lookup_address location)
 
 -- aarch64 under a policy
 unfoldable pub aarch64 : Policy → Unwinding UnwindRuleAarch64 Registers

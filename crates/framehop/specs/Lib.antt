@@ -13,6 +13,7 @@ pub mod Policy
 pub mod Unwinding
 pub mod Told
 pub mod Fresh
+pub mod Meaning
 pub mod Walk
 pub mod Soundness
 pub mod Iterator

@@ -242,6 +242,10 @@ pub trait Unwinder: Clone {
     // a step at a frame can run out of memory
     ghost may_run_out: { Self → Self.Cache → FrameLocation → Type 0 };
 
+    // a step at a frame from registers over memory to a return address and the caller's registers is what the row,
+    // the PE unwind info, the prologue or the epilogue means that its rule was made from
+    ghost means: { Self → FrameLocation → Self.UnwindRegs → Memory → ℕ → Self.UnwindRegs → Type 0 };
+
     /// Adds a module that is loaded in the process, after those of equal start, and takes the
     /// next generation. The module comes back where the counter is at its end (tested first) or
     /// memory is refused; then the unwinder and the counter are unchanged.
@@ -320,7 +324,9 @@ pub trait Unwinder: Clone {
             → AnswersAs F.FnMut read_stack.new memory
             × (result ≢ Err Error.OutOfMemory →
             (result ≡ answer_of (step self.now (location_of address) regs.old memory))
-            × (regs.new ≡ registers_after regs.old (step self.now (location_of address) regs.old memory))) };
+            × (regs.new ≡ registers_after regs.old (step self.now (location_of address) regs.old memory))) }
+        ensures means { (memory : Memory) → AnswersAs F.FnMut read_stack.old memory → is_sound self.now cache.old
+            → IfOk result (λ answer. IfSome answer (λ return_address. means self.now (location_of address) regs.old memory return_address regs.new)) };
 
     /// An iterator over the frames of a stack, from the instruction pointer (AVMA) and the initial
     /// registers on.
@@ -1672,7 +1678,10 @@ impl<D: SectionBytes + Drop, A: Unwinding, P: AllocationPolicy> UnwinderInternal
 
 impl<D: SectionBytes + Drop, A: Unwinding, P: AllocationPolicy> Unwinder
     for UnwinderInternal<D, A, P> {
+    ghost use Rattle.std.specs.Prelude.{◌⊎◌};
+    ghost use Rattle.framehop.specs.CodeAddress.{lookup_address};
     ghost use Rattle.framehop.specs.Fresh.{step};
+    ghost use Rattle.framehop.specs.Meaning.{MeansStep};
     ghost use Rattle.framehop.specs.Soundness.{IsSound, Extends, MayRunOut, cache_after, cache_after_lookup};
 
     type UnwindRegs = A::UnwindRegs;
@@ -1698,6 +1707,11 @@ impl<D: SectionBytes + Drop, A: Unwinding, P: AllocationPolicy> Unwinder
     ghost extends = { λ u old new. Extends (A.unwinding P.policy) u old.sets new.sets };
 
     ghost may_run_out = { λ u cache location. MayRunOut (A.unwinding P.policy) u cache location };
+
+    ghost means = { λ u location old memory address new. MeansStep
+        (record { rows = record { translated = A.translated; uncovered = A.uncovered; direct = A.direct }; pe_found = A.found; pe_computed = A.computed; compact = record { stub_rule = A.UnwindRule.stub_rule; start_rule = A.UnwindRule.function_start_rule; helper_rule = A.helper_rule; says = A.says } })
+        (record { row = A.row_means; columns = A.columns_mean; by_code = A.by_code; undoes = λ code offset rule. A.undoes_prologue code offset rule ⊎ A.does_epilogue code offset rule })
+        A.UnwindRule.outcome P.policy (record { first = is_first_frame location; old = old; memory = memory; address = address; new = new }) u.modules (lookup_address location) };
 
     fn add_module(
         &mut self,

@@ -6,7 +6,7 @@ use Rattle.framehop_analysis.specs.Aarch64.Words.{AreWordsAt, bits_at, is_store,
 use Rattle.framehop_analysis.specs.Aarch64.Machine.{State, Step, RunOut, after_load, with_sp_moved}
 use Rattle.framehop_analysis.specs.Aarch64.Epilogue.{Places, at_pc, is_restoring, places_after, places_after_all, AllRestoring, IsEnd, IsEpilogueRule, restored, restores, EndsFrom}
 use Rattle.framehop_analysis.specs.Laws.Aarch64.Calls.{eq-true, and-left, or-left, or-right, or-cases, not-true, pair-high, b-high, branch-high, branch-not-restoring}
-use Rattle.framehop_analysis.proofs.Aarch64Does.{is_quiet, IsQuiet, IsQuietList, end-quiet, restored-quiet}
+use Rattle.framehop_analysis.specs.Laws.Aarch64.Does.{is_quiet, IsQuiet, IsQuietList, end-quiet, restored-quiet}
 
 -- ---- words of different shapes
 

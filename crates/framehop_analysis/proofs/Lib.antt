@@ -1,10 +1,5 @@
 mod Answers
-mod Offsets
 mod Aarch64Prologue
-mod Aarch64Undoes
 mod Aarch64Ends
-mod Aarch64Does
-mod X86_64Undoes
-mod X86_64Does
 mod Aarch64Ending
 mod X86_64Ending

@@ -64,4 +64,8 @@ pub trait InstructionAnalysis: Arch {
     // the analysed rule is the only one there is, or there is none
     ghost analysed_only: { (text : List ℕ) (pc : ℕ)
         → IsOnly (FirstOf (prologue_rule text pc) (epilogue_rule text pc)) (analysed text pc) };
+
+    // and it does what it is for
+    ghost analysed_means: { (text : List ℕ) (pc : ℕ) (rule : Self.UnwindRule) → analysed text pc ≡ Some rule
+        → undoes_prologue text pc rule ⊎ does_epilogue text pc rule };
 }

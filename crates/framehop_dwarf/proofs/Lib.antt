@@ -1,16 +1,7 @@
-pub mod Values
-pub mod ValueMeaning
 pub mod Walk
 pub mod Order
 pub mod Table
 pub mod Words
-pub mod Exact
 pub mod Saturated
-pub mod SimulationX86_64
 pub mod Entries
-pub mod Columns
-pub mod DirectX86_64
-pub mod SimulationAarch64
-pub mod DirectAarch64
 pub mod FoundRow
-pub mod Limits

@@ -4,6 +4,7 @@ pub mod Bases
 pub mod Direct
 pub mod Evaluation
 pub mod Index
+pub mod Laws
 pub mod Operation
 pub mod Refusal
 pub mod RowMeaning

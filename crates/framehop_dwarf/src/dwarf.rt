@@ -1,5 +1,5 @@
 //! From a row of call frame information to a frame: what both architectures share.
-ghost use Rattle.std.specs.Prelude.{◌≡◌, ◌≢◌, ◌^◌, ℕ, Bool, IsTrue, List, Option, Result, Ok, Err, None, IfOk, IfErr, OnErr, pos, negsuc, ◌+ℤ◌, ◌≤ℤ◌, option_and_then};
+ghost use Rattle.std.specs.Prelude.{◌≡◌, ◌≢◌, ◌^◌, ℕ, Bool, IsTrue, List, Option, Result, Ok, Err, Some, None, IfOk, IfErr, OnErr, pos, negsuc, ◌+ℤ◌, ◌≤ℤ◌, option_and_then};
 ghost use Rattle.framehop_core.specs.Memory.{Memory, AnswersAs};
 ghost use Rattle.framehop_core.specs.Outcome.{answered};
 ghost use Rattle.framehop_cfi.specs.Row.{Row};
@@ -103,6 +103,15 @@ pub trait DwarfUnwinding: Arch {
     fn rule_if_uncovered_by_fde() -> Self::UnwindRule
         ensures rule { result ≡ uncovered }
         ensures runnable { IsTrue (Self.UnwindRule.executable result) };
+
+    // where the rule of a row answers an address, the step is what the row means
+    ghost rule_means: { (section : List ℕ) (memory : Memory) (row : Row) (rule : Self.UnwindRule) (first : Bool) (old new : Self.UnwindRegs) (address : ℕ)
+        → translated row ≡ Some rule → Self.UnwindRule.outcome rule first old memory ≡ answered address new
+        → row_means section memory row first old address new };
+
+    // the values of a row without a rule are those of its columns
+    ghost values_mean: { (section : List ℕ) (limit : Option ℕ) (memory : Memory) (row : Row) (first : Bool) (old new : Self.UnwindRegs) (address : ℕ)
+        → direct section limit memory row first old ≡ Ok (address, new) → columns_mean section limit memory row first old address new };
 }
 
 /// Returns a base plus an offset, both in bytes, where the base and the sum are below 2^63.

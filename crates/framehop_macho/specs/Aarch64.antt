@@ -29,11 +29,18 @@ by_opcode (Dwarf fde) first = Ok (NeedDwarf fde)
 by_opcode FrameBased first = Ok (ExecRule UseFramePointer)
 by_opcode (UnrecognizedKind kind) first = Err (BadOpcodeKind kind)
 
--- a first frame: in a function with info the code analysis comes first
+-- the rule by the code around an offset of a function with info, if the code gives one
+abbrev pub analysed_with : OpcodeArm64 → List ℕ → ℕ → Option UnwindRuleAarch64
+analysed_with Null code offset = None
+analysed_with opcode code offset = analysed code offset
+
+abbrev pub by_code : Function → List ℕ → ℕ → Option UnwindRuleAarch64
+by_code function code offset = analysed_with (opcode_of function.opcode) code offset
+
+-- a first frame: the code analysis comes first
 abbrev pub says_first : OpcodeArm64 → ℕ → Option (List ℕ) → Answer UnwindRuleAarch64
-says_first Null offset code = by_opcode Null true
 says_first opcode offset None = by_opcode opcode true
-says_first opcode offset (Some code) = rule_or (analysed code offset) (by_opcode opcode true)
+says_first opcode offset (Some code) = rule_or (analysed_with opcode code offset) (by_opcode opcode true)
 
 -- What unwinding a frame at an offset of a function returns.
 abbrev pub says : Function → Bool → ℕ → Option (List ℕ) → Answer UnwindRuleAarch64

@@ -6,3 +6,4 @@ pub mod Answer
 pub mod X86_64
 pub mod Aarch64
 pub mod Unwinder
+pub mod Laws

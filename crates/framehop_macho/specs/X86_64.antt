@@ -102,6 +102,10 @@ by_opcode (Dwarf fde) first code = Ok (NeedDwarf fde)
 by_opcode NoSuchList first code = Err InvalidFrameless
 by_opcode (UnrecognizedKind kind) first code = Err (BadOpcodeKind kind)
 
+-- the rule by the code around an offset of a function, if the code gives one
+abbrev pub by_code : Function → List ℕ → ℕ → Option UnwindRuleX86_64
+by_code function code offset = analysed code offset
+
 -- What unwinding a frame at an offset of a function returns. In a first frame the code analysis comes first.
 abbrev pub says : Function → Bool → ℕ → Option (List ℕ) → Answer UnwindRuleX86_64
 says function true offset (Some code) =

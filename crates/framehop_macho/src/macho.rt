@@ -1,5 +1,5 @@
 //! Unwinding by compact unwind info, for any architecture (framehop 0.16.0, `macho.rs`).
-ghost use Rattle.std.specs.Prelude.{◌≡◌, ◌≤◌, ◌-◌, ℕ, IfOk, IfSome, option_map, List, length, Bool, IsTrue, Some, None, Ok, Err, Result, Option};
+ghost use Rattle.std.specs.Prelude.{◌≡◌, ◌≤◌, ◌-◌, ℕ, IfOk, IfSome, option_map, List, length, ◌⊎◌, Bool, true, IsTrue, Some, None, Ok, Err, Result, Option};
 ghost use Rattle.std.specs.Option.{ForSome, option_copied};
 ghost use Rattle.framehop_macho.specs.Answer.{Answer, IfExecRule};
 ghost use Rattle.framehop_macho.specs.UnwindInfo.{function_of, Covers};
@@ -11,7 +11,7 @@ ghost use Rattle.framehop_macho.specs.declared.unwind_info.info.Function.{Functi
 
 use crate::unwind_info::error::CompactReadError;
 use crate::unwind_info::info::{Function, UnwindInfo};
-use framehop_core::arch::Arch;
+use framehop_analysis::InstructionAnalysis;
 use framehop_core::unwind_rule::UnwindRule;
 use std::marker::PhantomData;
 use thiserror::Error;
@@ -78,13 +78,17 @@ pub enum CuiUnwindResult<R> {
 }
 
 /// An architecture that unwinds by compact unwind info.
-pub trait CompactUnwindInfoUnwinding: Arch {
+pub trait CompactUnwindInfoUnwinding: InstructionAnalysis {
     // what a call returns: of the function, the kind of the frame (`true`: the first), the offset of the
     // address in the function, and the function's code
     ghost says: { Function → Bool → ℕ → Option (List ℕ) → Answer Self.UnwindRule };
 
     // the rule at an offset of `__stub_helper`
     ghost helper_rule: { ℕ → Self.UnwindRule };
+
+    // the rule by the code around an offset of a function, if the code gives one: in a first frame it comes
+    // before the opcode
+    ghost by_code: { Function → List ℕ → ℕ → Option Self.UnwindRule };
 
     /// Returns how to unwind a frame of a function: a rule, or where its FDE lies.
     /// `address_offset_within_function` is in bytes, and `function_bytes` is the function's code
@@ -109,6 +113,13 @@ pub trait CompactUnwindInfoUnwinding: Arch {
     ) -> Result<CuiUnwindResult<Self::UnwindRule>, CompactUnwindInfoUnwinderError>
         ensures says { result ≡ Ok (ExecRule (helper_rule offset)) }
         ensures executable { IfExecRule result (λ rule. IsTrue (Self.UnwindRule.executable rule)) };
+
+    ghost says_by_code: { (function : Function) (code : List ℕ) (offset : ℕ) (rule : Self.UnwindRule) → by_code function code offset ≡ Some rule
+        → says function true offset (Some code) ≡ Ok (ExecRule rule) };
+
+    // such a rule undoes what a prologue has done, or does what the rest of an epilogue does
+    ghost code_means: { (function : Function) (code : List ℕ) (offset : ℕ) (rule : Self.UnwindRule) → by_code function code offset ≡ Some rule
+        → Self.undoes_prologue code offset rule ⊎ Self.does_epilogue code offset rule };
 }
 
 /// The code of a module, or a part of it.

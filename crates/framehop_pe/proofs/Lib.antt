@@ -3,4 +3,3 @@ pub mod CodeLists
 pub mod Chains
 pub mod Pops
 pub mod Iterators
-pub mod Simulation

@@ -1,6 +1,6 @@
 //! What a PE module lends for unwinding, and the trait of an architecture that unwinds by it
 //! (framehop 0.16.0, `pe.rs`).
-ghost use Rattle.std.specs.Prelude.{◌≡◌, ℕ, Bool, IsTrue, Option, Some, None, Result, MatchOption, MatchResult, IfErr};
+ghost use Rattle.std.specs.Prelude.{◌≡◌, ℕ, Bool, IsTrue, Option, Some, None, Result, Ok, MatchOption, MatchResult, IfErr};
 ghost use Rattle.framehop_core.specs.Memory.{Memory, AnswersAs};
 ghost use Rattle.framehop_pe.specs.Answer.{IsMissingStackData, TellsFound, IsComputed, Simulates, KeptUnlessDirect, IfRule};
 ghost use Rattle.framehop_pe.specs.declared.pe.PeUnwinderError.{PeUnwinderError};
@@ -152,4 +152,8 @@ pub trait PeUnwinding: Arch {
         ensures answers { (memory : Memory) → AnswersAs F.FnMut read_stack.old memory
             → AnswersAs F.FnMut read_stack.new memory
             × IsComputed (computed (sections_of D.contents sections.entry) address is_first_frame memory regs.old) result regs.new };
+
+    // where the rule that the bytes give answers an address, the step is what they say
+    ghost rule_simulates: { (sections : Sections) (address : ℕ) (first : Bool) (rule : Self.UnwindRule) → found sections address first ≡ Ok (Some rule)
+        → Simulates Self.UnwindRule.outcome (computed sections address first) rule };
 }

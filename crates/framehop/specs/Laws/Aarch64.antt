@@ -5,7 +5,7 @@ use Rattle.framehop_core.specs.Aarch64.Rules.{outcome, Advances}
 use Rattle.framehop_core.specs.Laws.Aarch64.{outcome-Advances}
 use Rattle.framehop_core.specs.declared.aarch64.unwind_rule.UnwindRuleAarch64.TheVariants.{UseFramePointer}
 use Rattle.framehop_dwarf.specs.Aarch64.{Ascends}
-use Rattle.framehop_dwarf.proofs.DirectAarch64.{direct-means}
+use Rattle.framehop_dwarf.specs.Laws.DirectAarch64.{direct-means}
 use Rattle.framehop_pe.specs.Sections.{Sections}
 use Rattle.framehop.specs.Policy.{Policy}
 use Rattle.framehop.specs.Unwinding.{RisesAsSaid, answer_by, takes_memory_by}

@@ -51,7 +51,7 @@ impl<D: SectionBytes + Drop, P: AllocationPolicy> Unwinder for UnwinderAarch64<D
     ghost use Rattle.framehop.specs.Fresh.{step};
     ghost use Rattle.framehop.specs.Soundness.{IsSound, Extends, MayRunOut, cache_after, cache_after_lookup};
     ghost use Rattle.framehop_dwarf.specs.Aarch64.{Ascends};
-    ghost use Rattle.framehop.specs.Aarch64.{aarch64};
+    ghost use Rattle.framehop.specs.Aarch64.{aarch64, aarch64_means};
 
     type UnwindRegs = UnwindRegsAarch64;
 
@@ -76,6 +76,8 @@ impl<D: SectionBytes + Drop, P: AllocationPolicy> Unwinder for UnwinderAarch64<D
     ghost extends = { λ u old new. Extends (aarch64 P.policy) u old.0.sets new.0.sets };
 
     ghost may_run_out = { λ u cache location. MayRunOut (aarch64 P.policy) u cache.0 location };
+
+    ghost means = { λ u location old memory address new. aarch64_means P.policy u.modules location old memory address new };
 
     fn add_module(
         &mut self,

@@ -50,7 +50,7 @@ impl<D: SectionBytes + Drop, P: AllocationPolicy> UnwinderX86_64<D, P> {
 impl<D: SectionBytes + Drop, P: AllocationPolicy> Unwinder for UnwinderX86_64<D, P> {
     ghost use Rattle.framehop.specs.Fresh.{step};
     ghost use Rattle.framehop.specs.Soundness.{IsSound, Extends, MayRunOut, cache_after, cache_after_lookup};
-    ghost use Rattle.framehop.specs.X86_64.{x86_64};
+    ghost use Rattle.framehop.specs.X86_64.{x86_64, x86_64_means};
 
     type UnwindRegs = UnwindRegsX86_64;
 
@@ -75,6 +75,8 @@ impl<D: SectionBytes + Drop, P: AllocationPolicy> Unwinder for UnwinderX86_64<D,
     ghost extends = { λ u old new. Extends (x86_64 P.policy) u old.0.sets new.0.sets };
 
     ghost may_run_out = { λ u cache location. MayRunOut (x86_64 P.policy) u cache.0 location };
+
+    ghost means = { λ u location old memory address new. x86_64_means P.policy u.modules location old memory address new };
 
     fn add_module(
         &mut self,

@@ -1,7 +1,11 @@
--- aarch64: the steps of the analysis, and the rules that it finds.
+-- aarch64: the steps of the analysis, and the rules that it finds and what they do.
 pub mod Units
 pub mod Runs
 pub mod Calls
 pub mod Ends
 pub mod Prologue
 pub mod Epilogue
+pub mod Offsets
+pub mod Undoes
+pub mod Does
+pub mod Means

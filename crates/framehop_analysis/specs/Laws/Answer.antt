@@ -1,10 +1,13 @@
 -- Answers that find at most one thing: from one fact to another, and the facts that they are decided by.
-use Rattle.std.proofs.Common.{◌≡◌, ◌⊎◌, inl, inr, ℕ, ◌<◌, ◌≤◌, Bool, true, false, nat_eq, Option, Some, None, ap, ◌∙◌, refl, arith}
+use Rattle.std.proofs.Common.{◌≡◌, ◌⊎◌, inl, inr, ℕ, ◌<◌, ◌≤◌, Bool, true, false, nat_eq, Option, Some, None, ap, subst, ◌∙◌, refl, arith}
 use Rattle.std.proofs.lemmas.Bool.{cases_lt}
 use Rattle.std.proofs.lemmas.Bool.Decides.{nat_tests}
 use Rattle.framehop_analysis.specs.Answer.{IsOnly, Decided, FirstOf}
 
 -- ---- values
+
+pub some-same : {A : Type 0} (x y : A) → Some x ≡ Some y → x ≡ y
+some-same x y e = cc
 
 -- two facts that the same values meet
 pub only-map : {A : Type 0} (P Q : A → Type 0) (found : Option A) → ((x : A) → P x → Q x) → ((x : A) → Q x → P x)
@@ -23,6 +26,15 @@ first-decided {A} P Q (None, none) (found, only) =
       of : (x : A) → FirstOf P Q x → Q x
       of x (inl p) = absurd (none x p)
       of x (inr q) = q.1
+
+-- what the values of the first fact and those of the second are for, the answer is for one or the other
+pub means-first : {A : Type 0} (P Q : A → Type 0) {P' Q' : A → Type 0} (found : Option A) → IsOnly (FirstOf P Q) found
+    → ((x : A) → P x → P' x) → ((x : A) → Q x → Q' x) → (x : A) → found ≡ Some x → P' x ⊎ Q' x
+means-first P Q None only first second x is = cc
+means-first {A} P Q {P'} {Q'} (Some y) only first second x is = subst (λ x. P' x ⊎ Q' x) (some-same y x is) (of only.0) where
+  of : FirstOf P Q y → P' y ⊎ Q' y
+  of (inl p) = inl (first y p)
+  of (inr q) = inr (second y q.1)
 
 -- ---- facts
 
@@ -66,9 +78,6 @@ lt-decidable m n = elim (cases_lt m n) [
 pub eq-decidable : (m n : ℕ) → Decidable (m ≡ n)
 eq-decidable m n =
     decidable-map (λ test. grind (arith, nat_tests)) (λ e. grind (arith, nat_tests)) (true-decidable (nat_eq m n))
-
-pub some-same : {A : Type 0} (x y : A) → Some x ≡ Some y → x ≡ y
-some-same x y e = cc
 
 -- there is a value, and it is this one
 pub is-decidable : (found : Option ℕ) (value : ℕ) → Decidable (found ≡ Some value)

@@ -14,6 +14,7 @@ impl InstructionAnalysis for ArchAarch64 {
     ghost use Rattle.framehop_analysis.specs.Aarch64.Prologue.{IsPrologueRule, UndoesPrologue};
     ghost use Rattle.framehop_analysis.specs.Aarch64.Epilogue.{IsEpilogueRule, DoesEpilogue};
     ghost use Rattle.framehop_analysis.specs.Aarch64.Analysed.{analysed, analysed-only};
+    ghost use Rattle.framehop_analysis.specs.Laws.Aarch64.Means.{analysed-means};
 
     ghost prologue_rule = { λ text pc rule. IsPrologueRule (take pc text) (drop pc text) rule };
 
@@ -26,6 +27,8 @@ impl InstructionAnalysis for ArchAarch64 {
     ghost undoes_prologue = { λ text pc rule. UndoesPrologue (take pc text) rule };
 
     ghost does_epilogue = { DoesEpilogue };
+
+    ghost analysed_means = { analysed-means };
 
     fn rule_from_prologue_analysis(
         text_bytes: &[u8],

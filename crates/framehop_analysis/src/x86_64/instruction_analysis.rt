@@ -12,6 +12,7 @@ impl InstructionAnalysis for ArchX86_64 {
     ghost use Rattle.framehop_analysis.specs.X86_64.Prologue.{IsPrologueRule, UndoesPrologue};
     ghost use Rattle.framehop_analysis.specs.X86_64.Epilogue.{IsEpilogueRule, DoesEpilogue};
     ghost use Rattle.framehop_analysis.specs.X86_64.Analysed.{analysed, analysed-only};
+    ghost use Rattle.framehop_analysis.specs.Laws.X86_64.Means.{analysed-means};
 
     ghost prologue_rule = { IsPrologueRule };
 
@@ -24,6 +25,8 @@ impl InstructionAnalysis for ArchX86_64 {
     ghost undoes_prologue = { UndoesPrologue };
 
     ghost does_epilogue = { DoesEpilogue };
+
+    ghost analysed_means = { analysed-means };
 
     fn rule_from_prologue_analysis(
         text_bytes: &[u8],

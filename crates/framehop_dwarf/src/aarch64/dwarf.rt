@@ -333,6 +333,7 @@ where
 
 impl DwarfUnwinding for ArchAarch64 {
     ghost use Rattle.framehop_dwarf.specs.Aarch64.{translated, direct_of, RowMeans, ColumnsMean, Ascends};
+    ghost use Rattle.framehop_dwarf.specs.Laws.Aarch64.{rule-means, values-mean};
     ghost use Rattle.framehop_core.specs.declared.aarch64.unwind_rule.UnwindRuleAarch64.TheVariants.{NoOpIfFirstFrameOtherwiseFp};
 
     ghost translated = { translated };
@@ -346,6 +347,10 @@ impl DwarfUnwinding for ArchAarch64 {
     ghost ascends = { Ascends };
 
     ghost uncovered = { NoOpIfFirstFrameOtherwiseFp };
+
+    ghost rule_means = { rule-means };
+
+    ghost values_mean = { values-mean };
 
     fn unwind_frame<S: UnwindContextStorage, E: EvaluationStorage, F>(
         alloc: Global,

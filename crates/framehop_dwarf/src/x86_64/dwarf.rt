@@ -281,6 +281,7 @@ where
 
 impl DwarfUnwinding for ArchX86_64 {
     ghost use Rattle.framehop_dwarf.specs.X86_64.{translated, direct_of, RowMeans, ColumnsMean};
+    ghost use Rattle.framehop_dwarf.specs.Laws.X86_64.{rule-means, values-mean};
     ghost use Rattle.framehop_core.specs.declared.x86_64.unwind_rule.UnwindRuleX86_64.TheVariants.{JustReturnIfFirstFrameOtherwiseFp};
 
     ghost translated = { translated };
@@ -294,6 +295,10 @@ impl DwarfUnwinding for ArchX86_64 {
     ghost ascends = { λ first old new. Unit {0} };
 
     ghost uncovered = { JustReturnIfFirstFrameOtherwiseFp };
+
+    ghost rule_means = { rule-means };
+
+    ghost values_mean = { values-mean };
 
     fn unwind_frame<S: UnwindContextStorage, E: EvaluationStorage, F>(
         alloc: Global,

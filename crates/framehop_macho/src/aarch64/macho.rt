@@ -40,11 +40,19 @@ fn unwind_by_opcode(
 }
 
 impl CompactUnwindInfoUnwinding for ArchAarch64 {
-    ghost use Rattle.framehop_macho.specs.Aarch64.{says, helper_rule};
+    ghost use Rattle.framehop_macho.specs.Aarch64.{says, helper_rule, by_code};
+    ghost use Rattle.framehop_analysis.specs.Laws.Aarch64.Means.{analysed-means};
+    ghost use Rattle.framehop_macho.specs.Laws.Aarch64.{says-by_code, by_code-analysed};
 
     ghost says = { says };
 
     ghost helper_rule = { helper_rule };
+
+    ghost by_code = { by_code };
+
+    ghost says_by_code = { says-by_code };
+
+    ghost code_means = { λ function code offset rule is. analysed-means code offset rule (by_code-analysed function code offset rule is) };
 
     fn unwind_frame(
         function: Function,

@@ -13,6 +13,8 @@ impl PeUnwinding for ArchAarch64 {
 
     ghost computed = { λ sections address first memory old. Err Aarch64Unsupported };
 
+    ghost rule_simulates = { λ sections address first rule found. cc };
+
     fn unwind_frame<F, D>(
         _sections: PeSections<'_, D>,
         _address: u32,

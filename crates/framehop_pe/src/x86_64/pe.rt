@@ -308,10 +308,13 @@ where
 
 impl PeUnwinding for ArchX86_64 {
     ghost use Rattle.framehop_pe.specs.Frame.{found_at, computed_at};
+    ghost use Rattle.framehop_pe.specs.Laws.Simulation.{rule-simulates};
 
     ghost found = { found_at };
 
     ghost computed = { computed_at };
+
+    ghost rule_simulates = { rule-simulates };
 
     #[tactic(auto, unfolding(crate::specs::Frame::found_at, crate::specs::Frame::computed_at))]
     fn unwind_frame<F, D>(

@@ -1,4 +1,4 @@
-use Rattle.framehop_dwarf.proofs.Values.{branch_discards}
+use Rattle.framehop_dwarf.specs.Laws.Values.{branch_discards}
 use Rattle.framehop_dwarf.proofs.evaluation.apply.Goals as goal
 
 pub returns-in-Pick : goal.returns-in-Pick

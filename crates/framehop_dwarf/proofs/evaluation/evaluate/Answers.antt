@@ -1,4 +1,4 @@
-use Rattle.framehop_dwarf.proofs.ValueMeaning.{value_in-means, no_value_in}
+use Rattle.framehop_dwarf.specs.Laws.ValueMeaning.{value_in-means, no_value_in}
 use Rattle.framehop_dwarf.proofs.evaluation.evaluate.Goals as goal
 
 pub returns-in-Ok-clause-value : goal.returns-in-Ok-clause-value

@@ -1,6 +1,6 @@
 use Rattle.std.proofs.lemmas.Result.{err_from_is_err_and}
 use Rattle.framehop_dwarf.specs.Evaluation.{Evaluation, State}
-use Rattle.framehop_dwarf.proofs.Values.{out_of_operations, refused, goes-on, popped}
+use Rattle.framehop_dwarf.specs.Laws.Values.{out_of_operations, refused, goes-on, popped}
 use Rattle.framehop_dwarf.proofs.evaluation.run.Goals as goal
 
 pub returns-then-left-eq0 : goal.returns-then-left-eq0

@@ -4,6 +4,7 @@ use Rattle.framehop.specs.CodeAddress.{location_of, lookup_address}
 use Rattle.framehop.specs.Cache.{CacheView}
 use Rattle.framehop.specs.Soundness.{Extends, TakesMemory}
 use Rattle.framehop.proofs.SoundnessLemmas.{cache_after-hit, cache_after-miss, cache_after_lookup-miss, missed, step-hit, step-at, fresh-at, Extends-after, Extends-same, IsSound-extended, out-or-not}
+use Rattle.framehop.proofs.MeaningLemmas.{location-means, answer-means}
 use Rattle.framehop.proofs.unwinder.UnwinderInternalUnwinder.unwind_frame.Goals as goal
 
 pub returns-in-Hit-clause-cached : goal.returns-in-Hit-clause-cached
@@ -60,3 +61,15 @@ returns-in-Miss-clause-answers g c = λ memory answers sound.
     let unwinding = g.A.Unwinding.unwinding g.P.AllocationPolicy.policy in
     let stepped = step-at unwinding c.args.self.now.modules (location_of c.args.address) _ _ c.args.regs.now memory c.address_for_lookup.ensures (ap not c.is_return_address-is_first_frame.ensures) in
     (ran.0, λ some. (let told = ran.1 some in (told.0 ∙ ap answer_of stepped, told.1 ∙ ap (registers_after c.args.regs.now) stepped)))
+
+pub returns-in-Hit-clause-means : goal.returns-in-Hit-clause-means
+returns-in-Hit-clause-means g c = λ memory answers sound.
+    let policy = g.P.AllocationPolicy.policy in
+    answer-means c.exec.result _ c.args.regs.now c.exec.new.regs _ (returns-in-Hit-clause-answers g c memory answers sound).1
+    (λ address e. location-means _ _ g.A.UnwindRule.UnwindRule.outcome policy (record { rule_means = g.met.A.DwarfUnwinding.rule_means; values_mean = g.met.A.DwarfUnwinding.values_mean; rule_simulates = g.met.A.PeUnwinding.rule_simulates; says_by_code = g.met.A.CompactUnwindInfoUnwinding.says_by_code; code_means = g.met.A.CompactUnwindInfoUnwinding.code_means }) (g.A.Unwinding.unwinding policy) (g.met.A.Unwinding.outcome_is policy) (g.met.A.Unwinding.answer_is policy) c.args.self.now.modules (location_of c.args.address) c.args.regs.now c.exec.new.regs memory address e)
+
+pub returns-in-Miss-clause-means : goal.returns-in-Miss-clause-means
+returns-in-Miss-clause-means g c = λ memory answers sound.
+    let policy = g.P.AllocationPolicy.policy in
+    answer-means c.unwind_uncached.result _ c.args.regs.now c.unwind_uncached.new.regs _ (returns-in-Miss-clause-answers g c memory answers sound).1
+    (λ address e. location-means _ _ g.A.UnwindRule.UnwindRule.outcome policy (record { rule_means = g.met.A.DwarfUnwinding.rule_means; values_mean = g.met.A.DwarfUnwinding.values_mean; rule_simulates = g.met.A.PeUnwinding.rule_simulates; says_by_code = g.met.A.CompactUnwindInfoUnwinding.says_by_code; code_means = g.met.A.CompactUnwindInfoUnwinding.code_means }) (g.A.Unwinding.unwinding policy) (g.met.A.Unwinding.outcome_is policy) (g.met.A.Unwinding.answer_is policy) c.args.self.now.modules (location_of c.args.address) c.args.regs.now c.unwind_uncached.new.regs memory address e)

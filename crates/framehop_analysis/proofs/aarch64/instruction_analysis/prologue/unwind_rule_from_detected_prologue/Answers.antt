@@ -1,5 +1,5 @@
 use Rattle.framehop_analysis.proofs.Answers.{only-iff, only-some}
-use Rattle.framehop_analysis.proofs.Aarch64Undoes.{undoes}
+use Rattle.framehop_analysis.specs.Laws.Aarch64.Undoes.{undoes}
 use Rattle.framehop_analysis.proofs.aarch64.instruction_analysis.prologue.unwind_rule_from_detected_prologue.Goals as goal
 
 pub returns-clause-exact : goal.returns-clause-exact

@@ -1,6 +1,6 @@
 use Rattle.std.proofs.Common.{Some, sym, ap, ◌∙◌}
-use Rattle.framehop_dwarf.proofs.SimulationAarch64.{translated-means}
-use Rattle.framehop_dwarf.proofs.DirectAarch64.{direct-means}
+use Rattle.framehop_dwarf.specs.Laws.SimulationAarch64.{translated-means}
+use Rattle.framehop_dwarf.specs.Laws.DirectAarch64.{direct-means}
 use Rattle.framehop_dwarf.proofs.aarch64.dwarf.ArchAarch64DwarfUnwinding.unwind_frame.Goals as goal
 
 pub returns-in-Some-clause-means : goal.returns-in-Some-clause-means

@@ -1,6 +1,6 @@
 use Rattle.std.proofs.Common.{Some, sym, ap, ◌∙◌}
-use Rattle.framehop_dwarf.proofs.SimulationX86_64.{translated-means}
-use Rattle.framehop_dwarf.proofs.DirectX86_64.{direct-means}
+use Rattle.framehop_dwarf.specs.Laws.SimulationX86_64.{translated-means}
+use Rattle.framehop_dwarf.specs.Laws.DirectX86_64.{direct-means}
 use Rattle.framehop_dwarf.proofs.x86_64.dwarf.ArchX86_64DwarfUnwinding.unwind_frame.Goals as goal
 
 pub returns-in-Some-clause-means : goal.returns-in-Some-clause-means

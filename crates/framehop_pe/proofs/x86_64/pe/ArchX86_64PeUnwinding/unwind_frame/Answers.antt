@@ -3,7 +3,7 @@ use Rattle.framehop_pe.specs.Frame.{way_of, way_or_leaf, found_at, computed_at}
 use Rattle.framehop_pe.specs.FunctionTable.{function_of}
 use Rattle.framehop_pe.specs.Sections.{sections_of}
 use Rattle.framehop_pe.specs.Laws.Refusals.{found_at-of_bytes}
-use Rattle.framehop_pe.proofs.Simulation.{found-executable, found-simulated, leaf-found, leaf-simulated}
+use Rattle.framehop_pe.specs.Laws.Simulation.{found-executable, found-simulated, leaf-found, leaf-simulated}
 use Rattle.framehop_pe.proofs.x86_64.pe.ArchX86_64PeUnwinding.unwind_frame.Goals as goal
 
 pub returns-in-Some-clause-executable : goal.returns-in-Some-clause-executable

@@ -8,7 +8,7 @@ use Rattle.framehop_cfi.specs.Row.{Row, rule_of}
 use Rattle.framehop_dwarf.specs.declared.dwarf.DwarfUnwinderError.{DwarfUnwinderError}
 use Rattle.framehop_dwarf.specs.Direct.{cfa_of, register_of, needed}
 use Rattle.framehop_dwarf.specs.X86_64.{or_below, below, stepped, scope_of, direct_of, bp_column, return_column, ColumnsMean}
-use Rattle.framehop_dwarf.proofs.Columns.{cfa-means, column-means}
+use Rattle.framehop_dwarf.specs.Laws.Columns.{cfa-means, column-means}
 
 pub needed-ok : {A B E : Type 0} (error : E) (o : Option A) (next : A → Result B E) (y : B) → needed error o next ≡ Ok y → (x : A) × (o ≡ Some x) × (next x ≡ Ok y)
 needed-ok error (Some x) next y is = (x, refl, is)

@@ -8,8 +8,8 @@ use Rattle.framehop_cfi.specs.Row.{Row, rule_of}
 use Rattle.framehop_dwarf.specs.declared.dwarf.DwarfUnwinderError.{DwarfUnwinderError}
 use Rattle.framehop_dwarf.specs.Direct.{cfa_of, register_of}
 use Rattle.framehop_dwarf.specs.Aarch64.{or_kept, stepped, scope_of, direct_of, fp_column, lr_column, ColumnsMean}
-use Rattle.framehop_dwarf.proofs.Columns.{cfa-means, column-means}
-use Rattle.framehop_dwarf.proofs.DirectX86_64.{needed-ok}
+use Rattle.framehop_dwarf.specs.Laws.Columns.{cfa-means, column-means}
+use Rattle.framehop_dwarf.specs.Laws.DirectX86_64.{needed-ok}
 
 abbrev pair_in : ℕ × Registers → Result (ℕ × Registers) DwarfUnwinderError → ℕ × Registers
 pair_in other (Ok pair) = pair

@@ -13,10 +13,10 @@ use Rattle.framehop_core.specs.declared.aarch64.unwind_rule.UnwindRuleAarch64.Th
 use Rattle.framehop_analysis.specs.Aarch64.Words.{AreWordsAt, is_load, is_add_sp, addressing, pair_offset, first_register, second_register, immediate, is_signing, is_other, is_return, is_b, is_br, is_braa, is_mov, is_check, is_branch}
 use Rattle.framehop_analysis.specs.Aarch64.Machine.{State, Step, Signs, RunOut, SameAddress, HasRegisters, offset_by, access_address}
 use Rattle.framehop_analysis.specs.Aarch64.Epilogue.{Places, at_pc, is_restoring, places_after, places_after_all, place_after_load, AllRestoring, IsAuthenticatedCall, by_b, by_braa, IsEnd, returns, branches, calls, IsRestored, inside_call, at_tail_call, IsPlace, IsRuleOfPlaces, IsEpilogueRule, restored, restores, DoesEpilogue}
-use Rattle.framehop_analysis.proofs.Offsets.{offset_by-fits, offset_by-zero, offset_by-offset_by}
+use Rattle.framehop_analysis.specs.Laws.Aarch64.Offsets.{offset_by-fits, offset_by-zero, offset_by-offset_by}
 use Rattle.framehop_analysis.specs.Laws.Answer.{some-same}
 use Rattle.framehop_analysis.specs.Laws.Aarch64.Calls.{branch-not-restoring, return-branch, b-branch, br-branch, braa-branch, or-left, or-right, or-cases}
-use Rattle.framehop_analysis.proofs.Aarch64Undoes.{stripped-again, ok-same}
+use Rattle.framehop_analysis.specs.Laws.Aarch64.Undoes.{stripped-again, ok-same}
 
 -- ---- what restores
 

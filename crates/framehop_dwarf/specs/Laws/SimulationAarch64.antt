@@ -20,9 +20,9 @@ use Rattle.framehop_cfi.specs.declared.rule.RegisterRule.TheVariants as rule
 use Rattle.framehop_dwarf.specs.Units.{units_of, signed_units_of}
 use Rattle.framehop_dwarf.specs.RowMeaning.{IsCfa}
 use Rattle.framehop_dwarf.specs.Aarch64.{with_fp, with_fp_kept, with_lr, by_sp, by_fp, by_saved, beside_fp, translated_by, translated, scope_of, column_of, fp_column, lr_column, IsFramePointer, IsLinkRegister, RowMeans}
-use Rattle.framehop_dwarf.proofs.Exact.{int_same, units-exact, signed_units-exact}
-use Rattle.framehop_dwarf.proofs.ValueMeaning.{bind_some}
-use Rattle.framehop_dwarf.proofs.SimulationX86_64.{word_from-stored, is-number, both, mapped-some}
+use Rattle.framehop_dwarf.specs.Laws.Exact.{int_same, units-exact, signed_units-exact}
+use Rattle.framehop_dwarf.specs.Laws.ValueMeaning.{bind_some}
+use Rattle.framehop_dwarf.specs.Laws.SimulationX86_64.{word_from-stored, is-number, both, mapped-some}
 
 ok-same : (m n : ℕ) → ◌≡◌ {A = Result ℕ Error} (Ok m) (Ok n) → m ≡ n
 ok-same m n e = cc

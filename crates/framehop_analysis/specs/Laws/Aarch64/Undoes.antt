@@ -14,7 +14,7 @@ use Rattle.framehop_core.specs.declared.aarch64.unwind_rule.UnwindRuleAarch64.Th
 use Rattle.framehop_analysis.specs.Aarch64.Words.{is_store, is_sub_sp, is_pacibsp, addressing, is_indexed, pair_offset, immediate}
 use Rattle.framehop_analysis.specs.Aarch64.Machine.{State, Step, Run, SameAddress, HasRegisters, offset_by}
 use Rattle.framehop_analysis.specs.Aarch64.Prologue.{lowered_by, lowered, IsRun, IsRuleOfDepth, IsPrologueRule, UndoesRun, UndoesPrologue}
-use Rattle.framehop_analysis.proofs.Offsets.{offset_by-fits, offset_by-zero, offset_by-offset_by, offset_by-below}
+use Rattle.framehop_analysis.specs.Laws.Aarch64.Offsets.{offset_by-fits, offset_by-zero, offset_by-offset_by, offset_by-below}
 use Rattle.framehop_analysis.specs.Laws.Aarch64.Runs.{longest-same}
 
 -- ---- the machine's run

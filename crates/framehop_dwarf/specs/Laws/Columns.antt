@@ -8,8 +8,8 @@ use Rattle.framehop_cfi.specs.declared.rule.RegisterRule.{RegisterRule}
 use Rattle.framehop_cfi.specs.declared.rule.RegisterRule.TheVariants as rule
 use Rattle.framehop_dwarf.specs.Direct.{Scope, below_half, sum_of, cfa_of, register_of}
 use Rattle.framehop_dwarf.specs.RowMeaning.{IsCfa, IsColumn}
-use Rattle.framehop_dwarf.proofs.Limits.{in-free}
-use Rattle.framehop_dwarf.proofs.ValueMeaning.{bind_some, value_in-means}
+use Rattle.framehop_dwarf.specs.Laws.Limits.{in-free}
+use Rattle.framehop_dwarf.specs.Laws.ValueMeaning.{bind_some, value_in-means}
 
 half : (z : ℤ) (n : ℕ) → below_half z ≡ Some n → z ≡ pos n
 half (pos m) n is =

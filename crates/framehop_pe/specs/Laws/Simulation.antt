@@ -29,7 +29,8 @@ use Rattle.framehop_pe.specs.declared.unwind_info.epilog.FunctionEpilogInstructi
 use Rattle.framehop_core.specs.declared.unwind_result.UnwindResult.{UnwindResult}
 use Rattle.framehop_core.specs.declared.unwind_result.UnwindResult.TheVariants.{ExecRule, Uncacheable}
 use Rattle.framehop_pe.specs.Answer.{TellsFound, Simulates, IfRule}
-use Rattle.framehop_pe.specs.Frame.{Way, by_epilog, by_codes, Told, offsets_and_pops, returned, along, rule_along, found_of, computed_of}
+use Rattle.framehop_pe.specs.Frame.{Way, by_epilog, by_codes, Told, offsets_and_pops, returned, along, way_at, rule_along, found_of, computed_of, found_at, computed_at}
+use Rattle.framehop_pe.specs.Sections.{Sections}
 use Rattle.framehop_pe.specs.declared.pe.PeUnwinderError.{PeUnwinderError}
 use Rattle.framehop_pe.specs.Offsets.{offset_of, of_operation, of_instruction}
 use Rattle.framehop_pe.specs.declared.unwind_info.chain.FrameBase.{FrameBase}
@@ -443,3 +444,10 @@ pub leaf-simulated : (whole : Told) → whole ≡ Ok (by_codes []) → Simulates
 leaf-simulated whole same = λ first old new memory address answers.
     ap (λ t. computed_of t memory old) same
     ∙ Simulates-way JustReturn (by_codes []) (0, [], refl, (refl, refl)) first old new memory address answers
+
+-- the rule that the bytes give
+pub rule-simulates : (sections : Sections) (address : ℕ) (first : Bool) (rule : UnwindRuleX86_64) → found_at sections address first ≡ Ok (Some rule) → Simulates outcome (computed_at sections address first) rule
+unfolding found_at computed_at
+rule-simulates sections address first rule found =
+    let told = way_at sections address first in
+    found-simulated told told (Ok (ExecRule rule)) refl (subst (λ f. TellsFound f (Ok (ExecRule rule))) (sym found) refl)

@@ -23,8 +23,8 @@ use Rattle.framehop_cfi.specs.declared.rule.RegisterRule.TheVariants as rule
 use Rattle.framehop_dwarf.specs.Units.{units_of, signed_units_of}
 use Rattle.framehop_dwarf.specs.RowMeaning.{IsStored, IsCfa, IsColumn}
 use Rattle.framehop_dwarf.specs.X86_64.{with_bp, by_sp, by_bp, by_cfa, translated_by, translated, scope_of, column_of, bp_column, return_column, IsUnreadable, IsFramePointer, RowMeans}
-use Rattle.framehop_dwarf.proofs.Exact.{int_same, units-exact, signed_units-exact}
-use Rattle.framehop_dwarf.proofs.ValueMeaning.{bind_some}
+use Rattle.framehop_dwarf.specs.Laws.Exact.{int_same, units-exact, signed_units-exact}
+use Rattle.framehop_dwarf.specs.Laws.ValueMeaning.{bind_some}
 
 pos-same : (m n : ℕ) → pos m ≡ pos n → m ≡ n
 pos-same m n e = cc

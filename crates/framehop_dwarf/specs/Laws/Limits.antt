@@ -9,8 +9,8 @@ use Rattle.framehop_dwarf.specs.Operation.{operation_at, changed, combined}
 use Rattle.framehop_dwarf.specs.declared.operation.Operation.{Operation}
 use Rattle.framehop_dwarf.specs.declared.operation.Operation.TheVariants.{Nop, Constant, RegisterOffset, Pick, Discard, Swap, Rot, Unary, Binary, PlusConstant, Skip, Branch}
 use Rattle.framehop_dwarf.specs.Evaluation.{Evaluation, State, fits, pushed, stack_after, position_after, state_by, step, value_from, value_of, code_of, value_in}
-use Rattle.framehop_dwarf.proofs.ValueMeaning.{bind_some}
-use Rattle.framehop_dwarf.proofs.SimulationX86_64.{mapped-some}
+use Rattle.framehop_dwarf.specs.Laws.ValueMeaning.{bind_some}
+use Rattle.framehop_dwarf.specs.Laws.SimulationX86_64.{mapped-some}
 
 some-list : (xs ys : List ℕ) → ◌≡◌ {A = Option (List ℕ)} (Some xs) (Some ys) → xs ≡ ys
 some-list xs ys is = cc

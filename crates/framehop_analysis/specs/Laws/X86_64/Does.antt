@@ -15,7 +15,7 @@ use Rattle.framehop_analysis.specs.X86_64.Machine.{State, HasRegisters, IsPop, s
 use Rattle.framehop_analysis.specs.X86_64.Epilogue.{is_plain_pop, Pop, pop_at, ArePops, Popped, none_popped, after_pop, after_pops, IsEnd, returns, jumps, IsRuleOfPopped, IsEpilogueRule, DoesEpilogue}
 use Rattle.framehop_analysis.specs.Laws.Answer.{some-same}
 use Rattle.framehop_analysis.specs.Laws.X86_64.Pops.{eq-true, and-left, and-right, or-cases, IsPopBytes, alone, after_40, after_41, pop-bytes, pop-low, jump-high}
-use Rattle.framehop_analysis.proofs.X86_64Undoes.{read-word, IsFound, found}
+use Rattle.framehop_analysis.specs.Laws.X86_64.Undoes.{read-word, IsFound, found}
 
 -- ---- the grammar's pops are the machine's
 

@@ -9,7 +9,7 @@ use Rattle.framehop_cfi.specs.declared.rule.Expression.{Expression}
 use Rattle.framehop_cfi.specs.declared.read_error.ReadError.TheVariants.{Eof}
 use Rattle.framehop_dwarf.specs.Operation.{operation_at}
 use Rattle.framehop_dwarf.specs.Evaluation.{Evaluation, State, fits, step, Leads, IsValue, value_from, value_of, code_of, value_in, IsValueIn}
-use Rattle.framehop_dwarf.proofs.Values.{ended, stepped}
+use Rattle.framehop_dwarf.specs.Laws.Values.{ended, stepped}
 
 some : (m n : ℕ) → ◌≡◌ {A = Option ℕ} (Some m) (Some n) → m ≡ n
 some m n e = cc
