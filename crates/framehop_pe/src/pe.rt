@@ -94,18 +94,18 @@ fn section_memory_at_rva<'a, D: SectionBytes>(
     memory_at_rva(section?, address)
 }
 
-/// Returns the bytes of data from a relative address on, if the data's range covers it and the data
-/// reaches there.
-fn memory_at_rva<D: SectionBytes>(data: &DataAtRvaRange<D>, address: u32) -> Option<&[u8]>
+/// Returns the bytes of a section from a relative address on, if its range covers it and its bytes
+/// reach there.
+fn memory_at_rva<D: SectionBytes>(section: &DataAtRvaRange<D>, address: u32) -> Option<&[u8]>
     ensures { MatchOption result
-        (bytes_at (placed_of D.contents (Some data.entry)) address ≡ None)
-        (λ bytes. bytes_at (placed_of D.contents (Some data.entry)) address ≡ Some bytes.now) }
+        (bytes_at (placed_of D.contents (Some section.entry)) address ≡ None)
+        (λ bytes. bytes_at (placed_of D.contents (Some section.entry)) address ≡ Some bytes.now) }
 {
-    let bytes = data.bytes.bytes();
-    if address < data.rva_range.start || address >= data.rva_range.end {
+    let bytes = section.bytes.bytes();
+    if address < section.rva_range.start || address >= section.rva_range.end {
         return None;
     }
-    let offset = (address - data.rva_range.start) as usize;
+    let offset = (address - section.rva_range.start) as usize;
     if offset >= bytes.len() {
         return None;
     }
