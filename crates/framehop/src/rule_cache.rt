@@ -37,12 +37,8 @@ impl<R: UnwindRule> RuleCache<R> {
     pub fn new(alloc: Global) -> Result<Self, AllocError>
         ensures { IfOk result (λ cache. cache ≡ empty_cache) }
     {
-        let mut entries = Vec::with_capacity(alloc, CACHE_ENTRY_COUNT)?;
-        for _slot in 0..CACHE_ENTRY_COUNT {
-            entries.push(None)?;
-        }
         Ok(RuleCache {
-            entries,
+            entries: vec![in alloc; None; CACHE_ENTRY_COUNT]?,
             stats: CacheStats::new(),
         })
     }

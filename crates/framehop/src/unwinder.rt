@@ -1628,7 +1628,8 @@ impl<D: SectionBytes + Drop, A: Unwinding, P: AllocationPolicy> UnwinderInternal
         ))
     }
 
-    // unwinds a frame whose rule is not in the cache
+    // unwinds a frame whose rule is not in the cache; apart from the way of a hit, which is short
+    #[inline(never)]
     fn unwind_uncached<F>(
         &self,
         handle: CacheHandle,
@@ -1761,6 +1762,7 @@ impl<D: SectionBytes + Drop, A: Unwinding, P: AllocationPolicy> Unwinder
         greatest
     }
 
+    #[inline]
     fn unwind_frame<F>(
         &self,
         address: FrameAddress,

@@ -97,6 +97,8 @@ impl UnwindRule for UnwindRuleAarch64 {
 
     ghost raises = { raises };
 
+    // inlined, so that on a hit of the cache the rule stays in registers
+    #[inline(always)]
     fn exec<F>(
         self,
         is_first_frame: bool,

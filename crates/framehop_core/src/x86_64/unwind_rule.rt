@@ -2,7 +2,7 @@
 ghost use Rattle.std.specs.Prelude.{◌≡◌, ◌≢◌, ℕ, ◌<◌, ◌≤◌, pos, ◌-ℤ◌, true, List, length, All, MatchResult, OnOk, MatchOption, IsSome, IfSome};
 ghost use Rattle.std.specs.Iterator.{AlwaysYields};
 ghost use Rattle.framehop_core.specs.Memory.{Memory, AnswersAs};
-ghost use Rattle.framehop_core.specs.Outcome.{KeptUnlessAnswered, HasDone, address_at, beside};
+ghost use Rattle.framehop_core.specs.Outcome.{KeptUnlessAnswered, HasDone, address_at, after, beside};
 ghost use Rattle.framehop_core.specs.Runs.{run_of, after_first, IsCountWithinRise};
 ghost use Rattle.framehop_core.specs.X86_64.Rules.{outcome, NotBelowWhereAnswered, outcome_of_line, frame_pointer_line, restored_at, value_from, popped, return_address, finished, is_executable, offset_and_pops_of, IsRuleOfOperations};
 
@@ -171,6 +171,8 @@ impl UnwindRule for UnwindRuleX86_64 {
 
     ghost raises = { raises };
 
+    // inlined, so that on a hit of the cache the rule stays in registers
+    #[inline(always)]
     fn exec<F>(
         self,
         is_first_frame: bool,
@@ -225,9 +227,7 @@ impl UnwindRule for UnwindRuleX86_64 {
             } => {
                 let first = offset_address(sp, u64::from(sp_offset_by_8) * 8)?;
                 let registers = register_ordering::decode(register_count, encoded_registers_to_pop);
-                let mut caller = *regs;
-                pop_registers(&mut caller, read_stack, first, registers.as_slice())?;
-                finish_with(regs, read_stack, caller)
+                exec_pops(regs, read_stack, first, registers.as_slice())
             }
         }
     }
@@ -347,6 +347,30 @@ fn read_bp_beside<F: FnMut(u64) -> Result<u64, ()>>(
         Err(_) if is_first_frame && offset_from_sp_by_8 < 0 => Ok(regs.bp()),
         Err(error) => Err(error),
     }
+}
+
+/// The step by pops, the first one at the address (AVMA). It stands apart, since it copies all
+/// registers and the other rules need few.
+#[inline(never)]
+fn exec_pops<F: FnMut(u64) -> Result<u64, ()>>(
+    regs: &mut UnwindRegsX86_64,
+    read_stack: &mut F,
+    first: u64,
+    registers: &[Reg],
+) -> Result<Option<u64>, Error>
+    requires { F.IsAlwaysCallable read_stack.old }
+    ensures callable { F.IsAlwaysCallable read_stack.new }
+    ensures never_out_of_memory { result ≢ Err Error.OutOfMemory }
+    ensures kept { KeptUnlessAnswered result regs.old regs.new }
+    ensures not_below { regs.old.rsp ≤ first → NotBelowWhereAnswered result regs.old regs.new }
+    ensures answers { (memory : Memory) → AnswersAs F.FnMut read_stack.old memory
+        → AnswersAs F.FnMut read_stack.new memory
+        × HasDone (after (popped memory first registers.now regs.old) (λ caller. finished regs.old caller memory))
+        result regs.old regs.new }
+{
+    let mut caller = *regs;
+    pop_registers(&mut caller, read_stack, first, registers)?;
+    finish_with(regs, read_stack, caller)
 }
 
 /// Pops registers off the stack, the first one at the address (AVMA), and sets sp above them and
