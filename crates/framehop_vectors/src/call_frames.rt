@@ -584,6 +584,33 @@ fn clones_unwind_alike(rt: HostRuntime) -> Result<(), Fail> {
     )
 }
 
+/// A change of a clone or of its original takes a generation of its own, so neither has the other's rules.
+#[test]
+fn clones_change_apart(rt: HostRuntime) -> Result<(), Fail> {
+    let commands = [
+        Do::New,
+        Do::Add(0, 0x1000, 0x2100, NO_SECTIONS),
+        Do::Clone(0),
+        step_at_start(0),
+        Do::Add(1, 0x1000, 0x2100, eh_frame(FRAME_POINTER)),
+        step_at_start(1),
+        step_at_start(0),
+        Do::Add(0, 0x800, 0x2100, eh_frame(FRAME_POINTER)),
+        Do::Remove(0, 0x1000),
+        step_at_start(0),
+        Do::Remove(1, 0x1000),
+        step_at_start(1),
+        Do::Stats(0),
+    ];
+    replies_are(
+        &rt,
+        rt.alloc(),
+        &commands,
+        "made 0\ndone\nmade 1\n100200 sp=30 bp=40\ndone\n100300 sp=18 bp=20\n100200 sp=30 bp=40\ndone\ndone\n\
+         100300 sp=18 bp=20\ndone\n100200 sp=30 bp=40\nhits=0 empty=1 modules=4 address=0\n",
+    )
+}
+
 /// Of two modules with the same start the newest is looked up, and is the first to be removed.
 #[test]
 fn takes_the_newest_of_equal_starts(rt: HostRuntime) -> Result<(), Fail> {

@@ -16,6 +16,8 @@ mod libc_table;
 #[cfg(test)]
 mod library;
 #[cfg(test)]
+mod module_data;
+#[cfg(test)]
 mod pe_sections;
 #[cfg(test)]
 mod program;
