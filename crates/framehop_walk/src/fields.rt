@@ -24,6 +24,7 @@ pub fn field<'v>(object: &'v Value, name: &'static str) -> Result<&'v Value, Ref
     }
 }
 
+/// A field that is a text.
 pub fn text<'v>(object: &'v Value, name: &'static str) -> Result<&'v str, Refusal>
     ensures { MatchResult result
         (λ text. text_field name.entry.now (view object.entry.now) ≡ Some text.now)
@@ -35,6 +36,7 @@ pub fn text<'v>(object: &'v Value, name: &'static str) -> Result<&'v str, Refusa
     }
 }
 
+/// A field that is a list.
 pub fn list<'v>(object: &'v Value, name: &'static str) -> Result<&'v Vec<Value>, Refusal>
     ensures { MatchResult result
         (λ list. list_field name.entry.now (view object.entry.now) ≡ Some (items_view list.now.items))

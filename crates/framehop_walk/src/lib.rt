@@ -11,7 +11,10 @@ mod registers;
 mod replies;
 mod sections;
 
+pub use commands::read_command;
+pub use fields::{hexadecimal, list, text};
 pub use output::Output;
 pub use program::{refuse, walk_program};
 pub use refusal::Refusal;
-pub use sections::section_bytes;
+pub use registers::Registers;
+pub use sections::{Section, Sections, read_sections, section_bytes};

@@ -1,0 +1,104 @@
+#!/usr/bin/env bash
+# compare.sh ORACLE_BENCH [ELF]: measures this library beside the original crate, on equal inputs.
+#
+# ORACLE_BENCH is a program over the original crate, with the arguments `walk FILE N`, `index ELF N`
+# and `json ELF`; where an `oracle-walk` lies beside it, the whole program is measured too. ELF is
+# an x86_64 library with an `.eh_frame`, the C library where none is named.
+#
+# Both run in turn, five times each, and the least time of each counts. The table that is printed has
+# nanoseconds, and in its last column the time here by that of the original. With CPU=N in the
+# environment, all runs are on that processor. Needs python3 and readelf.
+set -eu
+top=$(cd "$(dirname "${BASH_SOURCE[0]}")/.." && pwd)
+theirs=${1:?usage: bench/compare.sh ORACLE_BENCH [ELF]}
+elf=${2:-$(ldd /bin/sh | sed -n 's/.*libc\.so\.6 => \([^ ]*\).*/\1/p')}
+ours=$top/crates/framehop_bench/out/framehop_bench
+rounds=5
+pinned=(${CPU:+taskset -c "$CPU"})
+
+made=$(mktemp -d)
+trap 'rm -rf "$made"' EXIT
+times=$made/times
+
+# builds our two programs where they are not there; their libraries must be proved before
+build() {
+    (cd "$top/crates/$1" && rt run </dev/null) >"$made/$1.log" 2>&1 || { cat "$made/$1.log" >&2; exit 1; }
+}
+[ -x "$ours" ] || build framehop_bench
+walk=$top/crates/framehop_walk_cli/out/framehop_walk_cli
+[ -x "$walk" ] || build framehop_walk_cli
+
+make_inputs() {
+    local maker=$top/bench/make_inputs.py arch
+    for arch in x86_64 aarch64; do python3 "$maker" frame-pointers "$arch" >"$made/fp-$arch.json"; done
+    "$theirs" json "$elf" >"$made/sections.json"
+    python3 "$maker" cold "$made/sections.json" "$elf" 300 >"$made/cold.json"
+    python3 "$maker" many 16000 >"$made/many.json"
+}
+
+# note CASE SIDE PATTERN: keeps the nanoseconds that the text names after a pattern
+note() {
+    local value
+    value=$(sed -nE "s#.*$3.* ([0-9.]+) ns/.*#\1#p" | head -n 1)
+    [ -n "$value" ] || { echo "compare.sh: no time of $1, $2" >&2; exit 1; }
+    printf '%s\t%s\t%s\n' "$1" "$2" "$value" >>"$times"
+}
+
+# measure_walks NAME N: walks of an input, with a warm cache and with new ones
+measure_walks() {
+    local text
+    text=$("${pinned[@]}" "$ours" walk "$made/$1.json" "$2" 2>&1 >/dev/null)
+    note "$1, warm cache" here 'warm cache' <<<"$text"
+    note "$1, new cache each walk" here 'new cache' <<<"$text"
+    note "$1, making a cache" here 'making' <<<"$text"
+    text=$("${pinned[@]}" "$theirs" walk "$made/$1.json" "$2")
+    note "$1, warm cache" there 'warm cache' <<<"$text"
+    note "$1, new cache each walk" there 'new cache' <<<"$text"
+    note "$1, making a cache" there 'making' <<<"${text%, *}"
+}
+
+measure_index() {
+    local text
+    text=$("${pinned[@]}" "$ours" index "$made/sections.json" "$1" 2>&1 >/dev/null)
+    note 'index, its making' here 'try_new_eh_frame' <<<"$text"
+    note 'index, Module::new' here 'Module::new' <<<"$text"
+    text=$("${pinned[@]}" "$theirs" index "$elf" "$1")
+    note 'index, its making' there 'try_new_eh_frame' <<<"$text"
+    note 'index, Module::new' there 'Module::new' <<<"$text"
+}
+
+# measure_program SIDE PROGRAM: the whole program over the large input
+measure_program() {
+    local start end
+    start=$(date +%s%N)
+    "${pinned[@]}" "$2" "$made/many.json" >"$made/$1.out"
+    end=$(date +%s%N)
+    echo "program, the whole run: $((end - start)) ns/run" | note 'program, the whole run' "$1" 'run:'
+}
+
+table() {
+    awk -F '\t' '
+        !($1 in order) { order[$1] = ++count; names[count] = $1 }
+        !(($1, $2) in least) || $3 + 0 < least[$1, $2] { least[$1, $2] = $3 + 0 }
+        END {
+            print "| Case | Here | The original | Ratio |"
+            print "|---|---|---|---|"
+            for (i = 1; i <= count; i++) {
+                here = least[names[i], "here"]; there = least[names[i], "there"]
+                printf "| %s | %.2f | %.2f | %.2f |\n", names[i], here, there, here / there
+            }
+        }' "$times"
+}
+
+make_inputs
+for ((round = 1; round <= rounds; round++)); do
+    for arch in x86_64 aarch64; do measure_walks "fp-$arch" 20000; done
+    measure_walks cold 1000
+    measure_index 100
+    if [ -x "$(dirname "$theirs")/oracle-walk" ]; then
+        measure_program here "$walk"
+        measure_program there "$(dirname "$theirs")/oracle-walk"
+        cmp "$made/here.out" "$made/there.out"
+    fi
+done
+table
