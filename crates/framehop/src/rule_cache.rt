@@ -37,8 +37,10 @@ impl<R: UnwindRule> RuleCache<R> {
     pub fn new(alloc: Global) -> Result<Self, AllocError>
         ensures { IfOk result (λ cache. cache ≡ empty_cache) }
     {
+        let mut entries = Vec::new(alloc);
+        entries.resize(CACHE_ENTRY_COUNT, None)?;
         Ok(RuleCache {
-            entries: vec![in alloc; None; CACHE_ENTRY_COUNT]?,
+            entries,
             stats: CacheStats::new(),
         })
     }
