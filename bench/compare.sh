@@ -22,7 +22,9 @@ times=$made/times
 
 # builds our two programs where they are not there; their libraries must be proved before
 build() {
-    (cd "$top/crates/$1" && rt run </dev/null) >"$made/$1.log" 2>&1 || { cat "$made/$1.log" >&2; exit 1; }
+    local input=$top/crates/$1/stdin
+    [ -f "$input" ] || input=/dev/null
+    (cd "$top/crates/$1" && rt run <"$input") >"$made/$1.log" 2>&1 || { cat "$made/$1.log" >&2; exit 1; }
 }
 [ -x "$ours" ] || build framehop_bench
 walk=$top/crates/framehop_walk_cli/out/framehop_walk_cli

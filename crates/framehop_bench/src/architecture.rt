@@ -1,7 +1,7 @@
 //! What the cases ask of an architecture.
 use framehop::aarch64::{ArchAarch64, UnwindRegsAarch64, UnwindRuleAarch64};
 use framehop::x86_64::{ArchX86_64, OffsetOrPop, Reg, UnwindRegsX86_64, UnwindRuleX86_64};
-use framehop_walk::Registers;
+use framehop_walk::registers::Registers;
 use std::alloc::{AllocError, Global};
 
 /// A rule, the kind of frame in which it is run, and the name under which it is printed.

@@ -4,7 +4,7 @@ use framehop::section::{ExplicitModuleSectionInfo, ModuleSectionInfo};
 use framehop_cfi::entry::{EntryHead, FrameDescriptionEntry, UnwindSection, UnwindSectionType};
 use framehop_cfi::extent::read_extent;
 use framehop_dwarf::bases::base_addresses_for_sections;
-use framehop_walk::{Section, Sections};
+use framehop_walk::sections::{Section, Sections};
 use std::alloc::Global;
 use std::ops::Range;
 
@@ -55,7 +55,10 @@ pub fn fdes_of(
 ) -> Result<Vec<FrameDescriptionEntry>, Failure> {
     let mut fdes = Vec::new(alloc);
     let mut at = 0;
-    while at < section.bytes.len() {
+    for _entry in 0..section.bytes.len() {
+        if at >= section.bytes.len() {
+            break;
+        }
         let extent = read_extent(section.bytes, at)?;
         if extent.is_zero_length() {
             break;

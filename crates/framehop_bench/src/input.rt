@@ -4,9 +4,11 @@ use crate::walks::Walk;
 use framehop::session::Command;
 use framehop::unwinder::UnwinderInternal;
 use framehop::{AllocationPolicy, Generations, Unwinder};
-use framehop_walk::{
-    Refusal, Registers, Sections, hexadecimal, list, read_command, read_sections, text,
-};
+use framehop_walk::Refusal;
+use framehop_walk::commands::read_command;
+use framehop_walk::fields::{hexadecimal, list, text};
+use framehop_walk::registers::Registers;
+use framehop_walk::sections::{Sections, read_sections};
 use serde_json::Value;
 use std::alloc::Global;
 use std::ops::Range;
