@@ -1351,8 +1351,10 @@ fn lent<D>(section: &Option<DataAtRvaRange<D>>) -> Option<&DataAtRvaRange<D>>
 }
 
 impl<D: SectionBytes> Module<D> {
-    /// Unwinds a frame at a relative address by the module's unwind data.
+    /// Unwinds a frame at a relative address by the module's unwind data. It is a call of its own, so that the way
+    /// of a hit is short.
     #[tactic(auto, unfolding(crate::specs::Unwinding::answer_by, crate::specs::Unwinding::takes_memory_by))]
+    #[inline(never)]
     fn unwind_frame<A: Unwinding, P: AllocationPolicy, F>(
         &self,
         alloc: Global,
@@ -1593,6 +1595,7 @@ impl<D: SectionBytes + Drop, A: Unwinding, P: AllocationPolicy> UnwinderInternal
     }
 
     // unwinds a frame by the unwind data of the module that covers it, else by the fallback rule
+    #[inline(always)]
     fn unwind_frame_by_modules<F>(
         &self,
         lookup_address: u64,
@@ -1628,8 +1631,8 @@ impl<D: SectionBytes + Drop, A: Unwinding, P: AllocationPolicy> UnwinderInternal
         ))
     }
 
-    // unwinds a frame whose rule is not in the cache; apart from the way of a hit, which is short
-    #[inline(never)]
+    // unwinds a frame whose rule is not in the cache
+    #[inline(always)]
     fn unwind_uncached<F>(
         &self,
         handle: CacheHandle,
