@@ -121,7 +121,6 @@ fn unwind_by_opcode(
 }
 
 impl CompactUnwindInfoUnwinding for ArchX86_64 {
-    ghost use Rattle.std.specs.Prelude.{Some};
     ghost use Rattle.framehop_macho.specs.X86_64.{says, helper_rule, by_code};
     ghost use Rattle.framehop_analysis.specs.Laws.X86_64.Means.{analysed-means};
     ghost use Rattle.framehop_macho.specs.Laws.X86_64.{says-by_code};
