@@ -6,14 +6,15 @@
 # an x86_64 library with an `.eh_frame`, the C library where none is named.
 #
 # Both run in turn, five times each, and the least time of each counts. The table that is printed has
-# nanoseconds, and in its last column the time here by that of the original. With CPU=N in the
-# environment, all runs are on that processor. Needs python3 and readelf.
+# the time of a frame, of a cache, of an FDE or of the whole run, and in its last column the time here
+# by that of the original. In the environment, CPU=N has all runs on that processor, and ROUNDS=N
+# runs each N times. Needs python3 and readelf.
 set -eu
 top=$(cd "$(dirname "${BASH_SOURCE[0]}")/.." && pwd)
 theirs=${1:?usage: bench/compare.sh ORACLE_BENCH [ELF]}
 elf=${2:-$(ldd /bin/sh | sed -n 's/.*libc\.so\.6 => \([^ ]*\).*/\1/p')}
 ours=$top/crates/framehop_bench/out/framehop_bench
-rounds=5
+rounds=${ROUNDS:-5}
 pinned=(${CPU:+taskset -c "$CPU"})
 
 made=$(mktemp -d)
@@ -52,11 +53,11 @@ measure_walks() {
     text=$("${pinned[@]}" "$ours" walk "$made/$1.json" "$2" 2>&1 >/dev/null)
     note "$1, warm cache" here 'warm cache' <<<"$text"
     note "$1, new cache each walk" here 'new cache' <<<"$text"
-    note "$1, making a cache" here 'making' <<<"$text"
+    note "$1, making a cache" here 'making a cache' <<<"$text"
     text=$("${pinned[@]}" "$theirs" walk "$made/$1.json" "$2")
     note "$1, warm cache" there 'warm cache' <<<"$text"
     note "$1, new cache each walk" there 'new cache' <<<"$text"
-    note "$1, making a cache" there 'making' <<<"${text%, *}"
+    note "$1, making a cache" there 'making the cache' <<<"${text%, *}"
 }
 
 measure_index() {
@@ -75,7 +76,7 @@ measure_program() {
     start=$(date +%s%N)
     "${pinned[@]}" "$2" "$made/many.json" >"$made/$1.out"
     end=$(date +%s%N)
-    echo "program, the whole run: $((end - start)) ns/run" | note 'program, the whole run' "$1" 'run:'
+    echo "run: $((end - start)) ns/run" | note 'program over 30 MB' "$1" run:
 }
 
 table() {
@@ -87,7 +88,9 @@ table() {
             print "|---|---|---|---|"
             for (i = 1; i <= count; i++) {
                 here = least[names[i], "here"]; there = least[names[i], "there"]
-                printf "| %s | %.2f | %.2f | %.2f |\n", names[i], here, there, here / there
+                unit = "ns"
+                if (here >= 1e6) { unit = "ms"; here /= 1e6; there /= 1e6 }
+                printf "| %s | %.2f %s | %.2f %s | %.2f |\n", names[i], here, unit, there, unit, here / there
             }
         }' "$times"
 }
