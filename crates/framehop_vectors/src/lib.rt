@@ -12,8 +12,6 @@ mod commands;
 #[cfg(test)]
 mod compact;
 #[cfg(test)]
-mod libc_table;
-#[cfg(test)]
 mod library;
 #[cfg(test)]
 mod module_data;
@@ -25,8 +23,6 @@ mod program;
 mod readme;
 #[cfg(test)]
 mod replies;
-#[cfg(test)]
-mod rows_of_libc;
 #[cfg(test)]
 mod section_info;
 #[cfg(test)]

@@ -26,6 +26,7 @@ import sys
 
 BLOCK = 64
 WORD = 16
+A_LINE = 3
 NAMES = ["rax", "rdx", "rcx", "rbx", "rsi", "rdi", "rbp", "rsp", "r8", "r9", "r10", "r11", "r12", "r13", "r14", "r15"]
 COLUMNS = {name: number for number, name in enumerate(NAMES)} | {"ra": 16, "rip": 16}
 RBP, RSP, RA = 6, 7, 16
@@ -280,12 +281,19 @@ def main(library, only_count, show_lines):
         "//! what the numbers are, from readelf's print.\n\n"
         "/// The section's address.\n"
         f"pub(crate) const LIBC_ADDRESS: u64 = {address:#x};\n\n"
+        "/// Lists numbers that stand several in a line.\n"
+        "macro_rules! numbers {\n"
+        "    ($($number:literal)*) => {\n"
+        "        [$($number),*]\n"
+        "    };\n"
+        "}\n\n"
         f"/// The section's bytes, {WORD} in a number, the first ones highest.\n"
-        f"pub(crate) const LIBC_WORDS: [u128; {size // WORD}] = [\n"]
+        f"pub(crate) const LIBC_WORDS: [u128; {size // WORD}] = numbers! {{\n"]
     if size % WORD:
         raise ValueError("a section that is no whole number of words")
-    out += [f"    0x{data[at:at + WORD].hex()},\n" for at in range(0, size, WORD)]
-    out.append("];\n\n"
+    words = [f"0x{data[at:at + WORD].hex()}" for at in range(0, size, WORD)]
+    out += [f"    {' '.join(words[at:at + A_LINE])}\n" for at in range(0, len(words), A_LINE)]
+    out.append("};\n\n"
                f"/// For each {BLOCK} FDEs: the number of lines, and their digest.\n"
                f"pub(crate) const LIBC_BLOCKS: [(usize, u64); {-(-len(fdes) // BLOCK)}] = [\n")
     for block in range(0, len(fdes), BLOCK):
