@@ -4,8 +4,6 @@
 
 pub mod aarch64;
 pub mod instruction_analysis;
-#[cfg(test)]
-mod real_code;
 pub mod x86_64;
 
 pub use instruction_analysis::InstructionAnalysis;

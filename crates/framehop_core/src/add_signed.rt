@@ -72,37 +72,3 @@ impl AddSigned for u32 {
         u32::checked_add_signed(self, rhs)
     }
 }
-
-#[cfg(test)]
-mod tests {
-    use super::*;
-
-    #[test]
-    fn adds_and_subtracts(rt: HostRuntime) {
-        for (lhs, rhs, sum) in [
-            (1, 2, 3),
-            (2, 1, 3),
-            (5, -4, 1),
-            (5, -5, 0),
-            (u64::MAX - 5, 3, u64::MAX - 2),
-            (u64::MAX - 5, 5, u64::MAX),
-            (u64::MAX - 5, -5, u64::MAX - 10),
-        ] {
-            assert_eq!(rt; wrapping_add_signed(lhs, rhs), sum);
-            assert_eq!(rt; checked_add_signed(lhs, rhs), Some(sum));
-        }
-        for (lhs, rhs, wrapped) in [
-            (1, -2, u64::MAX),
-            (2, -4, u64::MAX - 1),
-            (u64::MAX, 1, 0),
-            (u64::MAX - 5, 6, 0),
-            (u64::MAX - 5, 9, 3),
-        ] {
-            assert_eq!(rt; wrapping_add_signed(lhs, rhs), wrapped);
-            assert_eq!(rt; checked_add_signed(lhs, rhs), None);
-        }
-        assert_eq!(rt; wrapping_add_signed(1_u32, -2), u32::MAX);
-        assert_eq!(rt; checked_add_signed(1_u32, -2), None);
-        assert_eq!(rt; checked_add_signed(u32::MAX - 5, 5), Some(u32::MAX));
-    }
-}

@@ -68,23 +68,3 @@ impl FrameAddress {
         }
     }
 }
-
-#[cfg(test)]
-mod tests {
-    use super::*;
-    use std::test::Fail;
-
-    #[test]
-    fn looks_up_inside_the_call(rt: HostRuntime) -> Result<(), Fail> {
-        assert_eq!(rt; FrameAddress::from_return_address(0), None);
-        let caller = FrameAddress::from_return_address(0x1000).ok_or("not 0")?;
-        assert_eq!(rt; caller.address(), 0x1000);
-        assert_eq!(rt; caller.address_for_lookup(), 0xfff);
-        assert!(rt; caller.is_return_address());
-        let first = FrameAddress::from_instruction_pointer(0);
-        assert_eq!(rt; first.address(), 0);
-        assert_eq!(rt; first.address_for_lookup(), 0);
-        assert!(rt; !first.is_return_address());
-        Ok(())
-    }
-}

@@ -49,38 +49,3 @@ impl fmt::Display for Error {
 }
 
 impl error::Error for Error {}
-
-#[cfg(test)]
-mod tests {
-    use super::*;
-    use std::test::Fail;
-
-    #[test]
-    fn prints_each_error(rt: HostRuntime) -> Result<(), Fail> {
-        for (error, text) in [
-            (
-                Error::CouldNotReadStack(0x1003fc0de),
-                "Could not read stack memory at 0x1003fc0de",
-            ),
-            (
-                Error::CouldNotReadStack(0),
-                "Could not read stack memory at 0x0",
-            ),
-            (
-                Error::FramepointerUnwindingMovedBackwards,
-                "Frame pointer unwinding moved backwards",
-            ),
-            (
-                Error::DidNotAdvance,
-                "Neither the code address nor the stack pointer changed, would loop",
-            ),
-            (Error::IntegerOverflow, "Unwinding caused integer overflow"),
-            (Error::ReturnAddressIsNull, "Return address is null"),
-            (Error::OutOfMemory, "Out of memory"),
-        ] {
-            let printed = error.to_string(rt.alloc())?;
-            assert_eq!(rt; printed.as_str(), text);
-        }
-        Ok(())
-    }
-}

@@ -45,6 +45,3 @@ impl InstructionAnalysis for ArchAarch64 {
         unwind_rule_from_detected_epilogue(text_bytes, pc_offset)
     }
 }
-
-#[cfg(test)]
-mod tests;

@@ -42,6 +42,3 @@ impl InstructionAnalysis for ArchX86_64 {
         unwind_rule_from_detected_epilogue(text_bytes, pc_offset)
     }
 }
-
-#[cfg(test)]
-mod tests;

@@ -321,6 +321,3 @@ fn finish(
     regs.set_fp(new_fp);
     Ok(Some(return_address))
 }
-
-#[cfg(test)]
-mod tests;

@@ -485,6 +485,3 @@ fn word_below(sp: u64) -> Result<u64, Error>
 {
     sp.checked_sub(8).ok_or(Error::IntegerOverflow)
 }
-
-#[cfg(test)]
-mod tests;

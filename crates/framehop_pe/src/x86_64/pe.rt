@@ -344,6 +344,3 @@ impl PeUnwinding for ArchX86_64 {
         }
     }
 }
-
-#[cfg(test)]
-mod tests;

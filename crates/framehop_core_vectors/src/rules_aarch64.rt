@@ -4,10 +4,10 @@ ghost use Rattle.framehop_core.specs.Memory.{memory_of_words, reply};
 ghost use Rattle.framehop_core.specs.Outcome.{answer_of, registers_after};
 ghost use Rattle.framehop_core.specs.Aarch64.Rules.{outcome};
 
-use super::{UnwindRuleAarch64, run_rules};
-use crate::aarch64::unwindregs::{PtrAuthMask, UnwindRegsAarch64};
-use crate::error::Error;
-use crate::unwind_rule::{RunEnd, UnwindRule};
+use framehop_core::aarch64::unwindregs::{PtrAuthMask, UnwindRegsAarch64};
+use framehop_core::aarch64::{UnwindRuleAarch64, run_rules};
+use framehop_core::error::Error;
+use framehop_core::unwind_rule::{RunEnd, UnwindRule};
 use std::alloc::Global;
 use std::test::Fail;
 

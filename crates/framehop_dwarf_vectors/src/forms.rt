@@ -1,14 +1,14 @@
 //! Forms of entries, pointers and headers that real libraries rarely have.
 
-use crate::index::{DwarfCfiIndex, DwarfCfiIndexError};
-use crate::tests::{ONE_FDE, bytes, row_text};
-use crate::unwinder::DwarfUnwinder;
+use crate::sections::{ONE_FDE, bytes, row_text};
 use framehop_cfi::context::UnwindContext;
 use framehop_cfi::entry::{UnwindSection, UnwindSectionType};
 use framehop_cfi::pointer::BaseAddresses;
 use framehop_cfi::read_error::ReadError;
 use framehop_cfi::section::SectionBytes;
 use framehop_cfi::storage::StoreOnStack;
+use framehop_dwarf::index::{DwarfCfiIndex, DwarfCfiIndexError};
+use framehop_dwarf::unwinder::DwarfUnwinder;
 use std::test::Fail;
 
 /// A section at 0x2000, its header at 0x3000, the text at 0x1000 and the data at 0x800.

@@ -1,15 +1,12 @@
 //! From rows to frames: sections by hand with answers worked out from the standard, the operations of
 //! expressions, and the rows of real libraries.
 
-use crate::dwarf::{DwarfUnwinderError, eval_cfa_rule, eval_register_rule};
-use crate::evaluation::{EvaluationStorage, evaluate};
-use crate::tests::{
+use crate::sections::{
     AARCH64_ADDRESS, AARCH64_BYTES, AARCH64_ROWS, ASSEMBLED_ADDRESS, ASSEMBLED_BYTES,
     ASSEMBLED_ROWS, COMPILED_ADDRESS, COMPILED_BYTES, COMPILED_ROWS, DEBUG_FRAME, LIBC_ADDRESS,
     LIBC_BYTES, LIBC_ROWS, LIBGCC_ADDRESS, LIBGCC_BYTES, LIBGCC_ROWS, LIBSTDCXX_ADDRESS,
     LIBSTDCXX_BYTES, LIBSTDCXX_ROWS, ONE_FDE, at, bytes,
 };
-use crate::unwinder::DwarfUnwinder;
 use framehop_cfi::context::UnwindContext;
 use framehop_cfi::entry::UnwindSectionType;
 use framehop_cfi::read_error::ReadError;
@@ -20,6 +17,9 @@ use framehop_core::aarch64::arch::ArchAarch64;
 use framehop_core::aarch64::unwindregs::{PtrAuthMask, UnwindRegsAarch64};
 use framehop_core::x86_64::arch::ArchX86_64;
 use framehop_core::x86_64::unwindregs::UnwindRegsX86_64;
+use framehop_dwarf::dwarf::{DwarfUnwinderError, eval_cfa_rule, eval_register_rule};
+use framehop_dwarf::evaluation::{EvaluationStorage, evaluate};
+use framehop_dwarf::unwinder::DwarfUnwinder;
 use std::alloc::Global;
 use std::test::Fail;
 

@@ -1,17 +1,17 @@
 //! Worked examples, made by hand after the format.
-use crate::macho::{
-    CompactUnwindInfoUnwinder, CompactUnwindInfoUnwinderError, CompactUnwindInfoUnwinding,
-    CuiUnwindResult, TextBytes,
-};
 use crate::real_info::{
     AARCH64_END, AARCH64_FUNCTIONS, AARCH64_INFO, X86_64_END, X86_64_FUNCTIONS, X86_64_INFO,
 };
-use crate::unwind_info::error::CompactReadError;
-use crate::unwind_info::info::Function;
 use framehop_cfi::entry::{UnwindSection, UnwindSectionType};
 use framehop_cfi::pointer::BaseAddresses;
 use framehop_core::aarch64::{ArchAarch64, UnwindRuleAarch64};
 use framehop_core::x86_64::{ArchX86_64, UnwindRuleX86_64};
+use framehop_macho::macho::{
+    CompactUnwindInfoUnwinder, CompactUnwindInfoUnwinderError, CompactUnwindInfoUnwinding,
+    CuiUnwindResult, TextBytes,
+};
+use framehop_macho::unwind_info::error::CompactReadError;
+use framehop_macho::unwind_info::info::Function;
 use std::test::Fail;
 
 // one page, regular, with one function from 0x1000 to 0x2000 and the opcode 0x01000000

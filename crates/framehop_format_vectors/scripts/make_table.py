@@ -1,9 +1,9 @@
 #!/usr/bin/env python3
-"""Makes src/x86_64/pe/tests/table.rt: a DLL's sections, and what unwinding gives at addresses of it.
+"""Makes src/dll.rt: a DLL's sections, and what unwinding gives at addresses of it.
 
 The DLL is made of functions.c by mingw's gcc (Debian: gcc-mingw-w64-x86-64-posix). What unwinding
 gives is worked out here from the codes that llvm-readobj prints and the instructions that objdump
-prints, and not by the library. Run it anywhere: scripts/make_table.py > src/x86_64/pe/tests/table.rt,
+prints, and not by the library. Run it anywhere: scripts/make_table.py > src/dll.rt,
 then `rt fmt`.
 """
 import os

@@ -1,8 +1,8 @@
 //! Worked examples of the rules of x86_64.
-use super::{OffsetOrPop, UnwindRuleX86_64, run_rules};
-use crate::error::Error;
-use crate::unwind_rule::{RunEnd, UnwindRule};
-use crate::x86_64::unwindregs::{Reg, UnwindRegsX86_64};
+use framehop_core::error::Error;
+use framehop_core::unwind_rule::{RunEnd, UnwindRule};
+use framehop_core::x86_64::unwindregs::{Reg, UnwindRegsX86_64};
+use framehop_core::x86_64::{OffsetOrPop, UnwindRuleX86_64, run_rules};
 use std::alloc::Global;
 use std::test::Fail;
 

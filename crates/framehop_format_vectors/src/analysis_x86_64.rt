@@ -1,8 +1,10 @@
 //! Worked examples of prologues and epilogues, with the rules that framehop's documentation and the
 //! instructions' manual give for them.
-use super::{unwind_rule_from_detected_epilogue, unwind_rule_from_detected_prologue};
-use crate::instruction_analysis::InstructionAnalysis;
 use crate::real_code::{Place, X86_64_CODE, X86_64_PLACES};
+use framehop_analysis::InstructionAnalysis;
+use framehop_analysis::x86_64::instruction_analysis::{
+    unwind_rule_from_detected_epilogue, unwind_rule_from_detected_prologue,
+};
 use framehop_core::Error;
 use framehop_core::unwind_rule::UnwindRule;
 use framehop_core::x86_64::{ArchX86_64, UnwindRegsX86_64, UnwindRuleX86_64};

@@ -1,8 +1,6 @@
 //! Sections by hand and from real libraries, with the answers that other tools give.
 ghost use Rattle.std.specs.Prelude.{[], ◌∷◌, codes, None, Some};
 
-use crate::index::{DwarfCfiIndex, DwarfCfiIndexError};
-use crate::unwinder::DwarfUnwinder;
 use framehop_cfi::context::UnwindContext;
 use framehop_cfi::entry::{UnwindSection, UnwindSectionType};
 use framehop_cfi::pointer::BaseAddresses;
@@ -11,6 +9,8 @@ use framehop_cfi::row::UnwindTableRow;
 use framehop_cfi::rule::{CfaRule, Register, RegisterRule};
 use framehop_cfi::section::{ModuleSectionInfo, SectionBytes};
 use framehop_cfi::storage::{StoreOnHeap, StoreOnStack, UnwindContextStorage};
+use framehop_dwarf::index::{DwarfCfiIndex, DwarfCfiIndexError};
+use framehop_dwarf::unwinder::DwarfUnwinder;
 use std::alloc::{AllocError, Global};
 use std::ops::Range;
 use std::test::Fail;

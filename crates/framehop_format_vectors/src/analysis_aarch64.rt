@@ -1,8 +1,10 @@
 //! Worked examples of prologues and epilogues, with the rules that framehop's documentation and the
 //! instructions' manual give for them.
-use super::{unwind_rule_from_detected_epilogue, unwind_rule_from_detected_prologue};
-use crate::instruction_analysis::InstructionAnalysis;
 use crate::real_code::{AARCH64_CODE, AARCH64_PLACES, Place};
+use framehop_analysis::InstructionAnalysis;
+use framehop_analysis::aarch64::instruction_analysis::{
+    unwind_rule_from_detected_epilogue, unwind_rule_from_detected_prologue,
+};
 use framehop_core::Error;
 use framehop_core::aarch64::{ArchAarch64, UnwindRegsAarch64, UnwindRuleAarch64};
 use framehop_core::unwind_rule::UnwindRule;

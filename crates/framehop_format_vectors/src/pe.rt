@@ -1,14 +1,14 @@
 //! Unwinding by hand-made sections, and by those of a DLL.
-mod table;
-
-use super::*;
-use crate::pe::DataAtRvaRange;
-use crate::unwind_info::register::register_of;
+use crate::dll::{PDATA, ROWS, Row, TEXT, TEXT_RVA, XDATA, XDATA_RVA};
+use framehop_cfi::section::SectionBytes;
 use framehop_core::aarch64::{ArchAarch64, UnwindRegsAarch64};
+use framehop_core::unwind_result::UnwindResult;
 use framehop_core::unwind_rule::UnwindRule;
+use framehop_core::x86_64::{ArchX86_64, Reg, UnwindRegsX86_64, UnwindRuleX86_64};
+use framehop_pe::pe::{DataAtRvaRange, PeSections, PeUnwinderError, PeUnwinding};
+use framehop_pe::unwind_info::register::register_of;
 use std::alloc::{AllocError, Global};
 use std::test::Fail;
-use table::{PDATA, ROWS, Row, TEXT, TEXT_RVA, XDATA, XDATA_RVA};
 
 /// Lent bytes.
 #[derive(Drop)]
