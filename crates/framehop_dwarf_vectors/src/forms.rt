@@ -1,6 +1,6 @@
 //! Forms of entries, pointers and headers that real libraries rarely have.
 
-use crate::sections::{ONE_FDE, bytes, row_text};
+use crate::sections::{ONE_FDE, bytes, offset_by, row_text};
 use framehop_cfi::context::UnwindContext;
 use framehop_cfi::entry::{UnwindSection, UnwindSectionType};
 use framehop_cfi::pointer::BaseAddresses;
@@ -8,7 +8,6 @@ use framehop_cfi::read_error::ReadError;
 use framehop_cfi::section::SectionBytes;
 use framehop_cfi::storage::StoreOnStack;
 use framehop_dwarf::index::{DwarfCfiIndex, DwarfCfiIndexError};
-use framehop_dwarf::unwinder::DwarfUnwinder;
 use std::test::Fail;
 
 /// A section at 0x2000, its header at 0x3000, the text at 0x1000 and the data at 0x800.
@@ -107,26 +106,6 @@ fn zero_lengths(rt: HostRuntime) -> Result<(), Fail> {
     )?;
     assert_eq!(rt; index.fde_offset_for_relative_address(0x1000), Some(24));
     Ok(())
-}
-
-/// The offset that a header has for an address, over a section that is not looked at.
-fn offset_by(
-    rt: &(impl std::process::Abort + AllocGlobal),
-    header: &str,
-    bases: BaseAddresses,
-    address: u32,
-) -> Result<Option<u32>, Fail> {
-    let header = bytes(rt.alloc(), header)?;
-    let mut context = UnwindContext::<StoreOnStack>::new_in(rt.alloc())?;
-    let unwinder: DwarfUnwinder<'_, (), StoreOnStack> = DwarfUnwinder::new(
-        &[],
-        UnwindSectionType::EhFrame,
-        Some(header.bytes()),
-        &mut context,
-        bases,
-        0,
-    );
-    Ok(unwinder.get_fde_offset_for_relative_address(address))
 }
 
 #[test]

@@ -13,10 +13,9 @@ use framehop_cfi::read_error::ReadError;
 use framehop_cfi::rule::{CfaRule, Expression, Register, RegisterRule};
 use framehop_cfi::section::SectionBytes;
 use framehop_cfi::storage::{StoreOnHeap, StoreOnStack, UnwindContextStorage};
-use framehop_core::aarch64::arch::ArchAarch64;
-use framehop_core::aarch64::unwindregs::{PtrAuthMask, UnwindRegsAarch64};
-use framehop_core::x86_64::arch::ArchX86_64;
-use framehop_core::x86_64::unwindregs::UnwindRegsX86_64;
+use framehop_core::aarch64::{ArchAarch64, PtrAuthMask, UnwindRegsAarch64, UnwindRuleAarch64};
+use framehop_core::unwind_result::UnwindResult;
+use framehop_core::x86_64::{ArchX86_64, UnwindRegsX86_64, UnwindRuleX86_64};
 use framehop_dwarf::dwarf::{DwarfUnwinderError, eval_cfa_rule, eval_register_rule};
 use framehop_dwarf::evaluation::{EvaluationStorage, evaluate};
 use framehop_dwarf::unwinder::DwarfUnwinder;
@@ -29,16 +28,19 @@ const CIE: &str = "14000000 00000000 01 7a5200 01 78 10 01 1b 0c0708 9001 0000";
 /// The CIE of aarch64 code, at 0x2000.
 const AARCH64_CIE: &str = "10000000 00000000 01 7a5200 01 78 1e 01 1b 0c1f00";
 
-/// Unwinds a frame of x86_64 by the FDE at an offset, over a stack of one word: the answer and the
-/// registers ip, sp and bp, as text.
-fn x86_64_frame<S: UnwindContextStorage + EvaluationStorage>(
-    rt: &(impl std::process::Abort + AllocGlobal),
+/// What unwinding a frame returns.
+type Answer<R> = Result<UnwindResult<R>, DwarfUnwinderError>;
+
+/// Unwinds a frame of x86_64 by the FDE at an offset, over a stack of one word: what the call returns, and the
+/// registers after it.
+fn unwind_x86_64<S: UnwindContextStorage + EvaluationStorage>(
+    alloc: Global,
     section: &[u8],
     section_type: UnwindSectionType,
-    place: (u32, u32, bool),
-    word: (u64, u64),
-) -> Result<String, Fail> {
-    let mut context = UnwindContext::<S>::new_in(rt.alloc())?;
+    (offset, relative, is_first_frame): (u32, u32, bool),
+    (address, value): (u64, u64),
+) -> Result<(Answer<UnwindRuleX86_64>, UnwindRegsX86_64), Fail> {
+    let mut context = UnwindContext::<S>::new_in(alloc)?;
     let mut unwinder: DwarfUnwinder<'_, ArchX86_64, S> = DwarfUnwinder::new(
         section,
         section_type,
@@ -47,31 +49,42 @@ fn x86_64_frame<S: UnwindContextStorage + EvaluationStorage>(
         at(0x2000),
         0,
     );
-    let (offset, relative, is_first_frame) = place;
-    let (address, value) = word;
     let mut regs = UnwindRegsX86_64::new(0x100b, 0x100, 0x200);
     let mut read_stack = |at: u64| if at == address { Ok(value) } else { Err(()) };
-    let told = unwinder.unwind_frame_with_fde::<S, _>(
-        rt.alloc(),
+    let answer = unwinder.unwind_frame_with_fde::<S, _>(
+        alloc,
         &mut regs,
         is_first_frame,
         relative,
         offset,
         &mut read_stack,
     );
-    let (ip, sp, bp) = (regs.ip(), regs.sp(), regs.bp());
-    let text = format!(in rt.alloc(); "{told:?} {ip:x} {sp:x} {bp:x}")?;
-    Ok(text)
+    Ok((answer, regs))
 }
 
-/// The same for aarch64, with the registers lr, sp and fp, and a mask of 40 bits.
-fn aarch64_frame<S: UnwindContextStorage + EvaluationStorage>(
+/// The same as text, with the registers ip, sp and bp.
+fn x86_64_frame<S: UnwindContextStorage + EvaluationStorage>(
     rt: &(impl std::process::Abort + AllocGlobal),
     section: &[u8],
+    section_type: UnwindSectionType,
     place: (u32, u32, bool),
     word: (u64, u64),
 ) -> Result<String, Fail> {
-    let mut context = UnwindContext::<S>::new_in(rt.alloc())?;
+    let (answer, regs) = unwind_x86_64::<S>(rt.alloc(), section, section_type, place, word)?;
+    let (ip, sp, bp) = (regs.ip(), regs.sp(), regs.bp());
+    let text = format!(in rt.alloc(); "{answer:?} {ip:x} {sp:x} {bp:x}")?;
+    Ok(text)
+}
+
+/// Unwinds a frame of aarch64 by the FDE at an offset, over a stack of one word: what the call returns, and the
+/// registers after it.
+fn unwind_aarch64<S: UnwindContextStorage + EvaluationStorage>(
+    alloc: Global,
+    section: &[u8],
+    (offset, relative, is_first_frame): (u32, u32, bool),
+    (address, value): (u64, u64),
+) -> Result<(Answer<UnwindRuleAarch64>, UnwindRegsAarch64), Fail> {
+    let mut context = UnwindContext::<S>::new_in(alloc)?;
     let mut unwinder: DwarfUnwinder<'_, ArchAarch64, S> = DwarfUnwinder::new(
         section,
         UnwindSectionType::EhFrame,
@@ -80,21 +93,30 @@ fn aarch64_frame<S: UnwindContextStorage + EvaluationStorage>(
         at(0x2000),
         0,
     );
-    let (offset, relative, is_first_frame) = place;
-    let (address, value) = word;
     let mask = PtrAuthMask::new_24_40();
     let mut regs = UnwindRegsAarch64::new_with_ptr_auth_mask(mask, 0x3000, 0x100, 0x200);
     let mut read_stack = |at: u64| if at == address { Ok(value) } else { Err(()) };
-    let told = unwinder.unwind_frame_with_fde::<S, _>(
-        rt.alloc(),
+    let answer = unwinder.unwind_frame_with_fde::<S, _>(
+        alloc,
         &mut regs,
         is_first_frame,
         relative,
         offset,
         &mut read_stack,
     );
+    Ok((answer, regs))
+}
+
+/// The same as text, with the registers lr, sp and fp.
+fn aarch64_frame<S: UnwindContextStorage + EvaluationStorage>(
+    rt: &(impl std::process::Abort + AllocGlobal),
+    section: &[u8],
+    place: (u32, u32, bool),
+    word: (u64, u64),
+) -> Result<String, Fail> {
+    let (answer, regs) = unwind_aarch64::<S>(rt.alloc(), section, place, word)?;
     let (lr, sp, fp) = (regs.lr(), regs.sp(), regs.fp());
-    let text = format!(in rt.alloc(); "{told:?} {lr:x} {sp:x} {fp:x}")?;
+    let text = format!(in rt.alloc(); "{answer:?} {lr:x} {sp:x} {fp:x}")?;
     Ok(text)
 }
 
@@ -455,6 +477,62 @@ fn rule_of<'a>(rules: &[(&str, &'a str)], row: &str) -> Option<&'a str> {
     None
 }
 
+/// What unwinding a frame of x86_64 by the FDE at an offset returns, over words that equal their addresses.
+fn rule_of_x86_64(
+    alloc: Global,
+    unwinder: &mut DwarfUnwinder<'_, ArchX86_64, StoreOnStack>,
+    offset: u32,
+    relative: u32,
+) -> Answer<UnwindRuleX86_64> {
+    let mut regs = UnwindRegsX86_64::new(0x1000, 0x100, 0x200);
+    let mut read_stack = |at: u64| Ok(at);
+    unwinder.unwind_frame_with_fde::<StoreOnStack, _>(
+        alloc,
+        &mut regs,
+        true,
+        relative,
+        offset,
+        &mut read_stack,
+    )
+}
+
+/// The same for aarch64.
+fn rule_of_aarch64(
+    alloc: Global,
+    unwinder: &mut DwarfUnwinder<'_, ArchAarch64, StoreOnHeap>,
+    offset: u32,
+    relative: u32,
+) -> Answer<UnwindRuleAarch64> {
+    let mut regs = UnwindRegsAarch64::new(0x1000, 0x100, 0x200);
+    let mut read_stack = |at: u64| Ok(at);
+    unwinder.unwind_frame_with_fde::<StoreOnHeap, _>(
+        alloc,
+        &mut regs,
+        true,
+        relative,
+        offset,
+        &mut read_stack,
+    )
+}
+
+/// Compares an answer with the rule of its row.
+fn compare(
+    rt: &(impl std::process::Abort + AllocGlobal),
+    answer: &str,
+    rules: &[(&str, &str)],
+    row: &str,
+) -> Result<(), Fail> {
+    match rule_of(rules, row) {
+        Some("direct") => assert!(rt; !answer.starts_with("Ok(ExecRule("), "{row}"),
+        Some(rule) => {
+            let expected = format!(in rt.alloc(); "Ok(ExecRule({rule}))")?;
+            assert_eq!(rt; answer, expected.as_str(), "{row}");
+        }
+        None => assert!(rt; false, "{row}"),
+    }
+    Ok(())
+}
+
 /// Compares the answer at each row of a real section with the rule of its row.
 fn compare_x86_64(
     rt: &(impl std::process::Abort + AllocGlobal),
@@ -473,27 +551,10 @@ fn compare_x86_64(
         at(address),
         0,
     );
-    let mut read_stack = |at: u64| Ok(at);
     for (offset, place, row) in rows {
-        let mut regs = UnwindRegsX86_64::new(0x1000, 0x100, 0x200);
-        let relative = u32::try_from(*place)?;
-        let told = unwinder.unwind_frame_with_fde::<StoreOnStack, _>(
-            rt.alloc(),
-            &mut regs,
-            true,
-            relative,
-            *offset,
-            &mut read_stack,
-        );
-        let told = format!(in rt.alloc(); "{told:?}")?;
-        match rule_of(&X86_64_RULES, row) {
-            Some("direct") => assert!(rt; !told.as_str().starts_with("Ok(ExecRule("), "{row}"),
-            Some(rule) => {
-                let expected = format!(in rt.alloc(); "Ok(ExecRule({rule}))")?;
-                assert_eq!(rt; told.as_str(), expected.as_str(), "{row}");
-            }
-            None => assert!(rt; false, "{row}"),
-        }
+        let told = rule_of_x86_64(rt.alloc(), &mut unwinder, *offset, u32::try_from(*place)?);
+        let answer = format!(in rt.alloc(); "{told:?}")?;
+        compare(rt, answer.as_str(), &X86_64_RULES, row)?;
     }
     Ok(())
 }
@@ -539,25 +600,10 @@ fn rules_of_real_rows_of_aarch64(rt: HostRuntime) -> Result<(), Fail> {
         at(AARCH64_ADDRESS),
         0,
     );
-    let mut read_stack = |at: u64| Ok(at);
     for (offset, place, row) in AARCH64_ROWS {
-        let mut regs = UnwindRegsAarch64::new(0x1000, 0x100, 0x200);
-        let relative = u32::try_from(place)?;
-        let told = unwinder.unwind_frame_with_fde::<StoreOnHeap, _>(
-            rt.alloc(),
-            &mut regs,
-            true,
-            relative,
-            offset,
-            &mut read_stack,
-        );
-        let told = format!(in rt.alloc(); "{told:?}")?;
-        let Some(rule) = rule_of(&AARCH64_RULES, row) else {
-            assert!(rt; false, "{row}");
-            return Ok(());
-        };
-        let expected = format!(in rt.alloc(); "Ok(ExecRule({rule}))")?;
-        assert_eq!(rt; told.as_str(), expected.as_str(), "{row}");
+        let told = rule_of_aarch64(rt.alloc(), &mut unwinder, offset, u32::try_from(place)?);
+        let answer = format!(in rt.alloc(); "{told:?}")?;
+        compare(&rt, answer.as_str(), &AARCH64_RULES, row)?;
     }
     Ok(())
 }

@@ -241,40 +241,32 @@ fn rows_of_one_fde(rt: HostRuntime) -> Result<(), Fail> {
     Ok(())
 }
 
+/// The offset that a header has for an address, over a section that is not looked at.
+pub(crate) fn offset_by(
+    rt: &(impl std::process::Abort + AllocGlobal),
+    header: &str,
+    bases: BaseAddresses,
+    address: u32,
+) -> Result<Option<u32>, Fail> {
+    let header = bytes(rt.alloc(), header)?;
+    let mut context = UnwindContext::<StoreOnStack>::new_in(rt.alloc())?;
+    let unwinder: DwarfUnwinder<'_, (), StoreOnStack> = DwarfUnwinder::new(
+        &[],
+        UnwindSectionType::EhFrame,
+        Some(header.bytes()),
+        &mut context,
+        bases,
+        0,
+    );
+    Ok(unwinder.get_fde_offset_for_relative_address(address))
+}
+
 #[test]
 fn fdes_by_the_header(rt: HostRuntime) -> Result<(), Fail> {
-    let data = bytes(rt.alloc(), ONE_FDE)?;
-    let header = bytes(rt.alloc(), HEADER)?;
-    let mut context = UnwindContext::<StoreOnStack>::new_in(rt.alloc())?;
-    let unwinder: DwarfUnwinder<'_, (), StoreOnStack> = DwarfUnwinder::new(
-        data.bytes(),
-        UnwindSectionType::EhFrame,
-        Some(header.bytes()),
-        &mut context,
-        at(0x2000),
-        0,
-    );
+    assert_eq!(rt; offset_by(&rt, HEADER, at(0x2000), 0xfff)?, Some(24));
+    assert_eq!(rt; offset_by(&rt, HEADER, at(0x2000), 0x1000)?, Some(24));
     assert_eq!(rt;
-        unwinder.get_fde_offset_for_relative_address(0xfff),
-        Some(24)
-    );
-    assert_eq!(rt;
-        unwinder.get_fde_offset_for_relative_address(0x1000),
-        Some(24)
-    );
-
-    let header = bytes(rt.alloc(), UNORDERED_HEADER)?;
-    let mut context = UnwindContext::<StoreOnStack>::new_in(rt.alloc())?;
-    let unwinder: DwarfUnwinder<'_, (), StoreOnStack> = DwarfUnwinder::new(
-        data.bytes(),
-        UnwindSectionType::EhFrame,
-        Some(header.bytes()),
-        &mut context,
-        at(0x2000),
-        0,
-    );
-    assert_eq!(rt;
-        unwinder.get_fde_offset_for_relative_address(0x2500),
+        offset_by(&rt, UNORDERED_HEADER, at(0x2000), 0x2500)?,
         Some(24)
     );
     Ok(())
