@@ -80,6 +80,15 @@ fn aarch64(
     )
 }
 
+/// What an unwinder returns for a frame.
+fn unwound<A: CompactUnwindInfoUnwinding>(
+    unwinder: &CompactUnwindInfoUnwinder<'_, A>,
+    address: u32,
+    is_first_frame: bool,
+) -> Result<CuiUnwindResult<A::UnwindRule>, CompactUnwindInfoUnwinderError> {
+    unwinder.unwind_frame(address, is_first_frame)
+}
+
 #[test]
 fn reads_a_regular_page(rt: HostRuntime) {
     let unwinder = CompactUnwindInfoUnwinder::<ArchX86_64>::new(
@@ -102,19 +111,19 @@ fn reads_a_regular_page(rt: HostRuntime) {
         );
     }
     assert_eq!(rt;
-        unwinder.unwind_frame(0x1000, true),
+        unwound(&unwinder, 0x1000, true),
         Ok(CuiUnwindResult::ExecRule(UnwindRuleX86_64::JustReturn))
     );
     assert_eq!(rt;
-        unwinder.unwind_frame(0x1000, false),
+        unwound(&unwinder, 0x1000, false),
         Ok(CuiUnwindResult::ExecRule(UnwindRuleX86_64::UseFramePointer))
     );
     assert_eq!(rt;
-        unwinder.unwind_frame(0xfff, true),
+        unwound(&unwinder, 0xfff, true),
         Ok(CuiUnwindResult::ExecRule(UnwindRuleX86_64::JustReturn))
     );
     assert_eq!(rt;
-        unwinder.unwind_frame(0xfff, false),
+        unwound(&unwinder, 0xfff, false),
         Err(CompactUnwindInfoUnwinderError::AddressOutsideRange(0xfff))
     );
 }
@@ -144,7 +153,7 @@ fn reads_a_compressed_page(rt: HostRuntime) {
         Err(CompactUnwindInfoUnwinderError::BadFormat(CompactReadError::BadEncodingIndex))
     );
     assert_eq!(rt;
-        unwinder.unwind_frame(0x1001, true),
+        unwound(&unwinder, 0x1001, true),
         Ok(CuiUnwindResult::ExecRule(UnwindRuleAarch64::OffsetSp {
             sp_offset_by_16: 32
         }))
@@ -202,17 +211,17 @@ fn excepts_stubs(rt: HostRuntime) {
     );
     let refused = Err(CompactUnwindInfoUnwinderError::StubFunctionCannotBeCaller);
     assert_eq!(rt;
-        unwinder.unwind_frame(0x1100, true),
+        unwound(&unwinder, 0x1100, true),
         Ok(CuiUnwindResult::ExecRule(UnwindRuleX86_64::JustReturn))
     );
-    assert_eq!(rt; unwinder.unwind_frame(0x1100, false), refused);
+    assert_eq!(rt; unwound(&unwinder, 0x1100, false), refused);
     assert_eq!(rt;
-        unwinder.unwind_frame(0x1207, true),
+        unwound(&unwinder, 0x1207, true),
         Ok(CuiUnwindResult::ExecRule(UnwindRuleX86_64::OffsetSp { sp_offset_by_8: 3 }))
     );
-    assert_eq!(rt; unwinder.unwind_frame(0x12ff, false), refused);
+    assert_eq!(rt; unwound(&unwinder, 0x12ff, false), refused);
     assert_eq!(rt;
-        unwinder.unwind_frame(0x1300, false),
+        unwound(&unwinder, 0x1300, false),
         Ok(CuiUnwindResult::ExecRule(UnwindRuleX86_64::UseFramePointer))
     );
 }
@@ -233,11 +242,11 @@ fn uses_the_code(rt: HostRuntime) {
         (0, 0),
     );
     assert_eq!(rt;
-        unwinder.unwind_frame(0x1001, true),
+        unwound(&unwinder, 0x1001, true),
         Ok(CuiUnwindResult::ExecRule(UnwindRuleX86_64::OffsetSp { sp_offset_by_8: 2 }))
     );
     assert_eq!(rt;
-        unwinder.unwind_frame(0x1004, true),
+        unwound(&unwinder, 0x1004, true),
         Ok(CuiUnwindResult::ExecRule(UnwindRuleX86_64::UseFramePointer))
     );
 }
@@ -286,7 +295,7 @@ fn finds_code_in_the_segment_and_in_the_section(rt: HostRuntime) {
             (0, 0),
         );
         assert_eq!(rt;
-            unwinder.unwind_frame(0x1001, true),
+            unwound(&unwinder, 0x1001, true),
             Ok(CuiUnwindResult::ExecRule(UnwindRuleX86_64::OffsetSp { sp_offset_by_8: 2 }))
         );
     }
@@ -298,7 +307,7 @@ fn finds_code_in_the_segment_and_in_the_section(rt: HostRuntime) {
             (0, 0),
         );
         assert_eq!(rt;
-            unwinder.unwind_frame(0x1001, true),
+            unwound(&unwinder, 0x1001, true),
             Ok(CuiUnwindResult::ExecRule(UnwindRuleX86_64::UseFramePointer))
         );
     }
@@ -320,7 +329,7 @@ fn finds_a_stack_size_in_the_segment_and_in_the_section(rt: HostRuntime) {
             (0, 0),
         );
         assert_eq!(rt;
-            unwinder.unwind_frame(0x1010, false),
+            unwound(&unwinder, 0x1010, false),
             Ok(CuiUnwindResult::ExecRule(UnwindRuleX86_64::OffsetSp { sp_offset_by_8: 17 }))
         );
     }
@@ -332,7 +341,7 @@ fn finds_a_stack_size_in_the_segment_and_in_the_section(rt: HostRuntime) {
             (0, 0),
         );
         assert_eq!(rt;
-            unwinder.unwind_frame(0x1010, false),
+            unwound(&unwinder, 0x1010, false),
             Err(CompactUnwindInfoUnwinderError::NoTextBytesToLookUpIndirectStackOffset)
         );
     }
@@ -356,7 +365,7 @@ fn finds_code_of_aarch64_in_the_segment_and_in_the_section(rt: HostRuntime) {
             (0, 0),
         );
         assert_eq!(rt;
-            unwinder.unwind_frame(0x1004, true),
+            unwound(&unwinder, 0x1004, true),
             Ok(CuiUnwindResult::ExecRule(UnwindRuleAarch64::OffsetSp { sp_offset_by_16: 5 }))
         );
     }
@@ -368,7 +377,7 @@ fn finds_code_of_aarch64_in_the_segment_and_in_the_section(rt: HostRuntime) {
             (0, 0),
         );
         assert_eq!(rt;
-            unwinder.unwind_frame(0x1004, true),
+            unwound(&unwinder, 0x1004, true),
             Ok(CuiUnwindResult::ExecRule(UnwindRuleAarch64::UseFramePointer))
         );
     }
@@ -391,14 +400,14 @@ fn finds_nothing_in_an_empty_level(rt: HostRuntime) {
         for address in [0u32, 0xfff, 0x1000, 0x1fff, 0x2000, 0xffff_ffff] {
             let outside = CompactUnwindInfoUnwinderError::AddressOutsideRange(address);
             assert_eq!(rt; x86_64.function_for_address(address), Err(outside));
-            assert_eq!(rt; x86_64.unwind_frame(address, false), Err(outside));
-            assert_eq!(rt; aarch64.unwind_frame(address, false), Err(outside));
+            assert_eq!(rt; unwound(&x86_64, address, false), Err(outside));
+            assert_eq!(rt; unwound(&aarch64, address, false), Err(outside));
             assert_eq!(rt;
-                x86_64.unwind_frame(address, true),
+                unwound(&x86_64, address, true),
                 Ok(CuiUnwindResult::ExecRule(UnwindRuleX86_64::JustReturn))
             );
             assert_eq!(rt;
-                aarch64.unwind_frame(address, true),
+                unwound(&aarch64, address, true),
                 Ok(CuiUnwindResult::ExecRule(UnwindRuleAarch64::NoOp))
             );
         }
@@ -422,8 +431,8 @@ fn refuses_an_address_above_32_bits(rt: HostRuntime) {
     let too_big = CompactUnwindInfoUnwinderError::BadFormat(CompactReadError::AddressTooBig);
     for address in [0xffff_f800u32, 0xffff_fffe] {
         assert_eq!(rt; unwinder.function_for_address(address), Err(too_big));
-        assert_eq!(rt; unwinder.unwind_frame(address, true), Err(too_big));
-        assert_eq!(rt; unwinder.unwind_frame(address, false), Err(too_big));
+        assert_eq!(rt; unwound(&unwinder, address, true), Err(too_big));
+        assert_eq!(rt; unwound(&unwinder, address, false), Err(too_big));
     }
     // the sentinel
     assert_eq!(rt;
