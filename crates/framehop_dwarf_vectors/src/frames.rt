@@ -120,6 +120,37 @@ fn aarch64_frame<S: UnwindContextStorage + EvaluationStorage>(
     Ok(text)
 }
 
+/// Compares a frame of x86_64, with the stacks of both policies.
+fn expect_x86_64(
+    rt: &(impl std::process::Abort + AllocGlobal),
+    section: &[u8],
+    section_type: UnwindSectionType,
+    place: (u32, u32, bool),
+    word: (u64, u64),
+    expected: &str,
+) -> Result<(), Fail> {
+    let told = x86_64_frame::<StoreOnStack>(rt, section, section_type, place, word)?;
+    assert_eq!(rt; told.as_str(), expected, "at {place:?}");
+    let told = x86_64_frame::<StoreOnHeap>(rt, section, section_type, place, word)?;
+    assert_eq!(rt; told.as_str(), expected, "at {place:?}");
+    Ok(())
+}
+
+/// Compares a frame of aarch64, with the stacks of both policies.
+fn expect_aarch64(
+    rt: &(impl std::process::Abort + AllocGlobal),
+    section: &[u8],
+    place: (u32, u32, bool),
+    word: (u64, u64),
+    expected: &str,
+) -> Result<(), Fail> {
+    let told = aarch64_frame::<StoreOnStack>(rt, section, place, word)?;
+    assert_eq!(rt; told.as_str(), expected, "at {place:?}");
+    let told = aarch64_frame::<StoreOnHeap>(rt, section, place, word)?;
+    assert_eq!(rt; told.as_str(), expected, "at {place:?}");
+    Ok(())
+}
+
 #[test]
 fn frames_of_one_fde(rt: HostRuntime) -> Result<(), Fail> {
     let section = bytes(rt.alloc(), ONE_FDE)?;
@@ -140,31 +171,30 @@ fn frames_of_one_fde(rt: HostRuntime) -> Result<(), Fail> {
     ] {
         let expected = format!(in rt.alloc(); "Ok(ExecRule({rule})) {kept}")?;
         let place = (24, relative, true);
-        let told = x86_64_frame::<StoreOnStack>(&rt, section.bytes(), eh_frame, place, (0, 0))?;
-        assert_eq!(rt; told.as_str(), expected.as_str(), "at {relative:x}");
-        let told = x86_64_frame::<StoreOnHeap>(&rt, section.bytes(), eh_frame, place, (0, 0))?;
-        assert_eq!(rt; told.as_str(), expected.as_str(), "at {relative:x}");
+        expect_x86_64(
+            &rt,
+            section.bytes(),
+            eh_frame,
+            place,
+            (0, 0),
+            expected.as_str(),
+        )?;
     }
-    let told = x86_64_frame::<StoreOnStack>(
+    let refused = "Err(FdeFromOffsetFailed(NotFde)) 100b 100 200";
+    expect_x86_64(
         &rt,
         section.bytes(),
         eh_frame,
         (0, 0x1000, true),
         (0, 0),
+        refused,
     )?;
-    assert_eq!(rt;
-        told.as_str(),
-        "Err(FdeFromOffsetFailed(NotFde)) 100b 100 200"
-    );
     let section = bytes(rt.alloc(), DEBUG_FRAME)?;
     let debug_frame = UnwindSectionType::DebugFrame;
     let place = (20, 0x1001, true);
-    let told = x86_64_frame::<StoreOnStack>(&rt, section.bytes(), debug_frame, place, (0, 0))?;
-    assert_eq!(rt;
-        told.as_str(),
-        "Ok(ExecRule(OffsetSpAndRestoreBp { sp_offset_by_8: 2, bp_storage_offset_from_sp_by_8: 0 })) 100b 100 200"
-    );
-    Ok(())
+    let restored =
+        "Ok(ExecRule(OffsetSpAndRestoreBp { sp_offset_by_8: 2, bp_storage_offset_from_sp_by_8: 0 })) 100b 100 200";
+    expect_x86_64(&rt, section.bytes(), debug_frame, place, (0, 0), restored)
 }
 
 #[test]
@@ -207,10 +237,7 @@ fn values_of_x86_64(rt: HostRuntime) -> Result<(), Fail> {
         let text = format!(in rt.alloc(); "{CIE} {fde} 00000000")?;
         let section = bytes(rt.alloc(), text.as_str())?;
         let place = (24, 0x100b, is_first_frame);
-        let told = x86_64_frame::<StoreOnStack>(&rt, section.bytes(), eh_frame, place, word)?;
-        assert_eq!(rt; told.as_str(), expected);
-        let told = x86_64_frame::<StoreOnHeap>(&rt, section.bytes(), eh_frame, place, word)?;
-        assert_eq!(rt; told.as_str(), expected);
+        expect_x86_64(&rt, section.bytes(), eh_frame, place, word, expected)?;
     }
     Ok(())
 }
@@ -263,19 +290,12 @@ fn frames_of_aarch64(rt: HostRuntime) -> Result<(), Fail> {
         let text = format!(in rt.alloc(); "{AARCH64_CIE} {fde} 00000000")?;
         let section = bytes(rt.alloc(), text.as_str())?;
         let place = (20, 0x1000, is_first_frame);
-        let told = aarch64_frame::<StoreOnStack>(&rt, section.bytes(), place, word)?;
-        assert_eq!(rt; told.as_str(), expected);
-        let told = aarch64_frame::<StoreOnHeap>(&rt, section.bytes(), place, word)?;
-        assert_eq!(rt; told.as_str(), expected);
+        expect_aarch64(&rt, section.bytes(), place, word, expected)?;
     }
     let text = format!(in rt.alloc(); "{AARCH64_CIE} {both} 00000000")?;
     let section = bytes(rt.alloc(), text.as_str())?;
-    let told = aarch64_frame::<StoreOnStack>(&rt, section.bytes(), (20, 0x1020, true), word)?;
-    assert_eq!(rt;
-        told.as_str(),
-        "Ok(ExecRule(NoOpIfFirstFrameOtherwiseFp)) 3000 100 200"
-    );
-    Ok(())
+    let uncovered = "Ok(ExecRule(NoOpIfFirstFrameOtherwiseFp)) 3000 100 200";
+    expect_aarch64(&rt, section.bytes(), (20, 0x1020, true), word, uncovered)
 }
 
 /// The value of an expression from an empty stack, over ip 0x1000, sp 0x100 and bp 0x200.

@@ -235,6 +235,13 @@ fn rows_of_one_fde(rt: HostRuntime) -> Result<(), Fail> {
         context.row_for_address(&section, &fde, 0x1020).err(),
         Some(ReadError::NoRow)
     );
+    Ok(())
+}
+
+#[test]
+fn refuses_offsets_of_no_fde_and_no_cie(rt: HostRuntime) -> Result<(), Fail> {
+    let data = bytes(rt.alloc(), ONE_FDE)?;
+    let section = UnwindSection::new(data.bytes(), UnwindSectionType::EhFrame, &at(0x2000));
     assert_eq!(rt; section.fde_from_offset(0).err(), Some(ReadError::NotFde));
     assert_eq!(rt; section.fde_from_offset(52).err(), Some(ReadError::NotFde));
     assert_eq!(rt; section.cie_from_offset(24).err(), Some(ReadError::NotCie));
