@@ -49,78 +49,81 @@ fn walks_a_stack(rt: HostRuntime) -> Result<(), Fail> {
     Ok(())
 }
 
+/// A rule, whether the frame is the first, and the caller's lr, sp and fp.
+const CALLERS: [(UnwindRuleAarch64, bool, u64, u64, u64); 9] = [
+    (UnwindRuleAarch64::NoOp, true, 0x100300, 0x10, 0x20),
+    (
+        UnwindRuleAarch64::NoOpIfFirstFrameOtherwiseFp,
+        true,
+        0x100300,
+        0x10,
+        0x20,
+    ),
+    (
+        UnwindRuleAarch64::NoOpIfFirstFrameOtherwiseFp,
+        false,
+        0x100200,
+        0x30,
+        0x40,
+    ),
+    (
+        UnwindRuleAarch64::OffsetSp { sp_offset_by_16: 5 },
+        true,
+        0x100300,
+        0x60,
+        0x20,
+    ),
+    (
+        UnwindRuleAarch64::OffsetSpIfFirstFrameOtherwiseStackEndsHere { sp_offset_by_16: 2 },
+        true,
+        0x100300,
+        0x30,
+        0x20,
+    ),
+    (
+        UnwindRuleAarch64::OffsetSpAndRestoreLr {
+            sp_offset_by_16: 2,
+            lr_storage_offset_from_sp_by_8: 3,
+        },
+        false,
+        0x100200,
+        0x30,
+        0x20,
+    ),
+    (
+        UnwindRuleAarch64::OffsetSpAndRestoreFpAndLr {
+            sp_offset_by_16: 2,
+            fp_storage_offset_from_sp_by_8: 2,
+            lr_storage_offset_from_sp_by_8: 3,
+        },
+        false,
+        0x100200,
+        0x30,
+        0x40,
+    ),
+    (
+        UnwindRuleAarch64::UseFramePointer,
+        true,
+        0x100200,
+        0x30,
+        0x40,
+    ),
+    (
+        UnwindRuleAarch64::UseFramepointerWithOffsets {
+            sp_offset_from_fp_by_8: 4,
+            fp_storage_offset_from_fp_by_8: 4,
+            lr_storage_offset_from_fp_by_8: 5,
+        },
+        false,
+        0x100100,
+        0x40,
+        0x70,
+    ),
+];
+
 #[test]
 fn finds_each_caller(rt: HostRuntime) -> Result<(), Fail> {
-    for (rule, is_first_frame, lr, sp, fp) in [
-        (UnwindRuleAarch64::NoOp, true, 0x100300, 0x10, 0x20),
-        (
-            UnwindRuleAarch64::NoOpIfFirstFrameOtherwiseFp,
-            true,
-            0x100300,
-            0x10,
-            0x20,
-        ),
-        (
-            UnwindRuleAarch64::NoOpIfFirstFrameOtherwiseFp,
-            false,
-            0x100200,
-            0x30,
-            0x40,
-        ),
-        (
-            UnwindRuleAarch64::OffsetSp { sp_offset_by_16: 5 },
-            true,
-            0x100300,
-            0x60,
-            0x20,
-        ),
-        (
-            UnwindRuleAarch64::OffsetSpIfFirstFrameOtherwiseStackEndsHere { sp_offset_by_16: 2 },
-            true,
-            0x100300,
-            0x30,
-            0x20,
-        ),
-        (
-            UnwindRuleAarch64::OffsetSpAndRestoreLr {
-                sp_offset_by_16: 2,
-                lr_storage_offset_from_sp_by_8: 3,
-            },
-            false,
-            0x100200,
-            0x30,
-            0x20,
-        ),
-        (
-            UnwindRuleAarch64::OffsetSpAndRestoreFpAndLr {
-                sp_offset_by_16: 2,
-                fp_storage_offset_from_sp_by_8: 2,
-                lr_storage_offset_from_sp_by_8: 3,
-            },
-            false,
-            0x100200,
-            0x30,
-            0x40,
-        ),
-        (
-            UnwindRuleAarch64::UseFramePointer,
-            true,
-            0x100200,
-            0x30,
-            0x40,
-        ),
-        (
-            UnwindRuleAarch64::UseFramepointerWithOffsets {
-                sp_offset_from_fp_by_8: 4,
-                fp_storage_offset_from_fp_by_8: 4,
-                lr_storage_offset_from_fp_by_8: 5,
-            },
-            false,
-            0x100100,
-            0x40,
-            0x70,
-        ),
-    ] {
+    for (rule, is_first_frame, lr, sp, fp) in CALLERS {
         let mut regs = UnwindRegsAarch64::new(0x100300, 0x10, 0x20);
         let answer = exec_over_words(rule, is_first_frame, &mut regs, &STACK)?;
         assert_eq!(rt; answer, Some(lr), "{rule:?}");
@@ -228,75 +231,77 @@ fn addresses_read(
     Ok(asked)
 }
 
+const RESTORE_LR: UnwindRuleAarch64 = UnwindRuleAarch64::OffsetSpAndRestoreLr {
+    sp_offset_by_16: 2,
+    lr_storage_offset_from_sp_by_8: 3,
+};
+
+const RESTORE_BOTH: UnwindRuleAarch64 = UnwindRuleAarch64::OffsetSpAndRestoreFpAndLr {
+    sp_offset_by_16: 4,
+    fp_storage_offset_from_sp_by_8: 1,
+    lr_storage_offset_from_sp_by_8: 2,
+};
+
+const FROM_FP: UnwindRuleAarch64 = UnwindRuleAarch64::UseFramepointerWithOffsets {
+    sp_offset_from_fp_by_8: 4,
+    fp_storage_offset_from_fp_by_8: 1,
+    lr_storage_offset_from_fp_by_8: 3,
+};
+
+const OR_FP: UnwindRuleAarch64 = UnwindRuleAarch64::NoOpIfFirstFrameOtherwiseFp;
+
+const STACK_END: UnwindRuleAarch64 = UnwindRuleAarch64::OffsetSpIfFirstFrameOtherwiseStackEndsHere {
+    sp_offset_by_16: 1,
+};
+
+/// A rule, whether the frame is the first, the addresses of the words read, and the caller's lr and fp.
+const READS: [(UnwindRuleAarch64, bool, &[u64], u64, u64); 10] = [
+    (UnwindRuleAarch64::NoOp, true, &[], 0x5000, 0x2000),
+    (OR_FP, true, &[], 0x5000, 0x2000),
+    (
+        OR_FP,
+        false,
+        &[0x2008, 0x2000],
+        0x1_0000_2008,
+        0x2_0000_2000,
+    ),
+    (
+        UnwindRuleAarch64::OffsetSp { sp_offset_by_16: 1 },
+        true,
+        &[],
+        0x5000,
+        0x2000,
+    ),
+    (STACK_END, true, &[], 0x5000, 0x2000),
+    (STACK_END, false, &[], 0x5000, 0x2000),
+    (RESTORE_LR, false, &[0x1018], 0x1_0000_1018, 0x2000),
+    (
+        RESTORE_BOTH,
+        false,
+        &[0x1010, 0x1008],
+        0x1_0000_1010,
+        0x2_0000_1008,
+    ),
+    (
+        UnwindRuleAarch64::UseFramePointer,
+        false,
+        &[0x2008, 0x2000],
+        0x1_0000_2008,
+        0x2_0000_2000,
+    ),
+    (
+        FROM_FP,
+        false,
+        &[0x2018, 0x2008],
+        0x1_0000_2018,
+        0x2_0000_2008,
+    ),
+];
+
 /// Each word of a rule is read once, in the order of the table, and its reply is what is used.
 #[test]
 fn reads_each_word_once(rt: HostRuntime) -> Result<(), Fail> {
-    let restore_lr = UnwindRuleAarch64::OffsetSpAndRestoreLr {
-        sp_offset_by_16: 2,
-        lr_storage_offset_from_sp_by_8: 3,
-    };
-    let restore_both = UnwindRuleAarch64::OffsetSpAndRestoreFpAndLr {
-        sp_offset_by_16: 4,
-        fp_storage_offset_from_sp_by_8: 1,
-        lr_storage_offset_from_sp_by_8: 2,
-    };
-    let from_fp = UnwindRuleAarch64::UseFramepointerWithOffsets {
-        sp_offset_from_fp_by_8: 4,
-        fp_storage_offset_from_fp_by_8: 1,
-        lr_storage_offset_from_fp_by_8: 3,
-    };
-    let or_fp = UnwindRuleAarch64::NoOpIfFirstFrameOtherwiseFp;
-    let stack_end = UnwindRuleAarch64::OffsetSpIfFirstFrameOtherwiseStackEndsHere {
-        sp_offset_by_16: 1,
-    };
-    for (rule, is_first_frame, want, lr, fp) in [
-        (UnwindRuleAarch64::NoOp, true, [].as_slice(), 0x5000, 0x2000),
-        (or_fp, true, [].as_slice(), 0x5000, 0x2000),
-        (
-            or_fp,
-            false,
-            [0x2008, 0x2000].as_slice(),
-            0x1_0000_2008,
-            0x2_0000_2000,
-        ),
-        (
-            UnwindRuleAarch64::OffsetSp { sp_offset_by_16: 1 },
-            true,
-            [].as_slice(),
-            0x5000,
-            0x2000,
-        ),
-        (stack_end, true, [].as_slice(), 0x5000, 0x2000),
-        (stack_end, false, [].as_slice(), 0x5000, 0x2000),
-        (
-            restore_lr,
-            false,
-            [0x1018].as_slice(),
-            0x1_0000_1018,
-            0x2000,
-        ),
-        (
-            restore_both,
-            false,
-            [0x1010, 0x1008].as_slice(),
-            0x1_0000_1010,
-            0x2_0000_1008,
-        ),
-        (
-            UnwindRuleAarch64::UseFramePointer,
-            false,
-            [0x2008, 0x2000].as_slice(),
-            0x1_0000_2008,
-            0x2_0000_2000,
-        ),
-        (
-            from_fp,
-            false,
-            [0x2018, 0x2008].as_slice(),
-            0x1_0000_2018,
-            0x2_0000_2008,
-        ),
-    ] {
+    for (rule, is_first_frame, want, lr, fp) in READS {
         let mut regs = UnwindRegsAarch64::new(0x5000, 0x1000, 0x2000);
         let asked = addresses_read(rt.alloc(), rule, is_first_frame, &mut regs)?;
         assert_eq!(rt; asked.as_slice(), want, "{rule:?}");

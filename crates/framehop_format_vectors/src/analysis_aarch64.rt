@@ -140,6 +140,10 @@ fn finds_prologues(rt: HostRuntime) {
         ],
         &[(0, None), (4, None), (8, None), (12, None), (16, None)],
     );
+}
+
+#[test]
+fn finds_the_limits_of_prologues(rt: HostRuntime) {
     // 24 bytes are no multiple of 16
     assert_prologue(
         &rt,

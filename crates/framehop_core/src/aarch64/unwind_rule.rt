@@ -108,9 +108,7 @@ impl UnwindRule for UnwindRuleAarch64 {
     where
         F: FnMut(u64) -> Result<u64, ()>,
     {
-        let lr = regs.lr();
-        let sp = regs.sp();
-        let fp = regs.fp();
+        let (lr, sp, fp) = (regs.lr(), regs.sp(), regs.fp());
         match self {
             UnwindRuleAarch64::NoOp => {
                 if !is_first_frame {
