@@ -1,8 +1,7 @@
 //! The evaluation of DWARF expressions (DWARF 5 section 2.5).
-ghost use Rattle.std.specs.Prelude.{◌≡◌, ◌≢◌, ◌≤◌, ℕ, List, [], ◌∷◌, length, slice_get, Option, Some, None, IfOk, IfErr, IfSome, IfNone, MatchOption, OnErr, option_to_list, Result, pos, ◌+ℤ◌};
+ghost use Rattle.std.specs.Prelude.{◌≡◌, ℕ, List, [], ◌∷◌, slice_get, Option, Some, None, IfOk, IfErr, IfSome, IfNone, MatchOption, OnErr, option_to_list, Result, pos, ◌+ℤ◌};
 ghost use Rattle.framehop_cfi.specs.declared.rule.Register.{Register as RegisterNumber};
-ghost use Rattle.framehop_dwarf.specs.Operation.{operation_at};
-ghost use Rattle.framehop_dwarf.specs.Evaluation.{Evaluation, State, pushed, within, stack_after, position_after, step, value_from, value_of, value_in, code_of, IsValueIn};
+ghost use Rattle.framehop_dwarf.specs.Evaluation.{Evaluation, pushed, within, stack_after, position_after, step, value_from, value_of, value_in, IsValueIn};
 ghost use Rattle.framehop_dwarf.specs.Refusal.{Leaves, Returns, Reaches};
 
 use crate::operation::{BinaryOperation, Operation, UnaryOperation, read_operation};

@@ -1,7 +1,7 @@
 //! The operations of DWARF expressions (DWARF 5 sections 2.5.1 and 7.7.1), as far as they compute
 //! addresses from registers and numbers.
 ghost use Rattle.std.specs.Prelude.{◌≡◌};
-ghost use Rattle.framehop_dwarf.specs.Operation.{constant_at, unary_of, binary_of, plain_of, plain_at, coded_at, operation_at, offset_at, register_offset_at, jump_at, changed, combined, quotient, shifted_right, bit_of, compared};
+ghost use Rattle.framehop_dwarf.specs.Operation.{constant_at, unary_of, binary_of, plain_of, coded_at, operation_at, offset_at, register_offset_at, jump_at, changed, combined, quotient, shifted_right, bit_of, compared};
 
 use framehop_cfi::bytes::{read_u8, read_u16, read_u32, read_u64};
 use framehop_cfi::leb128::{read_sleb128, read_uleb128};

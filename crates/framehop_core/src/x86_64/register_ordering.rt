@@ -2,7 +2,7 @@
 // Numbers for the orders in which registers are popped: an unwind rule keeps a count and a number
 // in place of a list of registers.
 ghost use Rattle.std.specs.Prelude.{◌≡◌, ◌+◌, ◌<◌, ◌↔◌, length, IsSome, IfSome, MatchOption, slice_index_or, swap, All, ◌≢◌};
-ghost use Rattle.framehop_core.specs.X86_64.Ordering.{eight, ordering, is_ordering, IsArrangement, IsEncoding};
+ghost use Rattle.framehop_core.specs.X86_64.Ordering.{ordering, is_ordering, IsArrangement, IsEncoding};
 
 use super::unwindregs::Reg;
 use arrayvec::ArrayVec;

@@ -1,6 +1,6 @@
 //! The pages of `__unwind_info` (Apple, mach-o/compact_unwind_encoding.h, structs
 //! unwind_info_regular_second_level_page_header and .._compressed_..).
-ghost use Rattle.std.specs.Prelude.{◌≡◌, ◌+◌, ◌≤◌, ◌<◌, ◌^◌, length, Ok, Err, IfOk, IfSome, MatchResult};
+ghost use Rattle.std.specs.Prelude.{◌≡◌, ◌+◌, ◌<◌, ◌^◌, Ok, Err, IfOk, IfSome, MatchResult};
 ghost use Rattle.framehop_macho.specs.UnwindInfo.{page_at, regular_page, compressed_page, in_page, in_regular, in_compressed, page_of, Covers};
 ghost use Rattle.framehop_macho.specs.Table.{regular_starts, compressed_starts, row_of};
 

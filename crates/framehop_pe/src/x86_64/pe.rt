@@ -1,5 +1,5 @@
 //! Unwinding by Microsoft's x64 unwind info (framehop 0.16.0, `x86_64/pe.rs`).
-ghost use Rattle.std.specs.Prelude.{◌≡◌, ◌<◌, Some, None, Ok, Err, MatchOption, MatchResult, option_map, map};
+ghost use Rattle.std.specs.Prelude.{◌≡◌, ◌<◌, Some, None, Ok, Err, MatchResult, option_map, map};
 ghost use Rattle.framehop_core.specs.Memory.{Memory, AnswersAs};
 ghost use Rattle.framehop_core.specs.X86_64.RuleOfOperations.{rule_of_operations};
 ghost use Rattle.framehop_pe.specs.Answer.{TellsFound, IsComputed, KeptUnlessDirect};

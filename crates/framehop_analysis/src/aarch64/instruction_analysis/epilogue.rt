@@ -2,10 +2,10 @@
 //!
 //! The instructions from the pc on are read up to the end of the function, which is a return or a
 //! tail call. They say where the caller's sp is, and from where fp and lr are restored.
-ghost use Rattle.std.specs.Prelude.{◌≡◌, ◌≢◌, ℕ, ◌+◌, ◌-◌, ◌*◌, ◌<◌, ◌≤◌, ◌^◌, pos, negsuc, ◌≤ℤ◌, ◌+ℤ◌, ◌==◌, if◌then◌else◌, true, Bool, List, length, Some, IsTrue, MatchOption, IfSome, OnSome, ◌↔◌};
+ghost use Rattle.std.specs.Prelude.{◌≡◌, ℕ, ◌+◌, ◌-◌, ◌*◌, ◌<◌, ◌≤◌, ◌^◌, pos, negsuc, ◌≤ℤ◌, ◌+ℤ◌, ◌==◌, if◌then◌else◌, true, List, length, Some, IsTrue, MatchOption, IfSome, OnSome, ◌↔◌};
 ghost use Rattle.framehop_analysis.specs.Answer.{IsOnly};
 ghost use Rattle.framehop_analysis.specs.Aarch64.Words.{word_at, AreWordsAt, addressing};
-ghost use Rattle.framehop_analysis.specs.Aarch64.Epilogue.{is_restoring, moves_sp, is_call_word, check_words, at_pc, IsAuthenticatedCall, IsEnd, IsInsideCall, IsInsideCallAfter, IsAtTailCall, IsRestored, IsRestOfEpilogue, IsEpilogueRule, EndsFrom, DoesEpilogue, places_after, place_after_load, IsRuleOfPlaces};
+ghost use Rattle.framehop_analysis.specs.Aarch64.Epilogue.{is_restoring, moves_sp, is_call_word, check_words, at_pc, IsAuthenticatedCall, IsEnd, IsInsideCall, IsInsideCallAfter, IsAtTailCall, IsRestored, IsEpilogueRule, EndsFrom, DoesEpilogue, places_after, place_after_load, IsRuleOfPlaces};
 ghost use Rattle.framehop_analysis.specs.Aarch64.Detector.{places_of};
 
 use super::units::{units_of_8, units_of_16};

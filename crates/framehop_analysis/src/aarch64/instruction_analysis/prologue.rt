@@ -5,7 +5,7 @@
 //! is one that is expected in a prologue, the instructions before it are taken to belong to that
 //! prologue as long as they look like it, and the first that does not is taken to belong to the
 //! function before.
-ghost use Rattle.std.specs.Prelude.{◌≡◌, ◌≢◌, ℕ, ◌+◌, ◌-◌, ◌*◌, ◌<◌, ◌^◌, pos, negsuc, ◌≤ℤ◌, true, List, Some, MatchOption, IfSome, ◌↔◌};
+ghost use Rattle.std.specs.Prelude.{◌≡◌, ℕ, ◌+◌, ◌-◌, ◌*◌, ◌<◌, ◌^◌, pos, negsuc, ◌≤ℤ◌, true, List, Some, MatchOption, IfSome, ◌↔◌};
 ghost use Rattle.framehop_analysis.specs.Answer.{IsOnly};
 ghost use Rattle.framehop_analysis.specs.Aarch64.Words.{word_at};
 ghost use Rattle.framehop_analysis.specs.Aarch64.Prologue.{is_run_word, lowered_by, lowered, IsLongestRun, is_prologue_word, is_plain_store, IsRuleOfDepth, IsPrologueRule, UndoesPrologue};

@@ -1,7 +1,7 @@
 //! Instruction bytes of x86_64 (Intel 64 and IA-32 Architectures Software Developer's Manual,
 //! volume 2): the register of `push` and `pop` is in the low three bits of the opcode, and in the
 //! low bit of a REX prefix before it.
-ghost use Rattle.std.specs.Prelude.{◌≡◌, ◌<◌, slice_get, length, OnSome, IfNone, ◌≤◌};
+ghost use Rattle.std.specs.Prelude.{◌≡◌, ◌<◌, slice_get, length, OnSome};
 ghost use Rattle.framehop_analysis.specs.X86_64.Bytes.{is_prefix, is_push, is_pop_opcode};
 
 /// Returns the byte at an offset, if the slice has it.

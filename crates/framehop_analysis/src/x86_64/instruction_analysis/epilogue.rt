@@ -6,7 +6,7 @@ ghost use Rattle.std.specs.Prelude.{◌≡◌, ◌+◌, ◌-◌, ◌<◌, ◌≤
 ghost use Rattle.framehop_core.specs.X86_64.Rules.{is_executable};
 ghost use Rattle.framehop_analysis.specs.Answer.{IsOnly};
 ghost use Rattle.framehop_analysis.specs.X86_64.Machine.{is_jump};
-ghost use Rattle.framehop_analysis.specs.X86_64.Epilogue.{Pop, is_plain_pop, pop_at, FollowsPop, IsEnd, IsRuleOfPopped, IsEpilogueRule, EndsFrom, DoesEpilogue};
+ghost use Rattle.framehop_analysis.specs.X86_64.Epilogue.{is_plain_pop, pop_at, FollowsPop, IsEnd, IsRuleOfPopped, IsEpilogueRule, EndsFrom, DoesEpilogue};
 
 use super::bytes::{byte_at, is_pop_opcode};
 use framehop_core::x86_64::UnwindRuleX86_64;
