@@ -214,6 +214,18 @@ fn with_ranges(has_ranges: bool) -> ExplicitModuleSectionInfo<Vec<u8>> {
     }
 }
 
+/// Gives `.eh_frame`, `.eh_frame_hdr` and `.debug_frame` their bytes.
+fn give_call_frames(
+    alloc: Global,
+    info: &mut ExplicitModuleSectionInfo<Vec<u8>>,
+    [eh_frame, eh_frame_hdr, debug_frame]: [&str; 3],
+) -> Result<(), Fail> {
+    info.eh_frame = bytes_of(alloc, eh_frame)?;
+    info.eh_frame_hdr = bytes_of(alloc, eh_frame_hdr)?;
+    info.debug_frame = bytes_of(alloc, debug_frame)?;
+    Ok(())
+}
+
 /// `.eh_frame` with its header, without it, and with an FDE that is cut off, and `.debug_frame`: the data, and
 /// then, by the ranges, the base addresses.
 #[test]
@@ -270,12 +282,8 @@ fn asks_for_call_frame_sections(rt: HostRuntime) -> Result<(), Fail> {
             (true, FIRST_NAMES.as_slice()),
             (false, BOTH_NAMES.as_slice()),
         ] {
-            let info = ExplicitModuleSectionInfo {
-                eh_frame: bytes_of(alloc, eh_frame)?,
-                eh_frame_hdr: bytes_of(alloc, eh_frame_hdr)?,
-                debug_frame: bytes_of(alloc, debug_frame)?,
-                ..with_ranges(has_ranges)
-            };
+            let mut info = with_ranges(has_ranges);
+            give_call_frames(alloc, &mut info, [eh_frame, eh_frame_hdr, debug_frame])?;
             asks_for_sections(&rt, alloc, info, section_data, section_ranges)?;
         }
     }

@@ -10,19 +10,9 @@ mod call_frames_aarch64;
 #[cfg(test)]
 mod commands;
 #[cfg(test)]
-mod compact;
-#[cfg(test)]
 mod library;
 #[cfg(test)]
-mod module_data;
-#[cfg(test)]
-mod pe_sections;
-#[cfg(test)]
-mod program;
-#[cfg(test)]
 mod readme;
-#[cfg(test)]
-mod replies;
 #[cfg(test)]
 mod section_info;
 #[cfg(test)]

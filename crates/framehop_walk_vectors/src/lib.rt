@@ -1,0 +1,14 @@
+//! Worked examples of the program, and of steps that it prints, with the lines that are to come out. This crate has only
+//! tests.
+#![tactic(auto)]
+
+#[cfg(test)]
+mod compact;
+#[cfg(test)]
+mod module_data;
+#[cfg(test)]
+mod pe_sections;
+#[cfg(test)]
+mod program;
+#[cfg(test)]
+mod replies;
