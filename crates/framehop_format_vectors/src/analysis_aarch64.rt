@@ -230,6 +230,10 @@ fn finds_epilogues(rt: HostRuntime) {
             (16, None),
         ],
     );
+}
+
+#[test]
+fn finds_tail_calls(rt: HostRuntime) {
     // tail calls by b and by br
     assert_epilogue(
         &rt,
@@ -313,6 +317,10 @@ fn finds_authenticated_tail_calls(rt: HostRuntime) {
             (32, Some(UnwindRuleAarch64::NoOp)),
         ],
     );
+}
+
+#[test]
+fn tells_authenticated_tail_calls_from_others(rt: HostRuntime) {
     // braa after a call that has ended with b, and br in the place of b, are not part of it
     assert_epilogue(
         &rt,

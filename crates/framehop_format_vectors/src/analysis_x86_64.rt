@@ -154,6 +154,10 @@ fn finds_prologues(rt: HostRuntime) {
         5,
         None,
     );
+}
+
+#[test]
+fn looks_at_the_next_instruction(rt: HostRuntime) {
     // each of the next instructions, and others
     assert_prologue(&rt, &[0x53, 0x50, 0x90, 0x90, 0x90], 1, offset_sp(2));
     assert_prologue(&rt, &[0x53, 0x57, 0x90, 0x90, 0x90], 1, offset_sp(2));
@@ -171,6 +175,10 @@ fn finds_prologues(rt: HostRuntime) {
     assert_prologue(&rt, &[0x53, 0x83, 0xed, 0x18, 0x90], 1, None);
     assert_prologue(&rt, &[0x53, 0x48, 0x83, 0xed, 0x18], 1, None);
     assert_prologue(&rt, &[0x53, 0x48, 0x89, 0xe6, 0x90], 1, None);
+}
+
+#[test]
+fn finds_the_first_push(rt: HostRuntime) {
     // a prefix before the first push, or at the start of the code, and a byte before that is none
     assert_prologue(&rt, &[0x50, 0x50, 0x90, 0x90, 0x90], 1, offset_sp(2));
     assert_prologue(&rt, &[0x41, 0x50, 0x50, 0x90, 0x90, 0x90], 2, offset_sp(2));
