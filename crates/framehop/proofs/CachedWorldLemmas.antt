@@ -3,7 +3,7 @@ use Rattle.std.proofs.Common.{◌≡◌, ℕ, zero, suc, ◌+◌, ◌-◌, ◌^�
 use Rattle.std.proofs.lemmas.List.{length-map}
 use Rattle.framehop_core.specs.Outcome.{Outcome, answered, root, refused}
 use Rattle.framehop_core.specs.CodeAddress.{FrameLocation, location_of, at_instruction_pointer, at_return_address}
-use Rattle.framehop.specs.Cache.{Entry, CacheView, Sets, empty_cache}
+use Rattle.framehop_cache.specs.Cache.{Entry, CacheView, Sets, empty_cache}
 use Rattle.framehop.specs.Modules.{UnwinderView, with_module, has_start, without_module}
 use Rattle.framehop.specs.Soundness.{Among, Stands, IsSound, Extends, cache_after}
 use Rattle.framehop.specs.Unwinding.{Unwinding}

@@ -1,4 +1,3 @@
-mod Slots
 pub mod SoundnessLemmas
 pub mod ModuleLemmas
 mod WalkLemmas

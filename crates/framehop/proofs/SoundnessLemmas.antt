@@ -2,10 +2,10 @@
 use Rattle.std.proofs.Common.{eqb-true, ◌≡◌, ◌≢◌, ℕ, zero, suc, Bool, true, false, not, cond, ◌&&◌, ◌==◌, ◌⊎◌, List, [], ◌∷◌, take, filter, find, slice_index_or, slice_set, replicate, Option, Some, None, Result, Ok, Err, refl, sym, ap, ◌∙◌, subst, inl, inr, ⊎_elim}
 use mathlib.Core.Bool.{beq}
 use Rattle.framehop_core.specs.CodeAddress.{FrameLocation, lookup_address, is_first_frame}
-use Rattle.framehop.specs.Cache.{Key, Entry, Sets, CacheView, Found, hit, empty_slot, wrong_modules, wrong_address, found, hit_or, inserted, inserted_in, same_key, set_of, set_number, counted, ways, empty_cache, set_count}
+use Rattle.framehop_cache.specs.Cache.{Key, Entry, Sets, CacheView, Found, hit, empty_slot, wrong_modules, wrong_address, found, hit_or, inserted, inserted_in, same_key, set_of, set_number, counted, ways, empty_cache, set_count}
 use Rattle.framehop_core.specs.Memory.{Memory}
-use Rattle.framehop.specs.CacheResult.{result_of}
-use Rattle.framehop.specs.declared.rule_cache.CacheResult.TheVariants.{Hit, Miss}
+use Rattle.framehop_cache.specs.CacheResult.{result_of}
+use Rattle.framehop_cache.specs.declared.rule_cache.CacheResult.TheVariants.{Hit, Miss}
 use Rattle.framehop.specs.Answer.{Fresh, by_rule, direct}
 use Rattle.framehop.specs.Unwinding.{Unwinding}
 use Rattle.framehop_core.specs.declared.error.Error.{Error}

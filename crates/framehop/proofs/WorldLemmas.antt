@@ -4,7 +4,7 @@ use Rattle.std.proofs.Math.ListN.{length-replicate}
 use Rattle.std.proofs.lemmas.List.{length-map}
 use Rattle.framehop_core.specs.Outcome.{answer_of, registers_after}
 use Rattle.framehop_core.specs.CodeAddress.{location_of}
-use Rattle.framehop.specs.Cache.{empty_cache}
+use Rattle.framehop_cache.specs.Cache.{empty_cache}
 use Rattle.framehop.specs.Modules.{ModuleView, UnwinderView, with_module, has_start, without_module}
 use Rattle.framehop.specs.Unwinding.{Unwinding}
 use Rattle.framehop.specs.Fresh.{step}

@@ -12,7 +12,7 @@ use Rattle.framehop_analysis.specs.Aarch64.Prologue.{UndoesPrologue}
 use Rattle.framehop_analysis.specs.Aarch64.Epilogue.{DoesEpilogue}
 use Rattle.framehop_pe.specs.declared.pe.PeUnwinderError.TheVariants.{Aarch64Unsupported}
 use Rattle.framehop_macho.specs.Aarch64.{says, helper_rule, by_code}
-use Rattle.framehop.specs.Cache.{CacheView}
+use Rattle.framehop_cache.specs.Cache.{CacheView}
 use Rattle.framehop.specs.Modules.{ModuleView, UnwinderView}
 use Rattle.framehop.specs.Meaning.{Meanings, MeansStep}
 use Rattle.framehop.specs.Policy.{Policy}

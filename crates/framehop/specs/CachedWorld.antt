@@ -4,14 +4,14 @@ use Rattle.std.specs.Prelude.{ℕ, if◌then◌else◌, ◌+◌, ◌-◌, ◌^�
 use Rattle.framehop_core.specs.Memory.{Memory}
 use Rattle.framehop_core.specs.Outcome.{Outcome, answer_of, registers_after}
 use Rattle.framehop_core.specs.CodeAddress.{FrameLocation, location_of}
-use Rattle.framehop.specs.Cache.{CacheView, empty_cache}
+use Rattle.framehop_cache.specs.Cache.{CacheView, empty_cache}
 use Rattle.framehop.specs.Modules.{UnwinderView, with_module, has_start, without_module}
 use Rattle.framehop.specs.Unwinding.{Unwinding}
 use Rattle.framehop.specs.Fresh.{step}
 use Rattle.framehop.specs.Soundness.{cache_after}
 use Rattle.framehop.specs.Walk.{walk_from, cache_after_walk}
 use Rattle.framehop.specs.World.{World, WorldReply, made, done, stepped, walked, memory_of, refusal_of, unless_refused}
-use Rattle.framehop.specs.declared.rule_cache.CacheStats.{CacheStats}
+use Rattle.framehop_cache.specs.declared.rule_cache.CacheStats.{CacheStats}
 use Rattle.framehop.specs.declared.session.Command.{Command}
 use Rattle.framehop.specs.declared.session.Command.TheVariants.{New, Clone, Add, Remove, Step as StepCommand, Walk as WalkCommand, Stats}
 use Rattle.framehop.specs.declared.session.SessionError.{SessionError}

@@ -1,7 +1,4 @@
--- What the contracts of this crate cite: the cache, modules, steps, walks, sessions.
-pub mod Cache
-pub mod CacheEntry
-pub mod CacheResult
+-- What the contracts of this crate cite: modules, steps, walks, sessions.
 pub mod Answer
 pub mod CallFrames
 pub mod Compact

@@ -1,7 +1,7 @@
 -- When a cache that other steps have filled changes no answer.
 use Rattle.std.specs.Prelude.{◌≡◌, ◌≢◌, ℕ, ◌-◌, Bool, ◌⊎◌, true, List, [], ◌∷◌, Some}
 use Rattle.framehop_core.specs.CodeAddress.{FrameLocation, lookup_address, is_first_frame}
-use Rattle.framehop.specs.Cache.{Key, Entry, Sets, CacheView, Found, hit, empty_slot, wrong_modules, wrong_address, found, counted, inserted, ways}
+use Rattle.framehop_cache.specs.Cache.{Key, Entry, Sets, CacheView, Found, hit, empty_slot, wrong_modules, wrong_address, found, counted, inserted, ways}
 use Rattle.framehop.specs.Answer.{Fresh, by_rule, direct}
 use Rattle.framehop.specs.Unwinding.{Unwinding}
 use Rattle.framehop.specs.Fresh.{fresh}

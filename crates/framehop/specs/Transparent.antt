@@ -1,7 +1,7 @@
 -- Why the caches that unwinders share change no reply.
 use Rattle.std.specs.Prelude.{◌≡◌, ◌≢◌, ℕ, ◌+◌, ◌<◌, length, ⊤, Some, None, Result, MatchResult}
 use Rattle.framehop_core.specs.CodeAddress.{location_of}
-use Rattle.framehop.specs.Cache.{Entry, CacheView}
+use Rattle.framehop_cache.specs.Cache.{Entry, CacheView}
 use Rattle.framehop.specs.Modules.{UnwinderView}
 use Rattle.framehop.specs.Unwinding.{Unwinding}
 use Rattle.framehop.specs.Soundness.{Among, Stands, IsSound, AreApart, MayRunOut}

@@ -11,7 +11,7 @@ use Rattle.framehop_analysis.specs.X86_64.Prologue.{UndoesPrologue}
 use Rattle.framehop_analysis.specs.X86_64.Epilogue.{DoesEpilogue}
 use Rattle.framehop_pe.specs.Frame.{found_at, computed_at}
 use Rattle.framehop_macho.specs.X86_64.{says, helper_rule, by_code}
-use Rattle.framehop.specs.Cache.{CacheView}
+use Rattle.framehop_cache.specs.Cache.{CacheView}
 use Rattle.framehop.specs.Modules.{ModuleView, UnwinderView}
 use Rattle.framehop.specs.Meaning.{Meanings, MeansStep}
 use Rattle.framehop.specs.Policy.{Policy}

@@ -1,14 +1,14 @@
 //! The unwinder cache, and the policies that say whether unwinding may take memory.
 ghost use Rattle.std.specs.Prelude.{◌≡◌, Bool, true, false, refl, IfOk};
-ghost use Rattle.framehop.specs.Cache.{Key, counted, empty_cache, found, inserted, ways};
-ghost use Rattle.framehop.specs.CacheResult.{result_of, HitRuns};
+ghost use Rattle.framehop_cache.specs.Cache.{Key, counted, empty_cache, found, inserted, ways};
+ghost use Rattle.framehop_cache.specs.CacheResult.{result_of, HitRuns};
 ghost use Rattle.framehop.specs.Modules.{UnwinderView};
 ghost use Rattle.framehop.specs.Policy.{Policy, IsLimited, with_allocation, without_allocation};
 ghost use Rattle.framehop.specs.Laws.Policy.{limited-with_allocation, limited-without_allocation};
 ghost use Rattle.framehop.specs.Unwinding.{Unwinding};
 ghost use Rattle.framehop.specs.Soundness.{IsSound};
 
-use crate::rule_cache::{CacheHandle, CacheResult, CacheStats, RuleCache};
+use framehop_cache::rule_cache::{CacheHandle, CacheResult, CacheStats, RuleCache};
 use framehop_cfi::context::UnwindContext;
 use framehop_cfi::storage::{StoreOnHeap, StoreOnStack, UnwindContextStorage};
 use framehop_core::unwind_rule::UnwindRule;
@@ -85,7 +85,7 @@ pub struct Cache<R: UnwindRule, P: AllocationPolicy = MayAllocateDuringUnwind> {
 }
 
 impl<R: UnwindRule, P: AllocationPolicy> Model for Cache<R, P> {
-    ghost use Rattle.framehop.specs.Cache.{CacheView};
+    ghost use Rattle.framehop_cache.specs.Cache.{CacheView};
 
     ghost Value = { CacheView R };
 

@@ -4,20 +4,17 @@
 
 pub mod aarch64;
 pub mod cache;
-pub mod generations;
-pub mod rule_cache;
 pub mod session;
 pub mod unwinder;
 pub mod x86_64;
 
 pub use cache::{AllocationPolicy, Cache, MayAllocateDuringUnwind, MustNotAllocateDuringUnwind};
+pub use framehop_cache::{CacheStats, Generations, generations, rule_cache};
 pub use framehop_cfi::section;
 pub use framehop_cfi::section::{ExplicitModuleSectionInfo, ModuleSectionInfo, SectionBytes};
 pub use framehop_core::{
     Error, FrameAddress, add_signed, arch, code_address, display_utils, error, unwind_rule,
 };
-pub use generations::Generations;
-pub use rule_cache::CacheStats;
 pub use unwinder::{
     Module, ModuleListError, RefusedModule, UnwindIterator, Unwinder, UnwinderError, Unwinding,
 };

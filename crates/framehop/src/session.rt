@@ -12,14 +12,14 @@ ghost use Rattle.framehop.specs.Fresh.{step};
 ghost use Rattle.framehop.specs.Transparent.{IsTransparent, Serves};
 ghost use Rattle.framehop.specs.Rise.{AreWithinRise};
 ghost use Rattle.framehop.specs.Aarch64.{IsSoundAarch64, IsWalkToEnd};
-ghost use Rattle.framehop.specs.Cache.{empty_cache};
+ghost use Rattle.framehop_cache.specs.Cache.{empty_cache};
 ghost use Rattle.framehop.specs.CodeAddress.{FrameLocation, location_of};
 ghost use Rattle.framehop.specs.Outcome.{Outcome, answer_of, registers_after};
 
 use crate::aarch64::{CacheAarch64, UnwindRegsAarch64, UnwinderAarch64};
 use crate::cache::{AllocationPolicy, Cache};
-use crate::generations::Generations;
-use crate::rule_cache::CacheStats;
+use framehop_cache::generations::Generations;
+use framehop_cache::rule_cache::CacheStats;
 use crate::unwinder::{
     Module, ModuleListError, UnwindIterator, Unwinder, UnwinderInternal, Unwinding,
 };

@@ -5,7 +5,7 @@ use Rattle.framehop.specs.CodeAddress.{FrameLocation, at_instruction_pointer, at
 use Rattle.framehop.specs.Walk.{End, at_root, at_refusal, at_limit}
 use Rattle.framehop.specs.World.{WorldReply, made, done, stepped, walked}
 use Rattle.framehop.specs.CachedWorld.{CachedReply, of_world, counts}
-use Rattle.framehop.specs.declared.rule_cache.CacheStats.{CacheStats}
+use Rattle.framehop_cache.specs.declared.rule_cache.CacheStats.{CacheStats}
 use Rattle.framehop_core.specs.Aarch64.Registers.{Registers}
 use Rattle.framehop_core.specs.X86_64.Registers.{Registers as RegistersX86_64}
 use Rattle.framehop_core.specs.declared.error.Error.{Error}

@@ -1,12 +1,12 @@
 //! The unwinder cache of aarch64.
 ghost use Rattle.std.specs.Prelude.{◌≡◌, IfOk};
-ghost use Rattle.framehop.specs.Cache.{empty_cache};
+ghost use Rattle.framehop_cache.specs.Cache.{empty_cache};
 ghost use Rattle.framehop.specs.Modules.{UnwinderView};
 ghost use Rattle.framehop.specs.Policy.{Policy};
 ghost use Rattle.framehop.specs.Aarch64.{IsSoundAarch64};
 
 use crate::cache::{AllocationPolicy, Cache, MayAllocateDuringUnwind};
-use crate::rule_cache::CacheStats;
+use framehop_cache::rule_cache::CacheStats;
 use framehop_core::aarch64::UnwindRuleAarch64;
 use std::alloc::{AllocError, Global};
 

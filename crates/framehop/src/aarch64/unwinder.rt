@@ -3,7 +3,7 @@ ghost use Rattle.std.specs.Prelude.{◌≡◌, ◌+◌, ◌-◌, ◌^◌, ◌<�
 
 use crate::aarch64::cache::CacheAarch64;
 use crate::cache::{AllocationPolicy, MayAllocateDuringUnwind};
-use crate::generations::Generations;
+use framehop_cache::generations::Generations;
 use crate::unwinder::{Module, ModuleListError, RefusedModule, Unwinder, UnwinderInternal};
 use framehop_cfi::section::SectionBytes;
 use framehop_core::aarch64::{ArchAarch64, UnwindRegsAarch64};

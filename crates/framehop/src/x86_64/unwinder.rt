@@ -2,7 +2,7 @@
 ghost use Rattle.std.specs.Prelude.{◌≡◌, ◌+◌, ◌-◌, ◌^◌, ◌<◌, [], MatchResult};
 
 use crate::cache::{AllocationPolicy, MayAllocateDuringUnwind};
-use crate::generations::Generations;
+use framehop_cache::generations::Generations;
 use crate::unwinder::{Module, ModuleListError, RefusedModule, Unwinder, UnwinderInternal};
 use crate::x86_64::cache::CacheX86_64;
 use framehop_cfi::section::SectionBytes;

@@ -1,5 +1,5 @@
 use Rattle.std.proofs.Common.{subst, sym}
-use Rattle.framehop.specs.Cache.{CacheView}
+use Rattle.framehop_cache.specs.Cache.{CacheView}
 use Rattle.framehop.specs.Soundness.{IsSound}
 use Rattle.framehop.proofs.SoundnessLemmas.{IsSound-empty}
 use Rattle.framehop.proofs.cache.Cache.new.Goals as goal

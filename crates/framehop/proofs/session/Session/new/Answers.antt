@@ -1,6 +1,6 @@
 use Rattle.std.proofs.Common.{◌≡◌, [], ◌∷◌, ◌++◌, replicate, ap, ◌∙◌, arith, rules}
 use Rattle.std.proofs.lemmas.List.{replicate_more}
-use Rattle.framehop.specs.Cache.{empty_cache}
+use Rattle.framehop_cache.specs.Cache.{empty_cache}
 use Rattle.framehop.proofs.session.Session.new.Goals as goal
 
 pub loop-number-preserved : goal.loop-number-preserved

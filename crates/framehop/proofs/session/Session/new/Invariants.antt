@@ -1,5 +1,5 @@
 use Rattle.std.proofs.Common.{◌≡◌, replicate}
-use Rattle.framehop.specs.Cache.{empty_cache}
+use Rattle.framehop_cache.specs.Cache.{empty_cache}
 use Rattle.framehop.proofs.session.Session.new.Given as goal
 
 abbrev pub invariant-loop-number : goal.invariant-loop-number

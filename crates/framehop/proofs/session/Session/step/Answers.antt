@@ -1,7 +1,7 @@
 use Rattle.std.proofs.Common.{◌≡◌, ◌<◌, [], length, Err, refl, ap, ◌∙◌, rules, slice_set}
 use Rattle.std.proofs.lemmas.List.{get_or_read}
 use Rattle.std.proofs.lemmas.Result.{err_from_is_err_and}
-use Rattle.framehop.specs.Cache.{empty_cache}
+use Rattle.framehop_cache.specs.Cache.{empty_cache}
 use Rattle.framehop.specs.World.{stepped}
 use Rattle.framehop.specs.CachedWorld.{CachedWorld, of_world}
 use Rattle.framehop.proofs.CachedWorldLemmas.{Among-index, walks-allowed, CachedWorld-equal}

@@ -1,6 +1,6 @@
 use Rattle.std.proofs.Common.{◌<◌, [], length, refl, ap, rules, slice_set}
 use Rattle.std.proofs.lemmas.List.{get_or_read}
-use Rattle.framehop.specs.Cache.{empty_cache}
+use Rattle.framehop_cache.specs.Cache.{empty_cache}
 use Rattle.framehop.specs.World.{walked}
 use Rattle.framehop.specs.CachedWorld.{CachedWorld, of_world}
 use Rattle.framehop.proofs.CachedWorldLemmas.{Among-index, walks-allowed, CachedWorld-equal}

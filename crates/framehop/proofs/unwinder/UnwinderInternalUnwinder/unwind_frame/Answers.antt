@@ -1,7 +1,7 @@
 use Rattle.std.proofs.Common.{not, ap, sym, ◌∙◌, subst, ⊎_elim}
 use Rattle.framehop.specs.Outcome.{answer_of, registers_after}
 use Rattle.framehop.specs.CodeAddress.{location_of, lookup_address}
-use Rattle.framehop.specs.Cache.{CacheView}
+use Rattle.framehop_cache.specs.Cache.{CacheView}
 use Rattle.framehop.specs.Soundness.{Extends, TakesMemory}
 use Rattle.framehop.proofs.SoundnessLemmas.{cache_after-hit, cache_after-miss, cache_after_lookup-miss, missed, step-hit, step-at, fresh-at, Extends-after, Extends-same, IsSound-extended, out-or-not}
 use Rattle.framehop.proofs.MeaningLemmas.{location-means, answer-means}

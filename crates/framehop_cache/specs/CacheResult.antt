@@ -1,8 +1,8 @@
 -- What a lookup returns.
 use Rattle.std.specs.Prelude.{◌≡◌, Bool, true, ⊤}
-use Rattle.framehop.specs.Cache.{Key, Found, hit, empty_slot, wrong_modules, wrong_address}
-use Rattle.framehop.specs.declared.rule_cache.CacheResult.{CacheResult}
-use Rattle.framehop.specs.declared.rule_cache.CacheResult.TheVariants.{Hit, Miss}
+use Rattle.framehop_cache.specs.Cache.{Key, Found, hit, empty_slot, wrong_modules, wrong_address}
+use Rattle.framehop_cache.specs.declared.rule_cache.CacheResult.{CacheResult}
+use Rattle.framehop_cache.specs.declared.rule_cache.CacheResult.TheVariants.{Hit, Miss}
 
 -- the rule that was found, or the key for an insert
 abbrev pub result_of : {R : Type 0} → Key → Found R → CacheResult R

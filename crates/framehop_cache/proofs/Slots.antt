@@ -1,7 +1,7 @@
 -- The slots of the cache, seen as sets.
 use Rattle.std.proofs.Common.{◌≡◌, ℕ, zero, suc, List, [], ◌∷◌, map, Option, None, refl, ap, slice_index_or, slice_set}
-use Rattle.framehop.specs.CacheEntry.{set_of_slot}
-use Rattle.framehop.specs.declared.rule_cache.CacheEntry.{CacheEntry}
+use Rattle.framehop_cache.specs.CacheEntry.{set_of_slot}
+use Rattle.framehop_cache.specs.declared.rule_cache.CacheEntry.{CacheEntry}
 
 -- the set at a slot
 pub set_at : {R : Type 0} (slots : List (Option (CacheEntry R))) (slot : ℕ) → slice_index_or (map set_of_slot slots) slot [] ≡ set_of_slot (slice_index_or slots slot None)

@@ -3,7 +3,7 @@
 use Rattle.std.specs.Prelude.{ℕ, ◌+◌, ◌-◌, ◌^◌, ◌%◌, Bool, not, ◌&&◌, ◌==◌, nat_lt, if◌then◌else◌, min, List, [], ◌∷◌, length, take, filter, find, slice_index_or, slice_set, replicate, Option, Some, None}
 use Rattle.std.specs.List.{list_any}
 use mathlib.Core.Bool.{beq}
-use Rattle.framehop.specs.declared.rule_cache.CacheStats.{CacheStats}
+use Rattle.framehop_cache.specs.declared.rule_cache.CacheStats.{CacheStats}
 
 -- what a rule is stored under: the lookup address (AVMA), the generation of the unwinder's modules, and whether the
 -- frame is a first one

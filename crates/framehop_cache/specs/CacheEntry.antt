@@ -1,7 +1,7 @@
 -- A slot of the cache in memory, as a set of at most one entry.
 use Rattle.std.specs.Prelude.{List, [], ◌∷◌, Option, Some, None}
-use Rattle.framehop.specs.Cache.{Entry}
-use Rattle.framehop.specs.declared.rule_cache.CacheEntry.{CacheEntry}
+use Rattle.framehop_cache.specs.Cache.{Entry}
+use Rattle.framehop_cache.specs.declared.rule_cache.CacheEntry.{CacheEntry}
 
 -- the entry that a slot holds
 abbrev pub entry_of : {R : Type 0} → CacheEntry R → Entry R

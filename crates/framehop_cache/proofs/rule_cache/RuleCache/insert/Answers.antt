@@ -1,6 +1,6 @@
 use Rattle.std.proofs.Common.{refl}
-use Rattle.framehop.proofs.Slots.{write_at}
-use Rattle.framehop.proofs.rule_cache.RuleCache.insert.Goals as goal
+use Rattle.framehop_cache.proofs.Slots.{write_at}
+use Rattle.framehop_cache.proofs.rule_cache.RuleCache.insert.Goals as goal
 
 pub returns : goal.returns
 returns g c =

@@ -1,7 +1,7 @@
 //! The cache of unwind rules by address, generation and kind of frame, and its counts.
 ghost use Rattle.std.specs.Prelude.{◌≡◌, ◌^◌, ◌-◌, ◌+◌, min, true, IfOk};
-ghost use Rattle.framehop.specs.Cache.{Key, counted, empty_cache, no_stats, found, inserted, misses_of, total_of, set_number, ways};
-ghost use Rattle.framehop.specs.CacheResult.{result_of, HitRuns};
+ghost use Rattle.framehop_cache.specs.Cache.{Key, counted, empty_cache, no_stats, found, inserted, misses_of, total_of, set_number, ways};
+ghost use Rattle.framehop_cache.specs.CacheResult.{result_of, HitRuns};
 
 use framehop_core::unwind_rule::UnwindRule;
 use std::alloc::{AllocError, Global};
@@ -20,11 +20,11 @@ pub struct RuleCache<R: UnwindRule> {
 
 impl<R: UnwindRule> Model for RuleCache<R> {
     ghost use Rattle.std.specs.Prelude.{◌≡◌, ℕ, map, length, true, Some, slice_get};
-    ghost use Rattle.framehop.specs.Cache.{CacheView, set_count};
+    ghost use Rattle.framehop_cache.specs.Cache.{CacheView, set_count};
 
     ghost Value = { CacheView R };
 
-    ghost use Rattle.framehop.specs.CacheEntry.{set_of_slot};
+    ghost use Rattle.framehop_cache.specs.CacheEntry.{set_of_slot};
 
     ghost view = { λ c. record { sets = map set_of_slot c.entries.items; stats = c.stats } };
 
@@ -144,7 +144,7 @@ pub struct CacheHandle {
 
 impl Model for CacheHandle {
     ghost use Rattle.std.specs.Prelude.{◌≡◌};
-    ghost use Rattle.framehop.specs.Cache.{Key, set_number};
+    ghost use Rattle.framehop_cache.specs.Cache.{Key, set_number};
 
     ghost Value = { Key };
 
