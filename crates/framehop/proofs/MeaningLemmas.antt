@@ -24,7 +24,7 @@ use Rattle.framehop.specs.Answer.{Fresh, by_rule, direct, values_of, fresh_of}
 use Rattle.framehop.specs.CallFrames.{CallFrames, answer_of_reading, fde_answer, fde_offset_of}
 use Rattle.framehop.specs.Compact.{CompactData, by_info}
 use Rattle.framehop.specs.Fresh.{fresh, outcome_of, step}
-use Rattle.framehop.specs.Meaning.{Meanings, Step, Place, place_in, code_place, MeansRow, MeansFde, MeansPe, MeansCode, MeansNamed, MeansData, MeansStep}
+use Rattle.framehop.specs.Meaning.{Meanings, Step, Place, place_in, code_place, MeansRow, MeansFde, MeansCode, MeansNamed, MeansData, MeansStep}
 use Rattle.framehop.specs.Modules.{ModuleView, UnwindData, no_unwind_data, call_frames, pe_sections, compact_info, covering}
 use Rattle.framehop.specs.Policy.{Policy}
 use Rattle.framehop.specs.Unwinding.{Unwinding, Words, data_answer, answer_by}

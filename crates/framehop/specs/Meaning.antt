@@ -1,9 +1,8 @@
 -- What a step means by the source of its rule: the row of an FDE, the unwind codes or the epilog of a PE function, or
 -- the prologue or epilogue that is recognised in a function's code.
-use Rattle.std.specs.Prelude.{◌≡◌, ℕ, ◌+◌, ◌-◌, ◌==◌, ◌&&◌, not, Bool, true, false, List, if◌then◌else◌, Option, Some, None, option_map, IfSome, MatchOption, Result, Ok, Err, IfOk}
+use Rattle.std.specs.Prelude.{◌≡◌, ℕ, ◌+◌, ◌-◌, ◌==◌, ◌&&◌, not, Bool, true, List, if◌then◌else◌, Option, Some, None, option_map, IfSome, MatchOption, Result, Ok, Err, IfOk}
 use Rattle.framehop_core.specs.Memory.{Memory}
 use Rattle.framehop_core.specs.Outcome.{Outcome, answered}
-use Rattle.framehop_core.specs.CodeAddress.{FrameLocation, lookup_address, is_first_frame}
 use Rattle.framehop_cfi.specs.Row.{Row}
 use Rattle.framehop_cfi.specs.Section.{Section}
 use Rattle.framehop_dwarf.specs.Unwinder.{OfRow, reading_of}
