@@ -18,11 +18,11 @@ ghost use Rattle.framehop.specs.Outcome.{Outcome, answer_of, registers_after};
 
 use crate::aarch64::{CacheAarch64, UnwindRegsAarch64, UnwinderAarch64};
 use crate::cache::{AllocationPolicy, Cache};
-use framehop_cache::generations::Generations;
-use framehop_cache::rule_cache::CacheStats;
 use crate::unwinder::{
     Module, ModuleListError, UnwindIterator, Unwinder, UnwinderInternal, Unwinding,
 };
+use framehop_cache::generations::Generations;
+use framehop_cache::rule_cache::CacheStats;
 use framehop_cfi::section::SectionBytes;
 use framehop_core::{Error, FrameAddress};
 use std::alloc::Global;

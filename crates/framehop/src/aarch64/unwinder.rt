@@ -3,8 +3,8 @@ ghost use Rattle.std.specs.Prelude.{◌≡◌, ◌+◌, ◌-◌, ◌^◌, ◌<�
 
 use crate::aarch64::cache::CacheAarch64;
 use crate::cache::{AllocationPolicy, MayAllocateDuringUnwind};
-use framehop_cache::generations::Generations;
 use crate::unwinder::{Module, ModuleListError, RefusedModule, Unwinder, UnwinderInternal};
+use framehop_cache::generations::Generations;
 use framehop_cfi::section::SectionBytes;
 use framehop_core::aarch64::{ArchAarch64, UnwindRegsAarch64};
 use framehop_core::{Error, FrameAddress};

@@ -2,9 +2,9 @@
 ghost use Rattle.std.specs.Prelude.{◌≡◌, ◌+◌, ◌-◌, ◌^◌, ◌<◌, [], MatchResult};
 
 use crate::cache::{AllocationPolicy, MayAllocateDuringUnwind};
-use framehop_cache::generations::Generations;
 use crate::unwinder::{Module, ModuleListError, RefusedModule, Unwinder, UnwinderInternal};
 use crate::x86_64::cache::CacheX86_64;
+use framehop_cache::generations::Generations;
 use framehop_cfi::section::SectionBytes;
 use framehop_core::x86_64::{ArchX86_64, UnwindRegsX86_64};
 use framehop_core::{Error, FrameAddress};
