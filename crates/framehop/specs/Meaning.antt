@@ -19,8 +19,8 @@ use Rattle.framehop.specs.Compact.{CompactData}
 use Rattle.framehop.specs.Modules.{ModuleView, UnwindData, no_unwind_data, call_frames, pe_sections, compact_info, covering}
 use Rattle.framehop.specs.Unwinding.{Words}
 
--- What the sources mean on an architecture. `row`: a row that is translated to a rule; `columns`: one that is not, as far
--- as its columns have values; `by_code`: the rule by the code around an offset of a function, if the code gives one;
+-- What the sources mean on an architecture. `row`: a row that is translated to a rule; `columns`: one that is not, as
+-- far as its columns have values; `by_code`: the rule by the code around an offset of a function, if the code gives one;
 -- `undoes`: that such a rule undoes a prologue or does the rest of an epilogue.
 pub record Meanings (Rule Regs : Type 0) : Type 1 where
   pub row : List ℕ → Memory → Row → Bool → Regs → ℕ → Regs → Type 0
@@ -28,7 +28,8 @@ pub record Meanings (Rule Regs : Type 0) : Type 1 where
   pub by_code : Function → List ℕ → ℕ → Option Rule
   pub undoes : List ℕ → ℕ → Rule → Type 0
 
--- a step of a frame: its kind (`true`: the first), its registers, the memory, the return address, and the caller's registers
+-- a step of a frame: its kind (`true`: the first), its registers, the memory, the return address, and the caller's
+-- registers
 pub record Step (Regs : Type 0) : Type 0 where
   pub first : Bool
   pub old : Regs
@@ -45,7 +46,8 @@ pub record Place : Type 0 where
 abbrev pub place_in : Option Text → ℕ → Result (Option Function) CompactReadError → Option Place
 place_in text address (Ok (Some function)) =
     if address == function.start_address then None
-    else option_map (λ code. record { function = function; code = code; offset = address - function.start_address }) (code_of text function)
+    else option_map (λ code. record { function = function; code = code; offset = address - function.start_address })
+    (code_of text function)
 place_in text address (Ok None) = None
 place_in text address (Err error) = None
 
@@ -84,7 +86,8 @@ module _ {Rule Regs : Type 0} (words : Words Rule Regs) (meanings : Meanings Rul
   abbrev pub MeansCode : Place → Type 0
   MeansCode place =
       IfSome (meanings.by_code place.function place.code place.offset)
-      (λ rule. meanings.undoes place.code place.offset rule × (outcome rule true s.old s.memory ≡ answered s.address s.new))
+      (λ rule. meanings.undoes place.code place.offset rule
+      × (outcome rule true s.old s.memory ≡ answered s.address s.new))
 
   -- by the FDE that the info names, if it does
   abbrev pub MeansNamed : Option CallFrames → ℕ → Answer Rule → Type 0

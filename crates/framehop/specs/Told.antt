@@ -88,8 +88,8 @@ RuleHas P (Err error) = Unit {0}
 
 -- ---- with the fallback rule where there is nothing
 
--- what is made of a refusal: out of memory is answered, values that can't be computed are told, and where the bytes give
--- nothing it is the fallback rule
+-- what is made of a refusal: out of memory is answered, values that can't be computed are told, and where the bytes
+-- give nothing it is the fallback rule
 pub data IsMadeOf {R : Type 0} (fallback : R) (error : UnwinderError)
     (answer : Result (FrameAnswer R) Error) : Type 0 where
   no_memory : error ≡ out_of_memory → answer ≡ Err NoMemory → IsMadeOf fallback error answer

@@ -14,8 +14,8 @@ use Rattle.framehop.specs.Modules.{ModuleView, UnwindData, no_unwind_data, call_
 
 -- `outcome`: what a rule does to a frame, a first one (`true`) or another. `fallback`: the rule where nothing is known.
 -- `module_answer`: what the unwind data of a module gives for a relative address in a frame of this kind, if anything.
--- `takes_memory`: whether finding that out for a relative address can take memory. `stack_pointer`: that of registers. `always_rises`: whether
--- each step that leaves a frame other than the first raises the stack pointer.
+-- `takes_memory`: whether finding that out for a relative address can take memory. `stack_pointer`: that of registers.
+-- `always_rises`: whether each step that leaves a frame other than the first raises the stack pointer.
 pub record Unwinding (Rule Regs : Type 0) : Type 0 where
   pub outcome : Rule → Bool → Regs → Memory → Outcome Regs
   pub fallback : Rule
