@@ -20,8 +20,8 @@ use Rattle.framehop.specs.Modules.{ModuleView, UnwindData, no_unwind_data, call_
 use Rattle.framehop.specs.Unwinding.{Words}
 
 -- What the sources mean on an architecture. `row`: a row that is translated to a rule; `columns`: one that is not, as
--- far as its columns have values; `by_code`: the rule by the code around an offset of a function, if the code gives one;
--- `undoes`: that such a rule undoes a prologue or does the rest of an epilogue.
+-- far as its columns have values; `by_code`: the rule by the code around an offset of a function, if the code gives
+-- one; `undoes`: that such a rule undoes a prologue or does the rest of an epilogue.
 pub record Meanings (Rule Regs : Type 0) : Type 1 where
   pub row : List ℕ → Memory → Row → Bool → Regs → ℕ → Regs → Type 0
   pub columns : List ℕ → Option ℕ → Memory → Row → Bool → Regs → ℕ → Regs → Type 0

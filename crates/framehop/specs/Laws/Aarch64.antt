@@ -33,7 +33,8 @@ unfolding aarch64
 memory-is policy = refl
 
 -- there are no values by PE unwind info
-pub no-pe-values : (sections : Sections) (relative : ℕ) (first : Bool) → aarch64_words.pe_found sections relative first ≡ Ok None → (old new : Registers) → Ascends first old new
+pub no-pe-values : (sections : Sections) (relative : ℕ) (first : Bool)
+    → aarch64_words.pe_found sections relative first ≡ Ok None → (old new : Registers) → Ascends first old new
 no-pe-values sections relative first none old new = cc
 
 -- a rule's step ascends
@@ -45,6 +46,8 @@ unfolding aarch64
 rises-as-said policy = record {
   rules = λ said rule old new memory address e. (outcome-Advances rule false old memory address new e).rises refl;
   values = λ said m relative compute e old memory values computed.
-      let read = values-read aarch64_words (λ sections at kind none. cc) policy m relative false compute e old memory values computed in
+      let read =
+      values-read aarch64_words
+      (λ sections at kind none. cc) policy m relative false compute e old memory values computed in
       (direct-means read.bytes policy.values memory read.row false old values.0 values.1 read.direct_is).rises refl;
 }

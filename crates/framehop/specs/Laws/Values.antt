@@ -33,20 +33,28 @@ module _ {Rule Regs : Type 0} where
   compute-in (Some (by_rule rule)) old memory = None
   compute-in (Some (direct compute)) old memory = compute old memory
 
-  of-found : {E : Type 0} (found : Result (Option Rule) E) (compute' : Regs → Memory → Result (ℕ × Regs) E) (compute : Regs → Memory → Option (ℕ × Regs)) (old : Regs) (memory : Memory) (values : ℕ × Regs) → fresh_of found compute' ≡ Some (direct compute) → compute old memory ≡ Some values → compute' old memory ≡ Ok values
+  of-found : {E : Type 0} (found : Result (Option Rule) E) (compute' : Regs → Memory → Result (ℕ × Regs) E)
+      (compute : Regs → Memory → Option (ℕ × Regs)) (old : Regs) (memory : Memory) (values : ℕ × Regs)
+      → fresh_of found compute' ≡ Some (direct compute) → compute old memory ≡ Some values
+      → compute' old memory ≡ Ok values
   unfolding compute-in
   of-found (Err error) compute' compute old memory values e is = cc
   of-found (Ok (Some rule)) compute' compute old memory values e is = cc
   of-found (Ok None) compute' compute old memory values e is =
       ok-values (compute' old memory) values (ap (λ answer. compute-in answer old memory) e ∙ is)
 
-  module _ (words : RowWords Rule Regs) (policy : Policy) (first : Bool) (old : Regs) (memory : Memory) (values : ℕ × Regs) where
-    of-reading : (bytes : List ℕ) (reading : Reading) → direct_by (λ row. words.direct bytes policy.values memory row first old) reading ≡ Ok values → AreOfRow words policy first old memory values
+  module _ (words : RowWords Rule Regs) (policy : Policy) (first : Bool) (old : Regs) (memory : Memory)
+      (values : ℕ × Regs) where
+    of-reading : (bytes : List ℕ) (reading : Reading)
+        → direct_by (λ row. words.direct bytes policy.values memory row first old) reading ≡ Ok values
+        → AreOfRow words policy first old memory values
     of-reading bytes (unread error) e = cc
     of-reading bytes uncovered e = cc
     of-reading bytes (by_row row) e = record { bytes = bytes; row = row; direct_is = e }
 
-    of-offset : (frames : CallFrames) (relative : ℕ) (offset : Option ℕ) (compute : Regs → Memory → Option (ℕ × Regs)) → option_and_then (fde_answer words policy frames.section (frames.base_svma + relative) first) offset ≡ Some (direct compute) → compute old memory ≡ Some values → AreOfRow words policy first old memory values
+    of-offset : (frames : CallFrames) (relative : ℕ) (offset : Option ℕ) (compute : Regs → Memory → Option (ℕ × Regs))
+        → option_and_then (fde_answer words policy frames.section (frames.base_svma + relative) first) offset
+        ≡ Some (direct compute) → compute old memory ≡ Some values → AreOfRow words policy first old memory values
     unfolding fde_answer
     of-offset frames relative None compute e is = cc
     of-offset frames relative (Some offset) compute e is =
@@ -54,28 +62,46 @@ module _ {Rule Regs : Type 0} where
         of-reading frames.section.bytes reading
         (of-found (found_by words.translated words.uncovered reading) _ compute old memory values e is)
 
-    of-info : (frames : Option CallFrames) (relative : ℕ) (told : Answer Rule) (compute : Regs → Memory → Option (ℕ × Regs)) → by_info words policy frames relative first told ≡ Some (direct compute) → compute old memory ≡ Some values → AreOfRow words policy first old memory values
+    of-info : (frames : Option CallFrames) (relative : ℕ) (told : Answer Rule)
+        (compute : Regs → Memory → Option (ℕ × Regs))
+        → by_info words policy frames relative first told ≡ Some (direct compute) → compute old memory ≡ Some values
+        → AreOfRow words policy first old memory values
     of-info frames relative (Ok (ExecRule rule)) compute e is = cc
     of-info None relative (Ok (NeedDwarf offset)) compute e is = cc
-    of-info (Some frames) relative (Ok (NeedDwarf offset)) compute e is = of-offset frames relative (Some offset) compute e is
+    of-info (Some frames) relative (Ok (NeedDwarf offset)) compute e is =
+        of-offset frames relative (Some offset) compute e is
     of-info frames relative (Err error) compute e is = cc
 
-  pe-none : (found : Result (Option Rule) PeUnwinderError) (compute' : Regs → Memory → Result (ℕ × Regs) PeUnwinderError) (compute : Regs → Memory → Option (ℕ × Regs)) → found ≢ Ok None → fresh_of found compute' ≡ Some (direct compute) → ⊥
+  pe-none : (found : Result (Option Rule) PeUnwinderError)
+      (compute' : Regs → Memory → Result (ℕ × Regs) PeUnwinderError) (compute : Regs → Memory → Option (ℕ × Regs))
+      → found ≢ Ok None → fresh_of found compute' ≡ Some (direct compute) → ⊥
   pe-none (Err error) compute' compute none e = cc
   pe-none (Ok (Some rule)) compute' compute none e = cc
   pe-none (Ok None) compute' compute none e = none refl
 
-  of-data : (words : Words Rule Regs) → ((sections : Sections) (relative : ℕ) (first : Bool) → words.pe_found sections relative first ≢ Ok None) → (policy : Policy) (known : UnwindData) (relative : ℕ) (first : Bool) (compute : Regs → Memory → Option (ℕ × Regs)) → data_answer words policy known relative first ≡ Some (direct compute) → (old : Regs) (memory : Memory) (values : ℕ × Regs) → compute old memory ≡ Some values → AreOfRow words.rows policy first old memory values
+  of-data : (words : Words Rule Regs)
+      → ((sections : Sections) (relative : ℕ) (first : Bool) → words.pe_found sections relative first ≢ Ok None)
+      → (policy : Policy) (known : UnwindData) (relative : ℕ) (first : Bool)
+      (compute : Regs → Memory → Option (ℕ × Regs))
+      → data_answer words policy known relative first ≡ Some (direct compute)
+      → (old : Regs) (memory : Memory) (values : ℕ × Regs) → compute old memory ≡ Some values
+      → AreOfRow words.rows policy first old memory values
   of-data words none policy no_unwind_data relative first compute e old memory values is = cc
   of-data words none policy (pe_sections sections) relative first compute e old memory values is =
       absurd (pe-none (words.pe_found sections relative first) _ compute (none sections relative first) e)
   of-data words none policy (compact_info d) relative first compute e old memory values is =
-      of-info words.rows policy first old memory values d.frames relative (unwound words.compact d.info relative first) compute e is
+      of-info words.rows policy first old memory values d.frames relative
+      (unwound words.compact d.info relative first) compute e is
   of-data words none policy (call_frames frames) relative first compute e old memory values is =
       of-offset words.rows policy first old memory values frames relative (fde_offset_of frames relative) compute e is
 
   -- where PE unwind info gives no values
-  pub values-read : (words : Words Rule Regs) → ((sections : Sections) (relative : ℕ) (first : Bool) → words.pe_found sections relative first ≢ Ok None) → (policy : Policy) (m : ModuleView) (relative : ℕ) (first : Bool) (compute : Regs → Memory → Option (ℕ × Regs)) → answer_by words policy m relative first ≡ Some (direct compute) → (old : Regs) (memory : Memory) (values : ℕ × Regs) → compute old memory ≡ Some values → AreOfRow words.rows policy first old memory values
+  pub values-read : (words : Words Rule Regs)
+      → ((sections : Sections) (relative : ℕ) (first : Bool) → words.pe_found sections relative first ≢ Ok None)
+      → (policy : Policy) (m : ModuleView) (relative : ℕ) (first : Bool) (compute : Regs → Memory → Option (ℕ × Regs))
+      → answer_by words policy m relative first ≡ Some (direct compute)
+      → (old : Regs) (memory : Memory) (values : ℕ × Regs) → compute old memory ≡ Some values
+      → AreOfRow words.rows policy first old memory values
   unfolding answer_by
   values-read words none policy m relative first compute e old memory values is =
       of-data words none policy m.unwind_data relative first compute e old memory values is

@@ -31,10 +31,11 @@ first-decided {A} P Q (None, none) (found, only) =
 pub means-first : {A : Type 0} (P Q : A → Type 0) {P' Q' : A → Type 0} (found : Option A) → IsOnly (FirstOf P Q) found
     → ((x : A) → P x → P' x) → ((x : A) → Q x → Q' x) → (x : A) → found ≡ Some x → P' x ⊎ Q' x
 means-first P Q None only first second x is = cc
-means-first {A} P Q {P'} {Q'} (Some y) only first second x is = subst (λ x. P' x ⊎ Q' x) (some-same y x is) (of only.0) where
-  of : FirstOf P Q y → P' y ⊎ Q' y
-  of (inl p) = inl (first y p)
-  of (inr q) = inr (second y q.1)
+means-first {A} P Q {P'} {Q'} (Some y) only first second x is =
+    subst (λ x. P' x ⊎ Q' x) (some-same y x is) (of only.0) where
+      of : FirstOf P Q y → P' y ⊎ Q' y
+      of (inl p) = inl (first y p)
+      of (inr q) = inr (second y q.1)
 
 -- ---- facts
 

@@ -1,4 +1,5 @@
--- aarch64: what a rule's step to the caller has found, and that sp rises. Lemmas: the law of `UnwindRule` cites the last one.
+-- aarch64: what a rule's step to the caller has found, and that sp rises. Lemmas: the law of `UnwindRule` cites the
+-- last one.
 use Rattle.std.proofs.Common.{◌≡◌, ◌≢◌, ℕ, ◌^◌, ◌<◌, ◌≤◌, ℤ, pos, Bool, true, false, not, ◌&&◌, ◌||◌, nat_eq, nat_le, Ok, refl, sym, ap, ◌∙◌, arith}
 use Rattle.std.proofs.lemmas.Bool.Decides.{nat_tests}
 use Rattle.framehop_core.specs.Memory.{Memory}
@@ -21,16 +22,25 @@ or-false : (a b : Bool) → (a || b) ≡ false → (a ≡ false) × (b ≡ false
 or-false true b e = cc
 or-false false b e = (refl, e)
 
-pub demanded-answered : (demand : Demand) (r : Registers) (sp fp : ℕ) (next : Outcome Registers) (address : ℕ) (new : Registers) → demanded demand r sp fp next ≡ answered address new → Meets demand r sp fp × (next ≡ answered address new)
+pub demanded-answered : (demand : Demand) (r : Registers) (sp fp : ℕ) (next : Outcome Registers) (address : ℕ)
+    (new : Registers) → demanded demand r sp fp next ≡ answered address new
+    → Meets demand r sp fp × (next ≡ answered address new)
 demanded-answered nothing_more r sp fp next address new e = (tt, e)
 demanded-answered stack_pointer_rises r sp fp next address new e =
     let test = refused_unless (nat_le sp r.sp) FramepointerUnwindingMovedBackwards next address new e in
     ((let above = test.0 in grind (arith, nat_tests)), test.1)
 demanded-answered frame_pointer_rises r sp fp next address new e =
     let zero = root_unless (nat_eq fp 0) _ address new e in
-    let test = refused_unless (nat_le fp r.fp || nat_le sp r.sp) FramepointerUnwindingMovedBackwards next address new zero.1 in
-    let both = or-false (nat_le fp r.fp) (nat_le sp r.sp) test.0 in
-    (((let not_zero = zero.0 in λ is. grind (arith, nat_tests)), (let above = both.0 in grind (arith, nat_tests)), (let above = both.1 in grind (arith, nat_tests))), test.1)
+    let test =
+    refused_unless (nat_le fp r.fp || nat_le sp r.sp) FramepointerUnwindingMovedBackwards next address new zero.1 in
+    let both = or-false (nat_le fp r.fp) (nat_le sp r.sp) test.0 in (
+      (
+        (let not_zero = zero.0 in λ is. grind (arith, nat_tests)),
+        (let above = both.0 in grind (arith, nat_tests)),
+        (let above = both.1 in grind (arith, nat_tests)),
+      ),
+      test.1,
+    )
 
 -- the last step answers: the return address is not 0, and sp moves in a frame that is not the first
 pub record IsFinished (first : Bool) (r : Registers) (sp lr fp address : ℕ) (new : Registers) : Type 0 where
@@ -43,7 +53,8 @@ stays : (first : Bool) (sp old : ℕ) → (not first && nat_eq sp old) ≡ false
 stays true sp old test first = cc
 stays false sp old test first = λ same. grind (arith, nat_tests)
 
-pub finished-answered : (first : Bool) (r : Registers) (sp lr fp address : ℕ) (new : Registers) → finished first r sp lr fp ≡ answered address new → IsFinished first r sp lr fp address new
+pub finished-answered : (first : Bool) (r : Registers) (sp lr fp address : ℕ) (new : Registers)
+    → finished first r sp lr fp ≡ answered address new → IsFinished first r sp lr fp address new
 finished-answered first r sp lr fp address new e =
     let found = strip_ptr_auth r.lr_mask lr in
     let zero = root_unless (nat_eq found 0) _ address new e in
@@ -57,7 +68,8 @@ finished-answered first r sp lr fp address new e =
     }
 
 -- a line of the table answers: what it has found
-pub record IsCaller (sp : ℤ) (lr fp : Source) (demand : Demand) (first : Bool) (r : Registers) (memory : Memory) (address : ℕ) (new : Registers) : Type 0 where
+pub record IsCaller (sp : ℤ) (lr fp : Source) (demand : Demand) (first : Bool) (r : Registers) (memory : Memory)
+    (address : ℕ) (new : Registers) : Type 0 where
   pub new_sp : ℕ
   pub new_lr : ℕ
   pub new_fp : ℕ
@@ -68,7 +80,9 @@ pub record IsCaller (sp : ℤ) (lr fp : Source) (demand : Demand) (first : Bool)
   pub met : Meets demand r new_sp new_fp
   pub end : IsFinished first r new_sp new_lr new_fp address new
 
-pub caller-answered : (sp : ℤ) (lr fp : Source) (demand : Demand) (first : Bool) (r : Registers) (memory : Memory) (address : ℕ) (new : Registers) → outcome_of_line (caller sp lr fp demand) first r memory ≡ answered address new → IsCaller sp lr fp demand first r memory address new
+pub caller-answered : (sp : ℤ) (lr fp : Source) (demand : Demand) (first : Bool) (r : Registers) (memory : Memory)
+    (address : ℕ) (new : Registers) → outcome_of_line (caller sp lr fp demand) first r memory ≡ answered address new
+    → IsCaller sp lr fp demand first r memory address new
 caller-answered sp lr fp demand first r memory address new e =
     let a = after-answered (address_at sp) _ address new e in
     let b = after-answered (value_from memory lr) _ address new a.2 in
@@ -92,7 +106,9 @@ caller-answered sp lr fp demand first r memory address new e =
 pos-same : (m n : ℕ) → pos m ≡ pos n → m ≡ n
 pos-same m n e = cc
 
-kept_or_raised : (sp : ℤ) (lr fp : Source) (demand : Demand) (first : Bool) (r : Registers) (memory : Memory) (address : ℕ) (new : Registers) → ((n : ℕ) (new_fp : ℕ) → sp ≡ pos n → Meets demand r n new_fp → r.sp ≤ n) → outcome_of_line (caller sp lr fp demand) first r memory ≡ answered address new → Advances first r new
+kept_or_raised : (sp : ℤ) (lr fp : Source) (demand : Demand) (first : Bool) (r : Registers) (memory : Memory)
+    (address : ℕ) (new : Registers) → ((n : ℕ) (new_fp : ℕ) → sp ≡ pos n → Meets demand r n new_fp → r.sp ≤ n)
+    → outcome_of_line (caller sp lr fp demand) first r memory ≡ answered address new → Advances first r new
 kept_or_raised sp lr fp demand first r memory address new least e =
     let c = caller-answered sp lr fp demand first r memory address new e in
     let same : new.sp ≡ c.new_sp = ap (λ t. t.sp) c.end.registers in
@@ -109,10 +125,12 @@ IsUpward no_advance r = Unit {0}
 IsUpward stack_end r = Unit {0}
 IsUpward (caller sp lr fp demand) r = (n new_fp : ℕ) → sp ≡ pos n → Meets demand r n new_fp → r.sp ≤ n
 
-line-Advances : (line : Line) (first : Bool) (r : Registers) (memory : Memory) (address : ℕ) (new : Registers) → IsUpward line r → outcome_of_line line first r memory ≡ answered address new → Advances first r new
+line-Advances : (line : Line) (first : Bool) (r : Registers) (memory : Memory) (address : ℕ) (new : Registers)
+    → IsUpward line r → outcome_of_line line first r memory ≡ answered address new → Advances first r new
 line-Advances no_advance first r memory address new up e = cc
 line-Advances stack_end first r memory address new up e = cc
-line-Advances (caller sp lr fp demand) first r memory address new up e = kept_or_raised sp lr fp demand first r memory address new up e
+line-Advances (caller sp lr fp demand) first r memory address new up e =
+    kept_or_raised sp lr fp demand first r memory address new up e
 
 IsUpward-line_of : (rule : UnwindRuleAarch64) (first : Bool) (r : Registers) → IsUpward (line_of rule first r) r
 IsUpward-line_of NoOp true r = λ n f is met. let same = pos-same _ n is in omega arith
@@ -121,7 +139,8 @@ IsUpward-line_of NoOpIfFirstFrameOtherwiseFp true r = λ n f is met. let same = 
 IsUpward-line_of NoOpIfFirstFrameOtherwiseFp false r = λ n f is met. omega arith
 IsUpward-line_of (OffsetSp x) true r = λ n f is met. let same = pos-same _ n is in omega arith
 IsUpward-line_of (OffsetSp x) false r = tt
-IsUpward-line_of (OffsetSpIfFirstFrameOtherwiseStackEndsHere x) true r = λ n f is met. let same = pos-same _ n is in omega arith
+IsUpward-line_of (OffsetSpIfFirstFrameOtherwiseStackEndsHere x) true r =
+    λ n f is met. let same = pos-same _ n is in omega arith
 IsUpward-line_of (OffsetSpIfFirstFrameOtherwiseStackEndsHere x) false r = tt
 IsUpward-line_of (OffsetSpAndRestoreLr x z) first r = λ n f is met. let same = pos-same _ n is in omega arith
 IsUpward-line_of (OffsetSpAndRestoreFpAndLr x y z) first r = λ n f is met. let same = pos-same _ n is in omega arith
@@ -129,7 +148,8 @@ IsUpward-line_of UseFramePointer first r = λ n f is met. omega (arith, met.2)
 IsUpward-line_of (UseFramepointerWithOffsets x y z) first r = λ n f is met. omega (arith, met.2)
 
 -- a rule that answers an address advances
-pub outcome-Advances : (rule : UnwindRuleAarch64) (first : Bool) (r : Registers) (memory : Memory) (address : ℕ) (new : Registers) → outcome rule first r memory ≡ answered address new → Advances first r new
+pub outcome-Advances : (rule : UnwindRuleAarch64) (first : Bool) (r : Registers) (memory : Memory) (address : ℕ)
+    (new : Registers) → outcome rule first r memory ≡ answered address new → Advances first r new
 outcome-Advances rule first r memory address new e =
     line-Advances (line_of rule first r) first r memory address new (IsUpward-line_of rule first r) e
 

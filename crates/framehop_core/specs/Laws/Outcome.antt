@@ -12,11 +12,13 @@ nat_eq-false m n h = λ e. grind (arith, nat_tests)
 
 -- ---- results
 
-pub and_then-ok : {A B : Type 0} (r : Result A Error) (next : A → Result B Error) (value : B) → and_then r next ≡ Ok value → (part : A) × (r ≡ Ok part) × (next part ≡ Ok value)
+pub and_then-ok : {A B : Type 0} (r : Result A Error) (next : A → Result B Error) (value : B)
+    → and_then r next ≡ Ok value → (part : A) × (r ≡ Ok part) × (next part ≡ Ok value)
 and_then-ok (Ok part) next value e = (part, refl, e)
 and_then-ok (Err error) next value e = cc
 
-address_at_test : (b : Bool) (n address : ℕ) → cond b (Ok n) (Err IntegerOverflow) ≡ Ok address → (b ≡ true) × (n ≡ address)
+address_at_test : (b : Bool) (n address : ℕ) → cond b (Ok n) (Err IntegerOverflow) ≡ Ok address
+    → (b ≡ true) × (n ≡ address)
 address_at_test true n address e = (refl, cc)
 address_at_test false n address e = cc
 
@@ -37,16 +39,19 @@ word_at-ok memory at word e = read_of-ok at word (memory at) e
 
 -- ---- outcomes
 
-pub after-answered : {A R : Type 0} (r : Result A Error) (next : A → Outcome R) (address : ℕ) (new : R) → after r next ≡ answered address new → (part : A) × (r ≡ Ok part) × (next part ≡ answered address new)
+pub after-answered : {A R : Type 0} (r : Result A Error) (next : A → Outcome R) (address : ℕ) (new : R)
+    → after r next ≡ answered address new → (part : A) × (r ≡ Ok part) × (next part ≡ answered address new)
 after-answered (Ok part) next address new e = (part, refl, e)
 after-answered (Err error) next address new e = cc
 
 -- a test that leads elsewhere has failed
-pub root_unless : {R : Type 0} (b : Bool) (o : Outcome R) (address : ℕ) (new : R) → cond b root o ≡ answered address new → (b ≡ false) × (o ≡ answered address new)
+pub root_unless : {R : Type 0} (b : Bool) (o : Outcome R) (address : ℕ) (new : R) → cond b root o ≡ answered address new
+    → (b ≡ false) × (o ≡ answered address new)
 root_unless true o address new e = cc
 root_unless false o address new e = (refl, e)
 
-pub refused_unless : {R : Type 0} (b : Bool) (error : Error) (o : Outcome R) (address : ℕ) (new : R) → cond b (refused error) o ≡ answered address new → (b ≡ false) × (o ≡ answered address new)
+pub refused_unless : {R : Type 0} (b : Bool) (error : Error) (o : Outcome R) (address : ℕ) (new : R)
+    → cond b (refused error) o ≡ answered address new → (b ≡ false) × (o ≡ answered address new)
 refused_unless true error o address new e = cc
 refused_unless false error o address new e = (refl, e)
 

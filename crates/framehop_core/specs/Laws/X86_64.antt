@@ -1,4 +1,5 @@
--- x86_64: what a rule's step to the caller has found, and that rsp rises. Lemmas: the law of `UnwindRule` cites the last one.
+-- x86_64: what a rule's step to the caller has found, and that rsp rises. Lemmas: the law of `UnwindRule` cites the
+-- last one.
 use Rattle.std.proofs.Common.{◌≡◌, ◌≢◌, ℕ, ◌^◌, ◌<◌, ◌≤◌, ℤ, pos, ◌-ℤ◌, Bool, true, false, ◌&&◌, nat_eq, nat_le, cond, List, [], ◌∷◌, Option, Some, None, Result, Ok, Err, refl, sym, ap, ◌∙◌, arith}
 use Rattle.std.proofs.lemmas.Bool.Decides.{nat_tests}
 use Rattle.framehop_core.specs.Memory.{Memory}
@@ -18,7 +19,9 @@ abbrev pub Meets : Demand → Registers → ℕ → Type 0
 Meets nothing_more r sp = Unit {0}
 Meets stack_pointer_rises r sp = r.rsp < sp
 
-pub demanded-answered : (demand : Demand) (r : Registers) (sp : ℕ) (next : Outcome Registers) (address : ℕ) (new : Registers) → demanded demand r sp next ≡ answered address new → Meets demand r sp × (next ≡ answered address new)
+pub demanded-answered : (demand : Demand) (r : Registers) (sp : ℕ) (next : Outcome Registers) (address : ℕ)
+    (new : Registers) → demanded demand r sp next ≡ answered address new
+    → Meets demand r sp × (next ≡ answered address new)
 demanded-answered nothing_more r sp next address new e = (tt, e)
 demanded-answered stack_pointer_rises r sp next address new e =
     let test = refused_unless (nat_le sp r.rsp) FramepointerUnwindingMovedBackwards next address new e in
@@ -32,13 +35,16 @@ pub record IsFinished (callee restored : Registers) (memory : Memory) (address :
   pub moved : restored.rsp ≡ callee.rsp → address ≡ callee.ip → ⊥
   pub registers : new ≡ record restored { ip = address }
 
-returned-answered : (restored : Registers) (found : Option ℕ) (address : ℕ) (new : Registers) → returned restored found ≡ answered address new → (found ≡ Some address) × (new ≡ record restored { ip = address })
+returned-answered : (restored : Registers) (found : Option ℕ) (address : ℕ) (new : Registers)
+    → returned restored found ≡ answered address new → (found ≡ Some address) × (new ≡ record restored { ip = address })
 returned-answered restored None address new e = cc
 returned-answered restored (Some a) address new e =
     let same = same-answered a address (record restored { ip = a }) new e in
     (ap Some same.0, sym same.1 ∙ ap (λ b. record restored { ip = b }) same.0)
 
-tested : (zero still : Bool) (word address : ℕ) → cond {A = Result (Option ℕ) Error} zero (Ok None) (cond still (Err DidNotAdvance) (Ok (Some word))) ≡ Ok (Some address) → (zero ≡ false) × (still ≡ false) × (word ≡ address)
+tested : (zero still : Bool) (word address : ℕ)
+    → cond {A = Result (Option ℕ) Error} zero (Ok None) (cond still (Err DidNotAdvance) (Ok (Some word)))
+    ≡ Ok (Some address) → (zero ≡ false) × (still ≡ false) × (word ≡ address)
 tested true still word address e = cc
 tested false true word address e = cc
 tested false false word address e = (refl, refl, cc)
@@ -46,7 +52,8 @@ tested false false word address e = (refl, refl, cc)
 and-apart : (a b : Bool) → (a && b) ≡ false → a ≡ true → b ≡ true → ⊥
 and-apart a b e p q = cc
 
-pub finished-answered : (callee restored : Registers) (memory : Memory) (address : ℕ) (new : Registers) → finished callee restored memory ≡ answered address new → IsFinished callee restored memory address new
+pub finished-answered : (callee restored : Registers) (memory : Memory) (address : ℕ) (new : Registers)
+    → finished callee restored memory ≡ answered address new → IsFinished callee restored memory address new
 finished-answered callee restored memory address new e =
     let a = after-answered (return_address callee restored.rsp memory) _ address new e in
     let b = returned-answered restored a.0 address new a.2 in
@@ -55,12 +62,15 @@ finished-answered callee restored memory address new e =
     record {
       word = c.1 ∙ ap Ok d.2;
       not_zero = (let zero = d.0 in let is = d.2 in λ none. grind (arith, nat_tests));
-      moved = (let still = d.1 in let is = d.2 in λ sp ip. and-apart (nat_eq restored.rsp callee.rsp) (nat_eq c.0 callee.ip) still (grind (arith, nat_tests)) (grind (arith, nat_tests)));
+      moved = (let still = d.1 in let is = d.2 in λ sp ip.
+          and-apart (nat_eq restored.rsp callee.rsp) (nat_eq c.0 callee.ip)
+          still (grind (arith, nat_tests)) (grind (arith, nat_tests)));
       registers = b.1;
     }
 
 -- a line of the table answers: what it has found
-pub record IsCaller (sp : ℤ) (demand : Demand) (bp : Source) (r : Registers) (memory : Memory) (address : ℕ) (new : Registers) : Type 0 where
+pub record IsCaller (sp : ℤ) (demand : Demand) (bp : Source) (r : Registers) (memory : Memory) (address : ℕ)
+    (new : Registers) : Type 0 where
   pub new_sp : ℕ
   pub new_bp : ℕ
   pub sp_is : sp ≡ pos new_sp
@@ -69,7 +79,9 @@ pub record IsCaller (sp : ℤ) (demand : Demand) (bp : Source) (r : Registers) (
   pub bp_is : value_from memory r.rbp bp ≡ Ok new_bp
   pub end : IsFinished r (record r { rsp = new_sp; rbp = new_bp }) memory address new
 
-pub caller-answered : (sp : ℤ) (demand : Demand) (bp : Source) (r : Registers) (memory : Memory) (address : ℕ) (new : Registers) → outcome_of_line (caller sp demand bp) r memory ≡ answered address new → IsCaller sp demand bp r memory address new
+pub caller-answered : (sp : ℤ) (demand : Demand) (bp : Source) (r : Registers) (memory : Memory) (address : ℕ)
+    (new : Registers) → outcome_of_line (caller sp demand bp) r memory ≡ answered address new
+    → IsCaller sp demand bp r memory address new
 caller-answered sp demand bp r memory address new e =
     let a = after-answered (address_at sp) _ address new e in
     let b = demanded-answered demand r a.0 _ address new a.2 in
@@ -86,7 +98,8 @@ caller-answered sp demand bp r memory address new e =
     }
 
 -- a line of pops answers
-pub record IsPopped (at : ℤ) (registers : List Reg) (r : Registers) (memory : Memory) (address : ℕ) (new : Registers) : Type 0 where
+pub record IsPopped (at : ℤ) (registers : List Reg) (r : Registers) (memory : Memory) (address : ℕ)
+    (new : Registers) : Type 0 where
   pub first : ℕ
   pub restored : Registers
   pub first_is : at ≡ pos first
@@ -94,7 +107,8 @@ pub record IsPopped (at : ℤ) (registers : List Reg) (r : Registers) (memory : 
   pub pops_are : popped memory first registers r ≡ Ok restored
   pub end : IsFinished r restored memory address new
 
-pub pops-answered : (at : ℤ) (registers : List Reg) (r : Registers) (memory : Memory) (address : ℕ) (new : Registers) → outcome_of_line (pops at registers) r memory ≡ answered address new → IsPopped at registers r memory address new
+pub pops-answered : (at : ℤ) (registers : List Reg) (r : Registers) (memory : Memory) (address : ℕ) (new : Registers)
+    → outcome_of_line (pops at registers) r memory ≡ answered address new → IsPopped at registers r memory address new
 pops-answered at registers r memory address new e =
     let a = after-answered (address_at at) _ address new e in
     let b = after-answered (popped memory a.0 registers r) _ address new a.2 in
@@ -117,7 +131,8 @@ pos-same : (m n : ℕ) → pos m ≡ pos n → m ≡ n
 pos-same m n e = cc
 
 -- pops leave rsp above where they begin
-popped-above : (memory : Memory) (address : ℕ) (registers : List Reg) (r restored : Registers) → popped memory address registers r ≡ Ok restored → address ≤ restored.rsp
+popped-above : (memory : Memory) (address : ℕ) (registers : List Reg) (r restored : Registers)
+    → popped memory address registers r ≡ Ok restored → address ≤ restored.rsp
 popped-above memory address [] r restored e =
     let a = and_then-ok (address_at (above address 8)) _ restored e in
     let at = pos-same _ _ (address_at-ok (above address 8) a.0 a.1).0 in
@@ -137,7 +152,8 @@ pub record IsReturn (r : Registers) (memory : Memory) (address : ℕ) (new : Reg
   pub moved : new.rsp ≡ r.rsp → new.ip ≡ r.ip → ⊥
   pub answer : new.ip ≡ address
 
-finished-IsReturn : (r restored : Registers) (memory : Memory) (address : ℕ) (new : Registers) → r.rsp ≤ restored.rsp → IsFinished r restored memory address new → IsReturn r memory address new
+finished-IsReturn : (r restored : Registers) (memory : Memory) (address : ℕ) (new : Registers) → r.rsp ≤ restored.rsp
+    → IsFinished r restored memory address new → IsReturn r memory address new
 finished-IsReturn r restored memory address new up e =
     let sp : new.rsp ≡ restored.rsp = ap (λ s. s.rsp) e.registers in
     let ip : new.ip ≡ address = ap (λ s. s.ip) e.registers in
@@ -154,11 +170,13 @@ IsUpward stack_end r = Unit {0}
 IsUpward (caller sp demand bp) r = (n : ℕ) → sp ≡ pos n → Meets demand r n → r.rsp ≤ n
 IsUpward (pops at registers) r = (n : ℕ) → at ≡ pos n → r.rsp ≤ n
 
-line-IsReturn : (line : Line) (r : Registers) (memory : Memory) (address : ℕ) (new : Registers) → IsUpward line r → outcome_of_line line r memory ≡ answered address new → IsReturn r memory address new
+line-IsReturn : (line : Line) (r : Registers) (memory : Memory) (address : ℕ) (new : Registers) → IsUpward line r
+    → outcome_of_line line r memory ≡ answered address new → IsReturn r memory address new
 line-IsReturn stack_end r memory address new up e = cc
 line-IsReturn (caller sp demand bp) r memory address new up e =
     let c = caller-answered sp demand bp r memory address new e in
-    finished-IsReturn r (record r { rsp = c.new_sp; rbp = c.new_bp }) memory address new (up c.new_sp c.sp_is c.met) c.end
+    finished-IsReturn r (record r { rsp = c.new_sp; rbp = c.new_bp }) memory address new
+    (up c.new_sp c.sp_is c.met) c.end
 line-IsReturn (pops at registers) r memory address new up e =
     let p = pops-answered at registers r memory address new e in
     let least = up p.first p.first_is in
@@ -180,7 +198,8 @@ IsUpward-line_of UseFramePointer first r = IsUpward-frame_pointer (nat_eq r.rbp 
 IsUpward-line_of (OffsetSpAndPopRegisters x count n) first r = λ m is. let same = pos-same _ m is in omega arith
 
 -- a rule that answers an address returns to it
-pub outcome-IsReturn : (rule : UnwindRuleX86_64) (first : Bool) (r : Registers) (memory : Memory) (address : ℕ) (new : Registers) → outcome rule first r memory ≡ answered address new → IsReturn r memory address new
+pub outcome-IsReturn : (rule : UnwindRuleX86_64) (first : Bool) (r : Registers) (memory : Memory) (address : ℕ)
+    (new : Registers) → outcome rule first r memory ≡ answered address new → IsReturn r memory address new
 outcome-IsReturn rule first r memory address new e =
     line-IsReturn (line_of rule first r) r memory address new (IsUpward-line_of rule first r) e
 
@@ -188,7 +207,8 @@ outcome-IsReturn rule first r memory address new e =
 rises : (old new : ℕ) → old ≤ new → new ≢ old → old < new
 rises old new up apart = omega arith
 
-pub IsReturn-rises : (r : Registers) (memory : Memory) (address : ℕ) (new : Registers) → IsReturn r memory address new → StandsAfterReturn memory r → r.rsp < new.rsp
+pub IsReturn-rises : (r : Registers) (memory : Memory) (address : ℕ) (new : Registers) → IsReturn r memory address new
+    → StandsAfterReturn memory r → r.rsp < new.rsp
 IsReturn-rises r memory address new step behind =
     rises r.rsp new.rsp step.not_below (λ same.
     let word : word_from memory (pos r.rsp -ℤ pos 8) ≡ Ok new.ip = rw same at step.behind in
@@ -198,5 +218,7 @@ IsReturn-rises r memory address new step behind =
 pub raises : Raises outcome (λ r. r.rsp) StandsAfterReturn
 raises = record {
   leads = λ rule first old new memory address e. (outcome-IsReturn rule first old memory address new e).behind;
-  rises = λ rule old new memory address behind e. IsReturn-rises old memory address new (outcome-IsReturn rule false old memory address new e) behind;
+  rises =
+      λ rule old new memory address behind e.
+      IsReturn-rises old memory address new (outcome-IsReturn rule false old memory address new e) behind;
 }

@@ -11,11 +11,16 @@ use Rattle.framehop_dwarf.specs.Laws.SimulationAarch64.{translated-means}
 use Rattle.framehop_dwarf.specs.Laws.DirectAarch64.{direct-means}
 
 -- where the rule of a row answers an address, the step is what the row means
-pub rule-means : (section : List ℕ) (memory : Memory) (row : Row) (rule : UnwindRuleAarch64) (first : Bool) (old new : Registers) (address : ℕ)
-    → translated row ≡ Some rule → outcome rule first old memory ≡ answered address new → RowMeans section memory row first old address new
-rule-means section memory row rule first old new address = translated-means section memory first old address new row rule
+pub rule-means : (section : List ℕ) (memory : Memory) (row : Row) (rule : UnwindRuleAarch64) (first : Bool)
+    (old new : Registers) (address : ℕ)
+    → translated row ≡ Some rule → outcome rule first old memory ≡ answered address new
+    → RowMeans section memory row first old address new
+rule-means section memory row rule first old new address =
+    translated-means section memory first old address new row rule
 
 -- the values of a row without a rule are those of its columns
-pub values-mean : (section : List ℕ) (limit : Option ℕ) (memory : Memory) (row : Row) (first : Bool) (old new : Registers) (address : ℕ)
-    → direct_of section limit memory row first old ≡ Ok (address, new) → ColumnsMean section limit memory row first old address new
+pub values-mean : (section : List ℕ) (limit : Option ℕ) (memory : Memory) (row : Row) (first : Bool)
+    (old new : Registers) (address : ℕ)
+    → direct_of section limit memory row first old ≡ Ok (address, new)
+    → ColumnsMean section limit memory row first old address new
 values-mean section limit memory row first old new address = direct-means section limit memory row first old address new

@@ -31,13 +31,17 @@ abbrev pub unlimited : Scope → Scope
 unlimited scope = record scope { limit = None }
 
 module _ (scope : Scope) where
-  pub cfa-means : (cfa_rule : CfaRule) (address : ℕ) → cfa_of scope cfa_rule ≡ Some address → IsCfa (unlimited scope) cfa_rule address
+  pub cfa-means : (cfa_rule : CfaRule) (address : ℕ) → cfa_of scope cfa_rule ≡ Some address
+      → IsCfa (unlimited scope) cfa_rule address
   cfa-means (cfa.RegisterAndOffset register offset) address is =
       let base = bind_some (scope.columns register) (λ b. sum_of b offset) address is in
       (base.0, base.1, sum-is base.0 offset address base.2)
-  cfa-means (cfa.Expression expression) address is = value_in-means scope.bytes scope.columns None expression None address (in-free scope.limit scope.columns scope.bytes expression None address is)
+  cfa-means (cfa.Expression expression) address is =
+      value_in-means scope.bytes scope.columns None expression None address
+      (in-free scope.limit scope.columns scope.bytes expression None address is)
 
-  pub column-means : (memory : Memory) (cfa own : ℕ) (column : Option RegisterRule) (value : ℕ) → register_of scope memory cfa own column ≡ Some value → IsColumn (unlimited scope) memory cfa own column value
+  pub column-means : (memory : Memory) (cfa own : ℕ) (column : Option RegisterRule) (value : ℕ)
+      → register_of scope memory cfa own column ≡ Some value → IsColumn (unlimited scope) memory cfa own column value
   column-means memory cfa own None value is = cc
   column-means memory cfa own (Some rule.Undefined) value is = cc
   column-means memory cfa own (Some rule.SameValue) value is = cc
@@ -47,6 +51,12 @@ module _ (scope : Scope) where
   column-means memory cfa own (Some (rule.ValOffset offset)) value is = sum-is cfa offset value is
   column-means memory cfa own (Some (rule.Register register)) value is = is
   column-means memory cfa own (Some (rule.Expression expression)) value is =
-      let at = bind_some _ memory value is in
-      (at.0, value_in-means scope.bytes scope.columns None expression (Some cfa) at.0 (in-free scope.limit scope.columns scope.bytes expression (Some cfa) at.0 at.1), at.2)
-  column-means memory cfa own (Some (rule.ValExpression expression)) value is = value_in-means scope.bytes scope.columns None expression (Some cfa) value (in-free scope.limit scope.columns scope.bytes expression (Some cfa) value is)
+      let at = bind_some _ memory value is in (
+        at.0,
+        value_in-means scope.bytes scope.columns None expression (Some cfa) at.0
+            (in-free scope.limit scope.columns scope.bytes expression (Some cfa) at.0 at.1),
+        at.2,
+      )
+  column-means memory cfa own (Some (rule.ValExpression expression)) value is =
+      value_in-means scope.bytes scope.columns None expression (Some cfa) value
+      (in-free scope.limit scope.columns scope.bytes expression (Some cfa) value is)

@@ -21,7 +21,8 @@ record Stepped (old : Registers) (cfa fp lr address : ℕ) (new : Registers) : T
   fp_is : new.fp ≡ fp
   new_lr : new.lr ≡ address
 
-made : (old : Registers) (cfa fp lr address : ℕ) (new : Registers) → stepped old cfa fp lr ≡ Ok (address, new) → Stepped old cfa fp lr address new
+made : (old : Registers) (cfa fp lr address : ℕ) (new : Registers) → stepped old cfa fp lr ≡ Ok (address, new)
+    → Stepped old cfa fp lr address new
 made old cfa fp lr address new is =
     let pairs = ap (pair_in (lr, old)) is in
     let found = strip_ptr_auth old.lr_mask lr in
@@ -34,7 +35,8 @@ made old cfa fp lr address new is =
       new_lr = sym (ap (λ r. r.lr) registers) ∙ same;
     }
 
-kept-or : (first : Bool) (own found value : ℕ) (saved : Option ℕ) → or_kept first own saved ≡ Some found → saved ≡ Some value → found ≡ value
+kept-or : (first : Bool) (own found value : ℕ) (saved : Option ℕ) → or_kept first own saved ≡ Some found
+    → saved ≡ Some value → found ≡ value
 kept-or first own found value (Some s) is there = cc
 kept-or first own found value None is there = cc
 
@@ -42,7 +44,9 @@ above-it : (first : Bool) (cfa sp : ℕ) → (not first && leb cfa sp) ≡ false
 above-it true cfa sp test is = cc
 above-it false cfa sp test is = grind (arith, nat_tests)
 
-pub direct-means : (bytes : List ℕ) (limit : Option ℕ) (memory : Memory) (row : Row) (first : Bool) (old : Registers) (address : ℕ) (new : Registers) → direct_of bytes limit memory row first old ≡ Ok (address, new) → ColumnsMean bytes limit memory row first old address new
+pub direct-means : (bytes : List ℕ) (limit : Option ℕ) (memory : Memory) (row : Row) (first : Bool) (old : Registers)
+    (address : ℕ) (new : Registers) → direct_of bytes limit memory row first old ≡ Ok (address, new)
+    → ColumnsMean bytes limit memory row first old address new
 unfolding direct_of
 direct-means bytes limit memory row first old address new is =
     let scope = scope_of bytes limit old in
@@ -58,8 +62,19 @@ direct-means bytes limit memory row first old address new is =
           let step = made old cfa.0 fp.0 lr.0 address new lr.2 in
           record {
             cfa = rw step.sp (cfa-means scope row.cfa cfa.0 cfa.1);
-            link_register = rw step.sp (λ value there. (step.address_is ∙ ap (strip_ptr_auth old.lr_mask) (kept-or first old.lr lr.0 value saved_lr lr.1 there), column-means scope memory cfa.0 old.lr (rule_of row.rules lr_column) value there));
-            frame_pointer = rw step.sp (λ value there. (step.fp_is ∙ kept-or first old.fp fp.0 value saved_fp fp.1 there, column-means scope memory cfa.0 old.fp (rule_of row.rules fp_column) value there));
+            link_register =
+                rw step.sp
+                (λ value there. (
+                  step.address_is
+                      ∙ ap (strip_ptr_auth old.lr_mask) (kept-or first old.lr lr.0 value saved_lr lr.1 there),
+                  column-means scope memory cfa.0 old.lr (rule_of row.rules lr_column) value there,
+                ));
+            frame_pointer =
+                rw step.sp
+                (λ value there. (
+                  step.fp_is ∙ kept-or first old.fp fp.0 value saved_fp fp.1 there,
+                  column-means scope memory cfa.0 old.fp (rule_of row.rules fp_column) value there,
+                ));
             new_lr = step.new_lr;
             rises = λ caller. subst (λ n. old.sp < n) (sym step.sp) (above-it first cfa.0 old.sp up caller);
           }

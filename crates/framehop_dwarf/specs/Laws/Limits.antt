@@ -16,7 +16,8 @@ some-list : (xs ys : List ℕ) → ◌≡◌ {A = Option (List ℕ)} (Some xs) (
 some-list xs ys is = cc
 
 module _ (limit : Option ℕ) where
-  pushed-free : (value : ℕ) (stack new : List ℕ) → pushed limit value stack ≡ Some new → pushed None value stack ≡ Some new
+  pushed-free : (value : ℕ) (stack new : List ℕ) → pushed limit value stack ≡ Some new
+      → pushed None value stack ≡ Some new
   pushed-free value stack new is =
       elim (cases_Bool (fits limit (suc (length stack)))) [
         | inl room ↦ rw room at is
@@ -24,7 +25,8 @@ module _ (limit : Option ℕ) where
       ]
 
   module _ (columns : Register → Option ℕ) where
-    stack-free : (operation : Operation) (stack new : List ℕ) → stack_after limit columns operation stack ≡ Some new → stack_after None columns operation stack ≡ Some new
+    stack-free : (operation : Operation) (stack new : List ℕ) → stack_after limit columns operation stack ≡ Some new
+        → stack_after None columns operation stack ≡ Some new
     stack-free Nop stack new is = is
     stack-free (Constant value) stack new is = pushed-free value stack new is
     stack-free (RegisterOffset register offset) stack new is =
@@ -51,8 +53,11 @@ module _ (limit : Option ℕ) where
         let a = pushed-free top rest one.0 one.1 in
         let b = pushed-free third one.0 two.0 one.2 in
         let c = pushed-free second two.0 new two.2 in
-        let d = subst (λ l. ◌≡◌ {A = Option (List ℕ)} (Some (third ∷ l)) (Some two.0)) (sym (some-list (top ∷ rest) one.0 a)) b in
-        subst (λ l. ◌≡◌ {A = Option (List ℕ)} (Some (second ∷ l)) (Some new)) (sym (some-list (third ∷ top ∷ rest) two.0 d)) c
+        let d =
+        subst (λ l. ◌≡◌ {A = Option (List ℕ)} (Some (third ∷ l)) (Some two.0))
+        (sym (some-list (top ∷ rest) one.0 a)) b in
+        subst (λ l. ◌≡◌ {A = Option (List ℕ)} (Some (second ∷ l)) (Some new))
+        (sym (some-list (third ∷ top ∷ rest) two.0 d)) c
     stack-free (Unary operation) [] new is = cc
     stack-free (Unary operation) (top ∷ rest) new is = pushed-free (changed operation top) rest new is
     stack-free (Binary operation) [] new is = cc
@@ -73,7 +78,8 @@ module _ (limit : Option ℕ) where
       abbrev free : Evaluation
       free = record { code = code; columns = columns; limit = None }
 
-      by-free : (stack : List ℕ) (read : Reading Operation) (next : State) → state_by limited stack read ≡ Some next → state_by free stack read ≡ Some next
+      by-free : (stack : List ℕ) (read : Reading Operation) (next : State) → state_by limited stack read ≡ Some next
+          → state_by free stack read ≡ Some next
       by-free stack (Err error) next is = cc
       by-free stack (Ok read) next is =
           let position = bind_some (position_after (length code) read.0 read.1 (slice_get stack 0)) _ next is in
@@ -104,7 +110,8 @@ module _ (limit : Option ℕ) where
             | inr full ↦ (let e = rw full at is in cc)
           ]
 
-    pub in-free : (bytes : List ℕ) (expression : Expression) (first : Option ℕ) (v : ℕ) → value_in bytes columns limit expression first ≡ Some v → value_in bytes columns None expression first ≡ Some v
+    pub in-free : (bytes : List ℕ) (expression : Expression) (first : Option ℕ) (v : ℕ)
+        → value_in bytes columns limit expression first ≡ Some v → value_in bytes columns None expression first ≡ Some v
     in-free bytes expression first v is =
         let code = bind_some (code_of bytes expression) _ v is in
         rw code.1 (of-free code.0 (option_to_list first) v code.2)

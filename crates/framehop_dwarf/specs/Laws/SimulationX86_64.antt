@@ -33,7 +33,8 @@ ok-same : (m n : ℕ) → ◌≡◌ {A = Result ℕ Error} (Ok m) (Ok n) → m �
 ok-same m n e = cc
 
 -- a word that is read stands at its address
-pub word_from-stored : (memory : Memory) (cfa : ℕ) (z offset : ℤ) (value : ℕ) → z ≡ pos cfa +ℤ offset → word_from memory z ≡ Ok value → IsStored memory cfa offset value
+pub word_from-stored : (memory : Memory) (cfa : ℕ) (z offset : ℤ) (value : ℕ) → z ≡ pos cfa +ℤ offset
+    → word_from memory z ≡ Ok value → IsStored memory cfa offset value
 word_from-stored memory cfa z offset value same is =
     let at = and_then-ok (address_at z) (word_at memory) value is in
     (at.0, sym same ∙ (address_at-ok z at.0 at.1).0, word_at-ok memory at.0 value at.2)
@@ -48,7 +49,8 @@ module _ (first : Bool) (memory : Memory) (old : Registers) (address : ℕ) (new
     stored : IsStored memory new.rsp (negsuc 7) address
     is_ip : new.ip ≡ address
 
-  found : (sp : ℤ) (cfa bp : ℕ) → sp ≡ pos cfa → IsFinished old (record old { rsp = cfa; rbp = bp }) memory address new → Found sp
+  found : (sp : ℤ) (cfa bp : ℕ) → sp ≡ pos cfa → IsFinished old (record old { rsp = cfa; rbp = bp }) memory address new
+      → Found sp
   found sp cfa bp is end =
       let same : new.rsp ≡ cfa = ap (λ r. r.rsp) end.registers in
       record {
@@ -57,7 +59,8 @@ module _ (first : Bool) (memory : Memory) (old : Registers) (address : ℕ) (new
         is_ip = ap (λ r. r.ip) end.registers;
       }
 
-  offset_sp : (x : ℕ) → outcome (OffsetSp x) first old memory ≡ answered address new → Found (above old.rsp (x * 8)) × (new.rbp ≡ old.rbp)
+  offset_sp : (x : ℕ) → outcome (OffsetSp x) first old memory ≡ answered address new
+      → Found (above old.rsp (x * 8)) × (new.rbp ≡ old.rbp)
   offset_sp x e =
       let c = caller-answered (above old.rsp (x * 8)) nothing_more kept old memory address new e in
       let bp : new.rbp ≡ c.new_bp = ap (λ r. r.rbp) c.end.registers in
@@ -66,13 +69,16 @@ module _ (first : Bool) (memory : Memory) (old : Registers) (address : ℕ) (new
   -- rbp that is restored in a first frame or another
   abbrev Restored : ℤ → ℤ → Type 0
   Restored words z =
-      (word_from memory z ≡ Ok new.rbp) ⊎ ((first ≡ true) × (at : ℕ) × (z ≡ pos at) × (memory at ≡ None) × (new.rbp ≡ old.rbp) × ((n : ℕ) × (words ≡ negsuc n)))
+      (word_from memory z ≡ Ok new.rbp)
+      ⊎ ((first ≡ true) × (at : ℕ) × (z ≡ pos at) × (memory at ≡ None) × (new.rbp ≡ old.rbp)
+      × ((n : ℕ) × (words ≡ negsuc n)))
 
   kept-or-read : (o : Option ℕ) (value bp : ℕ) → unwrap_or o value ≡ bp → (o ≡ Some bp) ⊎ ((o ≡ None) × (bp ≡ value))
   kept-or-read (Some w) value bp is = inl (ap Some is)
   kept-or-read None value bp is = inr (refl, sym is)
 
-  restored : (kind : Bool) (words z : ℤ) (bp : ℕ) → kind ≡ first → new.rbp ≡ bp → value_from memory old.rbp (restored_at kind words z) ≡ Ok bp → Restored words z
+  restored : (kind : Bool) (words z : ℤ) (bp : ℕ) → kind ≡ first → new.rbp ≡ bp
+      → value_from memory old.rbp (restored_at kind words z) ≡ Ok bp → Restored words z
   restored true (pos n) z bp kind same is = inl (is ∙ ap Ok (sym same))
   restored true (negsuc n) z bp kind same is =
       let at = and_then-ok (address_at z) (λ at. Ok (unwrap_or (memory at) old.rbp)) bp is in
@@ -84,19 +90,28 @@ module _ (first : Bool) (memory : Memory) (old : Registers) (address : ℕ) (new
   restored false (pos n) z bp kind same is = inl (is ∙ ap Ok (sym same))
   restored false (negsuc n) z bp kind same is = inl (is ∙ ap Ok (sym same))
 
-  restore_bp : (x : ℕ) (y : ℤ) → outcome (OffsetSpAndRestoreBp x y) first old memory ≡ answered address new → Found (above old.rsp (x * 8)) × Restored y (beside old.rsp y)
+  restore_bp : (x : ℕ) (y : ℤ) → outcome (OffsetSpAndRestoreBp x y) first old memory ≡ answered address new
+      → Found (above old.rsp (x * 8)) × Restored y (beside old.rsp y)
   restore_bp x y e =
-      let c = caller-answered (above old.rsp (x * 8)) nothing_more (restored_at first y (beside old.rsp y)) old memory address new e in
-      let bp : new.rbp ≡ c.new_bp = ap (λ r. r.rbp) c.end.registers in
-      (found (above old.rsp (x * 8)) c.new_sp c.new_bp c.sp_is c.end, restored first y (beside old.rsp y) c.new_bp refl bp c.bp_is)
+      let c =
+      caller-answered (above old.rsp (x * 8)) nothing_more
+      (restored_at first y (beside old.rsp y)) old memory address new e in
+      let bp : new.rbp ≡ c.new_bp = ap (λ r. r.rbp) c.end.registers in (
+        found (above old.rsp (x * 8)) c.new_sp c.new_bp c.sp_is c.end,
+        restored first y
+            (beside old.rsp y) c.new_bp refl bp c.bp_is,
+      )
 
-  by_frame_pointer : outcome UseFramePointer first old memory ≡ answered address new → Found (above old.rbp 16) × (word_from memory (pos old.rbp) ≡ Ok new.rbp)
+  by_frame_pointer : outcome UseFramePointer first old memory ≡ answered address new
+      → Found (above old.rbp 16) × (word_from memory (pos old.rbp) ≡ Ok new.rbp)
   by_frame_pointer e =
       elim (cases_Bool (nat_eq old.rbp 0)) [
         | inl zero ↦ (let f = rw zero at e in cc)
         | inr more ↦
             let f : outcome_of_line (frame_pointer_line old) old memory ≡ answered address new = rw more at e in
-            let c = caller-answered (above old.rbp 16) stack_pointer_rises (stored_at (pos old.rbp)) old memory address new f in
+            let c =
+            caller-answered (above old.rbp 16) stack_pointer_rises
+            (stored_at (pos old.rbp)) old memory address new f in
             let bp : new.rbp ≡ c.new_bp = ap (λ r. r.rbp) c.end.registers in
             (found (above old.rbp 16) c.new_sp c.new_bp c.sp_is c.end, c.bp_is ∙ ap Ok (sym bp))
       ]
@@ -114,7 +129,8 @@ both true true e = (refl, refl)
 both true false e = cc
 both false b e = cc
 
-pub mapped-some : {A B : Type 0} (f : A → B) (o : Option A) (y : B) → option_map f o ≡ Some y → (x : A) × (o ≡ Some x) × (f x ≡ y)
+pub mapped-some : {A B : Type 0} (f : A → B) (o : Option A) (y : B) → option_map f o ≡ Some y
+    → (x : A) × (o ≡ Some x) × (f x ≡ y)
 mapped-some f (Some x) y is = (x, refl, cc)
 mapped-some f None y is = cc
 
@@ -141,7 +157,10 @@ module _ (bytes : List ℕ) (memory : Memory) (first : Bool) (old : Registers) (
   scaled : (x : ℕ) (offset : ℤ) → pos x *ℤ pos 8 ≡ offset → above old.rsp (x * 8) ≡ pos old.rsp +ℤ offset
   scaled x offset is = rw (← is) (omega (arith, ints))
 
-  by-offset_sp : (register : Register) (offset : ℤ) (x : ℕ) (bp_rule : Option RegisterRule) → register.0 ≡ 7 → pos x *ℤ pos 8 ≡ offset → (new.rbp ≡ old.rbp → IsFramePointer (scope_of bytes None old) first memory old new.rsp bp_rule new.rbp) → Answers (OffsetSp x) → Means (cfa.RegisterAndOffset register offset) bp_rule (Some (rule.Offset (negsuc 7)))
+  by-offset_sp : (register : Register) (offset : ℤ) (x : ℕ) (bp_rule : Option RegisterRule) → register.0 ≡ 7
+      → pos x *ℤ pos 8 ≡ offset
+      → (new.rbp ≡ old.rbp → IsFramePointer (scope_of bytes None old) first memory old new.rsp bp_rule new.rbp)
+      → Answers (OffsetSp x) → Means (cfa.RegisterAndOffset register offset) bp_rule (Some (rule.Offset (negsuc 7)))
   by-offset_sp register offset x bp_rule is exact keeps e =
       let f = offset_sp first memory old address new x e in
       record {
@@ -151,14 +170,18 @@ module _ (bytes : List ℕ) (memory : Memory) (first : Bool) (old : Registers) (
         ip = f.0.is_ip;
       }
 
-  beside-cfa : (y : ℤ) (cfa : ℕ) (offset saved : ℤ) → pos old.rsp +ℤ offset ≡ pos cfa → y *ℤ pos 8 ≡ offset +ℤ saved → beside old.rsp y ≡ pos cfa +ℤ saved
+  beside-cfa : (y : ℤ) (cfa : ℕ) (offset saved : ℤ) → pos old.rsp +ℤ offset ≡ pos cfa → y *ℤ pos 8 ≡ offset +ℤ saved
+      → beside old.rsp y ≡ pos cfa +ℤ saved
   beside-cfa y cfa offset saved is exact = omega (arith, ints, is, exact)
 
   lower : (n at : ℕ) → beside old.rsp (negsuc n) ≡ pos at → at < old.rsp
   lower n at is = omega (arith, ints, is)
 
-  as-frame-pointer : (y : ℤ) (cfa : ℕ) (saved : ℤ) → beside old.rsp y ≡ pos cfa +ℤ saved → Restored first memory old address new y (beside old.rsp y) → IsStored memory cfa saved new.rbp ⊎ IsUnreadable first memory old cfa saved new.rbp
-  as-frame-pointer y cfa saved is (inl read) = inl (word_from-stored memory cfa (beside old.rsp y) saved new.rbp is read)
+  as-frame-pointer : (y : ℤ) (cfa : ℕ) (saved : ℤ) → beside old.rsp y ≡ pos cfa +ℤ saved
+      → Restored first memory old address new y (beside old.rsp y)
+      → IsStored memory cfa saved new.rbp ⊎ IsUnreadable first memory old cfa saved new.rbp
+  as-frame-pointer y cfa saved is (inl read) =
+      inl (word_from-stored memory cfa (beside old.rsp y) saved new.rbp is read)
   as-frame-pointer y cfa saved is (inr missing) = inr (record {
     in_first = missing.0;
     at = missing.1;
@@ -168,7 +191,9 @@ module _ (bytes : List ℕ) (memory : Memory) (first : Bool) (old : Registers) (
     kept = missing.4;
   })
 
-  by-restore_bp : (register : Register) (offset saved : ℤ) (x : ℕ) (y : ℤ) → register.0 ≡ 7 → pos x *ℤ pos 8 ≡ offset → y *ℤ pos 8 ≡ offset +ℤ saved → Answers (OffsetSpAndRestoreBp x y) → Means (cfa.RegisterAndOffset register offset) (Some (rule.Offset saved)) (Some (rule.Offset (negsuc 7)))
+  by-restore_bp : (register : Register) (offset saved : ℤ) (x : ℕ) (y : ℤ) → register.0 ≡ 7 → pos x *ℤ pos 8 ≡ offset
+      → y *ℤ pos 8 ≡ offset +ℤ saved → Answers (OffsetSpAndRestoreBp x y)
+      → Means (cfa.RegisterAndOffset register offset) (Some (rule.Offset saved)) (Some (rule.Offset (negsuc 7)))
   by-restore_bp register offset saved x y is exact exact_saved e =
       let f = restore_bp first memory old address new x y e in
       let sp = sym (scaled x offset exact) ∙ f.0.is_sp in
@@ -182,29 +207,42 @@ module _ (bytes : List ℕ) (memory : Memory) (first : Bool) (old : Registers) (
   below-16 : (cfa : ℕ) → above old.rbp 16 ≡ pos cfa → pos old.rbp ≡ pos cfa +ℤ negsuc 15
   below-16 cfa is = omega (arith, ints, is)
 
-  by-frame_pointer : (register : Register) → register.0 ≡ 6 → Answers UseFramePointer → Means (cfa.RegisterAndOffset register (pos 16)) (Some (rule.Offset (negsuc 15))) (Some (rule.Offset (negsuc 7)))
+  by-frame_pointer : (register : Register) → register.0 ≡ 6 → Answers UseFramePointer
+      → Means (cfa.RegisterAndOffset register (pos 16)) (Some (rule.Offset (negsuc 15))) (Some (rule.Offset (negsuc 7)))
   by-frame_pointer register is e =
       let f = by_frame_pointer first memory old address new e in
       record {
         cfa = (old.rbp, bp-column register is, f.0.is_sp);
         return_address = f.0.stored;
-        frame_pointer = inl (word_from-stored memory new.rsp (pos old.rbp) (negsuc 15) new.rbp (below-16 new.rsp f.0.is_sp) f.1);
+        frame_pointer =
+            inl (word_from-stored memory new.rsp (pos old.rbp) (negsuc 15) new.rbp (below-16 new.rsp f.0.is_sp) f.1);
         ip = f.0.is_ip;
       }
 
-  by-with_bp : (register : Register) (offset : ℤ) (x : ℕ) (bp_rule : Option RegisterRule) (told : UnwindRuleX86_64) → register.0 ≡ 7 → pos x *ℤ pos 8 ≡ offset → with_bp x offset bp_rule ≡ Some told → Answers told → Means (cfa.RegisterAndOffset register offset) bp_rule (Some (rule.Offset (negsuc 7)))
-  by-with_bp register offset x None told is exact tells e = by-offset_sp register offset x None is exact (λ kept. kept) (subst Answers (sym (some-rule (OffsetSp x) told tells)) e)
-  by-with_bp register offset x (Some rule.Undefined) told is exact tells e = by-offset_sp register offset x (Some rule.Undefined) is exact (λ kept. kept) (subst Answers (sym (some-rule (OffsetSp x) told tells)) e)
-  by-with_bp register offset x (Some rule.SameValue) told is exact tells e = by-offset_sp register offset x (Some rule.SameValue) is exact (λ kept. kept) (subst Answers (sym (some-rule (OffsetSp x) told tells)) e)
+  by-with_bp : (register : Register) (offset : ℤ) (x : ℕ) (bp_rule : Option RegisterRule) (told : UnwindRuleX86_64)
+      → register.0 ≡ 7 → pos x *ℤ pos 8 ≡ offset → with_bp x offset bp_rule ≡ Some told → Answers told
+      → Means (cfa.RegisterAndOffset register offset) bp_rule (Some (rule.Offset (negsuc 7)))
+  by-with_bp register offset x None told is exact tells e =
+      by-offset_sp register offset x None is exact (λ kept. kept)
+      (subst Answers (sym (some-rule (OffsetSp x) told tells)) e)
+  by-with_bp register offset x (Some rule.Undefined) told is exact tells e =
+      by-offset_sp register offset x (Some rule.Undefined) is exact (λ kept. kept)
+      (subst Answers (sym (some-rule (OffsetSp x) told tells)) e)
+  by-with_bp register offset x (Some rule.SameValue) told is exact tells e =
+      by-offset_sp register offset x (Some rule.SameValue) is exact (λ kept. kept)
+      (subst Answers (sym (some-rule (OffsetSp x) told tells)) e)
   by-with_bp register offset x (Some (rule.Offset saved)) told is exact tells e =
       let y = mapped-some (OffsetSpAndRestoreBp x) (signed_units_of 8 (offset +ℤ saved)) told tells in
-      by-restore_bp register offset saved x y.0 is exact (signed_units-exact 8 (offset +ℤ saved) y.0 y.1) (subst Answers (sym y.2) e)
+      by-restore_bp register offset saved x y.0 is exact (signed_units-exact 8 (offset +ℤ saved) y.0 y.1)
+      (subst Answers (sym y.2) e)
   by-with_bp register offset x (Some (rule.ValOffset saved)) told is exact tells e = cc
   by-with_bp register offset x (Some (rule.Register other)) told is exact tells e = cc
   by-with_bp register offset x (Some (rule.Expression expression)) told is exact tells e = cc
   by-with_bp register offset x (Some (rule.ValExpression expression)) told is exact tells e = cc
 
-  by-by_bp : (register : Register) (offset : ℤ) (bp_rule : Option RegisterRule) (told : UnwindRuleX86_64) → register.0 ≡ 6 → by_bp offset bp_rule ≡ Some told → Answers told → Means (cfa.RegisterAndOffset register offset) bp_rule (Some (rule.Offset (negsuc 7)))
+  by-by_bp : (register : Register) (offset : ℤ) (bp_rule : Option RegisterRule) (told : UnwindRuleX86_64)
+      → register.0 ≡ 6 → by_bp offset bp_rule ≡ Some told → Answers told
+      → Means (cfa.RegisterAndOffset register offset) bp_rule (Some (rule.Offset (negsuc 7)))
   by-by_bp register offset None told is tells e = cc
   by-by_bp register offset (Some rule.Undefined) told is tells e = cc
   by-by_bp register offset (Some rule.SameValue) told is tells e = cc
@@ -215,8 +253,12 @@ module _ (bytes : List ℕ) (memory : Memory) (first : Bool) (old : Registers) (
             let same = some-rule UseFramePointer told (rw usual at tells) in
             let o = int_same offset (pos 16) tests.0 in
             let s = int_same saved (negsuc 15) tests.1 in
-            subst (λ p. Means (cfa.RegisterAndOffset register p) (Some (rule.Offset saved)) (Some (rule.Offset (negsuc 7)))) (sym o)
-            (subst (λ p. Means (cfa.RegisterAndOffset register (pos 16)) (Some (rule.Offset p)) (Some (rule.Offset (negsuc 7)))) (sym s)
+            subst
+            (λ p. Means (cfa.RegisterAndOffset register p) (Some (rule.Offset saved)) (Some (rule.Offset (negsuc 7))))
+            (sym o)
+            (subst (λ p. Means (cfa.RegisterAndOffset register (pos 16))
+            (Some (rule.Offset p)) (Some (rule.Offset (negsuc 7))))
+            (sym s)
             (by-frame_pointer register is (subst Answers (sym same) e)))
         | inr unusual ↦ (let f = rw unusual at tells in cc)
       ]
@@ -225,7 +267,8 @@ module _ (bytes : List ℕ) (memory : Memory) (first : Bool) (old : Registers) (
   by-by_bp register offset (Some (rule.Expression expression)) told is tells e = cc
   by-by_bp register offset (Some (rule.ValExpression expression)) told is tells e = cc
 
-  by-by_cfa : (cfa_rule : CfaRule) (bp_rule : Option RegisterRule) (told : UnwindRuleX86_64) → by_cfa cfa_rule bp_rule ≡ Some told → Answers told → Means cfa_rule bp_rule (Some (rule.Offset (negsuc 7)))
+  by-by_cfa : (cfa_rule : CfaRule) (bp_rule : Option RegisterRule) (told : UnwindRuleX86_64)
+      → by_cfa cfa_rule bp_rule ≡ Some told → Answers told → Means cfa_rule bp_rule (Some (rule.Offset (negsuc 7)))
   by-by_cfa (cfa.Expression expression) bp_rule told tells e = cc
   by-by_cfa (cfa.RegisterAndOffset register offset) bp_rule told tells e =
       elim (cases_Bool (register.0 == 7)) [
@@ -244,7 +287,8 @@ module _ (bytes : List ℕ) (memory : Memory) (first : Bool) (old : Registers) (
   ends : (told : UnwindRuleX86_64) → ◌≡◌ {A = Option UnwindRuleX86_64} (Some EndOfStack) (Some told) → Answers told → ⊥
   ends told same e = let f = subst Answers (sym (some-rule EndOfStack told same)) e in cc
 
-  by-translated : (cfa_rule : CfaRule) (bp_rule return_rule : Option RegisterRule) (told : UnwindRuleX86_64) → translated_by cfa_rule bp_rule return_rule ≡ Some told → Answers told → Means cfa_rule bp_rule return_rule
+  by-translated : (cfa_rule : CfaRule) (bp_rule return_rule : Option RegisterRule) (told : UnwindRuleX86_64)
+      → translated_by cfa_rule bp_rule return_rule ≡ Some told → Answers told → Means cfa_rule bp_rule return_rule
   by-translated cfa_rule bp_rule None told tells e = absurd (ends told tells e)
   by-translated cfa_rule bp_rule (Some rule.Undefined) told tells e = absurd (ends told tells e)
   by-translated cfa_rule bp_rule (Some rule.SameValue) told tells e = cc
@@ -252,7 +296,8 @@ module _ (bytes : List ℕ) (memory : Memory) (first : Bool) (old : Registers) (
       elim (cases_Bool (int_eq offset (negsuc 7))) [
         | inl usual ↦
             let o = int_same offset (negsuc 7) usual in
-            subst (λ p. Means cfa_rule bp_rule (Some (rule.Offset p))) (sym o) (by-by_cfa cfa_rule bp_rule told (rw usual at tells) e)
+            subst (λ p. Means cfa_rule bp_rule (Some (rule.Offset p))) (sym o)
+            (by-by_cfa cfa_rule bp_rule told (rw usual at tells) e)
         | inr unusual ↦ (let f = rw unusual at tells in cc)
       ]
   by-translated cfa_rule bp_rule (Some (rule.ValOffset offset)) told tells e = cc
@@ -260,7 +305,8 @@ module _ (bytes : List ℕ) (memory : Memory) (first : Bool) (old : Registers) (
   by-translated cfa_rule bp_rule (Some (rule.Expression expression)) told tells e = cc
   by-translated cfa_rule bp_rule (Some (rule.ValExpression expression)) told tells e = cc
 
-  pub translated-means : (row : Row) (told : UnwindRuleX86_64) → translated row ≡ Some told → outcome told first old memory ≡ answered address new → RowMeans bytes memory row first old address new
+  pub translated-means : (row : Row) (told : UnwindRuleX86_64) → translated row ≡ Some told
+      → outcome told first old memory ≡ answered address new → RowMeans bytes memory row first old address new
   unfolding translated
   translated-means row told tells e =
       let m = by-translated row.cfa (rule_of row.rules bp_column) (rule_of row.rules return_column) told tells e in

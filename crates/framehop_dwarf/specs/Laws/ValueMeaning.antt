@@ -14,7 +14,8 @@ use Rattle.framehop_dwarf.specs.Laws.Values.{ended, stepped}
 some : (m n : ℕ) → ◌≡◌ {A = Option ℕ} (Some m) (Some n) → m ≡ n
 some m n e = cc
 
-pub bind_some : {A B : Type 0} (o : Option A) (f : A → Option B) (y : B) → option_and_then f o ≡ Some y → (x : A) × (o ≡ Some x) × (f x ≡ Some y)
+pub bind_some : {A B : Type 0} (o : Option A) (f : A → Option B) (y : B) → option_and_then f o ≡ Some y
+    → (x : A) × (o ≡ Some x) × (f x ≡ Some y)
 bind_some (Some x) f y is = (x, refl, is)
 bind_some None f y is = cc
 
@@ -70,7 +71,8 @@ module _ (e : Evaluation) where
             }
       ]
 
-  leads-value : (states : List State) (n : ℕ) (s last : State) (v : ℕ) → length states ≤ n → Leads e s states last → last.position ≡ length e.code → slice_get last.stack 0 ≡ Some v → value_from e n s ≡ Some v
+  leads-value : (states : List State) (n : ℕ) (s last : State) (v : ℕ) → length states ≤ n → Leads e s states last
+      → last.position ≡ length e.code → slice_get last.stack 0 ≡ Some v → value_from e n s ≡ Some v
   leads-value [] n s last v few leads end top =
       ended e n s (ap (λ t. t.position) leads ∙ end) ∙ ap (λ t. slice_get t.stack 0) leads ∙ top
   leads-value (next ∷ states) zero s last v few leads end top = absurd (omega arith)
@@ -81,7 +83,8 @@ module _ (e : Evaluation) where
             let there = leads.0 in
             absurd cc
         | inr more ↦
-            stepped e n s (is-other s.position (length e.code) more) ∙ ap (option_and_then (value_from e n)) leads.0 ∙ leads-value states n next last v (omega arith) leads.1 end top
+            stepped e n s (is-other s.position (length e.code) more) ∙ ap (option_and_then (value_from e n)) leads.0
+            ∙ leads-value states n next last v (omega arith) leads.1 end top
       ]
 
   pub value_of-means : (initial : List ℕ) (v : ℕ) → value_of e initial ≡ Some v → IsValue e initial v
@@ -90,16 +93,26 @@ module _ (e : Evaluation) where
       elim (cases_Bool (fits e.limit (length initial))) [
         | inl room ↦
             let ends = value-leads 4096 (record { position = 0; stack = initial }) v (rw room at is) in
-            record { room = room; states = ends.states; few = ends.few; last = ends.last; leads = ends.leads; ends = ends.ends; top = ends.top }
+            record {
+              room = room;
+              states = ends.states;
+              few = ends.few;
+              last = ends.last;
+              leads = ends.leads;
+              ends = ends.ends;
+              top = ends.top;
+            }
         | inr full ↦ (let none = rw full at is in cc)
       ]
 
   pub means-value_of : (initial : List ℕ) (v : ℕ) → IsValue e initial v → value_of e initial ≡ Some v
   unfolding value_of
   means-value_of initial v i =
-      rw i.room (leads-value i.states 4096 (record { position = 0; stack = initial }) i.last v i.few i.leads i.ends i.top)
+      rw i.room
+      (leads-value i.states 4096 (record { position = 0; stack = initial }) i.last v i.few i.leads i.ends i.top)
 
-module _ (bytes : List ℕ) (columns : Register → Option ℕ) (limit : Option ℕ) (expression : Expression) (first : Option ℕ) where
+module _ (bytes : List ℕ) (columns : Register → Option ℕ) (limit : Option ℕ) (expression : Expression)
+    (first : Option ℕ) where
   -- the bytes are there
   record Has (code : List ℕ) : Type 0 where
     ordered : expression.start ≤ expression.end
@@ -115,27 +128,38 @@ module _ (bytes : List ℕ) (columns : Register → Option ℕ) (limit : Option 
         | inl ordered ↦
             let e = rw ordered at is in
             elim (cases_Bool (leb expression.end (length bytes))) [
-              | inl inside ↦ (let f = rw inside at e in record { ordered = below expression.start expression.end ordered; inside = below expression.end (length bytes) inside; is = cc })
+              | inl inside ↦ (let f = rw inside at e in
+                  record {
+                    ordered = below expression.start expression.end ordered;
+                    inside = below expression.end (length bytes) inside;
+                    is = cc;
+                  })
               | inr outside ↦ (let f = rw outside at e in cc)
             ]
         | inr unordered ↦ (let e = rw unordered at is in cc)
       ]
 
-  pub value_in-means : (v : ℕ) → value_in bytes columns limit expression first ≡ Some v → IsValueIn bytes columns limit expression first v
+  pub value_in-means : (v : ℕ) → value_in bytes columns limit expression first ≡ Some v
+      → IsValueIn bytes columns limit expression first v
   value_in-means v is =
       let code = bind_some (code_of bytes expression) _ v is in
       let h = has code.0 code.1 in
-      let e : Evaluation = record { code = slice_range bytes expression.start expression.end; columns = columns; limit = limit } in
+      let e : Evaluation =
+      record { code = slice_range bytes expression.start expression.end; columns = columns; limit = limit } in
       record {
         ordered = h.ordered;
         inside = h.inside;
         is_value = value_of-means e (option_to_list first) v (rw (← h.is) at code.2);
       }
 
-  pub means-value_in : (v : ℕ) → IsValueIn bytes columns limit expression first v → value_in bytes columns limit expression first ≡ Some v
+  pub means-value_in : (v : ℕ) → IsValueIn bytes columns limit expression first v
+      → value_in bytes columns limit expression first ≡ Some v
   means-value_in v i =
-      let e : Evaluation = record { code = slice_range bytes expression.start expression.end; columns = columns; limit = limit } in
-      rw (le-leb expression.start expression.end i.ordered, le-leb expression.end (length bytes) i.inside) (means-value_of e (option_to_list first) v i.is_value)
+      let e : Evaluation =
+      record { code = slice_range bytes expression.start expression.end; columns = columns; limit = limit } in
+      rw (le-leb expression.start expression.end i.ordered, le-leb expression.end (length bytes) i.inside)
+      (means-value_of e (option_to_list first) v i.is_value)
 
-  pub no_value_in : value_in bytes columns limit expression first ≡ None → (v : ℕ) → IsValueIn bytes columns limit expression first v → ⊥
+  pub no_value_in : value_in bytes columns limit expression first ≡ None → (v : ℕ)
+      → IsValueIn bytes columns limit expression first v → ⊥
   no_value_in none v i = let is = means-value_in v i in cc

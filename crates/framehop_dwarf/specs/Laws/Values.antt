@@ -9,7 +9,8 @@ use Rattle.framehop_dwarf.specs.declared.evaluation.Refusal.TheVariants.{NoValue
 use Rattle.framehop_dwarf.specs.Refusal.{Reaches, Returns}
 use Rattle.framehop_dwarf.specs.Evaluation.{Evaluation, State, stack_after, step, value_from}
 
-pub branch_discards : (limit : Option ℕ) (columns : Register → Option ℕ) (distance : ℤ) (stack : List ℕ) → stack_after limit columns (Branch distance) stack ≡ stack_after limit columns Discard stack
+pub branch_discards : (limit : Option ℕ) (columns : Register → Option ℕ) (distance : ℤ) (stack : List ℕ)
+    → stack_after limit columns (Branch distance) stack ≡ stack_after limit columns Discard stack
 branch_discards limit columns distance [] = refl
 branch_discards limit columns distance (top ∷ rest) = refl
 
@@ -35,28 +36,37 @@ module _ (e : Evaluation) where
   unfolding value_from
   spent s more = rw (other s.position (length e.code) more) refl
 
-  pub stepped : (n : ℕ) (s : State) → s.position ≢ length e.code → value_from e (suc n) s ≡ option_and_then (value_from e n) (step e s)
+  pub stepped : (n : ℕ) (s : State) → s.position ≢ length e.code
+      → value_from e (suc n) s ≡ option_and_then (value_from e n) (step e s)
   unfolding value_from
   stepped n s more = rw (other s.position (length e.code) more) refl
 
   -- what the loop does at each of its ends
-  pub out_of_operations : (n : ℕ) (s : State) (wanted : Option ℕ) → n ≡ 0 → s.position ≢ length e.code → value_from e n s ≡ wanted → wanted ≡ None
+  pub out_of_operations : (n : ℕ) (s : State) (wanted : Option ℕ) → n ≡ 0 → s.position ≢ length e.code
+      → value_from e n s ≡ wanted → wanted ≡ None
   out_of_operations n s wanted none more is = sym is ∙ ap (λ m. value_from e m s) none ∙ spent s more
 
   less : (n : ℕ) → n ≢ 0 → n ≡ suc (n - 1)
   less n some = omega arith
 
-  one-step : (n : ℕ) (s : State) (wanted : Option ℕ) → n ≢ 0 → s.position ≢ length e.code → value_from e n s ≡ wanted → option_and_then (value_from e (n - 1)) (step e s) ≡ wanted
+  one-step : (n : ℕ) (s : State) (wanted : Option ℕ) → n ≢ 0 → s.position ≢ length e.code → value_from e n s ≡ wanted
+      → option_and_then (value_from e (n - 1)) (step e s) ≡ wanted
   one-step n s wanted some more is = sym (stepped (n - 1) s more) ∙ sym (ap (λ m. value_from e m s) (less n some)) ∙ is
 
-  pub refused : (limit : Option ℕ) (error : Refusal) (n : ℕ) (s : State) (stack : List ℕ) (wanted : Option ℕ) → n ≢ 0 → s.position ≢ length e.code → value_from e n s ≡ wanted → Reaches limit (Err error) (step e s) stack → Returns limit (err-of error) wanted
+  pub refused : (limit : Option ℕ) (error : Refusal) (n : ℕ) (s : State) (stack : List ℕ) (wanted : Option ℕ) → n ≢ 0
+      → s.position ≢ length e.code → value_from e n s ≡ wanted → Reaches limit (Err error) (step e s) stack
+      → Returns limit (err-of error) wanted
   refused limit NoValue n s stack wanted some more is none = sym (rw none at (one-step n s wanted some more is))
   refused limit OutOfMemory n s stack wanted some more is memory = memory
 
-  pub goes-on : (n : ℕ) (s next : State) (wanted : Option ℕ) → n ≢ 0 → s.position ≢ length e.code → value_from e n s ≡ wanted → step e s ≡ Some next → value_from e (n - 1) next ≡ wanted
+  pub goes-on : (n : ℕ) (s next : State) (wanted : Option ℕ) → n ≢ 0 → s.position ≢ length e.code
+      → value_from e n s ≡ wanted → step e s ≡ Some next → value_from e (n - 1) next ≡ wanted
   goes-on n s next wanted some more is there = rw there at (one-step n s wanted some more is)
 
-  pub popped : (limit : Option ℕ) (n : ℕ) (s : State) (rest : List ℕ) (wanted : Option ℕ) (result : Result ℕ Refusal) → s.position ≡ length e.code → value_from e n s ≡ wanted → IfOk result (λ top. s.stack ≡ top ∷ rest) → IfErr result (λ error. (error ≡ NoValue) × (s.stack ≡ [])) → Returns limit result wanted
+  pub popped : (limit : Option ℕ) (n : ℕ) (s : State) (rest : List ℕ) (wanted : Option ℕ) (result : Result ℕ Refusal)
+      → s.position ≡ length e.code → value_from e n s ≡ wanted → IfOk result (λ top. s.stack ≡ top ∷ rest)
+      → IfErr result (λ error. (error ≡ NoValue) × (s.stack ≡ [])) → Returns limit result wanted
   popped limit n s rest wanted (Ok top) end is some none = sym is ∙ ended n s end ∙ ap (λ stack. slice_get stack 0) some
   popped limit n s rest wanted (Err error) end is some none =
-      subst (λ r. Returns limit (err-of r) wanted) (sym none.0) (sym is ∙ ended n s end ∙ ap (λ stack. slice_get stack 0) none.1)
+      subst (λ r. Returns limit (err-of r) wanted) (sym none.0)
+      (sym is ∙ ended n s end ∙ ap (λ stack. slice_get stack 0) none.1)

@@ -7,5 +7,7 @@ use Rattle.framehop_macho.specs.X86_64.{by_code, by_opcode, opcode_of, says}
 use Rattle.framehop_macho.specs.declared.macho.CuiUnwindResult.TheVariants.{ExecRule}
 use Rattle.framehop_macho.specs.declared.unwind_info.info.Function.{Function}
 
-pub says-by_code : (function : Function) (code : List ℕ) (offset : ℕ) (rule : UnwindRuleX86_64) → by_code function code offset ≡ Some rule → says function true offset (Some code) ≡ Ok (ExecRule rule)
-says-by_code function code offset rule is = ap (λ found. rule_or found (by_opcode (opcode_of function.opcode) true (Some code))) is
+pub says-by_code : (function : Function) (code : List ℕ) (offset : ℕ) (rule : UnwindRuleX86_64)
+    → by_code function code offset ≡ Some rule → says function true offset (Some code) ≡ Ok (ExecRule rule)
+says-by_code function code offset rule is =
+    ap (λ found. rule_or found (by_opcode (opcode_of function.opcode) true (Some code))) is

@@ -8,5 +8,7 @@ use Rattle.framehop_analysis.specs.Laws.Answer.{means-first}
 use Rattle.framehop_analysis.specs.Laws.Aarch64.Undoes.{undoes}
 use Rattle.framehop_analysis.specs.Laws.Aarch64.Does.{does}
 
-pub analysed-means : (text : List ℕ) (pc : ℕ) (rule : UnwindRuleAarch64) → analysed text pc ≡ Some rule → UndoesPrologue (take pc text) rule ⊎ DoesEpilogue text pc rule
-analysed-means text pc = means-first _ _ (analysed text pc) (analysed-only text pc) (undoes (take pc text) (drop pc text)) (does text pc)
+pub analysed-means : (text : List ℕ) (pc : ℕ) (rule : UnwindRuleAarch64) → analysed text pc ≡ Some rule
+    → UndoesPrologue (take pc text) rule ⊎ DoesEpilogue text pc rule
+analysed-means text pc =
+    means-first _ _ (analysed text pc) (analysed-only text pc) (undoes (take pc text) (drop pc text)) (does text pc)

@@ -21,7 +21,8 @@ wrapped-same z v w a b =
 -- ---- the lemmas
 
 -- an address that does not wrap
-pub offset_by-fits : (address n : ℕ) (bytes : ℤ) → pos address +ℤ bytes ≡ pos n → n < 2 ^ 64 → offset_by address bytes ≡ n
+pub offset_by-fits : (address n : ℕ) (bytes : ℤ) → pos address +ℤ bytes ≡ pos n → n < 2 ^ 64
+    → offset_by address bytes ≡ n
 offset_by-fits address n bytes e fits =
     wrapped-same (sum_with address bytes) (offset_by address bytes) n (modulo-is (sum_with address bytes))
     (record { turns = pos 0; is = omega (arith, ints, e); fits = fits })
@@ -35,7 +36,11 @@ offset_by-offset_by address x y =
     let a = modulo-is (sum_with address x) in
     let b = modulo-is (sum_with middle y) in
     wrapped-same (sum_with address (x +ℤ y)) (offset_by middle y) (offset_by address (x +ℤ y))
-    (record { turns = a.turns +ℤ b.turns; is = (let first = a.is in let second = b.is in omega (arith, ints)); fits = b.fits })
+    (record {
+      turns = a.turns +ℤ b.turns;
+      is = (let first = a.is in let second = b.is in omega (arith, ints));
+      fits = b.fits;
+    })
     (modulo-is (sum_with address (x +ℤ y)))
 
 pub offset_by-below : (address : ℕ) (bytes : ℤ) → offset_by address bytes < 2 ^ 64

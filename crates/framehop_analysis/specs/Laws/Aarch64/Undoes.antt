@@ -26,11 +26,17 @@ record IsLowered (mask : ℕ) (by : ℤ) (s t : State) : Type 0 where
   lr : SameAddress mask s.lr t.lr
 
 -- one instruction, by the tests of its shape
-store-step : (word : ℕ) (plain : Bool) (sp : ℕ) → sp < 2 ^ 64 → cond plain sp (offset_by sp (pair_offset word)) ≡ offset_by sp (pos 0 -ℤ cond (not plain) (pos 0 -ℤ pair_offset word) (pos 0))
+store-step : (word : ℕ) (plain : Bool) (sp : ℕ) → sp < 2 ^ 64
+    → cond plain sp (offset_by sp (pair_offset word))
+    ≡ offset_by sp (pos 0 -ℤ cond (not plain) (pos 0 -ℤ pair_offset word) (pos 0))
 store-step word true sp fits = sym (offset_by-zero sp fits)
 store-step word false sp fits = ap (offset_by sp) (omega (arith, ints))
 
-step-lowered : (mask word : ℕ) (s t : State) (store sub signing : Bool) → is_store word ≡ store → is_sub_sp word ≡ sub → is_pacibsp word ≡ signing → (signing || store || sub) ≡ true → s.sp < 2 ^ 64 → Step mask word s t → IsLowered mask (cond store (cond (is_indexed word) (pos 0 -ℤ pair_offset word) (pos 0)) (cond sub (pos (immediate word)) (pos 0))) s t
+step-lowered : (mask word : ℕ) (s t : State) (store sub signing : Bool) → is_store word ≡ store → is_sub_sp word ≡ sub
+    → is_pacibsp word ≡ signing → (signing || store || sub) ≡ true → s.sp < 2 ^ 64 → Step mask word s t
+    → IsLowered mask
+    (cond store (cond (is_indexed word) (pos 0 -ℤ pair_offset word) (pos 0))
+    (cond sub (pos (immediate word)) (pos 0))) s t
 step-lowered mask word s t true sub signing store_is sub_is signing_is run fits step =
     let moved = step.stores store_is in
     record {
@@ -54,14 +60,17 @@ step-lowered mask word s t false false true store_is sub_is signing_is run fits 
     }
 step-lowered mask word s t false false false store_is sub_is signing_is run fits step = cc
 
-run-lowered : (mask at : ℕ) (bytes run : List ℕ) (s t : State) → IsRun bytes at run → s.sp < 2 ^ 64 → Run mask run s t → IsLowered mask (lowered run) s t
+run-lowered : (mask at : ℕ) (bytes run : List ℕ) (s t : State) → IsRun bytes at run → s.sp < 2 ^ 64 → Run mask run s t
+    → IsLowered mask (lowered run) s t
 run-lowered mask at bytes [] s t stands fits e = record {
   sp = ap (λ u. u.sp) (sym e) ∙ sym (offset_by-zero s.sp fits);
   fp = ap (λ u. u.fp) (sym e);
   lr = ap (λ u. option_map (strip_ptr_auth mask) u.lr) e;
 }
 run-lowered mask at bytes (word ∷ run) s t stands fits (next, step, rest) =
-    let first = step-lowered mask word s next (is_store word) (is_sub_sp word) (is_pacibsp word) refl refl refl stands.1 fits step in
+    let first =
+    step-lowered mask word s next (is_store word) (is_sub_sp word)
+    (is_pacibsp word) refl refl refl stands.1 fits step in
     let next_fits : next.sp < 2 ^ 64 = rw first.sp (offset_by-below s.sp (pos 0 -ℤ lowered_by word)) in
     let later = run-lowered mask (at + 4) bytes run next t stands.2 next_fits rest in
     record {
@@ -78,14 +87,16 @@ strip-strip : (mask pointer : ℕ) → strip_ptr_auth mask (strip_ptr_auth mask 
 strip-strip mask pointer = and_assoc mask pointer mask ∙ ap (bit_and pointer) (and_self mask)
 
 -- a value of lr whose stripped one is known is stripped to the same again
-pub stripped-again : (mask value : ℕ) (lr : Option ℕ) → option_map (strip_ptr_auth mask) lr ≡ Some value → strip_ptr_auth mask value ≡ value
+pub stripped-again : (mask value : ℕ) (lr : Option ℕ) → option_map (strip_ptr_auth mask) lr ≡ Some value
+    → strip_ptr_auth mask value ≡ value
 stripped-again mask value None e = cc
 stripped-again mask value (Some pointer) e =
     let same : strip_ptr_auth mask pointer ≡ value = cc in
     ap (strip_ptr_auth mask) (sym same) ∙ strip-strip mask pointer ∙ same
 
 -- sp at the entry, from the depth that the rule adds
-entry-sp : (entry here n : ℕ) (depth : ℤ) (x : ℕ) → entry < 2 ^ 64 → here ≡ offset_by entry (pos 0 -ℤ depth) → depth ≡ pos x → pos here +ℤ pos x ≡ pos n → n < 2 ^ 64 → entry ≡ n
+entry-sp : (entry here n : ℕ) (depth : ℤ) (x : ℕ) → entry < 2 ^ 64 → here ≡ offset_by entry (pos 0 -ℤ depth)
+    → depth ≡ pos x → pos here +ℤ pos x ≡ pos n → n < 2 ^ 64 → entry ≡ n
 entry-sp entry here n depth x fits here_is depth_is sum n_fits =
     let cancels : (pos 0 -ℤ depth) +ℤ pos x ≡ pos 0 = omega (arith, ints) in
     let back : offset_by here (pos x) ≡ n = offset_by-fits here n (pos x) sum n_fits in
@@ -100,7 +111,10 @@ pub ok-same : (m n : ℕ) → ◌≡◌ {A = Result ℕ Error} (Ok m) (Ok n) →
 ok-same m n e = cc
 
 -- a rule that adds an offset to sp and keeps the other registers
-offset-undoes : (mask : ℕ) (depth : ℤ) (x : ℕ) (sp : ℤ) (r new : Registers) (entry here : State) (address : ℕ) → mask ≡ r.lr_mask → depth ≡ pos x → sp ≡ pos r.sp +ℤ pos x → entry.sp < 2 ^ 64 → IsLowered mask depth entry here → HasRegisters r here → IsCaller sp (kept r.lr) (kept r.fp) nothing_more true r here.memory address new → HasRegisters new entry × (new.lr_mask ≡ r.lr_mask) × (address ≡ new.lr)
+offset-undoes : (mask : ℕ) (depth : ℤ) (x : ℕ) (sp : ℤ) (r new : Registers) (entry here : State) (address : ℕ)
+    → mask ≡ r.lr_mask → depth ≡ pos x → sp ≡ pos r.sp +ℤ pos x → entry.sp < 2 ^ 64 → IsLowered mask depth entry here
+    → HasRegisters r here → IsCaller sp (kept r.lr) (kept r.fp) nothing_more true r here.memory address new
+    → HasRegisters new entry × (new.lr_mask ≡ r.lr_mask) × (address ≡ new.lr)
 offset-undoes mask depth x sp r new entry here address mask_is depth_is sp_is fits lowered stands c =
     let new_lr : r.lr ≡ c.new_lr = ok-same r.lr c.new_lr c.lr_is in
     let new_fp : r.fp ≡ c.new_fp = ok-same r.fp c.new_fp c.fp_is in
@@ -122,15 +136,19 @@ offset-undoes mask depth x sp r new entry here address mask_is depth_is sp_is fi
       sym lr_is,
     )
 
-undoes-run : (bytes run : List ℕ) (at : ℕ) (rule : UnwindRuleAarch64) → IsRun bytes at run → IsRuleOfDepth (lowered run) rule → UndoesRun run rule
+undoes-run : (bytes run : List ℕ) (at : ℕ) (rule : UnwindRuleAarch64) → IsRun bytes at run
+    → IsRuleOfDepth (lowered run) rule → UndoesRun run rule
 undoes-run bytes run at NoOp stands made =
     λ r new entry here address fits ran holds e.
     offset-undoes r.lr_mask (lowered run) 0 (pos r.sp) r new entry here address refl made (omega (arith, ints)) fits
-    (run-lowered r.lr_mask at bytes run entry here stands fits ran) holds (caller-answered _ _ _ _ true r here.memory address new e)
+    (run-lowered r.lr_mask at bytes run entry here stands fits ran) holds
+    (caller-answered _ _ _ _ true r here.memory address new e)
 undoes-run bytes run at (OffsetSp x) stands made =
     λ r new entry here address fits ran holds e.
-    offset-undoes r.lr_mask (lowered run) (x * 16) (above r.sp (x * 16)) r new entry here address refl made.0.0 refl fits
-    (run-lowered r.lr_mask at bytes run entry here stands fits ran) holds (caller-answered _ _ _ _ true r here.memory address new e)
+    offset-undoes r.lr_mask (lowered run) (x * 16)
+    (above r.sp (x * 16)) r new entry here address refl made.0.0 refl fits
+    (run-lowered r.lr_mask at bytes run entry here stands fits ran) holds
+    (caller-answered _ _ _ _ true r here.memory address new e)
 undoes-run bytes run at NoOpIfFirstFrameOtherwiseFp stands made = elim made [ ]
 undoes-run bytes run at (OffsetSpIfFirstFrameOtherwiseStackEndsHere x) stands made = elim made [ ]
 undoes-run bytes run at (OffsetSpAndRestoreLr x z) stands made = elim made [ ]
@@ -138,7 +156,8 @@ undoes-run bytes run at (OffsetSpAndRestoreFpAndLr x y z) stands made = elim mad
 undoes-run bytes run at UseFramePointer stands made = elim made [ ]
 undoes-run bytes run at (UseFramepointerWithOffsets x y z) stands made = elim made [ ]
 
-pub undoes : (before after : List ℕ) (rule : UnwindRuleAarch64) → IsPrologueRule before after rule → UndoesPrologue before rule
+pub undoes : (before after : List ℕ) (rule : UnwindRuleAarch64) → IsPrologueRule before after rule
+    → UndoesPrologue before rule
 undoes before after rule p run longest =
     let same : p.run ≡ run = longest-same before p.run run p.longest longest in
     let P : List ℕ → Type 0 = λ words. UndoesRun words rule in

@@ -8,5 +8,6 @@ use Rattle.framehop_analysis.specs.Laws.Answer.{means-first}
 use Rattle.framehop_analysis.specs.Laws.X86_64.Undoes.{undoes}
 use Rattle.framehop_analysis.specs.Laws.X86_64.Does.{does}
 
-pub analysed-means : (text : List ℕ) (pc : ℕ) (rule : UnwindRuleX86_64) → analysed text pc ≡ Some rule → UndoesPrologue text pc rule ⊎ DoesEpilogue text pc rule
+pub analysed-means : (text : List ℕ) (pc : ℕ) (rule : UnwindRuleX86_64) → analysed text pc ≡ Some rule
+    → UndoesPrologue text pc rule ⊎ DoesEpilogue text pc rule
 analysed-means text pc = means-first _ _ (analysed text pc) (analysed-only text pc) (undoes text pc) (does text pc)

@@ -60,7 +60,8 @@ pub record IsFound (r new : Registers) (memory : Memory) (sp bp address : ℕ) :
   pub word : (below : ℕ) → below + 8 ≡ sp → memory below ≡ Some address
   pub ip : new.ip ≡ address
 
-pub found : (sp : ℤ) (demand : Demand) (bp : Source) (r new : Registers) (memory : Memory) (address : ℕ) → (c : IsCaller sp demand bp r memory address new) → IsFound r new memory c.new_sp c.new_bp address
+pub found : (sp : ℤ) (demand : Demand) (bp : Source) (r new : Registers) (memory : Memory) (address : ℕ)
+    → (c : IsCaller sp demand bp r memory address new) → IsFound r new memory c.new_sp c.new_bp address
 found sp demand bp r new memory address c = record {
   rsp = ap (λ u. u.rsp) c.end.registers;
   rbp = ap (λ u. u.rbp) c.end.registers;
@@ -69,9 +70,12 @@ found sp demand bp r new memory address c = record {
 }
 
 Undone : Registers → State → ℕ → Type 0
-Undone new entry address = (new.rsp ≡ entry.sp + 8) × (entry.bp ≡ Some new.rbp) × (entry.memory entry.sp ≡ Some address) × (new.ip ≡ address)
+Undone new entry address =
+    (new.rsp ≡ entry.sp + 8) × (entry.bp ≡ Some new.rbp) × (entry.memory entry.sp ≡ Some address) × (new.ip ≡ address)
 
-offset-undoes : (count x : ℕ) (r new : Registers) (entry here : State) (address : ℕ) → x ≡ count + 1 → PushRun count entry here → HasRegisters r here → IsCaller (above r.rsp (x * 8)) nothing_more kept r here.memory address new → Undone new entry address
+offset-undoes : (count x : ℕ) (r new : Registers) (entry here : State) (address : ℕ) → x ≡ count + 1
+    → PushRun count entry here → HasRegisters r here
+    → IsCaller (above r.rsp (x * 8)) nothing_more kept r here.memory address new → Undone new entry address
 unfolding Undone
 offset-undoes count x r new entry here address x_is run stands c =
     let p = pushed count entry here run in
@@ -85,7 +89,10 @@ offset-undoes count x r new entry here address x_is run stands c =
       f.ip,
     )
 
-frame-undoes : (count : ℕ) (r new : Registers) (entry s here : State) (address : ℕ) → SetsUpFrame entry s → PushRun count s here → HasRegisters r here → IsCaller (above r.rbp 16) stack_pointer_rises (stored_at (pos r.rbp)) r here.memory address new → Undone new entry address
+frame-undoes : (count : ℕ) (r new : Registers) (entry s here : State) (address : ℕ) → SetsUpFrame entry s
+    → PushRun count s here → HasRegisters r here
+    → IsCaller (above r.rbp 16) stack_pointer_rises (stored_at (pos r.rbp)) r here.memory address new
+    → Undone new entry address
 unfolding Undone
 frame-undoes count r new entry s here address frame run stands c =
     let p = pushed count s here run in
@@ -108,24 +115,34 @@ frame-undoes count r new entry s here address frame run stands c =
     some-same : (m n : ℕ) → Some m ≡ Some n → m ≡ n
     some-same m n e = cc
 
-line-answers : (zero_bp : Bool) (r new : Registers) (memory : Memory) (address : ℕ) → outcome_of_line (cond zero_bp stack_end (frame_pointer_line r)) r memory ≡ answered address new → IsCaller (above r.rbp 16) stack_pointer_rises (stored_at (pos r.rbp)) r memory address new
+line-answers : (zero_bp : Bool) (r new : Registers) (memory : Memory) (address : ℕ)
+    → outcome_of_line (cond zero_bp stack_end (frame_pointer_line r)) r memory ≡ answered address new
+    → IsCaller (above r.rbp 16) stack_pointer_rises (stored_at (pos r.rbp)) r memory address new
 line-answers true r new memory address e = cc
 line-answers false r new memory address e = caller-answered _ _ _ r memory address new e
 
-rule-undoes : (text : List ℕ) (start count : ℕ) (rule : UnwindRuleX86_64) (r new : Registers) (entry here : State) (first : Bool) (address : ℕ) → IsRuleOfPushes text start count rule → PrologueRun text start count entry here → HasRegisters r here → outcome rule first r here.memory ≡ answered address new → Undone new entry address
+rule-undoes : (text : List ℕ) (start count : ℕ) (rule : UnwindRuleX86_64) (r new : Registers) (entry here : State)
+    (first : Bool) (address : ℕ) → IsRuleOfPushes text start count rule → PrologueRun text start count entry here
+    → HasRegisters r here → outcome rule first r here.memory ≡ answered address new → Undone new entry address
 rule-undoes text start count UseFramePointer r new entry here first address made (framed is s frame run) stands e =
-    frame-undoes count r new entry s here address frame run stands (line-answers (nat_eq r.rbp 0) r new here.memory address e)
-rule-undoes text start count UseFramePointer r new entry here first address made (frameless none run) stands e = absurd (none made)
-rule-undoes text start count (OffsetSp x) r new entry here first address made (framed is s frame run) stands e = absurd (made.0 is)
+    frame-undoes count r new entry s here address frame run stands
+    (line-answers (nat_eq r.rbp 0) r new here.memory address e)
+rule-undoes text start count UseFramePointer r new entry here first address made (frameless none run) stands e =
+    absurd (none made)
+rule-undoes text start count (OffsetSp x) r new entry here first address made (framed is s frame run) stands e =
+    absurd (made.0 is)
 rule-undoes text start count (OffsetSp x) r new entry here first address made (frameless none run) stands e =
     offset-undoes count x r new entry here address made.1 run stands (caller-answered _ _ _ r here.memory address new e)
 rule-undoes text start count EndOfStack r new entry here first address made run stands e = elim made [ ]
 rule-undoes text start count JustReturn r new entry here first address made run stands e = elim made [ ]
-rule-undoes text start count JustReturnIfFirstFrameOtherwiseFp r new entry here first address made run stands e = elim made [ ]
+rule-undoes text start count JustReturnIfFirstFrameOtherwiseFp r new entry here first address made run stands e =
+    elim made [ ]
 rule-undoes text start count (OffsetSpAndRestoreBp x y) r new entry here first address made run stands e = elim made [ ]
-rule-undoes text start count (OffsetSpAndPopRegisters x n m) r new entry here first address made run stands e = elim made [ ]
+rule-undoes text start count (OffsetSpAndPopRegisters x n m) r new entry here first address made run stands e =
+    elim made [ ]
 
-pub undoes : (text : List ℕ) (pc : ℕ) (rule : UnwindRuleX86_64) → IsPrologueRule text pc rule → UndoesPrologue text pc rule
+pub undoes : (text : List ℕ) (pc : ℕ) (rule : UnwindRuleX86_64) → IsPrologueRule text pc rule
+    → UndoesPrologue text pc rule
 unfolding Undone
 undoes text pc rule p start count longest r new entry here first address run stands e =
     let a = longest.longest p.start p.count p.longest.pushes in
@@ -135,4 +152,5 @@ undoes text pc rule p start count longest r new entry here first address run sta
     let counts : p.count ≡ count = omega arith in
     let P : ℕ → Type 0 = λ n. IsRuleOfPushes text n p.count rule in
     let Q : ℕ → Type 0 = λ n. IsRuleOfPushes text start n rule in
-    rule-undoes text start count rule r new entry here first address (subst Q counts (subst P starts p.made)) run stands e
+    rule-undoes text start count rule r new entry here first address
+    (subst Q counts (subst P starts p.made)) run stands e
