@@ -1,5 +1,5 @@
 -- The FDE of an address, by the header or by the index.
-use Rattle.std.proofs.Common.{◌≡◌, ℕ, ◌+◌, ◌⊎◌, inl, inr, Bool, true, false, List, Option, Some, None, Result, Ok, Err, refl, sym, ap, ◌∙◌}
+use Rattle.std.proofs.Common.{◌≡◌, ℕ, ◌+◌, true, List, Option, Some, None, Result, Ok, Err, refl, sym, ap, ◌∙◌}
 use Rattle.std.specs.Result.{is_err}
 use Rattle.framehop_cfi.specs.Header.{Header, layout_of, fde_offset_in, fde_offset_by}
 use Rattle.framehop_cfi.specs.Layout.{Layout}
@@ -8,7 +8,6 @@ use Rattle.framehop_cfi.specs.declared.read_error.ReadError.{ReadError}
 use Rattle.framehop_dwarf.specs.Index.{IsIndexOfAll, fde_offset_for as offset_in_index}
 use Rattle.framehop_cfi.specs.declared.pointer.BaseAddresses.{BaseAddresses}
 use Rattle.framehop_dwarf.specs.Unwinder.{HasHeader, fde_offset_for, header_bases}
-use Rattle.framehop.specs.Policy.{Policy, IsLimited}
 use Rattle.framehop.specs.CallFrames.{CallFrames, frames_with_header, offset_among, offset_by, fde_offset_of}
 
 pub indexed-offset : (frames : CallFrames) (index : List (ℕ × ℕ)) (relative : ℕ) (offset : Option ℕ) → frames.header ≡ None → IsIndexOfAll frames.section frames.base_svma index → offset ≡ offset_in_index index relative → offset ≡ fde_offset_of frames relative
@@ -30,14 +29,6 @@ unfolding fde_offset_of
 header-offset frames bases bytes header relative there has =
     header-read bases bytes header (frames.base_svma + relative) (layout_of bases bytes) refl has
     ∙ sym (ap (λ h. offset_by frames h relative) there)
-
--- without limits memory may be taken
-pub allocates : (policy : Policy) → IsLimited policy → (policy.rows ≡ None) ⊎ (policy.values ≡ None) → policy.may_allocate ≡ true
-allocates policy limited none = decide policy.may_allocate refl none where
-  decide : (may : Bool) → policy.may_allocate ≡ may → (policy.rows ≡ None) ⊎ (policy.values ≡ None) → policy.may_allocate ≡ true
-  decide true is free = is
-  decide false is (inl rows) = absurd (limited.rows is rows)
-  decide false is (inr values) = absurd (limited.values is values)
 
 -- the offset by a header that has been read
 pub header-found : (header eh_frame : List ℕ) (bases : BaseAddresses) (base_svma : ℕ) (read : Option Header) (base relative : ℕ) (offset found : Option ℕ) → HasHeader (header_bases bases) header read → base ≡ base_svma → offset ≡ fde_offset_for read (base + relative) → offset ≡ found → fde_offset_of (frames_with_header header eh_frame bases base_svma) relative ≡ found

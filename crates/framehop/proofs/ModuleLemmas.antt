@@ -1,10 +1,9 @@
 -- The modules in order of start, around the place of an address.
-use Rattle.std.proofs.Common.{◌≡◌, ℕ, zero, suc, ◌+◌, ◌-◌, ◌<◌, ◌≤◌, Bool, true, false, not, List, [], ◌∷◌, length, take, drop, filter, slice_index_or, refl, ap, sym, ◌∙◌, arith, length-take, insert, remove, leb-true, leb-false, eq-eqb, ne_eqb, ◌==◌, ◌||◌, ⊎_elim}
+use Rattle.std.proofs.Common.{◌≡◌, ℕ, zero, suc, ◌+◌, ◌<◌, ◌≤◌, Bool, true, false, not, List, [], ◌∷◌, length, take, drop, filter, slice_index_or, refl, ap, sym, arith, insert, remove, leb-true, leb-false, eq-eqb, ne_eqb, ◌==◌, ◌||◌, ⊎_elim}
 use Rattle.std.proofs.lemmas.Bool.{cases_lt}
-use Rattle.std.specs.List.{slice_get}
 use Rattle.std.specs.List.Sorted.{IsPartitionPoint}
 use Rattle.std.proofs.lemmas.List.Sorted.{IsNonDecreasingBy-insert}
-use Rattle.framehop.specs.Modules.{ModuleView, AreInOrder, last_of, has_start, without_module, starts_by, starting_by, starting_above}
+use Rattle.framehop.specs.Modules.{ModuleView, AreInOrder, has_start, without_module, starts_by, starting_by, starting_above}
 
 -- ---- a list that a test divides at a place
 
@@ -40,18 +39,6 @@ module _ {A : Type 0} (test : A → Bool) where
       let here : test x ≡ false = before 0 x (omega arith) in
       let rest = filter-behind xs i (λ k d h. before (suc k) d (omega arith)) (λ k d h within. behind (suc k) d (omega arith) (omega arith)) in
       rw (here, rest) refl
-
-slice_get-taken : {A : Type 0} (xs : List A) (n k : ℕ) → k < n → slice_get (take n xs) k ≡ slice_get xs k
-slice_get-taken xs zero k h = absurd (omega arith)
-slice_get-taken [] (suc n) k h = refl
-slice_get-taken (x ∷ xs) (suc n) zero h = refl
-slice_get-taken (x ∷ xs) (suc n) (suc k) h = slice_get-taken xs n k (omega arith)
-
--- the last of those before a place
-pub last_of-take : {A : Type 0} (xs : List A) (i : ℕ) → i < length xs → last_of (take (suc i) xs) ≡ slice_get xs i
-last_of-take {A} xs i h =
-    let place : length (take (suc i) xs) - 1 ≡ i = omega (arith, length-take (suc i) xs) in
-    ap (slice_get (take (suc i) xs)) place ∙ slice_get-taken xs (suc i) i (omega arith)
 
 module _ (address : ℕ) (modules : List ModuleView) (i : ℕ) (point : IsPartitionPoint (λ m. starts_by address m ≡ true) (λ m. starts_by address m ≡ false) modules i) where
   pub taken-starting_by : take i modules ≡ starting_by address modules

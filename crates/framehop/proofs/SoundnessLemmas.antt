@@ -176,11 +176,6 @@ module _ {R Regs : Type 0} (unwinding : Unwinding R Regs) where
         (extends.each entry h);
   }
 
-  -- a cache stays sound for the unwinder that steps
-  pub IsSound-step : (unwinder : UnwinderView) (cache : CacheView R) (location : FrameLocation) → IsSound unwinding unwinder cache.sets → IsSound unwinding unwinder (cache_after unwinding unwinder cache location).sets
-  IsSound-step unwinder cache location sound =
-      IsSound-extended unwinder unwinder cache.sets _ (λ _. refl) (Extends-after unwinder cache location) sound
-
   -- ---- the cache after a step, by what the lookup answered
 
   CacheView-equal : (a b : CacheView R) → a.sets ≡ b.sets → a.stats ≡ b.stats → a ≡ b

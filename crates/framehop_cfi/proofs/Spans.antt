@@ -1,9 +1,9 @@
 -- An entry ends after the offset where it begins, in the bytes.
-use Rattle.std.proofs.Common.{◌≡◌, ℕ, ◌+◌, ◌-◌, ◌<◌, ◌≤◌, List, length, take, Result, Ok, Err, refl, subst, arith, inl, inr, leb, ltb, ◌==◌}
+use Rattle.std.proofs.Common.{◌≡◌, ℕ, ◌+◌, ◌-◌, ◌<◌, ◌≤◌, List, length, Result, Ok, Err, refl, subst, arith, inl, inr, leb, ltb, ◌==◌}
 use Rattle.std.proofs.lemmas.Bool.{lt-leb, le-leb, cases_Bool, cases_lt}
 use Rattle.framehop_cfi.specs.Bytes.{◌>>=◌, u32_at, u64_at}
-use Rattle.framehop_cfi.specs.EntryExtent.{held, long_extent, extent_at, is_zero_length}
-use Rattle.framehop_cfi.specs.Entry.{eh_frame_id, short_id, long_id, id_at, head_at}
+use Rattle.framehop_cfi.specs.EntryExtent.{held, long_extent, extent_at}
+use Rattle.framehop_cfi.specs.Entry.{eh_frame_id, short_id, long_id, id_at}
 use Rattle.framehop_cfi.specs.declared.extent.EntryExtent.{EntryExtent}
 use Rattle.framehop_cfi.specs.declared.entry.UnwindSectionType.{UnwindSectionType}
 use Rattle.framehop_cfi.specs.declared.entry.UnwindSectionType.TheVariants.{EhFrame, DebugFrame}
@@ -105,17 +105,3 @@ module _ (bytes : List ℕ) (span : EntryExtent) (head : EntryHead) where
         | inl short ↦ short-ends (rw short at is)
         | inr long ↦ long-ends (rw long at is)
       ]
-
--- what stands at an offset ends after it, in the bytes
-pub head-inside : (kind : UnwindSectionType) (bytes : List ℕ) (at : ℕ) (head : EntryHead) → head_at kind bytes at ≡ Ok head → (at < end_of head) × (end_of head ≤ length bytes)
-unfolding head_at
-head-inside kind bytes at head is =
-    let span = bind_ok (extent_at bytes at) _ head is in
-    let within = span-within bytes at span.0 span.1 in
-    let ends : end_of head ≡ span.0.end =
-    elim (cases_Bool (is_zero_length span.0)) as (λ _. end_of head ≡ span.0.end) [
-      | inl zeros ↦ one-head (ZeroLength span.0.end) head span.0.end (rw zeros at span.2) refl
-      | inr more ↦ id-ends (take span.0.end bytes) span.0 head kind (rw more at span.2)
-    ] in
-    let behind = within.behind in let ordered = within.ordered in let inside = within.inside in
-    (omega arith, omega arith)

@@ -1,7 +1,7 @@
 -- The orderings of registers: the loops of `decode` and `encode`.
-use Rattle.std.proofs.Common.{◌≡◌, ◌≢◌, ℕ, zero, suc, ◌+◌, ◌-◌, ◌*◌, ◌/◌, ◌%◌, ◌<◌, ◌≤◌, List, [], ◌∷◌, ◌++◌, length, take, drop, get_or, set, refl, sym, ap, ◌∙◌, subst, arith, zero-add, suc-add, add-one, inl, inr, ◌⊎◌, All}
+use Rattle.std.proofs.Common.{◌≡◌, ◌≢◌, ℕ, zero, suc, ◌+◌, ◌-◌, ◌*◌, ◌/◌, ◌%◌, ◌<◌, ◌≤◌, List, [], ◌∷◌, ◌++◌, length, take, drop, get_or, refl, sym, ap, ◌∙◌, subst, arith, zero-add, suc-add, add-one, inl, inr, ◌⊎◌, All}
 use Rattle.std.specs.List.{swap}
-use Rattle.std.proofs.lemmas.List.{set-get_or, drop_more, drop-drop, length-drop, take-append-drop, take_all, drop_all}
+use Rattle.std.proofs.lemmas.List.{drop_more, drop-drop, length-drop, take-append-drop, take_all, drop_all}
 use Rattle.std.proofs.lemmas.List.Edits.{swap_is, length-swap}
 use Rattle.std.proofs.lemmas.Nat.{mod_below, div-add-mod'}
 use Rattle.std.proofs.Math.Nat.{mul-le-mul_left, mul-le-mul_right, mul_assoc}
@@ -13,11 +13,6 @@ use Rattle.framehop_core.specs.Laws.Orderings.{remaining, exchanges-suc, length-
 
 swap-cons : {X : Type 0} (x : X) (xs : List X) (i j : ℕ) → i < length xs → j < length xs → swap (x ∷ xs) (suc i) (suc j) ≡ x ∷ swap xs i j
 swap-cons x xs i j hi hj = ap (λ ys. x ∷ ys) (swap_is xs i j x hi hj)
-
-pub swap-same : {X : Type 0} (xs : List X) (i : ℕ) → i < length xs → swap xs i i ≡ xs
-swap-same [] i h = absurd (omega arith)
-swap-same (x ∷ xs) i h =
-    sym (swap_is (x ∷ xs) i i x h h) ∙ ap (λ ys. set ys i (get_or (x ∷ xs) i x)) (set-get_or (x ∷ xs) i x) ∙ set-get_or (x ∷ xs) i x
 
 -- the places up to one, then the exchanges of the others: one more place is exchanged
 abbrev pub exchanged_from : {X : Type 0} → ℕ → ℕ → ℕ → List X → List X

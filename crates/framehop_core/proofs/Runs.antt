@@ -1,11 +1,10 @@
 -- Runs of rules: what one more rule adds.
-use Rattle.std.proofs.Common.{◌≡◌, ℕ, suc, ◌+◌, ◌-◌, ◌<◌, ◌≤◌, Bool, true, false, nat_eq, List, [], ◌∷◌, drop, get_or, length, Some, None, Ok, Err, refl, sym, ap, ◌∙◌, add_assoc, zero-add, add-zero, arith}
+use Rattle.std.proofs.Common.{◌≡◌, ℕ, suc, ◌+◌, ◌-◌, ◌<◌, ◌≤◌, Bool, true, false, nat_eq, List, [], ◌∷◌, drop, get_or, length, Some, Ok, refl, sym, ap, ◌∙◌, add_assoc, add-zero, arith}
 use Rattle.std.proofs.lemmas.Bool.Decides.{nat_tests}
 use Rattle.std.proofs.lemmas.List.{drop_more}
 use Rattle.framehop_core.specs.Memory.{Memory}
 use Rattle.framehop_core.specs.Outcome.{Outcome, answered, root, refused, answer_of, registers_after}
 use Rattle.framehop_core.specs.Runs.{Run, later, run_on, run_of, after_first, StepsBy, Raises}
-use Rattle.framehop_core.specs.declared.error.Error.{Error}
 
 -- ---- what an answer says of the outcome
 
@@ -14,23 +13,10 @@ answered-answer_of old (answered a new) address e = ap (λ b. answered b new) cc
 answered-answer_of old root address e = cc
 answered-answer_of old (refused error) address e = cc
 
-pub root-answer_of : {R : Type 0} (o : Outcome R) → answer_of o ≡ Ok None → o ≡ root
-root-answer_of (answered a new) e = cc
-root-answer_of root e = refl
-root-answer_of (refused error) e = cc
-
-pub refused-answer_of : {R : Type 0} (o : Outcome R) (error : Error) → answer_of o ≡ Err error → o ≡ refused error
-refused-answer_of (answered a new) error e = cc
-refused-answer_of root error e = cc
-refused-answer_of (refused other) error e = ap refused cc
-
 -- ---- the run
 
 later-later : {R : Type 0} (m n : ℕ) (run : Run R) → later m (later n run) ≡ later (m + n) run
 later-later m n run = ap (λ k. record { count = k; end = run.end; registers = run.registers }) (sym (add_assoc m n run.count))
-
-later-zero : {R : Type 0} (run : Run R) → later 0 run ≡ run
-later-zero run = ap (λ k. record { count = k; end = run.end; registers = run.registers }) (zero-add run.count)
 
 module _ {U R : Type 0} (outcome : U → Bool → R → Memory → Outcome R) (memory : Memory) (rules : List U) (n : ℕ) (first : Bool) (r : R) (all : Run R) (so_far : later n (run_of outcome first (drop n rules) r memory) ≡ all) where
   -- a rule that answers: the run goes on behind it

@@ -14,12 +14,6 @@ continued false x registers operations = option_map (λ more. (x, registers ++ m
 continued true x registers (OffsetBy8 y ∷ operations) = option_map (λ more. (y, registers ++ more)) (pops_of operations)
 continued true x registers operations = option_map (λ more. (x, registers ++ more)) (pops_of operations)
 
-pub continued-start : (operations : List OffsetOrPop) → continued true 0 [] operations ≡ offset_and_pops_of operations
-continued-start [] = refl
-continued-start (OffsetBy8 x ∷ operations) = refl
-continued-start (Pop register ∷ operations) = refl
-continued-start (_ ∷ operations) = refl
-
 -- the registers so far in front of the others, if those are pops
 in_front : ℕ → List Reg → Option (List Reg) → Option (ℕ × List Reg)
 in_front x registers None = None

@@ -55,11 +55,6 @@ module _ (section : Section) (base : ℕ) (pairs : List (ℕ × ℕ)) where
   ended (suc n) at span inside is zeros kind =
       rw (lt-leb (length section.bytes) at inside.1, is) (rw zeros (rw (ends section.kind (cut_from section n span.end) section base kind) (ap Ok (append-nil pairs))))
 
-  pub past-zero : (n at : ℕ) (span : EntryExtent) → IsIn section n at → at < span.end → extent_at section.bytes at ≡ Ok span → is_zero_length span ≡ true → section.kind ≡ DebugFrame → GoesOn section base pairs pairs n at span.end
-  past-zero zero at span inside behind is zeros kind = absurd (omega arith)
-  past-zero (suc n) at span inside behind is zeros kind =
-      (n, omega arith, rw (lt-leb (length section.bytes) at inside.1, is) (rw zeros (rw (passes section.kind (cut_from section n span.end) section base kind) refl)))
-
   pub past-cie : (n at : ℕ) (span : EntryExtent) → IsIn section n at → at < span.end → extent_at section.bytes at ≡ Ok span → is_zero_length span ≡ false → pair_at section base at ≡ Ok None → GoesOn section base pairs pairs n at span.end
   past-cie zero at span inside behind is some read = absurd (omega arith)
   past-cie (suc n) at span inside behind is some read =

@@ -166,11 +166,6 @@ factorial (suc n) = suc n * factorial n
 positive : (n m : ℕ) → 0 < n → 0 < suc m * n
 positive n m some = rw suc-mul (omega arith)
 
-pub list_count-some : (n m : ℕ) → n ≤ m → 0 < list_count n m
-list_count-some zero m within = omega arith
-list_count-some (suc n) zero within = absurd (omega arith)
-list_count-some (suc n) (suc m) within = positive (list_count n m) m (list_count-some n m (omega arith))
-
 factorial-some : (n : ℕ) → 1 ≤ factorial n
 factorial-some zero = omega arith
 factorial-some (suc n) = positive (factorial n) n (factorial-some n)

@@ -12,9 +12,6 @@ pub record Leads (s : Sections) (left : ℕ) (next : Option ℕ) (whole : ℕ) (
   pub found : chained_infos s left next ≡ Ok (infos_from s left next) → chained_infos s whole first ≡ Ok (infos_from s whole first)
   pub refused : (error : PeUnwinderError) → chained_infos s left next ≡ Err error → chained_infos s whole first ≡ Err error
 
-pub Leads-start : (s : Sections) (whole : ℕ) (first : Option ℕ) → Leads s whole first whole first
-Leads-start s whole first = record { found = λ h. h; refused = λ error h. h }
-
 pub Leads-end : (s : Sections) (left whole : ℕ) (first : Option ℕ) → Leads s left None whole first → chained_infos s whole first ≡ Ok (infos_from s whole first)
 unfolding chained_infos infos_from
 Leads-end s zero whole first h = h.found refl
