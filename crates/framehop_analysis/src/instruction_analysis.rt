@@ -67,5 +67,5 @@ pub trait InstructionAnalysis: Arch {
 
     // and it does what it is for
     ghost analysed_means: { (text : List ℕ) (pc : ℕ) (rule : Self.UnwindRule) → analysed text pc ≡ Some rule
-        → undoes_prologue text pc rule ⊎ does_epilogue text pc rule };
+        → (prologue_rule text pc rule × undoes_prologue text pc rule) ⊎ (epilogue_rule text pc rule × does_epilogue text pc rule) };
 }
