@@ -16,7 +16,7 @@ use Rattle.framehop_core.specs.declared.x86_64.unwindregs.Reg.{Reg}
 use Rattle.framehop_core.specs.declared.x86_64.unwindregs.Reg.TheVariants.{RAX, RDX, RCX, RBX, RSI, RDI, RBP, RSP, R8, R9, R10, R11, R12, R13, R14, R15}
 use Rattle.framehop_core.specs.declared.x86_64.unwind_rule.OffsetOrPop.{OffsetOrPop}
 use Rattle.framehop_core.specs.declared.x86_64.unwind_rule.UnwindRuleX86_64.{UnwindRuleX86_64}
-use Rattle.framehop_core.specs.declared.x86_64.unwind_rule.UnwindRuleX86_64.TheVariants.{EndOfStack, JustReturn, JustReturnIfFirstFrameOtherwiseFp, OffsetSp, OffsetSpAndRestoreBp, UseFramePointer, OffsetSpAndPopRegisters}
+use Rattle.framehop_core.specs.declared.x86_64.unwind_rule.UnwindRuleX86_64.TheVariants.{EndOfStack, JustReturn, JustReturnIfFirstFrameOtherwiseFp, OffsetSp, OffsetSpAndRestoreBp, UseFramePointer, UseFramePointerWithOffsets, OffsetSpAndPopRegisters}
 
 -- ---- one rule
 
@@ -46,6 +46,7 @@ kinds x registers JustReturnIfFirstFrameOtherwiseFp h = absurd h
 kinds x registers (OffsetSp y) h = absurd h
 kinds x registers (OffsetSpAndRestoreBp y z) h = absurd h
 kinds x registers UseFramePointer h = absurd h
+kinds x registers (UseFramePointerWithOffsets y z) h = absurd h
 kinds x registers (OffsetSpAndPopRegisters y count n) h =
     inr (count, n, ap (λ k. OffsetSpAndPopRegisters k count n) h.0, h.1, h.2)
 

@@ -5,12 +5,12 @@ use Rattle.std.proofs.lemmas.Bool.Decides.{nat_tests}
 use Rattle.framehop_core.specs.Memory.{Memory}
 use Rattle.framehop_core.specs.Outcome.{Outcome, answered, address_at, word_at, word_from, above}
 use Rattle.framehop_core.specs.X86_64.Registers.{Registers, register, with_register}
-use Rattle.framehop_core.specs.X86_64.Rules.{Source, Demand, nothing_more, stack_pointer_rises, value_from, demanded, popped, return_address, returned, finished, Line, caller, pops, stack_end, outcome_of_line, line_of, frame_pointer_line, outcome, StandsAfterReturn}
+use Rattle.framehop_core.specs.X86_64.Rules.{Source, Demand, nothing_more, stack_pointer_rises, value_from, demanded, popped, return_address, returned, finished, Line, caller, pops, stack_end, outcome_of_line, line_of, frame_pointer_line, frame_pointer_line_with, outcome, StandsAfterReturn}
 use Rattle.framehop_core.specs.declared.error.Error.{Error}
 use Rattle.framehop_core.specs.declared.error.Error.TheVariants.{DidNotAdvance, FramepointerUnwindingMovedBackwards}
 use Rattle.framehop_core.specs.declared.x86_64.unwindregs.Reg.{Reg}
 use Rattle.framehop_core.specs.declared.x86_64.unwind_rule.UnwindRuleX86_64.{UnwindRuleX86_64}
-use Rattle.framehop_core.specs.declared.x86_64.unwind_rule.UnwindRuleX86_64.TheVariants.{EndOfStack, JustReturn, JustReturnIfFirstFrameOtherwiseFp, OffsetSp, OffsetSpAndRestoreBp, UseFramePointer, OffsetSpAndPopRegisters}
+use Rattle.framehop_core.specs.declared.x86_64.unwind_rule.UnwindRuleX86_64.TheVariants.{EndOfStack, JustReturn, JustReturnIfFirstFrameOtherwiseFp, OffsetSp, OffsetSpAndRestoreBp, UseFramePointer, UseFramePointerWithOffsets, OffsetSpAndPopRegisters}
 use Rattle.framehop_core.specs.Runs.{Raises}
 use Rattle.framehop_core.specs.Laws.Outcome.{after-answered, and_then-ok, address_at-ok, refused_unless, same-answered}
 
@@ -187,6 +187,11 @@ IsUpward-frame_pointer : (b : Bool) (r : Registers) → IsUpward (cond b stack_e
 IsUpward-frame_pointer true r = tt
 IsUpward-frame_pointer false r = λ n is met. omega arith
 
+IsUpward-frame_pointer_with : (b : Bool) (x : ℕ) (y : ℤ) (r : Registers)
+    → IsUpward (cond b stack_end (frame_pointer_line_with x y r)) r
+IsUpward-frame_pointer_with true x y r = tt
+IsUpward-frame_pointer_with false x y r = λ n is met. omega arith
+
 IsUpward-line_of : (rule : UnwindRuleX86_64) (first : Bool) (r : Registers) → IsUpward (line_of rule first r) r
 IsUpward-line_of EndOfStack first r = tt
 IsUpward-line_of JustReturn first r = λ n is met. let same = pos-same _ n is in omega arith
@@ -195,6 +200,7 @@ IsUpward-line_of JustReturnIfFirstFrameOtherwiseFp false r = λ n is met. omega 
 IsUpward-line_of (OffsetSp x) first r = λ n is met. let same = pos-same _ n is in omega arith
 IsUpward-line_of (OffsetSpAndRestoreBp x y) first r = λ n is met. let same = pos-same _ n is in omega arith
 IsUpward-line_of UseFramePointer first r = IsUpward-frame_pointer (nat_eq r.rbp 0) r
+IsUpward-line_of (UseFramePointerWithOffsets x y) first r = IsUpward-frame_pointer_with (nat_eq r.rbp 0) x y r
 IsUpward-line_of (OffsetSpAndPopRegisters x count n) first r = λ m is. let same = pos-same _ m is in omega arith
 
 -- a rule that answers an address returns to it

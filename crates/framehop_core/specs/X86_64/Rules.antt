@@ -10,7 +10,7 @@ use Rattle.framehop_core.specs.declared.x86_64.unwindregs.Reg.{Reg}
 use Rattle.framehop_core.specs.declared.x86_64.unwind_rule.OffsetOrPop.{OffsetOrPop}
 use Rattle.framehop_core.specs.declared.x86_64.unwind_rule.OffsetOrPop.TheVariants.{OffsetBy8, Pop}
 use Rattle.framehop_core.specs.declared.x86_64.unwind_rule.UnwindRuleX86_64.{UnwindRuleX86_64}
-use Rattle.framehop_core.specs.declared.x86_64.unwind_rule.UnwindRuleX86_64.TheVariants.{EndOfStack, JustReturn, JustReturnIfFirstFrameOtherwiseFp, OffsetSp, OffsetSpAndRestoreBp, UseFramePointer, OffsetSpAndPopRegisters}
+use Rattle.framehop_core.specs.declared.x86_64.unwind_rule.UnwindRuleX86_64.TheVariants.{EndOfStack, JustReturn, JustReturnIfFirstFrameOtherwiseFp, OffsetSp, OffsetSpAndRestoreBp, UseFramePointer, UseFramePointerWithOffsets, OffsetSpAndPopRegisters}
 
 -- where the caller's frame pointer is: still in the register; in the stack word at an address; in that word if it
 -- can be read, else still in the register
@@ -42,6 +42,10 @@ restored_at false words address = stored_at address
 abbrev pub frame_pointer_line : Registers → Line
 frame_pointer_line r = caller (above r.rbp 16) stack_pointer_rises (stored_at (pos r.rbp))
 
+-- the same with the caller's rsp and the stored rbp at other offsets from the frame pointer, in words
+abbrev pub frame_pointer_line_with : ℕ → ℤ → Registers → Line
+frame_pointer_line_with x y r = caller (above r.rbp (x * 8)) stack_pointer_rises (stored_at (beside r.rbp y))
+
 -- the table: of a rule in a first frame (`true`) or another, over the registers
 abbrev pub line_of : UnwindRuleX86_64 → Bool → Registers → Line
 line_of EndOfStack first r = stack_end
@@ -52,6 +56,7 @@ line_of (OffsetSp x) first r = caller (above r.rsp (x * 8)) nothing_more kept
 line_of (OffsetSpAndRestoreBp x y) first r =
     caller (above r.rsp (x * 8)) nothing_more (restored_at first y (beside r.rsp y))
 line_of UseFramePointer first r = if r.rbp == 0 then stack_end else frame_pointer_line r
+line_of (UseFramePointerWithOffsets x y) first r = if r.rbp == 0 then stack_end else frame_pointer_line_with x y r
 line_of (OffsetSpAndPopRegisters x count n) first r = pops (above r.rsp (x * 8)) (ordering count n)
 
 -- the rules that can be run: a list of registers to pop has an ordering
@@ -63,6 +68,7 @@ is_executable JustReturnIfFirstFrameOtherwiseFp = true
 is_executable (OffsetSp x) = true
 is_executable (OffsetSpAndRestoreBp x y) = true
 is_executable UseFramePointer = true
+is_executable (UseFramePointerWithOffsets x y) = true
 
 -- the value from a source, for a register that has this value now
 abbrev pub value_from : Memory → ℕ → Source → Result ℕ Error

@@ -4,13 +4,15 @@ ghost use Rattle.std.specs.Iterator.{AlwaysYields};
 ghost use Rattle.framehop_core.specs.Memory.{Memory, AnswersAs};
 ghost use Rattle.framehop_core.specs.Outcome.{KeptUnlessAnswered, HasDone, address_at, after, beside};
 ghost use Rattle.framehop_core.specs.Runs.{run_of, after_first, IsCountWithinRise};
-ghost use Rattle.framehop_core.specs.X86_64.Rules.{outcome, NotBelowWhereAnswered, outcome_of_line, frame_pointer_line, restored_at, value_from, popped, return_address, finished, is_executable, offset_and_pops_of, IsRuleOfOperations};
+ghost use Rattle.framehop_core.specs.X86_64.Rules.{outcome, NotBelowWhereAnswered, outcome_of_line, frame_pointer_line, frame_pointer_line_with, restored_at, value_from, popped, return_address, finished, is_executable, offset_and_pops_of, IsRuleOfOperations};
 
 use super::register_ordering;
 use super::unwindregs::{Reg, UnwindRegsX86_64};
 use crate::error::Error;
 use crate::unwind_rule;
-use crate::unwind_rule::{RunEnd, UnwindRule, address_beside, offset_address, read_stack_word};
+use crate::unwind_rule::{
+    RunEnd, UnwindRule, address_beside, offset_address, read_stack_word, read_word_beside,
+};
 use arrayvec::ArrayVec;
 
 /// How to get from the registers of a frame to those of its caller, on x86_64.
@@ -47,6 +49,14 @@ pub enum UnwindRuleX86_64 {
     /// A function with a frame pointer pushes the caller's bp after the return address, and sets
     /// bp to the address of that word.
     UseFramePointer,
+
+    /// `(sp, bp) = (bp + x, *(bp + y))`, where `x` and `y` count from bp.
+    ///
+    /// A function whose frame pointer is not next to the return address, as where it aligns its stack.
+    UseFramePointerWithOffsets {
+        sp_offset_from_bp_by_8: u16,
+        bp_storage_offset_from_bp_by_8: i16,
+    },
 
     /// `sp + x`, then up to 8 registers are popped from there, and sp is above them and the
     /// return address.
@@ -220,6 +230,20 @@ impl UnwindRule for UnwindRuleX86_64 {
                 }
                 exec_frame_pointer(regs, read_stack)
             }
+            UnwindRuleX86_64::UseFramePointerWithOffsets {
+                sp_offset_from_bp_by_8,
+                bp_storage_offset_from_bp_by_8,
+            } => {
+                if bp == 0 {
+                    return Ok(None);
+                }
+                exec_frame_pointer_with_offsets(
+                    regs,
+                    read_stack,
+                    sp_offset_from_bp_by_8,
+                    bp_storage_offset_from_bp_by_8,
+                )
+            }
             UnwindRuleX86_64::OffsetSpAndPopRegisters {
                 sp_offset_by_8,
                 register_count,
@@ -316,6 +340,33 @@ fn exec_frame_pointer<F: FnMut(u64) -> Result<u64, ()>>(
         return Err(Error::FramepointerUnwindingMovedBackwards);
     }
     let new_bp = read_stack_word(read_stack, bp)?;
+    finish(regs, read_stack, new_sp, new_bp)
+}
+
+/// The step by the frame pointer with other offsets from it, in units of 8 bytes, where the stack pointer
+/// must rise.
+fn exec_frame_pointer_with_offsets<F: FnMut(u64) -> Result<u64, ()>>(
+    regs: &mut UnwindRegsX86_64,
+    read_stack: &mut F,
+    sp_offset_from_bp_by_8: u16,
+    bp_storage_offset_from_bp_by_8: i16,
+) -> Result<Option<u64>, Error>
+    requires { F.IsAlwaysCallable read_stack.old }
+    ensures callable { F.IsAlwaysCallable read_stack.new }
+    ensures never_out_of_memory { result ≢ Err Error.OutOfMemory }
+    ensures kept { KeptUnlessAnswered result regs.old regs.new }
+    ensures not_below { NotBelowWhereAnswered result regs.old regs.new }
+    ensures answers { (memory : Memory) → AnswersAs F.FnMut read_stack.old memory
+        → AnswersAs F.FnMut read_stack.new memory
+        × HasDone (outcome_of_line (frame_pointer_line_with sp_offset_from_bp_by_8 bp_storage_offset_from_bp_by_8 regs.old) regs.old memory)
+        result regs.old regs.new }
+{
+    let bp = regs.bp();
+    let new_sp = offset_address(bp, u64::from(sp_offset_from_bp_by_8) * 8)?;
+    if new_sp <= regs.sp() {
+        return Err(Error::FramepointerUnwindingMovedBackwards);
+    }
+    let new_bp = read_word_beside(read_stack, bp, bp_storage_offset_from_bp_by_8)?;
     finish(regs, read_stack, new_sp, new_bp)
 }
 
