@@ -5,7 +5,7 @@ use Rattle.std.specs.Ordering.{int_eq}
 use Rattle.framehop_core.specs.Memory.{Memory}
 use Rattle.framehop_core.specs.X86_64.Registers.{Registers}
 use Rattle.framehop_core.specs.declared.x86_64.unwind_rule.UnwindRuleX86_64.{UnwindRuleX86_64}
-use Rattle.framehop_core.specs.declared.x86_64.unwind_rule.UnwindRuleX86_64.TheVariants.{EndOfStack, OffsetSp, OffsetSpAndRestoreBp, UseFramePointer}
+use Rattle.framehop_core.specs.declared.x86_64.unwind_rule.UnwindRuleX86_64.TheVariants.{EndOfStack, OffsetSp, OffsetSpAndRestoreBp, UseFramePointer, UseFramePointerWithOffsets}
 use Rattle.framehop_cfi.specs.Row.{Row, rule_of}
 use Rattle.framehop_cfi.specs.declared.rule.Register.{Register}
 use Rattle.framehop_cfi.specs.declared.rule.CfaRule.{CfaRule}
@@ -49,10 +49,16 @@ with_bp words offset (Some other) = None
 abbrev pub by_sp : ℤ → Option RegisterRule → Option UnwindRuleX86_64
 by_sp offset bp = option_and_then (λ words. with_bp words offset bp) (units_of 8 offset)
 
--- the CFA is rbp plus 16, and rbp is saved 16 bytes below it
+-- the CFA is rbp plus a number of words, and rbp is saved beside rbp
+abbrev pub with_offsets : ℤ → ℤ → Option UnwindRuleX86_64
+with_offsets offset saved =
+    option_and_then (λ words. option_map (UseFramePointerWithOffsets words) (signed_units_of 8 (offset +ℤ saved)))
+    (units_of 8 offset)
+
+-- the same, where the CFA is rbp plus 16, and rbp is saved 16 bytes below it
 abbrev pub by_bp : ℤ → Option RegisterRule → Option UnwindRuleX86_64
 by_bp offset (Some (rule.Offset saved)) =
-    if int_eq offset (pos 16) && int_eq saved (negsuc 15) then Some UseFramePointer else None
+    if int_eq offset (pos 16) && int_eq saved (negsuc 15) then Some UseFramePointer else with_offsets offset saved
 by_bp offset other = None
 
 abbrev pub by_cfa : CfaRule → Option RegisterRule → Option UnwindRuleX86_64

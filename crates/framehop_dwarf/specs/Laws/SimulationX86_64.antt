@@ -9,11 +9,11 @@ use Rattle.framehop_core.specs.Memory.{Memory}
 use Rattle.framehop_core.specs.Outcome.{answered, address_at, word_at, word_from, above, beside}
 use Rattle.framehop_core.specs.Laws.Outcome.{and_then-ok, address_at-ok, word_at-ok}
 use Rattle.framehop_core.specs.X86_64.Registers.{Registers}
-use Rattle.framehop_core.specs.X86_64.Rules.{kept, stored_at, nothing_more, stack_pointer_rises, value_from, restored_at, frame_pointer_line, outcome, outcome_of_line}
+use Rattle.framehop_core.specs.X86_64.Rules.{kept, stored_at, nothing_more, stack_pointer_rises, value_from, restored_at, frame_pointer_line, frame_pointer_line_with, outcome, outcome_of_line}
 use Rattle.framehop_core.specs.Laws.X86_64.{IsFinished, caller-answered}
 use Rattle.framehop_core.specs.declared.error.Error.{Error}
 use Rattle.framehop_core.specs.declared.x86_64.unwind_rule.UnwindRuleX86_64.{UnwindRuleX86_64}
-use Rattle.framehop_core.specs.declared.x86_64.unwind_rule.UnwindRuleX86_64.TheVariants.{EndOfStack, OffsetSp, OffsetSpAndRestoreBp, UseFramePointer}
+use Rattle.framehop_core.specs.declared.x86_64.unwind_rule.UnwindRuleX86_64.TheVariants.{EndOfStack, OffsetSp, OffsetSpAndRestoreBp, UseFramePointer, UseFramePointerWithOffsets}
 use Rattle.framehop_cfi.specs.Row.{Row, rule_of}
 use Rattle.framehop_cfi.specs.declared.rule.Register.{Register}
 use Rattle.framehop_cfi.specs.declared.rule.CfaRule.{CfaRule}
@@ -22,7 +22,7 @@ use Rattle.framehop_cfi.specs.declared.rule.RegisterRule.{RegisterRule}
 use Rattle.framehop_cfi.specs.declared.rule.RegisterRule.TheVariants as rule
 use Rattle.framehop_dwarf.specs.Units.{units_of, signed_units_of}
 use Rattle.framehop_dwarf.specs.RowMeaning.{IsStored, IsCfa, IsColumn}
-use Rattle.framehop_dwarf.specs.X86_64.{with_bp, by_sp, by_bp, by_cfa, translated_by, translated, scope_of, column_of, bp_column, return_column, IsUnreadable, IsFramePointer, RowMeans}
+use Rattle.framehop_dwarf.specs.X86_64.{with_bp, by_sp, by_bp, with_offsets, by_cfa, translated_by, translated, scope_of, column_of, bp_column, return_column, IsUnreadable, IsFramePointer, RowMeans}
 use Rattle.framehop_dwarf.specs.Laws.Exact.{int_same, units-exact, signed_units-exact}
 use Rattle.framehop_dwarf.specs.Laws.ValueMeaning.{bind_some}
 
@@ -116,6 +116,20 @@ module _ (first : Bool) (memory : Memory) (old : Registers) (address : ℕ) (new
             (found (above old.rbp 16) c.new_sp c.new_bp c.sp_is c.end, c.bp_is ∙ ap Ok (sym bp))
       ]
 
+  by_offsets : (x : ℕ) (y : ℤ) → outcome (UseFramePointerWithOffsets x y) first old memory ≡ answered address new
+      → Found (above old.rbp (x * 8)) × (word_from memory (beside old.rbp y) ≡ Ok new.rbp)
+  by_offsets x y e =
+      elim (cases_Bool (nat_eq old.rbp 0)) [
+        | inl zero ↦ (let f = rw zero at e in cc)
+        | inr more ↦
+            let f : outcome_of_line (frame_pointer_line_with x y old) old memory ≡ answered address new = rw more at e in
+            let c =
+            caller-answered (above old.rbp (x * 8)) stack_pointer_rises
+            (stored_at (beside old.rbp y)) old memory address new f in
+            let bp : new.rbp ≡ c.new_bp = ap (λ r. r.rbp) c.end.registers in
+            (found (above old.rbp (x * 8)) c.new_sp c.new_bp c.sp_is c.end, c.bp_is ∙ ap Ok (sym bp))
+      ]
+
 -- ---- and so it does what the row means
 
 pub is-number : (m n : ℕ) → (m == n) ≡ true → m ≡ n
@@ -154,8 +168,8 @@ module _ (bytes : List ℕ) (memory : Memory) (first : Bool) (old : Registers) (
   bp-column : (register : Register) → register.0 ≡ 6 → column_of old register ≡ Some old.rbp
   bp-column register is = rw is refl
 
-  scaled : (x : ℕ) (offset : ℤ) → pos x *ℤ pos 8 ≡ offset → above old.rsp (x * 8) ≡ pos old.rsp +ℤ offset
-  scaled x offset is = rw (← is) (omega (arith, ints))
+  scaled : (register x : ℕ) (offset : ℤ) → pos x *ℤ pos 8 ≡ offset → above register (x * 8) ≡ pos register +ℤ offset
+  scaled register x offset is = rw (← is) (omega (arith, ints))
 
   by-offset_sp : (register : Register) (offset : ℤ) (x : ℕ) (bp_rule : Option RegisterRule) → register.0 ≡ 7
       → pos x *ℤ pos 8 ≡ offset
@@ -164,15 +178,15 @@ module _ (bytes : List ℕ) (memory : Memory) (first : Bool) (old : Registers) (
   by-offset_sp register offset x bp_rule is exact keeps e =
       let f = offset_sp first memory old address new x e in
       record {
-        cfa = (old.rsp, sp-column register is, sym (scaled x offset exact) ∙ f.0.is_sp);
+        cfa = (old.rsp, sp-column register is, sym (scaled old.rsp x offset exact) ∙ f.0.is_sp);
         return_address = f.0.stored;
         frame_pointer = keeps f.1;
         ip = f.0.is_ip;
       }
 
-  beside-cfa : (y : ℤ) (cfa : ℕ) (offset saved : ℤ) → pos old.rsp +ℤ offset ≡ pos cfa → y *ℤ pos 8 ≡ offset +ℤ saved
-      → beside old.rsp y ≡ pos cfa +ℤ saved
-  beside-cfa y cfa offset saved is exact = omega (arith, ints, is, exact)
+  beside-cfa : (register : ℕ) (y : ℤ) (cfa : ℕ) (offset saved : ℤ) → pos register +ℤ offset ≡ pos cfa
+      → y *ℤ pos 8 ≡ offset +ℤ saved → beside register y ≡ pos cfa +ℤ saved
+  beside-cfa register y cfa offset saved is exact = omega (arith, ints, is, exact)
 
   lower : (n at : ℕ) → beside old.rsp (negsuc n) ≡ pos at → at < old.rsp
   lower n at is = omega (arith, ints, is)
@@ -196,11 +210,11 @@ module _ (bytes : List ℕ) (memory : Memory) (first : Bool) (old : Registers) (
       → Means (cfa.RegisterAndOffset register offset) (Some (rule.Offset saved)) (Some (rule.Offset (negsuc 7)))
   by-restore_bp register offset saved x y is exact exact_saved e =
       let f = restore_bp first memory old address new x y e in
-      let sp = sym (scaled x offset exact) ∙ f.0.is_sp in
+      let sp = sym (scaled old.rsp x offset exact) ∙ f.0.is_sp in
       record {
         cfa = (old.rsp, sp-column register is, sp);
         return_address = f.0.stored;
-        frame_pointer = as-frame-pointer y new.rsp saved (beside-cfa y new.rsp offset saved sp exact_saved) f.1;
+        frame_pointer = as-frame-pointer y new.rsp saved (beside-cfa old.rsp y new.rsp offset saved sp exact_saved) f.1;
         ip = f.0.is_ip;
       }
 
@@ -216,6 +230,20 @@ module _ (bytes : List ℕ) (memory : Memory) (first : Bool) (old : Registers) (
         return_address = f.0.stored;
         frame_pointer =
             inl (word_from-stored memory new.rsp (pos old.rbp) (negsuc 15) new.rbp (below-16 new.rsp f.0.is_sp) f.1);
+        ip = f.0.is_ip;
+      }
+
+  by-offsets : (register : Register) (offset saved : ℤ) (x : ℕ) (y : ℤ) → register.0 ≡ 6 → pos x *ℤ pos 8 ≡ offset
+      → y *ℤ pos 8 ≡ offset +ℤ saved → Answers (UseFramePointerWithOffsets x y)
+      → Means (cfa.RegisterAndOffset register offset) (Some (rule.Offset saved)) (Some (rule.Offset (negsuc 7)))
+  by-offsets register offset saved x y is exact exact_saved e =
+      let f = by_offsets first memory old address new x y e in
+      let sp = sym (scaled old.rbp x offset exact) ∙ f.0.is_sp in
+      record {
+        cfa = (old.rbp, bp-column register is, sp);
+        return_address = f.0.stored;
+        frame_pointer = inl (word_from-stored memory new.rsp (beside old.rbp y) saved new.rbp
+            (beside-cfa old.rbp y new.rsp offset saved sp exact_saved) f.1);
         ip = f.0.is_ip;
       }
 
@@ -260,7 +288,13 @@ module _ (bytes : List ℕ) (memory : Memory) (first : Bool) (old : Registers) (
             (Some (rule.Offset p)) (Some (rule.Offset (negsuc 7))))
             (sym s)
             (by-frame_pointer register is (subst Answers (sym same) e)))
-        | inr unusual ↦ (let f = rw unusual at tells in cc)
+        | inr unusual ↦
+            let f : with_offsets offset saved ≡ Some told = rw unusual at tells in
+            let x = bind_some (units_of 8 offset)
+            (λ words. option_map (UseFramePointerWithOffsets words) (signed_units_of 8 (offset +ℤ saved))) told f in
+            let y = mapped-some (UseFramePointerWithOffsets x.0) (signed_units_of 8 (offset +ℤ saved)) told x.2 in
+            by-offsets register offset saved x.0 y.0 is (units-exact 8 offset x.0 x.1)
+            (signed_units-exact 8 (offset +ℤ saved) y.0 y.1) (subst Answers (sym y.2) e)
       ]
   by-by_bp register offset (Some (rule.ValOffset saved)) told is tells e = cc
   by-by_bp register offset (Some (rule.Register other)) told is tells e = cc

@@ -3,7 +3,7 @@
 ghost use Rattle.std.specs.Prelude.{◌≡◌, ◌≢◌, true, None, IfSome, IfErr, OnErr, Err};
 ghost use Rattle.framehop_core.specs.Memory.{Memory, AnswersAs};
 ghost use Rattle.framehop_core.specs.X86_64.Rules.{is_executable};
-ghost use Rattle.framehop_dwarf.specs.X86_64.{translated_by, by_cfa, by_sp, by_bp, with_bp, below, or_below, scope_of, stepped, direct_by, translated, direct_of};
+ghost use Rattle.framehop_dwarf.specs.X86_64.{translated_by, by_cfa, by_sp, by_bp, with_bp, with_offsets, below, or_below, scope_of, stepped, direct_by, translated, direct_of};
 ghost use Rattle.framehop_dwarf.specs.Told.{no_memory, Has, IsOfValues};
 
 use crate::dwarf::{
@@ -79,6 +79,20 @@ fn translate_by_sp(offset: i64, bp_rule: Option<RegisterRule>) -> Option<UnwindR
     }
 }
 
+/// Returns the rule of a row whose CFA is rbp plus a number of words, and that saves rbp at an offset in bytes
+/// from the CFA.
+fn translate_with_offsets(offset: i64, bp_offset: i64) -> Option<UnwindRuleX86_64>
+    ensures exact { result ≡ with_offsets offset bp_offset }
+    ensures runnable { IfSome result (λ rule. is_executable rule ≡ true) }
+{
+    let sp_offset_from_bp_by_8 = units_of(8, offset)?;
+    let bp_storage_offset_from_bp_by_8 = words_of_sum(offset, bp_offset)?;
+    Some(UnwindRuleX86_64::UseFramePointerWithOffsets {
+        sp_offset_from_bp_by_8,
+        bp_storage_offset_from_bp_by_8,
+    })
+}
+
 /// Returns the rule of a row whose CFA is rbp plus an offset in bytes.
 fn translate_by_bp(offset: i64, bp_rule: Option<RegisterRule>) -> Option<UnwindRuleX86_64>
     ensures exact { result ≡ by_bp offset bp_rule }
@@ -88,6 +102,7 @@ fn translate_by_bp(offset: i64, bp_rule: Option<RegisterRule>) -> Option<UnwindR
         Some(RegisterRule::Offset(bp_offset)) if offset == 16 && bp_offset == -16 => {
             Some(UnwindRuleX86_64::UseFramePointer)
         }
+        Some(RegisterRule::Offset(bp_offset)) => translate_with_offsets(offset, bp_offset),
         _ => None,
     }
 }
