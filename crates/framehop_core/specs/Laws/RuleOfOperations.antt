@@ -1,16 +1,16 @@
 -- Operations have one rule or none, and `rule_of_operations` is it.
-use Rattle.std.proofs.Common.{◌≡◌, ℕ, zero, suc, ◌+◌, ◌<◌, ◌≤◌, Bool, true, false, cond, List, [], ◌∷◌, length, get_or, Option, Some, None, ◌⊎◌, inl, inr, refl, sym, ap, subst, ◌∙◌, arith}
+use Rattle.std.proofs.Common.{◌≡◌, ℕ, zero, suc, ◌+◌, ◌<◌, ◌≤◌, nat_le, nat_lt, Bool, true, false, cond, List, [], ◌∷◌, length, get_or, Option, Some, None, ◌⊎◌, inl, inr, refl, sym, ap, subst, ◌∙◌, arith}
 use Rattle.std.specs.Bool.{Decides}
 use Rattle.std.specs.Cmp.Lexicographic.{pointwise}
 use Rattle.std.specs.List.{find, range_with_len}
 use Rattle.std.specs.Option.{option_map, option_and_then}
 use Rattle.std.proofs.lemmas.Bool.{cases_eq, cases_lt}
-use Rattle.std.proofs.lemmas.Bool.Decides.{Decides-eqb}
+use Rattle.std.proofs.lemmas.Bool.Decides.{Decides-eqb, nat_tests}
 use Rattle.std.proofs.lemmas.Option.{some_pair_parts}
 use Rattle.std.proofs.lemmas.Slice.Eq.{slice_eq-Decides}
 use Rattle.framehop_core.specs.X86_64.Ordering.{ordering, IsArrangement, IsEncoding}
 use Rattle.framehop_core.specs.X86_64.RuleOfOperations.{place_of, register_eq, least_below, number_of, rule_of, rule_of_operations}
-use Rattle.framehop_core.specs.X86_64.Rules.{offset_and_pops_of, IsRuleOf, IsRuleOfOperations}
+use Rattle.framehop_core.specs.X86_64.Rules.{offset_and_pops_of, IsRuleOf, IsRuleOfOperations, is_executable}
 use Rattle.framehop_core.specs.Laws.Orderings.{IsArrangement-number, IsArrangement-encoding}
 use Rattle.framehop_core.specs.declared.x86_64.unwindregs.Reg.{Reg}
 use Rattle.framehop_core.specs.declared.x86_64.unwindregs.Reg.TheVariants.{RAX, RDX, RCX, RBX, RSI, RDI, RBP, RSP, R8, R9, R10, R11, R12, R13, R14, R15}
@@ -29,15 +29,15 @@ one-encoding registers c d m n e f =
     (same, omega arith)
 
 -- the two kinds of rules that operations have
-abbrev IsPlain : ℕ → List Reg → UnwindRuleX86_64 → Type 0
+abbrev pub IsPlain : ℕ → List Reg → UnwindRuleX86_64 → Type 0
 IsPlain x registers rule = (rule ≡ JustReturn) × (x ≡ 0) × (registers ≡ [])
 
-abbrev IsOfPops : ℕ → List Reg → UnwindRuleX86_64 → Type 0
+abbrev pub IsOfPops : ℕ → List Reg → UnwindRuleX86_64 → Type 0
 IsOfPops x registers rule =
     (count : ℕ) × (n : ℕ) × (rule ≡ OffsetSpAndPopRegisters x count n) × IsEncoding registers count n
     × ¬ ((x ≡ 0) × (registers ≡ []))
 
-kinds :
+pub kinds :
     (x : ℕ) (registers : List Reg) (rule : UnwindRuleX86_64) → IsRuleOf x registers rule
     → IsPlain x registers rule ⊎ IsOfPops x registers rule
 kinds x registers EndOfStack h = absurd h
@@ -74,6 +74,22 @@ arrangement_of x registers rule (inl p) =
     } in
     subst IsArrangement (sym p.2) none
 arrangement_of x registers rule (inr p) = IsArrangement-encoding registers p.0 p.1 p.3
+
+kind-executable :
+    (x : ℕ) (registers : List Reg) (rule : UnwindRuleX86_64) → IsPlain x registers rule ⊎ IsOfPops x registers rule
+    → is_executable rule ≡ true
+kind-executable x registers rule (inl p) = ap is_executable p.0
+kind-executable x registers rule (inr p) =
+    let encoding = p.3 in
+    let few = (IsArrangement-number registers (IsArrangement-encoding registers p.0 p.1 encoding)).2 in
+    let fits : nat_le p.0 8 ≡ true = (let counted = encoding.counted in grind (arith, nat_tests)) in
+    let below : nat_lt p.1 40320 ≡ true = (let b = encoding.below in grind (arith, nat_tests)) in
+    ap is_executable p.2 ∙ rw (fits, below) refl
+
+-- the rule of an offset and pops can be run
+pub IsRuleOf-executable :
+    (x : ℕ) (registers : List Reg) (rule : UnwindRuleX86_64) → IsRuleOf x registers rule → is_executable rule ≡ true
+IsRuleOf-executable x registers rule made = kind-executable x registers rule (kinds x registers rule made)
 
 -- operations have one rule, or none
 pub one-IsRuleOfOperations :

@@ -11,8 +11,8 @@ use Rattle.framehop_core.specs.X86_64.Ordering.{eight, ordering, IsEncoding}
 use Rattle.framehop_core.specs.X86_64.Registers.{Registers, with_register}
 use Rattle.framehop_core.specs.Laws.X86_64.{caller-answered, pops-answered}
 use Rattle.framehop_core.specs.X86_64.Rules.{nothing_more, kept, popped, outcome, pops_of, offset_and_pops_of, IsRuleOf, IsRuleOfOperations, is_executable}
-use Rattle.framehop_core.specs.Laws.Orderings.{IsArrangement-encoding, IsArrangement-number}
-use Rattle.framehop_core.specs.Laws.RuleOfOperations.{rule_of_operations-is}
+use Rattle.framehop_core.specs.Laws.Orderings.{IsArrangement-encoding}
+use Rattle.framehop_core.specs.Laws.RuleOfOperations.{IsPlain, IsOfPops, kinds, IsRuleOf-executable, rule_of_operations-is}
 use Rattle.framehop_core.specs.X86_64.RuleOfOperations.{rule_of, rule_of_operations}
 use Rattle.framehop_core.specs.declared.error.Error.{Error}
 use Rattle.framehop_core.specs.declared.x86_64.unwindregs.Reg.{Reg}
@@ -20,7 +20,7 @@ use Rattle.framehop_core.specs.declared.x86_64.unwindregs.Reg.TheVariants.{RAX, 
 use Rattle.framehop_core.specs.declared.x86_64.unwind_rule.OffsetOrPop.{OffsetOrPop}
 use Rattle.framehop_core.specs.declared.x86_64.unwind_rule.OffsetOrPop.TheVariants.{OffsetBy8, Pop, None as Neither}
 use Rattle.framehop_core.specs.declared.x86_64.unwind_rule.UnwindRuleX86_64.{UnwindRuleX86_64}
-use Rattle.framehop_core.specs.declared.x86_64.unwind_rule.UnwindRuleX86_64.TheVariants.{EndOfStack, JustReturn, JustReturnIfFirstFrameOtherwiseFp, OffsetSp, OffsetSpAndRestoreBp, UseFramePointer, OffsetSpAndPopRegisters}
+use Rattle.framehop_core.specs.declared.x86_64.unwind_rule.UnwindRuleX86_64.TheVariants.{JustReturn, OffsetSpAndPopRegisters}
 use Rattle.framehop_pe.specs.Resolve.{◌>>=◌, sum, popped_at, popped_word, undone, and_then as undone_then, resolved}
 use Rattle.framehop_pe.specs.EpilogRun.{with_sp, with_popped, stepped, stepped_then, ran}
 use Rattle.std.specs.declared.ops.ControlFlow.TheVariants.{Continue}
@@ -454,18 +454,21 @@ several x registers y count n first r memory address new same encoding e =
       new_is = sym p.end.registers;
     }
 
+kind-popped : (x : ℕ) (registers : List Reg) (rule : UnwindRuleX86_64) (first : Bool) (r : Registers) (memory : Memory)
+    (address : ℕ) (new : Registers) → IsPlain x registers rule ⊎ IsOfPops x registers rule
+    → outcome rule first r memory ≡ answered address new → HasPopped x registers r memory address new
+kind-popped x registers rule first r memory address new (inl p) e =
+    plain x registers first r memory address new p.1 p.2
+    (subst (λ told. outcome told first r memory ≡ answered address new) p.0 e)
+kind-popped x registers rule first r memory address new (inr p) e =
+    several x registers x p.0 p.1 first r memory address new refl p.3
+    (subst (λ told. outcome told first r memory ≡ answered address new) p.2 e)
+
 rule-popped : (x : ℕ) (registers : List Reg) (rule : UnwindRuleX86_64) (first : Bool) (r : Registers) (memory : Memory)
     (address : ℕ) (new : Registers) → IsRuleOf x registers rule → outcome rule first r memory ≡ answered address new
     → HasPopped x registers r memory address new
-rule-popped x registers EndOfStack first r memory address new h e = absurd h
-rule-popped x registers JustReturn first r memory address new h e =
-    plain x registers first r memory address new h.0 h.1 e
-rule-popped x registers JustReturnIfFirstFrameOtherwiseFp first r memory address new h e = absurd h
-rule-popped x registers (OffsetSp y) first r memory address new h e = absurd h
-rule-popped x registers (OffsetSpAndRestoreBp y z) first r memory address new h e = absurd h
-rule-popped x registers UseFramePointer first r memory address new h e = absurd h
-rule-popped x registers (OffsetSpAndPopRegisters y count n) first r memory address new h e =
-    several x registers y count n first r memory address new h.0 h.1 e
+rule-popped x registers rule first r memory address new h =
+    kind-popped x registers rule first r memory address new (kinds x registers rule h)
 
 -- the rule of a way simulates it
 pub Simulates-way : (rule : UnwindRuleX86_64) (way : Way) → IsRuleOfOperations (offsets_and_pops way) (Some rule)
@@ -481,21 +484,6 @@ Simulates-way rule (by_codes operations) h = λ first r new memory address e.
     ∙ ap (λ s. Ok (address, s)) p.new_is
 
 -- ---- what is found
-
-executable : (x : ℕ) (registers : List Reg) (rule : UnwindRuleX86_64) → IsRuleOf x registers rule
-    → is_executable rule ≡ true
-executable x registers EndOfStack h = absurd h
-executable x registers JustReturn h = refl
-executable x registers JustReturnIfFirstFrameOtherwiseFp h = absurd h
-executable x registers (OffsetSp y) h = absurd h
-executable x registers (OffsetSpAndRestoreBp y z) h = absurd h
-executable x registers UseFramePointer h = absurd h
-executable x registers (OffsetSpAndPopRegisters y count n) h =
-    let encoding = h.1 in
-    let few = (IsArrangement-number registers (IsArrangement-encoding registers count n encoding)).2 in
-    let fits : nat_le count 8 ≡ true = (let counted = encoding.counted in grind (arith, nat_tests)) in
-    let below : nat_lt n 40320 ≡ true = (let b = encoding.below in grind (arith, nat_tests)) in
-    rw (fits, below) refl
 
 -- a rule that is found is that of the way that the bytes say
 found-way : (told : Told) (rule : UnwindRuleX86_64) → found_of told ≡ Ok (Some rule)
@@ -520,7 +508,7 @@ pub found-executable : (told : Told) (result : Result (UnwindResult UnwindRuleX8
 found-executable told result h =
     returned-rule (λ rule. IsTrue (is_executable rule)) (found_of told) result h (λ rule e.
     let p = (found-way told rule e).2 in
-    executable p.0 p.1 rule p.3)
+    IsRuleOf-executable p.0 p.1 rule p.3)
 
 pub found-simulated : (told whole : Told) (result : Result (UnwindResult UnwindRuleX86_64) PeUnwinderError)
     → whole ≡ told → TellsFound (found_of told) result → IfRule result (Simulates outcome (computed_of whole))
