@@ -84,6 +84,12 @@ fn refuses_with_the_registers_kept(rt: HostRuntime) {
         }
     };
     let use_fp = UnwindRuleX86_64::UseFramePointer;
+    let with_offsets = |sp_offset_from_bp_by_8, bp_storage_offset_from_bp_by_8| {
+        UnwindRuleX86_64::UseFramePointerWithOffsets {
+            sp_offset_from_bp_by_8,
+            bp_storage_offset_from_bp_by_8,
+        }
+    };
     for (rule, sp, bp, want) in [
         (
             UnwindRuleX86_64::JustReturn,
@@ -108,6 +114,21 @@ fn refuses_with_the_registers_kept(rt: HostRuntime) {
             Error::FramepointerUnwindingMovedBackwards,
         ),
         (use_fp, 0x40, 0x80, Error::CouldNotReadStack(0x80)),
+        // the same in this order: the sum, the stack pointer, the second sum, the word
+        (with_offsets(1, 1), 0, u64::MAX - 7, Error::IntegerOverflow),
+        (
+            with_offsets(4, -5),
+            0x40,
+            0x20,
+            Error::FramepointerUnwindingMovedBackwards,
+        ),
+        (with_offsets(4, -5), 0x20, 0x20, Error::IntegerOverflow),
+        (
+            with_offsets(4, 8),
+            0x40,
+            0x40,
+            Error::CouldNotReadStack(0x80),
+        ),
     ] {
         let mut regs = UnwindRegsX86_64::new(0x100400, sp, bp);
         let answer = exec_over_words(rule, true, &mut regs, 0, &STACK);
@@ -311,6 +332,16 @@ fn reads_each_word_once(rt: HostRuntime) -> Result<(), Fail> {
             [0x2000, 0x2008].as_slice(),
             0x2_0000_2008,
             0x1_0000_2000,
+        ),
+        (
+            UnwindRuleX86_64::UseFramePointerWithOffsets {
+                sp_offset_from_bp_by_8: 4,
+                bp_storage_offset_from_bp_by_8: 2,
+            },
+            true,
+            [0x2010, 0x2018].as_slice(),
+            0x2_0000_2018,
+            0x1_0000_2010,
         ),
         (
             pops,

@@ -30,6 +30,10 @@ const FRAME_POINTER_51: &str = "1400000000000000017a5200017810011b0c070890010000
 /// The table of the one FDE, at 0x3000.
 const FRAME_POINTER_HDR: &str = "011b033bfcefffff0100000000e0ffff18f0ffff";
 
+/// The same CIE, and an FDE with the CFA rbp + 32, where rbp is saved at CFA - 16 and so at rbp + 16.
+const OTHER_OFFSETS: &str = "1400000000000000017a5200017810011b0c070890010000\
+     140000001c000000e0efffff20000000000c06208602000000000000";
+
 /// The same CIE, and an FDE whose CFA is the expression of the entries of a procedure linkage table:
 /// rsp + 8, and 8 more where the last four bits of rip are at least 11.
 const LINKAGE_TABLE: &str = "1400000000000000017a5200017810011b0c070890010000\
@@ -294,6 +298,27 @@ fn steps_through_a_linkage_table(rt: HostRuntime) -> Result<(), Fail> {
         &commands,
         "made 0\ndone\nCould not read stack memory at 0x200 sp=100 bp=200\n2000 sp=110 bp=200\n\
          hits=0 empty=2 modules=0 address=0\n",
+    )
+}
+
+/// The rule of the row serves three frames: one is stepped, one would not rise, one is the root.
+#[test]
+fn steps_by_frame_pointer_with_other_offsets(rt: HostRuntime) -> Result<(), Fail> {
+    let commands = [
+        Do::New,
+        Do::Add(0, 0x1000, 0x3000, eh_frame(OTHER_OFFSETS)),
+        step(0, 0x1000, 0x100, 0x200, 0x210, &[0x900, 0x5000]),
+        step(0, 0x1000, 0x220, 0x200, 0x210, &[0x900, 0x5000]),
+        step(0, 0x1000, 0x100, 0, 0x210, &[0x900, 0x5000]),
+        Do::Stats(0),
+    ];
+    replies_are(
+        &rt,
+        rt.alloc(),
+        &commands,
+        "made 0\ndone\n5000 sp=220 bp=900\n\
+         Frame pointer unwinding moved backwards sp=220 bp=200\nroot sp=100 bp=0\n\
+         hits=2 empty=1 modules=0 address=0\n",
     )
 }
 
