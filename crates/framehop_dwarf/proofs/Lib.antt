@@ -1,7 +1,11 @@
 pub mod Walk
 pub mod Order
-pub mod Table
 pub mod Words
 pub mod Saturated
 pub mod Entries
 pub mod FoundRow
+pub mod Ascending
+pub mod Filled
+pub mod Permuted
+pub mod Searched
+pub mod Tree

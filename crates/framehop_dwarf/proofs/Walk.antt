@@ -1,7 +1,7 @@
 -- The pairs of a section, read one entry at a time.
-use Rattle.std.proofs.Common.{◌≡◌, ℕ, zero, suc, ◌+◌, ◌<◌, List, [], ◌∷◌, ◌++◌, length, Some, None, true, false, Result, Ok, Err, refl, ap, arith, append_assoc, is_err, is_ok, if◌then◌else◌}
+use Rattle.std.proofs.Common.{◌≡◌, ℕ, zero, suc, ◌+◌, ◌<◌, List, [], ◌∷◌, ◌++◌, length, map, Some, None, true, false, Result, Ok, Err, refl, ap, ◌∙◌, arith, append_assoc, is_err, is_ok, if◌then◌else◌}
 use Rattle.std.proofs.lemmas.Bool.{lt-leb}
-use Rattle.std.proofs.lemmas.List.{append-nil}
+use Rattle.std.proofs.lemmas.List.{append-nil, map_push}
 use Rattle.framehop_cfi.specs.Bytes.{◌>>=◌}
 use Rattle.framehop_cfi.specs.EntryExtent.{extent_at, is_zero_length}
 use Rattle.framehop_cfi.specs.Section.{Section}
@@ -12,7 +12,7 @@ use Rattle.framehop_cfi.specs.declared.entry.UnwindSectionType.TheVariants.{EhFr
 use Rattle.framehop_cfi.specs.declared.read_error.ReadError.{ReadError}
 use Rattle.framehop_dwarf.specs.declared.index.DwarfCfiIndexError.{DwarfCfiIndexError}
 use Rattle.framehop_dwarf.specs.declared.index.DwarfCfiIndexError.TheVariants.{Gimli}
-use Rattle.framehop_dwarf.specs.Index.{pair_at, pairs_at, pairs_of}
+use Rattle.framehop_dwarf.specs.Index.{pair_at, pairs_at, pairs_of, pair_of_key}
 
 -- the pairs of a cut
 abbrev pub of_cut : Section → ℕ → Cut → Result (List (ℕ × ℕ)) DwarfCfiIndexError
@@ -83,3 +83,7 @@ begins section base pairs none = rw none (unfronted _)
 pub pushed : {A T E : Type 0} (result : Result T E) (items more same : A) → is_err result ≡ false → items ≡ (if is_ok result then more else same) → items ≡ more
 pushed (Ok done) items more same kept is = is
 pushed (Err error) items more same kept is = cc
+
+-- one more key is one more pair
+pub keyed : (keys : List ℕ) (key : ℕ) (pair : ℕ × ℕ) → pair_of_key key ≡ pair → map pair_of_key (keys ++ key ∷ []) ≡ map pair_of_key keys ++ pair ∷ []
+keyed keys key pair is = map_push pair_of_key keys key ∙ ap (λ p. map pair_of_key keys ++ p ∷ []) is

@@ -1,6 +1,7 @@
 -- The FDE of an address, among all FDEs of a section: each has a pair of its start, relative to the module's base,
 -- and its offset.
-use Rattle.std.specs.Prelude.{ℕ, ◌-◌, ◌^◌, ◌<◌, ◌≤◌, ◌≡◌, Bool, true, IsTrue, length, slice_index, slice_index_or, List, [], ◌∷◌, Option, Some, None, option_map, Result, Ok, Err, nat_le, nat_lt, ◌==◌, ◌||◌, ◌&&◌, if◌then◌else◌}
+use Rattle.std.specs.Prelude.{ℕ, ◌-◌, ◌/◌, ◌%◌, ◌^◌, ◌<◌, ◌≤◌, ◌≡◌, true, length, slice_index_or, List, [], ◌∷◌, Option, Some, None, option_map, Result, Ok, Err, nat_le, nat_lt, if◌then◌else◌, IsPermutation}
+use Rattle.framehop_dwarf.specs.Tree.{not_after, IsSearchTree}
 use Rattle.framehop_cfi.specs.Bytes.{◌>>=◌}
 use Rattle.framehop_cfi.specs.Section.{Section}
 use Rattle.framehop_cfi.specs.Entry.{cie_at, entry_of_head, entry_at}
@@ -64,13 +65,10 @@ pairs_of_entries base (entry ∷ entries) =
     pair_of_entry base entry.0 entry.1 >>= λ pair.
     pairs_of_entries base entries >>= λ others. Ok (before_others pair others)
 
--- one pair comes after another: it starts above it, or where it starts and further on in the section
-abbrev pub is_before : ℕ × ℕ → ℕ × ℕ → Bool
-is_before a b = nat_lt a.0 b.0 || ((a.0 == b.0) && nat_le a.1 b.1)
-
+-- of two pairs that one which the other does not come after
 abbrev pub later : ℕ × ℕ → Option (ℕ × ℕ) → ℕ × ℕ
 later pair None = pair
-later pair (Some other) = if is_before pair other then other else pair
+later pair (Some other) = if not_after pair other then other else pair
 
 -- The pair of an address: among those that start at or below it the one with the greatest start, and among equal
 -- starts the last.
@@ -88,7 +86,7 @@ abbrev pub Greatest : List (ℕ × ℕ) → ℕ → Option (ℕ × ℕ) → Type
 Greatest pairs address None = (k : ℕ) (d : ℕ × ℕ) → k < length pairs → address < (slice_index_or pairs k d).0
 Greatest pairs address (Some pair) =
     (k : ℕ) (d : ℕ × ℕ) → k < length pairs → (slice_index_or pairs k d).0 ≤ address
-    → is_before (slice_index_or pairs k d) pair ≡ true
+    → not_after (slice_index_or pairs k d) pair ≡ true
 
 -- the pair is one of them, and starts at or below the address
 abbrev pub Among : List (ℕ × ℕ) → ℕ → Option (ℕ × ℕ) → Type 0
@@ -108,18 +106,18 @@ abbrev pub IsKnown : Section → Option (ℕ × CommonInformationEntry) → Type
 IsKnown section None = Unit {0}
 IsKnown section (Some known) = cie_at section known.0 ≡ Ok known.1
 
--- a table in order: as many starts as offsets, and no pair after a later one
-pub record IsTable (starts offsets : List ℕ) : Type 0 where
-  pub same : length starts ≡ length offsets
-  pub ordered : (i j : ℕ) → i ≤ j → j < length starts
-      → IsTrue (is_before (slice_index starts i, slice_index offsets i) (slice_index starts j, slice_index offsets j))
+-- a pair, by the number that it is sorted by
+abbrev pub pair_of_key : ℕ → ℕ × ℕ
+pair_of_key key = (key / 2 ^ 32, key % 2 ^ 32)
 
--- an index of a section: for each address it has the FDE that the section's entries have
+-- An index of a section: the pairs of its entries as a search tree. For each address it has the FDE that they have.
 pub record IsIndexOf (section : Section) (base : ℕ) (index : List (ℕ × ℕ)) : Type 0 where
   pub entries : List (ℕ × CieOrFde)
   pub pairs : List (ℕ × ℕ)
   pub are_all : AreEntries section entries
   pub have : pairs_of_entries base entries ≡ Ok pairs
+  pub only : IsPermutation pairs index
+  pub tree : IsSearchTree index
   pub same : (address : ℕ) → fde_offset_for index address ≡ fde_offset_for pairs address
 
 -- the same, by the pairs of all the FDEs
