@@ -3,7 +3,7 @@ ghost use Rattle.std.specs.Prelude.{◌≡◌, ◌≢◌, length, map, IfOk, IfE
 ghost use Rattle.framehop_cfi.specs.Section.{section_of};
 ghost use Rattle.framehop_cfi.specs.EntryExtent.{extent_at, is_zero_length};
 ghost use Rattle.framehop_cfi.specs.Entry.{cie_at, head_at, fde_of_head};
-ghost use Rattle.framehop_dwarf.specs.Index.{pair_of, pair_of_head, pair_at, pairs_of, pair_of_key, fde_offset_for, IsFdeFor, IsKnown, IsIndexOf, IsIndexOfAll, HasNoIndex};
+ghost use Rattle.framehop_dwarf.specs.Index.{pair_of, pair_if_read, pair_at, pairs_of, pair_of_key, fde_offset_for, IsFdeFor, IsKnown, IsIndexOf, IsIndexOfAll, IsIndexRefusal, HasNoIndex};
 ghost use Rattle.framehop_dwarf.specs.Tree.{left_to_right, looked_at, IsAscending, IsWithinDigits, IsSearchTree};
 ghost use Rattle.framehop_dwarf.specs.declared.index.DwarfCfiIndexError.TheVariants.{Gimli};
 ghost use Rattle.framehop_cfi.specs.declared.read_error.ReadError.TheVariants.{OutOfMemory};
@@ -23,41 +23,33 @@ use std::alloc::{AllocError, Global};
 use std::marker::Model;
 use thiserror::Error;
 
-/// Why a section has no index.
+/// Why a section has no index, which is always `Gimli`. The other names are those of the original, where an FDE that
+/// can't be a pair refuses the index. Here it is passed over.
 #[derive(Clone, Copy, Debug, PartialEq, Eq, Error)]
 pub enum DwarfCfiIndexError {
-    /// An entry could not be read, or an allocation failed.
+    /// The length of an entry is reserved (`BadLength`), is cut off or reaches past the section (`Eof`), or an
+    /// allocation failed (`OutOfMemory`).
     #[error("Gimli")]
     Gimli(#[from] ReadError),
-    /// An FDE starts below the base address.
+    /// An FDE starts below the base address. Not returned.
     #[error("CouldNotSubtractBaseAddress")]
     CouldNotSubtractBaseAddress,
-    /// An FDE's start relative to the base address does not fit 32 bits.
+    /// An FDE's start relative to the base address does not fit 32 bits. Not returned.
     #[error("RelativeAddressTooBig")]
     RelativeAddressTooBig,
-    /// An FDE's offset does not fit 32 bits.
+    /// An FDE's offset does not fit 32 bits. Not returned.
     #[error("FdeOffsetTooBig")]
     FdeOffsetTooBig,
 }
 
-/// Returns an FDE's start relative to the base, and its offset.
-fn pair_of(
-    base_svma: u64,
-    at: usize,
-    fde: &FrameDescriptionEntry,
-) -> Result<(u32, u32), DwarfCfiIndexError>
+/// Returns an FDE's start relative to the base, and its offset, if both fit 32 bits.
+fn pair_of(base_svma: u64, at: usize, fde: &FrameDescriptionEntry) -> Option<(u32, u32)>
     ensures { result ≡ pair_of base_svma at fde.now }
 {
-    let Some(relative) = fde.initial_address.checked_sub(base_svma) else {
-        return Err(DwarfCfiIndexError::CouldNotSubtractBaseAddress);
-    };
-    let Ok(start) = u32::try_from(relative) else {
-        return Err(DwarfCfiIndexError::RelativeAddressTooBig);
-    };
-    match u32::try_from(at) {
-        Ok(offset) => Ok((start, offset)),
-        Err(_) => Err(DwarfCfiIndexError::FdeOffsetTooBig),
-    }
+    let relative = fde.initial_address.checked_sub(base_svma)?;
+    let start = u32::try_from(relative).ok()?;
+    let offset = u32::try_from(at).ok()?;
+    Some((start, offset))
 }
 
 /// Returns the CIE at an offset, which is the one that was read last, if it is there.
@@ -97,8 +89,8 @@ fn read_fde(
     section.read_fde(&cie, fields, end)
 }
 
-/// Returns the pair of the entry at an offset that begins with a head. A CIE has none, and is known from
-/// then on.
+/// Returns the pair of the entry at an offset that begins with a head, if it is an FDE that can be read and fits. A
+/// CIE that can be read is known from then on.
 #[tactic(auto, unfolding(framehop_cfi::specs::Entry::cie_at))]
 fn read_pair(
     section: &UnwindSection,
@@ -106,54 +98,49 @@ fn read_pair(
     known: &mut Option<(usize, CommonInformationEntry)>,
     at: usize,
     head: EntryHead,
-) -> Result<Option<(u32, u32)>, DwarfCfiIndexError>
+) -> Option<(u32, u32)>
     requires known { IsKnown section.now known.old }
     requires head { head_at section.now.kind section.now.bytes at ≡ Ok head }
-    ensures exact { result ≡ pair_of_head section.now base_svma at head }
+    ensures exact { result ≡ pair_if_read base_svma at (fde_of_head section.now head) }
     ensures known { IsKnown section.now known.new }
 {
     match head {
-        EntryHead::ZeroLength(_) => Err(DwarfCfiIndexError::Gimli(ReadError::NotFde)),
-        EntryHead::Cie { fields, end } => match section.read_cie(fields, end) {
-            Ok(cie) => {
+        EntryHead::ZeroLength(_) => None,
+        EntryHead::Cie { fields, end } => {
+            if let Ok(cie) = section.read_cie(fields, end) {
                 *known = Some((at, cie));
-                Ok(None)
             }
-            Err(error) => Err(DwarfCfiIndexError::Gimli(error)),
-        },
+            None
+        }
         EntryHead::Fde {
             cie_offset,
             fields,
             end,
-        } => match read_fde(section, known, cie_offset, fields, end) {
-            Ok(fde) => {
-                let pair = pair_of(base_svma, at, &fde)?;
-                Ok(Some(pair))
-            }
-            Err(error) => Err(DwarfCfiIndexError::Gimli(error)),
-        },
+        } => {
+            let fde = read_fde(section, known, cie_offset, fields, end).ok()?;
+            pair_of(base_svma, at, &fde)
+        }
     }
 }
 
-/// Returns the pair of the entry in the span at an offset, whose length is not 0.
-#[tactic(auto, unfolding(framehop_cfi::specs::Entry::head_at, framehop_cfi::specs::Entry::entry_at, crate::specs::Index::pair_at))]
+/// Returns the pair of the entry in the span at an offset, whose length is not 0, if it is an FDE that can be read and
+/// fits.
+#[tactic(auto, unfolding(framehop_cfi::specs::Entry::head_at, framehop_cfi::specs::Entry::fde_at, crate::specs::Index::pair_at))]
 fn visit_entry(
     section: &UnwindSection,
     base_svma: u64,
     known: &mut Option<(usize, CommonInformationEntry)>,
     at: usize,
     span: &EntryExtent,
-) -> Result<Option<(u32, u32)>, DwarfCfiIndexError>
+) -> Option<(u32, u32)>
     requires known { IsKnown section.now known.old }
     requires span { extent_at section.now.bytes at ≡ Ok span.now }
     requires some { is_zero_length span.now ≡ false }
     ensures exact { result ≡ pair_at section.now base_svma at }
     ensures known { IsKnown section.now known.new }
 {
-    match section.head_of(span) {
-        Ok(head) => read_pair(section, base_svma, known, at, head),
-        Err(error) => Err(DwarfCfiIndexError::Gimli(error)),
-    }
+    let head = section.head_of(span).ok()?;
+    read_pair(section, base_svma, known, at, head)
 }
 
 /// What one of a start counts for in a key: more than each offset.
@@ -174,13 +161,14 @@ fn pair_of_key(key: u64) -> (u32, u32)
     ((key / START_UNIT) as u32, (key % START_UNIT) as u32)
 }
 
-/// Returns the keys of the pairs of all FDEs of a section, in its order.
+/// Returns the keys of the pairs of all FDEs of a section that can be read and fit, in its order.
 fn read_keys(
     alloc: Global,
     section: &UnwindSection,
     base_svma: u64,
 ) -> Result<Vec<u64>, DwarfCfiIndexError>
     ensures read { IfOk result (λ keys. pairs_of section.now base_svma ≡ Ok (map pair_of_key keys.items)) }
+    ensures lengths { IfErr result IsIndexRefusal }
     ensures first { IfErr result (λ error. error ≢ Gimli OutOfMemory → pairs_of section.now base_svma ≡ Err error) }
 {
     let mut keys = Vec::new(alloc);
@@ -197,7 +185,7 @@ fn read_keys(
                 UnwindSectionType::DebugFrame => {}
             }
         } else {
-            match visit_entry(section, base_svma, &mut known, at, &span)? {
+            match visit_entry(section, base_svma, &mut known, at, &span) {
                 Some(pair) => {
                     if keys.push(key_of(pair)).is_err() {
                         return Err(DwarfCfiIndexError::Gimli(ReadError::OutOfMemory));
@@ -235,8 +223,14 @@ impl DwarfCfiIndex {
     /// Returns the index of a section, whose pointers count from these addresses. Starts are taken relative to
     /// `base_svma`.
     ///
-    /// The first entry in the section that can't be read, or whose start or offset does not fit, is the
-    /// error.
+    /// The section is cut into entries by their lengths. An FDE that can't be read, or whose CIE can't, is passed
+    /// over, and so is one whose start lies below `base_svma`, or whose start relative to it or whose offset does not
+    /// fit 32 bits.
+    ///
+    /// # Errors
+    ///
+    /// `Gimli` with the error of the first length that can't be read or reaches past the section (`BadLength`,
+    /// `Eof`), or with `OutOfMemory`.
     pub fn try_new(
         alloc: Global,
         section: &[u8],
@@ -246,7 +240,8 @@ impl DwarfCfiIndex {
     ) -> Result<Self, DwarfCfiIndexError>
         ensures found { IfOk result (IsIndexOf (section_of section_type bases section.now) base_svma) }
         ensures all { IfOk result (IsIndexOfAll (section_of section_type bases section.now) base_svma) }
-        ensures refused { IfErr result (λ error. error ≢ Gimli OutOfMemory → HasNoIndex (section_of section_type bases section.now) base_svma) }
+        ensures refused { IfErr result (λ error. error ≢ Gimli OutOfMemory → HasNoIndex (section_of section_type bases section.now)) }
+        ensures lengths { IfErr result IsIndexRefusal }
         ensures first { IfErr result (λ error. error ≢ Gimli OutOfMemory → pairs_of (section_of section_type bases section.now) base_svma ≡ Err error) }
     {
         let section = UnwindSection::new(section, section_type, &bases);
@@ -264,7 +259,9 @@ impl DwarfCfiIndex {
         section_info: &mut I,
     ) -> Result<Self, DwarfCfiIndexError>
         ensures found { IfOk result (IsIndexOf (section_in EhFrame (I.table section_info.old) eh_frame_data.now) (I.table section_info.old).base_svma) }
-        ensures refused { IfErr result (λ error. error ≢ Gimli OutOfMemory → HasNoIndex (section_in EhFrame (I.table section_info.old) eh_frame_data.now) (I.table section_info.old).base_svma) }
+        ensures all { IfOk result (IsIndexOfAll (section_in EhFrame (I.table section_info.old) eh_frame_data.now) (I.table section_info.old).base_svma) }
+        ensures refused { IfErr result (λ error. error ≢ Gimli OutOfMemory → HasNoIndex (section_in EhFrame (I.table section_info.old) eh_frame_data.now)) }
+        ensures lengths { IfErr result IsIndexRefusal }
         ensures first { IfErr result (λ error. error ≢ Gimli OutOfMemory → pairs_of (section_in EhFrame (I.table section_info.old) eh_frame_data.now) (I.table section_info.old).base_svma ≡ Err error) }
         ensures kept { I.table section_info.new ≡ I.table section_info.old }
     {
@@ -286,7 +283,9 @@ impl DwarfCfiIndex {
         section_info: &mut I,
     ) -> Result<Self, DwarfCfiIndexError>
         ensures found { IfOk result (IsIndexOf (section_in DebugFrame (I.table section_info.old) debug_frame_data.now) (I.table section_info.old).base_svma) }
-        ensures refused { IfErr result (λ error. error ≢ Gimli OutOfMemory → HasNoIndex (section_in DebugFrame (I.table section_info.old) debug_frame_data.now) (I.table section_info.old).base_svma) }
+        ensures all { IfOk result (IsIndexOfAll (section_in DebugFrame (I.table section_info.old) debug_frame_data.now) (I.table section_info.old).base_svma) }
+        ensures refused { IfErr result (λ error. error ≢ Gimli OutOfMemory → HasNoIndex (section_in DebugFrame (I.table section_info.old) debug_frame_data.now)) }
+        ensures lengths { IfErr result IsIndexRefusal }
         ensures first { IfErr result (λ error. error ≢ Gimli OutOfMemory → pairs_of (section_in DebugFrame (I.table section_info.old) debug_frame_data.now) (I.table section_info.old).base_svma ≡ Err error) }
         ensures kept { I.table section_info.new ≡ I.table section_info.old }
     {

@@ -2,7 +2,7 @@ use Rattle.std.proofs.Common.{ℕ, map, ap, sym}
 use Rattle.std.specs.Prelude.{option_map}
 use Rattle.std.proofs.lemmas.Result.{err_from_is_err_and}
 use Rattle.framehop_cfi.specs.Section.{section_of}
-use Rattle.framehop_dwarf.specs.Index.{pair_of_key}
+use Rattle.framehop_dwarf.specs.Index.{pair_of_key, no_memory}
 use Rattle.framehop_dwarf.proofs.Entries.{pairs-entries, refused}
 use Rattle.framehop_dwarf.proofs.Order.{pair_for-permutation}
 use Rattle.framehop_dwarf.proofs.index.DwarfCfiIndex.try_new.Goals as goal
@@ -21,7 +21,7 @@ returns-in-Ok-clause-found c =
     let read = rw c.new-section.ensures at c.in_ok-keys.ensures.read in
     let list = pairs-entries section c.args.base_svma pairs read in
     record {
-      entries = list.0;
+      offsets = list.0;
       pairs = pairs;
       are_all = list.1;
       have = list.2;
@@ -38,3 +38,6 @@ returns-in-Ok-clause-all c =
       are_all = rw c.new-section.ensures at c.in_ok-keys.ensures.read;
       same = λ address. ap (λ o. option_map (λ (pair : ℕ × ℕ). pair.1) o) (sym (pair_for-permutation pairs c.in-Ok.index address c.in-Ok.ensures.only));
     }
+
+pub returns-in-Err-clause-lengths : goal.returns-in-Err-clause-lengths
+returns-in-Err-clause-lengths c = no_memory
