@@ -1,7 +1,12 @@
-pub mod Walk
-pub mod Order
-pub mod Table
-pub mod Words
-pub mod Saturated
+pub mod Ascending
 pub mod Entries
+pub mod Filled
 pub mod FoundRow
+pub mod Lengths
+pub mod Order
+pub mod Permuted
+pub mod Saturated
+pub mod Searched
+pub mod Tree
+pub mod Walk
+pub mod Words

@@ -5,36 +5,37 @@ use Rattle.std.proofs.lemmas.Bool.Decides.{nat_tests}
 use Rattle.std.specs.Prelude.{Contains}
 use Rattle.std.specs.List.Sorted.{IsPermutation}
 use Rattle.std.proofs.lemmas.List.Sorted.{Contains-permutation, IsPermutation-sym}
-use Rattle.framehop_dwarf.specs.Index.{is_before, later, pair_for, fde_offset_for, Greatest, Among, IsFdeFor}
+use Rattle.framehop_dwarf.specs.Tree.{not_after}
+use Rattle.framehop_dwarf.specs.Index.{later, pair_for, fde_offset_for, Greatest, Among, IsFdeFor}
 
-pub before-refl : (a : ℕ × ℕ) → is_before a a ≡ true
-before-refl a = grind (arith, nat_tests)
+pub not_after-refl : (a : ℕ × ℕ) → not_after a a ≡ true
+not_after-refl a = grind (arith, nat_tests)
 
-pub before-trans : (a b c : ℕ × ℕ) → is_before a b ≡ true → is_before b c ≡ true → is_before a c ≡ true
-before-trans a b c p q = grind (arith, nat_tests)
+pub not_after-trans : (a b c : ℕ × ℕ) → not_after a b ≡ true → not_after b c ≡ true → not_after a c ≡ true
+not_after-trans a b c p q = grind (arith, nat_tests)
 
-before-other : (a b : ℕ × ℕ) → is_before a b ≡ false → is_before b a ≡ true
-before-other a b p = grind (arith, nat_tests)
+not_after-other : (a b : ℕ × ℕ) → not_after a b ≡ false → not_after b a ≡ true
+not_after-other a b p = grind (arith, nat_tests)
 
-before-anti : (a b : ℕ × ℕ) → is_before a b ≡ true → is_before b a ≡ true → (a.0 ≡ b.0) × (a.1 ≡ b.1)
-before-anti a b p q = (grind (arith, nat_tests), grind (arith, nat_tests))
+not_after-anti : (a b : ℕ × ℕ) → not_after a b ≡ true → not_after b a ≡ true → (a.0 ≡ b.0) × (a.1 ≡ b.1)
+not_after-anti a b p q = (grind (arith, nat_tests), grind (arith, nat_tests))
 
 module _ (x : ℕ × ℕ) (pairs : List (ℕ × ℕ)) (address : ℕ) where
   near-none : x.0 ≤ address → Greatest pairs address None → Greatest (x ∷ pairs) address (Some x)
-  near-none near rest zero d below at = before-refl x
+  near-none near rest zero d below at = not_after-refl x
   near-none near rest (suc k) d below at = let above = rest k d (omega arith) in absurd (omega arith)
 
   far-none : address < x.0 → Greatest pairs address None → Greatest (x ∷ pairs) address None
   far-none far rest zero d below = far
   far-none far rest (suc k) d below = rest k d (omega arith)
 
-  near-later : (pair : ℕ × ℕ) → is_before x pair ≡ true → Greatest pairs address (Some pair) → Greatest (x ∷ pairs) address (Some pair)
+  near-later : (pair : ℕ × ℕ) → not_after x pair ≡ true → Greatest pairs address (Some pair) → Greatest (x ∷ pairs) address (Some pair)
   near-later pair is rest zero d below at = is
   near-later pair is rest (suc k) d below at = rest k d (omega arith) at
 
-  near-earlier : (pair : ℕ × ℕ) → is_before x pair ≡ false → Greatest pairs address (Some pair) → Greatest (x ∷ pairs) address (Some x)
-  near-earlier pair is rest zero d below at = before-refl x
-  near-earlier pair is rest (suc k) d below at = before-trans (get_or pairs k d) pair x (rest k d (omega arith) at) (before-other x pair is)
+  near-earlier : (pair : ℕ × ℕ) → not_after x pair ≡ false → Greatest pairs address (Some pair) → Greatest (x ∷ pairs) address (Some x)
+  near-earlier pair is rest zero d below at = not_after-refl x
+  near-earlier pair is rest (suc k) d below at = not_after-trans (get_or pairs k d) pair x (rest k d (omega arith) at) (not_after-other x pair is)
 
   far-some : (pair : ℕ × ℕ) → address < x.0 → Greatest pairs address (Some pair) → Greatest (x ∷ pairs) address (Some pair)
   far-some pair far rest zero d below at = absurd (omega arith)
@@ -46,7 +47,7 @@ module _ (x : ℕ × ℕ) (pairs : List (ℕ × ℕ)) (address : ℕ) where
   near-greatest : (o : Option (ℕ × ℕ)) → x.0 ≤ address → Greatest pairs address o → Greatest (x ∷ pairs) address (Some (later x o))
   near-greatest None near rest = near-none near rest
   near-greatest (Some pair) near rest =
-      elim (cases_Bool (is_before x pair)) as (λ _. Greatest (x ∷ pairs) address (Some (if is_before x pair then pair else x))) [
+      elim (cases_Bool (not_after x pair)) as (λ _. Greatest (x ∷ pairs) address (Some (if not_after x pair then pair else x))) [
         | inl e ↦ rw e (near-later pair e rest)
         | inr e ↦ rw e (near-earlier pair e rest)
       ]
@@ -54,7 +55,7 @@ module _ (x : ℕ × ℕ) (pairs : List (ℕ × ℕ)) (address : ℕ) where
   near-among : (o : Option (ℕ × ℕ)) → x.0 ≤ address → Among pairs address o → Among (x ∷ pairs) address (Some (later x o))
   near-among None near rest = (zero, omega arith, refl, near)
   near-among (Some pair) near rest =
-      elim (cases_Bool (is_before x pair)) as (λ _. Among (x ∷ pairs) address (Some (if is_before x pair then pair else x))) [
+      elim (cases_Bool (not_after x pair)) as (λ _. Among (x ∷ pairs) address (Some (if not_after x pair then pair else x))) [
         | inl e ↦ rw e (moved pair rest)
         | inr e ↦ rw e (zero, omega arith, refl, near)
       ]
@@ -91,9 +92,9 @@ pub same-pair : (a b : ℕ × ℕ) → a.0 ≡ b.0 → a.1 ≡ b.1 → a ≡ b
 same-pair a b p q = λ i. (p i, q i)
 
 -- a pair of an address lies at or before that of a list that holds it
-at-or-before : (ys : List (ℕ × ℕ)) (address : ℕ) (pair other : ℕ × ℕ) → Contains ys pair → pair.0 ≤ address → Greatest ys address (Some other) → is_before pair other ≡ true
+at-or-before : (ys : List (ℕ × ℕ)) (address : ℕ) (pair other : ℕ × ℕ) → Contains ys pair → pair.0 ≤ address → Greatest ys address (Some other) → not_after pair other ≡ true
 at-or-before ys address pair other there near g =
-    subst (λ r. is_before r other ≡ true) there.2 (g there.0 pair there.1 (subst (λ (r : ℕ × ℕ). r.0 ≤ address) (sym there.2) near))
+    subst (λ r. not_after r other ≡ true) there.2 (g there.0 pair there.1 (subst (λ (r : ℕ × ℕ). r.0 ≤ address) (sym there.2) near))
 
 -- a list whose starts all lie above an address holds no pair at or below it
 not-there : (ys : List (ℕ × ℕ)) (address : ℕ) (pair : ℕ × ℕ) → Contains ys pair → pair.0 ≤ address → Greatest ys address None → ⊥
@@ -116,7 +117,7 @@ one-pair_for xs ys address (Some pair) None p ga aa gb ab =
 one-pair_for xs ys address (Some pair) (Some other) p ga aa gb ab =
     let first = at-or-before ys address pair other (found xs ys address pair p aa) aa.3 gb in
     let second = at-or-before xs address other pair (found ys xs address other (IsPermutation-sym xs ys p) ab) ab.3 ga in
-    let both = before-anti pair other first second in
+    let both = not_after-anti pair other first second in
     ap Some (same-pair pair other both.0 both.1)
 
 -- the order of the pairs does not matter

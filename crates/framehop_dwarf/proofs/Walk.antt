@@ -1,7 +1,7 @@
 -- The pairs of a section, read one entry at a time.
-use Rattle.std.proofs.Common.{◌≡◌, ℕ, zero, suc, ◌+◌, ◌<◌, List, [], ◌∷◌, ◌++◌, length, Some, None, true, false, Result, Ok, Err, refl, ap, arith, append_assoc, is_err, is_ok, if◌then◌else◌}
+use Rattle.std.proofs.Common.{◌≡◌, ℕ, zero, suc, ◌+◌, ◌<◌, List, [], ◌∷◌, ◌++◌, length, map, Option, Some, None, true, false, Result, Ok, Err, refl, ap, ◌∙◌, arith, append_assoc, is_err, is_ok, if◌then◌else◌}
 use Rattle.std.proofs.lemmas.Bool.{lt-leb}
-use Rattle.std.proofs.lemmas.List.{append-nil}
+use Rattle.std.proofs.lemmas.List.{append-nil, map_push}
 use Rattle.framehop_cfi.specs.Bytes.{◌>>=◌}
 use Rattle.framehop_cfi.specs.EntryExtent.{extent_at, is_zero_length}
 use Rattle.framehop_cfi.specs.Section.{Section}
@@ -12,11 +12,11 @@ use Rattle.framehop_cfi.specs.declared.entry.UnwindSectionType.TheVariants.{EhFr
 use Rattle.framehop_cfi.specs.declared.read_error.ReadError.{ReadError}
 use Rattle.framehop_dwarf.specs.declared.index.DwarfCfiIndexError.{DwarfCfiIndexError}
 use Rattle.framehop_dwarf.specs.declared.index.DwarfCfiIndexError.TheVariants.{Gimli}
-use Rattle.framehop_dwarf.specs.Index.{pair_at, pairs_at, pairs_of}
+use Rattle.framehop_dwarf.specs.Index.{pair_at, pairs_at, pairs_of, unless_refused, pair_of_key}
 
 -- the pairs of a cut
 abbrev pub of_cut : Section → ℕ → Cut → Result (List (ℕ × ℕ)) DwarfCfiIndexError
-of_cut section base cut = pairs_at section base cut.offsets cut.refusal
+of_cut section base cut = unless_refused cut.refusal (pairs_at section base cut.offsets)
 
 -- the pairs read so far, and then those of the entries that are left
 abbrev pub left : Section → ℕ → List (ℕ × ℕ) → ℕ → ℕ → Result (List (ℕ × ℕ)) DwarfCfiIndexError
@@ -37,13 +37,9 @@ ends kind rest section base is = ap (λ k. of_cut section base (after_zero k res
 passes : (kind : UnwindSectionType) (rest : Cut) (section : Section) (base : ℕ) → kind ≡ DebugFrame → of_cut section base (after_zero kind rest) ≡ of_cut section base rest
 passes kind rest section base is = ap (λ k. of_cut section base (after_zero k rest)) is
 
-joined : (pairs : List (ℕ × ℕ)) (pair : ℕ × ℕ) (rest : Result (List (ℕ × ℕ)) DwarfCfiIndexError) → (rest >>= λ others. Ok ((pairs ++ pair ∷ []) ++ others)) ≡ ((rest >>= λ others. Ok (pair ∷ others)) >>= λ others. Ok (pairs ++ others))
-joined pairs pair (Ok others) = ap Ok (append_assoc pairs (pair ∷ []) others)
-joined pairs pair (Err error) = refl
-
-unchanged : (pairs : List (ℕ × ℕ)) (rest : Result (List (ℕ × ℕ)) DwarfCfiIndexError) → (rest >>= λ others. Ok (pairs ++ others)) ≡ ((rest >>= λ others. Ok others) >>= λ others. Ok (pairs ++ others))
-unchanged pairs (Ok others) = refl
-unchanged pairs (Err error) = refl
+joined : (pairs : List (ℕ × ℕ)) (pair : ℕ × ℕ) (others : List (ℕ × ℕ)) (refusal : Option ReadError) → (unless_refused refusal others >>= λ others. Ok ((pairs ++ pair ∷ []) ++ others)) ≡ (unless_refused refusal (pair ∷ others) >>= λ others. Ok (pairs ++ others))
+joined pairs pair others None = ap Ok (append_assoc pairs (pair ∷ []) others)
+joined pairs pair others (Some error) = refl
 
 module _ (section : Section) (base : ℕ) (pairs : List (ℕ × ℕ)) where
   pub span-refused : (n at : ℕ) (error : ReadError) → IsIn section n at → extent_at section.bytes at ≡ Err error → left section base pairs n at ≡ Err (Gimli error)
@@ -55,19 +51,15 @@ module _ (section : Section) (base : ℕ) (pairs : List (ℕ × ℕ)) where
   ended (suc n) at span inside is zeros kind =
       rw (lt-leb (length section.bytes) at inside.1, is) (rw zeros (rw (ends section.kind (cut_from section n span.end) section base kind) (ap Ok (append-nil pairs))))
 
-  pub past-cie : (n at : ℕ) (span : EntryExtent) → IsIn section n at → at < span.end → extent_at section.bytes at ≡ Ok span → is_zero_length span ≡ false → pair_at section base at ≡ Ok None → GoesOn section base pairs pairs n at span.end
-  past-cie zero at span inside behind is some read = absurd (omega arith)
-  past-cie (suc n) at span inside behind is some read =
-      (n, omega arith, rw (lt-leb (length section.bytes) at inside.1, is) (rw some (rw read (unchanged pairs (of_cut section base (cut_from section n span.end))))))
+  pub past-other : (n at : ℕ) (span : EntryExtent) → IsIn section n at → at < span.end → extent_at section.bytes at ≡ Ok span → is_zero_length span ≡ false → pair_at section base at ≡ None → GoesOn section base pairs pairs n at span.end
+  past-other zero at span inside behind is some read = absurd (omega arith)
+  past-other (suc n) at span inside behind is some read =
+      (n, omega arith, rw (lt-leb (length section.bytes) at inside.1, is) (rw some (rw read refl)))
 
-  pub past-fde : (n at : ℕ) (span : EntryExtent) (pair : ℕ × ℕ) → IsIn section n at → at < span.end → extent_at section.bytes at ≡ Ok span → is_zero_length span ≡ false → pair_at section base at ≡ Ok (Some pair) → GoesOn section base pairs (pairs ++ pair ∷ []) n at span.end
+  pub past-fde : (n at : ℕ) (span : EntryExtent) (pair : ℕ × ℕ) → IsIn section n at → at < span.end → extent_at section.bytes at ≡ Ok span → is_zero_length span ≡ false → pair_at section base at ≡ Some pair → GoesOn section base pairs (pairs ++ pair ∷ []) n at span.end
   past-fde zero at span pair inside behind is some read = absurd (omega arith)
   past-fde (suc n) at span pair inside behind is some read =
-      (n, omega arith, rw (lt-leb (length section.bytes) at inside.1, is) (rw some (rw read (joined pairs pair (of_cut section base (cut_from section n span.end))))))
-
-  pub entry-refused : (n at : ℕ) (span : EntryExtent) (error : DwarfCfiIndexError) → IsIn section n at → extent_at section.bytes at ≡ Ok span → is_zero_length span ≡ false → pair_at section base at ≡ Err error → left section base pairs n at ≡ Err error
-  entry-refused zero at span error inside is some read = absurd (omega arith)
-  entry-refused (suc n) at span error inside is some read = rw (lt-leb (length section.bytes) at inside.1, is) (rw some (rw read refl))
+      (n, omega arith, rw (lt-leb (length section.bytes) at inside.1, is) (rw some (rw read (joined pairs pair (pairs_at section base (cut_from section n span.end).offsets) (cut_from section n span.end).refusal))))
 
 -- no pair in front
 unfronted : (pairs : Result (List (ℕ × ℕ)) DwarfCfiIndexError) → (pairs >>= λ others. Ok ([] ++ others)) ≡ pairs
@@ -83,3 +75,7 @@ begins section base pairs none = rw none (unfronted _)
 pub pushed : {A T E : Type 0} (result : Result T E) (items more same : A) → is_err result ≡ false → items ≡ (if is_ok result then more else same) → items ≡ more
 pushed (Ok done) items more same kept is = is
 pushed (Err error) items more same kept is = cc
+
+-- one more key is one more pair
+pub keyed : (keys : List ℕ) (key : ℕ) (pair : ℕ × ℕ) → pair_of_key key ≡ pair → map pair_of_key (keys ++ key ∷ []) ≡ map pair_of_key keys ++ pair ∷ []
+keyed keys key pair is = map_push pair_of_key keys key ∙ ap (λ p. map pair_of_key keys ++ p ∷ []) is

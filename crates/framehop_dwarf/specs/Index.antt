@@ -1,76 +1,72 @@
 -- The FDE of an address, among all FDEs of a section: each has a pair of its start, relative to the module's base,
 -- and its offset.
-use Rattle.std.specs.Prelude.{ℕ, ◌-◌, ◌^◌, ◌<◌, ◌≤◌, ◌≡◌, Bool, true, IsTrue, length, slice_index, slice_index_or, List, [], ◌∷◌, Option, Some, None, option_map, Result, Ok, Err, nat_le, nat_lt, ◌==◌, ◌||◌, ◌&&◌, if◌then◌else◌}
-use Rattle.framehop_cfi.specs.Bytes.{◌>>=◌}
+use Rattle.std.specs.Prelude.{ℕ, ◌-◌, ◌/◌, ◌%◌, ◌^◌, ◌<◌, ◌≤◌, ◌≡◌, true, length, slice_index_or, List, [], ◌∷◌, Option, Some, None, option_map, Result, Ok, Err, nat_le, nat_lt, if◌then◌else◌, IsPermutation}
+use Rattle.framehop_dwarf.specs.Tree.{not_after, IsSearchTree}
 use Rattle.framehop_cfi.specs.Section.{Section}
-use Rattle.framehop_cfi.specs.Entry.{cie_at, entry_of_head, entry_at}
-use Rattle.framehop_cfi.specs.Entries.{cut, AreEntries}
-use Rattle.framehop_cfi.specs.declared.entry.EntryHead.{EntryHead}
-use Rattle.framehop_cfi.specs.declared.entry.CieOrFde.{CieOrFde}
-use Rattle.framehop_cfi.specs.declared.entry.CieOrFde.TheVariants.{Cie, Fde}
+use Rattle.framehop_cfi.specs.Entry.{cie_at, fde_at}
+use Rattle.framehop_cfi.specs.Entries.{cut, AreOffsets}
+use Rattle.framehop_cfi.specs.EntryMeaning.{IsFde}
 use Rattle.framehop_cfi.specs.declared.entry.CommonInformationEntry.{CommonInformationEntry}
 use Rattle.framehop_cfi.specs.declared.entry.FrameDescriptionEntry.{FrameDescriptionEntry}
 use Rattle.framehop_cfi.specs.declared.read_error.ReadError.{ReadError}
+use Rattle.framehop_cfi.specs.declared.read_error.ReadError.TheVariants.{BadLength, Eof, OutOfMemory}
 use Rattle.framehop_dwarf.specs.declared.index.DwarfCfiIndexError.{DwarfCfiIndexError}
-use Rattle.framehop_dwarf.specs.declared.index.DwarfCfiIndexError.TheVariants.{Gimli, CouldNotSubtractBaseAddress, RelativeAddressTooBig, FdeOffsetTooBig}
+use Rattle.framehop_dwarf.specs.declared.index.DwarfCfiIndexError.TheVariants.{Gimli}
 
--- an FDE's start relative to the base, and its offset, if both fit 32 bits
-abbrev pub pair_of : ℕ → ℕ → FrameDescriptionEntry → Result (ℕ × ℕ) DwarfCfiIndexError
+-- the pair of an FDE at an offset, if both its numbers fit 32 bits
+abbrev pub pair_of : ℕ → ℕ → FrameDescriptionEntry → Option (ℕ × ℕ)
 pair_of base at fde =
-    if nat_lt fde.initial_address base then Err CouldNotSubtractBaseAddress
-    else (if nat_le (2 ^ 32) (fde.initial_address - base) then Err RelativeAddressTooBig
-    else (if nat_le (2 ^ 32) at then Err FdeOffsetTooBig
-    else Ok (fde.initial_address - base, at)))
+    if nat_lt fde.initial_address base then None
+    else (if nat_le (2 ^ 32) (fde.initial_address - base) then None
+    else (if nat_le (2 ^ 32) at then None
+    else Some (fde.initial_address - base, at)))
 
--- the pair of an entry: a CIE has none
-abbrev pub pair_of_entry : ℕ → ℕ → CieOrFde → Result (Option (ℕ × ℕ)) DwarfCfiIndexError
-pair_of_entry base at (Cie cie) = Ok None
-pair_of_entry base at (Fde fde) = pair_of base at fde >>= λ pair. Ok (Some pair)
+-- the same of one that is read there, if one is
+abbrev pub pair_if_read : ℕ → ℕ → Result FrameDescriptionEntry ReadError → Option (ℕ × ℕ)
+pair_if_read base at (Ok fde) = pair_of base at fde
+pair_if_read base at (Err error) = None
 
--- a refusal of a reader, as one of the index
-abbrev pub refused_by_reader : {A : Type 0} → Result A ReadError → Result A DwarfCfiIndexError
-refused_by_reader (Ok x) = Ok x
-refused_by_reader (Err error) = Err (Gimli error)
-
--- the pair of the entry that begins with a head
-abbrev pub pair_of_head : Section → ℕ → ℕ → EntryHead → Result (Option (ℕ × ℕ)) DwarfCfiIndexError
-pair_of_head section base at head = refused_by_reader (entry_of_head section head) >>= pair_of_entry base at
-
--- the pair of the entry at an offset
-unfoldable pub pair_at : Section → ℕ → ℕ → Result (Option (ℕ × ℕ)) DwarfCfiIndexError
-pair_at section base at = refused_by_reader (entry_at section at) >>= pair_of_entry base at
+-- the pair of the entry at an offset: a CIE has none, nor has what can't be read
+unfoldable pub pair_at : Section → ℕ → ℕ → Option (ℕ × ℕ)
+pair_at section base at = pair_if_read base at (fde_at section at)
 
 -- a pair, if there is one, before others
 abbrev pub before_others : Option (ℕ × ℕ) → List (ℕ × ℕ) → List (ℕ × ℕ)
 before_others None others = others
 before_others (Some pair) others = pair ∷ others
 
--- the pairs of the entries at these offsets; the first refusal stands, and a length that can't be read comes last
-abbrev pub pairs_at : Section → ℕ → List ℕ → Option ReadError → Result (List (ℕ × ℕ)) DwarfCfiIndexError
-pairs_at section base [] None = Ok []
-pairs_at section base [] (Some error) = Err (Gimli error)
-pairs_at section base (at ∷ offsets) refusal =
-    pair_at section base at >>= λ pair.
-    pairs_at section base offsets refusal >>= λ others. Ok (before_others pair others)
+-- the pairs of the entries at these offsets
+abbrev pub pairs_at : Section → ℕ → List ℕ → List (ℕ × ℕ)
+pairs_at section base [] = []
+pairs_at section base (at ∷ offsets) = before_others (pair_at section base at) (pairs_at section base offsets)
+
+-- pairs, unless a length can't be read
+abbrev pub unless_refused : Option ReadError → List (ℕ × ℕ) → Result (List (ℕ × ℕ)) DwarfCfiIndexError
+unless_refused None pairs = Ok pairs
+unless_refused (Some error) pairs = Err (Gimli error)
 
 -- the pairs of all the FDEs of a section, in its order
 unfoldable pub pairs_of : Section → ℕ → Result (List (ℕ × ℕ)) DwarfCfiIndexError
-pairs_of section base = pairs_at section base (cut section).offsets (cut section).refusal
+pairs_of section base = unless_refused (cut section).refusal (pairs_at section base (cut section).offsets)
 
--- the pairs of a list of entries
-abbrev pub pairs_of_entries : ℕ → List (ℕ × CieOrFde) → Result (List (ℕ × ℕ)) DwarfCfiIndexError
-pairs_of_entries base [] = Ok []
-pairs_of_entries base (entry ∷ entries) =
-    pair_of_entry base entry.0 entry.1 >>= λ pair.
-    pairs_of_entries base entries >>= λ others. Ok (before_others pair others)
+-- an FDE stands at an offset, and this is its pair
+abbrev pub HasPair : Section → ℕ → ℕ → ℕ × ℕ → Type 0
+HasPair section base at pair =
+    (fde : FrameDescriptionEntry) × IsFde section at fde × (pair_of base at fde ≡ Some pair)
 
--- one pair comes after another: it starts above it, or where it starts and further on in the section
-abbrev pub is_before : ℕ × ℕ → ℕ × ℕ → Bool
-is_before a b = nat_lt a.0 b.0 || ((a.0 == b.0) && nat_le a.1 b.1)
+-- these are the pairs of what stands at these offsets: what has none is passed over
+pub data ArePairsAt (section : Section) (base : ℕ) : List ℕ → List (ℕ × ℕ) → Type 0 where
+  no_more : ArePairsAt section base [] []
+  one : {at : ℕ} {pair : ℕ × ℕ} {offsets : List ℕ} {pairs : List (ℕ × ℕ)} → HasPair section base at pair
+      → ArePairsAt section base offsets pairs → ArePairsAt section base (at ∷ offsets) (pair ∷ pairs)
+  passed : {at : ℕ} {offsets : List ℕ} {pairs : List (ℕ × ℕ)}
+      → ((pair : ℕ × ℕ) → HasPair section base at pair → ⊥) → ArePairsAt section base offsets pairs
+      → ArePairsAt section base (at ∷ offsets) pairs
 
+-- of two pairs that one which the other does not come after
 abbrev pub later : ℕ × ℕ → Option (ℕ × ℕ) → ℕ × ℕ
 later pair None = pair
-later pair (Some other) = if is_before pair other then other else pair
+later pair (Some other) = if not_after pair other then other else pair
 
 -- The pair of an address: among those that start at or below it the one with the greatest start, and among equal
 -- starts the last.
@@ -88,7 +84,7 @@ abbrev pub Greatest : List (ℕ × ℕ) → ℕ → Option (ℕ × ℕ) → Type
 Greatest pairs address None = (k : ℕ) (d : ℕ × ℕ) → k < length pairs → address < (slice_index_or pairs k d).0
 Greatest pairs address (Some pair) =
     (k : ℕ) (d : ℕ × ℕ) → k < length pairs → (slice_index_or pairs k d).0 ≤ address
-    → is_before (slice_index_or pairs k d) pair ≡ true
+    → not_after (slice_index_or pairs k d) pair ≡ true
 
 -- the pair is one of them, and starts at or below the address
 abbrev pub Among : List (ℕ × ℕ) → ℕ → Option (ℕ × ℕ) → Type 0
@@ -108,18 +104,18 @@ abbrev pub IsKnown : Section → Option (ℕ × CommonInformationEntry) → Type
 IsKnown section None = Unit {0}
 IsKnown section (Some known) = cie_at section known.0 ≡ Ok known.1
 
--- a table in order: as many starts as offsets, and no pair after a later one
-pub record IsTable (starts offsets : List ℕ) : Type 0 where
-  pub same : length starts ≡ length offsets
-  pub ordered : (i j : ℕ) → i ≤ j → j < length starts
-      → IsTrue (is_before (slice_index starts i, slice_index offsets i) (slice_index starts j, slice_index offsets j))
+-- a pair, by the number that it is sorted by
+abbrev pub pair_of_key : ℕ → ℕ × ℕ
+pair_of_key key = (key / 2 ^ 32, key % 2 ^ 32)
 
--- an index of a section: for each address it has the FDE that the section's entries have
+-- An index of a section: the pairs of its entries as a search tree. For each address it has the FDE that they have.
 pub record IsIndexOf (section : Section) (base : ℕ) (index : List (ℕ × ℕ)) : Type 0 where
-  pub entries : List (ℕ × CieOrFde)
+  pub offsets : List ℕ
   pub pairs : List (ℕ × ℕ)
-  pub are_all : AreEntries section entries
-  pub have : pairs_of_entries base entries ≡ Ok pairs
+  pub are_all : AreOffsets section 0 offsets
+  pub have : ArePairsAt section base offsets pairs
+  pub only : IsPermutation pairs index
+  pub tree : IsSearchTree index
   pub same : (address : ℕ) → fde_offset_for index address ≡ fde_offset_for pairs address
 
 -- the same, by the pairs of all the FDEs
@@ -128,8 +124,13 @@ pub record IsIndexOfAll (section : Section) (base : ℕ) (index : List (ℕ × �
   pub are_all : pairs_of section base ≡ Ok pairs
   pub same : (address : ℕ) → fde_offset_for index address ≡ fde_offset_for pairs address
 
--- the section has no list of entries with pairs: an entry can't be read, or an FDE's start or offset does not fit
-abbrev pub HasNoIndex : Section → ℕ → Type 0
-HasNoIndex section base =
-    (entries : List (ℕ × CieOrFde)) (pairs : List (ℕ × ℕ)) → AreEntries section entries
-    → pairs_of_entries base entries ≡ Ok pairs → ⊥
+-- why there is no index: the length of an entry is reserved, is cut off or reaches past the section, or an allocation
+-- failed
+pub data IsIndexRefusal : DwarfCfiIndexError → Type 0 where
+  reserved_length : IsIndexRefusal (Gimli BadLength)
+  cut_off : IsIndexRefusal (Gimli Eof)
+  no_memory : IsIndexRefusal (Gimli OutOfMemory)
+
+-- the lengths do not cut the section to its end
+abbrev pub HasNoIndex : Section → Type 0
+HasNoIndex section = (offsets : List ℕ) → AreOffsets section 0 offsets → ⊥

@@ -9,6 +9,7 @@ pub mod Operation
 pub mod Refusal
 pub mod RowMeaning
 pub mod Told
+pub mod Tree
 pub mod Units
 pub mod Unwinder
 pub mod X86_64

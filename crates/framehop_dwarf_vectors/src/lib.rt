@@ -7,4 +7,6 @@ mod forms;
 #[cfg(test)]
 mod frames;
 #[cfg(test)]
+mod index;
+#[cfg(test)]
 mod sections;

@@ -20,7 +20,7 @@ pub(crate) const ONE_FDE: &str = "14000000 00000000 01 7a5200 01 78 10 01 1b 0c0
      18000000 1c000000 e0efffff 20000000 00 41 0e10 8602 43 0d06 000000 00000000";
 
 /// The same with a second FDE for the same addresses.
-const TWO_FDES: &str = "14000000 00000000 01 7a5200 01 78 10 01 1b 0c0708 9001 0000 \
+pub(crate) const TWO_FDES: &str = "14000000 00000000 01 7a5200 01 78 10 01 1b 0c0708 9001 0000 \
      18000000 1c000000 e0efffff 20000000 00 41 0e10 8602 43 0d06 000000 \
      18000000 38000000 c4efffff 20000000 00 41 0e10 8602 43 0d06 000000 00000000";
 
@@ -184,32 +184,6 @@ fn index_of_debug_frame(rt: HostRuntime) -> Result<(), Fail> {
     let index = DwarfCfiIndex::try_new_debug_frame(rt.alloc(), section.bytes(), &mut sections)?;
     assert_eq!(rt; index.fde_offset_for_relative_address(0x1000), Some(20));
     assert_eq!(rt; index.fde_offset_for_relative_address(0xfff), None);
-    Ok(())
-}
-
-#[test]
-fn refused_indexes(rt: HostRuntime) -> Result<(), Fail> {
-    let section = bytes(rt.alloc(), ONE_FDE)?;
-    let mut sections = Sections {
-        base_svma: 0x1001,
-        eh_frame: 0x2000,
-    };
-    let index = DwarfCfiIndex::try_new_eh_frame(rt.alloc(), section.bytes(), &mut sections);
-    assert_eq!(rt;
-        index.err(),
-        Some(DwarfCfiIndexError::CouldNotSubtractBaseAddress)
-    );
-
-    let mut section = bytes(rt.alloc(), ONE_FDE)?;
-    assert!(rt; section.len() > 8);
-    section[8] = 2;
-    let mut sections = Sections {
-        base_svma: 0,
-        eh_frame: 0x2000,
-    };
-    let index = DwarfCfiIndex::try_new_eh_frame(rt.alloc(), section.bytes(), &mut sections);
-    let unknown = DwarfCfiIndexError::Gimli(ReadError::UnknownVersion);
-    assert_eq!(rt; index.err(), Some(unknown));
     Ok(())
 }
 

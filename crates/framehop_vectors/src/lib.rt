@@ -4,6 +4,8 @@
 #[cfg(test)]
 mod asked_names;
 #[cfg(test)]
+mod bad_entries;
+#[cfg(test)]
 mod call_frames;
 #[cfg(test)]
 mod call_frames_aarch64;
