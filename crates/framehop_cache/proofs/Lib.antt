@@ -1,1 +1,1 @@
-mod Slots
+mod SetLemmas

@@ -97,7 +97,7 @@ total_of stats = min (stats.hit_count + misses_of stats) (2 ^ 64 - 1)
 
 -- how many entries a set holds
 abbrev pub ways : ℕ
-ways = 1
+ways = 2
 
 -- a cache as it is made
 abbrev pub no_stats : CacheStats

@@ -1,46 +1,53 @@
 //! The cache of unwind rules by address, generation and kind of frame, and its counts.
-ghost use Rattle.std.specs.Prelude.{◌≡◌, ◌^◌, ◌-◌, ◌+◌, min, true, IfOk};
-ghost use Rattle.framehop_cache.specs.Cache.{Key, counted, empty_cache, no_stats, found, inserted, misses_of, total_of, set_number, ways};
+ghost use Rattle.std.specs.Prelude.{◌≡◌, ◌^◌, ◌-◌, ◌+◌, ◌∷◌, [], ◌==◌, nat_le, min, true, IfOk, IfSome, length, find};
+ghost use Rattle.std.specs.List.{list_any};
+ghost use Rattle.framehop_cache.specs.Cache.{Key, counted, empty_cache, no_stats, found, inserted, inserted_in, misses_of, same_key, total_of, set_number, ways};
 ghost use Rattle.framehop_cache.specs.CacheResult.{result_of, HitRuns};
+ghost use Rattle.framehop_cache.specs.CacheSet.{entry_of, entries_of_slot, entries_of, rule_found, IsSet};
 
 use framehop_core::unwind_rule::UnwindRule;
 use std::alloc::{AllocError, Global};
 use std::marker::Model;
 
-/// How many slots the cache has.
-pub const CACHE_ENTRY_COUNT: usize = 509;
+/// How many sets the cache has.
+pub const CACHE_SET_COUNT: usize = 509;
 
 /// A cache of unwind rules by lookup address (AVMA), generation of the unwinder's modules, and
-/// kind of frame. It has 509 slots, of which an address has one.
+/// kind of frame. It has 509 sets of two entries; an address has its entries in one of them.
 #[derive(Drop)]
 pub struct RuleCache<R: UnwindRule> {
-    entries: Vec<Option<CacheEntry<R>>>,
+    sets: Vec<CacheSet<R>>,
     stats: CacheStats,
 }
 
 impl<R: UnwindRule> Model for RuleCache<R> {
-    ghost use Rattle.std.specs.Prelude.{◌≡◌, ℕ, map, length, true, Some, slice_get};
+    ghost use Rattle.std.specs.Prelude.{◌≡◌, map, length};
+    ghost use Rattle.std.specs.List.{All};
     ghost use Rattle.framehop_cache.specs.Cache.{CacheView, set_count};
 
     ghost Value = { CacheView R };
 
-    ghost use Rattle.framehop_cache.specs.CacheEntry.{set_of_slot};
+    ghost use Rattle.framehop_cache.specs.CacheSet.{entries_of, IsSet};
 
-    ghost view = { λ c. record { sets = map set_of_slot c.entries.items; stats = c.stats } };
+    ghost view = { λ c. record { sets = map entries_of c.sets.items; stats = c.stats } };
 
-    ghost invariant = { λ c. (length c.entries.items ≡ set_count)
-        × ((slot : ℕ) (entry : _) → slice_get c.entries.items slot ≡ Some (Some entry) → R.executable entry.unwind_rule ≡ true) };
+    ghost invariant = { λ c. (length c.sets.items ≡ set_count)
+        × All (IsSet R.executable) c.sets.items };
 }
 
 impl<R: UnwindRule> RuleCache<R> {
-    /// A cache with 509 empty slots. Refused where the memory for them is.
+    /// A cache with 509 empty sets. Refused where the memory for them is.
     pub fn new(alloc: Global) -> Result<Self, AllocError>
         ensures { IfOk result (λ cache. cache ≡ empty_cache) }
     {
-        let mut entries = Vec::new(alloc);
-        entries.resize(CACHE_ENTRY_COUNT, None)?;
+        let mut sets = Vec::new(alloc);
+        let empty = CacheSet {
+            newest: Slot::Empty,
+            older: Slot::Empty,
+        };
+        sets.resize(CACHE_SET_COUNT, empty)?;
         Ok(RuleCache {
-            entries,
+            sets,
             stats: CacheStats::new(),
         })
     }
@@ -48,6 +55,7 @@ impl<R: UnwindRule> RuleCache<R> {
     /// Looks for the rule of a lookup address (AVMA), and counts the lookup. A handle for
     /// [`RuleCache::insert`] comes where there is none.
     #[inline]
+    #[tactic(auto, using(crate::proofs::SetLemmas::missed, crate::proofs::SetLemmas::set_at))]
     pub fn lookup(
         &mut self,
         address: u64,
@@ -62,35 +70,27 @@ impl<R: UnwindRule> RuleCache<R> {
             (found ways self.old.sets (record { address = address; generation = modules_generation; is_first_frame = is_first_frame })) }
         ensures total { total_of self.new.stats ≡ min (total_of self.old.stats + 1) (2 ^ 64 - 1) }
     {
-        let slot = (address % CACHE_ENTRY_COUNT as u64) as u16;
-        match &self.entries[slot as usize] {
-            None => {
-                self.stats.miss_empty_slot_count = self
-                    .stats
-                    .miss_empty_slot_count
-                    .saturating_add(1);
-            }
-            Some(entry) => {
-                if entry.modules_generation == modules_generation {
-                    if entry.address == address && entry.is_first_frame == is_first_frame {
-                        let unwind_rule = entry.unwind_rule;
-                        self.stats.hit_count = self.stats.hit_count.saturating_add(1);
-                        return CacheResult::Hit(unwind_rule);
-                    }
-                    self.stats.miss_wrong_address_count = self
-                        .stats
-                        .miss_wrong_address_count
-                        .saturating_add(1);
-                } else {
-                    self.stats.miss_wrong_modules_count = self
-                        .stats
-                        .miss_wrong_modules_count
-                        .saturating_add(1);
-                }
-            }
+        let number = (address % CACHE_SET_COUNT as u64) as u16;
+        let set = &self.sets[number as usize];
+        if let Some(unwind_rule) = set.find(address, modules_generation, is_first_frame) {
+            self.stats.hit_count = self.stats.hit_count.saturating_add(1);
+            return CacheResult::Hit(unwind_rule);
+        }
+        if !set.is_full() {
+            self.stats.miss_empty_slot_count = self.stats.miss_empty_slot_count.saturating_add(1);
+        } else if set.has_generation(modules_generation) {
+            self.stats.miss_wrong_address_count = self
+                .stats
+                .miss_wrong_address_count
+                .saturating_add(1);
+        } else {
+            self.stats.miss_wrong_modules_count = self
+                .stats
+                .miss_wrong_modules_count
+                .saturating_add(1);
         }
         CacheResult::Miss(CacheHandle {
-            slot,
+            set: number,
             address,
             modules_generation,
             is_first_frame,
@@ -99,23 +99,25 @@ impl<R: UnwindRule> RuleCache<R> {
 }
 
 impl<R: UnwindRule> RuleCache<R> {
-    /// Stores a rule for the lookup that gave the handle, in the place of what its slot held.
+    /// Stores a rule for the lookup that gave the handle, as the newest entry of its set. Of the
+    /// others the set keeps the newest that has another key.
+    #[tactic(auto, using(crate::proofs::SetLemmas::write_at, crate::proofs::SetLemmas::set_at))]
     pub fn insert(&mut self, handle: CacheHandle, unwind_rule: R)
         requires { R.executable unwind_rule ≡ true }
         ensures { self.new ≡ record self.old { sets = inserted ways self.old.sets (record { key = handle; rule = unwind_rule }) } }
     {
         let CacheHandle {
-            slot,
+            set,
             address,
             modules_generation,
             is_first_frame,
         } = handle;
-        self.entries[slot as usize] = Some(CacheEntry {
+        let entry = CacheEntry {
             address,
             modules_generation,
-            is_first_frame,
             unwind_rule,
-        });
+        };
+        self.sets[set as usize].insert(entry, is_first_frame);
     }
 
     /// A snapshot of the counts.
@@ -133,10 +135,10 @@ pub enum CacheResult<R> {
     Hit(R),
 }
 
-/// The key and the slot of a lookup that missed.
+/// The key of a lookup that missed, and the number of its set.
 #[derive(Drop)]
 pub struct CacheHandle {
-    slot: u16,
+    set: u16,
     address: u64,
     modules_generation: u64,
     is_first_frame: bool,
@@ -150,14 +152,131 @@ impl Model for CacheHandle {
 
     ghost view = { λ h. record { address = h.address; generation = h.modules_generation; is_first_frame = h.is_first_frame } };
 
-    ghost invariant = { λ h. h.slot ≡ set_number h.address };
+    ghost invariant = { λ h. h.set ≡ set_number h.address };
+}
+
+/// The entries of the addresses of one remainder. The older slot is empty where the newest is.
+#[derive(Clone, Copy, Debug)]
+struct CacheSet<R> {
+    newest: Slot<R>,
+    older: Slot<R>,
+}
+
+impl<R: UnwindRule> CacheSet<R> {
+    /// The rule that is stored under a key.
+    #[inline(always)]
+    fn find(&self, address: u64, modules_generation: u64, is_first_frame: bool) -> Option<R>
+        ensures answer { let key : Key = record { address = address; generation = modules_generation; is_first_frame = is_first_frame } in
+            result ≡ rule_found (find (λ entry. same_key entry.key key) (entries_of self.now)) }
+        ensures runnable { IsSet R.executable self.now → IfSome result (λ rule. R.executable rule ≡ true) }
+    {
+        match self
+            .newest
+            .find(address, modules_generation, is_first_frame)
+        {
+            Some(unwind_rule) => Some(unwind_rule),
+            None => self.older.find(address, modules_generation, is_first_frame),
+        }
+    }
+
+    /// Whether the set has no room without dropping an entry.
+    #[inline(always)]
+    fn is_full(&self) -> bool
+        requires { IsSet R.executable self.now }
+        ensures { result ≡ nat_le ways (length (entries_of self.now)) }
+    {
+        !matches!(self.older, Slot::Empty)
+    }
+
+    /// Whether an entry has the generation.
+    #[inline(always)]
+    fn has_generation(&self, modules_generation: u64) -> bool
+        ensures { result ≡ list_any (λ entry. entry.key.generation == modules_generation) (entries_of self.now) }
+    {
+        self.newest.has_generation(modules_generation)
+            || self.older.has_generation(modules_generation)
+    }
+
+    /// Stores an entry, of a first frame or a caller's, as the newest. An entry of the same key is
+    /// replaced, else the older one is dropped.
+    #[inline(always)]
+    fn insert(&mut self, entry: CacheEntry<R>, is_first_frame: bool)
+        requires runnable { R.executable entry.unwind_rule ≡ true }
+        requires set { IsSet R.executable self.old }
+        ensures stored { entries_of self.new ≡ inserted_in ways (entry_of is_first_frame entry) (entries_of self.old) }
+        ensures set { IsSet R.executable self.new }
+    {
+        if self
+            .newest
+            .find(entry.address, entry.modules_generation, is_first_frame)
+            .is_none()
+        {
+            self.older = self.newest;
+        }
+        self.newest = Slot::new(entry, is_first_frame);
+    }
+}
+
+/// A slot: empty, or with the rule of a frame that is a first one or a caller's.
+#[derive(Clone, Copy, Debug)]
+enum Slot<R> {
+    Empty,
+    FirstFrame(CacheEntry<R>),
+    CallerFrame(CacheEntry<R>),
+}
+
+impl<R: UnwindRule> Slot<R> {
+    /// The slot that holds the entry of a frame that is a first one, or a caller's.
+    #[inline(always)]
+    fn new(entry: CacheEntry<R>, is_first_frame: bool) -> Self
+        ensures { entries_of_slot result ≡ entry_of is_first_frame entry ∷ [] }
+    {
+        if is_first_frame {
+            Slot::FirstFrame(entry)
+        } else {
+            Slot::CallerFrame(entry)
+        }
+    }
+
+    /// The rule that is stored under a key.
+    #[inline(always)]
+    fn find(&self, address: u64, modules_generation: u64, is_first_frame: bool) -> Option<R>
+        ensures { let key : Key = record { address = address; generation = modules_generation; is_first_frame = is_first_frame } in
+            result ≡ rule_found (find (λ entry. same_key entry.key key) (entries_of_slot self.now)) }
+    {
+        let (entry, is_entry_of_first_frame) = match self {
+            Slot::Empty => return None,
+            Slot::FirstFrame(entry) => (entry, true),
+            Slot::CallerFrame(entry) => (entry, false),
+        };
+        if entry.address == address
+            && entry.modules_generation == modules_generation
+            && is_entry_of_first_frame == is_first_frame
+        {
+            Some(entry.unwind_rule)
+        } else {
+            None
+        }
+    }
+
+    /// Whether the slot holds an entry of the generation.
+    #[inline(always)]
+    fn has_generation(&self, modules_generation: u64) -> bool
+        ensures { result ≡ list_any (λ entry. entry.key.generation == modules_generation) (entries_of_slot self.now) }
+    {
+        match self {
+            Slot::Empty => false,
+            Slot::FirstFrame(entry) | Slot::CallerFrame(entry) => {
+                entry.modules_generation == modules_generation
+            }
+        }
+    }
 }
 
 #[derive(Clone, Copy, Debug)]
 struct CacheEntry<R> {
     address: u64,
     modules_generation: u64,
-    is_first_frame: bool,
     unwind_rule: R,
 }
 
@@ -167,7 +286,7 @@ pub struct CacheStats {
     /// How many lookups hit.
     pub hit_count: u64,
 
-    /// How many lookups missed at an empty slot.
+    /// How many lookups missed at a set with an empty slot.
     pub miss_empty_slot_count: u64,
 
     /// How many lookups missed at a slot whose generation was another than the unwinder's: its

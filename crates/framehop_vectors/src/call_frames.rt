@@ -332,13 +332,39 @@ fn takes_another_rule_for_another_module(rt: HostRuntime) -> Result<(), Fail> {
         Do::Add(0, 0x1000, 0x2100, NO_SECTIONS),
         step_at_start(0),
         Do::Stats(0),
+        Do::Remove(0, 0x1000),
+        step_at_start(0),
+        Do::Stats(0),
     ];
     replies_are(
         &rt,
         rt.alloc(),
         &commands,
         "made 0\ndone\n100300 sp=18 bp=20\ndone\ndone\n100200 sp=30 bp=40\n\
-         hits=0 empty=1 modules=1 address=0\n",
+         hits=0 empty=2 modules=0 address=0\n\
+         done\n100200 sp=30 bp=40\nhits=0 empty=2 modules=1 address=0\n",
+    )
+}
+
+/// Three addresses of one set, which keeps the last two that were stored: a lookup that hits does not make its
+/// entry the newest.
+#[test]
+fn keeps_the_last_two_of_a_set(rt: HostRuntime) -> Result<(), Fail> {
+    let commands = [
+        Do::New,
+        step(0, 0x1000, 0x10, 0, 0, &STACK),
+        step(0, 0x11fd, 0x10, 0, 0, &STACK),
+        step(0, 0x1000, 0x10, 0, 0, &STACK),
+        step(0, 0x13fa, 0x10, 0, 0, &STACK),
+        step(0, 0x1000, 0x10, 0, 0, &STACK),
+        Do::Stats(0),
+    ];
+    replies_are(
+        &rt,
+        rt.alloc(),
+        &commands,
+        "made 0\nroot sp=10 bp=0\nroot sp=10 bp=0\nroot sp=10 bp=0\nroot sp=10 bp=0\nroot sp=10 bp=0\n\
+         hits=1 empty=2 modules=0 address=2\n",
     )
 }
 
@@ -605,7 +631,7 @@ fn clones_unwind_alike(rt: HostRuntime) -> Result<(), Fail> {
         rt.alloc(),
         &commands,
         "made 0\ndone\nmade 1\n100300 sp=18 bp=20\n100300 sp=18 bp=20\ndone\n100200 sp=30 bp=40\n\
-         100300 sp=18 bp=20\nhits=1 empty=1 modules=2 address=0\n",
+         100300 sp=18 bp=20\nhits=2 empty=2 modules=0 address=0\n",
     )
 }
 
@@ -632,7 +658,7 @@ fn clones_change_apart(rt: HostRuntime) -> Result<(), Fail> {
         rt.alloc(),
         &commands,
         "made 0\ndone\nmade 1\n100200 sp=30 bp=40\ndone\n100300 sp=18 bp=20\n100200 sp=30 bp=40\ndone\ndone\n\
-         100300 sp=18 bp=20\ndone\n100200 sp=30 bp=40\nhits=0 empty=1 modules=4 address=0\n",
+         100300 sp=18 bp=20\ndone\n100200 sp=30 bp=40\nhits=1 empty=2 modules=2 address=0\n",
     )
 }
 
@@ -653,7 +679,7 @@ fn takes_the_newest_of_equal_starts(rt: HostRuntime) -> Result<(), Fail> {
         rt.alloc(),
         &commands,
         "made 0\ndone\ndone\n100300 sp=18 bp=20\ndone\n100200 sp=30 bp=40\n\
-         hits=0 empty=1 modules=1 address=0\n",
+         hits=0 empty=2 modules=0 address=0\n",
     )
 }
 

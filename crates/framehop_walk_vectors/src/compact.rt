@@ -12,6 +12,7 @@ const FUNCTION: &str = r#"{"arch":"x86_64","policy":"POLICY","caches":1,"command
  "segments":[]},
 {"do":"step","unwinder":0,"cache":0,FIRST,STACK},
 {"do":"step","unwinder":0,"cache":0,"kind":"ra","address":"RETURN",STACK},
+{"do":"stats","cache":0},
 {"do":"step","unwinder":0,"cache":0,"kind":"ra","address":"RETURN",STACK},
 {"do":"stats","cache":0}]}"#;
 
@@ -24,19 +25,10 @@ const FRAME_BASED_REPLIES: &str = "new 0\nadd\n\
     regs ip=100300 rax=0 rdx=0 rcx=0 rbx=0 rsi=0 rdi=0 rbp=20 rsp=18 r8=0 r9=0 r10=0 r11=0 r12=0 r13=0 r14=0 r15=0\n\
     step 100200\n\
     regs ip=100200 rax=0 rdx=0 rcx=0 rbx=0 rsi=0 rdi=0 rbp=40 rsp=30 r8=0 r9=0 r10=0 r11=0 r12=0 r13=0 r14=0 r15=0\n\
+    stats hits=0 empty=2 modules=0 address=0\n\
     step 100200\n\
     regs ip=100200 rax=0 rdx=0 rcx=0 rbx=0 rsi=0 rdi=0 rbp=40 rsp=30 r8=0 r9=0 r10=0 r11=0 r12=0 r13=0 r14=0 r15=0\n\
     stats hits=1 empty=2 modules=0 address=0\n";
-
-/// The same where all steps are at the function's start, in one slot of the cache.
-const START_REPLIES: &str = "new 0\nadd\n\
-    step 100300\n\
-    regs ip=100300 rax=0 rdx=0 rcx=0 rbx=0 rsi=0 rdi=0 rbp=20 rsp=18 r8=0 r9=0 r10=0 r11=0 r12=0 r13=0 r14=0 r15=0\n\
-    step 100200\n\
-    regs ip=100200 rax=0 rdx=0 rcx=0 rbx=0 rsi=0 rdi=0 rbp=40 rsp=30 r8=0 r9=0 r10=0 r11=0 r12=0 r13=0 r14=0 r15=0\n\
-    step 100200\n\
-    regs ip=100200 rax=0 rdx=0 rcx=0 rbx=0 rsi=0 rdi=0 rbp=40 rsp=30 r8=0 r9=0 r10=0 r11=0 r12=0 r13=0 r14=0 r15=0\n\
-    stats hits=1 empty=1 modules=0 address=1\n";
 
 /// 24 bytes of stack with rbp 16 bytes below the caller's rsp.
 const FRAMELESS_REPLIES: &str = "new 0\nadd\n\
@@ -44,6 +36,7 @@ const FRAMELESS_REPLIES: &str = "new 0\nadd\n\
     regs ip=100300 rax=0 rdx=0 rcx=0 rbx=0 rsi=0 rdi=0 rbp=20 rsp=18 r8=0 r9=0 r10=0 r11=0 r12=0 r13=0 r14=0 r15=0\n\
     step 40\n\
     regs ip=40 rax=0 rdx=0 rcx=0 rbx=0 rsi=0 rdi=0 rbp=4 rsp=28 r8=0 r9=0 r10=0 r11=0 r12=0 r13=0 r14=0 r15=0\n\
+    stats hits=0 empty=2 modules=0 address=0\n\
     step 40\n\
     regs ip=40 rax=0 rdx=0 rcx=0 rbx=0 rsi=0 rdi=0 rbp=4 rsp=28 r8=0 r9=0 r10=0 r11=0 r12=0 r13=0 r14=0 r15=0\n\
     stats hits=1 empty=2 modules=0 address=0\n";
@@ -77,7 +70,7 @@ fn unwinds_by_the_frame_pointer_that_an_opcode_names(rt: HostRuntime) -> Result<
 /// The rule of a first frame at the function's start is not that of a caller whose call begins there.
 #[test]
 fn stores_a_rule_for_one_kind_of_frame(rt: HostRuntime) -> Result<(), Fail> {
-    opcode_prints_at(&rt, rt.alloc(), "00000001", "101001", START_REPLIES)
+    opcode_prints_at(&rt, rt.alloc(), "00000001", "101001", FRAME_BASED_REPLIES)
 }
 
 #[test]
