@@ -4,6 +4,7 @@ pub mod Bytes
 pub mod Context
 pub mod Entries
 pub mod Entry
+pub mod AugmentationMeaning
 pub mod EntryMeaning
 pub mod ExplicitSections
 pub mod Header
