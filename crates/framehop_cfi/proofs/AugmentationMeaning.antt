@@ -1,21 +1,20 @@
 -- Reading a CIE's augmentation letter by letter gives what its text says.
-use Rattle.std.proofs.Common.{◌≡◌, ℕ, zero, suc, ◌+◌, ◌-◌, ◌*◌, ◌/◌, ◌%◌, ◌^◌, ◌<◌, ◌≤◌, ◌≢◌, ◌⊎◌, Bool, true, false, List, [], ◌∷◌, ◌++◌, length, take, drop, get_or, map, slice_range, Some, Result, Ok, Err, ℤ, refl, ap, sym, subst, ◌∙◌, inl, inr, arith, leb, ltb, ◌==◌, ◌||◌, if◌then◌else◌, append_assoc, length-append, length-drop, get_or-drop, add-one}
+use Rattle.std.proofs.Common.{◌≡◌, ℕ, zero, suc, ◌+◌, ◌-◌, ◌*◌, ◌%◌, ◌^◌, ◌<◌, ◌≤◌, ◌≢◌, ◌⊎◌, Bool, true, false, List, [], ◌∷◌, ◌++◌, length, take, drop, get_or, map, slice_range, Some, Result, Ok, ℤ, refl, ap, sym, subst, ◌∙◌, inl, inr, arith, leb, ltb, ◌==◌, ◌||◌, if◌then◌else◌, append_assoc, length-append, length-drop, get_or-drop, add-one}
 use Rattle.std.proofs.Math.Seq.{drop-append_seam, drop-nil}
-use Rattle.std.proofs.lemmas.Bool.{cases_Bool, cases_lt, eqb-true, eq-eqb, lt-leb, le-leb}
+use Rattle.std.proofs.lemmas.Bool.{cases_Bool, cases_lt, eqb-true, eq-eqb, le-leb}
 use Rattle.std.proofs.lemmas.Bool.Decides.{nat_tests}
-use Rattle.std.proofs.lemmas.List.{take-append-drop, get_or-take, get_or_append_left, drop_more, drop-take, length-take-le}
+use Rattle.std.proofs.lemmas.List.{take-append-drop, get_or_append_left, drop_more, drop-take, length-take-le}
 use Rattle.std.specs.Int.{cast_unsigned, w64}
 use Rattle.std.specs.List.{flat_map, last_or, AllByRecursion}
-use Rattle.framehop_cfi.specs.Bytes.{Reading, ◌>>=◌, sized_at, le2, le4, le8, u8_at, u16_at, u32_at, u64_at}
+use Rattle.framehop_cfi.specs.Bytes.{◌>>=◌, sized_at, le2, le4, le8, u8_at, u16_at, u32_at, u64_at}
 use Rattle.framehop_cfi.specs.Leb128.{continued, sum_of_groups, groups_at, uleb_at, sleb_at, with_sign, fits_i64}
 use Rattle.framehop_cfi.specs.Raw.{raw_at, format_of, sign_extended}
 use Rattle.framehop_cfi.specs.Pointer.{pointer_at, base_of, application_of}
-use Rattle.framehop_cfi.specs.Augmentation.{counted_at, unchanged_after, personality_at, letter_at, letters_at, augmentation_data, augmentation_at}
-use Rattle.framehop_cfi.specs.AugmentationMeaning.{IsUleb, IsSleb, IsPointer, of_two, of_four, of_eight, of_uleb, of_sleb, CountsFromKnown, AreArguments, of_r, of_l, of_p, of_p_without, of_flag, Lettered, encodings_of, Says, HasData, HasNoData, HasAugmentation}
+use Rattle.framehop_cfi.specs.Augmentation.{counted_at, personality_at, letter_at, letters_at, augmentation_data, augmentation_at}
+use Rattle.framehop_cfi.specs.AugmentationMeaning.{IsPointer, of_two, of_four, of_eight, of_uleb, of_sleb, CountsFromKnown, AreArguments, of_r, of_l, of_p, of_p_without, of_flag, Lettered, encodings_of, HasData, HasNoData, HasAugmentation}
 use Rattle.framehop_cfi.specs.declared.augmentation.Augmentation.{Augmentation}
 use Rattle.framehop_cfi.specs.declared.pointer.SectionBaseAddresses.{SectionBaseAddresses}
 use Rattle.framehop_cfi.specs.declared.read_error.ReadError.{ReadError}
-use Rattle.framehop_cfi.specs.declared.read_error.ReadError.TheVariants.{Eof, BadEncoding, UnknownAugmentation}
 use Rattle.framehop_cfi.proofs.Leb.{groups-last}
 use Rattle.framehop_cfi.proofs.Spans.{bind_ok}
 
@@ -35,9 +34,10 @@ drop-drop (suc n) m (x ∷ xs) =
 between : (bytes : List ℕ) (at n : ℕ) → at + n ≤ length bytes
     → (length (take n (drop at bytes)) ≡ n) × (drop at bytes ≡ take n (drop at bytes) ++ drop (at + n) bytes)
 between bytes at n within =
-    let enough : n ≤ length (drop at bytes) = rw length-drop (omega arith) in
-    (length-take-le n (drop at bytes) enough,
-    sym (take-append-drop n (drop at bytes)) ∙ ap (λ xs. take n (drop at bytes) ++ xs) (drop-drop at n bytes))
+    let enough : n ≤ length (drop at bytes) = rw length-drop (omega arith) in (
+      length-take-le n (drop at bytes) enough,
+      sym (take-append-drop n (drop at bytes)) ∙ ap (λ xs. take n (drop at bytes) ++ xs) (drop-drop at n bytes),
+    )
 
 -- bytes in front lie in the whole
 fits : (front more bytes : List ℕ) (at : ℕ) → drop at bytes ≡ front ++ more → 0 < length front
@@ -142,9 +142,11 @@ leb-front bytes at read next g =
     let moved =
     groups-moved bytes front at 0 read next n g ends
     (λ k below. same-bytes front (drop (at + n) bytes) bytes at b.1 k (omega (arith, b.0))
-    ∙ (let same : k ≡ 0 + k = omega arith in ap (λ j. get_or front j 0) same)) (omega (arith, b.0)) in
-    (front, (b.1 ∙ ap (λ k. front ++ drop k bytes) (sym ends), ends ∙ ap (λ k. at + k) (sym b.0)),
-    moved ∙ ap (λ k. Ok (read, k)) size)
+    ∙ (let same : k ≡ 0 + k = omega arith in ap (λ j. get_or front j 0) same)) (omega (arith, b.0)) in (
+      front,
+      (b.1 ∙ ap (λ k. front ++ drop k bytes) (sym ends), ends ∙ ap (λ k. at + k) (sym b.0)),
+      moved ∙ ap (λ k. Ok (read, k)) size,
+    )
 
 leb-back : (front more bytes : List ℕ) (at : ℕ) (read : ℕ × ℕ) → groups_at front 0 ≡ Ok (read, length front)
     → drop at bytes ≡ front ++ more → groups_at bytes at ≡ Ok (read, at + length front)
@@ -395,9 +397,10 @@ unfolding pointer_at
 pointer-front bases encoding bytes at read is =
     let base = bind_ok (base_of bases at (application_of encoding)) _ read is in
     let raw = bind_ok (raw_at (format_of encoding) bytes at) _ read base.2 in
-    let same = ap (λ r. r.1) (one-reading ((base.0 + raw.0.0) % 2 ^ 64, raw.0.1) read raw.2) in
-    (pointed-to encoding bytes at raw.0.1 read.1 same (raw-front encoding bytes at raw.0 raw.1),
-    known-base bases at (application_of encoding) base.0 base.1)
+    let same = ap (λ r. r.1) (one-reading ((base.0 + raw.0.0) % 2 ^ 64, raw.0.1) read raw.2) in (
+      pointed-to encoding bytes at raw.0.1 read.1 same (raw-front encoding bytes at raw.0 raw.1),
+      known-base bases at (application_of encoding) base.0 base.1,
+    )
 
 pointer-back : (bases : SectionBaseAddresses) (encoding : ℕ) (front more bytes : List ℕ) (at : ℕ)
     → CountsFromKnown encoding → IsPointer encoding front → drop at bytes ≡ front ++ more
@@ -460,10 +463,11 @@ personality-front bases letter bytes at read p is =
           let front = pointer.0.0 in
           let apart : encoding.0.0 ≢ 255 = (λ e. (let t = eq-eqb encoding.0.0 255 e in absurd cc)) in
           let ends = pointer.0.1.1 in
-          let first = byte.1 in
-          (encoding.0.0 ∷ front,
-          (byte.0 ∙ ap (λ xs. encoding.0.0 ∷ xs) pointer.0.1.0, omega (arith, first, ends)),
-          of_p encoding.0.0 front p refl apart pointer.1 pointer.0.2)
+          let first = byte.1 in (
+            encoding.0.0 ∷ front,
+            (byte.0 ∙ ap (λ xs. encoding.0.0 ∷ xs) pointer.0.1.0, omega (arith, first, ends)),
+            of_p encoding.0.0 front p refl apart pointer.1 pointer.0.2,
+          )
     ]
 
 letter-front : (bases : SectionBaseAddresses) (letter : ℕ) (bytes : List ℕ) (at before : ℕ) (read : ℕ × ℕ)
@@ -478,29 +482,35 @@ letter-front bases letter bytes at before read is =
           (let none : ((if letter == 82 then front else []) ++ xs) ≡ xs = rw no_r refl in
           ap (last_or (Some before)) none ∙ ap (λ n. last_or (Some n) xs) same) in
           elim (cases_Bool (letter == 76)) [
-        | inl l ↦
-            let x = bind_ok (u8_at bytes at) _ read (rw l at is_l) in
-            let same = one-reading (before, x.0.1) read x.2 in
-            let f = byte-front bytes at x.0 x.1 in
-            (x.0.0 ∷ [], subst (Fronts (x.0.0 ∷ []) bytes at) (ap (λ r. r.1) same) f,
-            of_l x.0.0 (eqb-true letter 76 l) refl, kept (x.0.0 ∷ []) (ap (λ r. r.0) same))
-        | inr no_l ↦ (let is_p = rw no_l at is_l in elim (cases_Bool (letter == 80)) [
-          | inl p ↦
-              let x = bind_ok (personality_at bases bytes at) _ read (rw p at is_p) in
-              let same = one-reading (before, x.0.1) read x.2 in
-              let f = personality-front bases letter bytes at x.0 (eqb-true letter 80 p) x.1 in
-              (f.0, subst (Fronts f.0 bytes at) (ap (λ r. r.1) same) f.1, f.2, kept f.0 (ap (λ r. r.0) same))
-          | inr no_p ↦ (let is_flag = rw no_p at is_p in
-              elim (cases_Bool ((letter == 83) || (letter == 66) || (letter == 71))) [
-            | inl flag ↦
-                let same = one-reading (before, at) read (rw flag at is_flag) in
-                let here : Fronts [] bytes at at = (refl, omega arith) in
-                ([], subst (Fronts [] bytes at) (ap (λ r. r.1) same) here,
-                of_flag (one-of letter 83 66 71 flag) refl, kept [] (ap (λ r. r.0) same))
-            | inr no_flag ↦ (let e = rw no_flag at is_flag in cc)
+            | inl l ↦
+                let x = bind_ok (u8_at bytes at) _ read (rw l at is_l) in
+                let same = one-reading (before, x.0.1) read x.2 in
+                let f = byte-front bytes at x.0 x.1 in (
+                  x.0.0 ∷ [],
+                  subst (Fronts (x.0.0 ∷ []) bytes at) (ap (λ r. r.1) same) f,
+                  of_l x.0.0 (eqb-true letter 76 l) refl,
+                  kept (x.0.0 ∷ []) (ap (λ r. r.0) same),
+                )
+            | inr no_l ↦ (let is_p = rw no_l at is_l in elim (cases_Bool (letter == 80)) [
+              | inl p ↦
+                  let x = bind_ok (personality_at bases bytes at) _ read (rw p at is_p) in
+                  let same = one-reading (before, x.0.1) read x.2 in
+                  let f = personality-front bases letter bytes at x.0 (eqb-true letter 80 p) x.1 in
+                  (f.0, subst (Fronts f.0 bytes at) (ap (λ r. r.1) same) f.1, f.2, kept f.0 (ap (λ r. r.0) same))
+              | inr no_p ↦ (let is_flag = rw no_p at is_p in
+                  elim (cases_Bool ((letter == 83) || (letter == 66) || (letter == 71))) [
+                    | inl flag ↦
+                        let same = one-reading (before, at) read (rw flag at is_flag) in
+                        let here : Fronts [] bytes at at = (refl, omega arith) in (
+                          [],
+                          subst (Fronts [] bytes at) (ap (λ r. r.1) same) here,
+                          of_flag (one-of letter 83 66 71 flag) refl,
+                          kept [] (ap (λ r. r.0) same),
+                        )
+                    | inr no_flag ↦ (let e = rw no_flag at is_flag in cc)
+                  ])
+            ])
           ])
-        ])
-      ])
     ]
 
 -- what reading a letter leaves, where its arguments are in front
@@ -546,9 +556,11 @@ letter-back : (bases : SectionBaseAddresses) (letter : ℕ) (front more bytes : 
     → AreArguments letter front → drop at bytes ≡ front ++ more → IsLetterRead bases letter front bytes at before
 letter-back bases letter front more bytes at before (of_r encoding l is) there =
     let byte = byte-back encoding more bytes at (in-front front (encoding ∷ []) more bytes at is there) in
-    letter-by bases letter 82 front bytes at before l
-    (encoding, byte ∙ ap (λ xs. Ok (encoding, at + length xs)) (sym is),
-    λ xs. ap (λ ys. last_or (Some before) (ys ++ xs)) is)
+    letter-by bases letter 82 front bytes at before l (
+      encoding,
+      byte ∙ ap (λ xs. Ok (encoding, at + length xs)) (sym is),
+      λ xs. ap (λ ys. last_or (Some before) (ys ++ xs)) is,
+    )
 letter-back bases letter front more bytes at before (of_l encoding l is) there =
     let byte = byte-back encoding more bytes at (in-front front (encoding ∷ []) more bytes at is there) in
     letter-by bases letter 76 front bytes at before l

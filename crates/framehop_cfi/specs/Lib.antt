@@ -1,10 +1,11 @@
 -- What the contracts of this crate cite: from bytes to entries, instructions, rows and the header's table.
 pub mod Augmentation
+pub mod AugmentationMeaning
+pub mod ByCode
 pub mod Bytes
 pub mod Context
 pub mod Entries
 pub mod Entry
-pub mod AugmentationMeaning
 pub mod EntryMeaning
 pub mod ExplicitSections
 pub mod Header
