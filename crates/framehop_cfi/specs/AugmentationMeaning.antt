@@ -6,6 +6,8 @@
 -- `L`  one byte: how the FDEs encode the address of their language-specific data
 -- `P`  one byte: how the personality routine's address is encoded, and that address, which an encoding FF leaves out
 -- `S`, `B`, `G`  none: a signal frame, the second key of pointer authentication, tagged memory
+--
+-- The codes are `B` 66, `G` 71, `L` 76, `P` 80, `R` 82, `S` 83 and `z` 122.
 use Rattle.std.specs.Prelude.{ℕ, ◌+◌, ◌/◌, ◌%◌, ◌<◌, ◌≤◌, ◌≡◌, ◌≢◌, ◌⊎◌, true, false, List, [], ◌∷◌, ◌++◌, length, map, slice_range, Some, Ok, ℤ, ◌==◌, if◌then◌else◌}
 use Rattle.std.specs.List.{flat_map, last_or, AllByRecursion}
 use Rattle.framehop_cfi.specs.Leb128.{uleb_at, sleb_at}
@@ -48,13 +50,13 @@ Lettered = ℕ × List ℕ
 abbrev pub encodings_of : List Lettered → List ℕ
 encodings_of letters = flat_map (λ lettered. if lettered.0 == 82 then lettered.1 else []) letters
 
--- The data of the letters after `z` says how FDEs encode addresses: by the argument of `R`, of the last one if there are
--- several, and by 0 (an address of 8 bytes) without one. Bytes after the last argument say nothing.
-pub record Says (letters data_ : List ℕ) (encoding : ℕ) : Type 0 where
+-- The data of the letters after `z` says how FDEs encode addresses: by the argument of `R`, of the last one if there
+-- are several, and by 0 (an address of 8 bytes) without one. Bytes after the last argument say nothing.
+pub record Says (letters contents : List ℕ) (encoding : ℕ) : Type 0 where
   pub arguments : List Lettered
   pub more : List ℕ
   pub are_letters : map (λ (lettered : Lettered). lettered.0) arguments ≡ letters
-  pub are_data : flat_map (λ (lettered : Lettered). lettered.1) arguments ++ more ≡ data_
+  pub are_data : flat_map (λ (lettered : Lettered). lettered.1) arguments ++ more ≡ contents
   pub each : AllByRecursion (λ (lettered : Lettered). AreArguments lettered.0 lettered.1) arguments
   pub is_encoding : last_or (Some 0) (encodings_of arguments) ≡ Some encoding
 

@@ -104,7 +104,8 @@ codes_way-of_bytes sections function header address =
     (operations_from-of_bytes sections header offset) (λ operations. tt)
 
 epilog_or-of_bytes :
-    (frame : Option Reg) (found : Epilog) (other : WayOrRefusal) → IsOfBytes other → IsOfBytes (epilog_or frame found other)
+    (frame : Option Reg) (found : Epilog) (other : WayOrRefusal) → IsOfBytes other
+    → IsOfBytes (epilog_or frame found other)
 epilog_or-of_bytes frame (Some instructions) other h = tt
 epilog_or-of_bytes frame None other h = h
 

@@ -535,12 +535,14 @@ leaf-rule : rule_along (by_codes []) ≡ Some JustReturn
 unfolding rule_of_operations rule_of
 leaf-rule = refl
 
-pub leaf-found : (whole : WayOrRefusal) → whole ≡ Ok (by_codes []) → TellsFound (found_of whole) (Ok (ExecRule JustReturn))
+pub leaf-found : (whole : WayOrRefusal) → whole ≡ Ok (by_codes [])
+    → TellsFound (found_of whole) (Ok (ExecRule JustReturn))
 leaf-found whole same =
     let found : found_of whole ≡ Ok (Some JustReturn) = ap found_of same ∙ ap Ok leaf-rule in
     subst (λ f. TellsFound f (Ok (ExecRule JustReturn))) (sym found) refl
 
-pub leaf-simulated : (whole : WayOrRefusal) → whole ≡ Ok (by_codes []) → Simulates outcome (computed_of whole) JustReturn
+pub leaf-simulated : (whole : WayOrRefusal) → whole ≡ Ok (by_codes [])
+    → Simulates outcome (computed_of whole) JustReturn
 leaf-simulated whole same = λ first old new memory address answers.
     ap (λ t. computed_of t memory old) same
     ∙ Simulates-way JustReturn (by_codes []) (0, [], refl, (refl, refl)) first old new memory address answers
