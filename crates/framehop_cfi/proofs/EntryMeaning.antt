@@ -21,6 +21,7 @@ use Rattle.framehop_cfi.specs.declared.entry.FrameDescriptionEntry.{FrameDescrip
 use Rattle.framehop_cfi.specs.declared.entry.CieOrFde.{CieOrFde}
 use Rattle.framehop_cfi.specs.declared.entry.CieOrFde.TheVariants as or
 use Rattle.framehop_cfi.specs.declared.read_error.ReadError.{ReadError}
+use Rattle.framehop_cfi.proofs.AugmentationMeaning.{augmentation-means, means-augmentation}
 use Rattle.framehop_cfi.proofs.Spans.{bind_ok, id-ends}
 
 one-cie : (a b : CommonInformationEntry) → ◌≡◌ {A = Result CommonInformationEntry ReadError} (Ok a) (Ok b) → a ≡ b
@@ -34,7 +35,7 @@ one-fde a b is = cc
 
 module _ (kind : UnwindSectionType) (bases : SectionBaseAddresses) (entry : List ℕ) (end : ℕ) (cie : CommonInformationEntry) where
   -- the fields that are read, and the end that is handed on
-  fields-means : (fields : ℕ) → cie_fields kind bases entry fields end ≡ Ok cie → HasCieFields kind bases entry fields cie × (cie.end ≡ end)
+  fields-means : (fields : ℕ) → cie_fields kind bases entry fields end ≡ Ok cie → HasCieFields kind entry fields cie × (cie.end ≡ end)
   unfolding cie_fields versioned_fields alignments_at
   fields-means fields is =
       let version = bind_ok (u8_at entry fields) _ cie is in
@@ -55,7 +56,7 @@ module _ (kind : UnwindSectionType) (bases : SectionBaseAddresses) (entry : List
               instructions = augmentation.0.after_data;
               end = end;
             } in
-            let all : HasCieFields kind bases entry fields made × (made.end ≡ end) = (
+            let all : HasCieFields kind entry fields made × (made.end ≡ end) = (
               record {
                 version = version.0.0;
                 text = version.0.1;
@@ -71,21 +72,25 @@ module _ (kind : UnwindSectionType) (bases : SectionBaseAddresses) (entry : List
                 is_code_alignment = code.1;
                 is_data_alignment = factor.1;
                 is_return_register = register.1;
-                is_augmentation = augmentation.1;
+                is_augmentation = augmentation-means bases (slice_range entry version.0.1 text.0) entry register.0 augmentation.0 augmentation.1;
               },
               refl,
             ) in
             let same : made ≡ cie = one-cie made cie augmentation.2 in
-            subst (λ c. HasCieFields kind bases entry fields c × (c.end ≡ end)) same all
+            subst (λ c. HasCieFields kind entry fields c × (c.end ≡ end)) same all
         | inr unknown ↦
             let e = rw unknown at version.2 in
             cc
       ]
 
-  means-fields : (fields : ℕ) → HasCieFields kind bases entry fields cie → cie.end ≡ end → cie_fields kind bases entry fields end ≡ Ok cie
+  read-augmentation : {fields : ℕ} (f : HasCieFields kind entry fields cie) → augmentation_at bases (slice_range entry f.text f.text_end) entry f.augmentation_data ≡ Ok (record { encoding = cie.fde_pointer_encoding; has_data = cie.has_augmentation_data; after_data = cie.instructions })
+  read-augmentation f =
+      means-augmentation bases (slice_range entry f.text f.text_end) entry f.augmentation_data (record { encoding = cie.fde_pointer_encoding; has_data = cie.has_augmentation_data; after_data = cie.instructions }) f.is_augmentation
+
+  means-fields : (fields : ℕ) → HasCieFields kind entry fields cie → cie.end ≡ end → cie_fields kind bases entry fields end ≡ Ok cie
   unfolding cie_fields versioned_fields alignments_at
   means-fields fields f ends =
-      rw (f.is_version, f.known) (rw f.is_text_end (rw f.is_sizes (rw f.is_code_alignment (rw f.is_data_alignment (rw f.is_return_register (rw f.is_augmentation (ap (λ e. Ok (record cie { end = e })) (sym ends))))))))
+      rw (f.is_version, f.known) (rw f.is_text_end (rw f.is_sizes (rw f.is_code_alignment (rw f.is_data_alignment (rw f.is_return_register (rw (read-augmentation f) (ap (λ e. Ok (record cie { end = e })) (sym ends))))))))
 
 module _ (kind : UnwindSectionType) (bases : SectionBaseAddresses) (bytes : List ℕ) where
   -- an entry's head, and the span that it begins with

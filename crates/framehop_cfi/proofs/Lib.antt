@@ -6,4 +6,5 @@ pub mod Forward
 pub mod RowMeaning
 pub mod Spans
 pub mod Cut
+pub mod AugmentationMeaning
 pub mod EntryMeaning

@@ -4,12 +4,12 @@ use Rattle.framehop_cfi.specs.Bytes.{u8_at}
 use Rattle.framehop_cfi.specs.Leb128.{uleb_at, sleb_at}
 use Rattle.framehop_cfi.specs.Raw.{raw_at, format_of}
 use Rattle.framehop_cfi.specs.Pointer.{pointer_at}
-use Rattle.framehop_cfi.specs.Augmentation.{terminator_at, augmentation_at}
+use Rattle.framehop_cfi.specs.Augmentation.{terminator_at}
+use Rattle.framehop_cfi.specs.AugmentationMeaning.{HasAugmentation}
 use Rattle.framehop_cfi.specs.EntryExtent.{extent_at, is_zero_length}
 use Rattle.framehop_cfi.specs.Section.{Section}
 use Rattle.framehop_cfi.specs.Entry.{id_at, is_known_version, sizes_of, return_register_at, skipped_at}
 use Rattle.framehop_cfi.specs.declared.extent.EntryExtent.{EntryExtent}
-use Rattle.framehop_cfi.specs.declared.pointer.SectionBaseAddresses.{SectionBaseAddresses}
 use Rattle.framehop_cfi.specs.declared.entry.UnwindSectionType.{UnwindSectionType}
 use Rattle.framehop_cfi.specs.declared.entry.EntryHead.{EntryHead}
 use Rattle.framehop_cfi.specs.declared.entry.EntryHead.TheVariants.{Cie, Fde}
@@ -26,8 +26,8 @@ pub record Begins (kind : UnwindSectionType) (bytes : List ℕ) (at : ℕ) (span
   pub id : id_at kind (take span.end bytes) span ≡ Ok head
 
 -- a CIE's fields after its id, in the entry's own bytes
-pub record HasCieFields (kind : UnwindSectionType) (bases : SectionBaseAddresses) (entry : List ℕ) (fields : ℕ)
-    (cie : CommonInformationEntry) : Type 0 where
+pub record HasCieFields (kind : UnwindSectionType) (entry : List ℕ) (fields : ℕ) (cie : CommonInformationEntry)
+    : Type 0 where
   pub version : ℕ
   pub text : ℕ
   pub text_end : ℕ
@@ -42,7 +42,7 @@ pub record HasCieFields (kind : UnwindSectionType) (bases : SectionBaseAddresses
   pub is_code_alignment : uleb_at entry alignments ≡ Ok (cie.code_alignment_factor, data_alignment)
   pub is_data_alignment : sleb_at entry data_alignment ≡ Ok (cie.data_alignment_factor, return_register)
   pub is_return_register : return_register_at version entry return_register ≡ Ok augmentation_data
-  pub is_augmentation : augmentation_at bases (slice_range entry text text_end) entry augmentation_data ≡ Ok (record {
+  pub is_augmentation : HasAugmentation (slice_range entry text text_end) entry augmentation_data (record {
     encoding = cie.fde_pointer_encoding;
     has_data = cie.has_augmentation_data;
     after_data = cie.instructions;
@@ -53,7 +53,7 @@ pub record IsCie (section : Section) (at : ℕ) (cie : CommonInformationEntry) :
   pub span : EntryExtent
   pub fields : ℕ
   pub begins : Begins section.kind section.bytes at span (Cie fields span.end)
-  pub has_fields : HasCieFields section.kind section.bases (take span.end section.bytes) fields cie
+  pub has_fields : HasCieFields section.kind (take span.end section.bytes) fields cie
   pub ends : cie.end ≡ span.end
 
 -- an FDE stands at an offset, and its CIE at the offset that it names

@@ -1,6 +1,7 @@
 -- Call frame instructions (DWARF 5 section 6.4.2).
-use Rattle.std.specs.Prelude.{ℕ, ◌-◌, List, Result, Ok, Err, ℤ, pos, ◌*ℤ◌, ◌==◌, ◌||◌, ◌&&◌, nat_le, nat_lt, if◌then◌else◌}
+use Rattle.std.specs.Prelude.{ℕ, ◌-◌, List, [], ◌∷◌, Result, Ok, Err, ℤ, pos, ◌*ℤ◌, ◌==◌, ◌||◌, ◌&&◌, nat_le, nat_lt, if◌then◌else◌}
 use Rattle.framehop_cfi.specs.Bytes.{Reading, ◌>>=◌, u8_at, u16_at, u32_at}
+use Rattle.framehop_cfi.specs.ByCode.{by_code, by_test}
 use Rattle.framehop_cfi.specs.Leb128.{uleb_at, sleb_at, fits_i64}
 use Rattle.framehop_cfi.specs.Augmentation.{counted_at}
 use Rattle.framehop_cfi.specs.Pointer.{pointer_at}
@@ -61,16 +62,17 @@ expression_at bytes at = do
 -- DW_CFA_offset_extended_sf 11, DW_CFA_val_offset 14, DW_CFA_val_offset_sf 15, DW_CFA_val_expression 16
 abbrev pub rule_at : ℤ → ℕ → List ℕ → ℕ → Reading RegisterRule
 rule_at alignment code bytes at =
-    if code == 0x05 then mapped rule.Offset (factored_at alignment bytes at)
-    else (if code == 0x07 then Ok (rule.Undefined, at)
-    else (if code == 0x08 then Ok (rule.SameValue, at)
-    else (if code == 0x09 then mapped rule.Register (register_at bytes at)
-    else (if code == 0x10 then mapped rule.Expression (expression_at bytes at)
-    else (if code == 0x11 then mapped rule.Offset (factored_signed_at alignment bytes at)
-    else (if code == 0x14 then mapped rule.ValOffset (factored_at alignment bytes at)
-    else (if code == 0x15 then mapped rule.ValOffset (factored_signed_at alignment bytes at)
-    else (if code == 0x16 then mapped rule.ValExpression (expression_at bytes at)
-    else Err UnknownInstruction))))))))
+    by_code code (
+    (0x05, mapped rule.Offset (factored_at alignment bytes at))
+    ∷ (0x07, Ok (rule.Undefined, at))
+    ∷ (0x08, Ok (rule.SameValue, at))
+    ∷ (0x09, mapped rule.Register (register_at bytes at))
+    ∷ (0x10, mapped rule.Expression (expression_at bytes at))
+    ∷ (0x11, mapped rule.Offset (factored_signed_at alignment bytes at))
+    ∷ (0x14, mapped rule.ValOffset (factored_at alignment bytes at))
+    ∷ (0x15, mapped rule.ValOffset (factored_signed_at alignment bytes at))
+    ∷ (0x16, mapped rule.ValExpression (expression_at bytes at))
+    ∷ []) (Err UnknownInstruction)
 
 -- an instruction that names a register and gives it a rule
 unfoldable pub set_rule_at : ℤ → ℕ → List ℕ → ℕ → Reading CallFrameInstruction
@@ -99,13 +101,14 @@ def_cfa_factored_at alignment bytes at = do
 -- DW_CFA_def_cfa_expression 0F, DW_CFA_def_cfa_sf 12, DW_CFA_def_cfa_offset_sf 13.
 abbrev pub cfa_at : ℤ → ℕ → List ℕ → ℕ → Reading CallFrameInstruction
 cfa_at alignment code bytes at =
-    if code == 0x0C then def_cfa_at bytes at
-    else (if code == 0x0D then mapped DefCfaRegister (register_at bytes at)
-    else (if code == 0x0E then mapped DefCfaOffset (offset_at bytes at)
-    else (if code == 0x0F then mapped (λ expression. DefCfa (cfa.Expression expression)) (expression_at bytes at)
-    else (if code == 0x12 then def_cfa_factored_at alignment bytes at
-    else (if code == 0x13 then mapped DefCfaOffset (factored_signed_at alignment bytes at)
-    else Err UnknownInstruction)))))
+    by_code code (
+    (0x0C, def_cfa_at bytes at)
+    ∷ (0x0D, mapped DefCfaRegister (register_at bytes at))
+    ∷ (0x0E, mapped DefCfaOffset (offset_at bytes at))
+    ∷ (0x0F, mapped (λ expression. DefCfa (cfa.Expression expression)) (expression_at bytes at))
+    ∷ (0x12, def_cfa_factored_at alignment bytes at)
+    ∷ (0x13, mapped DefCfaOffset (factored_signed_at alignment bytes at))
+    ∷ []) (Err UnknownInstruction)
 
 -- an advance of the location by one, two or four bytes
 abbrev pub advance_at : ℕ → List ℕ → ℕ → Reading CallFrameInstruction
@@ -119,28 +122,35 @@ advance_at code bytes at =
 -- DW_CFA_GNU_args_size 2E, then those on the CFA, and those that give a register a rule.
 abbrev pub coded_at : CommonInformationEntry → SectionBaseAddresses → ℕ → List ℕ → ℕ → Reading CallFrameInstruction
 coded_at cie bases code bytes at =
-    if code == 0x00 then Ok (Nop, at)
-    else (if code == 0x2D then Ok (NegateRaState, at)
-    else (if code == 0x01 then mapped SetLoc (pointer_at bases cie.fde_pointer_encoding bytes at)
-    else (if nat_le 0x02 code && nat_le code 0x04 then advance_at code bytes at
-    else (if code == 0x06 then mapped Restore (register_at bytes at)
-    else (if code == 0x0A then Ok (RememberState, at)
-    else (if code == 0x0B then Ok (RestoreState, at)
-    else (if code == 0x2E then mapped ArgsSize (uleb_at bytes at)
-    else (if (nat_le 0x0C code && nat_le code 0x0F) || (code == 0x12) || (code == 0x13)
-    then cfa_at cie.data_alignment_factor code bytes at
-    else (if nat_le code 0x16 then set_rule_at cie.data_alignment_factor code bytes at
-    else Err UnknownInstruction)))))))))
+    by_test (
+    (code == 0x00, Ok (Nop, at))
+    ∷ (code == 0x2D, Ok (NegateRaState, at))
+    ∷ (code == 0x01, mapped SetLoc (pointer_at bases cie.fde_pointer_encoding bytes at))
+    ∷ (nat_le 0x02 code && nat_le code 0x04, advance_at code bytes at)
+    ∷ (code == 0x06, mapped Restore (register_at bytes at))
+    ∷ (code == 0x0A, Ok (RememberState, at))
+    ∷ (code == 0x0B, Ok (RestoreState, at))
+    ∷ (code == 0x2E, mapped ArgsSize (uleb_at bytes at))
+    ∷ (
+      (nat_le 0x0C code && nat_le code 0x0F) || (code == 0x12) || (code == 0x13),
+      cfa_at cie.data_alignment_factor code bytes at,
+    )
+    ∷ (nat_le code 0x16, set_rule_at cie.data_alignment_factor code bytes at)
+    ∷ []) (Err UnknownInstruction)
 
 -- an instruction that has its first operand in the byte: DW_CFA_advance_loc from 40 on, DW_CFA_offset from 80 on,
 -- DW_CFA_restore from C0 on
 abbrev pub operands_at : CommonInformationEntry → SectionBaseAddresses → ℕ → List ℕ → ℕ → Reading CallFrameInstruction
 operands_at cie bases code bytes at =
-    if nat_le 0xC0 code then Ok (Restore (record { 0 = code - 0xC0 }), at)
-    else (if nat_le 0x80 code then mapped (λ offset. SetRule (record { 0 = code - 0x80 }) (rule.Offset offset))
-    (factored_at cie.data_alignment_factor bytes at)
-    else (if nat_le 0x40 code then Ok (AdvanceLoc (code - 0x40), at)
-    else coded_at cie bases code bytes at))
+    by_test (
+    (nat_le 0xC0 code, Ok (Restore (record { 0 = code - 0xC0 }), at))
+    ∷ (
+      nat_le 0x80 code,
+      mapped (λ offset. SetRule (record { 0 = code - 0x80 }) (rule.Offset offset))
+          (factored_at cie.data_alignment_factor bytes at),
+    )
+    ∷ (nat_le 0x40 code, Ok (AdvanceLoc (code - 0x40), at))
+    ∷ []) (coded_at cie bases code bytes at)
 
 -- the instruction at an offset
 unfoldable pub instruction_at : CommonInformationEntry → SectionBaseAddresses → List ℕ → ℕ

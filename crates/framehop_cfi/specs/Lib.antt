@@ -1,5 +1,7 @@
 -- What the contracts of this crate cite: from bytes to entries, instructions, rows and the header's table.
 pub mod Augmentation
+pub mod AugmentationMeaning
+pub mod ByCode
 pub mod Bytes
 pub mod Context
 pub mod Entries

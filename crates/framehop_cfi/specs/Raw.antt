@@ -1,6 +1,7 @@
 -- The formats of encoded pointers (LSB, "DWARF Exception Header Encoding").
-use Rattle.std.specs.Prelude.{ℕ, ◌+◌, ◌-◌, ◌*◌, ◌%◌, ◌^◌, List, Ok, Err, ◌==◌, ◌||◌, nat_lt, if◌then◌else◌}
+use Rattle.std.specs.Prelude.{ℕ, ◌+◌, ◌-◌, ◌*◌, ◌%◌, ◌^◌, List, [], ◌∷◌, Ok, Err, ◌==◌, ◌||◌, nat_lt, if◌then◌else◌}
 use Rattle.std.specs.Int.{cast_unsigned, w64}
+use Rattle.framehop_cfi.specs.ByCode.{by_test}
 use Rattle.framehop_cfi.specs.Bytes.{Reading, ◌>>=◌, u16_at, u32_at, u64_at}
 use Rattle.framehop_cfi.specs.Leb128.{uleb_at, sleb_at}
 use Rattle.framehop_cfi.specs.declared.read_error.ReadError.TheVariants.{BadEncoding}
@@ -16,17 +17,12 @@ sign_extended bits number = if nat_lt (2 * number) (2 ^ bits) then number else n
 -- a pointer's value by its format only, as a number of 64 bits
 unfoldable pub raw_at : ℕ → List ℕ → ℕ → Reading ℕ
 raw_at format bytes at =
-    if (format == 0) || (format == 4) || (format == 12) then u64_at bytes at
-    else (if format == 1 then uleb_at bytes at
-    else (if format == 2 then u16_at bytes at
-    else (if format == 3 then u32_at bytes at
-    else (if format == 9 then (do
-      number ← sleb_at bytes at
-      Ok (cast_unsigned w64 number.0, number.1))
-    else (if format == 10 then (do
-      number ← u16_at bytes at
-      Ok (sign_extended 16 number.0, number.1))
-    else (if format == 11 then (do
-      number ← u32_at bytes at
-      Ok (sign_extended 32 number.0, number.1))
-    else Err BadEncoding))))))
+    by_test (
+    ((format == 0) || (format == 4) || (format == 12), u64_at bytes at)
+    ∷ (format == 1, uleb_at bytes at)
+    ∷ (format == 2, u16_at bytes at)
+    ∷ (format == 3, u32_at bytes at)
+    ∷ (format == 9, sleb_at bytes at >>= λ number. Ok (cast_unsigned w64 number.0, number.1))
+    ∷ (format == 10, u16_at bytes at >>= λ number. Ok (sign_extended 16 number.0, number.1))
+    ∷ (format == 11, u32_at bytes at >>= λ number. Ok (sign_extended 32 number.0, number.1))
+    ∷ []) (Err BadEncoding)

@@ -46,7 +46,8 @@ impl<S: UnwindContextStorage> Model for UnwindContext<S> {
 }
 
 impl<S: UnwindContextStorage> UnwindContext<S> {
-    /// Makes the room, which is all the memory that a context with limits takes.
+    /// Makes the room. In a context with limits it is enough for every row: from here on no call
+    /// returns `OutOfMemory`.
     pub fn new_in(alloc: Global) -> Result<Self, AllocError>
         ensures { IfOk result (λ context. context ≡ start) }
     {

@@ -32,7 +32,8 @@ impl UnwindContextStorage for StoreOnHeap {
     }
 }
 
-/// Rows have at most 192 register rules, and 3 of them can be remembered. Reading one takes no memory.
+/// Rows have at most 192 register rules, and 3 of them can be remembered. Reading one never returns
+/// `OutOfMemory`.
 #[derive(Clone, Copy, Debug)]
 pub struct StoreOnStack;
 

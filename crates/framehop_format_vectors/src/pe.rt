@@ -572,40 +572,111 @@ fn takes_sections_in_their_order(rt: HostRuntime) -> Result<(), Fail> {
     Ok(())
 }
 
-/// Unwinds a frame and lists the addresses of the words that it reads.
-fn unwind_listed(
-    info: &[u8],
+/// Unwinds a frame of the function from rsp 0x100 and rbp 0x200, a first one where the function's
+/// last bytes are given, and lists the addresses of the words that it reads. Each word is its
+/// address but for the lowest bit.
+fn unwind_listed<'x>(
+    end: &'x [u8],
+    info: &'x [u8],
     regs: &mut UnwindRegsX86_64,
     read: &mut Vec<u64>,
 ) -> Result<UnwindResult<UnwindRuleX86_64>, PeUnwinderError> {
-    let rdata = DataAtRvaRange {
+    *regs = UnwindRegsX86_64::new(0x1010, 0x100, 0x200);
+    let start = 0x1040 - end.len().min(0x30) as u32;
+    let xdata = DataAtRvaRange {
         bytes: Lent(info),
-        rva_range: 0x2000..0x200a,
+        rva_range: 0x2000..0x2010,
+    };
+    let text = DataAtRvaRange {
+        bytes: Lent(end),
+        rva_range: start..0x1040,
     };
     let pdata = Lent(&FUNCTION);
     let sections = PeSections {
         pdata: &pdata,
         rdata: None,
-        xdata: Some(&rdata),
-        text: None,
+        xdata: Some(&xdata),
+        text: Some(&text),
     };
     let mut read_stack = |address: u64| -> Result<u64, ()> {
         read.push(address).map_err(|_| ())?;
         Ok(address ^ 1)
     };
-    ArchX86_64::unwind_frame(sections, 0x1000, regs, false, &mut read_stack)
+    if end.is_empty() {
+        return ArchX86_64::unwind_frame(sections, 0x1010, regs, false, &mut read_stack);
+    }
+    ArchX86_64::unwind_frame(sections, start, regs, true, &mut read_stack)
 }
 
 #[test]
 fn reads_each_word_once(rt: HostRuntime) -> Result<(), Fail> {
-    // UWOP_PUSH_NONVOL rsi, UWOP_SAVE_NONVOL rdi at 2 words, and the return address
-    let info = [1, 0, 3, 0, 0, 0x60, 0, 0x74, 2, 0];
+    let mut regs = UnwindRegsX86_64::new(0, 0, 0);
+    for (info, address, words) in [
+        // UWOP_PUSH_NONVOL rsi, UWOP_SAVE_NONVOL rdi at 2 words, and the return address
+        (
+            [1, 0, 3, 0, 0, 0x60, 0, 0x74, 2, 0].as_slice(),
+            0x109,
+            [0x100, 0x118, 0x108].as_slice(),
+        ),
+        // UWOP_SAVE_XMM128 and UWOP_SAVE_XMM128_FAR, of which nothing is read
+        (
+            [1, 0, 5, 0, 0, 0x68, 2, 0, 0, 0x69, 0x20, 0, 0, 0].as_slice(),
+            0x101,
+            [0x100].as_slice(),
+        ),
+        // UWOP_PUSH_MACHFRAME without an error code and with one: the return address, and rsp
+        (
+            [1, 0, 1, 0, 0, 0x0a].as_slice(),
+            0x101,
+            [0x100, 0x118].as_slice(),
+        ),
+        (
+            [1, 0, 1, 0, 0, 0x1a].as_slice(),
+            0x109,
+            [0x108, 0x120].as_slice(),
+        ),
+    ] {
+        let mut read = Vec::new(rt.alloc());
+        let answer = unwind_listed(&[], info, &mut regs, &mut read)?;
+        let UnwindResult::Uncacheable(return_address) = answer else {
+            return Err(Fail::from("a rule"));
+        };
+        assert_eq!(rt; return_address, address, "{info:?}");
+        assert_eq!(rt; read.as_slice(), words, "{info:?}");
+    }
+    // an epilog that no rule does: `lea rsp, [rbp + 0x20]`, `pop rbx` and `ret`
+    let lea = [0x48, 0x8d, 0x65, 0x20, 0x5b, 0xc3];
     let mut read = Vec::new(rt.alloc());
-    let mut regs = UnwindRegsX86_64::new(0x1000, 0x100, 0);
-    let answer = unwind_listed(&info, &mut regs, &mut read)?;
-    assert!(rt; matches!(answer, UnwindResult::Uncacheable(0x109)));
-    assert_eq!(rt; (regs.get(Reg::RSI), regs.get(Reg::RDI)), (0x101, 0x119));
-    assert_eq!(rt; read.as_slice(), [0x100, 0x118, 0x108].as_slice());
+    let answer = unwind_listed(&lea, &[1, 0, 0, 5], &mut regs, &mut read)?;
+    assert!(rt; matches!(answer, UnwindResult::Uncacheable(0x229)));
+    assert_eq!(rt; (regs.get(Reg::RBX), regs.sp()), (0x221, 0x230));
+    assert_eq!(rt; read.as_slice(), [0x220, 0x228].as_slice());
+    Ok(())
+}
+
+#[test]
+fn reads_nothing_for_a_rule_or_a_refusal_of_bytes(rt: HostRuntime) -> Result<(), Fail> {
+    let mut regs = UnwindRegsX86_64::new(0, 0, 0);
+    let mut read = Vec::new(rt.alloc());
+    for (end, info) in [
+        ([].as_slice(), PUSH_AND_ALLOC.as_slice()),
+        ([].as_slice(), [1, 0, 0, 0].as_slice()),
+        (ADD_AND_POP.as_slice(), PUSH_AND_ALLOC.as_slice()),
+        ([0xc3].as_slice(), [1, 0, 0, 5].as_slice()),
+    ] {
+        let answer = unwind_listed(end, info, &mut regs, &mut read)?;
+        assert!(rt; matches!(answer, UnwindResult::ExecRule(_)));
+        assert_eq!(rt; regs, UnwindRegsX86_64::new(0x1010, 0x100, 0x200));
+    }
+    // an unknown code after one that reads, and a chain without an end
+    for info in [
+        [1, 0, 2, 0, 0, 0x00, 0, 0x06].as_slice(),
+        CHAINED_TO_ITSELF.as_slice(),
+    ] {
+        let refused = unwind_listed(&[], info, &mut regs, &mut read);
+        assert_eq!(rt; refused.err(), Some(PeUnwinderError::UnwindInfoParseError));
+    }
+    assert!(rt; read.as_slice().is_empty());
     Ok(())
 }
 
@@ -744,9 +815,15 @@ fn refuses_aarch64(rt: HostRuntime) {
         text: None,
     };
     let mut regs = UnwindRegsAarch64::new(1, 2, 3);
-    let mut none = |_address: u64| -> Result<u64, ()> { Err(()) };
-    let refused = ArchAarch64::unwind_frame(sections, 0, &mut regs, true, &mut none);
+    let mut reads = 0;
+    let mut count = |_address: u64| -> Result<u64, ()> {
+        reads |= 1;
+        Err(())
+    };
+    let refused = ArchAarch64::unwind_frame(sections, 0, &mut regs, true, &mut count);
     assert_eq!(rt; refused.err(), Some(PeUnwinderError::Aarch64Unsupported));
+    assert_eq!(rt; regs, UnwindRegsAarch64::new(1, 2, 3));
+    assert_eq!(rt; reads, 0);
 }
 
 #[test]

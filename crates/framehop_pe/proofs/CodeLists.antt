@@ -1,7 +1,7 @@
 -- Codes read one by one.
 use Rattle.std.proofs.Common.{◌≡◌, ℕ, zero, suc, ◌-◌, ◌<◌, ◌≤◌, Bool, true, false, ◌||◌, nat_le, nat_eq, List, [], ◌∷◌, length, drop, Some, None, refl, ap, sym, ◌∙◌, arith}
 use Rattle.std.proofs.lemmas.Bool.Decides.{nat_tests}
-use Rattle.framehop_pe.specs.Codes.{code_at, read_codes, and_codes}
+use Rattle.framehop_pe.specs.Codes.{unwind_code_at, read_codes, and_codes}
 use Rattle.framehop_pe.specs.Info.{from_first, skips_frame, sets_frame}
 use Rattle.framehop_pe.specs.declared.unwind_info.operation.UnwindCode.{UnwindCode}
 
@@ -16,7 +16,7 @@ one-less : (n : ℕ) → suc n - 1 ≡ n
 one-less n = omega arith
 
 -- what a code of n + 1 bytes gives
-more : (f : Bool) (b : ℕ) (bytes : List ℕ) (code : UnwindCode) (n : ℕ) → code_at f (b ∷ bytes) ≡ Some (code, suc n) → read_codes f 0 (b ∷ bytes) ≡ and_codes (Some (code, suc n)) (λ size. read_codes f 0 (drop n bytes))
+more : (f : Bool) (b : ℕ) (bytes : List ℕ) (code : UnwindCode) (n : ℕ) → unwind_code_at f (b ∷ bytes) ≡ Some (code, suc n) → read_codes f 0 (b ∷ bytes) ≡ and_codes (Some (code, suc n)) (λ size. read_codes f 0 (drop n bytes))
 unfolding read_codes
 more f b bytes code n e =
     ap (λ found. and_codes found (λ size. read_codes f (size - 1) bytes)) e
@@ -24,42 +24,42 @@ more f b bytes code n e =
     ∙ ap (λ next. and_codes (Some (code, suc n)) (λ size. next)) (read_codes-skip f n bytes)
 
 -- a code, and the codes behind it
-read_codes-one : (f : Bool) (bytes : List ℕ) (code : UnwindCode) (size : ℕ) → code_at f bytes ≡ Some (code, size) → 0 < size → size ≤ length bytes → (read_codes f 0 bytes).0 ≡ code ∷ (read_codes f 0 (drop size bytes)).0
+read_codes-one : (f : Bool) (bytes : List ℕ) (code : UnwindCode) (size : ℕ) → unwind_code_at f bytes ≡ Some (code, size) → 0 < size → size ≤ length bytes → (read_codes f 0 bytes).0 ≡ code ∷ (read_codes f 0 (drop size bytes)).0
 read_codes-one f [] code zero e some within = absurd (omega arith)
 read_codes-one f [] code (suc n) e some within = absurd (omega arith)
 read_codes-one f (b ∷ bytes) code zero e some within = absurd (omega arith)
 read_codes-one f (b ∷ bytes) code (suc n) e some within = ap (λ read. read.0) (more f b bytes code n e)
 
-read_codes-one_whole : (f : Bool) (bytes : List ℕ) (code : UnwindCode) (size : ℕ) → code_at f bytes ≡ Some (code, size) → 0 < size → size ≤ length bytes → (read_codes f 0 bytes).1 ≡ (read_codes f 0 (drop size bytes)).1
+read_codes-one_whole : (f : Bool) (bytes : List ℕ) (code : UnwindCode) (size : ℕ) → unwind_code_at f bytes ≡ Some (code, size) → 0 < size → size ≤ length bytes → (read_codes f 0 bytes).1 ≡ (read_codes f 0 (drop size bytes)).1
 read_codes-one_whole f [] code zero e some within = absurd (omega arith)
 read_codes-one_whole f [] code (suc n) e some within = absurd (omega arith)
 read_codes-one_whole f (b ∷ bytes) code zero e some within = absurd (omega arith)
 read_codes-one_whole f (b ∷ bytes) code (suc n) e some within = ap (λ read. read.1) (more f b bytes code n e)
 
 -- the same, of bytes that are those behind the code
-pub read_codes-more : (f : Bool) (bytes rest : List ℕ) (code : UnwindCode) (size : ℕ) → Some (code, size) ≡ code_at f bytes → (0 < size) × (size ≤ length bytes) → rest ≡ drop size bytes → (read_codes f 0 bytes).0 ≡ code ∷ (read_codes f 0 rest).0
+pub read_codes-more : (f : Bool) (bytes rest : List ℕ) (code : UnwindCode) (size : ℕ) → Some (code, size) ≡ unwind_code_at f bytes → (0 < size) × (size ≤ length bytes) → rest ≡ drop size bytes → (read_codes f 0 bytes).0 ≡ code ∷ (read_codes f 0 rest).0
 read_codes-more f bytes rest code size e within is =
     read_codes-one f bytes code size (sym e) within.0 within.1 ∙ ap (λ r. code ∷ (read_codes f 0 r).0) (sym is)
 
-pub read_codes-front : (f : Bool) (bytes : List ℕ) (code : UnwindCode) (size : ℕ) → Some (code, size) ≡ code_at f bytes → (0 < size) × (size ≤ length bytes) → (read_codes f 0 bytes).0 ≡ code ∷ (read_codes f 0 (drop size bytes)).0
+pub read_codes-front : (f : Bool) (bytes : List ℕ) (code : UnwindCode) (size : ℕ) → Some (code, size) ≡ unwind_code_at f bytes → (0 < size) × (size ≤ length bytes) → (read_codes f 0 bytes).0 ≡ code ∷ (read_codes f 0 (drop size bytes)).0
 read_codes-front f bytes code size e within = read_codes-one f bytes code size (sym e) within.0 within.1
 
-pub read_codes-whole : (f : Bool) (bytes rest : List ℕ) (code : UnwindCode) (size : ℕ) → Some (code, size) ≡ code_at f bytes → (0 < size) × (size ≤ length bytes) → rest ≡ drop size bytes → (read_codes f 0 bytes).1 ≡ (read_codes f 0 rest).1
+pub read_codes-whole : (f : Bool) (bytes rest : List ℕ) (code : UnwindCode) (size : ℕ) → Some (code, size) ≡ unwind_code_at f bytes → (0 < size) × (size ≤ length bytes) → rest ≡ drop size bytes → (read_codes f 0 bytes).1 ≡ (read_codes f 0 rest).1
 read_codes-whole f bytes rest code size e within is =
     read_codes-one_whole f bytes code size (sym e) within.0 within.1 ∙ ap (λ r. (read_codes f 0 r).1) (sym is)
 
 -- no code
-last : (f : Bool) (b : ℕ) (bytes : List ℕ) → None ≡ code_at f (b ∷ bytes) → read_codes f 0 (b ∷ bytes) ≡ ([], false)
+last : (f : Bool) (b : ℕ) (bytes : List ℕ) → None ≡ unwind_code_at f (b ∷ bytes) → read_codes f 0 (b ∷ bytes) ≡ ([], false)
 unfolding read_codes
 last f b bytes e = ap (λ found. and_codes found (λ size. read_codes f (size - 1) bytes)) (sym e)
 
-pub read_codes-none : (f : Bool) (bytes : List ℕ) → None ≡ code_at f bytes → (read_codes f 0 bytes).0 ≡ []
+pub read_codes-none : (f : Bool) (bytes : List ℕ) → None ≡ unwind_code_at f bytes → (read_codes f 0 bytes).0 ≡ []
 unfolding read_codes
 read_codes-none f [] e = refl
 read_codes-none f (b ∷ bytes) e = ap (λ read. read.0) (last f b bytes e)
 
 -- the bytes are codes to their end where none is left
-pub read_codes-end : (f : Bool) (bytes : List ℕ) → None ≡ code_at f bytes → (read_codes f 0 bytes).1 ≡ nat_eq (length bytes) 0
+pub read_codes-end : (f : Bool) (bytes : List ℕ) → None ≡ unwind_code_at f bytes → (read_codes f 0 bytes).1 ≡ nat_eq (length bytes) 0
 unfolding read_codes
 read_codes-end f [] e = refl
 read_codes-end f (b ∷ bytes) e =

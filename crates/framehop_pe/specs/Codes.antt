@@ -1,5 +1,6 @@
 -- The codes of unwind info (Microsoft, "x64 exception handling", struct UNWIND_CODE), and what undoes them.
 use Rattle.std.specs.Prelude.{ℕ, zero, suc, ◌+◌, ◌-◌, ◌*◌, ◌/◌, ◌%◌, Bool, true, false, ◌==◌, nat_le, if◌then◌else◌, List, [], ◌∷◌, length, slice_index, Option, Some, None, option_map, option_and_then}
+use Rattle.framehop_cfi.specs.ByCode.{by_code}
 use Rattle.framehop_cfi.specs.Bytes.{le2, le4}
 use Rattle.framehop_core.specs.declared.x86_64.unwindregs.Reg.{Reg}
 use Rattle.framehop_core.specs.declared.x86_64.unwindregs.Reg.TheVariants.{RSP}
@@ -55,20 +56,21 @@ machine_frame info =
 -- the operation, and the size of the code in bytes.
 unfoldable pub operation_at : Bool → ℕ → ℕ → List ℕ → Option (UnwindOperation × ℕ)
 operation_at has_frame code info bytes =
-    if code == 0 then with_saved info (λ register. plain (PopNonVolatile register))
-    else (if code == 1 then large_allocation info bytes
-    else (if code == 2 then plain (UnStackAlloc (info * 8 + 8))
-    else (if code == 3 then (if has_frame then plain RestoreSp else None)
-    else (if code == 4 then with_saved info (λ register. with_short bytes (λ number. Read register (number * 8)))
-    else (if code == 5 then with_saved info (λ register. with_long bytes (Read register))
-    else (if code == 8 then with_short bytes (λ _. Skip)
-    else (if code == 9 then with_long bytes (λ _. Skip)
-    else (if code == 10 then machine_frame info
-    else None))))))))
+    by_code code (
+    (0, with_saved info (λ register. plain (PopNonVolatile register)))
+    ∷ (1, large_allocation info bytes)
+    ∷ (2, plain (UnStackAlloc (info * 8 + 8)))
+    ∷ (3, if has_frame then plain RestoreSp else None)
+    ∷ (4, with_saved info (λ register. with_short bytes (λ number. Read register (number * 8))))
+    ∷ (5, with_saved info (λ register. with_long bytes (Read register)))
+    ∷ (8, with_short bytes (λ _. Skip))
+    ∷ (9, with_long bytes (λ _. Skip))
+    ∷ (10, machine_frame info)
+    ∷ []) None
 
 -- the code at the front of bytes, and its size: an offset, and a byte of number and info
-unfoldable pub code_at : Bool → List ℕ → Option (UnwindCode × ℕ)
-code_at has_frame bytes =
+unfoldable pub unwind_code_at : Bool → List ℕ → Option (UnwindCode × ℕ)
+unwind_code_at has_frame bytes =
     if nat_le (slots 1) (length bytes) then
     option_map (λ found. (record { offset_in_prolog = slice_index bytes 0; operation = found.0 }, found.1))
     (operation_at has_frame (slice_index bytes 1 % 16) (slice_index bytes 1 / 16) bytes)
@@ -85,4 +87,4 @@ unfoldable pub read_codes : Bool → ℕ → List ℕ → List UnwindCode × Boo
 read_codes has_frame skipped [] = ([], true)
 read_codes has_frame (suc skipped) (byte ∷ bytes) = read_codes has_frame skipped bytes
 read_codes has_frame zero (byte ∷ bytes) =
-    and_codes (code_at has_frame (byte ∷ bytes)) (λ size. read_codes has_frame (size - 1) bytes)
+    and_codes (unwind_code_at has_frame (byte ∷ bytes)) (λ size. read_codes has_frame (size - 1) bytes)

@@ -30,8 +30,8 @@ pub data Way : Type 0 where
   by_codes : List FramedOperation → Way
 
 -- the way that the bytes say, or the refusal that they give
-abbrev pub Told : Type 0
-Told = Result Way PeUnwinderError
+abbrev pub WayOrRefusal : Type 0
+WayOrRefusal = Result Way PeUnwinderError
 
 -- the frame register of a header
 abbrev pub frame_register : Header → Option Reg
@@ -58,35 +58,35 @@ epilog_at sections function frame address = do
   Ok (epilog_of frame (function.end_address - function.begin_address) code)
 
 -- the operations at an address in a function
-abbrev pub codes_way : Sections → RuntimeFunction → Header → ℕ → Told
+abbrev pub codes_way : Sections → RuntimeFunction → Header → ℕ → WayOrRefusal
 codes_way sections function header address = do
   operations ← operations_from sections header (address - function.begin_address)
   Ok (by_codes operations)
 
 -- an epilog, else the operations
-abbrev pub epilog_or : Option Reg → Epilog → Told → Told
+abbrev pub epilog_or : Option Reg → Epilog → WayOrRefusal → WayOrRefusal
 epilog_or frame (Some instructions) other = Ok (by_epilog frame instructions)
 epilog_or frame None other = other
 
 -- in a first frame the address may be in an epilog, which the codes do not describe
-abbrev pub way_in : Bool → Sections → RuntimeFunction → Header → ℕ → Told
+abbrev pub way_in : Bool → Sections → RuntimeFunction → Header → ℕ → WayOrRefusal
 way_in true sections function header address = do
   found ← epilog_at sections function (frame_register header) address
   epilog_or (frame_register header) found (codes_way sections function header address)
 way_in false sections function header address = codes_way sections function header address
 
 -- the way from an address in a function, in a first frame (`true`) or another
-unfoldable pub way_of : Bool → Sections → RuntimeFunction → ℕ → Told
+unfoldable pub way_of : Bool → Sections → RuntimeFunction → ℕ → WayOrRefusal
 way_of first sections function address = do
   header ← header_at sections function.unwind_info_address
   way_in first sections function header address
 
 -- the way from an address: a function that the table does not have saves nothing, and there is nothing to undo
-abbrev pub way_or_leaf : Bool → Sections → ℕ → Option RuntimeFunction → Told
+abbrev pub way_or_leaf : Bool → Sections → ℕ → Option RuntimeFunction → WayOrRefusal
 way_or_leaf first sections address None = Ok (by_codes [])
 way_or_leaf first sections address (Some function) = way_of first sections function address
 
-abbrev pub way_at : Sections → ℕ → Bool → Told
+abbrev pub way_at : Sections → ℕ → Bool → WayOrRefusal
 way_at sections address first = way_or_leaf first sections address (function_of sections.pdata address)
 
 -- the offsets and pops of a way
@@ -111,7 +111,7 @@ abbrev pub rule_along : Way → Option UnwindRuleX86_64
 rule_along way = rule_of_operations (offsets_and_pops way)
 
 -- what the bytes give: their refusal, or a rule, or none
-abbrev pub found_of : Told → Result (Option UnwindRuleX86_64) PeUnwinderError
+abbrev pub found_of : WayOrRefusal → Result (Option UnwindRuleX86_64) PeUnwinderError
 found_of told = do
   way ← told
   Ok (rule_along way)
@@ -120,7 +120,7 @@ unfoldable pub found_at : Sections → ℕ → Bool → Result (Option UnwindRul
 found_at sections address first = found_of (way_at sections address first)
 
 -- the return address and the caller's registers along the way that the bytes say, over memory
-abbrev pub computed_of : Told → Memory → Registers → Caller
+abbrev pub computed_of : WayOrRefusal → Memory → Registers → Caller
 computed_of told memory r = do
   way ← told
   along way memory r

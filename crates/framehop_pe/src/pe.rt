@@ -6,6 +6,7 @@ ghost use Rattle.framehop_pe.specs.Answer.{IsMissingStackData, TellsFound, IsCom
 ghost use Rattle.framehop_pe.specs.declared.pe.PeUnwinderError.{PeUnwinderError};
 ghost use Rattle.framehop_pe.specs.Sections.{Sections, sections_of, placed_of, bytes_at, unwind_info_at, text_at};
 
+pub use crate::unwind_info::state::UnwindState;
 use framehop_cfi::section::SectionBytes;
 use framehop_core::arch::Arch;
 use framehop_core::unwind_result::UnwindResult;
@@ -132,6 +133,8 @@ pub trait PeUnwinding: Arch {
     /// `MissingUnwindInfoData`, `MissingInstructionData` or `UnwindInfoParseError` where the
     /// module's bytes are not there or not known; `MissingStackData` where a stack word can't be
     /// read or an address does not fit 64 bits. The registers stay as they are.
+    ///
+    /// Where a rule is returned, or an error other than `MissingStackData`, the stack is not read.
     fn unwind_frame<F, D>(
         sections: PeSections<'_, D>,
         address: u32,
@@ -145,6 +148,8 @@ pub trait PeUnwinding: Arch {
         requires { F.IsAlwaysCallable read_stack.old }
         ensures callable { F.IsAlwaysCallable read_stack.new }
         ensures kept { KeptUnlessDirect result regs.old regs.new }
+        ensures unread { IfRule result (λ _. read_stack.new ≡ read_stack.old) }
+        ensures unread_refused { IfErr result (λ error. (¬ IsMissingStackData error) → read_stack.new ≡ read_stack.old) }
         ensures found { TellsFound (found (sections_of D.contents sections.entry) address is_first_frame) result }
         ensures refusal { IfErr (found (sections_of D.contents sections.entry) address is_first_frame) (λ error. ¬ IsMissingStackData error) }
         ensures executable { IfRule result (λ rule. IsTrue (Self.UnwindRule.executable rule)) }

@@ -7,7 +7,7 @@ use Rattle.framehop_core.specs.declared.x86_64.unwindregs.Reg.{Reg}
 use Rattle.framehop_pe.specs.Answer.{IsMissingStackData}
 use Rattle.framehop_pe.specs.Chain.{header_at, info_of_header, info_at, chained_infos, first_of, all_of, operations_from}
 use Rattle.framehop_pe.specs.Epilog.{epilog_of}
-use Rattle.framehop_pe.specs.Frame.{Told, Epilog, by_codes, frame_register, sized, code_at, epilog_at, codes_way, epilog_or, way_in, way_of, way_or_leaf, way_at, rule_along, found_at}
+use Rattle.framehop_pe.specs.Frame.{WayOrRefusal, Epilog, by_codes, frame_register, sized, code_at, epilog_at, codes_way, epilog_or, way_in, way_of, way_or_leaf, way_at, rule_along, found_at}
 use Rattle.framehop_pe.specs.FunctionTable.{function_of}
 use Rattle.framehop_pe.specs.Info.{Header, Info, header_of, info_of}
 use Rattle.framehop_pe.specs.Sections.{Sections, unwind_info_at, text_at}
@@ -104,7 +104,8 @@ codes_way-of_bytes sections function header address =
     (operations_from-of_bytes sections header offset) (λ operations. tt)
 
 epilog_or-of_bytes :
-    (frame : Option Reg) (found : Epilog) (other : Told) → IsOfBytes other → IsOfBytes (epilog_or frame found other)
+    (frame : Option Reg) (found : Epilog) (other : WayOrRefusal) → IsOfBytes other
+    → IsOfBytes (epilog_or frame found other)
 epilog_or-of_bytes frame (Some instructions) other h = tt
 epilog_or-of_bytes frame None other h = h
 

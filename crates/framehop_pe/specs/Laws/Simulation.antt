@@ -29,7 +29,7 @@ use Rattle.framehop_pe.specs.declared.unwind_info.epilog.FunctionEpilogInstructi
 use Rattle.framehop_core.specs.declared.unwind_result.UnwindResult.{UnwindResult}
 use Rattle.framehop_core.specs.declared.unwind_result.UnwindResult.TheVariants.{ExecRule, Uncacheable}
 use Rattle.framehop_pe.specs.Answer.{TellsFound, Simulates, IfRule}
-use Rattle.framehop_pe.specs.Frame.{Way, by_epilog, by_codes, Told, offsets_and_pops, returned, along, way_at, rule_along, found_of, computed_of, found_at, computed_at}
+use Rattle.framehop_pe.specs.Frame.{Way, by_epilog, by_codes, WayOrRefusal, offsets_and_pops, returned, along, way_at, rule_along, found_of, computed_of, found_at, computed_at}
 use Rattle.framehop_pe.specs.Sections.{Sections}
 use Rattle.framehop_pe.specs.declared.pe.PeUnwinderError.{PeUnwinderError}
 use Rattle.framehop_pe.specs.Offsets.{offset_of, of_operation, of_instruction}
@@ -486,7 +486,7 @@ Simulates-way rule (by_codes operations) h = λ first r new memory address e.
 -- ---- what is found
 
 -- a rule that is found is that of the way that the bytes say
-found-way : (told : Told) (rule : UnwindRuleX86_64) → found_of told ≡ Ok (Some rule)
+found-way : (told : WayOrRefusal) (rule : UnwindRuleX86_64) → found_of told ≡ Ok (Some rule)
     → (way : Way) × (told ≡ Ok way) × IsRuleOfOperations (offsets_and_pops way) (Some rule)
 found-way (Ok way) rule e =
     let same : rule_along way ≡ Some rule = cc in
@@ -503,14 +503,14 @@ returned-rule P (Ok None) (Ok (ExecRule rule)) h all = absurd h
 returned-rule P (Ok None) (Ok (Uncacheable address)) h all = tt
 returned-rule P (Ok None) (Err error) h all = tt
 
-pub found-executable : (told : Told) (result : Result (UnwindResult UnwindRuleX86_64) PeUnwinderError)
+pub found-executable : (told : WayOrRefusal) (result : Result (UnwindResult UnwindRuleX86_64) PeUnwinderError)
     → TellsFound (found_of told) result → IfRule result (λ rule. IsTrue (is_executable rule))
 found-executable told result h =
     returned-rule (λ rule. IsTrue (is_executable rule)) (found_of told) result h (λ rule e.
     let p = (found-way told rule e).2 in
     IsRuleOf-executable p.0 p.1 rule p.3)
 
-pub found-simulated : (told whole : Told) (result : Result (UnwindResult UnwindRuleX86_64) PeUnwinderError)
+pub found-simulated : (told whole : WayOrRefusal) (result : Result (UnwindResult UnwindRuleX86_64) PeUnwinderError)
     → whole ≡ told → TellsFound (found_of told) result → IfRule result (Simulates outcome (computed_of whole))
 found-simulated told whole result same h =
     returned-rule (Simulates outcome (computed_of whole)) (found_of told) result h
@@ -523,12 +523,14 @@ leaf-rule : rule_along (by_codes []) ≡ Some JustReturn
 unfolding rule_of_operations rule_of
 leaf-rule = refl
 
-pub leaf-found : (whole : Told) → whole ≡ Ok (by_codes []) → TellsFound (found_of whole) (Ok (ExecRule JustReturn))
+pub leaf-found : (whole : WayOrRefusal) → whole ≡ Ok (by_codes [])
+    → TellsFound (found_of whole) (Ok (ExecRule JustReturn))
 leaf-found whole same =
     let found : found_of whole ≡ Ok (Some JustReturn) = ap found_of same ∙ ap Ok leaf-rule in
     subst (λ f. TellsFound f (Ok (ExecRule JustReturn))) (sym found) refl
 
-pub leaf-simulated : (whole : Told) → whole ≡ Ok (by_codes []) → Simulates outcome (computed_of whole) JustReturn
+pub leaf-simulated : (whole : WayOrRefusal) → whole ≡ Ok (by_codes [])
+    → Simulates outcome (computed_of whole) JustReturn
 leaf-simulated whole same = λ first old new memory address answers.
     ap (λ t. computed_of t memory old) same
     ∙ Simulates-way JustReturn (by_codes []) (0, [], refl, (refl, refl)) first old new memory address answers

@@ -397,7 +397,7 @@ pub fn run_epilog<S: UnwindState>(
     pop_word(state)
 }
 
-/// Runs one instruction of an epilog.
+/// Runs one instruction of an epilog. Where that is not done, the registers stay as they are.
 fn run_instruction<S: UnwindState>(
     instruction: FunctionEpilogInstruction,
     frame_register: Option<Reg>,
@@ -406,6 +406,7 @@ fn run_instruction<S: UnwindState>(
     requires { S.can_read state.old }
     ensures callable { S.can_read state.new }
     ensures same_loan { S.loan state.new ≡ S.loan state.old }
+    ensures kept { IfErr result (λ _. S.registers state.new ≡ S.registers state.old) }
     ensures stack { IfErr result IsMissingStackData }
     ensures answers { (memory : Memory) → S.reads state.old memory
         → S.reads state.new memory
@@ -441,11 +442,12 @@ fn beside_register<S: UnwindState>(
     checked_add_signed(state.read_register(frame_register?), i64::from(offset))
 }
 
-/// Sets rsp, if the address (AVMA) is there.
+/// Sets rsp, if the address (AVMA) is there; else the registers stay as they are.
 fn set_sp<S: UnwindState>(sp: Option<u64>, state: &mut S) -> Result<(), PeUnwinderError>
     ensures written { MatchResult result
         (λ _. with_sp sp (S.registers state.old) ≡ Ok (S.registers state.new))
         (λ error. (with_sp sp (S.registers state.old) ≡ Err error)) }
+    ensures kept { IfErr result (λ _. S.registers state.new ≡ S.registers state.old) }
     ensures stack { IfErr result IsMissingStackData }
     ensures callable { S.can_read state.old → S.can_read state.new }
     ensures same_loan { S.loan state.new ≡ S.loan state.old }

@@ -1,7 +1,7 @@
 //! The codes of unwind info and the operations that undo them (Microsoft, "x64 exception handling",
 //! struct UNWIND_CODE).
 ghost use Rattle.std.specs.Prelude.{◌≡◌, ◌<◌, ◌≤◌, ◌^◌, length, IfSome};
-ghost use Rattle.framehop_pe.specs.Codes.{code_at, operation_at, large_allocation, saved_register, short_at, long_at};
+ghost use Rattle.framehop_pe.specs.Codes.{unwind_code_at, operation_at, large_allocation, saved_register, short_at, long_at};
 
 use super::register::register_of;
 use framehop_core::x86_64::Reg;
@@ -53,9 +53,9 @@ pub struct UnwindCode {
 /// Reads the code at the front of these bytes, in unwind info with a frame register or without one,
 /// and returns it with its size in bytes. `None` where it is too short or unknown.
 #[inline]
-#[tactic(auto, unfolding(crate::specs::Codes::code_at))]
+#[tactic(auto, unfolding(crate::specs::Codes::unwind_code_at))]
 pub fn read_code(codes: &[u8], has_frame_register: bool) -> Option<(UnwindCode, usize)>
-    ensures exact { result ≡ code_at has_frame_register codes.now }
+    ensures exact { result ≡ unwind_code_at has_frame_register codes.now }
     ensures within { IfSome result (λ read. (0 < read.1) × (read.1 ≤ length codes.now)) }
 {
     let [offset_in_prolog, code, ..] = *codes else {

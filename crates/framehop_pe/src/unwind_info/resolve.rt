@@ -1,5 +1,5 @@
 //! Operations undone one by one (Microsoft, "x64 exception handling", "Unwind procedure").
-ghost use Rattle.std.specs.Prelude.{◌≡◌, Ok, Err, Some, None, MatchOption, MatchResult, IfErr};
+ghost use Rattle.std.specs.Prelude.{◌≡◌, Ok, Err, Some, None, MatchOption, MatchResult, IfErr, IfNone};
 ghost use Rattle.framehop_core.specs.Memory.{Memory};
 ghost use Rattle.framehop_pe.specs.Operations.{left_operations};
 ghost use Rattle.framehop_pe.specs.Answer.{IsMissingStackData};
@@ -16,8 +16,8 @@ use framehop_core::x86_64::Reg;
 use std::ops::ControlFlow;
 
 /// Undoes an operation: the registers are those before the code's instruction ran. Returns the
-/// return address (AVMA) where the operation ends the list, and `None` where a stack word can't be
-/// read or an address does not fit 64 bits.
+/// return address (AVMA) where the operation ends the list, and `None`, with the registers as they
+/// are, where a stack word can't be read or an address does not fit 64 bits.
 pub fn resolve_operation<S: UnwindState>(
     framed: FramedOperation,
     state: &mut S,
@@ -25,6 +25,7 @@ pub fn resolve_operation<S: UnwindState>(
     requires { S.can_read state.old }
     ensures callable { S.can_read state.new }
     ensures same_loan { S.loan state.new ≡ S.loan state.old }
+    ensures kept { IfNone result (S.registers state.new ≡ S.registers state.old) }
     ensures answers { (memory : Memory) → S.reads state.old memory
         → S.reads state.new memory
         × MatchOption result
@@ -71,6 +72,7 @@ fn pop_register<S: UnwindState>(reg: Reg, state: &mut S) -> Option<ControlFlow<u
     requires { S.can_read state.old }
     ensures callable { S.can_read state.new }
     ensures same_loan { S.loan state.new ≡ S.loan state.old }
+    ensures kept { IfNone result (S.registers state.new ≡ S.registers state.old) }
     ensures answers { (memory : Memory) → S.reads state.old memory
         → S.reads state.new memory
         × MatchOption result
@@ -131,6 +133,7 @@ fn resolve_machine_frame<S: UnwindState>(
     requires { S.can_read state.old }
     ensures callable { S.can_read state.new }
     ensures same_loan { S.loan state.new ≡ S.loan state.old }
+    ensures kept { IfNone result (S.registers state.new ≡ S.registers state.old) }
     ensures answers { (memory : Memory) → S.reads state.old memory
         → S.reads state.new memory
         × MatchOption result

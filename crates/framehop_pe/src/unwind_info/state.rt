@@ -49,6 +49,7 @@ pub fn pop_word<S: UnwindState>(state: &mut S) -> Result<u64, PeUnwinderError>
     requires { S.can_read state.old }
     ensures callable { S.can_read state.new }
     ensures same_loan { S.loan state.new ≡ S.loan state.old }
+    ensures kept { IfErr result (λ _. S.registers state.new ≡ S.registers state.old) }
     ensures stack { IfErr result IsMissingStackData }
     ensures answers { (memory : Memory) → S.reads state.old memory
         → S.reads state.new memory

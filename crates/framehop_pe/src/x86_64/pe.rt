@@ -1,8 +1,8 @@
 //! Unwinding by Microsoft's x64 unwind info (framehop 0.16.0, `x86_64/pe.rs`).
-ghost use Rattle.std.specs.Prelude.{◌≡◌, ◌<◌, Some, None, Ok, Err, MatchResult, option_map, map};
+ghost use Rattle.std.specs.Prelude.{◌≡◌, ◌<◌, Some, None, Ok, Err, MatchResult, IfErr, option_map, map};
 ghost use Rattle.framehop_core.specs.Memory.{Memory, AnswersAs};
 ghost use Rattle.framehop_core.specs.X86_64.RuleOfOperations.{rule_of_operations};
-ghost use Rattle.framehop_pe.specs.Answer.{TellsFound, IsComputed, KeptUnlessDirect};
+ghost use Rattle.framehop_pe.specs.Answer.{TellsFound, IsComputed, KeptUnlessDirect, IfRule, IsMissingStackData};
 ghost use Rattle.framehop_pe.specs.Sections.{sections_of};
 ghost use Rattle.framehop_pe.specs.Info.{shown};
 ghost use Rattle.framehop_pe.specs.Operations.{left_operations};
@@ -150,6 +150,8 @@ where
     requires { F.IsAlwaysCallable read_stack.old }
     ensures callable { F.IsAlwaysCallable read_stack.new }
     ensures kept { KeptUnlessDirect result regs.old regs.new }
+    ensures unread { IfRule result (λ _. read_stack.new ≡ read_stack.old) }
+    ensures unread_refused { IfErr result (λ error. (¬ IsMissingStackData error) → read_stack.new ≡ read_stack.old) }
     ensures found { TellsFound (Ok (rule_along (by_codes (left_operations D.contents operations.entry)))) result }
     ensures answers { (memory : Memory) → AnswersAs F.FnMut read_stack.old memory
         → AnswersAs F.FnMut read_stack.new memory
@@ -176,6 +178,8 @@ fn unwind_epilog<F: FnMut(u64) -> Result<u64, ()>>(
     requires { F.IsAlwaysCallable read_stack.old }
     ensures callable { F.IsAlwaysCallable read_stack.new }
     ensures kept { KeptUnlessDirect result regs.old regs.new }
+    ensures unread { IfRule result (λ _. read_stack.new ≡ read_stack.old) }
+    ensures unread_refused { IfErr result (λ error. (¬ IsMissingStackData error) → read_stack.new ≡ read_stack.old) }
     ensures found { TellsFound (Ok (rule_along (by_epilog frame_register (left_instructions instructions.entry)))) result }
     ensures answers { (memory : Memory) → AnswersAs F.FnMut read_stack.old memory
         → AnswersAs F.FnMut read_stack.new memory
@@ -256,6 +260,8 @@ where
     requires { F.IsAlwaysCallable read_stack.old }
     ensures callable { F.IsAlwaysCallable read_stack.new }
     ensures kept { KeptUnlessDirect result regs.old regs.new }
+    ensures unread { IfRule result (λ _. read_stack.new ≡ read_stack.old) }
+    ensures unread_refused { IfErr result (λ error. (¬ IsMissingStackData error) → read_stack.new ≡ read_stack.old) }
     ensures found { TellsFound (found_of (codes_way (sections_of D.contents sections.now) function (shown info.entry) address)) result }
     ensures answers { (memory : Memory) → AnswersAs F.FnMut read_stack.old memory
         → AnswersAs F.FnMut read_stack.new memory
@@ -285,6 +291,8 @@ where
     requires { F.IsAlwaysCallable read_stack.old }
     ensures callable { F.IsAlwaysCallable read_stack.new }
     ensures kept { KeptUnlessDirect result regs.old regs.new }
+    ensures unread { IfRule result (λ _. read_stack.new ≡ read_stack.old) }
+    ensures unread_refused { IfErr result (λ error. (¬ IsMissingStackData error) → read_stack.new ≡ read_stack.old) }
     ensures found { TellsFound (found_of (way_of is_first_frame (sections_of D.contents sections.now) function address)) result }
     ensures answers { (memory : Memory) → AnswersAs F.FnMut read_stack.old memory
         → AnswersAs F.FnMut read_stack.new memory
