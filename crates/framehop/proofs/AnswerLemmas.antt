@@ -14,15 +14,12 @@ use Rattle.framehop.specs.Unwinding.{Unwinding, Words, answer_by, takes_memory_b
 use Rattle.framehop.specs.Soundness.{TakesMemory}
 use Rattle.framehop.specs.Fresh.{fresh, outcome_of}
 use Rattle.framehop.specs.Told.{out_of_memory, IsDirect, values_in, TellsAnswer, TellsValues, WritesWithAddress, RuleHas, TellsFresh, TellsFreshValues, WritesComputed, AnswerHas, no_memory, no_values, nothing, IsAnswerOf}
+use Rattle.framehop.specs.Laws.Meaning.{fresh-covered}
 use Rattle.framehop.proofs.ToldLemmas.{err-same}
 use Rattle.framehop.specs.declared.unwinder.UnwinderError.{UnwinderError}
 use Rattle.framehop.specs.declared.unwinder.FrameAnswer.{FrameAnswer}
 
--- what the covering module gives
-pub fresh-covered : {R Regs : Type 0} (unwinding : Unwinding R Regs) (modules : List ModuleView) (address : ℕ) (first : Bool) (m : ModuleView) → covering modules address ≡ Some m → fresh unwinding modules address first ≡ unwrap_or (unwinding.module_answer m (address - m.base_avma) first) (by_rule unwinding.fallback)
-unfolding fresh
-fresh-covered unwinding modules address first m covers = rw covers refl
-
+-- what the modules give where none covers the address
 pub fresh-uncovered : {R Regs : Type 0} (unwinding : Unwinding R Regs) (modules : List ModuleView) (address : ℕ) (first : Bool) → covering modules address ≡ None → fresh unwinding modules address first ≡ by_rule unwinding.fallback
 unfolding fresh
 fresh-uncovered unwinding modules address first covers = rw covers refl

@@ -11,7 +11,7 @@ use Rattle.framehop.specs.Policy.{Policy}
 use Rattle.framehop.specs.Modules.{UnwinderView}
 use Rattle.framehop_dwarf.specs.Aarch64.{Ascends}
 use Rattle.framehop.specs.Aarch64.{aarch64, aarch64_step}
-use Rattle.framehop.specs.Laws.Aarch64.{rises-as-said}
+use Rattle.framehop.specs.Laws.Aarch64.{rises-as-said, always_rises-is}
 use Rattle.framehop.specs.Rise.{IsWalkWithinRise}
 use Rattle.framehop.proofs.RiseLemmas.{walk-rise}
 use Rattle.framehop_core.specs.declared.error.Error.{Error}
@@ -82,4 +82,4 @@ ended-not-limit ended answer is_end end some = end_in-not-limit answer (end_of e
 pub walk-within : (policy : Policy) (unwinder : UnwinderView) (memory : Memory) (limit pc : ℕ) (regs : Registers) → IsWalkWithinRise (λ (r : Registers). r.sp) (registers_after regs (aarch64_step policy unwinder memory (at_instruction_pointer pc) regs)) (walk_from (aarch64_step policy unwinder memory) limit pc regs)
 unfolding aarch64
 walk-within policy unwinder memory limit pc regs =
-    walk-rise (aarch64 policy) (λ memory r. Unit {0}) raises (rises-as-said policy) unwinder.modules memory limit pc regs (inl refl)
+    walk-rise (aarch64 policy) (λ memory r. Unit {0}) raises (rises-as-said policy) unwinder.modules memory limit pc regs (inl (always_rises-is policy))

@@ -13,9 +13,9 @@ use Rattle.framehop.specs.Answer.{Fresh, by_rule, direct}
 use Rattle.framehop.specs.Unwinding.{Unwinding, RisesAsSaid}
 use Rattle.framehop.specs.Fresh.{fresh, values_or, outcome_of, step}
 use Rattle.framehop.specs.Walk.{Walk, at_refusal, frame_before, onward, callers, walk_from}
-use Rattle.framehop.specs.World.{memory_of, refusal_of, unless_refused}
-use Rattle.framehop.specs.CachedWorld.{CachedWorld, CachedReply, world_of, unwinder_at, cached_reply, cached_after, reply_then, cached_replies}
-use Rattle.framehop.specs.Rise.{IsWalkWithinRise, IsRuleStep, WhereAnswered, EachAnswered, IsWalkOfRules, IsReplyWithinRise, AreWithinRise}
+use Rattle.framehop.specs.World.{World, memory_of, refusal_of, unless_refused}
+use Rattle.framehop.specs.CachedWorld.{CachedWorld, CachedReply, world_of, unwinder_at, cached_reply, cached_after, reply_then, cached_replies, EachReply}
+use Rattle.framehop.specs.Rise.{IsWalkWithinRise, IsRuleStep, WhereAnswered, EachAnswered, IsWalkOfRules, IsReplyWithinRise}
 use Rattle.framehop.specs.declared.session.Command.{Command}
 use Rattle.framehop.specs.declared.session.Command.TheVariants.{New, Clone, Add, Remove, Step as StepCommand, Walk as WalkCommand, Stats}
 use Rattle.framehop.specs.declared.session.SessionError.{SessionError}
@@ -150,7 +150,8 @@ module _ {R Regs : Type 0} (unwinding : Unwinding R Regs) where
                 (λ address new e some. callers-rise n address new (first-rising n pc regs address new known e some)),
           )
 
-    reply-rise : {D : Type 0} (state : CachedWorld R) (command : Command D Regs) → IsReplyWithinRise unwinding (world_of state) command (cached_reply unwinding state command)
+    -- so is each reply that walks
+    pub reply-rise : {D : Type 0} (state : CachedWorld R) (command : Command D Regs) → IsReplyWithinRise unwinding (world_of state) command (cached_reply unwinding state command)
     reply-rise state New = tt
     reply-rise state (Add unwinder added) = tt
     reply-rise state (Clone unwinder) = tt
@@ -163,12 +164,12 @@ module _ {R Regs : Type 0} (unwinding : Unwinding R Regs) where
         (subst (λ (modules : List ModuleView). (unwinding.always_rises ≡ true) ⊎ IsWalkOfRules unwinding modules (memory_of memory) limit pc regs) (modules-at state.unwinders unwinder) known))
     reply-rise state (Stats cache) = tt
 
-    -- so are all walks of a list of commands
-    pub replies-rise : {D : Type 0} (state : CachedWorld R) (commands : List (Command D Regs)) (replies : List (CachedReply Regs)) → cached_replies unwinding state commands ≡ Ok replies → AreWithinRise unwinding (world_of state) commands replies
-    unfolding cached_replies AreWithinRise
-    replies-rise state [] replies e = tt
-    replies-rise state (command ∷ commands) replies e =
-        let later = cached_after unwinding state command in
-        let all = reply-first (refusal_of (length state.caches) (world_of state) command) (cached_reply unwinding state command) (cached_replies unwinding later commands) replies e in
-        let rest = subst (λ world. AreWithinRise unwinding world commands all.0) (world-after unwinding state command) (replies-rise later commands all.0 all.1) in
-        subst (AreWithinRise unwinding (world_of state) (command ∷ commands)) (sym all.2) (reply-rise state command, rest)
+  -- what holds of each reply to a command, holds of those to a list of commands
+  pub each-reply : {D : Type 0} (Holds : World → Command D Regs → CachedReply Regs → Type 0) → ((state : CachedWorld R) (command : Command D Regs) → Holds (world_of state) command (cached_reply unwinding state command)) → (state : CachedWorld R) (commands : List (Command D Regs)) (replies : List (CachedReply Regs)) → cached_replies unwinding state commands ≡ Ok replies → EachReply Holds (world_of state) commands replies
+  unfolding cached_replies EachReply
+  each-reply Holds each state [] replies e = tt
+  each-reply Holds each state (command ∷ commands) replies e =
+      let later = cached_after unwinding state command in
+      let all = reply-first (refusal_of (length state.caches) (world_of state) command) (cached_reply unwinding state command) (cached_replies unwinding later commands) replies e in
+      let rest = subst (λ world. EachReply Holds world commands all.0) (world-after unwinding state command) (each-reply Holds each later commands all.0 all.1) in
+      subst (EachReply Holds (world_of state) (command ∷ commands)) (sym all.2) (each state command, rest)

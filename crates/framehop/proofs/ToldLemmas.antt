@@ -13,6 +13,7 @@ use Rattle.framehop_dwarf.specs.declared.dwarf.DwarfUnwinderError.TheVariants.{F
 use Rattle.framehop.specs.Policy.{Policy}
 use Rattle.framehop.specs.Answer.{Fresh, by_rule, values_of, fresh_of}
 use Rattle.framehop.specs.CallFrames.{RowWords, answer_of_reading, fde_answer}
+use Rattle.framehop.specs.Unwinding.{Words}
 use Rattle.framehop_pe.specs.Answer.{IsMissingStackData, TellsFound as PeTellsFound, IsComputed, KeptUnlessDirect}
 use Rattle.framehop_pe.specs.declared.pe.PeUnwinderError.{PeUnwinderError}
 use Rattle.framehop_pe.specs.declared.pe.PeUnwinderError.TheVariants.{MissingUnwindInfoData, MissingInstructionData, MissingStackData, UnwindInfoParseError, Aarch64Unsupported}
@@ -27,6 +28,10 @@ error-in other (Err error) = error
 
 pub err-same : {A E : Type 0} (a b : E) → ◌≡◌ {A = Result A E} (Err a) (Err b) → a ≡ b
 err-same a b e = cc
+
+-- equal words are equal for rows
+pub rows-are : {Rule Regs : Type 0} (words words' : Words Rule Regs) → words ≡ words' → words.rows ≡ words'.rows
+rows-are words words' same = ap (λ w. w.rows) same
 
 -- the refusals of values, but for out of memory
 values-refused : (error : DwarfUnwinderError) → error ≢ no_memory → IsOfValues error → is_of_row_values error ≡ true

@@ -2,7 +2,7 @@
 use Rattle.std.specs.Prelude.{◌≡◌, ◌≢◌, ℕ, ◌+◌, ◌^◌, ◌≤◌, true, List, take, drop, ◌⊎◌, Err}
 use Rattle.framehop_core.specs.Memory.{Memory}
 use Rattle.framehop_core.specs.Outcome.{Outcome, registers_after}
-use Rattle.framehop_core.specs.CodeAddress.{FrameLocation, at_instruction_pointer, is_first_frame, lookup_address}
+use Rattle.framehop_core.specs.CodeAddress.{FrameLocation, at_instruction_pointer}
 use Rattle.framehop_core.specs.Aarch64.Registers.{Registers}
 use Rattle.framehop_core.specs.Aarch64.Rules.{outcome}
 use Rattle.framehop_core.specs.declared.aarch64.unwind_rule.UnwindRuleAarch64.{UnwindRuleAarch64}
@@ -14,12 +14,13 @@ use Rattle.framehop_pe.specs.declared.pe.PeUnwinderError.TheVariants.{Aarch64Uns
 use Rattle.framehop_macho.specs.Aarch64.{says, helper_rule, by_code}
 use Rattle.framehop_cache.specs.Cache.{CacheView}
 use Rattle.framehop.specs.Modules.{ModuleView, UnwinderView}
-use Rattle.framehop.specs.Meaning.{Meanings, MeansStep}
+use Rattle.framehop.specs.Meaning.{Meanings, MeansAt}
 use Rattle.framehop.specs.Policy.{Policy}
 use Rattle.framehop.specs.Unwinding.{Unwinding, Words, answer_by, takes_memory_by}
 use Rattle.framehop.specs.Soundness.{IsSound, cache_after}
 use Rattle.framehop.specs.Walk.{at_limit, walk_from, cache_after_walk}
 use Rattle.framehop.specs.Rise.{IsWalkWithinRise}
+use Rattle.framehop.specs.Meant.{IsWalkMeant}
 use Rattle.framehop.specs.World.{walked}
 use Rattle.framehop.specs.CachedWorld.{CachedReply, of_world, step_of}
 use Rattle.framehop.specs.declared.aarch64.cache.CacheAarch64.{CacheAarch64}
@@ -39,15 +40,15 @@ aarch64_meanings = record {
   row = RowMeans;
   columns = ColumnsMean;
   by_code = by_code;
-  undoes = λ code offset rule. (IsPrologueRule (take offset code) (drop offset code) rule × UndoesPrologue (take offset code) rule) ⊎ (IsEpilogueRule code offset rule × DoesEpilogue code offset rule);
+  undoes = λ code offset rule.
+      (IsPrologueRule (take offset code) (drop offset code) rule × UndoesPrologue (take offset code) rule)
+      ⊎ (IsEpilogueRule code offset rule × DoesEpilogue code offset rule);
 }
 
 -- a step is what the source of its rule means
 abbrev pub aarch64_means : Policy → List ModuleView → FrameLocation → Registers → Memory → ℕ → Registers → Type 0
 aarch64_means policy modules location old memory address new =
-    MeansStep aarch64_words aarch64_meanings outcome policy
-    (record { first = is_first_frame location; old = old; memory = memory; address = address; new = new })
-    modules (lookup_address location)
+    MeansAt aarch64_words aarch64_meanings outcome policy modules location old memory address new
 
 -- aarch64 under a policy
 unfoldable pub aarch64 : Policy → Unwinding UnwindRuleAarch64 Registers
@@ -74,8 +75,8 @@ abbrev pub aarch64_cache_after : {P Rows Values Stack : Type 0} → Policy → U
 aarch64_cache_after policy unwinder cache location =
     record { 0 = cache_after (aarch64 policy) unwinder cache.0 location }
 
--- A walk to its end: the walk of some limit that it does not reach, and the cache that it leaves. It has at most two
--- frames more than sp has risen since its first step.
+-- A walk to its end: the walk of some limit that it does not reach, and the cache that it leaves. Each step after the
+-- first raises sp, so it has at most two frames more than sp has risen since then; and each step means its source.
 pub record IsWalkToEnd {P Rows Values Stack : Type 0} (policy : Policy) (unwinder : UnwinderView) (memory : Memory)
     (pc : ℕ) (regs : Registers) (reply : CachedReply Registers)
     (old new : CacheAarch64 P Rows Values Stack) : Type 0 where
@@ -83,8 +84,12 @@ pub record IsWalkToEnd {P Rows Values Stack : Type 0} (policy : Policy) (unwinde
   pub few : limit ≤ 2 ^ 64 + 2
   pub ended : (walk_from (aarch64_step policy unwinder memory) limit pc regs).end ≢ at_limit
   pub reply_is : reply ≡ of_world (walked (walk_from (aarch64_step policy unwinder memory) limit pc regs))
+  pub all_rise : (aarch64 policy).always_rises ≡ true
   pub within : IsWalkWithinRise (λ r. r.sp)
       (registers_after regs (aarch64_step policy unwinder memory (at_instruction_pointer pc) regs))
       (walk_from (aarch64_step policy unwinder memory) limit pc regs)
+  pub means : IsWalkMeant
+      (λ location before address after. aarch64_means policy unwinder.modules location before memory address after)
+      regs (walk_from (aarch64_step policy unwinder memory) limit pc regs)
   pub cached : new ≡ cache_after_walk (aarch64_step policy unwinder memory)
       (aarch64_cache_after policy unwinder) limit pc regs old

@@ -10,7 +10,7 @@ use Rattle.framehop.specs.Unwinding.{Unwinding}
 use Rattle.framehop.specs.Fresh.{step}
 use Rattle.framehop.specs.Soundness.{cache_after}
 use Rattle.framehop.specs.Walk.{walk_from, cache_after_walk}
-use Rattle.framehop.specs.World.{World, WorldReply, made, done, stepped, walked, memory_of, refusal_of, unless_refused}
+use Rattle.framehop.specs.World.{World, WorldReply, made, done, stepped, walked, memory_of, refusal_of, unless_refused, world_after}
 use Rattle.framehop_cache.specs.declared.rule_cache.CacheStats.{CacheStats}
 use Rattle.framehop.specs.declared.session.Command.{Command}
 use Rattle.framehop.specs.declared.session.Command.TheVariants.{New, Clone, Add, Remove, Step as StepCommand, Walk as WalkCommand, Stats}
@@ -140,3 +140,10 @@ abbrev pub world_result : {Regs : Type 0} → Result (List (CachedReply Regs)) S
     → Result (List (WorldReply Regs)) SessionError
 world_result (Ok replies) = Ok (without_counts replies)
 world_result (Err error) = Err error
+
+-- each reply to a list of commands, with its command and the world in which it was given, which begins as this one
+unfoldable pub EachReply : {D Regs : Type 0} → (World → Command D Regs → CachedReply Regs → Type 0) → World
+    → List (Command D Regs) → List (CachedReply Regs) → Type 0
+EachReply Holds world (command ∷ commands) (reply ∷ replies) =
+    Holds world command reply × EachReply Holds (world_after world command) commands replies
+EachReply Holds world commands replies = Unit {0}

@@ -2,7 +2,7 @@
 use Rattle.framehop.specs.Walk.{Walk, End, at_root, at_refusal, at_limit, callers, walk_from, cache_after_callers, cache_after_walk}
 use Rattle.std.specs.Prelude.{◌≡◌, ℕ, zero, suc, Bool, false, List, [], ◌∷◌, if◌then◌else◌, ◌==◌, Option, Some, None, Result, Ok, Err}
 use Rattle.framehop_core.specs.Outcome.{Outcome, answered, root, refused}
-use Rattle.framehop_core.specs.CodeAddress.{FrameLocation, at_instruction_pointer, at_return_address, is_first_frame, location_of}
+use Rattle.framehop_core.specs.CodeAddress.{FrameLocation, at_instruction_pointer, at_return_address, address_of, is_first_frame, location_of}
 use Rattle.framehop_core.specs.declared.code_address.FrameAddress.{FrameAddress}
 use Rattle.framehop_core.specs.declared.error.Error.{Error}
 use Rattle.framehop_core.specs.declared.error.Error.TheVariants.{ReturnAddressIsNull}
@@ -68,6 +68,13 @@ Moves advances (before pc) old location new = (location ≡ at_instruction_point
 Moves advances (at_frame callee) old location new =
     (is_first_frame location ≡ false) × advances (is_first_frame callee) old new
 Moves advances at_end old location new = ⊥
+
+-- A call that answers a caller's frame: its step is what the source of its rule means.
+abbrev pub MeansNext : {Regs : Type 0} → (FrameLocation → Regs → ℕ → Regs → Type 0) → Progress → Regs → FrameLocation
+    → Regs → Type 0
+MeansNext Means (before pc) old location new = Unit {0}
+MeansNext Means (at_frame callee) old location new = Means callee old (address_of location) new
+MeansNext Means at_end old location new = Unit {0}
 
 -- the iterator is at a frame, and its location meets a condition
 abbrev pub AtFrame : (FrameLocation → Type 0) → Progress → Type 0

@@ -20,6 +20,7 @@ pub mod CachedWorld
 pub mod SessionView
 pub mod Transparent
 pub mod Rise
+pub mod Meant
 pub mod Aarch64
 pub mod X86_64
 pub mod Laws

@@ -3,6 +3,7 @@
 use Rattle.std.specs.Prelude.{◌≡◌, ℕ, ◌+◌, ◌-◌, ◌==◌, ◌&&◌, not, Bool, true, List, if◌then◌else◌, Option, Some, None, option_map, IfSome, MatchOption, Result, Ok, Err, IfOk}
 use Rattle.framehop_core.specs.Memory.{Memory}
 use Rattle.framehop_core.specs.Outcome.{Outcome, answered}
+use Rattle.framehop_core.specs.CodeAddress.{FrameLocation, is_first_frame, lookup_address}
 use Rattle.framehop_cfi.specs.Row.{Row}
 use Rattle.framehop_cfi.specs.Section.{Section}
 use Rattle.framehop_dwarf.specs.Unwinder.{OfRow, reading_of}
@@ -112,3 +113,12 @@ module _ {Rule Regs : Type 0} (words : Words Rule Regs) (meanings : Meanings Rul
   unfoldable pub MeansStep : List ModuleView → ℕ → Type 0
   MeansStep modules address =
       IfSome (covering modules address) (λ m. MeansData m.unwind_data (address - m.base_avma))
+
+-- a step at a location by a list of modules, from registers over a memory to a return address and the caller's registers
+abbrev pub MeansAt : {Rule Regs : Type 0} → Words Rule Regs → Meanings Rule Regs
+    → (Rule → Bool → Regs → Memory → Outcome Regs) → Policy → List ModuleView → FrameLocation → Regs → Memory → ℕ → Regs
+    → Type 0
+MeansAt words meanings outcome policy modules location old memory address new =
+    MeansStep words meanings outcome policy
+    (record { first = is_first_frame location; old = old; memory = memory; address = address; new = new })
+    modules (lookup_address location)

@@ -1,5 +1,5 @@
 -- How long a walk can be, where each step after the first one raises the stack pointer.
-use Rattle.std.specs.Prelude.{◌≡◌, ℕ, zero, suc, ◌+◌, ◌-◌, ◌≤◌, ◌==◌, ◌⊎◌, true, List, ◌∷◌, length, MatchBool}
+use Rattle.std.specs.Prelude.{◌≡◌, ℕ, zero, suc, ◌+◌, ◌-◌, ◌≤◌, ◌==◌, ◌⊎◌, true, List, length, MatchBool}
 use Rattle.framehop_core.specs.Memory.{Memory}
 use Rattle.framehop_core.specs.Outcome.{Outcome, answered, root, refused, registers_after}
 use Rattle.framehop_core.specs.CodeAddress.{FrameLocation, at_instruction_pointer, at_return_address, is_first_frame}
@@ -7,7 +7,7 @@ use Rattle.framehop.specs.Modules.{ModuleView}
 use Rattle.framehop.specs.Unwinding.{Unwinding}
 use Rattle.framehop.specs.Fresh.{step}
 use Rattle.framehop.specs.Walk.{Walk}
-use Rattle.framehop.specs.World.{World, modules_of, memory_of, world_after, walked}
+use Rattle.framehop.specs.World.{World, modules_of, memory_of, walked}
 use Rattle.framehop.specs.CachedWorld.{CachedReply, of_world}
 use Rattle.framehop.specs.declared.session.Command.{Command}
 use Rattle.framehop.specs.declared.session.Command.TheVariants.{Walk as WalkCommand}
@@ -55,11 +55,3 @@ IsReplyWithinRise unwinding world (WalkCommand unwinder cache pc regs memory lim
     (unwinding.always_rises ≡ true) ⊎ IsWalkOfRules unwinding modules (memory_of memory) limit pc regs
     → IsWalkWithinRise unwinding.stack_pointer (registers_after regs first) walk
 IsReplyWithinRise unwinding world command reply = Unit {0}
-
--- each reply to a list of commands that begins in this world
-unfoldable pub AreWithinRise : {D R Regs : Type 0} → Unwinding R Regs → World → List (Command D Regs)
-    → List (CachedReply Regs) → Type 0
-AreWithinRise unwinding world (command ∷ commands) (reply ∷ replies) =
-    IsReplyWithinRise unwinding world command reply
-    × AreWithinRise unwinding (world_after world command) commands replies
-AreWithinRise unwinding world commands replies = Unit {0}

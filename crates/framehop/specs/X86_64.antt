@@ -1,7 +1,7 @@
 -- Unwinding on x86_64, in the words of contracts.
 use Rattle.std.specs.Prelude.{ℕ, false, List, ◌⊎◌}
 use Rattle.framehop_core.specs.Memory.{Memory}
-use Rattle.framehop_core.specs.CodeAddress.{FrameLocation, is_first_frame, lookup_address}
+use Rattle.framehop_core.specs.CodeAddress.{FrameLocation}
 use Rattle.framehop_core.specs.X86_64.Registers.{Registers}
 use Rattle.framehop_core.specs.X86_64.Rules.{outcome}
 use Rattle.framehop_core.specs.declared.x86_64.unwind_rule.UnwindRuleX86_64.{UnwindRuleX86_64}
@@ -13,7 +13,7 @@ use Rattle.framehop_pe.specs.Frame.{found_at, computed_at}
 use Rattle.framehop_macho.specs.X86_64.{says, helper_rule, by_code}
 use Rattle.framehop_cache.specs.Cache.{CacheView}
 use Rattle.framehop.specs.Modules.{ModuleView, UnwinderView}
-use Rattle.framehop.specs.Meaning.{Meanings, MeansStep}
+use Rattle.framehop.specs.Meaning.{Meanings, MeansAt}
 use Rattle.framehop.specs.Policy.{Policy}
 use Rattle.framehop.specs.Unwinding.{Unwinding, Words, answer_by, takes_memory_by}
 use Rattle.framehop.specs.Soundness.{IsSound}
@@ -33,15 +33,14 @@ x86_64_meanings = record {
   row = RowMeans;
   columns = ColumnsMean;
   by_code = by_code;
-  undoes = λ code offset rule. (IsPrologueRule code offset rule × UndoesPrologue code offset rule) ⊎ (IsEpilogueRule code offset rule × DoesEpilogue code offset rule);
+  undoes = λ code offset rule. (IsPrologueRule code offset rule × UndoesPrologue code offset rule)
+      ⊎ (IsEpilogueRule code offset rule × DoesEpilogue code offset rule);
 }
 
 -- a step is what the source of its rule means
 abbrev pub x86_64_means : Policy → List ModuleView → FrameLocation → Registers → Memory → ℕ → Registers → Type 0
 x86_64_means policy modules location old memory address new =
-    MeansStep x86_64_words x86_64_meanings outcome policy
-    (record { first = is_first_frame location; old = old; memory = memory; address = address; new = new })
-    modules (lookup_address location)
+    MeansAt x86_64_words x86_64_meanings outcome policy modules location old memory address new
 
 -- x86_64 under a policy
 unfoldable pub x86_64 : Policy → Unwinding UnwindRuleX86_64 Registers

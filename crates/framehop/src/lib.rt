@@ -4,17 +4,22 @@
 
 pub mod aarch64;
 pub mod cache;
+pub mod dwarf;
 pub mod session;
 pub mod unwinder;
 pub mod x86_64;
 
 pub use cache::{AllocationPolicy, Cache, MayAllocateDuringUnwind, MustNotAllocateDuringUnwind};
+pub use framehop_analysis::instruction_analysis;
 pub use framehop_cache::{CacheStats, Generations, generations, rule_cache};
 pub use framehop_cfi::section;
 pub use framehop_cfi::section::{ExplicitModuleSectionInfo, ModuleSectionInfo, SectionBytes};
 pub use framehop_core::{
-    Error, FrameAddress, add_signed, arch, code_address, display_utils, error, unwind_rule,
+    Error, FrameAddress, add_signed, arch, code_address, display_utils, error, unwind_result,
+    unwind_rule,
 };
+pub use framehop_macho::{macho, unwind_info as macho_unwind_info};
+pub use framehop_pe::{pe, unwind_info as pe_unwind_info};
 pub use unwinder::{
     Module, ModuleListError, RefusedModule, UnwindIterator, Unwinder, UnwinderError, Unwinding,
 };

@@ -6,11 +6,14 @@ ghost use Rattle.framehop.specs.UnwindIterator.{unwinder_of, progress_in, regs_o
 ghost use Rattle.framehop.specs.SessionView.{end_of, walk_of, result_view, reply_view};
 ghost use Rattle.framehop.specs.World.{memory_of, empty_world, world_replies};
 ghost use Rattle.framehop.specs.Walk.{walk_from, cache_after_walk};
-ghost use Rattle.framehop.specs.Soundness.{IsSound, MayRunOut, cache_after};
-ghost use Rattle.framehop.specs.CachedWorld.{CachedWorld, step_of, empty_cached_world, cached_replies, next_after_all, world_result};
+ghost use Rattle.framehop.specs.Soundness.{IsSound, AreApart, MayRunOut, cache_after};
+ghost use Rattle.framehop.specs.CachedWorld.{CachedWorld, step_of, empty_cached_world, cached_replies, next_after_all, world_result, EachReply};
 ghost use Rattle.framehop.specs.Fresh.{step};
 ghost use Rattle.framehop.specs.Transparent.{IsTransparent, Serves};
-ghost use Rattle.framehop.specs.Rise.{AreWithinRise};
+ghost use Rattle.framehop.specs.Rise.{IsReplyWithinRise};
+ghost use Rattle.framehop.specs.Meaning.{MeansAt};
+ghost use Rattle.framehop.specs.Meant.{IsReplyMeant};
+ghost use Rattle.framehop.specs.Modules.{UnwinderView};
 ghost use Rattle.framehop.specs.Aarch64.{IsSoundAarch64, IsWalkToEnd};
 ghost use Rattle.framehop_cache.specs.Cache.{empty_cache};
 ghost use Rattle.framehop.specs.CodeAddress.{FrameLocation, location_of};
@@ -168,8 +171,8 @@ fn push_next_frame<U: Unwinder, F: FnMut(u64) -> Result<u64, ()>>(
     ensures same_unwinder { unwinder_of unwinding.new ≡ unwinder_of unwinding.old }
     ensures same_cache { (cache_of unwinding.new).ghost_name ≡ (cache_of unwinding.old).ghost_name }
     ensures same_callback { (read_stack_of unwinding.new).ghost_name ≡ (read_stack_of unwinding.old).ghost_name }
-    ensures stays_sound { U.is_sound (unwinder_of unwinding.old).now (cache_of unwinding.old).now
-        → U.is_sound (unwinder_of unwinding.new).now (cache_of unwinding.new).now }
+    ensures stays_sound { (other : UnwinderView) → AreApart (U.unwinder_view (unwinder_of unwinding.old).now) other
+        → U.is_sound other (cache_of unwinding.old).now → U.is_sound other (cache_of unwinding.new).now }
     ensures refused { IfErr result (λ error. error ≡ SessionError.OutOfMemory) }
     ensures moves { IfOk result (λ end. IfNone end ((frame : FrameAddress)
         × (frames.new.items ≡ frames.old.items ++ frame ∷ []) × (progress_in unwinding.new ≡ at_frame (location_of frame))
@@ -178,7 +181,7 @@ fn push_next_frame<U: Unwinder, F: FnMut(u64) -> Result<u64, ()>>(
     ensures cached { OnOk result ((cache_of unwinding.new).now ≡ cache_after_next (U.cache_after (unwinder_of unwinding.old).now)
         (progress_in unwinding.old) (cache_of unwinding.old).now) }
     ensures answers { (memory : StackMemory) → AnswersAs F.FnMut (read_stack_of unwinding.old).now memory
-        → U.is_sound (unwinder_of unwinding.old).now (cache_of unwinding.old).now
+        → U.is_sound (U.unwinder_view (unwinder_of unwinding.old).now) (cache_of unwinding.old).now
         → let next = next_of (λ location regs. U.step (unwinder_of unwinding.old).now location regs memory) (progress_in unwinding.old) (regs_of unwinding.old) in
         AnswersAs F.FnMut (read_stack_of unwinding.new).now memory
         × IfOk result (λ end. (option_map end_of end ≡ end_in next.answer)
@@ -211,7 +214,7 @@ fn next_frames<U: Unwinder, F: FnMut(u64) -> Result<u64, ()>>(
     ensures same_callback { (read_stack_of unwinding.new).ghost_name ≡ (read_stack_of unwinding.old).ghost_name }
     ensures refused { IfErr result (λ error. error ≡ SessionError.OutOfMemory) }
     ensures answers { (memory : StackMemory) → AnswersAs F.FnMut (read_stack_of unwinding.old).now memory
-        → U.is_sound (unwinder_of unwinding.old).now (cache_of unwinding.old).now
+        → U.is_sound (U.unwinder_view (unwinder_of unwinding.old).now) (cache_of unwinding.old).now
         → IfOk result (λ walk.
         let step : FrameLocation → U.UnwindRegs → Outcome U.UnwindRegs = λ location regs. U.step (unwinder_of unwinding.old).now location regs memory in
         (walk_of walk.0.items walk.1 (regs_of unwinding.new)
@@ -524,7 +527,9 @@ pub fn run<D: SectionBytes + Drop, A: Unwinding, P: AllocationPolicy>(
         ≡ next_after_all (A.unwinding P.policy) (empty_cached_world cache_count generations.old) commands.items }
     ensures never_back { generations.old ≤ generations.new }
     ensures drawn_at_most { generations.new ≤ generations.old + length commands.items }
-    ensures bounded { IfOk result (λ replies. AreWithinRise (A.unwinding P.policy)
+    ensures bounded { IfOk result (λ replies. EachReply (IsReplyWithinRise (A.unwinding P.policy))
+        (empty_world generations.old) commands.items (map reply_view replies.items)) }
+    ensures means { IfOk result (λ replies. EachReply (IsReplyMeant (MeansAt A.words A.meanings A.UnwindRule.outcome P.policy))
         (empty_world generations.old) commands.items (map reply_view replies.items)) }
 {
     let mut session: Session<D, A, P> = Session::new(alloc, cache_count)?;
@@ -556,7 +561,8 @@ where
     F: FnMut(u64) -> Result<u64, ()>,
     requires { F.IsAlwaysCallable read_stack.old }
     ensures callable { F.IsAlwaysCallable read_stack.new }
-    ensures stays_sound { IsSoundAarch64 P.policy unwinder.now cache.old.0 → IsSoundAarch64 P.policy unwinder.now cache.new.0 }
+    ensures stays_sound { (other : UnwinderView) → AreApart unwinder.now other
+        → IsSoundAarch64 P.policy other cache.old.0 → IsSoundAarch64 P.policy other cache.new.0 }
     ensures refused { IfErr result (λ error. error ≡ SessionError.OutOfMemory) }
     ensures answers { (memory : StackMemory) → AnswersAs F.FnMut read_stack.old memory
         → IsSoundAarch64 P.policy unwinder.now cache.old.0

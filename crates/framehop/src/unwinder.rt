@@ -1,11 +1,13 @@
 //! Modules, unwinders over them, and the iterator over the frames of a stack.
-ghost use Rattle.std.specs.Prelude.{◌≡◌, ◌≢◌, ◌+◌, ◌-◌, ◌^◌, ◌<◌, ◌↔◌, Bool, true, false, IfOk, IfErr, IfSome, IfNone, IsOk, OnOk, OnSome, IsErrAnd, remove, slice_index_or, MatchOption, MatchResult, SomeIff, IsTrue, codes, is_some, option_map, ℕ, List, Ok, Err, None, string_bytes, length, take, drop, ◌≤◌, Option, []};
+ghost use Rattle.std.specs.Prelude.{◌≡◌, ◌≢◌, ◌+◌, ◌-◌, ◌^◌, ◌<◌, ◌↔◌, ◌⊎◌, refl, Bool, true, false, IfOk, IfErr, IfSome, IfNone, IsOk, OnOk, OnSome, IsErrAnd, remove, slice_index_or, MatchOption, MatchResult, SomeIff, IsTrue, codes, is_some, option_map, ℕ, List, Ok, Err, None, string_bytes, length, take, drop, ◌≤◌, Option, []};
 ghost use Rattle.framehop.specs.Memory.{Memory, AnswersAs};
-ghost use Rattle.framehop.specs.Outcome.{Outcome, answer_of, registers_after};
+ghost use Rattle.framehop.specs.Outcome.{Outcome, answered, answer_of, registers_after};
 ghost use Rattle.framehop.specs.CodeAddress.{FrameLocation, location_of, is_first_frame};
 ghost use Rattle.framehop.specs.Iterator.{before};
 ghost use Rattle.framehop.specs.UnwindIterator.{unwinder_of, progress_in, regs_of, cache_of, read_stack_of};
-ghost use Rattle.framehop.specs.Unwinding.{Unwinding, answer_by, takes_memory_by, RisesAsSaid};
+ghost use Rattle.framehop.specs.Unwinding.{Unwinding, Words, answer_by, takes_memory_by, RisesAsSaid};
+ghost use Rattle.framehop.specs.Meaning.{Meanings, MeansAt};
+ghost use Rattle.framehop_cfi.specs.Row.{Row};
 ghost use Rattle.framehop.specs.CallFrames.{frames_with_header, frames_answer, fde_answer, fde_offset_of};
 ghost use Rattle.framehop.specs.UnwindData.{unwind_data_of, placed_data};
 ghost use Rattle.framehop.specs.TextData.{text_data};
@@ -110,8 +112,16 @@ pub enum UnwinderError {
 
 /// A CPU architecture whose unwind data can be read: what it makes of rules and modules.
 pub trait Unwinding: DwarfUnwinding + PeUnwinding + CompactUnwindInfoUnwinding {
+    ghost use Rattle.framehop.specs.Fresh.{step};
+
     // what a step gives by the modules' bytes, under an allocation policy
     ghost unwinding: { Policy → Unwinding Self.UnwindRule Self.UnwindRegs };
+
+    // what it makes of unwind data, in the words of the readers
+    ghost words: { Words Self.UnwindRule Self.UnwindRegs };
+
+    // what the sources of its rules mean
+    ghost meanings: { Meanings Self.UnwindRule Self.UnwindRegs };
 
     // what a step that answers an address does to the registers, whatever the callback replies: of
     // a first frame (`true`) or another, before and after
@@ -124,22 +134,40 @@ pub trait Unwinding: DwarfUnwinding + PeUnwinding + CompactUnwindInfoUnwinding {
 
     ghost stack_pointer_is: { (policy : Policy) → (unwinding policy).stack_pointer ≡ Self.UnwindRule.stack_pointer };
 
-    // what a module's unwind data gives is by the words of the readers
-    ghost answer_is: { (policy : Policy) → (unwinding policy).module_answer
-        ≡ answer_by (record {
-          rows = record { translated = Self.translated; uncovered = Self.uncovered; direct = Self.direct };
-          pe_found = Self.found;
-          pe_computed = Self.computed;
-          compact = record { stub_rule = Self.UnwindRule.stub_rule; start_rule = Self.UnwindRule.function_start_rule; helper_rule = Self.helper_rule; says = Self.says };
-        }) policy };
+    // its words are those of the readers
+    ghost words_are: { words ≡ record {
+      rows = record { translated = Self.translated; uncovered = Self.uncovered; direct = Self.direct };
+      pe_found = Self.found;
+      pe_computed = Self.computed;
+      compact = record {
+        stub_rule = Self.UnwindRule.stub_rule;
+        start_rule = Self.UnwindRule.function_start_rule;
+        helper_rule = Self.helper_rule;
+        says = Self.says;
+      };
+    } };
 
-    ghost memory_is: { (policy : Policy) → (unwinding policy).takes_memory
-        ≡ takes_memory_by (record {
-          rows = record { translated = Self.translated; uncovered = Self.uncovered; direct = Self.direct };
-          pe_found = Self.found;
-          pe_computed = Self.computed;
-          compact = record { stub_rule = Self.UnwindRule.stub_rule; start_rule = Self.UnwindRule.function_start_rule; helper_rule = Self.helper_rule; says = Self.says };
-        }) policy };
+    // and so is what the sources mean
+    ghost row_is: { (section : List ℕ) (memory : Memory) (row : Row) (first : Bool) (old : Self.UnwindRegs) (address : ℕ) (new : Self.UnwindRegs)
+        → meanings.row section memory row first old address new ↔ Self.row_means section memory row first old address new };
+
+    ghost columns_are: { (section : List ℕ) (limit : Option ℕ) (memory : Memory) (row : Row) (first : Bool) (old : Self.UnwindRegs) (address : ℕ) (new : Self.UnwindRegs)
+        → meanings.columns section limit memory row first old address new ↔ Self.columns_mean section limit memory row first old address new };
+
+    ghost by_code_is: { meanings.by_code ≡ Self.by_code };
+
+    ghost undoes_is: { (code : List ℕ) (offset : ℕ) (rule : Self.UnwindRule) → meanings.undoes code offset rule
+        ↔ (Self.prologue_rule code offset rule × Self.undoes_prologue code offset rule) ⊎ (Self.epilogue_rule code offset rule × Self.does_epilogue code offset rule) };
+
+    // what a module's unwind data gives is by its words
+    ghost answer_is: { (policy : Policy) → (unwinding policy).module_answer ≡ answer_by words policy };
+
+    ghost memory_is: { (policy : Policy) → (unwinding policy).takes_memory ≡ takes_memory_by words policy };
+
+    // a step that answers an address does what the source of its rule means
+    ghost step_means: { (policy : Policy) (modules : List ModuleView) (location : FrameLocation) (old new : Self.UnwindRegs) (memory : Memory) (address : ℕ)
+        → step (unwinding policy) modules location old memory ≡ answered address new
+        → MeansAt words meanings Self.UnwindRule.outcome policy modules location old memory address new };
 
     ghost values_advance: { (first : Bool) (old new : Self.UnwindRegs) → Self.ascends first old new → step_advances first old new };
 
@@ -147,15 +175,25 @@ pub trait Unwinding: DwarfUnwinding + PeUnwinding + CompactUnwindInfoUnwinding {
 
     ghost rule_advances: { (first : Bool) (old new : Self.UnwindRegs) → Self.UnwindRule.advances first old new → step_advances first old new };
 
+    // where it is said that all steps raise the stack pointer, they do
     ghost rises_as_said: { (policy : Policy) → RisesAsSaid (unwinding policy) };
+
+    // and it is said where all that steps do to the registers raises it
+    ghost says_rising: { (policy : Policy)
+        → ((old new : Self.UnwindRegs) → step_advances false old new → Self.UnwindRule.stack_pointer old < Self.UnwindRule.stack_pointer new)
+        → (unwinding policy).always_rises ≡ true };
 }
 
 impl Unwinding for ArchAarch64 {
     ghost use Rattle.framehop_dwarf.specs.Aarch64.{Ascends};
-    ghost use Rattle.framehop.specs.Aarch64.{aarch64};
-    ghost use Rattle.framehop.specs.Laws.Aarch64.{outcome-is, fallback-is, stack_pointer-is, answer-is, memory-is, no-pe-values, Ascends-rule, rises-as-said};
+    ghost use Rattle.framehop.specs.Aarch64.{aarch64, aarch64_words, aarch64_meanings};
+    ghost use Rattle.framehop.specs.Laws.Aarch64.{outcome-is, fallback-is, stack_pointer-is, answer-is, memory-is, step-means, says-rising, no-pe-values, Ascends-rule, rises-as-said};
 
     ghost unwinding = { aarch64 };
+
+    ghost words = { aarch64_words };
+
+    ghost meanings = { aarch64_meanings };
 
     ghost step_advances = { Ascends };
 
@@ -165,9 +203,21 @@ impl Unwinding for ArchAarch64 {
 
     ghost stack_pointer_is = { stack_pointer-is };
 
+    ghost words_are = { refl };
+
+    ghost row_is = { λ section memory row first old address new. (λ means. means, λ means. means) };
+
+    ghost columns_are = { λ section limit memory row first old address new. (λ means. means, λ means. means) };
+
+    ghost by_code_is = { refl };
+
+    ghost undoes_is = { λ code offset rule. (λ undoes. undoes, λ undoes. undoes) };
+
     ghost answer_is = { answer-is };
 
     ghost memory_is = { memory-is };
+
+    ghost step_means = { step-means };
 
     ghost values_advance = { λ first old new advances. advances };
 
@@ -176,13 +226,19 @@ impl Unwinding for ArchAarch64 {
     ghost rule_advances = { Ascends-rule };
 
     ghost rises_as_said = { rises-as-said };
+
+    ghost says_rising = { says-rising };
 }
 
 impl Unwinding for ArchX86_64 {
-    ghost use Rattle.framehop.specs.X86_64.{x86_64};
-    ghost use Rattle.framehop.specs.Laws.X86_64.{outcome-is, fallback-is, stack_pointer-is, answer-is, memory-is, rises-as-said};
+    ghost use Rattle.framehop.specs.X86_64.{x86_64, x86_64_words, x86_64_meanings};
+    ghost use Rattle.framehop.specs.Laws.X86_64.{outcome-is, fallback-is, stack_pointer-is, answer-is, memory-is, step-means, says-rising, rises-as-said};
 
     ghost unwinding = { x86_64 };
+
+    ghost words = { x86_64_words };
+
+    ghost meanings = { x86_64_meanings };
 
     // values that are computed from unwind data may lower rsp
     ghost step_advances = { λ first old new. Unit {0} };
@@ -193,9 +249,21 @@ impl Unwinding for ArchX86_64 {
 
     ghost stack_pointer_is = { stack_pointer-is };
 
+    ghost words_are = { refl };
+
+    ghost row_is = { λ section memory row first old address new. (λ means. means, λ means. means) };
+
+    ghost columns_are = { λ section limit memory row first old address new. (λ means. means, λ means. means) };
+
+    ghost by_code_is = { refl };
+
+    ghost undoes_is = { λ code offset rule. (λ undoes. undoes, λ undoes. undoes) };
+
     ghost answer_is = { answer-is };
 
     ghost memory_is = { memory-is };
+
+    ghost step_means = { step-means };
 
     ghost values_advance = { λ first old new advances. tt };
 
@@ -204,6 +272,8 @@ impl Unwinding for ArchX86_64 {
     ghost rule_advances = { λ first old new advances. tt };
 
     ghost rises_as_said = { rises-as-said };
+
+    ghost says_rising = { says-rising };
 }
 
 /// An unwinder for one CPU architecture: the modules of one process, and unwinding by them.
@@ -228,8 +298,8 @@ pub trait Unwinder: Clone {
     // what a step that answers an address does to the registers, whatever the callback replies
     ghost advances: { Bool → Self.UnwindRegs → Self.UnwindRegs → Type 0 };
 
-    // the cache changes no answer
-    ghost is_sound: { Self → Self.Cache → Type 0 };
+    // the cache changes no answer of an unwinder with these modules and this generation
+    ghost is_sound: { UnwinderView → Self.Cache → Type 0 };
 
     // the cache after a step at a frame, and after one that ran out of memory
     ghost cache_after: { Self → Self.Cache → FrameLocation → Self.Cache };
@@ -318,15 +388,19 @@ pub trait Unwinder: Clone {
         ensures cached { result ≢ Err Error.OutOfMemory → cache.new ≡ cache_after self.now cache.old (location_of address) }
         ensures not_cached { result ≡ Err Error.OutOfMemory → cache.new ≡ cache_after_lookup self.now cache.old (location_of address) }
         ensures extends { extends self.now cache.old cache.new }
-        ensures stays_sound { (other : Self) → AreApart (unwinder_view self.now) (unwinder_view other)
+        ensures stays_sound { (other : UnwinderView) → AreApart (unwinder_view self.now) other
             → is_sound other cache.old → is_sound other cache.new }
-        ensures answers { (memory : Memory) → AnswersAs F.FnMut read_stack.old memory → is_sound self.now cache.old
+        ensures answers { (memory : Memory) → AnswersAs F.FnMut read_stack.old memory → is_sound (unwinder_view self.now) cache.old
             → AnswersAs F.FnMut read_stack.new memory
             × (result ≢ Err Error.OutOfMemory →
             (result ≡ answer_of (step self.now (location_of address) regs.old memory))
             × (regs.new ≡ registers_after regs.old (step self.now (location_of address) regs.old memory))) }
-        ensures means { (memory : Memory) → AnswersAs F.FnMut read_stack.old memory → is_sound self.now cache.old
+        ensures means { (memory : Memory) → AnswersAs F.FnMut read_stack.old memory → is_sound (unwinder_view self.now) cache.old
             → IfOk result (λ answer. IfSome answer (λ return_address. means self.now (location_of address) regs.old memory return_address regs.new)) };
+
+    // a step that answers an address does what the source of its rule means
+    ghost step_means: { (unwinder : Self) (location : FrameLocation) (old new : Self.UnwindRegs) (memory : Memory) (address : ℕ)
+        → step unwinder location old memory ≡ answered address new → means unwinder location old memory address new };
 
     /// An iterator over the frames of a stack, from the instruction pointer (AVMA) and the initial
     /// registers on.
@@ -425,9 +499,10 @@ impl<'u, 'c, 'r, U: Unwinder, F: FnMut(u64) -> Result<u64, ()>> UnwindIterator<'
 impl<U: Unwinder, F: FnMut(u64) -> Result<u64, ()>> UnwindIterator<'_, '_, '_, U, F> {
     ghost use Rattle.std.specs.Prelude.{◌≡◌, ◌≢◌, Result, Ok, Err, IfOk, IfErr, IfSome, IfNone};
     ghost use Rattle.framehop.specs.CodeAddress.{location_of};
-    ghost use Rattle.framehop.specs.Iterator.{at_frame, at_end, location_answer, next_of, Moves, AtFrame, NeedsNoStep, cache_after_next};
+    ghost use Rattle.framehop.specs.Iterator.{at_frame, at_end, location_answer, next_of, Moves, MeansNext, AtFrame, NeedsNoStep, cache_after_next};
     ghost use Rattle.framehop.specs.UnwindIterator.{unwinder_of, progress_in, regs_of, cache_of, read_stack_of};
     ghost use Rattle.framehop.specs.Memory.{Memory, AnswersAs};
+    ghost use Rattle.framehop.specs.Modules.{UnwinderView};
     ghost use Rattle.framehop.specs.Soundness.{AreApart};
 
     /// The next frame: the instruction pointer, then return addresses, and `Ok(None)` from the
@@ -449,18 +524,23 @@ impl<U: Unwinder, F: FnMut(u64) -> Result<u64, ()>> UnwindIterator<'_, '_, '_, U
             × (regs_of self.new ≡ regs_of self.old))) }
         ensures may_run_out { result ≡ Err Error.OutOfMemory
             → AtFrame (U.may_run_out (unwinder_of self.old).now (cache_of self.old).now) (progress_in self.old) }
-        ensures stays_sound { (other : U) → AreApart (U.unwinder_view (unwinder_of self.old).now) (U.unwinder_view other)
+        ensures stays_sound { (other : UnwinderView) → AreApart (U.unwinder_view (unwinder_of self.old).now) other
             → U.is_sound other (cache_of self.old).now → U.is_sound other (cache_of self.new).now }
         ensures cached { result ≢ Err Error.OutOfMemory → (cache_of self.new).now
             ≡ cache_after_next (U.cache_after (unwinder_of self.old).now) (progress_in self.old) (cache_of self.old).now }
         ensures not_cached { result ≡ Err Error.OutOfMemory → (cache_of self.new).now
             ≡ cache_after_next (U.cache_after_lookup (unwinder_of self.old).now) (progress_in self.old) (cache_of self.old).now }
         ensures answers { (memory : Memory) → AnswersAs F.FnMut (read_stack_of self.old).now memory
-            → U.is_sound (unwinder_of self.old).now (cache_of self.old).now
+            → U.is_sound (U.unwinder_view (unwinder_of self.old).now) (cache_of self.old).now
             → let next = next_of (λ location regs. U.step (unwinder_of self.old).now location regs memory) (progress_in self.old) (regs_of self.old) in
             AnswersAs F.FnMut (read_stack_of self.new).now memory
             × (result ≢ Err Error.OutOfMemory →
             (location_answer result ≡ next.answer) × (progress_in self.new ≡ next.progress) × (regs_of self.new ≡ next.regs)) }
+        ensures means { (memory : Memory) → AnswersAs F.FnMut (read_stack_of self.old).now memory
+            → U.is_sound (U.unwinder_view (unwinder_of self.old).now) (cache_of self.old).now
+            → IfOk result (λ answer. IfSome answer (λ frame. MeansNext
+            (λ location old address new. U.means (unwinder_of self.old).now location old memory address new)
+            (progress_in self.old) (regs_of self.old) (location_of frame) (regs_of self.new))) }
     {
         let next = match self.state {
             UnwindIteratorState::Initial(pc) => {
@@ -1056,13 +1136,11 @@ where
     ensures executable { RuleHas (λ rule. IsTrue (A.UnwindRule.executable rule)) result }
     ensures memory { result ≡ Err out_of_memory → P.policy.may_allocate ≡ true }
     ensures told { result ≢ Err out_of_memory → TellsAnswer
-        (fde_answer (record { translated = A.translated; uncovered = A.uncovered; direct = A.direct })
-        P.policy unwinder.old.section (unwinder.old.base_svma + relative_address) is_first_frame fde_offset) result }
+        (fde_answer A.words.rows P.policy unwinder.old.section (unwinder.old.base_svma + relative_address) is_first_frame fde_offset) result }
     ensures answers { (memory : Memory) → AnswersAs F.FnMut read_stack.old memory
         → AnswersAs F.FnMut read_stack.new memory
         × (result ≢ Err out_of_memory → TellsValues
-        (fde_answer (record { translated = A.translated; uncovered = A.uncovered; direct = A.direct })
-        P.policy unwinder.old.section (unwinder.old.base_svma + relative_address) is_first_frame fde_offset)
+        (fde_answer A.words.rows P.policy unwinder.old.section (unwinder.old.base_svma + relative_address) is_first_frame fde_offset)
         regs.old memory result regs.new) }
 {
     match unwinder.unwind_frame_with_fde::<P::GimliEvaluationStorage, F>(
@@ -1100,13 +1178,11 @@ where
     ensures memory { result ≡ Err out_of_memory → (P.policy.may_allocate ≡ true)
         × (is_some (fde_offset_of (frames_with_header eh_frame_hdr.now eh_frame.now base_addresses base_svma) relative_address) ≡ true) }
     ensures told { result ≢ Err out_of_memory → TellsAnswer
-        (frames_answer (record { translated = A.translated; uncovered = A.uncovered; direct = A.direct })
-        P.policy (frames_with_header eh_frame_hdr.now eh_frame.now base_addresses base_svma) relative_address is_first_frame) result }
+        (frames_answer A.words.rows P.policy (frames_with_header eh_frame_hdr.now eh_frame.now base_addresses base_svma) relative_address is_first_frame) result }
     ensures answers { (memory : Memory) → AnswersAs F.FnMut read_stack.old memory
         → AnswersAs F.FnMut read_stack.new memory
         × (result ≢ Err out_of_memory → TellsValues
-        (frames_answer (record { translated = A.translated; uncovered = A.uncovered; direct = A.direct })
-        P.policy (frames_with_header eh_frame_hdr.now eh_frame.now base_addresses base_svma) relative_address is_first_frame)
+        (frames_answer A.words.rows P.policy (frames_with_header eh_frame_hdr.now eh_frame.now base_addresses base_svma) relative_address is_first_frame)
         regs.old memory result regs.new) }
 {
     let mut unwinder = DwarfUnwinder::new(
@@ -1157,13 +1233,11 @@ impl<D: SectionBytes> IndexedFrames<D> {
         ensures executable { RuleHas (λ rule. IsTrue (A.UnwindRule.executable rule)) result }
         ensures memory { result ≡ Err out_of_memory → (P.policy.may_allocate ≡ true) × (is_some (fde_offset_of self.now relative_address) ≡ true) }
         ensures told { result ≢ Err out_of_memory → TellsAnswer
-            (frames_answer (record { translated = A.translated; uncovered = A.uncovered; direct = A.direct })
-            P.policy self.now relative_address is_first_frame) result }
+            (frames_answer A.words.rows P.policy self.now relative_address is_first_frame) result }
         ensures answers { (memory : Memory) → AnswersAs F.FnMut read_stack.old memory
             → AnswersAs F.FnMut read_stack.new memory
             × (result ≢ Err out_of_memory → TellsValues
-            (frames_answer (record { translated = A.translated; uncovered = A.uncovered; direct = A.direct })
-            P.policy self.now relative_address is_first_frame) regs.old memory result regs.new) }
+            (frames_answer A.words.rows P.policy self.now relative_address is_first_frame) regs.old memory result regs.new) }
     {
         let Some(fde_offset) = self.fde_offset(relative_address) else {
             return Err(UnwinderError::DwarfCfiIndexCouldNotFindAddress);
@@ -1195,7 +1269,7 @@ impl<D: SectionBytes> CompactInfo<D> {
         relative_address: u32,
         is_first_frame: bool,
     ) -> Result<CuiUnwindResult<A::UnwindRule>, CompactUnwindInfoUnwinderError>
-        ensures says { result ≡ unwound (record { stub_rule = A.UnwindRule.stub_rule; start_rule = A.UnwindRule.function_start_rule; helper_rule = A.helper_rule; says = A.says }) self.now.info relative_address is_first_frame }
+        ensures says { result ≡ unwound A.words.compact self.now.info relative_address is_first_frame }
         ensures executable { IfExecRule result (λ rule. IsTrue (A.UnwindRule.executable rule)) }
     {
         let text = match &self.text {
@@ -1230,13 +1304,11 @@ impl<D: SectionBytes> CompactInfo<D> {
         ensures executable { RuleHas (λ rule. IsTrue (A.UnwindRule.executable rule)) result }
         ensures memory { result ≡ Err out_of_memory → (P.policy.may_allocate ≡ true) × (is_some self.now.frames ≡ true) }
         ensures told { result ≢ Err out_of_memory → TellsAnswer
-            (by_info (record { translated = A.translated; uncovered = A.uncovered; direct = A.direct })
-            P.policy self.now.frames relative_address is_first_frame (Ok (NeedDwarf fde_offset))) result }
+            (by_info A.words.rows P.policy self.now.frames relative_address is_first_frame (Ok (NeedDwarf fde_offset))) result }
         ensures answers { (memory : Memory) → AnswersAs F.FnMut read_stack.old memory
             → AnswersAs F.FnMut read_stack.new memory
             × (result ≢ Err out_of_memory → TellsValues
-            (by_info (record { translated = A.translated; uncovered = A.uncovered; direct = A.direct })
-            P.policy self.now.frames relative_address is_first_frame (Ok (NeedDwarf fde_offset))) regs.old memory result regs.new) }
+            (by_info A.words.rows P.policy self.now.frames relative_address is_first_frame (Ok (NeedDwarf fde_offset))) regs.old memory result regs.new) }
     {
         let Some(eh_frame) = &self.eh_frame else {
             return Err(UnwinderError::NoDwarfData);
@@ -1277,17 +1349,15 @@ impl<D: SectionBytes> CompactInfo<D> {
         ensures written { WritesWithAddress (A.step_advances is_first_frame) result regs.old regs.new }
         ensures executable { RuleHas (λ rule. IsTrue (A.UnwindRule.executable rule)) result }
         ensures memory { result ≡ Err out_of_memory → (P.policy.may_allocate ≡ true)
-            × (needs_fde self.now.frames (unwound (record { stub_rule = A.UnwindRule.stub_rule; start_rule = A.UnwindRule.function_start_rule; helper_rule = A.helper_rule; says = A.says }) self.now.info relative_address is_first_frame) ≡ true) }
+            × (needs_fde self.now.frames (unwound A.words.compact self.now.info relative_address is_first_frame) ≡ true) }
         ensures told { result ≢ Err out_of_memory → TellsAnswer
-            (compact_answer (record { stub_rule = A.UnwindRule.stub_rule; start_rule = A.UnwindRule.function_start_rule; helper_rule = A.helper_rule; says = A.says })
-            (record { translated = A.translated; uncovered = A.uncovered; direct = A.direct })
-            P.policy self.now relative_address is_first_frame) result }
+            (compact_answer A.words.compact
+            A.words.rows P.policy self.now relative_address is_first_frame) result }
         ensures answers { (memory : Memory) → AnswersAs F.FnMut read_stack.old memory
             → AnswersAs F.FnMut read_stack.new memory
             × (result ≢ Err out_of_memory → TellsValues
-            (compact_answer (record { stub_rule = A.UnwindRule.stub_rule; start_rule = A.UnwindRule.function_start_rule; helper_rule = A.helper_rule; says = A.says })
-            (record { translated = A.translated; uncovered = A.uncovered; direct = A.direct })
-            P.policy self.now relative_address is_first_frame) regs.old memory result regs.new) }
+            (compact_answer A.words.compact
+            A.words.rows P.policy self.now relative_address is_first_frame) regs.old memory result regs.new) }
     {
         match self.unwind_frame_by_info::<A>(relative_address, is_first_frame) {
             Ok(CuiUnwindResult::ExecRule(rule)) => Ok(UnwindResult::ExecRule(rule)),
@@ -1371,16 +1441,13 @@ impl<D: SectionBytes> Module<D> {
         ensures written { WritesWithAddress (A.step_advances is_first_frame) result regs.old regs.new }
         ensures executable { RuleHas (λ rule. IsTrue (A.UnwindRule.executable rule)) result }
         ensures memory { result ≡ Err out_of_memory → takes_memory_by
-            (record { rows = record { translated = A.translated; uncovered = A.uncovered; direct = A.direct }; pe_found = A.found; pe_computed = A.computed; compact = record { stub_rule = A.UnwindRule.stub_rule; start_rule = A.UnwindRule.function_start_rule; helper_rule = A.helper_rule; says = A.says } })
-            P.policy self.now relative_address is_first_frame ≡ true }
+            A.words P.policy self.now relative_address is_first_frame ≡ true }
         ensures told { result ≢ Err out_of_memory → TellsAnswer
-            (answer_by (record { rows = record { translated = A.translated; uncovered = A.uncovered; direct = A.direct }; pe_found = A.found; pe_computed = A.computed; compact = record { stub_rule = A.UnwindRule.stub_rule; start_rule = A.UnwindRule.function_start_rule; helper_rule = A.helper_rule; says = A.says } })
-            P.policy self.now relative_address is_first_frame) result }
+            (answer_by A.words P.policy self.now relative_address is_first_frame) result }
         ensures answers { (memory : Memory) → AnswersAs F.FnMut read_stack.old memory
             → AnswersAs F.FnMut read_stack.new memory
             × (result ≢ Err out_of_memory → TellsValues
-            (answer_by (record { rows = record { translated = A.translated; uncovered = A.uncovered; direct = A.direct }; pe_found = A.found; pe_computed = A.computed; compact = record { stub_rule = A.UnwindRule.stub_rule; start_rule = A.UnwindRule.function_start_rule; helper_rule = A.helper_rule; says = A.says } })
-            P.policy self.now relative_address is_first_frame) regs.old memory result regs.new) }
+            (answer_by A.words P.policy self.now relative_address is_first_frame) regs.old memory result regs.new) }
     {
         match &*self.unwind_data {
             ModuleUnwindDataInternal::EhFrameHdrAndEhFrame {
@@ -1682,10 +1749,7 @@ impl<D: SectionBytes + Drop, A: Unwinding, P: AllocationPolicy> UnwinderInternal
 
 impl<D: SectionBytes + Drop, A: Unwinding, P: AllocationPolicy> Unwinder
     for UnwinderInternal<D, A, P> {
-    ghost use Rattle.std.specs.Prelude.{◌⊎◌};
-    ghost use Rattle.framehop.specs.CodeAddress.{lookup_address};
     ghost use Rattle.framehop.specs.Fresh.{step};
-    ghost use Rattle.framehop.specs.Meaning.{MeansStep};
     ghost use Rattle.framehop.specs.Soundness.{IsSound, Extends, MayRunOut, cache_after, cache_after_lookup};
 
     type UnwindRegs = A::UnwindRegs;
@@ -1702,7 +1766,7 @@ impl<D: SectionBytes + Drop, A: Unwinding, P: AllocationPolicy> Unwinder
 
     ghost advances = { A.step_advances };
 
-    ghost is_sound = { λ u cache. IsSound (A.unwinding P.policy) u cache.sets };
+    ghost is_sound = { λ view cache. IsSound (A.unwinding P.policy) view cache.sets };
 
     ghost cache_after = { λ u cache location. cache_after (A.unwinding P.policy) u cache location };
 
@@ -1712,10 +1776,11 @@ impl<D: SectionBytes + Drop, A: Unwinding, P: AllocationPolicy> Unwinder
 
     ghost may_run_out = { λ u cache location. MayRunOut (A.unwinding P.policy) u cache location };
 
-    ghost means = { λ u location old memory address new. MeansStep
-        (record { rows = record { translated = A.translated; uncovered = A.uncovered; direct = A.direct }; pe_found = A.found; pe_computed = A.computed; compact = record { stub_rule = A.UnwindRule.stub_rule; start_rule = A.UnwindRule.function_start_rule; helper_rule = A.helper_rule; says = A.says } })
-        (record { row = A.row_means; columns = A.columns_mean; by_code = A.by_code; undoes = λ code offset rule. (A.prologue_rule code offset rule × A.undoes_prologue code offset rule) ⊎ (A.epilogue_rule code offset rule × A.does_epilogue code offset rule) })
-        A.UnwindRule.outcome P.policy (record { first = is_first_frame location; old = old; memory = memory; address = address; new = new }) u.modules (lookup_address location) };
+    ghost means = { λ u location old memory address new.
+        MeansAt A.words A.meanings A.UnwindRule.outcome P.policy u.modules location old memory address new };
+
+    ghost step_means = { λ u location old new memory address answers.
+        A.step_means P.policy u.modules location old new memory address answers };
 
     fn add_module(
         &mut self,

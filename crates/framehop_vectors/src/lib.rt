@@ -14,6 +14,8 @@ mod commands;
 #[cfg(test)]
 mod library;
 #[cfg(test)]
+mod paths;
+#[cfg(test)]
 mod readme;
 #[cfg(test)]
 mod section_info;

@@ -1,5 +1,6 @@
 -- The laws of `Unwinding` on aarch64.
-use Rattle.std.proofs.Common.{◌≡◌, ℕ, Bool, false, None, Ok, refl}
+use Rattle.std.proofs.Common.{◌≡◌, ℕ, ◌<◌, Bool, true, false, List, None, Ok, refl}
+use Rattle.framehop_core.specs.Memory.{Memory}
 use Rattle.framehop_core.specs.Aarch64.Registers.{Registers}
 use Rattle.framehop_core.specs.Aarch64.Rules.{outcome, Advances}
 use Rattle.framehop_core.specs.Laws.Aarch64.{outcome-Advances}
@@ -10,7 +11,15 @@ use Rattle.framehop_pe.specs.Sections.{Sections}
 use Rattle.framehop.specs.Policy.{Policy}
 use Rattle.framehop.specs.Unwinding.{RisesAsSaid, answer_by, takes_memory_by}
 use Rattle.framehop.specs.Laws.Values.{values-read}
-use Rattle.framehop.specs.Aarch64.{aarch64, aarch64_words}
+use Rattle.framehop.specs.Aarch64.{aarch64, aarch64_words, aarch64_meanings, aarch64_means}
+use Rattle.framehop.specs.Fresh.{step}
+use Rattle.framehop.specs.Modules.{ModuleView}
+use Rattle.framehop.specs.Laws.Meaning.{Laws, step-means-by}
+use Rattle.framehop_core.specs.CodeAddress.{FrameLocation}
+use Rattle.framehop_core.specs.Outcome.{answered}
+use Rattle.framehop_dwarf.specs.Laws.Aarch64.{rule-means, values-mean}
+use Rattle.framehop_analysis.specs.Laws.Aarch64.Means.{analysed-means}
+use Rattle.framehop_macho.specs.Laws.Aarch64.{says-by_code, by_code-analysed}
 
 pub outcome-is : (policy : Policy) → (aarch64 policy).outcome ≡ outcome
 unfolding aarch64
@@ -51,3 +60,28 @@ rises-as-said policy = record {
       (λ sections at kind none. cc) policy m relative false compute e old memory values computed in
       (direct-means read.bytes policy.values memory read.row false old values.0 values.1 read.direct_is).rises refl;
 }
+
+-- the readers' laws
+readers : Laws aarch64_words aarch64_meanings outcome
+readers = record {
+  rule_means = rule-means;
+  values_mean = values-mean;
+  rule_simulates = λ sections address first rule found. cc;
+  says_by_code = says-by_code;
+  code_means = λ function code offset rule is. analysed-means code offset rule (by_code-analysed function code offset rule is);
+}
+
+pub step-means : (policy : Policy) (modules : List ModuleView) (location : FrameLocation) (old new : Registers)
+    (memory : Memory) (address : ℕ) → step (aarch64 policy) modules location old memory ≡ answered address new
+    → aarch64_means policy modules location old memory address new
+step-means policy modules location old new memory address answers =
+    step-means-by aarch64_words aarch64_meanings outcome policy readers (aarch64 policy) (outcome-is policy)
+    (answer-is policy) modules location old new memory address answers
+
+pub always_rises-is : (policy : Policy) → (aarch64 policy).always_rises ≡ true
+unfolding aarch64
+always_rises-is policy = refl
+
+pub says-rising : (policy : Policy)
+    → ((old new : Registers) → Ascends false old new → old.sp < new.sp) → (aarch64 policy).always_rises ≡ true
+says-rising policy up = always_rises-is policy

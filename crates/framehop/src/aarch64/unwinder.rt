@@ -52,6 +52,7 @@ impl<D: SectionBytes + Drop, P: AllocationPolicy> Unwinder for UnwinderAarch64<D
     ghost use Rattle.framehop.specs.Soundness.{IsSound, Extends, MayRunOut, cache_after, cache_after_lookup};
     ghost use Rattle.framehop_dwarf.specs.Aarch64.{Ascends};
     ghost use Rattle.framehop.specs.Aarch64.{aarch64, aarch64_means};
+    ghost use Rattle.framehop.specs.Laws.Aarch64.{step-means};
 
     type UnwindRegs = UnwindRegsAarch64;
 
@@ -67,7 +68,7 @@ impl<D: SectionBytes + Drop, P: AllocationPolicy> Unwinder for UnwinderAarch64<D
 
     ghost advances = { Ascends };
 
-    ghost is_sound = { λ u cache. IsSound (aarch64 P.policy) u cache.0.sets };
+    ghost is_sound = { λ view cache. IsSound (aarch64 P.policy) view cache.0.sets };
 
     ghost cache_after = { λ u cache location. record { 0 = cache_after (aarch64 P.policy) u cache.0 location } };
 
@@ -78,6 +79,8 @@ impl<D: SectionBytes + Drop, P: AllocationPolicy> Unwinder for UnwinderAarch64<D
     ghost may_run_out = { λ u cache location. MayRunOut (aarch64 P.policy) u cache.0 location };
 
     ghost means = { λ u location old memory address new. aarch64_means P.policy u.modules location old memory address new };
+
+    ghost step_means = { λ u location old new memory address answers. step-means P.policy u.modules location old new memory address answers };
 
     fn add_module(
         &mut self,

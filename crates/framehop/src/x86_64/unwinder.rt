@@ -51,6 +51,7 @@ impl<D: SectionBytes + Drop, P: AllocationPolicy> Unwinder for UnwinderX86_64<D,
     ghost use Rattle.framehop.specs.Fresh.{step};
     ghost use Rattle.framehop.specs.Soundness.{IsSound, Extends, MayRunOut, cache_after, cache_after_lookup};
     ghost use Rattle.framehop.specs.X86_64.{x86_64, x86_64_means};
+    ghost use Rattle.framehop.specs.Laws.X86_64.{step-means};
 
     type UnwindRegs = UnwindRegsX86_64;
 
@@ -66,7 +67,7 @@ impl<D: SectionBytes + Drop, P: AllocationPolicy> Unwinder for UnwinderX86_64<D,
 
     ghost advances = { λ first old new. Unit {0} };
 
-    ghost is_sound = { λ u cache. IsSound (x86_64 P.policy) u cache.0.sets };
+    ghost is_sound = { λ view cache. IsSound (x86_64 P.policy) view cache.0.sets };
 
     ghost cache_after = { λ u cache location. record { 0 = cache_after (x86_64 P.policy) u cache.0 location } };
 
@@ -77,6 +78,8 @@ impl<D: SectionBytes + Drop, P: AllocationPolicy> Unwinder for UnwinderX86_64<D,
     ghost may_run_out = { λ u cache location. MayRunOut (x86_64 P.policy) u cache.0 location };
 
     ghost means = { λ u location old memory address new. x86_64_means P.policy u.modules location old memory address new };
+
+    ghost step_means = { λ u location old new memory address answers. step-means P.policy u.modules location old new memory address answers };
 
     fn add_module(
         &mut self,

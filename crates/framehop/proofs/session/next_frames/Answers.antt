@@ -1,4 +1,4 @@
-use Rattle.std.proofs.Common.{◌+◌, ◌-◌, map, arith, rules}
+use Rattle.std.proofs.Common.{◌+◌, ◌-◌, map, refl, arith, rules}
 use Rattle.framehop.specs.CodeAddress.{FrameLocation, location_of}
 use Rattle.framehop.specs.Outcome.{Outcome}
 use Rattle.framehop.specs.Iterator.{progress_of}
@@ -27,7 +27,7 @@ loop-call-preserved g c = (
       let called = rw c.loop-call.invariant.1 at (c.in_ok-end.ensures.answers memory before.0 before.1) in
       let cached = rw c.loop-call.invariant.1 at c.in_ok-end.ensures.cached in (
         called.0,
-        c.in_ok-end.ensures.stays_sound before.1,
+        rw c.in_ok-end.ensures.same_unwinder (c.in_ok-end.ensures.stays_sound (g.U.Unwinder.unwinder_view c.loop-call.unwinding.unwinder.now) (λ same. refl) before.1),
         WalksOn-next
             step (g.U.Unwinder.cache_after c.args.unwinding.now.unwinder.now) (map location_of c.loop-call.frames.items) c.args.limit (progress_of c.loop-call.unwinding.state) (progress_of c.args.unwinding.now.state) (progress_of c.push_next_frame.new.unwinding.state) c.loop-call.unwinding.regs c.args.unwinding.now.regs c.push_next_frame.new.unwinding.regs c.loop-call.unwinding.cache.now c.args.unwinding.now.cache.now c.push_next_frame.new.unwinding.cache.now
             called.1.2 called.1.3 cached (c.args.limit - c.loop-call._call) (c.args.limit - (c.loop-call._call + 1)) (omega arith) c.in_ok-end.field-0 called.1.0 c.in_default.is (map location_of c.push_next_frame.new.frames.items) called.1.1 before.2,

@@ -12,9 +12,9 @@ invariant-loop-call g l =
     × (l.unwinding.cache.ghost_name ≡ l.fn.unwinding.cache.ghost_name)
     × (l.unwinding.read_stack.ghost_name ≡ l.fn.unwinding.read_stack.ghost_name)
     × ((memory : Memory) → AnswersAs g.F.FnMut l.fn.unwinding.read_stack.now memory
-    → g.U.Unwinder.is_sound l.fn.unwinding.unwinder.now l.fn.unwinding.cache.now
+    → g.U.Unwinder.is_sound (g.U.Unwinder.unwinder_view l.fn.unwinding.unwinder.now) l.fn.unwinding.cache.now
     → AnswersAs g.F.FnMut l.unwinding.read_stack.now memory
-    × g.U.Unwinder.is_sound l.unwinding.unwinder.now l.unwinding.cache.now
+    × g.U.Unwinder.is_sound (g.U.Unwinder.unwinder_view l.unwinding.unwinder.now) l.unwinding.cache.now
     × WalksOn (λ location regs. g.U.Unwinder.step l.fn.unwinding.unwinder.now location regs memory) (g.U.Unwinder.cache_after l.fn.unwinding.unwinder.now)
     (map location_of l.frames.items) (l.limit - l._call) l.limit
     (progress_of l.unwinding.state) (progress_of l.fn.unwinding.state)

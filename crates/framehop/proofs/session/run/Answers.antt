@@ -9,7 +9,8 @@ use Rattle.framehop.specs.Transparent.{IsTransparent}
 use Rattle.framehop.proofs.CachedWorldLemmas.{transparent-start, transparent-after, CachedWorld-equal}
 use Rattle.framehop.proofs.RunLemmas.{Continues, Continues-start, Continues-served, refused-all, done-all}
 use Rattle.framehop.proofs.WorldLemmas.{world-replies-start}
-use Rattle.framehop.proofs.RiseLemmas.{raises-as, replies-rise}
+use Rattle.framehop.proofs.MeaningLemmas.{reply-meant}
+use Rattle.framehop.proofs.RiseLemmas.{raises-as, reply-rise, each-reply}
 use Rattle.framehop.proofs.session.run.Goals as goal
 
 pub loop-command-init : goal.loop-command-init
@@ -81,9 +82,16 @@ returns-clause-drawn g c = λ other.
 pub returns-clause-bounded : goal.returns-clause-bounded
 returns-clause-bounded g c =
     let policy = g.P.AllocationPolicy.policy in
-    replies-rise (g.A.Unwinding.unwinding g.P.AllocationPolicy.policy) g.A.UnwindRule.UnwindRule.is_after_step
-    (raises-as _ _ _ _ _ (sym (g.met.A.Unwinding.outcome_is policy)) (sym (g.met.A.Unwinding.stack_pointer_is policy)) g.met.A.UnwindRule.UnwindRule.raises)
-    (g.A.Unwinding.rises_as_said policy)
+    let unwinding = g.A.Unwinding.unwinding policy in
+    let raises = raises-as _ _ _ _ _ (sym (g.met.A.Unwinding.outcome_is policy)) (sym (g.met.A.Unwinding.stack_pointer_is policy)) g.met.A.UnwindRule.UnwindRule.raises in
+    each-reply unwinding _ (reply-rise unwinding g.A.UnwindRule.UnwindRule.is_after_step raises (g.A.Unwinding.rises_as_said policy))
+    (empty_cached_world c.args.cache_count c.args.generations.now) c.args.commands.items (map reply_view c.loop-command.replies.items) (sym (returns-clause-counted g c (λ e. cc)))
+
+pub returns-clause-means : goal.returns-clause-means
+returns-clause-means g c =
+    let policy = g.P.AllocationPolicy.policy in
+    let unwinding = g.A.Unwinding.unwinding policy in
+    each-reply unwinding _ (reply-meant unwinding _ (g.met.A.Unwinding.step_means policy))
     (empty_cached_world c.args.cache_count c.args.generations.now) c.args.commands.items (map reply_view c.loop-command.replies.items) (sym (returns-clause-counted g c (λ e. cc)))
 
 pub returns-in_err-reply-clause-drawn_at_most : goal.returns-in_err-reply-clause-drawn_at_most

@@ -2,6 +2,8 @@ use Rattle.std.proofs.Common.{◌≡◌, ℕ, ◌+◌, map, length}
 use Rattle.framehop.specs.Memory.{Memory, AnswersAs}
 use Rattle.framehop.specs.CodeAddress.{location_of}
 use Rattle.framehop.specs.Iterator.{before, progress_of}
+use Rattle.framehop.specs.Modules.{UnwinderView}
+use Rattle.framehop.specs.Soundness.{AreApart}
 use Rattle.framehop.specs.Aarch64.{aarch64_step, aarch64_cache_after, IsSoundAarch64}
 use Rattle.framehop.proofs.WalkLemmas.{WalksOn}
 use Rattle.framehop.proofs.EndingLemmas.{calls_left, StillEnds}
@@ -17,7 +19,8 @@ invariant-loop-unwinding g l =
     × (l.unwinding.unwinder.now ≡ l.fn.unwinder)
     × (l.unwinding.cache.ghost_name ≡ l.initial.unwinding.cache.ghost_name)
     × (l.unwinding.read_stack.ghost_name ≡ l.initial.unwinding.read_stack.ghost_name)
-    × (IsSoundAarch64 g.P.AllocationPolicy.policy l.fn.unwinder l.fn.cache.0 → IsSoundAarch64 g.P.AllocationPolicy.policy l.unwinding.unwinder.now l.unwinding.cache.now.0)
+    × ((other : UnwinderView) → AreApart l.fn.unwinder other → IsSoundAarch64 g.P.AllocationPolicy.policy other l.fn.cache.0
+    → IsSoundAarch64 g.P.AllocationPolicy.policy other l.unwinding.cache.now.0)
     × StillEnds l.frames.items (progress_of l.unwinding.state) l.unwinding.regs
     × ((memory : Memory) → AnswersAs g.F.FnMut l.fn.read_stack memory
     → IsSoundAarch64 g.P.AllocationPolicy.policy l.fn.unwinder l.fn.cache.0

@@ -14,13 +14,13 @@ pub returns-clause-refused : goal.returns-clause-refused
 returns-clause-refused g c =
     let policy = g.P.AllocationPolicy.policy in
     refused g.A.UnwindRule.UnwindRule.fallback _ c.unwind_frame.result c.frame_answer.result c.args.regs.now c.unwind_frame.new.regs c.frame_answer.ensures c.unwind_frame.ensures.written
-    (λ out. takes-memory (g.A.Unwinding.unwinding policy) _ policy (g.met.A.Unwinding.memory_is policy) c.args.self.now.modules c.args.lookup_address c.args.is_first_frame c.in-Some.module.now c.in-Some.relative_address c.in-Some.ensures.0 c.in-Some.ensures.1 (c.unwind_frame.ensures.memory out))
+    (λ out. takes-memory (g.A.Unwinding.unwinding policy) _ policy (g.A.Unwinding.memory_is policy) c.args.self.now.modules c.args.lookup_address c.args.is_first_frame c.in-Some.module.now c.in-Some.relative_address c.in-Some.ensures.0 c.in-Some.ensures.1 (c.unwind_frame.ensures.memory out))
 
 pub returns-clause-told : goal.returns-clause-told
 returns-clause-told g c =
     let policy = g.P.AllocationPolicy.policy in
     subst (λ (answer : Fresh g.row.A-UnwindRule.Denot g.row.A-UnwindRegs.Denot). IfOk c.frame_answer.result (TellsFresh answer))
-    (given-fresh (g.A.Unwinding.unwinding policy) _ policy g.A.UnwindRule.UnwindRule.fallback (g.met.A.Unwinding.answer_is policy) (g.met.A.Unwinding.fallback_is policy) c.args.self.now.modules c.args.lookup_address c.args.is_first_frame c.in-Some.module.now c.in-Some.relative_address c.in-Some.ensures.0 c.in-Some.ensures.1)
+    (given-fresh (g.A.Unwinding.unwinding policy) _ policy g.A.UnwindRule.UnwindRule.fallback (g.A.Unwinding.answer_is policy) (g.met.A.Unwinding.fallback_is policy) c.args.self.now.modules c.args.lookup_address c.args.is_first_frame c.in-Some.module.now c.in-Some.relative_address c.in-Some.ensures.0 c.in-Some.ensures.1)
     (tells g.A.UnwindRule.UnwindRule.fallback _ c.unwind_frame.result c.frame_answer.result c.frame_answer.ensures c.unwind_frame.ensures.told)
 
 pub returns-clause-answers : goal.returns-clause-answers
@@ -29,6 +29,6 @@ returns-clause-answers g c = λ memory answers.
     let ran = c.unwind_frame.ensures.answers memory answers in (
       ran.0,
       subst (λ (answer : Fresh g.row.A-UnwindRule.Denot g.row.A-UnwindRegs.Denot). IfOk c.frame_answer.result (λ made. TellsFreshValues answer c.args.regs.now memory made c.unwind_frame.new.regs))
-          (given-fresh (g.A.Unwinding.unwinding policy) _ policy g.A.UnwindRule.UnwindRule.fallback (g.met.A.Unwinding.answer_is policy) (g.met.A.Unwinding.fallback_is policy) c.args.self.now.modules c.args.lookup_address c.args.is_first_frame c.in-Some.module.now c.in-Some.relative_address c.in-Some.ensures.0 c.in-Some.ensures.1)
+          (given-fresh (g.A.Unwinding.unwinding policy) _ policy g.A.UnwindRule.UnwindRule.fallback (g.A.Unwinding.answer_is policy) (g.met.A.Unwinding.fallback_is policy) c.args.self.now.modules c.args.lookup_address c.args.is_first_frame c.in-Some.module.now c.in-Some.relative_address c.in-Some.ensures.0 c.in-Some.ensures.1)
           (values g.A.UnwindRule.UnwindRule.fallback _ c.unwind_frame.result c.frame_answer.result c.args.regs.now c.unwind_frame.new.regs memory c.frame_answer.ensures c.unwind_frame.ensures.told ran.1),
     )

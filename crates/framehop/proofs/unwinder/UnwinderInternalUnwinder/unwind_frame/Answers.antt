@@ -4,7 +4,7 @@ use Rattle.framehop.specs.CodeAddress.{location_of, lookup_address}
 use Rattle.framehop_cache.specs.Cache.{CacheView}
 use Rattle.framehop.specs.Soundness.{Extends, TakesMemory}
 use Rattle.framehop.proofs.SoundnessLemmas.{cache_after-hit, cache_after-miss, cache_after_lookup-miss, missed, step-hit, step-at, fresh-at, Extends-after, Extends-same, IsSound-extended, out-or-not}
-use Rattle.framehop.proofs.MeaningLemmas.{location-means, answer-means}
+use Rattle.framehop.proofs.MeaningLemmas.{answer-means}
 use Rattle.framehop.proofs.unwinder.UnwinderInternalUnwinder.unwind_frame.Goals as goal
 
 pub returns-in-Hit-clause-cached : goal.returns-in-Hit-clause-cached
@@ -66,10 +66,10 @@ pub returns-in-Hit-clause-means : goal.returns-in-Hit-clause-means
 returns-in-Hit-clause-means g c = λ memory answers sound.
     let policy = g.P.AllocationPolicy.policy in
     answer-means c.exec.result _ c.args.regs.now c.exec.new.regs _ (returns-in-Hit-clause-answers g c memory answers sound).1
-    (λ address e. location-means _ _ g.A.UnwindRule.UnwindRule.outcome policy (record { rule_means = g.met.A.DwarfUnwinding.rule_means; values_mean = g.met.A.DwarfUnwinding.values_mean; rule_simulates = g.met.A.PeUnwinding.rule_simulates; says_by_code = g.met.A.CompactUnwindInfoUnwinding.says_by_code; code_means = g.met.A.CompactUnwindInfoUnwinding.code_means }) (g.A.Unwinding.unwinding policy) (g.met.A.Unwinding.outcome_is policy) (g.met.A.Unwinding.answer_is policy) c.args.self.now.modules (location_of c.args.address) c.args.regs.now c.exec.new.regs memory address e)
+    (λ address e. g.met.A.Unwinding.step_means policy c.args.self.now.modules (location_of c.args.address) c.args.regs.now c.exec.new.regs memory address e)
 
 pub returns-in-Miss-clause-means : goal.returns-in-Miss-clause-means
 returns-in-Miss-clause-means g c = λ memory answers sound.
     let policy = g.P.AllocationPolicy.policy in
     answer-means c.unwind_uncached.result _ c.args.regs.now c.unwind_uncached.new.regs _ (returns-in-Miss-clause-answers g c memory answers sound).1
-    (λ address e. location-means _ _ g.A.UnwindRule.UnwindRule.outcome policy (record { rule_means = g.met.A.DwarfUnwinding.rule_means; values_mean = g.met.A.DwarfUnwinding.values_mean; rule_simulates = g.met.A.PeUnwinding.rule_simulates; says_by_code = g.met.A.CompactUnwindInfoUnwinding.says_by_code; code_means = g.met.A.CompactUnwindInfoUnwinding.code_means }) (g.A.Unwinding.unwinding policy) (g.met.A.Unwinding.outcome_is policy) (g.met.A.Unwinding.answer_is policy) c.args.self.now.modules (location_of c.args.address) c.args.regs.now c.unwind_uncached.new.regs memory address e)
+    (λ address e. g.met.A.Unwinding.step_means policy c.args.self.now.modules (location_of c.args.address) c.args.regs.now c.unwind_uncached.new.regs memory address e)
