@@ -1714,7 +1714,7 @@ impl<D: SectionBytes + Drop, A: Unwinding, P: AllocationPolicy> Unwinder
 
     ghost means = { λ u location old memory address new. MeansStep
         (record { rows = record { translated = A.translated; uncovered = A.uncovered; direct = A.direct }; pe_found = A.found; pe_computed = A.computed; compact = record { stub_rule = A.UnwindRule.stub_rule; start_rule = A.UnwindRule.function_start_rule; helper_rule = A.helper_rule; says = A.says } })
-        (record { row = A.row_means; columns = A.columns_mean; by_code = A.by_code; undoes = λ code offset rule. (A.prologue_rule code offset rule × A.undoes_prologue code offset rule) ⊎ (A.epilogue_rule code offset rule × A.does_epilogue code offset rule) })
+        (record { row = A.row_means; columns = A.columns_mean; by_code = A.by_code; undoes = λ code offset rule. (A.prologue_rule code offset rule × A.reaches code offset × A.undoes_prologue code offset rule) ⊎ (A.epilogue_rule code offset rule × A.ends code offset × A.does_epilogue code offset rule) })
         A.UnwindRule.outcome P.policy (record { first = is_first_frame location; old = old; memory = memory; address = address; new = new }) u.modules (lookup_address location) };
 
     fn add_module(
