@@ -206,7 +206,8 @@ impl<'a, A: CompactUnwindInfoUnwinding> CompactUnwindInfoUnwinder<'a, A> {
         &self,
         address: u32,
     ) -> Result<Function, CompactUnwindInfoUnwinderError>
-        ensures { result ≡ function_for (function_of (module_of self.now).unwind_info address) address }
+        ensures exact { result ≡ function_for (function_of (module_of self.now).unwind_info address) address }
+        ensures covers { IfOk result (Covers address) }
     {
         find_function(self.unwind_info_data, address)?.ok_or(
             CompactUnwindInfoUnwinderError::AddressOutsideRange(address),
