@@ -8,8 +8,8 @@ use Rattle.framehop_core.specs.Aarch64.Rules.{outcome}
 use Rattle.framehop_core.specs.declared.aarch64.unwind_rule.UnwindRuleAarch64.{UnwindRuleAarch64}
 use Rattle.framehop_core.specs.declared.aarch64.unwind_rule.UnwindRuleAarch64.TheVariants.{NoOp, UseFramePointer, NoOpIfFirstFrameOtherwiseFp}
 use Rattle.framehop_dwarf.specs.Aarch64.{translated, direct_of, RowMeans, ColumnsMean}
-use Rattle.framehop_analysis.specs.Aarch64.Prologue.{IsPrologueRule, UndoesPrologue}
-use Rattle.framehop_analysis.specs.Aarch64.Epilogue.{IsEpilogueRule, DoesEpilogue}
+use Rattle.framehop_analysis.specs.Aarch64.Prologue.{IsPrologueRule, ReachesFrom, UndoesPrologue}
+use Rattle.framehop_analysis.specs.Aarch64.Epilogue.{IsEpilogueRule, EndsFrom, DoesEpilogue}
 use Rattle.framehop_pe.specs.declared.pe.PeUnwinderError.TheVariants.{Aarch64Unsupported}
 use Rattle.framehop_macho.specs.Aarch64.{says, helper_rule, by_code}
 use Rattle.framehop_cache.specs.Cache.{CacheView}
@@ -41,8 +41,9 @@ aarch64_meanings = record {
   columns = ColumnsMean;
   by_code = by_code;
   undoes = λ code offset rule.
-      (IsPrologueRule (take offset code) (drop offset code) rule × UndoesPrologue (take offset code) rule)
-      ⊎ (IsEpilogueRule code offset rule × DoesEpilogue code offset rule);
+      (IsPrologueRule (take offset code) (drop offset code) rule × ReachesFrom (take offset code)
+      × UndoesPrologue (take offset code) rule)
+      ⊎ (IsEpilogueRule code offset rule × EndsFrom code offset × DoesEpilogue code offset rule);
 }
 
 -- a step is what the source of its rule means

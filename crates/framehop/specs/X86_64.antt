@@ -7,8 +7,8 @@ use Rattle.framehop_core.specs.X86_64.Rules.{outcome}
 use Rattle.framehop_core.specs.declared.x86_64.unwind_rule.UnwindRuleX86_64.{UnwindRuleX86_64}
 use Rattle.framehop_core.specs.declared.x86_64.unwind_rule.UnwindRuleX86_64.TheVariants.{JustReturn, UseFramePointer, JustReturnIfFirstFrameOtherwiseFp}
 use Rattle.framehop_dwarf.specs.X86_64.{translated, direct_of, RowMeans, ColumnsMean}
-use Rattle.framehop_analysis.specs.X86_64.Prologue.{IsPrologueRule, UndoesPrologue}
-use Rattle.framehop_analysis.specs.X86_64.Epilogue.{IsEpilogueRule, DoesEpilogue}
+use Rattle.framehop_analysis.specs.X86_64.Prologue.{IsPrologueRule, ReachesFrom, UndoesPrologue}
+use Rattle.framehop_analysis.specs.X86_64.Epilogue.{IsEpilogueRule, EndsFrom, DoesEpilogue}
 use Rattle.framehop_pe.specs.Frame.{found_at, computed_at}
 use Rattle.framehop_macho.specs.X86_64.{says, helper_rule, by_code}
 use Rattle.framehop_cache.specs.Cache.{CacheView}
@@ -33,8 +33,9 @@ x86_64_meanings = record {
   row = RowMeans;
   columns = ColumnsMean;
   by_code = by_code;
-  undoes = λ code offset rule. (IsPrologueRule code offset rule × UndoesPrologue code offset rule)
-      ⊎ (IsEpilogueRule code offset rule × DoesEpilogue code offset rule);
+  undoes = λ code offset rule.
+      (IsPrologueRule code offset rule × ReachesFrom code offset × UndoesPrologue code offset rule)
+      ⊎ (IsEpilogueRule code offset rule × EndsFrom code offset × DoesEpilogue code offset rule);
 }
 
 -- a step is what the source of its rule means

@@ -157,7 +157,8 @@ pub trait Unwinding: DwarfUnwinding + PeUnwinding + CompactUnwindInfoUnwinding {
     ghost by_code_is: { meanings.by_code ≡ Self.by_code };
 
     ghost undoes_is: { (code : List ℕ) (offset : ℕ) (rule : Self.UnwindRule) → meanings.undoes code offset rule
-        ↔ (Self.prologue_rule code offset rule × Self.undoes_prologue code offset rule) ⊎ (Self.epilogue_rule code offset rule × Self.does_epilogue code offset rule) };
+        ↔ (Self.prologue_rule code offset rule × Self.reaches code offset × Self.undoes_prologue code offset rule)
+        ⊎ (Self.epilogue_rule code offset rule × Self.ends code offset × Self.does_epilogue code offset rule) };
 
     // what a module's unwind data gives is by its words
     ghost answer_is: { (policy : Policy) → (unwinding policy).module_answer ≡ answer_by words policy };

@@ -1,6 +1,6 @@
 //! Unwind rules from the instructions around a pc: inside a prologue or an epilogue the registers
 //! are not yet saved, or are already restored, which unwind data often does not say.
-ghost use Rattle.std.specs.Prelude.{◌≡◌, ℕ, ◌≤◌, ◌↔◌, ◌⊎◌, List, length, Option, Some, IsTrue, IfSome};
+ghost use Rattle.std.specs.Prelude.{◌≡◌, ℕ, ◌≤◌, ◌↔◌, ◌⊎◌, List, length, Option, Some, IsTrue, IfSome, OnSome};
 ghost use Rattle.framehop_analysis.specs.Answer.{IsOnly, FirstOf};
 
 use framehop_core::arch::Arch;
@@ -19,10 +19,16 @@ pub trait InstructionAnalysis: Arch {
     // the rule of a pc inside a prologue or, where none is recognised, inside an epilogue
     ghost analysed: { List ℕ → ℕ → Option Self.UnwindRule };
 
-    // the rule undoes what the prologue has done
+    // the machine's instructions lead to the pc
+    ghost reaches: { List ℕ → ℕ → Type 0 };
+
+    // wherever they do, the rule undoes what the prologue has done
     ghost undoes_prologue: { List ℕ → ℕ → Self.UnwindRule → Type 0 };
 
-    // the rule does what the rest of the epilogue does
+    // the machine's instructions lead from the pc to an end
+    ghost ends: { List ℕ → ℕ → Type 0 };
+
+    // wherever they do, the rule does what the rest of the epilogue does
     ghost does_epilogue: { List ℕ → ℕ → Self.UnwindRule → Type 0 };
 
     /// Returns the unwind rule at a pc inside a prologue, or `None` where none is recognised.
@@ -31,6 +37,7 @@ pub trait InstructionAnalysis: Arch {
         ensures exact { (rule : Self.UnwindRule)
             → (result ≡ Some rule) ↔ prologue_rule text_bytes.now pc_offset rule }
         ensures simulation { IfSome result (undoes_prologue text_bytes.now pc_offset) }
+        ensures reaches { OnSome result (reaches text_bytes.now pc_offset) }
         ensures executable { IfSome result (λ rule. IsTrue (Self.UnwindRule.executable rule)) };
 
     /// Returns the unwind rule at a pc inside an epilogue, or `None` where none is recognised.
@@ -39,6 +46,7 @@ pub trait InstructionAnalysis: Arch {
         ensures exact { (rule : Self.UnwindRule)
             → (result ≡ Some rule) ↔ epilogue_rule text_bytes.now pc_offset rule }
         ensures simulation { IfSome result (does_epilogue text_bytes.now pc_offset) }
+        ensures ends { OnSome result (ends text_bytes.now pc_offset) }
         ensures executable { IfSome result (λ rule. IsTrue (Self.UnwindRule.executable rule)) };
 
     /// Returns the unwind rule at a pc inside a prologue or, where none is recognised, inside an
@@ -52,8 +60,11 @@ pub trait InstructionAnalysis: Arch {
             ↔ FirstOf (prologue_rule text_bytes.now pc_offset)
             (epilogue_rule text_bytes.now pc_offset) rule }
         ensures value { result ≡ analysed text_bytes.now pc_offset }
-        ensures simulation { IfSome result (λ rule. undoes_prologue text_bytes.now pc_offset rule
-            ⊎ does_epilogue text_bytes.now pc_offset rule) }
+        ensures simulation { IfSome result (λ rule.
+            (prologue_rule text_bytes.now pc_offset rule
+            × reaches text_bytes.now pc_offset × undoes_prologue text_bytes.now pc_offset rule)
+            ⊎ (epilogue_rule text_bytes.now pc_offset rule
+            × ends text_bytes.now pc_offset × does_epilogue text_bytes.now pc_offset rule)) }
         ensures executable { IfSome result (λ rule. IsTrue (Self.UnwindRule.executable rule)) }
     {
         Self::rule_from_prologue_analysis(text_bytes, pc_offset).or_else(
@@ -64,8 +75,4 @@ pub trait InstructionAnalysis: Arch {
     // the analysed rule is the only one there is, or there is none
     ghost analysed_only: { (text : List ℕ) (pc : ℕ)
         → IsOnly (FirstOf (prologue_rule text pc) (epilogue_rule text pc)) (analysed text pc) };
-
-    // and it does what it is for
-    ghost analysed_means: { (text : List ℕ) (pc : ℕ) (rule : Self.UnwindRule) → analysed text pc ≡ Some rule
-        → (prologue_rule text pc rule × undoes_prologue text pc rule) ⊎ (epilogue_rule text pc rule × does_epilogue text pc rule) };
 }

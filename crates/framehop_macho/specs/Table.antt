@@ -1,5 +1,5 @@
 -- Tables of fixed rows inside the bytes of `__unwind_info`, and the row of an address in one.
-use Rattle.std.specs.Prelude.{◌≡◌, ◌<◌, ◌≤◌, ℕ, ◌+◌, ◌*◌, ◌/◌, ◌%◌, ◌^◌, ◌&&◌, nat_le, nat_lt, List, length, map, take, drop, slice_index, slice_get, if◌then◌else◌, Option, Some, None, Result, Ok, Err}
+use Rattle.std.specs.Prelude.{◌≡◌, ◌<◌, ◌≤◌, ℕ, ◌+◌, ◌*◌, ◌/◌, ◌%◌, ◌^◌, ◌&&◌, nat_le, nat_lt, List, length, map, take, drop, slice_index, slice_get, if◌then◌else◌, Option, Some, None, IfSome, Result, Ok, Err}
 use Rattle.std.specs.List.{range_with_len}
 use Rattle.framehop_cfi.specs.Bytes.{le4}
 use Rattle.framehop_cfi.specs.Place.{place_of}
@@ -40,9 +40,14 @@ row_of starts address = (let place = place_of starts address in
     then Some (record { index = place; start = slice_index starts place; next = slice_get starts (place + 1) })
     else None)
 
--- what holds of that row
+-- what holds of that row, however the table is ordered: the row after it begins above the address
 pub record IsRow (starts : List ℕ) (address : ℕ) (row : Row) : Type 0 where
   pub within : row.index < length starts
   pub begins : row.start ≡ slice_index starts row.index
   pub below : row.start ≤ address
   pub followed : row.next ≡ slice_get starts (row.index + 1)
+  pub above : IfSome row.next (λ next. address < next)
+
+-- the table has no row at or below an address: it is empty, or its first row begins above the address
+abbrev pub IsBefore : List ℕ → ℕ → Type 0
+IsBefore starts address = (start : ℕ) → slice_get starts 0 ≡ Some start → address < start

@@ -119,7 +119,8 @@ pub trait CompactUnwindInfoUnwinding: InstructionAnalysis {
 
     // such a rule undoes what a prologue has done, or does what the rest of an epilogue does
     ghost code_means: { (function : Function) (code : List ℕ) (offset : ℕ) (rule : Self.UnwindRule) → by_code function code offset ≡ Some rule
-        → (Self.prologue_rule code offset rule × Self.undoes_prologue code offset rule) ⊎ (Self.epilogue_rule code offset rule × Self.does_epilogue code offset rule) };
+        → (Self.prologue_rule code offset rule × Self.reaches code offset × Self.undoes_prologue code offset rule)
+        ⊎ (Self.epilogue_rule code offset rule × Self.ends code offset × Self.does_epilogue code offset rule) };
 }
 
 /// The code of a module, or a part of it.
@@ -205,7 +206,8 @@ impl<'a, A: CompactUnwindInfoUnwinding> CompactUnwindInfoUnwinder<'a, A> {
         &self,
         address: u32,
     ) -> Result<Function, CompactUnwindInfoUnwinderError>
-        ensures { result ≡ function_for (function_of (module_of self.now).unwind_info address) address }
+        ensures exact { result ≡ function_for (function_of (module_of self.now).unwind_info address) address }
+        ensures covers { IfOk result (Covers address) }
     {
         find_function(self.unwind_info_data, address)?.ok_or(
             CompactUnwindInfoUnwinderError::AddressOutsideRange(address),

@@ -86,3 +86,9 @@ UndoesRun run rule =
 
 abbrev pub UndoesPrologue : List ℕ → UnwindRuleAarch64 → Type 0
 UndoesPrologue before rule = (run : List ℕ) → IsLongestRun before run → UndoesRun run rule
+
+-- there is such a run, and from each state the machine goes through it
+pub record ReachesFrom (before : List ℕ) : Type 0 where
+  pub run : List ℕ
+  pub longest : IsLongestRun before run
+  pub reaches : (mask : ℕ) (entry : State) → (here : State) × Run mask run entry here

@@ -8,4 +8,5 @@ pub mod Epilogue
 pub mod Offsets
 pub mod Undoes
 pub mod Does
+pub mod Reaches
 pub mod Means

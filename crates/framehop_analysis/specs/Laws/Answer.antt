@@ -29,13 +29,13 @@ first-decided {A} P Q (None, none) (found, only) =
 
 -- what the values of the first fact and those of the second are for, the answer is for one or the other
 pub means-first : {A : Type 0} (P Q : A → Type 0) {P' Q' : A → Type 0} (found : Option A) → IsOnly (FirstOf P Q) found
-    → ((x : A) → P x → P' x) → ((x : A) → Q x → Q' x) → (x : A) → found ≡ Some x → (P x × P' x) ⊎ (Q x × Q' x)
+    → ((x : A) → P x → P' x) → ((x : A) → Q x → Q' x) → (x : A) → found ≡ Some x → P' x ⊎ Q' x
 means-first P Q None only first second x is = cc
 means-first {A} P Q {P'} {Q'} (Some y) only first second x is =
-    subst (λ x. (P x × P' x) ⊎ (Q x × Q' x)) (some-same y x is) (of only.0) where
-      of : FirstOf P Q y → (P y × P' y) ⊎ (Q y × Q' y)
-      of (inl p) = inl (p, first y p)
-      of (inr q) = inr (q.1, second y q.1)
+    subst (λ x. P' x ⊎ Q' x) (some-same y x is) (of only.0) where
+      of : FirstOf P Q y → P' y ⊎ Q' y
+      of (inl p) = inl (first y p)
+      of (inr q) = inr (second y q.1)
 
 -- ---- facts
 

@@ -1,13 +1,13 @@
 -- Epilogues on x86_64: how many words are still popped, and which of them is rbp (framehop 0.16.0,
 -- `x86_64::instruction_analysis::epilogue`).
-use Rattle.std.specs.Prelude.{◌≡◌, ℕ, zero, suc, ◌+◌, ◌-◌, ◌^◌, ◌<◌, ◌≤◌, pos, Bool, true, false, not, ◌&&◌, ◌==◌, if◌then◌else◌, List, [], ◌∷◌, slice_get, Option, Some, None}
+use Rattle.std.specs.Prelude.{◌≡◌, ℕ, zero, suc, ◌+◌, ◌-◌, ◌^◌, ◌<◌, ◌≤◌, pos, Bool, true, false, not, ◌&&◌, ◌||◌, ◌==◌, if◌then◌else◌, List, [], ◌∷◌, slice_get, Option, Some, None}
 use Rattle.framehop_core.specs.Outcome.{answered}
 use Rattle.framehop_core.specs.X86_64.Registers.{Registers}
 use Rattle.framehop_core.specs.X86_64.Rules.{outcome}
 use Rattle.framehop_core.specs.declared.x86_64.unwind_rule.UnwindRuleX86_64.{UnwindRuleX86_64}
 use Rattle.framehop_core.specs.declared.x86_64.unwind_rule.UnwindRuleX86_64.TheVariants.{JustReturn, OffsetSp, OffsetSpAndRestoreBp}
 use Rattle.framehop_analysis.specs.X86_64.Bytes.{is_pop_opcode}
-use Rattle.framehop_analysis.specs.X86_64.Machine.{State, HasRegisters, Caller, RunOut, is_jump}
+use Rattle.framehop_analysis.specs.X86_64.Machine.{State, HasRegisters, Run, Leaves, Returns}
 
 -- ---- pops
 
@@ -15,34 +15,19 @@ use Rattle.framehop_analysis.specs.X86_64.Machine.{State, HasRegisters, Caller, 
 abbrev pub is_plain_pop : ℕ → Bool
 is_plain_pop opcode = is_pop_opcode opcode && not (opcode == 0x5C)
 
--- a pop of so many bytes, of rbp or of another register
-pub record Pop : Type 0 where
-  pub size : ℕ
-  pub is_bp : Bool
-
--- a pop with a prefix: after 40 as without it, after 41 a pop of r8 to r15
-abbrev pub prefixed_pop : ℕ → Option ℕ → Option Pop
-prefixed_pop prefix None = None
-prefixed_pop prefix (Some opcode) =
-    if (prefix == 0x40) && is_plain_pop opcode then Some (record { size = 2; is_bp = opcode == 0x5D })
-    else (if (prefix == 0x41) && is_pop_opcode opcode then Some (record { size = 2; is_bp = false })
-    else None)
-
--- the pop that a byte and the one after it begin, if any
-abbrev pub pop_of : Option ℕ → Option ℕ → Option Pop
-pop_of None second = None
-pop_of (Some first) second =
-    if is_plain_pop first then Some (record { size = 1; is_bp = first == 0x5D })
-    else prefixed_pop first second
-
-abbrev pub pop_at : List ℕ → ℕ → Option Pop
-pop_at text at = pop_of (slice_get text at) (slice_get text (at + 1))
+-- a pop of so many bytes at an offset, of rbp or of another register; after a prefix 41 it is one of r8 to r15
+pub data IsPopBytes (text : List ℕ) (at size : ℕ) (is_bp : Bool) : Type 0 where
+  alone : (opcode : ℕ) → slice_get text at ≡ Some opcode → is_plain_pop opcode ≡ true → size ≡ 1
+      → is_bp ≡ (opcode == 0x5D) → IsPopBytes text at size is_bp
+  after_40 : (opcode : ℕ) → slice_get text at ≡ Some 0x40 → slice_get text (at + 1) ≡ Some opcode
+      → is_plain_pop opcode ≡ true → size ≡ 2 → is_bp ≡ (opcode == 0x5D) → IsPopBytes text at size is_bp
+  after_41 : (opcode : ℕ) → slice_get text at ≡ Some 0x41 → slice_get text (at + 1) ≡ Some opcode
+      → is_pop_opcode opcode ≡ true → size ≡ 2 → is_bp ≡ false → IsPopBytes text at size is_bp
 
 -- these pops, of rbp or not, lie one after another between two offsets
 abbrev pub ArePops : List ℕ → ℕ → List Bool → ℕ → Type 0
 ArePops text at [] end = at ≡ end
-ArePops text at (is_bp ∷ pops) end =
-    (size : ℕ) × (pop_at text at ≡ Some (record { size = size; is_bp = is_bp })) × ArePops text (at + size) pops end
+ArePops text at (is_bp ∷ pops) end = (size : ℕ) × IsPopBytes text at size is_bp × ArePops text (at + size) pops end
 
 -- how many words have been popped, and how many of them before the last one that was rbp, if any
 pub record Popped : Type 0 where
@@ -60,6 +45,10 @@ after_pops p [] = p
 after_pops p (is_bp ∷ pops) = after_pops (after_pop p is_bp) pops
 
 -- ---- how it ends
+
+-- the first byte of what is taken for a jump: JMP rel8, JMP rel32, and FF, with which JMP r/m64 begins among others
+abbrev pub is_jump : ℕ → Bool
+is_jump opcode = (opcode == 0xEB) || (opcode == 0xE9) || (opcode == 0xFF)
 
 -- what is before the end looks like a pop: one that is at the pc or after it, or the byte before the pc
 abbrev pub FollowsPop : List ℕ → ℕ → ℕ → Type 0
@@ -96,15 +85,24 @@ pub record IsRestOfEpilogue (text : List ℕ) (pc at : ℕ) (popped : Popped) (r
 abbrev pub IsEpilogueRule : List ℕ → ℕ → UnwindRuleX86_64 → Type 0
 IsEpilogueRule text pc rule = IsRestOfEpilogue text pc pc none_popped rule
 
--- from each state at the pc the machine comes to the function's end
-abbrev pub EndsFrom : List ℕ → ℕ → Type 0
-EndsFrom text pc = (here : State) → (count : ℕ) × (out : Caller) × RunOut text count pc here out
+-- ---- what it does
 
--- The rule does what the epilogue does: wherever the pops from the pc on and their end lead from the registers at hand,
--- and the rule answers an address, the caller has the new registers, all known, and is returned to at the address.
+-- What is taken for the function's end: an instruction that leaves it, or any other that begins with FF. Of that byte
+-- the next one is not looked at, so it can be INC, DEC, CALL, PUSH or a far JMP, or the last byte of the code.
+pub data IsTakenForEnd (text : List ℕ) (at : ℕ) : Type 0 where
+  leaves : Leaves text at → IsTakenForEnd text at
+  other : slice_get text at ≡ Some 0xFF → IsTakenForEnd text at
+
+-- from each state at the pc the machine comes to what is taken for the function's end
+abbrev pub EndsFrom : List ℕ → ℕ → Type 0
+EndsFrom text pc =
+    (here : State) → (count : ℕ) × (end : ℕ) × (out : State) × Run text count pc end here out × IsTakenForEnd text end
+
+-- The rule does what the epilogue does: wherever the machine's run from the pc up to the first instruction that is taken
+-- for the function's end leads from the registers at hand, and the rule answers an address, it does as a return from
+-- there.
 abbrev pub DoesEpilogue : List ℕ → ℕ → UnwindRuleX86_64 → Type 0
 DoesEpilogue text pc rule =
-    (r new : Registers) (here : State) (out : Caller) (count : ℕ) (first : Bool) (address : ℕ)
-    → HasRegisters r here → RunOut text count pc here out
-    → outcome rule first r here.memory ≡ answered address new
-    → (new.rsp ≡ out.sp) × (out.bp ≡ Some new.rbp) × (out.return_address ≡ Some address) × (new.ip ≡ address)
+    (r new : Registers) (here out : State) (count end : ℕ) (first : Bool) (address : ℕ)
+    → HasRegisters r here → Run text count pc end here out → IsTakenForEnd text end
+    → outcome rule first r here.memory ≡ answered address new → Returns out address new

@@ -1,21 +1,21 @@
 -- Prologues on x86_64: how many words have been pushed, or that the frame is set up (framehop 0.16.0,
 -- `x86_64::instruction_analysis::prologue`).
-use Rattle.std.specs.Prelude.{◌≡◌, ℕ, zero, suc, ◌+◌, ◌-◌, ◌^◌, ◌<◌, ◌≤◌, Bool, true, ◌&&◌, ◌||◌, ◌==◌, List, length, slice_get, slice_index, Some}
+use Rattle.std.specs.Prelude.{◌≡◌, ℕ, zero, suc, ◌+◌, ◌-◌, ◌*◌, ◌^◌, ◌<◌, ◌≤◌, Bool, true, ◌&&◌, ◌||◌, ◌==◌, List, length, slice_get, slice_index, Some}
 use Rattle.framehop_core.specs.Outcome.{answered}
 use Rattle.framehop_core.specs.X86_64.Registers.{Registers}
 use Rattle.framehop_core.specs.X86_64.Rules.{outcome}
 use Rattle.framehop_core.specs.declared.x86_64.unwind_rule.UnwindRuleX86_64.{UnwindRuleX86_64}
 use Rattle.framehop_core.specs.declared.x86_64.unwind_rule.UnwindRuleX86_64.TheVariants.{OffsetSp, UseFramePointer}
 use Rattle.framehop_analysis.specs.X86_64.Bytes.{is_prefix, is_push}
-use Rattle.framehop_analysis.specs.X86_64.Machine.{State, HasRegisters, PushRun, SetsUpFrame}
+use Rattle.framehop_analysis.specs.X86_64.Machine.{State, HasRegisters, Run, Returns}
 
 -- ---- the pushes before the pc
 
 -- a push between two offsets, with or without a prefix
-pub data IsPush (text : List ℕ) (at next : ℕ) : Type 0 where
-  plain : (opcode : ℕ) → slice_get text at ≡ Some opcode → is_push opcode ≡ true → next ≡ at + 1 → IsPush text at next
+pub data IsPushBytes (text : List ℕ) (at next : ℕ) : Type 0 where
+  plain : (opcode : ℕ) → slice_get text at ≡ Some opcode → is_push opcode ≡ true → next ≡ at + 1 → IsPushBytes text at next
   prefixed : (prefix opcode : ℕ) → slice_get text at ≡ Some prefix → is_prefix prefix ≡ true
-      → slice_get text (at + 1) ≡ Some opcode → is_push opcode ≡ true → next ≡ at + 2 → IsPush text at next
+      → slice_get text (at + 1) ≡ Some opcode → is_push opcode ≡ true → next ≡ at + 2 → IsPushBytes text at next
 
 -- the byte before an offset, if any, is a prefix
 abbrev pub IsPrefixBefore : List ℕ → ℕ → Type 0
@@ -23,13 +23,13 @@ IsPrefixBefore text at = (prefix : ℕ) × (0 < at) × (slice_get text (at - 1) 
 
 -- a push that ends at an offset, with the prefix before its opcode, if there is one
 pub record IsPushBefore (text : List ℕ) (end start : ℕ) : Type 0 where
-  pub push : IsPush text start end
+  pub push : IsPushBytes text start end
   pub whole : start + 1 ≡ end → ¬ IsPrefixBefore text start
 
 -- so many pushes, one after another, between two offsets
 abbrev pub ArePushes : List ℕ → ℕ → ℕ → ℕ → Type 0
 ArePushes text zero start end = start ≡ end
-ArePushes text (suc count) start end = (last : ℕ) × ArePushes text count start last × IsPush text last end
+ArePushes text (suc count) start end = (last : ℕ) × ArePushes text count start last × IsPushBytes text last end
 
 -- The longest list of pushes that ends at the pc: none starts before it, and none has more.
 pub record AreLongestPushes (text : List ℕ) (pc start count : ℕ) : Type 0 where
@@ -79,19 +79,25 @@ pub record IsPrologueRule (text : List ℕ) (pc : ℕ) (rule : UnwindRuleX86_64)
 
 -- ---- what it undoes
 
--- from the function's entry: the frame is set up where its instructions are before the pushes, and then the pushes
-pub data PrologueRun (text : List ℕ) (start count : ℕ) (entry here : State) : Type 0 where
-  framed : IsFrameSetUpBefore text start → (s : State) → SetsUpFrame entry s → PushRun count s here
-      → PrologueRun text start count entry here
-  frameless : ¬ IsFrameSetUpBefore text start → PushRun count entry here → PrologueRun text start count entry here
+-- where the instructions begin that have been read: with the frame's set-up before the pushes, or else with these
+pub data BeginsAt (text : List ℕ) (pc start : ℕ) : Type 0 where
+  framed : (count : ℕ) → AreLongestPushes text pc (start + 4) count → IsFrameSetUpBefore text (start + 4)
+      → BeginsAt text pc start
+  frameless : (count : ℕ) → AreLongestPushes text pc start count → ¬ IsFrameSetUpBefore text start
+      → BeginsAt text pc start
 
--- The rule undoes the prologue: wherever its instructions lead from a state at the function's entry to the registers at
--- hand, and the rule answers an address, that is the word at the entry's rsp, and the new registers are those of the
--- entry after a return.
+-- The rule undoes the prologue: wherever the machine's run over its instructions leads from a state at the function's
+-- entry to the registers at hand, and the rule answers an address, it does as a return from the entry.
 abbrev pub UndoesPrologue : List ℕ → ℕ → UnwindRuleX86_64 → Type 0
 UndoesPrologue text pc rule =
-    (start count : ℕ) → AreLongestPushes text pc start count
-    → (r new : Registers) (entry here : State) (first : Bool) (address : ℕ)
-    → PrologueRun text start count entry here → HasRegisters r here
-    → outcome rule first r here.memory ≡ answered address new
-    → (new.rsp ≡ entry.sp + 8) × (entry.bp ≡ Some new.rbp) × (entry.memory entry.sp ≡ Some address) × (new.ip ≡ address)
+    (start : ℕ) → BeginsAt text pc start
+    → (r new : Registers) (entry here : State) (count : ℕ) (first : Bool) (address : ℕ)
+    → Run text count start pc entry here → HasRegisters r here
+    → outcome rule first r here.memory ≡ answered address new → Returns entry address new
+
+-- There are such instructions: from each state that has room on the stack the machine comes to the pc.
+pub record ReachesFrom (text : List ℕ) (pc : ℕ) : Type 0 where
+  pub start : ℕ
+  pub count : ℕ
+  pub begins : BeginsAt text pc start
+  pub run : (entry : State) → 8 * count ≤ entry.sp → (here : State) × Run text count start pc entry here

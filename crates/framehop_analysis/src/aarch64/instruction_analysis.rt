@@ -11,10 +11,9 @@ pub use prologue::unwind_rule_from_detected_prologue;
 
 impl InstructionAnalysis for ArchAarch64 {
     ghost use Rattle.std.specs.Prelude.{take, drop};
-    ghost use Rattle.framehop_analysis.specs.Aarch64.Prologue.{IsPrologueRule, UndoesPrologue};
-    ghost use Rattle.framehop_analysis.specs.Aarch64.Epilogue.{IsEpilogueRule, DoesEpilogue};
+    ghost use Rattle.framehop_analysis.specs.Aarch64.Prologue.{IsPrologueRule, ReachesFrom, UndoesPrologue};
+    ghost use Rattle.framehop_analysis.specs.Aarch64.Epilogue.{IsEpilogueRule, EndsFrom, DoesEpilogue};
     ghost use Rattle.framehop_analysis.specs.Aarch64.Analysed.{analysed, analysed-only};
-    ghost use Rattle.framehop_analysis.specs.Laws.Aarch64.Means.{analysed-means};
 
     ghost prologue_rule = { λ text pc rule. IsPrologueRule (take pc text) (drop pc text) rule };
 
@@ -24,11 +23,13 @@ impl InstructionAnalysis for ArchAarch64 {
 
     ghost analysed_only = { analysed-only };
 
+    ghost reaches = { λ text pc. ReachesFrom (take pc text) };
+
     ghost undoes_prologue = { λ text pc rule. UndoesPrologue (take pc text) rule };
 
-    ghost does_epilogue = { DoesEpilogue };
+    ghost ends = { EndsFrom };
 
-    ghost analysed_means = { analysed-means };
+    ghost does_epilogue = { DoesEpilogue };
 
     fn rule_from_prologue_analysis(
         text_bytes: &[u8],

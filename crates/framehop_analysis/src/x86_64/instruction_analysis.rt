@@ -9,10 +9,9 @@ use framehop_core::x86_64::{ArchX86_64, UnwindRuleX86_64};
 pub use prologue::unwind_rule_from_detected_prologue;
 
 impl InstructionAnalysis for ArchX86_64 {
-    ghost use Rattle.framehop_analysis.specs.X86_64.Prologue.{IsPrologueRule, UndoesPrologue};
-    ghost use Rattle.framehop_analysis.specs.X86_64.Epilogue.{IsEpilogueRule, DoesEpilogue};
+    ghost use Rattle.framehop_analysis.specs.X86_64.Prologue.{IsPrologueRule, ReachesFrom, UndoesPrologue};
+    ghost use Rattle.framehop_analysis.specs.X86_64.Epilogue.{IsEpilogueRule, EndsFrom, DoesEpilogue};
     ghost use Rattle.framehop_analysis.specs.X86_64.Analysed.{analysed, analysed-only};
-    ghost use Rattle.framehop_analysis.specs.Laws.X86_64.Means.{analysed-means};
 
     ghost prologue_rule = { IsPrologueRule };
 
@@ -22,11 +21,13 @@ impl InstructionAnalysis for ArchX86_64 {
 
     ghost analysed_only = { analysed-only };
 
+    ghost reaches = { ReachesFrom };
+
     ghost undoes_prologue = { UndoesPrologue };
 
-    ghost does_epilogue = { DoesEpilogue };
+    ghost ends = { EndsFrom };
 
-    ghost analysed_means = { analysed-means };
+    ghost does_epilogue = { DoesEpilogue };
 
     fn rule_from_prologue_analysis(
         text_bytes: &[u8],

@@ -1,7 +1,7 @@
 //! Tables of fixed rows inside the bytes of `__unwind_info`, read in place.
-ghost use Rattle.std.specs.Prelude.{◌≡◌, ◌+◌, ◌≤◌, Ok, Err, MatchResult, IfSome, length};
+ghost use Rattle.std.specs.Prelude.{◌≡◌, ◌+◌, ◌≤◌, Ok, Err, MatchResult, MatchOption, length};
 ghost use Rattle.framehop_cfi.specs.Bytes.{le2, le4};
-ghost use Rattle.framehop_macho.specs.Table.{part_of, index_starts, regular_starts, compressed_starts, row_of, IsRow};
+ghost use Rattle.framehop_macho.specs.Table.{part_of, index_starts, regular_starts, compressed_starts, row_of, IsRow, IsBefore};
 ghost use Rattle.framehop_macho.specs.UnwindInfo.{opcode_of};
 
 use super::error::CompactReadError;
@@ -52,7 +52,7 @@ pub struct Row {
 #[tactic(auto, unfolding(crate::specs::Table::row_of))]
 pub(crate) fn row_of_address<T: Starts>(table: &T, address: u64) -> Option<Row>
     ensures exact { result ≡ row_of (T.starts table.now) address }
-    ensures law { IfSome result (IsRow (T.starts table.now) address) }
+    ensures law { MatchOption result (IsBefore (T.starts table.now) address) (IsRow (T.starts table.now) address) }
 {
     let count = table.count();
     if count == 0 {

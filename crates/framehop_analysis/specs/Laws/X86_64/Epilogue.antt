@@ -1,14 +1,13 @@
 -- The rule of an epilogue on x86_64, constructed with the proof that it is the only one.
-use Rattle.std.proofs.Common.{◌≡◌, inl, inr, ℕ, zero, suc, ◌+◌, ◌-◌, ◌^◌, ◌<◌, ◌≤◌, pos, List, length, slice_get, Option, Some, None, refl, sym, ap, ◌∙◌, arith}
+use Rattle.std.proofs.Common.{◌≡◌, ◌⊎◌, inl, inr, ℕ, zero, suc, ◌+◌, ◌-◌, ◌^◌, ◌<◌, ◌≤◌, pos, Bool, false, ◌==◌, List, length, slice_get, Option, Some, None, refl, sym, ap, ◌∙◌, arith}
 use Rattle.std.proofs.lemmas.Option.{slice_get_within}
 use Rattle.framehop_core.specs.declared.x86_64.unwind_rule.UnwindRuleX86_64.{UnwindRuleX86_64}
 use Rattle.framehop_core.specs.declared.x86_64.unwind_rule.UnwindRuleX86_64.TheVariants.{JustReturn, OffsetSp, OffsetSpAndRestoreBp}
 use Rattle.framehop_analysis.specs.Answer.{Decided}
 use Rattle.framehop_analysis.specs.X86_64.Bytes.{is_pop_opcode}
-use Rattle.framehop_analysis.specs.X86_64.Machine.{is_jump}
-use Rattle.framehop_analysis.specs.X86_64.Epilogue.{Pop, pop_at, Popped, none_popped, after_pop, FollowsPop, IsEnd, returns, jumps, IsRuleOfPopped, IsEpilogueRule}
+use Rattle.framehop_analysis.specs.X86_64.Epilogue.{is_plain_pop, IsPopBytes, alone, after_40, after_41, Popped, none_popped, after_pop, is_jump, FollowsPop, IsEnd, returns, jumps, IsRuleOfPopped, IsEpilogueRule}
 use Rattle.framehop_analysis.specs.Laws.Answer.{Decidable, Passes, decidable-map, decidable-and, lt-decidable, le-decidable, is-decidable, passes-decidable, some-same}
-use Rattle.framehop_analysis.specs.Laws.X86_64.Pops.{IsPopBytes, alone, after_40, after_41, pop-bytes, IsReadUpTo, read-none, read-more, no-end, only-end}
+use Rattle.framehop_analysis.specs.Laws.X86_64.Pops.{pop-low, NoPop, IsReadUpTo, read-none, read-more, no-end, only-end}
 
 -- ---- the end
 
@@ -91,37 +90,49 @@ rule-decided (suc n) (Some before) =
 
 -- ---- the pops
 
-pop-size : (first : ℕ) (second : Option ℕ) (pop : Pop) → IsPopBytes first second pop → 0 < pop.size
-pop-size first second pop (alone is e) = (let size : pop.size ≡ 1 = ap (λ (p : Pop). p.size) e in omega arith)
-pop-size first second pop (after_40 opcode is there plain e) =
-    (let size : pop.size ≡ 2 = ap (λ (p : Pop). p.size) e in omega arith)
-pop-size first second pop (after_41 opcode is there code e) =
-    (let size : pop.size ≡ 2 = ap (λ (p : Pop). p.size) e in omega arith)
+-- a pop is at an offset, or none is
+abbrev PopOrNone : List ℕ → ℕ → Type 0
+PopOrNone text at = ((size : ℕ) × (is_bp : Bool) × IsPopBytes text at size is_bp) ⊎ NoPop text at
 
--- a pop is inside the code and has bytes
-pop-within : (text : List ℕ) (at : ℕ) (pop : Pop) → pop_at text at ≡ Some pop → (at < length text) × (0 < pop.size)
-pop-within text at pop e =
-    let found = pop-bytes (slice_get text at) (slice_get text (at + 1)) pop e in
-    (slice_get_within text at found.0 found.1, pop-size found.0 (slice_get text (at + 1)) pop found.2)
+pop-or_none : (text : List ℕ) (at : ℕ) → PopOrNone text at
+pop-or_none text at =
+    by_bytes (passes-decidable (slice_get text at) is_plain_pop)
+    (decidable-and (is-decidable (slice_get text at) 0x40) (passes-decidable (slice_get text (at + 1)) is_plain_pop))
+    (decidable-and (is-decidable (slice_get text at) 0x41) (passes-decidable (slice_get text (at + 1)) is_pop_opcode))
+  where
+    by_bytes : Decidable (Passes (slice_get text at) is_plain_pop)
+        → Decidable ((slice_get text at ≡ Some 0x40) × Passes (slice_get text (at + 1)) is_plain_pop)
+        → Decidable ((slice_get text at ≡ Some 0x41) × Passes (slice_get text (at + 1)) is_pop_opcode)
+        → PopOrNone text at
+    by_bytes (inl p) second third = inl (1, p.0 == 0x5D, alone p.0 p.1 p.2 refl refl)
+    by_bytes (inr no_first) (inl p) third =
+        inl (2, p.1.0 == 0x5D, after_40 p.1.0 p.0 p.1.1 p.1.2 refl refl)
+    by_bytes (inr no_first) (inr no_second) (inl p) = inl (2, false, after_41 p.1.0 p.0 p.1.1 p.1.2 refl refl)
+    by_bytes (inr no_first) (inr no_second) (inr no_third) = inr (λ size is_bp pop. none size is_bp pop) where
+      none : (size : ℕ) (is_bp : Bool) → IsPopBytes text at size is_bp → ⊥
+      none size is_bp (alone opcode there is size_is bp_is) = no_first (opcode, there, is)
+      none size is_bp (after_40 opcode first there is size_is bp_is) = no_second (first, (opcode, there, is))
+      none size is_bp (after_41 opcode first there is size_is bp_is) = no_third (first, (opcode, there, is))
 
 -- after the last pop
-decided-at_end : (text : List ℕ) (pc at : ℕ) (p : Popped) → IsReadUpTo text pc at p → pop_at text at ≡ None
+decided-at_end : (text : List ℕ) (pc at : ℕ) (p : Popped) → IsReadUpTo text pc at p → NoPop text at
     → Decidable (IsEnd text pc at p.count) → Decided (IsEpilogueRule text pc)
 decided-at_end text pc at p read none (inl ends) =
     let rule = rule-decided p.count p.before_bp in (rule.0, only-end text pc at p rule.0 read none ends rule.1)
 decided-at_end text pc at p read none (inr not_end) = (None, no-end text pc at p read none not_end)
 
-decided-from : (text : List ℕ) (pc fuel at : ℕ) (p : Popped) (pop : Option Pop) → length text ≤ at + fuel
-    → IsReadUpTo text pc at p → pop_at text at ≡ pop → Decided (IsEpilogueRule text pc)
-decided-from text pc fuel at p None near read none =
+decided-from : (text : List ℕ) (pc fuel at : ℕ) (p : Popped) → length text ≤ at + fuel → IsReadUpTo text pc at p
+    → PopOrNone text at → Decided (IsEpilogueRule text pc)
+decided-from text pc fuel at p near read (inr none) =
     decided-at_end text pc at p read none (end-decidable text pc at p.count)
-decided-from text pc zero at p (Some pop) near read there =
-    (let within = (pop-within text at pop there).0 in absurd (omega arith))
-decided-from text pc (suc fuel) at p (Some pop) near read there =
-    let within = pop-within text at pop there in let size = within.1 in
-    decided-from text pc fuel (at + pop.size) (after_pop p pop.is_bp) (pop_at text (at + pop.size)) (omega arith)
-    (read-more text pc at pop.size pop.is_bp p (after_pop p pop.is_bp) read there size refl) refl
+decided-from text pc zero at p near read (inl (size, is_bp, pop)) =
+    let low = pop-low text at size is_bp pop in
+    let within = slice_get_within text at low.0 low.1 in absurd (omega arith)
+decided-from text pc (suc fuel) at p near read (inl (size, is_bp, pop)) =
+    let above = (pop-low text at size is_bp pop).3 in
+    decided-from text pc fuel (at + size) (after_pop p is_bp) (omega arith)
+    (read-more text pc at size is_bp p (after_pop p is_bp) read pop refl) (pop-or_none text (at + size))
 
 pub epilogue-decided : (text : List ℕ) (pc : ℕ) → Decided (IsEpilogueRule text pc)
 epilogue-decided text pc =
-    decided-from text pc (length text) pc none_popped (pop_at text pc) (omega arith) (read-none text pc) refl
+    decided-from text pc (length text) pc none_popped (omega arith) (read-none text pc) (pop-or_none text pc)

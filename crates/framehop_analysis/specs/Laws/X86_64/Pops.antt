@@ -4,8 +4,7 @@ use Rattle.std.proofs.lemmas.Bool.Decides.{nat_tests}
 use Rattle.framehop_core.specs.declared.x86_64.unwind_rule.UnwindRuleX86_64.{UnwindRuleX86_64}
 use Rattle.framehop_analysis.specs.Answer.{IsOnly}
 use Rattle.framehop_analysis.specs.X86_64.Bytes.{is_pop_opcode}
-use Rattle.framehop_analysis.specs.X86_64.Machine.{is_jump}
-use Rattle.framehop_analysis.specs.X86_64.Epilogue.{is_plain_pop, Pop, prefixed_pop, pop_of, pop_at, ArePops, Popped, none_popped, after_pop, after_pops, FollowsPop, IsEnd, returns, jumps, IsRuleOfPopped, IsRestOfEpilogue, IsEpilogueRule}
+use Rattle.framehop_analysis.specs.X86_64.Epilogue.{is_plain_pop, IsPopBytes, alone, after_40, after_41, ArePops, Popped, none_popped, after_pop, after_pops, is_jump, FollowsPop, IsEnd, returns, jumps, IsRuleOfPopped, IsRestOfEpilogue, IsEpilogueRule}
 use Rattle.framehop_analysis.specs.Laws.Answer.{only-map, some-same}
 
 pub eq-true : (m n : ℕ) → nat_eq m n ≡ true → m ≡ n
@@ -25,47 +24,47 @@ or-cases false b e = inr e
 
 -- ---- the first byte
 
--- how a pop begins: its opcode, or a prefix before one
-pub data IsPopBytes (first : ℕ) (second : Option ℕ) (pop : Pop) : Type 0 where
-  alone : is_plain_pop first ≡ true → pop ≡ record { size = 1; is_bp = first == 0x5D } → IsPopBytes first second pop
-  after_40 : (opcode : ℕ) → first ≡ 0x40 → second ≡ Some opcode → is_plain_pop opcode ≡ true
-      → pop ≡ record { size = 2; is_bp = opcode == 0x5D } → IsPopBytes first second pop
-  after_41 : (opcode : ℕ) → first ≡ 0x41 → second ≡ Some opcode → is_pop_opcode opcode ≡ true
-      → pop ≡ record { size = 2; is_bp = false } → IsPopBytes first second pop
+plain-code : (opcode : ℕ) → is_plain_pop opcode ≡ true → opcode / 8 ≡ 11
+plain-code opcode is = eq-true _ _ (and-left _ _ is)
 
-prefixed-bytes : (first opcode : ℕ) (second : Option ℕ) (pop : Pop) (a b : Bool) → second ≡ Some opcode
-    → ((first == 0x40) && is_plain_pop opcode) ≡ a → ((first == 0x41) && is_pop_opcode opcode) ≡ b
-    → cond a (Some (record { size = 2; is_bp = opcode == 0x5D }))
-    (cond b (Some (record { size = 2; is_bp = false })) None) ≡ Some pop → IsPopBytes first second pop
-prefixed-bytes first opcode second pop true b there is_40 is_41 e =
-    after_40 opcode (eq-true first 0x40 (and-left _ _ is_40)) there (and-right _ _ is_40) (some-same pop _ (sym e))
-prefixed-bytes first opcode second pop false true there is_40 is_41 e =
-    after_41 opcode (eq-true first 0x41 (and-left _ _ is_41)) there (and-right _ _ is_41) (some-same pop _ (sym e))
-prefixed-bytes first opcode second pop false false there is_40 is_41 e = cc
-
-second-bytes : (first : ℕ) (second : Option ℕ) (pop : Pop) → prefixed_pop first second ≡ Some pop
-    → IsPopBytes first second pop
-second-bytes first None pop e = cc
-second-bytes first (Some opcode) pop e =
-    prefixed-bytes first opcode (Some opcode) pop ((first == 0x40) && is_plain_pop opcode)
-    ((first == 0x41) && is_pop_opcode opcode) refl refl refl e
-
-first-bytes : (first : ℕ) (second : Option ℕ) (pop : Pop) (a : Bool) → is_plain_pop first ≡ a
-    → cond a (Some (record { size = 1; is_bp = first == 0x5D })) (prefixed_pop first second) ≡ Some pop
-    → IsPopBytes first second pop
-first-bytes first second pop true is e = alone is (some-same pop _ (sym e))
-first-bytes first second pop false is e = second-bytes first second pop e
-
-pub pop-bytes : (first second : Option ℕ) (pop : Pop) → pop_of first second ≡ Some pop
-    → (byte : ℕ) × (first ≡ Some byte) × IsPopBytes byte second pop
-pop-bytes None second pop e = cc
-pop-bytes (Some first) second pop e = (first, refl, first-bytes first second pop (is_plain_pop first) refl e)
+pop-code : (opcode : ℕ) → is_pop_opcode opcode ≡ true → opcode / 8 ≡ 11
+pop-code opcode is = eq-true _ _ is
 
 -- a pop begins with a lower byte than an end
-pub pop-low : (first : ℕ) (second : Option ℕ) (pop : Pop) → IsPopBytes first second pop → first < 96
-pop-low first second pop (alone is e) = let code : first / 8 ≡ 11 = eq-true _ _ (and-left _ _ is) in omega arith
-pop-low first second pop (after_40 opcode is there code e) = omega arith
-pop-low first second pop (after_41 opcode is there code e) = omega arith
+pub pop-low : (text : List ℕ) (at size : ℕ) (is_bp : Bool) → IsPopBytes text at size is_bp
+    → (byte : ℕ) × (slice_get text at ≡ Some byte) × (byte < 96) × (0 < size)
+pop-low text at size is_bp (alone opcode there is size_is bp_is) =
+    let code = plain-code opcode is in (opcode, there, omega arith, omega arith)
+pop-low text at size is_bp (after_40 opcode first there is size_is bp_is) = (0x40, first, omega arith, omega arith)
+pop-low text at size is_bp (after_41 opcode first there is size_is bp_is) = (0x41, first, omega arith, omega arith)
+
+-- a pop is read in one way
+pub pop-same : (text : List ℕ) (at m n : ℕ) (b c : Bool) → IsPopBytes text at m b → IsPopBytes text at n c
+    → (m ≡ n) × (b ≡ c)
+pop-same text at m n b c (alone x first is m_is b_is) (alone y first' is' n_is c_is) =
+    let same = some-same x y (sym first ∙ first') in
+    (m_is ∙ sym n_is, b_is ∙ ap (λ byte. byte == 0x5D) same ∙ sym c_is)
+pop-same text at m n b c (alone x first is m_is b_is) (after_40 y first' there is' n_is c_is) =
+    let same = some-same x 0x40 (sym first ∙ first') in let code = plain-code x is in absurd (omega arith)
+pop-same text at m n b c (alone x first is m_is b_is) (after_41 y first' there is' n_is c_is) =
+    let same = some-same x 0x41 (sym first ∙ first') in let code = plain-code x is in absurd (omega arith)
+pop-same text at m n b c (after_40 x first there is m_is b_is) (alone y first' is' n_is c_is) =
+    let same = some-same y 0x40 (sym first' ∙ first) in let code = plain-code y is' in absurd (omega arith)
+pop-same text at m n b c (after_40 x first there is m_is b_is) (after_40 y first' there' is' n_is c_is) =
+    let same = some-same x y (sym there ∙ there') in
+    (m_is ∙ sym n_is, b_is ∙ ap (λ byte. byte == 0x5D) same ∙ sym c_is)
+pop-same text at m n b c (after_40 x first there is m_is b_is) (after_41 y first' there' is' n_is c_is) =
+    let same = some-same 0x40 0x41 (sym first ∙ first') in absurd (omega arith)
+pop-same text at m n b c (after_41 x first there is m_is b_is) (alone y first' is' n_is c_is) =
+    let same = some-same y 0x41 (sym first' ∙ first) in let code = plain-code y is' in absurd (omega arith)
+pop-same text at m n b c (after_41 x first there is m_is b_is) (after_40 y first' there' is' n_is c_is) =
+    let same = some-same 0x41 0x40 (sym first ∙ first') in absurd (omega arith)
+pop-same text at m n b c (after_41 x first there is m_is b_is) (after_41 y first' there' is' n_is c_is) =
+    (m_is ∙ sym n_is, b_is ∙ sym c_is)
+
+-- no pop is at an offset
+abbrev pub NoPop : List ℕ → ℕ → Type 0
+NoPop text at = (size : ℕ) (is_bp : Bool) → IsPopBytes text at size is_bp → ⊥
 
 pub jump-high : (opcode : ℕ) → is_jump opcode ≡ true → 96 ≤ opcode
 jump-high opcode e = elim (or-cases ((opcode == 0xEB) || (opcode == 0xE9)) (opcode == 0xFF) e) [
@@ -76,18 +75,19 @@ jump-high opcode e = elim (or-cases ((opcode == 0xEB) || (opcode == 0xE9)) (opco
   | inr ff ↦ (let same : opcode ≡ 0xFF = eq-true _ _ ff in omega arith)
 ]
 
-end-not-pop : (text : List ℕ) (pc at count : ℕ) (pop : Pop) → IsEnd text pc at count → pop_at text at ≡ Some pop → ⊥
-end-not-pop text pc at count pop (returns there) e =
-    let found = pop-bytes (slice_get text at) (slice_get text (at + 1)) pop e in
-    let low = pop-low found.0 (slice_get text (at + 1)) pop found.2 in
-    let same : found.0 ≡ 0xC3 = some-same found.0 0xC3 (sym found.1 ∙ there) in
-    omega arith
-end-not-pop text pc at count pop (jumps opcode there is follows) e =
-    let found = pop-bytes (slice_get text at) (slice_get text (at + 1)) pop e in
-    let low = pop-low found.0 (slice_get text (at + 1)) pop found.2 in
-    let high = jump-high opcode is in
-    let same : found.0 ≡ opcode = some-same found.0 opcode (sym found.1 ∙ there) in
-    omega arith
+-- an end begins with a higher byte
+pub end-high : (text : List ℕ) (pc at count : ℕ) → IsEnd text pc at count
+    → (byte : ℕ) × (slice_get text at ≡ Some byte) × (96 ≤ byte)
+end-high text pc at count (returns there) = (0xC3, there, omega arith)
+end-high text pc at count (jumps opcode there is follows) = (opcode, there, jump-high opcode is)
+
+end-not-pop : (text : List ℕ) (pc at count size : ℕ) (is_bp : Bool) → IsEnd text pc at count
+    → IsPopBytes text at size is_bp → ⊥
+end-not-pop text pc at count size is_bp ends pop =
+    let high = end-high text pc at count ends in
+    let low = pop-low text at size is_bp pop in
+    let same = some-same high.0 low.0 (sym high.1 ∙ low.1) in
+    let above = high.2 in let below = low.2 in omega arith
 
 -- ---- the end
 
@@ -102,25 +102,25 @@ end-jump text pc at pops opcode follows there no_return jump iff =
 
 -- ---- the rest of an epilogue
 
-rest-forward : (text : List ℕ) (pc at size : ℕ) (is_bp : Bool) (p : Popped)
-    → pop_at text at ≡ Some (record { size = size; is_bp = is_bp }) → (rule : UnwindRuleX86_64)
-    → IsRestOfEpilogue text pc at p rule → IsRestOfEpilogue text pc (at + size) (after_pop p is_bp) rule
+rest-forward : (text : List ℕ) (pc at size : ℕ) (is_bp : Bool) (p : Popped) → IsPopBytes text at size is_bp
+    → (rule : UnwindRuleX86_64) → IsRestOfEpilogue text pc at p rule
+    → IsRestOfEpilogue text pc (at + size) (after_pop p is_bp) rule
 rest-forward text pc at size is_bp p there rule rest =
     forward rest.pops rest.end rest.stand rest.ends rest.made where
       forward : (pops : List Bool) (end : ℕ) → ArePops text at pops end → IsEnd text pc end (after_pops p pops).count
           → IsRuleOfPopped (after_pops p pops) rule → IsRestOfEpilogue text pc (at + size) (after_pop p is_bp) rule
       forward [] end same ends made =
           let P : ℕ → Type 0 = λ n. IsEnd text pc n p.count in
-          absurd (end-not-pop text pc at p.count _ (subst P (sym same) ends) there)
+          absurd (end-not-pop text pc at p.count size is_bp (subst P (sym same) ends) there)
       forward (b ∷ pops) end (n, pop, stand) ends made =
-          let same : record { size = n; is_bp = b } ≡ record { size = size; is_bp = is_bp } =
-          some-same {A = Pop} _ _ (sym pop ∙ there) in
-          let P : Pop → Type 0 = λ q. IsRestOfEpilogue text pc (at + q.size) (after_pop p q.is_bp) rule in
-          subst P same (record { pops = pops; end = end; stand = stand; ends = ends; made = made })
+          let same = pop-same text at n size b is_bp pop there in
+          let P : ℕ → Type 0 = λ m. IsRestOfEpilogue text pc (at + m) (after_pop p b) rule in
+          let Q : Bool → Type 0 = λ c. IsRestOfEpilogue text pc (at + size) (after_pop p c) rule in
+          subst Q same.1 (subst P same.0 (record { pops = pops; end = end; stand = stand; ends = ends; made = made }))
 
-rest-back : (text : List ℕ) (pc at size : ℕ) (is_bp : Bool) (p : Popped)
-    → pop_at text at ≡ Some (record { size = size; is_bp = is_bp }) → (rule : UnwindRuleX86_64)
-    → IsRestOfEpilogue text pc (at + size) (after_pop p is_bp) rule → IsRestOfEpilogue text pc at p rule
+rest-back : (text : List ℕ) (pc at size : ℕ) (is_bp : Bool) (p : Popped) → IsPopBytes text at size is_bp
+    → (rule : UnwindRuleX86_64) → IsRestOfEpilogue text pc (at + size) (after_pop p is_bp) rule
+    → IsRestOfEpilogue text pc at p rule
 rest-back text pc at size is_bp p there rule rest = record {
   pops = is_bp ∷ rest.pops;
   end = rest.end;
@@ -129,13 +129,13 @@ rest-back text pc at size is_bp p there rule rest = record {
   made = rest.made;
 }
 
-rest-end : (text : List ℕ) (pc at : ℕ) (p : Popped) → pop_at text at ≡ None → (rule : UnwindRuleX86_64)
+rest-end : (text : List ℕ) (pc at : ℕ) (p : Popped) → NoPop text at → (rule : UnwindRuleX86_64)
     → IsRestOfEpilogue text pc at p rule → IsEnd text pc at p.count × IsRuleOfPopped p rule
 rest-end text pc at p none rule rest = at_end rest.pops rest.end rest.stand rest.ends rest.made where
   at_end : (pops : List Bool) (end : ℕ) → ArePops text at pops end → IsEnd text pc end (after_pops p pops).count
       → IsRuleOfPopped (after_pops p pops) rule → IsEnd text pc at p.count × IsRuleOfPopped p rule
   at_end [] end same ends made = (let P : ℕ → Type 0 = λ n. IsEnd text pc n p.count in subst P (sym same) ends, made)
-  at_end (b ∷ pops) end (n, pop, stand) ends made = cc
+  at_end (b ∷ pops) end (n, pop, stand) ends made = absurd (none n b pop)
 
 -- ---- the walk
 
@@ -148,23 +148,23 @@ pub read-none : (text : List ℕ) (pc : ℕ) → IsReadUpTo text pc pc none_popp
 read-none text pc = record { forward = λ rule rest. rest; back = λ rule rest. rest; small = omega arith }
 
 pub read-more : (text : List ℕ) (pc at size : ℕ) (is_bp : Bool) (p q : Popped) → IsReadUpTo text pc at p
-    → pop_at text at ≡ Some (record { size = size; is_bp = is_bp }) → 0 < size → q ≡ after_pop p is_bp
+    → IsPopBytes text at size is_bp → q ≡ after_pop p is_bp
     → IsReadUpTo text pc (at + size) q
-read-more text pc at size is_bp p q r there above e =
+read-more text pc at size is_bp p q r there e =
     let P : Popped → Type 0 = IsReadUpTo text pc (at + size) in
-    let small = r.small in
+    let small = r.small in let above = (pop-low text at size is_bp there).3 in
     subst P (sym e) (record {
       forward = λ rule rest. rest-forward text pc at size is_bp p there rule (r.forward rule rest);
       back = λ rule rest. r.back rule (rest-back text pc at size is_bp p there rule rest);
       small = omega arith;
     })
 
-pub no-end : (text : List ℕ) (pc at : ℕ) (p : Popped) → IsReadUpTo text pc at p → pop_at text at ≡ None
+pub no-end : (text : List ℕ) (pc at : ℕ) (p : Popped) → IsReadUpTo text pc at p → NoPop text at
     → (IsEnd text pc at p.count → ⊥) → (rule : UnwindRuleX86_64) → IsEpilogueRule text pc rule → ⊥
 no-end text pc at p r none no_end rule e = no_end (rest-end text pc at p none rule (r.forward rule e)).0
 
 pub only-end : (text : List ℕ) (pc at : ℕ) (p : Popped) (found : Option UnwindRuleX86_64) → IsReadUpTo text pc at p
-    → pop_at text at ≡ None → IsEnd text pc at p.count → IsOnly (IsRuleOfPopped p) found
+    → NoPop text at → IsEnd text pc at p.count → IsOnly (IsRuleOfPopped p) found
     → IsOnly (IsEpilogueRule text pc) found
 only-end text pc at p found r none ends only =
     only-map (IsRuleOfPopped p) (IsEpilogueRule text pc) found

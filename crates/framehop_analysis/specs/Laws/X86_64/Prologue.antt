@@ -52,7 +52,7 @@ longest-pushes text pc = pushes-from text pc pc pc 0 (omega arith) (walk-none te
 
 -- ---- their rule
 
-frame-decidable : (text : List ℕ) (at : ℕ) → Decidable (IsFrameSetUpBefore text at)
+pub frame-decidable : (text : List ℕ) (at : ℕ) → Decidable (IsFrameSetUpBefore text at)
 frame-decidable text at =
     decidable-map (λ b. record { room = b.0; push = b.1.0; rex = b.1.1.0; mov = b.1.1.1.0; registers = b.1.1.1.1 })
     (λ f. (f.room, (f.push, (f.rex, (f.mov, f.registers)))))

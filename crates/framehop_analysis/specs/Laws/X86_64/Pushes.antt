@@ -4,7 +4,7 @@ use Rattle.std.proofs.lemmas.Bool.Decides.{nat_tests}
 use Rattle.framehop_core.specs.declared.x86_64.unwind_rule.UnwindRuleX86_64.{UnwindRuleX86_64}
 use Rattle.framehop_analysis.specs.Answer.{IsOnly}
 use Rattle.framehop_analysis.specs.X86_64.Bytes.{is_prefix, is_push}
-use Rattle.framehop_analysis.specs.X86_64.Prologue.{IsPush, plain, prefixed, IsPrefixBefore, IsPushBefore, ArePushes, AreLongestPushes, IsNext, IsRuleOfPushes, IsPrologueRule}
+use Rattle.framehop_analysis.specs.X86_64.Prologue.{IsPushBytes, plain, prefixed, IsPrefixBefore, IsPushBefore, ArePushes, AreLongestPushes, IsNext, IsRuleOfPushes, IsPrologueRule}
 use Rattle.framehop_analysis.specs.Laws.Answer.{only-map, some-same}
 
 eq-true : (m n : ℕ) → nat_eq m n ≡ true → m ≡ n
@@ -18,7 +18,7 @@ push-prefix-apart byte push prefix =
     omega arith
 
 -- a push ends with its opcode
-push-opcode : (text : List ℕ) (at next : ℕ) → IsPush text at next
+push-opcode : (text : List ℕ) (at next : ℕ) → IsPushBytes text at next
     → (opcode : ℕ) × (at < next) × (slice_get text (next - 1) ≡ Some opcode) × (is_push opcode ≡ true)
 push-opcode text at next (plain opcode there is e) =
     let same : next - 1 ≡ at = omega arith in (opcode, omega arith, ap (slice_get text) same ∙ there, is)
@@ -26,10 +26,25 @@ push-opcode text at next (prefixed prefix opcode before is_pre there is e) =
     let same : next - 1 ≡ at + 1 = omega arith in (opcode, omega arith, ap (slice_get text) same ∙ there, is)
 
 -- one more push in front
-pushes-before : (text : List ℕ) (count a b end : ℕ) → IsPush text a b → ArePushes text count b end
+pushes-before : (text : List ℕ) (count a b end : ℕ) → IsPushBytes text a b → ArePushes text count b end
     → ArePushes text (suc count) a end
-pushes-before text zero a b end push e = (a, refl, (let P : ℕ → Type 0 = IsPush text a in subst P e push))
+pushes-before text zero a b end push e = (a, refl, (let P : ℕ → Type 0 = IsPushBytes text a in subst P e push))
 pushes-before text (suc count) a b end push rest = (rest.0, pushes-before text count a b rest.0 push rest.1, rest.2)
+
+-- the first of some pushes, and the others
+pub first-push : (text : List ℕ) (count start end : ℕ) → ArePushes text (suc count) start end
+    → (next : ℕ) × IsPushBytes text start next × ArePushes text count next end
+first-push text zero start end (last, same, push) =
+    (end, (let P : ℕ → Type 0 = λ at. IsPushBytes text at end in subst P (sym same) push), refl)
+first-push text (suc count) start end (last, rest, push) =
+    let first = first-push text count start last rest in (first.0, first.1, (last, first.2, push))
+
+-- pushes have bytes
+pub pushes-below : (text : List ℕ) (count start end : ℕ) → ArePushes text count start end → start + count ≤ end
+pushes-below text zero start end same = omega arith
+pushes-below text (suc count) start end (last, rest, push) =
+    let below = (push-opcode text last end push).1 in
+    let others = pushes-below text count start last rest in omega arith
 
 -- ---- the walk
 
@@ -46,17 +61,17 @@ pub walk-none : (text : List ℕ) (pc : ℕ) → IsWalked text pc pc 0
 unfolding Passes
 walk-none text pc = record { pushes = refl; through = λ s n p. inr (n, p, omega arith); small = omega arith }
 
-last-of : (text : List ℕ) (start before last : ℕ) → IsPushBefore text start before → IsPush text last start
+last-of : (text : List ℕ) (start before last : ℕ) → IsPushBefore text start before → IsPushBytes text last start
     → (last ≡ before) ⊎ ((last ≡ before + 1)
     × ((prefix : ℕ) × (slice_get text before ≡ Some prefix) × (is_prefix prefix ≡ true)))
 last-of text start before last b (plain opcode there is e) = by_push b.push where
-  by_push : IsPush text before start
+  by_push : IsPushBytes text before start
       → (last ≡ before) ⊎ ((last ≡ before + 1)
       × ((prefix : ℕ) × (slice_get text before ≡ Some prefix) × (is_prefix prefix ≡ true)))
   by_push (plain opcode' there' is' e') = inl (omega arith)
   by_push (prefixed prefix' opcode' first' is_pre' there' is' e') = inr (omega arith, (prefix', first', is_pre'))
 last-of text start before last b (prefixed prefix opcode first is_pre there is e) = by_push b.push where
-  by_push : IsPush text before start
+  by_push : IsPushBytes text before start
       → (last ≡ before) ⊎ ((last ≡ before + 1)
       × ((prefix : ℕ) × (slice_get text before ≡ Some prefix) × (is_prefix prefix ≡ true)))
   by_push (plain opcode' there' is' e') =

@@ -5,10 +5,10 @@
 //! is one that is expected in a prologue, the instructions before it are taken to belong to that
 //! prologue as long as they look like it, and the first that does not is taken to belong to the
 //! function before.
-ghost use Rattle.std.specs.Prelude.{◌≡◌, ℕ, ◌+◌, ◌-◌, ◌*◌, ◌<◌, ◌^◌, pos, negsuc, ◌≤ℤ◌, true, List, Some, MatchOption, IfSome, ◌↔◌};
+ghost use Rattle.std.specs.Prelude.{◌≡◌, ℕ, ◌+◌, ◌-◌, ◌*◌, ◌<◌, ◌^◌, pos, negsuc, ◌≤ℤ◌, true, List, Some, MatchOption, IfSome, OnSome, ◌↔◌};
 ghost use Rattle.framehop_analysis.specs.Answer.{IsOnly};
 ghost use Rattle.framehop_analysis.specs.Aarch64.Words.{word_at};
-ghost use Rattle.framehop_analysis.specs.Aarch64.Prologue.{is_run_word, lowered_by, lowered, IsLongestRun, is_prologue_word, is_plain_store, IsRuleOfDepth, IsPrologueRule, UndoesPrologue};
+ghost use Rattle.framehop_analysis.specs.Aarch64.Prologue.{is_run_word, lowered_by, lowered, IsLongestRun, is_prologue_word, is_plain_store, IsRuleOfDepth, IsPrologueRule, ReachesFrom, UndoesPrologue};
 
 use super::units::units_of_16;
 use super::words::{
@@ -31,6 +31,7 @@ pub fn unwind_rule_from_detected_prologue(
     ensures exact { (rule : UnwindRuleAarch64)
         → (result ≡ Some rule) ↔ IsPrologueRule slice_from_start.now slice_to_end.now rule }
     ensures simulation { IfSome result (UndoesPrologue slice_from_start.now) }
+    ensures reaches { OnSome result (ReachesFrom slice_from_start.now) }
 {
     detect_prologue(slice_from_start, slice_to_end)
 }

@@ -2,11 +2,10 @@
 //!
 //! The pops from the pc on are counted, up to the end of the function, which is a return or a tail
 //! call.
-ghost use Rattle.std.specs.Prelude.{◌≡◌, ◌+◌, ◌-◌, ◌<◌, ◌≤◌, ◌↔◌, true, length, Some, IsTrue, IfSome, OnSome, option_map, if◌then◌else◌};
+ghost use Rattle.std.specs.Prelude.{◌≡◌, ℕ, ◌+◌, ◌-◌, ◌<◌, ◌≤◌, ◌↔◌, Bool, true, length, Some, IsTrue, MatchOption, IfSome, OnSome, if◌then◌else◌};
 ghost use Rattle.framehop_core.specs.X86_64.Rules.{is_executable};
 ghost use Rattle.framehop_analysis.specs.Answer.{IsOnly};
-ghost use Rattle.framehop_analysis.specs.X86_64.Machine.{is_jump};
-ghost use Rattle.framehop_analysis.specs.X86_64.Epilogue.{is_plain_pop, pop_at, FollowsPop, IsEnd, IsRuleOfPopped, IsEpilogueRule, EndsFrom, DoesEpilogue};
+ghost use Rattle.framehop_analysis.specs.X86_64.Epilogue.{is_plain_pop, IsPopBytes, is_jump, FollowsPop, IsEnd, IsRuleOfPopped, IsEpilogueRule, EndsFrom, DoesEpilogue};
 
 use super::bytes::{byte_at, is_pop_opcode};
 use framehop_core::x86_64::UnwindRuleX86_64;
@@ -58,8 +57,9 @@ fn last_of_bp(pops: usize, is_bp: bool, pops_before_bp: Option<usize>) -> Option
 /// Returns how many bytes the pop at the offset has and whether it is of rbp, or `None` where no
 /// pop is. A pop of rsp is none: it changes where the next one reads.
 fn pop_at(text_bytes: &[u8], at: usize) -> Option<(usize, bool)>
-    ensures exact { option_map (λ pop. record { size = pop.0; is_bp = pop.1 }) result
-        ≡ pop_at text_bytes.now at }
+    ensures exact { MatchOption result
+        ((size : ℕ) (is_bp : Bool) → IsPopBytes text_bytes.now at size is_bp → ⊥)
+        (λ pop. IsPopBytes text_bytes.now at pop.0 pop.1) }
     ensures within { IfSome result (λ pop. (0 < pop.0) × (at + pop.0 ≤ length text_bytes.now)) }
 {
     let first = byte_at(text_bytes, at)?;

@@ -3,11 +3,11 @@
 //! If the next instruction is one that is expected in a prologue, the pushes before the pc are
 //! counted backwards. Instructions have different sizes, so a byte that is read backwards can be
 //! the last one of another instruction than it seems to be.
-ghost use Rattle.std.specs.Prelude.{◌≡◌, ℕ, ◌+◌, ◌-◌, ◌<◌, ◌≤◌, ◌↔◌, true, length, slice_get, Some, IsTrue, MatchOption, IfSome};
+ghost use Rattle.std.specs.Prelude.{◌≡◌, ℕ, ◌+◌, ◌-◌, ◌<◌, ◌≤◌, ◌↔◌, true, length, slice_get, Some, IsTrue, MatchOption, IfSome, OnSome, OnSome};
 ghost use Rattle.framehop_core.specs.X86_64.Rules.{is_executable};
 ghost use Rattle.framehop_analysis.specs.Answer.{IsOnly};
 ghost use Rattle.framehop_analysis.specs.X86_64.Bytes.{is_push};
-ghost use Rattle.framehop_analysis.specs.X86_64.Prologue.{IsPushBefore, IsFrameSetUpBefore, AreLongestPushes, IsNext, begins_prologue, IsRuleOfPushes, IsPrologueRule, UndoesPrologue};
+ghost use Rattle.framehop_analysis.specs.X86_64.Prologue.{IsPushBefore, IsFrameSetUpBefore, AreLongestPushes, IsNext, begins_prologue, IsRuleOfPushes, IsPrologueRule, ReachesFrom, UndoesPrologue};
 
 use super::bytes::{byte_at, is_prefix, is_push};
 use framehop_core::x86_64::UnwindRuleX86_64;
@@ -24,6 +24,7 @@ pub fn unwind_rule_from_detected_prologue(
     ensures exact { (rule : UnwindRuleX86_64)
         → (result ≡ Some rule) ↔ IsPrologueRule text_bytes.now pc_offset rule }
     ensures simulation { IfSome result (UndoesPrologue text_bytes.now pc_offset) }
+    ensures reaches { OnSome result (ReachesFrom text_bytes.now pc_offset) }
     ensures executable { IfSome result (λ rule. IsTrue (is_executable rule)) }
 {
     detect_prologue(text_bytes, pc_offset)

@@ -1,6 +1,6 @@
 use Rattle.framehop_analysis.proofs.Answers.{only-iff, only-some, only-on}
 use Rattle.framehop_analysis.specs.Laws.Aarch64.Does.{does}
-use Rattle.framehop_analysis.proofs.Aarch64Ending.{ends-from}
+use Rattle.framehop_analysis.specs.Laws.Aarch64.Reaches.{ends-from}
 use Rattle.framehop_analysis.proofs.aarch64.instruction_analysis.epilogue.unwind_rule_from_detected_epilogue.Goals as goal
 
 pub returns-clause-exact : goal.returns-clause-exact

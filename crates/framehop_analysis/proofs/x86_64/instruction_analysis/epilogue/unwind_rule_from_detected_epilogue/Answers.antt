@@ -1,6 +1,6 @@
 use Rattle.framehop_analysis.proofs.Answers.{only-iff, only-some, only-on}
 use Rattle.framehop_analysis.specs.Laws.X86_64.Does.{does}
-use Rattle.framehop_analysis.proofs.X86_64Ending.{ends-from}
+use Rattle.framehop_analysis.specs.Laws.X86_64.Reaches.{ends-from}
 use Rattle.framehop_analysis.proofs.x86_64.instruction_analysis.epilogue.unwind_rule_from_detected_epilogue.Goals as goal
 
 pub returns-clause-exact : goal.returns-clause-exact

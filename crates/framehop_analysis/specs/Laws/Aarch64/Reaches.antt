@@ -1,9 +1,10 @@
--- The machine of aarch64 comes to the end of an epilogue.
-use Rattle.std.proofs.Common.{◌≡◌, ◌≢◌, inl, inr, ℕ, suc, ◌+◌, ◌/◌, ◌%◌, ◌^◌, pos, Bool, true, false, ◌||◌, ◌==◌, List, [], ◌∷◌, ◌++◌, refl, sym, ap, ◌∙◌, subst, arith, bit_and}
+-- The machine of aarch64 goes through what has been read: a prologue's run, and an epilogue to its end.
+use Rattle.std.proofs.Common.{◌≡◌, ◌≢◌, inl, inr, ℕ, suc, ◌+◌, ◌*◌, ◌/◌, ◌%◌, ◌^◌, pos, ◌-ℤ◌, Bool, true, false, ◌||◌, ◌==◌, List, [], ◌∷◌, ◌++◌, refl, sym, ap, ◌∙◌, subst, arith, bit_and}
 use Rattle.std.proofs.lemmas.Nat.{and_assoc, and_shr, and_mod, shr-shr}
 use Rattle.framehop_core.specs.declared.aarch64.unwind_rule.UnwindRuleAarch64.{UnwindRuleAarch64}
 use Rattle.framehop_analysis.specs.Aarch64.Words.{AreWordsAt, bits_at, is_store, is_load, is_sub_sp, is_add_sp, is_signing, is_pacibsp, is_autibsp, is_other, is_b, is_mov, is_check, is_branch, immediate}
-use Rattle.framehop_analysis.specs.Aarch64.Machine.{State, Step, RunOut, after_load, with_sp_moved}
+use Rattle.framehop_analysis.specs.Aarch64.Machine.{State, Step, Run, RunOut, sp_after_access, after_load, with_sp_moved}
+use Rattle.framehop_analysis.specs.Aarch64.Prologue.{is_run_word, IsRun, IsPrologueRule, ReachesFrom}
 use Rattle.framehop_analysis.specs.Aarch64.Epilogue.{Places, at_pc, is_restoring, places_after, places_after_all, AllRestoring, IsEnd, IsEpilogueRule, restored, restores, EndsFrom}
 use Rattle.framehop_analysis.specs.Laws.Aarch64.Calls.{eq-true, and-left, or-left, or-right, or-cases, not-true, pair-high, b-high, branch-high, branch-not-restoring}
 use Rattle.framehop_analysis.specs.Laws.Aarch64.Does.{is_quiet, IsQuiet, IsQuietList, end-quiet, restored-quiet}
@@ -116,6 +117,34 @@ load-step mask word s load =
       others = λ other. absurd ((other-apart word other).pair high);
     }
 
+store-step : (mask word : ℕ) (s : State) → is_store word ≡ true
+    → Step mask word s (record s { sp = sp_after_access word s.sp })
+store-step mask word s store =
+    let high = store-high word store in
+    record {
+      known = or-left _ _ (or-left _ _ (or-left _ _ (or-left _ _ (or-left (is_store word) (is_load word) store))));
+      stores = λ s. refl;
+      loads = λ load. absurd (store-load word store load);
+      subs = λ sub. absurd (let t : 0x48 ≡ 0x54 = ap (λ n. bit_and n 0x5F) (sym (sub-high word sub)) ∙ high in omega arith);
+      adds = λ add. absurd (let t : 0x48 ≡ 0x54 = ap (λ n. bit_and n 0x5F) (sym (add-high word add)) ∙ high in omega arith);
+      signs = λ sign. absurd ((signing-apart word sign).pair high);
+      others = λ other. absurd ((other-apart word other).pair high);
+    }
+
+sub-step : (mask word : ℕ) (s : State) → is_sub_sp word ≡ true
+    → Step mask word s (with_sp_moved s (pos 0 -ℤ pos (immediate word)))
+sub-step mask word s sub =
+    let high = sub-high word sub in
+    record {
+      known = or-left _ _ (or-left _ _ (or-left _ _ (or-right _ (is_sub_sp word) sub)));
+      stores = λ store. absurd (let t : 0x48 ≡ 0x54 = ap (λ n. bit_and n 0x5F) (sym high) ∙ store-high word store in omega arith);
+      loads = λ load. absurd (let t : 0x48 ≡ 0x54 = ap (λ n. bit_and n 0x5F) (sym high) ∙ load-high word load in omega arith);
+      subs = λ s. refl;
+      adds = λ add. absurd (let t = add-high word add in omega arith);
+      signs = λ sign. absurd ((signing-apart word sign).sub high);
+      others = λ other. absurd ((other-apart word other).sub high);
+    }
+
 add-step : (mask word : ℕ) (s : State) → is_add_sp word ≡ true → Step mask word s (with_sp_moved s (pos (immediate word)))
 add-step mask word s add =
     let high = add-high word add in
@@ -195,3 +224,35 @@ ends-from text pc rule (restored is e) = λ mask here.
     let q = restored-quiet text pc is in quiet-ending mask text pc q.0 q.1 here (is_branch q.0) refl q.2 q.3
 ends-from text pc rule (restores not_restored rest) = λ mask here.
     restoring-ending mask text pc rest.restoring rest.end at_pc here rest.stands rest.restore rest.ends
+
+-- ---- the run of a prologue
+
+run-step : (mask word : ℕ) (s : State) → is_run_word word ≡ true → (t : State) × Step mask word s t
+unfolding is_quiet
+run-step mask word s e = elim (or-cases (is_pacibsp word || is_store word) (is_sub_sp word) e) [
+  | inl first ↦ elim (or-cases (is_pacibsp word) (is_store word) first) [
+    | inl sign ↦ (
+      s,
+      quiet-step mask word s
+          (or-left (is_signing word) (is_other word) (or-left (is_pacibsp word) (is_autibsp word) sign)),
+    )
+    | inr store ↦ (record s { sp = sp_after_access word s.sp }, store-step mask word s store)
+  ]
+  | inr sub ↦ (with_sp_moved s (pos 0 -ℤ pos (immediate word)), sub-step mask word s sub)
+]
+
+run-reaches : (mask : ℕ) (bytes : List ℕ) (at : ℕ) (run : List ℕ) (s : State) → IsRun bytes at run
+    → (t : State) × Run mask run s t
+run-reaches mask bytes at [] s stands = (s, refl)
+run-reaches mask bytes at (word ∷ run) s stands =
+    let step = run-step mask word s stands.1 in
+    let rest = run-reaches mask bytes (at + 4) run step.0 stands.2 in
+    (rest.0, (step.0, step.1, rest.1))
+
+pub reaches-from : (before after : List ℕ) (rule : UnwindRuleAarch64) → IsPrologueRule before after rule
+    → ReachesFrom before
+reaches-from before after rule p = record {
+  run = p.run;
+  longest = p.longest;
+  reaches = λ mask entry. run-reaches mask before (4 * p.longest.start) p.run entry p.longest.stands;
+}
