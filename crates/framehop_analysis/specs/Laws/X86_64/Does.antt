@@ -154,10 +154,7 @@ rule-does (OffsetSpAndRestoreBp x y) r new here u p first address none
     let sum : r.rsp + x * 8 ≡ c.new_sp = pos-same _ c.new_sp c.sp_is in
     found-out r new here u p x c.new_sp c.new_bp address stands t sum x_is
     (bp-stored r here p.before_bp before c.new_bp found_at stands c.bp_is) (found _ _ _ r new here.memory address c)
-rule-does EndOfStack r new here u p first address none made stands t e = elim made [ ]
-rule-does JustReturnIfFirstFrameOtherwiseFp r new here u p first address none made stands t e = elim made [ ]
-rule-does UseFramePointer r new here u p first address none made stands t e = elim made [ ]
-rule-does (OffsetSpAndPopRegisters x n m) r new here u p first address none made stands t e = elim made [ ]
+rule-does rule r new here u p first address none made stands t e = absurd made
 
 start : (s : State) → Tracks s s none_popped
 unfolding bp_at

@@ -187,13 +187,7 @@ rule-undoes text start count (OffsetSp x) r new entry here first address made (w
     absurd (made.0 is)
 rule-undoes text start count (OffsetSp x) r new entry here first address made (alone none run) stands e =
     offset-undoes count x r new entry here address made.1 run stands (caller-answered _ _ _ r here.memory address new e)
-rule-undoes text start count EndOfStack r new entry here first address made run stands e = elim made [ ]
-rule-undoes text start count JustReturn r new entry here first address made run stands e = elim made [ ]
-rule-undoes text start count JustReturnIfFirstFrameOtherwiseFp r new entry here first address made run stands e =
-    elim made [ ]
-rule-undoes text start count (OffsetSpAndRestoreBp x y) r new entry here first address made run stands e = elim made [ ]
-rule-undoes text start count (OffsetSpAndPopRegisters x n m) r new entry here first address made run stands e =
-    elim made [ ]
+rule-undoes text start count rule r new entry here first address made run stands e = absurd made
 
 -- the rule is that of the longest list of pushes, which is one
 made-of : (text : List ℕ) (pc start count : ℕ) (rule : UnwindRuleX86_64) → IsPrologueRule text pc rule
