@@ -1,8 +1,7 @@
 -- An index of a section is one of the FDEs at the offsets that its lengths tell.
-use Rattle.std.proofs.Common.{◌≡◌, ◌≢◌, ℕ, List, [], ◌∷◌, Option, Some, None, Result, Ok, Err, refl, ap, sym, ◌∙◌}
+use Rattle.std.proofs.Common.{◌≡◌, ◌≢◌, ℕ, List, [], ◌∷◌, Option, Some, None, Result, Ok, Err, refl, ap}
 use Rattle.framehop_cfi.specs.Section.{Section}
 use Rattle.framehop_cfi.specs.Entry.{fde_at}
-use Rattle.framehop_cfi.specs.EntryMeaning.{IsFde}
 use Rattle.framehop_cfi.specs.Entries.{Cut, cut, AreOffsets}
 use Rattle.framehop_cfi.specs.declared.entry.FrameDescriptionEntry.{FrameDescriptionEntry}
 use Rattle.framehop_cfi.proofs.Cut.{cut-offsets, offsets-cut}
@@ -11,7 +10,7 @@ use Rattle.framehop_cfi.specs.declared.read_error.ReadError.{ReadError}
 use Rattle.framehop_cfi.specs.declared.read_error.ReadError.TheVariants.{OutOfMemory}
 use Rattle.framehop_dwarf.specs.declared.index.DwarfCfiIndexError.{DwarfCfiIndexError}
 use Rattle.framehop_dwarf.specs.declared.index.DwarfCfiIndexError.TheVariants.{Gimli}
-use Rattle.framehop_dwarf.specs.Index.{pair_of, pair_if_read, pair_at, before_others, pairs_at, unless_refused, pairs_of, HasPair, ArePairsAt, no_more, one, passed, HasNoIndex}
+use Rattle.framehop_dwarf.specs.Index.{pair_if_read, pair_at, before_others, pairs_at, unless_refused, pairs_of, HasPair, ArePairsAt, no_more, one, passed, HasNoIndex}
 
 module _ (section : Section) (base : ℕ) where
   has : (at : ℕ) (pair : ℕ × ℕ) (read : Result FrameDescriptionEntry ReadError) → fde_at section at ≡ read → pair_if_read base at read ≡ Some pair → HasPair section base at pair

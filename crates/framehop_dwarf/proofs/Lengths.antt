@@ -1,5 +1,5 @@
 -- Why the length of an entry can't be read.
-use Rattle.std.proofs.Common.{◌≡◌, ℕ, ◌+◌, Bool, true, false, List, length, Result, Ok, Err, sym, subst, leb, ltb, ◌==◌, if◌then◌else◌}
+use Rattle.std.proofs.Common.{◌≡◌, ℕ, ◌+◌, Bool, true, false, List, length, Result, Ok, Err, subst, leb, ltb, ◌==◌, if◌then◌else◌}
 use Rattle.framehop_cfi.specs.Bytes.{◌>>=◌, le4, le8, u32_at, u64_at}
 use Rattle.framehop_cfi.specs.EntryExtent.{held, long_extent, extent_at}
 use Rattle.framehop_cfi.specs.declared.extent.EntryExtent.{EntryExtent}

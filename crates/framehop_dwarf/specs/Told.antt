@@ -20,6 +20,16 @@ IsOfValues CouldNotRecoverCfa = Unit {0}
 IsOfValues CouldNotRecoverReturnAddress = Unit {0}
 IsOfValues CouldNotRecoverFramePointer = Unit {0}
 
+-- the refusals that come before the stack is read
+abbrev pub NeedsNoStack : DwarfUnwinderError → Type 0
+NeedsNoStack (FdeFromOffsetFailed error) = Unit {0}
+NeedsNoStack (UnwindInfoForAddressFailed error) = ⊥
+NeedsNoStack StackPointerMovedBackwards = ⊥
+NeedsNoStack DidNotAdvance = ⊥
+NeedsNoStack CouldNotRecoverCfa = Unit {0}
+NeedsNoStack CouldNotRecoverReturnAddress = ⊥
+NeedsNoStack CouldNotRecoverFramePointer = ⊥
+
 -- values are computed, or refused
 abbrev pub AreComputed : {R : Type 0} → Result (UnwindResult R) DwarfUnwinderError → Type 0
 AreComputed (Ok (ExecRule rule)) = ⊥

@@ -3,7 +3,7 @@ ghost use Rattle.std.specs.Prelude.{◌≡◌, ◌≢◌, ◌^◌, ℕ, Bool, Is
 ghost use Rattle.framehop_core.specs.Memory.{Memory, AnswersAs};
 ghost use Rattle.framehop_core.specs.Outcome.{answered};
 ghost use Rattle.framehop_cfi.specs.Row.{Row};
-ghost use Rattle.framehop_dwarf.specs.Told.{no_memory, TellsFound, WritesWithAddress, TellsDirect, IsRule, IsMeant, RuleHas, AdvancesWithAddress};
+ghost use Rattle.framehop_dwarf.specs.Told.{no_memory, NeedsNoStack, TellsFound, WritesWithAddress, TellsDirect, IsRule, IsMeant, RuleHas, AdvancesWithAddress};
 ghost use Rattle.framehop_dwarf.specs.declared.dwarf.DwarfUnwinderError.{DwarfUnwinderError as DwarfRefusal};
 ghost use Rattle.framehop_dwarf.specs.Units.{units_of, signed_units_of};
 ghost use Rattle.framehop_dwarf.specs.Direct.{sum_of, cfa_of, register_of};
@@ -88,6 +88,8 @@ pub trait DwarfUnwinding: Arch {
         ensures callable { F.IsAlwaysCallable read_stack.new }
         ensures found { TellsFound (Ok (translated unwind_info.now)) result }
         ensures kept { WritesWithAddress result regs.old regs.new }
+        ensures unread { RuleHas (λ rule. read_stack.new ≡ read_stack.old) result }
+        ensures unread_refused { IfErr result (λ error. NeedsNoStack error → read_stack.new ≡ read_stack.old) }
         ensures runnable { RuleHas (λ rule. IsTrue (Self.UnwindRule.executable rule)) result }
         ensures ascends { AdvancesWithAddress (ascends is_first_frame) result regs.old regs.new }
         ensures memory { result ≡ Err no_memory → E.Stack.limit ≡ None }

@@ -1,11 +1,11 @@
 //! What unwinds by the call frame information of a module.
-ghost use Rattle.std.specs.Prelude.{◌≡◌, ◌≢◌, ◌+◌, ◌⊎◌, ℕ, Bool, IsTrue, MatchOption, IfSome, Option, None, Err};
+ghost use Rattle.std.specs.Prelude.{IfErr, ◌≡◌, ◌≢◌, ◌+◌, ◌⊎◌, ℕ, Bool, IsTrue, MatchOption, IfSome, Option, None, Err};
 ghost use Rattle.framehop_cfi.specs.Section.{section_of};
 ghost use Rattle.framehop_cfi.specs.Header.{IsOfRowFor};
 ghost use Rattle.framehop_dwarf.specs.Unwinder.{header_bases, HasHeader, fde_offset_for, reading_of, IsReading, HasFound, found_by, direct_by, OfRow};
 ghost use Rattle.framehop_core.specs.Memory.{Memory, AnswersAs};
 ghost use Rattle.framehop_core.specs.Outcome.{answered};
-ghost use Rattle.framehop_dwarf.specs.Told.{no_memory, TellsFound, WritesWithAddress, TellsDirect, IsRule, IsMeant, RuleHas, AdvancesWithAddress};
+ghost use Rattle.framehop_dwarf.specs.Told.{no_memory, NeedsNoStack, TellsFound, WritesWithAddress, TellsDirect, IsRule, IsMeant, RuleHas, AdvancesWithAddress};
 
 use crate::dwarf::{DwarfUnwinderError, DwarfUnwinding};
 use crate::evaluation::EvaluationStorage;
@@ -146,6 +146,8 @@ impl<'a, A: DwarfUnwinding, S: UnwindContextStorage> DwarfUnwinder<'a, A, S> {
         ensures header { self.new.eh_frame_hdr ≡ self.old.eh_frame_hdr }
         ensures base { self.new.base_svma ≡ self.old.base_svma }
         ensures kept { WritesWithAddress result regs.old regs.new }
+        ensures unread { RuleHas (λ rule. read_stack.new ≡ read_stack.old) result }
+        ensures unread_refused { IfErr result (λ error. NeedsNoStack error → read_stack.new ≡ read_stack.old) }
         ensures found { result ≢ Err no_memory → TellsFound (found_by A.translated A.uncovered (reading_of S.limits self.old.section (self.old.base_svma + rel_lookup_address) fde_offset)) result }
         ensures runnable { RuleHas (λ rule. IsTrue (A.UnwindRule.executable rule)) result }
         ensures ascends { AdvancesWithAddress (A.ascends is_first_frame) result regs.old regs.new }

@@ -3,7 +3,7 @@
 ghost use Rattle.std.specs.Prelude.{◌≡◌, ◌^◌, ◌<◌, None, IfErr, OnOk, OnErr, Ok, Err};
 ghost use Rattle.framehop_core.specs.Memory.{Memory, AnswersAs};
 ghost use Rattle.framehop_dwarf.specs.Aarch64.{translated_by, by_sp, by_fp, by_saved, beside_fp, with_fp, with_fp_kept, with_lr, or_kept, stepped, scope_of, direct_by, translated, direct_of, Ascends};
-ghost use Rattle.framehop_dwarf.specs.Told.{no_memory, Has, IsOfValues};
+ghost use Rattle.framehop_dwarf.specs.Told.{no_memory, NeedsNoStack, Has, IsOfValues};
 
 use crate::dwarf::{
     DwarfUnwinderError, DwarfUnwinding, eval_cfa_rule, eval_register_rule, units_of, words_of_sum,
@@ -247,6 +247,7 @@ where
     ensures callable { F.IsAlwaysCallable read_stack.new }
     ensures kept { OnErr result (regs.new ≡ regs.old) }
     ensures refused { IfErr result IsOfValues }
+    ensures unread { IfErr result (λ error. NeedsNoStack error → read_stack.new ≡ read_stack.old) }
     ensures ascends { OnOk result (Ascends is_first_frame regs.old regs.new) }
     ensures memory { result ≡ Err no_memory → E.Stack.limit ≡ None }
     ensures answers { (memory : Memory) → AnswersAs F.FnMut read_stack.old memory
@@ -311,6 +312,7 @@ where
     ensures callable { F.IsAlwaysCallable read_stack.new }
     ensures kept { OnErr result (regs.new ≡ regs.old) }
     ensures refused { IfErr result IsOfValues }
+    ensures unread { IfErr result (λ error. NeedsNoStack error → read_stack.new ≡ read_stack.old) }
     ensures ascends { OnOk result (Ascends is_first_frame regs.old regs.new) }
     ensures memory { result ≡ Err no_memory → E.Stack.limit ≡ None }
     ensures answers { (memory : Memory) → AnswersAs F.FnMut read_stack.old memory

@@ -4,7 +4,7 @@ ghost use Rattle.std.specs.Prelude.{◌≡◌, ◌≢◌, true, None, IfSome, If
 ghost use Rattle.framehop_core.specs.Memory.{Memory, AnswersAs};
 ghost use Rattle.framehop_core.specs.X86_64.Rules.{is_executable};
 ghost use Rattle.framehop_dwarf.specs.X86_64.{translated_by, by_cfa, by_sp, by_bp, with_bp, with_offsets, below, or_below, scope_of, stepped, direct_by, translated, direct_of};
-ghost use Rattle.framehop_dwarf.specs.Told.{no_memory, Has, IsOfValues};
+ghost use Rattle.framehop_dwarf.specs.Told.{no_memory, NeedsNoStack, Has, IsOfValues};
 
 use crate::dwarf::{
     DwarfUnwinderError, DwarfUnwinding, eval_cfa_rule, eval_register_rule, read_word, units_of,
@@ -181,6 +181,7 @@ fn step_to(
 ) -> Result<u64, DwarfUnwinderError>
     ensures kept { OnErr result (regs.new ≡ regs.old) }
     ensures refused { IfErr result IsOfValues }
+    ensures late { IfErr result (λ error. NeedsNoStack error → ⊥) }
     ensures memory { result ≢ Err no_memory }
     ensures answers { Has (stepped is_first_frame regs.old cfa new_bp return_address) result regs.new }
 {
@@ -213,6 +214,7 @@ where
     ensures callable { F.IsAlwaysCallable read_stack.new }
     ensures kept { OnErr result (regs.new ≡ regs.old) }
     ensures refused { IfErr result IsOfValues }
+    ensures unread { IfErr result (λ error. NeedsNoStack error → read_stack.new ≡ read_stack.old) }
     ensures memory { result ≡ Err no_memory → E.Stack.limit ≡ None }
     ensures answers { (memory : Memory) → AnswersAs F.FnMut read_stack.old memory
         → AnswersAs F.FnMut read_stack.new memory
@@ -275,6 +277,7 @@ where
     ensures callable { F.IsAlwaysCallable read_stack.new }
     ensures kept { OnErr result (regs.new ≡ regs.old) }
     ensures refused { IfErr result IsOfValues }
+    ensures unread { IfErr result (λ error. NeedsNoStack error → read_stack.new ≡ read_stack.old) }
     ensures memory { result ≡ Err no_memory → E.Stack.limit ≡ None }
     ensures answers { (memory : Memory) → AnswersAs F.FnMut read_stack.old memory
         → AnswersAs F.FnMut read_stack.new memory

@@ -1,4 +1,4 @@
-use Rattle.std.proofs.Common.{◌<◌, ◌∙◌, suc, length, map, Ok, sym, ap, arith}
+use Rattle.std.proofs.Common.{◌<◌, ◌∙◌, suc, length, map, sym, ap, arith}
 use Rattle.framehop_cfi.specs.Section.{Section}
 use Rattle.framehop_dwarf.specs.Index.{pair_of_key, no_memory}
 use Rattle.framehop_dwarf.proofs.Lengths.{refused-length}
