@@ -91,9 +91,9 @@ pub struct UnwindOperations<'s, 'a, D> {
 }
 
 impl<'s, 'a, D: SectionBytes> UnwindOperations<'s, 'a, D> {
+    /// Returns the operations from an offset in the function, in bytes: those of the first info that
+    /// have run there, then all of each chained info. Each info is judged here.
     #[tactic(auto, unfolding(crate::specs::Chain::operations_from))]
-    /// The operations from an offset in the function, in bytes: those of the first info that have
-    /// run there, then all of each chained info. Each info is judged here.
     pub fn new(
         sections: &'s PeSections<'a, D>,
         info: UnwindInfo<'a>,
