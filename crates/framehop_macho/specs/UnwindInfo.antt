@@ -1,7 +1,7 @@
 -- The section `__unwind_info` (Apple, mach-o/compact_unwind_encoding.h): which function an address is in.
-use Rattle.std.specs.Prelude.{ℕ, ◌≤◌, ◌<◌, ◌+◌, ◌*◌, ◌/◌, ◌^◌, ◌==◌, nat_le, nat_lt, List, ◌++◌, length, slice_get, if◌then◌else◌, Option, Some, None, Result, Ok, Err, unwrap_or}
+use Rattle.std.specs.Prelude.{◌≡◌, ◌⊎◌, ℕ, ◌≤◌, ◌<◌, ◌+◌, ◌-◌, ◌*◌, ◌/◌, ◌^◌, ◌==◌, nat_le, nat_lt, List, ◌++◌, length, slice_get, if◌then◌else◌, Option, Some, None, Result, Ok, Err, unwrap_or}
 use Rattle.framehop_cfi.specs.Bytes.{le2, le4}
-use Rattle.framehop_macho.specs.Table.{part_of, index_starts, regular_starts, compressed_starts, opcodes_of, row_of}
+use Rattle.framehop_macho.specs.Table.{part_of, index_starts, regular_starts, compressed_starts, opcodes_of, row_of, IsBefore}
 use Rattle.framehop_macho.specs.declared.unwind_info.error.CompactReadError.{CompactReadError}
 use Rattle.framehop_macho.specs.declared.unwind_info.error.CompactReadError.TheVariants.{Eof, BadVersion, BadPageKind, BadEncodingIndex, AddressTooBig}
 use Rattle.framehop_macho.specs.declared.unwind_info.info.Function.{Function}
@@ -142,6 +142,28 @@ entry_of_row index (Some row) = entry_before index row row.next
 unfoldable pub page_entry_of : List ℕ → ℕ → Option PageEntry
 page_entry_of index address = entry_of_row index (row_of (index_starts index) address)
 
+-- no page has an address: the index has no row at or below it, or the last one is, which is the sentinel
+abbrev pub IsOutsideIndex : List ℕ → ℕ → Type 0
+IsOutsideIndex starts address =
+    IsBefore starts address ⊎ ((last : ℕ) × (slice_get starts (length starts - 1) ≡ Some last) × (last ≤ address))
+
+-- the address lies in the page
+pub record IsInPage (address : ℕ) (entry : PageEntry) : Type 0 where
+  pub from_start : entry.page_address ≤ address
+  pub below_end : address < entry.next_page_address
+
+-- where the functions of a page begin, in a page from an address on
+abbrev pub starts_in : ℕ → Page → List ℕ
+starts_in page (regular entries) = regular_starts entries
+starts_in page (compressed entries opcodes) = compressed_starts page entries
+
+-- no function has an address: no page has it, or its page has no row at or below it
+pub data IsOutside (data' : List ℕ) (lists : Lists) (address : ℕ) : Type 0 where
+  of_index : IsOutsideIndex (index_starts lists.index) address → IsOutside data' lists address
+  of_page : (entry : PageEntry) (page : Page) → page_entry_of lists.index address ≡ Some entry
+      → page_at data' entry.page_offset ≡ Ok page → IsBefore (starts_in entry.page_address page) address
+      → IsOutside data' lists address
+
 abbrev pub in_entry : List ℕ → Lists → ℕ → Option PageEntry → Result (Option Function) CompactReadError
 in_entry data' lists address None = Ok None
 in_entry data' lists address (Some entry) =
@@ -154,3 +176,8 @@ in_lists data' lists address = in_entry data' lists address (page_entry_of lists
 -- the function of an address (relative to the module's base), found by place in the index and then in a page
 unfoldable pub function_of : List ℕ → ℕ → Result (Option Function) CompactReadError
 function_of data' address = shared_lists_of data' >>= (λ lists. in_lists data' lists address)
+
+-- the header is read, and no function has the address
+abbrev pub HasNoFunction : List ℕ → ℕ → Type 0
+HasNoFunction data' address =
+    (lists : Lists) × (shared_lists_of data' ≡ Ok lists) × IsOutside data' lists address

@@ -2,11 +2,12 @@
 ghost use Rattle.std.specs.Prelude.{◌≡◌, ◌≤◌, ◌-◌, ℕ, IfOk, IfSome, option_map, List, length, ◌⊎◌, Bool, true, IsTrue, Some, None, Ok, Err, Result, Option};
 ghost use Rattle.std.specs.Option.{ForSome, option_copied};
 ghost use Rattle.framehop_macho.specs.Answer.{Answer, IfExecRule};
-ghost use Rattle.framehop_macho.specs.UnwindInfo.{function_of, Covers};
+ghost use Rattle.framehop_macho.specs.UnwindInfo.{function_of, Covers, HasNoFunction};
 ghost use Rattle.framehop_macho.specs.Unwinder.{text_of, module_of, code_between, code_of, is_in, function_for, unwound_in, unwound_by, unwound};
 ghost use Rattle.framehop_macho.specs.declared.macho.CuiUnwindResult.{CuiUnwindResult};
 ghost use Rattle.framehop_macho.specs.declared.macho.CuiUnwindResult.TheVariants.{ExecRule};
 ghost use Rattle.framehop_macho.specs.declared.macho.CompactUnwindInfoUnwinderError.{CompactUnwindInfoUnwinderError};
+ghost use Rattle.framehop_macho.specs.declared.macho.CompactUnwindInfoUnwinderError.TheVariants.{AddressOutsideRange};
 ghost use Rattle.framehop_macho.specs.declared.unwind_info.info.Function.{Function};
 
 use crate::unwind_info::error::CompactReadError;
@@ -208,6 +209,8 @@ impl<'a, A: CompactUnwindInfoUnwinding> CompactUnwindInfoUnwinder<'a, A> {
     ) -> Result<Function, CompactUnwindInfoUnwinderError>
         ensures exact { result ≡ function_for (function_of (module_of self.now).unwind_info address) address }
         ensures covers { IfOk result (Covers address) }
+        ensures outside { result ≡ Err (AddressOutsideRange address)
+            → HasNoFunction (module_of self.now).unwind_info address }
     {
         find_function(self.unwind_info_data, address)?.ok_or(
             CompactUnwindInfoUnwinderError::AddressOutsideRange(address),
@@ -283,6 +286,7 @@ impl<'a, A: CompactUnwindInfoUnwinding> CompactUnwindInfoUnwinder<'a, A> {
 fn find_function(bytes: &[u8], address: u32) -> Result<Option<Function>, CompactReadError>
     ensures exact { result ≡ function_of bytes.now address }
     ensures covers { IfOk result (λ found. IfSome found (Covers address)) }
+    ensures outside { result ≡ Ok None → HasNoFunction bytes.now address }
 {
     UnwindInfo::parse(bytes)?.lookup(address)
 }

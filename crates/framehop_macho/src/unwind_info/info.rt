@@ -1,7 +1,8 @@
 //! The function of an address, by the index of `__unwind_info` and its pages (Apple,
 //! mach-o/compact_unwind_encoding.h, struct unwind_info_section_header).
-ghost use Rattle.std.specs.Prelude.{◌≡◌, Ok, Err, IfOk, IfSome, MatchResult};
-ghost use Rattle.framehop_macho.specs.UnwindInfo.{shared_lists_of, in_lists, shared_lists, page_entry_of, Covers};
+ghost use Rattle.std.specs.Prelude.{◌≡◌, None, Ok, Err, IfOk, IfSome, MatchOption, MatchResult};
+ghost use Rattle.framehop_macho.specs.UnwindInfo.{shared_lists_of, in_lists, shared_lists, page_entry_of, IsOutsideIndex, IsInPage, IsOutside, Covers};
+ghost use Rattle.framehop_macho.specs.Table.{index_starts};
 
 use super::error::CompactReadError;
 use super::page::Page;
@@ -69,6 +70,7 @@ impl<'a> UnwindInfo<'a> {
     /// Those of the page and of the function.
     pub fn lookup(&self, address: u32) -> Result<Option<Function>, CompactReadError>
         ensures covers { IfOk result (λ found. IfSome found (Covers address)) }
+        ensures outside { result ≡ Ok None → IsOutside self.now.bytes.now (shared_lists self.now) address }
         ensures exact { result ≡ in_lists self.now.bytes.now (shared_lists self.now) address }
     {
         let Some(entry) = page_entry(self.index, address) else {
@@ -98,7 +100,8 @@ pub struct PageEntry {
 /// Returns the page of an address. The last entry of the index is a sentinel, and no page.
 #[tactic(auto, unfolding(crate::specs::UnwindInfo::page_entry_of))]
 fn page_entry(index: &[u8], address: u32) -> Option<PageEntry>
-    ensures { result ≡ page_entry_of index.now address }
+    ensures exact { result ≡ page_entry_of index.now address }
+    ensures outside { MatchOption result (IsOutsideIndex (index_starts index.now) address) (IsInPage address) }
 {
     let row = row_of_address(&IndexEntries { bytes: index }, u64::from(address))?;
     let next = row.next?;

@@ -1,8 +1,8 @@
 //! The pages of `__unwind_info` (Apple, mach-o/compact_unwind_encoding.h, structs
 //! unwind_info_regular_second_level_page_header and .._compressed_..).
-ghost use Rattle.std.specs.Prelude.{◌≡◌, ◌+◌, ◌<◌, ◌^◌, Ok, Err, IfOk, IfSome, MatchResult};
-ghost use Rattle.framehop_macho.specs.UnwindInfo.{page_at, regular_page, compressed_page, in_page, in_regular, in_compressed, page_of, Covers};
-ghost use Rattle.framehop_macho.specs.Table.{regular_starts, compressed_starts, row_of};
+ghost use Rattle.std.specs.Prelude.{◌≡◌, ◌+◌, ◌<◌, ◌^◌, None, Ok, Err, IfOk, IfSome, MatchResult};
+ghost use Rattle.framehop_macho.specs.UnwindInfo.{page_at, regular_page, compressed_page, in_page, in_regular, in_compressed, page_of, starts_in, Covers};
+ghost use Rattle.framehop_macho.specs.Table.{regular_starts, compressed_starts, row_of, IsBefore};
 
 use super::error::CompactReadError;
 use super::info::Function;
@@ -66,6 +66,8 @@ impl<'a> Page<'a> {
         address: u32,
     ) -> Result<Option<Function>, CompactReadError>
         ensures covers { IfOk result (λ found. IfSome found (Covers address)) }
+        ensures outside { address < next_page_address → result ≡ Ok None
+            → IsBefore (starts_in page_address (page_of self.entry)) address }
         ensures exact { result ≡ in_page common_opcodes.now page_address next_page_address address (page_of self.entry) }
     {
         match self {
@@ -125,6 +127,7 @@ fn parse_compressed(bytes: &[u8], at: usize) -> Result<Page<'_>, CompactReadErro
 /// Returns the function of an address among the entries of a regular page.
 fn lookup_regular(entries: &[u8], next_page_address: u32, address: u32) -> Option<Function>
     ensures covers { IfSome result (Covers address) }
+    ensures outside { address < next_page_address → result ≡ None → IsBefore (regular_starts entries.now) address }
     ensures exact { result ≡ in_regular entries.now next_page_address address (row_of (regular_starts entries.now) address) }
 {
     let row = row_of_address(&RegularEntries { bytes: entries }, u64::from(address))?;
@@ -149,6 +152,8 @@ fn lookup_compressed(
     address: u32,
 ) -> Result<Option<Function>, CompactReadError>
     ensures covers { IfOk result (λ found. IfSome found (Covers address)) }
+    ensures outside { address < next_page_address → result ≡ Ok None
+        → IsBefore (compressed_starts entries.now.page_address entries.now.bytes.now) address }
     ensures exact { result ≡ in_compressed common_opcodes.now entries.now.bytes.now opcodes.now next_page_address address
         (row_of (compressed_starts entries.now.page_address entries.now.bytes.now) address) }
 {
