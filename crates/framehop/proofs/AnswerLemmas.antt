@@ -16,7 +16,7 @@ use Rattle.framehop.specs.Fresh.{fresh, outcome_of}
 use Rattle.framehop.specs.Told.{out_of_memory, IsDirect, values_in, TellsAnswer, TellsValues, WritesWithAddress, RuleHas, TellsFresh, TellsFreshValues, WritesComputed, AnswerHas, no_memory, no_values, nothing, IsAnswerOf}
 use Rattle.framehop.specs.Laws.Meaning.{fresh-covered}
 use Rattle.framehop.proofs.ToldLemmas.{err-same}
-use Rattle.framehop.specs.declared.unwinder.UnwinderError.{UnwinderError}
+use Rattle.framehop.specs.declared.modules.UnwinderError.{UnwinderError}
 use Rattle.framehop.specs.declared.unwinder.FrameAnswer.{FrameAnswer}
 
 -- what the modules give where none covers the address

@@ -11,10 +11,10 @@ use Rattle.framehop.specs.Walk.{onward_cache, cache_after_callers, cache_after_w
 use Rattle.framehop.specs.CachedWorld.{CachedWorld, empty_cached_world, world_of, unwinder_at, cache_at, step_of, cached_after}
 use Rattle.framehop.specs.Transparent.{IsTransparent}
 use Rattle.framehop.specs.World.{memory_of, refusal_of, needs_unwinder, needs_cache, needs_generation, modules_of}
-use Rattle.framehop.specs.declared.session.Command.{Command}
-use Rattle.framehop.specs.declared.session.Command.TheVariants.{New, Clone, Add, Remove, Step as StepCommand, Walk as WalkCommand, Stats}
-use Rattle.framehop.specs.declared.session.SessionError.{SessionError}
-use Rattle.framehop.specs.declared.session.SessionError.TheVariants.{NoSuchUnwinder, NoSuchCache, GenerationsExhausted}
+use Rattle.framehop.specs.declared.session.commands.Command.{Command}
+use Rattle.framehop.specs.declared.session.commands.Command.TheVariants.{New, Clone, Add, Remove, Step as StepCommand, Walk as WalkCommand, Stats}
+use Rattle.framehop.specs.declared.session.commands.SessionError.{SessionError}
+use Rattle.framehop.specs.declared.session.commands.SessionError.TheVariants.{NoSuchUnwinder, NoSuchCache, GenerationsExhausted}
 use Rattle.framehop.proofs.SoundnessLemmas.{Extends-after, IsSound-extended, empty-stands}
 
 -- ---- what is among a list that grew, or of which one was replaced

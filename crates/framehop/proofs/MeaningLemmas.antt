@@ -12,8 +12,8 @@ use Rattle.framehop.specs.Modules.{ModuleView}
 use Rattle.framehop.specs.Unwinding.{Unwinding}
 use Rattle.framehop.specs.Walk.{at_refusal, frame_before, onward, callers, walk_from}
 use Rattle.framehop.specs.World.{memory_of}
-use Rattle.framehop.specs.declared.session.Command.{Command}
-use Rattle.framehop.specs.declared.session.Command.TheVariants.{New, Clone, Add, Remove, Step as StepCommand, Walk as WalkCommand, Stats}
+use Rattle.framehop.specs.declared.session.commands.Command.{Command}
+use Rattle.framehop.specs.declared.session.commands.Command.TheVariants.{New, Clone, Add, Remove, Step as StepCommand, Walk as WalkCommand, Stats}
 use Rattle.framehop.proofs.CachedWorldLemmas.{modules-at}
 
 -- what holds of a step that answers an address, holds of a call that answers as the step does

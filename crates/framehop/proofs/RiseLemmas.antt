@@ -16,9 +16,9 @@ use Rattle.framehop.specs.Walk.{Walk, at_refusal, frame_before, onward, callers,
 use Rattle.framehop.specs.World.{World, memory_of, refusal_of, unless_refused}
 use Rattle.framehop.specs.CachedWorld.{CachedWorld, CachedReply, world_of, unwinder_at, cached_reply, cached_after, reply_then, cached_replies, EachReply}
 use Rattle.framehop.specs.Rise.{IsWalkWithinRise, IsRuleStep, WhereAnswered, EachAnswered, IsWalkOfRules, IsReplyWithinRise}
-use Rattle.framehop.specs.declared.session.Command.{Command}
-use Rattle.framehop.specs.declared.session.Command.TheVariants.{New, Clone, Add, Remove, Step as StepCommand, Walk as WalkCommand, Stats}
-use Rattle.framehop.specs.declared.session.SessionError.{SessionError}
+use Rattle.framehop.specs.declared.session.commands.Command.{Command}
+use Rattle.framehop.specs.declared.session.commands.Command.TheVariants.{New, Clone, Add, Remove, Step as StepCommand, Walk as WalkCommand, Stats}
+use Rattle.framehop.specs.declared.session.commands.SessionError.{SessionError}
 use Rattle.framehop.proofs.CachedWorldLemmas.{modules-at}
 use Rattle.framehop.proofs.WorldLemmas.{world-after}
 

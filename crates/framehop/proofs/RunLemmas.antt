@@ -4,8 +4,8 @@ use Rattle.std.proofs.lemmas.List.{append-nil}
 use Rattle.framehop.specs.Unwinding.{Unwinding}
 use Rattle.framehop.specs.World.{refusal_of, unless_refused}
 use Rattle.framehop.specs.CachedWorld.{CachedWorld, CachedReply, world_of, cached_reply, cached_after, reply_then, cached_replies, next_unless, next_after_all}
-use Rattle.framehop.specs.declared.session.Command.{Command}
-use Rattle.framehop.specs.declared.session.SessionError.{SessionError}
+use Rattle.framehop.specs.declared.session.commands.Command.{Command}
+use Rattle.framehop.specs.declared.session.commands.SessionError.{SessionError}
 
 -- the replies so far before the others
 abbrev pub replies_before : {Regs : Type 0} → List (CachedReply Regs) → Result (List (CachedReply Regs)) SessionError → Result (List (CachedReply Regs)) SessionError

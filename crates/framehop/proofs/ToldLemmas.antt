@@ -18,8 +18,8 @@ use Rattle.framehop_pe.specs.Answer.{IsMissingStackData, TellsFound as PeTellsFo
 use Rattle.framehop_pe.specs.declared.pe.PeUnwinderError.{PeUnwinderError}
 use Rattle.framehop_pe.specs.declared.pe.PeUnwinderError.TheVariants.{MissingUnwindInfoData, MissingInstructionData, MissingStackData, UnwindInfoParseError, Aarch64Unsupported}
 use Rattle.framehop.specs.Told.{is_of_row_values, is_of_pe_values, TellsAnswer, TellsValues, WritesWithAddress}
-use Rattle.framehop.specs.declared.unwinder.UnwinderError.{UnwinderError}
-use Rattle.framehop.specs.declared.unwinder.UnwinderError.TheVariants.{Dwarf, Pe}
+use Rattle.framehop.specs.declared.modules.UnwinderError.{UnwinderError}
+use Rattle.framehop.specs.declared.modules.UnwinderError.TheVariants.{Dwarf, Pe}
 
 -- an error in a result, or another one
 error-in : {A E : Type 0} → E → Result A E → E

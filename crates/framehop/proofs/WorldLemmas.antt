@@ -11,9 +11,9 @@ use Rattle.framehop.specs.Fresh.{step}
 use Rattle.framehop.specs.Walk.{walk_from}
 use Rattle.framehop.specs.World.{World, WorldReply, made, done, stepped, walked, memory_of, refusal_of, unless_refused, reply_to, reply_before, world_after, world_replies, empty_world}
 use Rattle.framehop.specs.CachedWorld.{CachedWorld, empty_cached_world, CachedReply, of_world, counts, world_of, unwinder_at, cached_reply, cached_after, reply_then, cached_replies, without_counts, world_result}
-use Rattle.framehop.specs.declared.session.Command.{Command}
-use Rattle.framehop.specs.declared.session.Command.TheVariants.{New, Clone, Add, Remove, Step as StepCommand, Walk as WalkCommand, Stats}
-use Rattle.framehop.specs.declared.session.SessionError.{SessionError}
+use Rattle.framehop.specs.declared.session.commands.Command.{Command}
+use Rattle.framehop.specs.declared.session.commands.Command.TheVariants.{New, Clone, Add, Remove, Step as StepCommand, Walk as WalkCommand, Stats}
+use Rattle.framehop.specs.declared.session.commands.SessionError.{SessionError}
 use Rattle.framehop.proofs.CachedWorldLemmas.{modules-at}
 
 map-push : (us : List UnwinderView) (v : UnwinderView) → map (λ (u : UnwinderView). u.modules) (us ++ v ∷ []) ≡ map (λ (u : UnwinderView). u.modules) us ++ v.modules ∷ []

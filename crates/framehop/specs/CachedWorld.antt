@@ -12,15 +12,19 @@ use Rattle.framehop.specs.Soundness.{cache_after}
 use Rattle.framehop.specs.Walk.{walk_from, cache_after_walk}
 use Rattle.framehop.specs.World.{World, WorldReply, made, done, stepped, walked, memory_of, refusal_of, unless_refused, world_after}
 use Rattle.framehop_cache.specs.declared.rule_cache.CacheStats.{CacheStats}
-use Rattle.framehop.specs.declared.session.Command.{Command}
-use Rattle.framehop.specs.declared.session.Command.TheVariants.{New, Clone, Add, Remove, Step as StepCommand, Walk as WalkCommand, Stats}
-use Rattle.framehop.specs.declared.session.SessionError.{SessionError}
+use Rattle.framehop.specs.declared.session.commands.Command.{Command}
+use Rattle.framehop.specs.declared.session.commands.Command.TheVariants.{New, Clone, Add, Remove, Step as StepCommand, Walk as WalkCommand, Stats}
+use Rattle.framehop.specs.declared.session.commands.SessionError.{SessionError}
 
 -- unwinders with their generations, the next generation, and caches
 pub record CachedWorld (R : Type 0) : Type 0 where
   pub unwinders : List UnwinderView
   pub next : ℕ
   pub caches : List (CacheView R)
+
+-- the unwinders and the caches of a session, with the next generation
+abbrev pub state_of : {R : Type 0} → List UnwinderView → List (CacheView R) → ℕ → CachedWorld R
+state_of unwinders caches next = record { unwinders = unwinders; next = next; caches = caches }
 
 -- the same without caches and generation numbers
 abbrev pub world_of : {R : Type 0} → CachedWorld R → World

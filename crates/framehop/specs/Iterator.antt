@@ -6,8 +6,8 @@ use Rattle.framehop_core.specs.CodeAddress.{FrameLocation, at_instruction_pointe
 use Rattle.framehop_core.specs.declared.code_address.FrameAddress.{FrameAddress}
 use Rattle.framehop_core.specs.declared.error.Error.{Error}
 use Rattle.framehop_core.specs.declared.error.Error.TheVariants.{ReturnAddressIsNull}
-use Rattle.framehop.specs.declared.unwinder.UnwindIteratorState.{UnwindIteratorState}
-use Rattle.framehop.specs.declared.unwinder.UnwindIteratorState.TheVariants.{Initial, Unwinding, Done}
+use Rattle.framehop.specs.declared.iterator.UnwindIteratorState.{UnwindIteratorState}
+use Rattle.framehop.specs.declared.iterator.UnwindIteratorState.TheVariants.{Initial, Unwinding, Done}
 
 -- how far an iterator has come: before the frame at its instruction pointer, at a frame, or at the end
 pub data Progress : Type 0 where

@@ -114,7 +114,8 @@ module _ {Rule Regs : Type 0} (words : Words Rule Regs) (meanings : Meanings Rul
   MeansStep modules address =
       IfSome (covering modules address) (λ m. MeansData m.unwind_data (address - m.base_avma))
 
--- a step at a location by a list of modules, from registers over a memory to a return address and the caller's registers
+-- a step at a location by a list of modules, from registers over a memory to a return address and the caller's
+-- registers
 abbrev pub MeansAt : {Rule Regs : Type 0} → Words Rule Regs → Meanings Rule Regs
     → (Rule → Bool → Regs → Memory → Outcome Regs) → Policy → List ModuleView → FrameLocation → Regs → Memory → ℕ → Regs
     → Type 0

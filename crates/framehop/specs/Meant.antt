@@ -7,8 +7,8 @@ use Rattle.framehop.specs.Modules.{ModuleView}
 use Rattle.framehop.specs.Walk.{Walk}
 use Rattle.framehop.specs.World.{World, modules_of, memory_of, stepped, walked}
 use Rattle.framehop.specs.CachedWorld.{CachedReply, of_world}
-use Rattle.framehop.specs.declared.session.Command.{Command}
-use Rattle.framehop.specs.declared.session.Command.TheVariants.{Step as StepCommand, Walk as WalkCommand}
+use Rattle.framehop.specs.declared.session.commands.Command.{Command}
+use Rattle.framehop.specs.declared.session.commands.Command.TheVariants.{Step as StepCommand, Walk as WalkCommand}
 
 -- The callers of a frame: each has registers, the last one the last registers, and each step from a frame to its caller
 -- means its source. The last frame has no step, or one to the return address 0.

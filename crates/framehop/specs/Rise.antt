@@ -9,8 +9,8 @@ use Rattle.framehop.specs.Fresh.{step}
 use Rattle.framehop.specs.Walk.{Walk}
 use Rattle.framehop.specs.World.{World, modules_of, memory_of, walked}
 use Rattle.framehop.specs.CachedWorld.{CachedReply, of_world}
-use Rattle.framehop.specs.declared.session.Command.{Command}
-use Rattle.framehop.specs.declared.session.Command.TheVariants.{Walk as WalkCommand}
+use Rattle.framehop.specs.declared.session.commands.Command.{Command}
+use Rattle.framehop.specs.declared.session.commands.Command.TheVariants.{Walk as WalkCommand}
 
 -- a walk has at most two frames more than the stack pointer has risen since these registers
 abbrev pub IsWalkWithinRise : {Regs : Type 0} → (Regs → ℕ) → Regs → Walk Regs → Type 0

@@ -7,11 +7,11 @@ use Rattle.framehop_core.specs.declared.code_address.FrameAddress.{FrameAddress}
 use Rattle.framehop.specs.Walk.{Walk, End, at_root, at_refusal, at_limit}
 use Rattle.framehop.specs.World.{made, done, stepped, walked}
 use Rattle.framehop.specs.CachedWorld.{CachedReply, of_world, counts}
-use Rattle.framehop.specs.declared.session.Reply.{Reply}
-use Rattle.framehop.specs.declared.session.Reply.TheVariants.{Made, Done, Step as StepReply, Walk as WalkReply, Stats}
-use Rattle.framehop.specs.declared.session.SessionError.{SessionError}
-use Rattle.framehop.specs.declared.session.WalkEnd.{WalkEnd}
-use Rattle.framehop.specs.declared.session.WalkEnd.TheVariants.{Root, Refused, Limit}
+use Rattle.framehop.specs.declared.session.commands.Reply.{Reply}
+use Rattle.framehop.specs.declared.session.commands.Reply.TheVariants.{Made, Done, Step as StepReply, Walk as WalkReply, Stats}
+use Rattle.framehop.specs.declared.session.commands.SessionError.{SessionError}
+use Rattle.framehop.specs.declared.session.commands.WalkEnd.{WalkEnd}
+use Rattle.framehop.specs.declared.session.commands.WalkEnd.TheVariants.{Root, Refused, Limit}
 
 abbrev pub end_of : WalkEnd → End
 end_of Root = at_root

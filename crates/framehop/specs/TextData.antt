@@ -1,7 +1,7 @@
 -- The code of a module in memory, as what it is.
 use Rattle.std.specs.Prelude.{List, ℕ}
 use Rattle.framehop_macho.specs.Unwinder.{Text}
-use Rattle.framehop.specs.declared.unwinder.TextByteData.{TextByteData}
+use Rattle.framehop.specs.declared.unwind_data.TextByteData.{TextByteData}
 
 -- code, and where it begins
 abbrev pub text_data : {D : Type 0} → (D → List ℕ) → TextByteData D → Text

@@ -11,8 +11,8 @@ use Rattle.framehop_core.specs.declared.error.Error.TheVariants.{OutOfMemory as 
 use Rattle.framehop_pe.specs.declared.pe.PeUnwinderError.{PeUnwinderError}
 use Rattle.framehop_pe.specs.declared.pe.PeUnwinderError.TheVariants.{MissingUnwindInfoData, MissingInstructionData, MissingStackData, UnwindInfoParseError, Aarch64Unsupported}
 use Rattle.framehop.specs.Answer.{Fresh, by_rule, direct}
-use Rattle.framehop.specs.declared.unwinder.UnwinderError.{UnwinderError}
-use Rattle.framehop.specs.declared.unwinder.UnwinderError.TheVariants.{CompactUnwindInfo, Dwarf, Pe, NoDwarfData, NoModuleUnwindData, EhFrameHdrCouldNotFindAddress, DwarfCfiIndexCouldNotFindAddress}
+use Rattle.framehop.specs.declared.modules.UnwinderError.{UnwinderError}
+use Rattle.framehop.specs.declared.modules.UnwinderError.TheVariants.{CompactUnwindInfo, Dwarf, Pe, NoDwarfData, NoModuleUnwindData, EhFrameHdrCouldNotFindAddress, DwarfCfiIndexCouldNotFindAddress}
 use Rattle.framehop.specs.declared.unwinder.FrameAnswer.{FrameAnswer}
 use Rattle.framehop.specs.declared.unwinder.FrameAnswer.TheVariants.{Rule, Computed, NotComputed}
 

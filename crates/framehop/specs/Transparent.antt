@@ -8,11 +8,11 @@ use Rattle.framehop.specs.Soundness.{Among, Stands, IsSound, AreApart, MayRunOut
 use Rattle.framehop.specs.World.{refusal_of}
 use Rattle.framehop.specs.CachedWorld.{CachedWorld, world_of, unwinder_at, cache_at, cached_reply, cached_after}
 use Rattle.framehop.specs.SessionView.{reply_view}
-use Rattle.framehop.specs.declared.session.Command.{Command}
-use Rattle.framehop.specs.declared.session.Command.TheVariants.{New, Clone, Add, Remove, Step as StepCommand, Walk as WalkCommand, Stats}
-use Rattle.framehop.specs.declared.session.Reply.{Reply}
-use Rattle.framehop.specs.declared.session.SessionError.{SessionError}
-use Rattle.framehop.specs.declared.session.SessionError.TheVariants.{OutOfMemory}
+use Rattle.framehop.specs.declared.session.commands.Command.{Command}
+use Rattle.framehop.specs.declared.session.commands.Command.TheVariants.{New, Clone, Add, Remove, Step as StepCommand, Walk as WalkCommand, Stats}
+use Rattle.framehop.specs.declared.session.commands.Reply.{Reply}
+use Rattle.framehop.specs.declared.session.commands.SessionError.{SessionError}
+use Rattle.framehop.specs.declared.session.commands.SessionError.TheVariants.{OutOfMemory}
 
 -- Each cache is sound for each unwinder; unwinders of equal generation have equal modules; and each generation in
 -- use, of an unwinder or a stored rule, was drawn from the counter.

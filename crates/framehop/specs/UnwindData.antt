@@ -4,8 +4,8 @@ use Rattle.framehop_pe.specs.Sections.{Placed}
 use Rattle.framehop_pe.specs.declared.pe.DataAtRvaRange.{DataAtRvaRange}
 use Rattle.framehop.specs.CallFrames.{frames_with_header}
 use Rattle.framehop.specs.Modules.{UnwindData, no_unwind_data, call_frames, pe_sections, compact_info}
-use Rattle.framehop.specs.declared.unwinder.ModuleUnwindDataInternal.{ModuleUnwindDataInternal}
-use Rattle.framehop.specs.declared.unwinder.ModuleUnwindDataInternal.TheVariants.{EhFrameHdrAndEhFrame, DwarfCfiIndexAndFrames, PeUnwindInfo, CompactUnwindInfoAndEhFrame, None as NoUnwindData}
+use Rattle.framehop.specs.declared.unwind_data.ModuleUnwindDataInternal.{ModuleUnwindDataInternal}
+use Rattle.framehop.specs.declared.unwind_data.ModuleUnwindDataInternal.TheVariants.{EhFrameHdrAndEhFrame, DwarfCfiIndexAndFrames, PeUnwindInfo, CompactUnwindInfoAndEhFrame, None as NoUnwindData}
 
 -- data, and where it lies
 abbrev pub placed_data : {D : Type 0} → (D → List ℕ) → DataAtRvaRange D → Placed

@@ -1,7 +1,7 @@
 -- What an iterator over frames is, in the words of contracts.
 use Rattle.std.specs.Borrow.{Bor, MutBor}
 use Rattle.framehop.specs.Iterator.{Progress, progress_of}
-use Rattle.framehop.specs.declared.unwinder.UnwindIterator.{UnwindIterator}
+use Rattle.framehop.specs.declared.iterator.UnwindIterator.{UnwindIterator}
 
 -- its unwinder, how far it has come, and the registers there
 abbrev pub unwinder_of : {U F Regs Cache Module : Type 0} → UnwindIterator U F Regs Cache Module → Bor U

@@ -7,11 +7,11 @@ use Rattle.framehop_core.specs.CodeAddress.{FrameLocation, location_of}
 use Rattle.framehop.specs.Modules.{ModuleView, with_module, has_start, without_module}
 use Rattle.framehop.specs.Walk.{Walk, walk_from}
 use Rattle.framehop_core.specs.declared.error.Error.{Error}
-use Rattle.framehop.specs.declared.session.Memory.{Memory as StackWords}
-use Rattle.framehop.specs.declared.session.Command.{Command}
-use Rattle.framehop.specs.declared.session.Command.TheVariants.{New, Clone, Add, Remove, Step as StepCommand, Walk as WalkCommand, Stats}
-use Rattle.framehop.specs.declared.session.SessionError.{SessionError}
-use Rattle.framehop.specs.declared.session.SessionError.TheVariants.{NoSuchUnwinder, NoSuchCache, GenerationsExhausted}
+use Rattle.framehop.specs.declared.session.commands.Memory.{Memory as StackWords}
+use Rattle.framehop.specs.declared.session.commands.Command.{Command}
+use Rattle.framehop.specs.declared.session.commands.Command.TheVariants.{New, Clone, Add, Remove, Step as StepCommand, Walk as WalkCommand, Stats}
+use Rattle.framehop.specs.declared.session.commands.SessionError.{SessionError}
+use Rattle.framehop.specs.declared.session.commands.SessionError.TheVariants.{NoSuchUnwinder, NoSuchCache, GenerationsExhausted}
 
 pub record World : Type 0 where
   pub unwinders : List (List ModuleView)

@@ -5,7 +5,10 @@
 pub mod aarch64;
 pub mod cache;
 pub mod dwarf;
+pub mod iterator;
+pub mod modules;
 pub mod session;
+mod unwind_data;
 pub mod unwinder;
 pub mod x86_64;
 

@@ -68,7 +68,8 @@ readers = record {
   values_mean = values-mean;
   rule_simulates = λ sections address first rule found. cc;
   says_by_code = says-by_code;
-  code_means = λ function code offset rule is. analysed-means code offset rule (by_code-analysed function code offset rule is);
+  code_means = λ function code offset rule is. analysed-means code offset rule
+      (by_code-analysed function code offset rule is);
 }
 
 pub step-means : (policy : Policy) (modules : List ModuleView) (location : FrameLocation) (old new : Registers)

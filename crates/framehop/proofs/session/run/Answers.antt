@@ -3,7 +3,7 @@ use Rattle.std.proofs.lemmas.List.{map-append, nil_from_length}
 use Rattle.std.proofs.lemmas.Result.{err_from_is_err_and}
 use Rattle.std.specs.Vec.Iter.{into_iter_items}
 use Rattle.framehop.specs.CachedWorld.{CachedWorld, empty_cached_world, cached_replies, next_after_all, world_result}
-use Rattle.framehop.specs.declared.session.SessionError.TheVariants.{OutOfMemory}
+use Rattle.framehop.specs.declared.session.commands.SessionError.TheVariants.{OutOfMemory}
 use Rattle.framehop.specs.SessionView.{reply_view, result_view}
 use Rattle.framehop.specs.Transparent.{IsTransparent}
 use Rattle.framehop.proofs.CachedWorldLemmas.{transparent-start, transparent-after, CachedWorld-equal}

@@ -1,0 +1,588 @@
+//! Modules that are loaded in a process, and unwinding by their unwind data.
+ghost use Rattle.std.specs.Prelude.{◌≡◌, ◌≢◌, ◌+◌, ◌-◌, ◌<◌, true, IfOk, IfErr, SomeIff, IsTrue, is_some, option_map, ℕ, List, Ok, Err, None, string_bytes, Option};
+ghost use Rattle.framehop.specs.Memory.{Memory, AnswersAs};
+ghost use Rattle.framehop.specs.CodeAddress.{is_first_frame};
+ghost use Rattle.framehop.specs.Unwinding.{Unwinding, answer_by, takes_memory_by};
+ghost use Rattle.framehop.specs.CallFrames.{frames_with_header, frames_answer, fde_answer, fde_offset_of};
+ghost use Rattle.framehop.specs.UnwindData.{unwind_data_of, placed_data};
+ghost use Rattle.framehop.specs.Compact.{by_info, compact_answer, needs_fde};
+ghost use Rattle.framehop_macho.specs.Answer.{IfExecRule};
+ghost use Rattle.framehop_macho.specs.Unwinder.{unwound};
+ghost use Rattle.framehop_macho.specs.declared.macho.CuiUnwindResult.TheVariants.{NeedDwarf};
+ghost use Rattle.framehop.specs.Answer.{fresh_of};
+ghost use Rattle.framehop_pe.specs.Sections.{sections_of, placed_of};
+ghost use Rattle.framehop.specs.ModuleData.{unwind_data_in};
+ghost use Rattle.framehop.specs.Told.{out_of_memory, TellsAnswer, TellsValues, WritesWithAddress, RuleHas};
+ghost use Rattle.framehop_cache.specs.Cache.{found};
+ghost use Rattle.framehop.specs.Modules.{ModuleView, starts_by, covers};
+
+use crate::cache::AllocationPolicy;
+use crate::unwind_data::{CompactInfo, IndexedFrames, ModuleUnwindDataInternal};
+use crate::unwinder::Unwinding;
+use framehop_cache::generations::Generations;
+use framehop_cfi::context::UnwindContext;
+use framehop_cfi::entry::UnwindSectionType;
+use framehop_cfi::pointer::BaseAddresses;
+use framehop_cfi::section::{ModuleSectionInfo, SectionBytes};
+use framehop_core::Error;
+use framehop_core::unwind_result::UnwindResult;
+use framehop_core::unwind_rule::UnwindRule;
+use framehop_dwarf::dwarf::DwarfUnwinderError;
+use framehop_dwarf::unwinder::DwarfUnwinder;
+use framehop_macho::macho::{
+    CompactUnwindInfoUnwinder, CompactUnwindInfoUnwinderError, CuiUnwindResult, TextBytes,
+};
+use framehop_pe::pe::{DataAtRvaRange, PeSections, PeUnwinderError, PeUnwinding};
+use std::alloc::{AllocError, Global};
+use std::marker::Model;
+use std::ops::Range;
+use std::rc::Rc;
+
+/// Why a module could not be made, or the list of an unwinder's modules not be changed.
+#[derive(Clone, Copy, Debug, PartialEq, Eq, thiserror::Error)]
+pub enum ModuleListError {
+    /// An allocation failed.
+    #[error("Out of memory")]
+    OutOfMemory,
+
+    /// The counter of generations is at its end.
+    #[error("Generations exhausted")]
+    GenerationsExhausted,
+}
+
+/// Why the unwind data of a module gives no rule and no return address for a frame.
+#[derive(Clone, Copy, Debug, PartialEq, Eq, thiserror::Error)]
+pub enum UnwinderError {
+    /// The compact unwind info gives none.
+    #[error("CompactUnwindInfo")]
+    CompactUnwindInfo(#[from] CompactUnwindInfoUnwinderError),
+
+    /// The call frame information gives none.
+    #[error("Dwarf")]
+    Dwarf(#[from] DwarfUnwinderError),
+
+    /// The unwind info of a PE module gives none.
+    #[error("Pe")]
+    Pe(#[from] PeUnwinderError),
+
+    /// The compact unwind info names an FDE, and the module has no `__eh_frame`.
+    #[error("NoDwarfData")]
+    NoDwarfData,
+
+    /// The module has no unwind data.
+    #[error("NoModuleUnwindData")]
+    NoModuleUnwindData,
+
+    /// `.eh_frame_hdr` has no FDE for the address.
+    #[error("EhFrameHdrCouldNotFindAddress")]
+    EhFrameHdrCouldNotFindAddress,
+
+    /// The index has no FDE for the address.
+    #[error("DwarfCfiIndexCouldNotFindAddress")]
+    DwarfCfiIndexCouldNotFindAddress,
+}
+
+/// A module that is loaded in a process, as an executable or a library: its addresses, and its
+/// unwind data.
+#[derive(Drop)]
+pub struct Module<D: SectionBytes> {
+    name: String,
+    pub(crate) avma_range: Range<u64>,
+    base_avma: u64,
+    unwind_data: Rc<ModuleUnwindDataInternal<D>>,
+}
+
+impl<D: SectionBytes> Model for Module<D> {
+    ghost use Rattle.std.specs.Prelude.{string_bytes};
+    ghost use Rattle.framehop.specs.Modules.{ModuleView};
+
+    ghost Value = { ModuleView };
+
+    ghost use Rattle.framehop.specs.UnwindData.{unwind_data_of};
+
+    ghost view = { λ m. record {
+      name = string_bytes m.name;
+      start = m.avma_range.start;
+      end = m.avma_range.end;
+      base_avma = m.base_avma;
+      unwind_data = unwind_data_of D.contents m.unwind_data.value;
+    } };
+}
+
+impl<D: SectionBytes + Drop> Clone for Module<D> {
+    ghost is_clone = { λ m copy. copy ≡ m };
+
+    fn clone(&self) -> Result<Self, AllocError> {
+        Ok(Module {
+            name: self.name.clone()?,
+            avma_range: self.avma_range.start..self.avma_range.end,
+            base_avma: self.base_avma,
+            unwind_data: self.unwind_data.clone()?,
+        })
+    }
+}
+
+impl<D: SectionBytes + Drop> Module<D> {
+    /// A module of the name that is loaded at the addresses (AVMAs) from `avma_range.start` to
+    /// below `avma_range.end`. Its relative address 0 is `base_avma`. The sections are asked for
+    /// the unwind data. Refused only with `OutOfMemory`.
+    pub fn new<I: ModuleSectionInfo<D> + Drop>(
+        alloc: Global,
+        name: String,
+        avma_range: Range<u64>,
+        base_avma: u64,
+        mut section_info: I,
+    ) -> Result<Self, ModuleListError>
+        ensures made { IfOk result (λ made. made ≡ record {
+          name = string_bytes name;
+          start = avma_range.start;
+          end = avma_range.end;
+          base_avma = base_avma;
+          unwind_data = unwind_data_in D.contents (I.table section_info);
+        }) }
+        ensures refused { IfErr result (λ error. error ≡ ModuleListError.OutOfMemory) }
+    {
+        let unwind_data = ModuleUnwindDataInternal::new(alloc, &mut section_info)?;
+        let Ok(unwind_data) = Rc::new(alloc, unwind_data) else {
+            return Err(ModuleListError::OutOfMemory);
+        };
+        Ok(Module {
+            name,
+            avma_range,
+            base_avma,
+            unwind_data,
+        })
+    }
+
+    /// The module's addresses (AVMAs).
+    pub fn avma_range(&self) -> Range<u64>
+        ensures start { result.start ≡ self.now.start }
+        ensures end { result.end ≡ self.now.end }
+    {
+        self.avma_range.start..self.avma_range.end
+    }
+
+    /// The address (AVMA) of the module's relative address 0.
+    pub fn base_avma(&self) -> u64
+        ensures { result ≡ self.now.base_avma }
+    {
+        self.base_avma
+    }
+
+    /// The module's name.
+    pub fn name(&self) -> &str
+        ensures { result.now ≡ self.now.name }
+    {
+        self.name.as_str()
+    }
+
+    // whether the module starts at or below the address
+    pub(crate) fn starts_by(&self, address: u64) -> bool
+        ensures { result ≡ starts_by address self.now }
+    {
+        self.avma_range.start <= address
+    }
+
+    // the relative address of an address (AVMA) that the module covers
+    pub(crate) fn relative_address(&self, address: u64) -> Option<u32>
+        ensures { SomeIff result (covers address self.now ≡ true) (address - self.now.base_avma) }
+    {
+        if address != self.avma_range.start && self.avma_range.end <= address {
+            return None;
+        }
+        u32::try_from(address.checked_sub(self.base_avma)?).ok()
+    }
+}
+
+/// Unwinds a frame by the FDE at an offset.
+#[tactic(auto, unfolding(crate::specs::CallFrames::fde_answer))]
+fn unwind_frame_with_fde<A: Unwinding, P: AllocationPolicy, F>(
+    unwinder: &mut DwarfUnwinder<'_, A, P::GimliUnwindContextStorage>,
+    alloc: Global,
+    relative_address: u32,
+    fde_offset: u32,
+    is_first_frame: bool,
+    regs: &mut A::UnwindRegs,
+    read_stack: &mut F,
+) -> Result<UnwindResult<A::UnwindRule>, UnwinderError>
+where
+    F: FnMut(u64) -> Result<u64, ()>,
+    requires { F.IsAlwaysCallable read_stack.old }
+    ensures callable { F.IsAlwaysCallable read_stack.new }
+    ensures written { WritesWithAddress (A.step_advances is_first_frame) result regs.old regs.new }
+    ensures executable { RuleHas (λ rule. IsTrue (A.UnwindRule.executable rule)) result }
+    ensures memory { result ≡ Err out_of_memory → P.policy.may_allocate ≡ true }
+    ensures told { result ≢ Err out_of_memory → TellsAnswer
+        (fde_answer A.words.rows P.policy unwinder.old.section (unwinder.old.base_svma + relative_address) is_first_frame fde_offset) result }
+    ensures answers { (memory : Memory) → AnswersAs F.FnMut read_stack.old memory
+        → AnswersAs F.FnMut read_stack.new memory
+        × (result ≢ Err out_of_memory → TellsValues
+        (fde_answer A.words.rows P.policy unwinder.old.section (unwinder.old.base_svma + relative_address) is_first_frame fde_offset)
+        regs.old memory result regs.new) }
+{
+    match unwinder.unwind_frame_with_fde::<P::GimliEvaluationStorage, F>(
+        alloc,
+        regs,
+        is_first_frame,
+        relative_address,
+        fde_offset,
+        read_stack,
+    ) {
+        Ok(found) => Ok(found),
+        Err(error) => Err(UnwinderError::Dwarf(error)),
+    }
+}
+
+/// Unwinds a frame by `.eh_frame` and its table of FDEs.
+fn unwind_frame_by_header<A: Unwinding, P: AllocationPolicy, F>(
+    eh_frame_hdr: &[u8],
+    eh_frame: &[u8],
+    base_addresses: BaseAddresses,
+    base_svma: u64,
+    alloc: Global,
+    unwind_context: &mut UnwindContext<P::GimliUnwindContextStorage>,
+    relative_address: u32,
+    is_first_frame: bool,
+    regs: &mut A::UnwindRegs,
+    read_stack: &mut F,
+) -> Result<UnwindResult<A::UnwindRule>, UnwinderError>
+where
+    F: FnMut(u64) -> Result<u64, ()>,
+    requires { F.IsAlwaysCallable read_stack.old }
+    ensures callable { F.IsAlwaysCallable read_stack.new }
+    ensures written { WritesWithAddress (A.step_advances is_first_frame) result regs.old regs.new }
+    ensures executable { RuleHas (λ rule. IsTrue (A.UnwindRule.executable rule)) result }
+    ensures memory { result ≡ Err out_of_memory → (P.policy.may_allocate ≡ true)
+        × (is_some (fde_offset_of (frames_with_header eh_frame_hdr.now eh_frame.now base_addresses base_svma) relative_address) ≡ true) }
+    ensures told { result ≢ Err out_of_memory → TellsAnswer
+        (frames_answer A.words.rows P.policy (frames_with_header eh_frame_hdr.now eh_frame.now base_addresses base_svma) relative_address is_first_frame) result }
+    ensures answers { (memory : Memory) → AnswersAs F.FnMut read_stack.old memory
+        → AnswersAs F.FnMut read_stack.new memory
+        × (result ≢ Err out_of_memory → TellsValues
+        (frames_answer A.words.rows P.policy (frames_with_header eh_frame_hdr.now eh_frame.now base_addresses base_svma) relative_address is_first_frame)
+        regs.old memory result regs.new) }
+{
+    let mut unwinder = DwarfUnwinder::new(
+        eh_frame,
+        UnwindSectionType::EhFrame,
+        Some(eh_frame_hdr),
+        unwind_context,
+        base_addresses,
+        base_svma,
+    );
+    match unwinder.get_fde_offset_for_relative_address(relative_address) {
+        Some(fde_offset) => unwind_frame_with_fde::<A, P, F>(
+            &mut unwinder,
+            alloc,
+            relative_address,
+            fde_offset,
+            is_first_frame,
+            regs,
+            read_stack,
+        ),
+        None => Err(UnwinderError::EhFrameHdrCouldNotFindAddress),
+    }
+}
+
+impl<D: SectionBytes> IndexedFrames<D> {
+    // the offset of the FDE for a relative address, if there is one
+    fn fde_offset(&self, relative_address: u32) -> Option<u32>
+        ensures { result ≡ fde_offset_of self.now relative_address }
+    {
+        self.index.fde_offset_for_relative_address(relative_address)
+    }
+
+    /// Unwinds a frame by the section.
+    fn unwind_frame<A: Unwinding, P: AllocationPolicy, F>(
+        &self,
+        alloc: Global,
+        unwind_context: &mut UnwindContext<P::GimliUnwindContextStorage>,
+        relative_address: u32,
+        is_first_frame: bool,
+        regs: &mut A::UnwindRegs,
+        read_stack: &mut F,
+    ) -> Result<UnwindResult<A::UnwindRule>, UnwinderError>
+    where
+        F: FnMut(u64) -> Result<u64, ()>,
+        requires { F.IsAlwaysCallable read_stack.old }
+        ensures callable { F.IsAlwaysCallable read_stack.new }
+        ensures written { WritesWithAddress (A.step_advances is_first_frame) result regs.old regs.new }
+        ensures executable { RuleHas (λ rule. IsTrue (A.UnwindRule.executable rule)) result }
+        ensures memory { result ≡ Err out_of_memory → (P.policy.may_allocate ≡ true) × (is_some (fde_offset_of self.now relative_address) ≡ true) }
+        ensures told { result ≢ Err out_of_memory → TellsAnswer
+            (frames_answer A.words.rows P.policy self.now relative_address is_first_frame) result }
+        ensures answers { (memory : Memory) → AnswersAs F.FnMut read_stack.old memory
+            → AnswersAs F.FnMut read_stack.new memory
+            × (result ≢ Err out_of_memory → TellsValues
+            (frames_answer A.words.rows P.policy self.now relative_address is_first_frame) regs.old memory result regs.new) }
+    {
+        let Some(fde_offset) = self.fde_offset(relative_address) else {
+            return Err(UnwinderError::DwarfCfiIndexCouldNotFindAddress);
+        };
+        let mut unwinder = DwarfUnwinder::new(
+            self.section_data.bytes(),
+            self.section_type,
+            None,
+            unwind_context,
+            self.base_addresses,
+            self.base_svma,
+        );
+        unwind_frame_with_fde::<A, P, F>(
+            &mut unwinder,
+            alloc,
+            relative_address,
+            fde_offset,
+            is_first_frame,
+            regs,
+            read_stack,
+        )
+    }
+}
+
+impl<D: SectionBytes> CompactInfo<D> {
+    // what the info gives: a rule, or the offset of an FDE
+    fn unwind_frame_by_info<A: Unwinding>(
+        &self,
+        relative_address: u32,
+        is_first_frame: bool,
+    ) -> Result<CuiUnwindResult<A::UnwindRule>, CompactUnwindInfoUnwinderError>
+        ensures says { result ≡ unwound A.words.compact self.now.info relative_address is_first_frame }
+        ensures executable { IfExecRule result (λ rule. IsTrue (A.UnwindRule.executable rule)) }
+    {
+        let text = match &self.text {
+            Some(text) => Some(TextBytes::new(text.offset_from_base, text.bytes.bytes())),
+            None => None,
+        };
+        let unwinder: CompactUnwindInfoUnwinder<'_, A> = CompactUnwindInfoUnwinder::new(
+            self.unwind_info.bytes(),
+            text,
+            self.stubs,
+            self.stub_helper,
+        );
+        unwinder.unwind_frame(relative_address, is_first_frame)
+    }
+
+    // unwinds a frame by the FDE that the info names
+    fn unwind_frame_by_eh_frame<A: Unwinding, P: AllocationPolicy, F>(
+        &self,
+        alloc: Global,
+        unwind_context: &mut UnwindContext<P::GimliUnwindContextStorage>,
+        relative_address: u32,
+        fde_offset: u32,
+        is_first_frame: bool,
+        regs: &mut A::UnwindRegs,
+        read_stack: &mut F,
+    ) -> Result<UnwindResult<A::UnwindRule>, UnwinderError>
+    where
+        F: FnMut(u64) -> Result<u64, ()>,
+        requires { F.IsAlwaysCallable read_stack.old }
+        ensures callable { F.IsAlwaysCallable read_stack.new }
+        ensures written { WritesWithAddress (A.step_advances is_first_frame) result regs.old regs.new }
+        ensures executable { RuleHas (λ rule. IsTrue (A.UnwindRule.executable rule)) result }
+        ensures memory { result ≡ Err out_of_memory → (P.policy.may_allocate ≡ true) × (is_some self.now.frames ≡ true) }
+        ensures told { result ≢ Err out_of_memory → TellsAnswer
+            (by_info A.words.rows P.policy self.now.frames relative_address is_first_frame (Ok (NeedDwarf fde_offset))) result }
+        ensures answers { (memory : Memory) → AnswersAs F.FnMut read_stack.old memory
+            → AnswersAs F.FnMut read_stack.new memory
+            × (result ≢ Err out_of_memory → TellsValues
+            (by_info A.words.rows P.policy self.now.frames relative_address is_first_frame (Ok (NeedDwarf fde_offset))) regs.old memory result regs.new) }
+    {
+        let Some(eh_frame) = &self.eh_frame else {
+            return Err(UnwinderError::NoDwarfData);
+        };
+        let mut unwinder = DwarfUnwinder::new(
+            eh_frame.bytes(),
+            UnwindSectionType::EhFrame,
+            None,
+            unwind_context,
+            self.base_addresses,
+            self.base_svma,
+        );
+        unwind_frame_with_fde::<A, P, F>(
+            &mut unwinder,
+            alloc,
+            relative_address,
+            fde_offset,
+            is_first_frame,
+            regs,
+            read_stack,
+        )
+    }
+
+    /// Unwinds a frame by the info.
+    fn unwind_frame<A: Unwinding, P: AllocationPolicy, F>(
+        &self,
+        alloc: Global,
+        unwind_context: &mut UnwindContext<P::GimliUnwindContextStorage>,
+        relative_address: u32,
+        is_first_frame: bool,
+        regs: &mut A::UnwindRegs,
+        read_stack: &mut F,
+    ) -> Result<UnwindResult<A::UnwindRule>, UnwinderError>
+    where
+        F: FnMut(u64) -> Result<u64, ()>,
+        requires { F.IsAlwaysCallable read_stack.old }
+        ensures callable { F.IsAlwaysCallable read_stack.new }
+        ensures written { WritesWithAddress (A.step_advances is_first_frame) result regs.old regs.new }
+        ensures executable { RuleHas (λ rule. IsTrue (A.UnwindRule.executable rule)) result }
+        ensures memory { result ≡ Err out_of_memory → (P.policy.may_allocate ≡ true)
+            × (needs_fde self.now.frames (unwound A.words.compact self.now.info relative_address is_first_frame) ≡ true) }
+        ensures told { result ≢ Err out_of_memory → TellsAnswer
+            (compact_answer A.words.compact
+            A.words.rows P.policy self.now relative_address is_first_frame) result }
+        ensures answers { (memory : Memory) → AnswersAs F.FnMut read_stack.old memory
+            → AnswersAs F.FnMut read_stack.new memory
+            × (result ≢ Err out_of_memory → TellsValues
+            (compact_answer A.words.compact
+            A.words.rows P.policy self.now relative_address is_first_frame) regs.old memory result regs.new) }
+    {
+        match self.unwind_frame_by_info::<A>(relative_address, is_first_frame) {
+            Ok(CuiUnwindResult::ExecRule(rule)) => Ok(UnwindResult::ExecRule(rule)),
+            Ok(CuiUnwindResult::NeedDwarf(fde_offset)) => self.unwind_frame_by_eh_frame::<A, P, F>(
+                alloc,
+                unwind_context,
+                relative_address,
+                fde_offset,
+                is_first_frame,
+                regs,
+                read_stack,
+            ),
+            Err(error) => Err(UnwinderError::CompactUnwindInfo(error)),
+        }
+    }
+}
+
+/// Unwinds a frame by the unwind info of a PE module.
+fn unwind_frame_by_pe<D: SectionBytes, A: Unwinding, F>(
+    sections: PeSections<'_, D>,
+    relative_address: u32,
+    is_first_frame: bool,
+    regs: &mut A::UnwindRegs,
+    read_stack: &mut F,
+) -> Result<UnwindResult<A::UnwindRule>, UnwinderError>
+where
+    F: FnMut(u64) -> Result<u64, ()>,
+    requires { F.IsAlwaysCallable read_stack.old }
+    ensures callable { F.IsAlwaysCallable read_stack.new }
+    ensures written { WritesWithAddress (A.step_advances is_first_frame) result regs.old regs.new }
+    ensures executable { RuleHas (λ rule. IsTrue (A.UnwindRule.executable rule)) result }
+    ensures memory { result ≢ Err out_of_memory }
+    ensures told { TellsAnswer (fresh_of (A.found (sections_of D.contents sections.entry) relative_address is_first_frame)
+        (λ old memory. A.computed (sections_of D.contents sections.entry) relative_address is_first_frame memory old)) result }
+    ensures answers { (memory : Memory) → AnswersAs F.FnMut read_stack.old memory
+        → AnswersAs F.FnMut read_stack.new memory
+        × TellsValues (fresh_of (A.found (sections_of D.contents sections.entry) relative_address is_first_frame)
+        (λ old memory. A.computed (sections_of D.contents sections.entry) relative_address is_first_frame memory old))
+        regs.old memory result regs.new }
+{
+    match <A as PeUnwinding>::unwind_frame(
+        sections,
+        relative_address,
+        regs,
+        is_first_frame,
+        read_stack,
+    ) {
+        Ok(found) => Ok(found),
+        Err(error) => Err(UnwinderError::Pe(error)),
+    }
+}
+
+// the data of a section that a module may not have, lent
+fn lent<D>(section: &Option<DataAtRvaRange<D>>) -> Option<&DataAtRvaRange<D>>
+    ensures { (contents : D → List ℕ) → placed_of contents result ≡ option_map (placed_data contents) section.now }
+{
+    match section {
+        Some(section) => Some(section),
+        None => None,
+    }
+}
+
+impl<D: SectionBytes> Module<D> {
+    /// Unwinds a frame at a relative address by the module's unwind data. It is a call of its own, so that the way
+    /// of a hit is short.
+    #[tactic(auto, unfolding(crate::specs::Unwinding::answer_by, crate::specs::Unwinding::takes_memory_by))]
+    #[inline(never)]
+    pub(crate) fn unwind_frame<A: Unwinding, P: AllocationPolicy, F>(
+        &self,
+        alloc: Global,
+        unwind_context: &mut UnwindContext<P::GimliUnwindContextStorage>,
+        relative_address: u32,
+        is_first_frame: bool,
+        regs: &mut A::UnwindRegs,
+        read_stack: &mut F,
+    ) -> Result<UnwindResult<A::UnwindRule>, UnwinderError>
+    where
+        F: FnMut(u64) -> Result<u64, ()>,
+        requires { F.IsAlwaysCallable read_stack.old }
+        ensures callable { F.IsAlwaysCallable read_stack.new }
+        ensures written { WritesWithAddress (A.step_advances is_first_frame) result regs.old regs.new }
+        ensures executable { RuleHas (λ rule. IsTrue (A.UnwindRule.executable rule)) result }
+        ensures memory { result ≡ Err out_of_memory → takes_memory_by
+            A.words P.policy self.now relative_address is_first_frame ≡ true }
+        ensures told { result ≢ Err out_of_memory → TellsAnswer
+            (answer_by A.words P.policy self.now relative_address is_first_frame) result }
+        ensures answers { (memory : Memory) → AnswersAs F.FnMut read_stack.old memory
+            → AnswersAs F.FnMut read_stack.new memory
+            × (result ≢ Err out_of_memory → TellsValues
+            (answer_by A.words P.policy self.now relative_address is_first_frame) regs.old memory result regs.new) }
+    {
+        match &*self.unwind_data {
+            ModuleUnwindDataInternal::EhFrameHdrAndEhFrame {
+                eh_frame_hdr,
+                eh_frame,
+                base_addresses,
+                base_svma,
+            } => unwind_frame_by_header::<A, P, F>(
+                eh_frame_hdr.bytes(),
+                eh_frame.bytes(),
+                *base_addresses,
+                *base_svma,
+                alloc,
+                unwind_context,
+                relative_address,
+                is_first_frame,
+                regs,
+                read_stack,
+            ),
+            ModuleUnwindDataInternal::CompactUnwindInfoAndEhFrame(compact) =>
+                compact.unwind_frame::<A, P, F>(
+                    alloc,
+                    unwind_context,
+                    relative_address,
+                    is_first_frame,
+                    regs,
+                    read_stack,
+                ),
+            ModuleUnwindDataInternal::DwarfCfiIndexAndFrames(frames) => frames.unwind_frame::<
+                A,
+                P,
+                F,
+            >(
+                alloc,
+                unwind_context,
+                relative_address,
+                is_first_frame,
+                regs,
+                read_stack,
+            ),
+            ModuleUnwindDataInternal::PeUnwindInfo {
+                pdata,
+                rdata,
+                xdata,
+                text,
+            } => unwind_frame_by_pe::<D, A, F>(
+                PeSections {
+                    pdata,
+                    rdata: lent(rdata),
+                    xdata: lent(xdata),
+                    text: lent(text),
+                },
+                relative_address,
+                is_first_frame,
+                regs,
+                read_stack,
+            ),
+            ModuleUnwindDataInternal::None => Err(UnwinderError::NoModuleUnwindData),
+        }
+    }
+}

@@ -1,0 +1,144 @@
+//! Steps and walks over the words of a stack.
+ghost use Rattle.std.specs.Prelude.{◌≡◌, ◌+◌, [], ◌∷◌, ◌++◌, map, option_map, IfOk, IfErr, IfSome, IfNone, OnOk};
+ghost use Rattle.framehop.specs.Memory.{Memory as StackMemory, AnswersAs, reply};
+ghost use Rattle.framehop.specs.Iterator.{at_frame, next_of, Moves, frames_in, end_in, cache_after_next, walk_on, cache_on};
+ghost use Rattle.framehop.specs.UnwindIterator.{unwinder_of, progress_in, regs_of, cache_of, read_stack_of};
+ghost use Rattle.framehop.specs.SessionView.{end_of, walk_of};
+ghost use Rattle.framehop.specs.World.{memory_of};
+ghost use Rattle.framehop.specs.Walk.{walk_from, cache_after_walk};
+ghost use Rattle.framehop.specs.Soundness.{IsSound, AreApart, MayRunOut, cache_after};
+ghost use Rattle.framehop.specs.CachedWorld.{step_of};
+ghost use Rattle.framehop.specs.Fresh.{step};
+ghost use Rattle.framehop.specs.Modules.{UnwinderView};
+ghost use Rattle.framehop.specs.CodeAddress.{FrameLocation, location_of};
+ghost use Rattle.framehop.specs.Outcome.{Outcome, answer_of, registers_after};
+
+use crate::cache::{AllocationPolicy, Cache};
+use crate::session::commands::{Memory, SessionError, WalkEnd};
+use crate::unwinder::{UnwindIterator, Unwinder, UnwinderInternal, Unwinding};
+use framehop_cfi::section::SectionBytes;
+use framehop_core::{Error, FrameAddress};
+use std::alloc::Global;
+
+/// Calls an iterator once: pushes the frame that it returns, or returns how the walk ended.
+pub(crate) fn push_next_frame<U: Unwinder, F: FnMut(u64) -> Result<u64, ()>>(
+    unwinding: &mut UnwindIterator<'_, '_, '_, U, F>,
+    frames: &mut Vec<FrameAddress>,
+) -> Result<Option<WalkEnd>, SessionError>
+    requires { F.IsAlwaysCallable (read_stack_of unwinding.old).now }
+    ensures callable { F.IsAlwaysCallable (read_stack_of unwinding.new).now }
+    ensures same_unwinder { unwinder_of unwinding.new ≡ unwinder_of unwinding.old }
+    ensures same_cache { (cache_of unwinding.new).ghost_name ≡ (cache_of unwinding.old).ghost_name }
+    ensures same_callback { (read_stack_of unwinding.new).ghost_name ≡ (read_stack_of unwinding.old).ghost_name }
+    ensures stays_sound { (other : UnwinderView) → AreApart (U.unwinder_view (unwinder_of unwinding.old).now) other
+        → U.is_sound other (cache_of unwinding.old).now → U.is_sound other (cache_of unwinding.new).now }
+    ensures refused { IfErr result (λ error. error ≡ SessionError.OutOfMemory) }
+    ensures moves { IfOk result (λ end. IfNone end ((frame : FrameAddress)
+        × (frames.new.items ≡ frames.old.items ++ frame ∷ []) × (progress_in unwinding.new ≡ at_frame (location_of frame))
+        × Moves U.advances (progress_in unwinding.old) (regs_of unwinding.old) (location_of frame) (regs_of unwinding.new))) }
+    ensures kept { IfOk result (λ end. IfSome end (λ _. frames.new.items ≡ frames.old.items)) }
+    ensures cached { OnOk result ((cache_of unwinding.new).now ≡ cache_after_next (U.cache_after (unwinder_of unwinding.old).now)
+        (progress_in unwinding.old) (cache_of unwinding.old).now) }
+    ensures answers { (memory : StackMemory) → AnswersAs F.FnMut (read_stack_of unwinding.old).now memory
+        → U.is_sound (U.unwinder_view (unwinder_of unwinding.old).now) (cache_of unwinding.old).now
+        → let next = next_of (λ location regs. U.step (unwinder_of unwinding.old).now location regs memory) (progress_in unwinding.old) (regs_of unwinding.old) in
+        AnswersAs F.FnMut (read_stack_of unwinding.new).now memory
+        × IfOk result (λ end. (option_map end_of end ≡ end_in next.answer)
+        × (map location_of frames.new.items ≡ map location_of frames.old.items ++ frames_in next.answer)
+        × (progress_in unwinding.new ≡ next.progress) × (regs_of unwinding.new ≡ next.regs)) }
+{
+    match unwinding.next() {
+        Ok(Some(frame)) => match frames.push(frame) {
+            Ok(()) => Ok(None),
+            Err(_) => Err(SessionError::OutOfMemory),
+        },
+        Ok(None) => Ok(Some(WalkEnd::Root)),
+        Err(error) => match error {
+            Error::OutOfMemory => Err(SessionError::OutOfMemory),
+            refusal => Ok(Some(WalkEnd::Refused(refusal))),
+        },
+    }
+}
+
+/// The next frames of an iterator, at most so many, and how the walk ended.
+fn next_frames<U: Unwinder, F: FnMut(u64) -> Result<u64, ()>>(
+    alloc: Global,
+    unwinding: &mut UnwindIterator<'_, '_, '_, U, F>,
+    limit: u32,
+) -> Result<(Vec<FrameAddress>, WalkEnd), SessionError>
+    requires { F.IsAlwaysCallable (read_stack_of unwinding.old).now }
+    ensures callable { F.IsAlwaysCallable (read_stack_of unwinding.new).now }
+    ensures same_unwinder { unwinder_of unwinding.new ≡ unwinder_of unwinding.old }
+    ensures same_cache { (cache_of unwinding.new).ghost_name ≡ (cache_of unwinding.old).ghost_name }
+    ensures same_callback { (read_stack_of unwinding.new).ghost_name ≡ (read_stack_of unwinding.old).ghost_name }
+    ensures refused { IfErr result (λ error. error ≡ SessionError.OutOfMemory) }
+    ensures answers { (memory : StackMemory) → AnswersAs F.FnMut (read_stack_of unwinding.old).now memory
+        → U.is_sound (U.unwinder_view (unwinder_of unwinding.old).now) (cache_of unwinding.old).now
+        → IfOk result (λ walk.
+        let step : FrameLocation → U.UnwindRegs → Outcome U.UnwindRegs = λ location regs. U.step (unwinder_of unwinding.old).now location regs memory in
+        (walk_of walk.0.items walk.1 (regs_of unwinding.new)
+        ≡ walk_on step limit (progress_in unwinding.old) (regs_of unwinding.old))
+        × ((cache_of unwinding.new).now
+        ≡ cache_on step (U.cache_after (unwinder_of unwinding.old).now) limit (progress_in unwinding.old) (regs_of unwinding.old) (cache_of unwinding.old).now)) }
+{
+    let mut frames = Vec::new(alloc);
+    for _call in 0..limit {
+        if let Some(end) = push_next_frame(unwinding, &mut frames)? {
+            return Ok((frames, end));
+        }
+    }
+    Ok((frames, WalkEnd::Limit))
+}
+
+/// Walks a stack over its words: the frames, how the walk ended, and the registers there.
+pub(crate) fn walk_stack<D: SectionBytes + Drop, A: Unwinding, P: AllocationPolicy>(
+    alloc: Global,
+    unwinder: &UnwinderInternal<D, A, P>,
+    cache: &mut Cache<A::UnwindRule, P>,
+    pc: u64,
+    regs: A::UnwindRegs,
+    memory: &Memory,
+    limit: u32,
+) -> Result<(Vec<FrameAddress>, WalkEnd, A::UnwindRegs), SessionError>
+    ensures refused { IfErr result (λ error. error ≡ SessionError.OutOfMemory) }
+    ensures answers { IsSound (A.unwinding P.policy) unwinder.now cache.old.sets → IfOk result (λ walk.
+        let step = step_of (A.unwinding P.policy) unwinder.now (memory_of memory.now) in
+        (walk_of walk.0.items walk.1 walk.2 ≡ walk_from step limit pc regs)
+        × (cache.new ≡ cache_after_walk step (cache_after (A.unwinding P.policy) unwinder.now) limit pc regs cache.old)) }
+{
+    let mut read_stack = |address: u64| -> Result<u64, ()>
+        ensures { result ≡ reply (memory_of memory.entry.now address) }
+    { memory.read(address) };
+    let mut unwinding = unwinder.iter_frames(pc, regs, cache, &mut read_stack);
+    let (frames, end) = next_frames(alloc, &mut unwinding, limit)?;
+    let regs = *unwinding.regs();
+    Ok((frames, end, regs))
+}
+
+/// Unwinds a frame over the words of a stack: what the step returns, and the registers after it.
+pub(crate) fn step_stack<D: SectionBytes + Drop, A: Unwinding, P: AllocationPolicy>(
+    unwinder: &UnwinderInternal<D, A, P>,
+    cache: &mut Cache<A::UnwindRule, P>,
+    address: FrameAddress,
+    regs: A::UnwindRegs,
+    memory: &Memory,
+) -> Result<(Result<Option<u64>, Error>, A::UnwindRegs), SessionError>
+    ensures refused { IfErr result (λ error. (error ≡ SessionError.OutOfMemory)
+        × MayRunOut (A.unwinding P.policy) unwinder.now cache.old (location_of address)) }
+    ensures cached { OnOk result (cache.new ≡ cache_after (A.unwinding P.policy) unwinder.now cache.old (location_of address)) }
+    ensures answers { IsSound (A.unwinding P.policy) unwinder.now cache.old.sets →
+        let stepping = step_of (A.unwinding P.policy) unwinder.now (memory_of memory.now) (location_of address) regs in
+        IfOk result (λ stepped. (stepped.0 ≡ answer_of stepping) × (stepped.1 ≡ registers_after regs stepping)) }
+{
+    let mut read_stack = |address: u64| -> Result<u64, ()>
+        ensures { result ≡ reply (memory_of memory.entry.now address) }
+    { memory.read(address) };
+    let mut regs = regs;
+    match unwinder.unwind_frame(address, &mut regs, cache, &mut read_stack) {
+        Ok(answer) => Ok((Ok(answer), regs)),
+        Err(error) => match error {
+            Error::OutOfMemory => Err(SessionError::OutOfMemory),
+            refusal => Ok((Err(refusal), regs)),
+        },
+    }
+}
