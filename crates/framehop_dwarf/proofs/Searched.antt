@@ -1,6 +1,6 @@
 -- A search that goes down the tree finds the pair of an address.
 use Rattle.std.proofs.Common.{◌≡◌, ℕ, zero, suc, ◌+◌, ◌-◌, ◌*◌, ◌^◌, ◌<◌, ◌≤◌, true, List, [], ◌∷◌, ◌++◌, length, get_or, length-append, Option, Some, None, refl, ap, sym, subst, ◌∙◌, arith, inl, inr}
-use Rattle.std.specs.Prelude.{option_map}
+use Rattle.std.specs.Prelude.{option_map, IfSome}
 use Rattle.std.proofs.lemmas.Bool.{lt-leb, le-leb, cases_lt}
 use Rattle.std.proofs.lemmas.Bool.Decides.{nat_tests}
 use Rattle.std.proofs.lemmas.List.{get_or_default, get_or-append-add}
@@ -168,6 +168,21 @@ module _ (table : List (ℕ × ℕ)) (address place : ℕ) (found : Option ℕ) 
             low = d.0;
             few = d.1;
           }
+
+-- the same of the place of what was found
+pub record IsSearchingBy (table : List (ℕ × ℕ)) (address place : ℕ) (found : Option ℕ) (count : ℕ) : Type 0 where
+  pub searching : IsSearching table address place (option_map (λ at. (get_or table at (0, 0)).1) found) count
+  pub inside : IfSome found (λ at. at < length table)
+
+pub on-to-greater : (table : List (ℕ × ℕ)) (address place : ℕ) (found : Option ℕ) (count next : ℕ) (new : Option ℕ) → IsSearchingBy table address place found count → place < length table
+    → (get_or table place (0, 0)).0 ≤ address → new ≡ Some place → next ≡ 2 * place + 2 → IsSearchingBy table address next new (count + 1)
+on-to-greater table address place found count next new s here at is further =
+    rw (is, further) (record { searching = to-greater table address place _ count here s.searching at; inside = here })
+
+pub on-to-lesser : (table : List (ℕ × ℕ)) (address place : ℕ) (found : Option ℕ) (count next : ℕ) (new : Option ℕ) → IsSearchingBy table address place found count → place < length table
+    → address < (get_or table place (0, 0)).0 → new ≡ found → next ≡ 2 * place + 1 → IsSearchingBy table address next new (count + 1)
+on-to-lesser table address place found count next new s here above is further =
+    rw (is, further) (record { searching = to-lesser table address place _ count here s.searching above; inside = s.inside })
 
 -- a count of looks fits any width
 pub count-small : (count place : ℕ) → 2 ^ count ≤ place + 1 → place < 2 ^ 64 → count ≤ 64

@@ -373,14 +373,16 @@ fn search(tree: &[(u32, u32)], address: u32) -> (Option<u32>, u32)
     let mut found = None;
     let mut count: u32 = 0;
     while place < tree.len() {
-        let (start, offset) = tree[place];
-        count += 1;
-        if start <= address {
-            found = Some(offset);
-            place = 2 * place + 2;
-        } else {
-            place = 2 * place + 1;
+        let is_found = tree[place].0 <= address;
+        if is_found {
+            found = Some(place);
         }
+        // not by a branch, which a processor could not foresee
+        place = 2 * place + 1 + usize::from(is_found);
+        count += 1;
     }
-    (found, count)
+    match found {
+        Some(place) => (Some(tree[place].1), count),
+        None => (None, count),
+    }
 }

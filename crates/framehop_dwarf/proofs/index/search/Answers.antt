@@ -1,30 +1,56 @@
-use Rattle.std.proofs.Common.{ap, ◌∙◌, arith}
-use Rattle.std.specs.Prelude.{option_map, ℕ}
+use Rattle.std.proofs.Common.{◌≡◌, ◌+◌, ◌*◌, ap, sym, ◌∙◌, arith, ℕ, List, get_or, Option}
+use Rattle.std.specs.Prelude.{option_map}
+use Rattle.std.proofs.lemmas.Bool.{lt-leb, le-leb}
+use Rattle.framehop_dwarf.specs.Index.{fde_offset_for}
 use Rattle.framehop_dwarf.specs.Tree.{left_to_right}
 use Rattle.framehop_dwarf.proofs.Order.{pair_for-permutation}
 use Rattle.framehop_dwarf.proofs.Permuted.{permuted}
-use Rattle.framehop_dwarf.proofs.Searched.{search-ends, to-greater, to-lesser, count-small}
+use Rattle.framehop_dwarf.proofs.Searched.{search-begins, search-ends, on-to-greater, on-to-lesser, count-small}
+use Rattle.framehop_dwarf.proofs.index.search.Goals.{then-is_found, else-is_found}
 use Rattle.framehop_dwarf.proofs.index.search.Goals as goal
+
+pub loop-place-init : goal.loop-place-init
+loop-place-init c = record { searching = search-begins c.args.tree.now c.args.address c.requires; inside = tt }
 
 pub overflow_add-count : goal.overflow_add-count
 overflow_add-count c =
-    let small = count-small c.loop-place.count c.loop-place.place c.loop-place.invariant.low (omega arith) in
+    let small = count-small c.loop-place.count c.loop-place.place c.loop-place.invariant.searching.low (omega arith) in
     omega arith
-
-pub loop-place-preserved-then-start-address : goal.loop-place-preserved-then-start-address
-loop-place-preserved-then-start-address c =
-    to-greater c.args.tree.now c.args.address c.loop-place.place c.loop-place.found c.loop-place.count c.loop-place-test.true c.loop-place.invariant c.if-start-address.true
 
 pub loop-place-preserved : goal.loop-place-preserved
 loop-place-preserved c =
-    to-lesser c.args.tree.now c.args.address c.loop-place.place c.loop-place.found c.loop-place.count c.loop-place-test.true c.loop-place.invariant c.if-start-address.false
-
-pub returns-clause-exact : goal.returns-clause-exact
-returns-clause-exact c =
     let tree = c.args.tree.now in
-    let ends = search-ends tree c.args.address c.loop-place.place c.loop-place.found c.loop-place.count c.loop-place.invariant c.loop-place-test.false in
-    ends.0 ∙ ap (λ o. option_map (λ (pair : ℕ × ℕ). pair.1) o) (pair_for-permutation (left_to_right tree) tree c.args.address (permuted tree))
+    let place = c.loop-place.place in
+    let start = (get_or tree place (0, 0)).0 in
+    elim c.if-is_found.branch [
+      | then-is_found w ↦
+          (let step : c.from.result ≡ 1 = rw (le-leb start c.args.address w.if-is_found.true) at c.from.ensures in
+          on-to-greater tree c.args.address place c.loop-place.found c.loop-place.count (2 * place + 1 + c.from.result) c.if-is_found.found c.loop-place.invariant c.loop-place-test.true w.if-is_found.true w.found-is (omega arith))
+      | else-is_found w ↦
+          (let step : c.from.result ≡ 0 = rw (lt-leb start c.args.address w.if-is_found.false) at c.from.ensures in
+          on-to-lesser tree c.args.address place c.loop-place.found c.loop-place.count (2 * place + 1 + c.from.result) c.if-is_found.found c.loop-place.invariant c.loop-place-test.true w.if-is_found.false w.found-is (omega arith))
+    ]
 
-pub returns-clause-counted : goal.returns-clause-counted
-returns-clause-counted c =
-    (search-ends c.args.tree.now c.args.address c.loop-place.place c.loop-place.found c.loop-place.count c.loop-place.invariant c.loop-place-test.false).1
+-- what was found is the FDE of the address
+answer : (tree : List (ℕ × ℕ)) (address : ℕ) (found : Option ℕ) → found ≡ fde_offset_for (left_to_right tree) address → found ≡ fde_offset_for tree address
+answer tree address found is = is ∙ ap (λ o. option_map (λ (pair : ℕ × ℕ). pair.1) o) (pair_for-permutation (left_to_right tree) tree address (permuted tree))
+
+pub returns-in-Some-clause-exact : goal.returns-in-Some-clause-exact
+returns-in-Some-clause-exact c =
+    let tree = c.args.tree.now in
+    let ends = search-ends tree c.args.address c.loop-place.place _ c.loop-place.count c.loop-place.invariant.searching c.loop-place-test.false in
+    answer tree c.args.address _ (ap (λ found. option_map (λ at. (get_or tree at (0, 0)).1) found) (sym c.in-Some.is) ∙ ends.0)
+
+pub returns-in-Some-clause-counted : goal.returns-in-Some-clause-counted
+returns-in-Some-clause-counted c =
+    (search-ends c.args.tree.now c.args.address c.loop-place.place _ c.loop-place.count c.loop-place.invariant.searching c.loop-place-test.false).1
+
+pub returns-in-None-clause-exact : goal.returns-in-None-clause-exact
+returns-in-None-clause-exact c =
+    let tree = c.args.tree.now in
+    let ends = search-ends tree c.args.address c.loop-place.place _ c.loop-place.count c.loop-place.invariant.searching c.loop-place-test.false in
+    answer tree c.args.address _ (ap (λ found. option_map (λ at. (get_or tree at (0, 0)).1) found) (sym c.in-None.is) ∙ ends.0)
+
+pub returns-in-None-clause-counted : goal.returns-in-None-clause-counted
+returns-in-None-clause-counted c =
+    (search-ends c.args.tree.now c.args.address c.loop-place.place _ c.loop-place.count c.loop-place.invariant.searching c.loop-place-test.false).1
