@@ -81,7 +81,7 @@ pub struct RefusedModule<M> {
 pub enum UnwinderError {
     /// The compact unwind info gives none.
     #[error("CompactUnwindInfo")]
-    CompactUnwindInfo(#[from] CompactUnwindInfoUnwinderError),
+    CompactUnwindInfo(CompactUnwindInfoUnwinderError),
 
     /// The call frame information gives none.
     #[error("Dwarf")]
@@ -106,6 +106,20 @@ pub enum UnwinderError {
     /// The index has no FDE for the address.
     #[error("DwarfCfiIndexCouldNotFindAddress")]
     DwarfCfiIndexCouldNotFindAddress,
+}
+
+impl From<CompactUnwindInfoUnwinderError> for UnwinderError {
+    ghost use Rattle.std.specs.Prelude.{◌≡◌};
+    ghost use Rattle.framehop.specs.Compact.{refusal_of};
+
+    ghost from_gives = { λ value error. error ≡ refusal_of value };
+
+    fn from(value: CompactUnwindInfoUnwinderError) -> Self {
+        match value {
+            CompactUnwindInfoUnwinderError::BadDwarfUnwinding(error) => UnwinderError::Dwarf(error),
+            error => UnwinderError::CompactUnwindInfo(error),
+        }
+    }
 }
 
 /// A CPU architecture whose unwind data can be read: what it makes of rules and modules.
@@ -1685,6 +1699,7 @@ impl<D: SectionBytes + Drop, A: Unwinding, P: AllocationPolicy> Unwinder
     ghost use Rattle.std.specs.Prelude.{◌⊎◌};
     ghost use Rattle.framehop.specs.CodeAddress.{lookup_address};
     ghost use Rattle.framehop.specs.Fresh.{step};
+    ghost use Rattle.framehop_analysis.specs.Answer.{Does};
     ghost use Rattle.framehop.specs.Meaning.{MeansStep};
     ghost use Rattle.framehop.specs.Soundness.{IsSound, Extends, MayRunOut, cache_after, cache_after_lookup};
 
@@ -1714,7 +1729,7 @@ impl<D: SectionBytes + Drop, A: Unwinding, P: AllocationPolicy> Unwinder
 
     ghost means = { λ u location old memory address new. MeansStep
         (record { rows = record { translated = A.translated; uncovered = A.uncovered; direct = A.direct }; pe_found = A.found; pe_computed = A.computed; compact = record { stub_rule = A.UnwindRule.stub_rule; start_rule = A.UnwindRule.function_start_rule; helper_rule = A.helper_rule; says = A.says } })
-        (record { row = A.row_means; columns = A.columns_mean; by_code = A.by_code; undoes = λ code offset rule. (A.prologue_rule code offset rule × A.reaches code offset × A.undoes_prologue code offset rule) ⊎ (A.epilogue_rule code offset rule × A.ends code offset × A.does_epilogue code offset rule) })
+        (record { row = A.row_means; columns = A.columns_mean; by_code = A.by_code; undoes = λ code offset rule. (A.prologue_rule code offset rule × A.reaches code offset × Does A.UnwindRule.outcome (A.undone_prologue code offset) rule) ⊎ (A.epilogue_rule code offset rule × A.ends code offset × Does A.UnwindRule.outcome (A.done_epilogue code offset) rule) })
         A.UnwindRule.outcome P.policy (record { first = is_first_frame location; old = old; memory = memory; address = address; new = new }) u.modules (lookup_address location) };
 
     fn add_module(
