@@ -663,8 +663,9 @@ fn prints_the_names_of_errors(rt: HostRuntime) -> Result<(), Fail> {
         assert_eq!(rt; outer.to_string(alloc)?.as_str(), "BadFormat");
     }
     let outer = CompactUnwindInfoUnwinderError::from(DwarfUnwinderError::DidNotAdvance);
-    let expected =
-        CompactUnwindInfoUnwinderError::BadDwarfUnwinding(DwarfUnwinderError::DidNotAdvance);
+    let expected = CompactUnwindInfoUnwinderError::BadDwarfUnwinding(
+        DwarfUnwinderError::DidNotAdvance,
+    );
     assert_eq!(rt; outer, expected);
     assert_eq!(rt; outer.to_string(alloc)?.as_str(), "BadDwarfUnwinding");
     for (error, name) in [
