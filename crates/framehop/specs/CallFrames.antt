@@ -9,7 +9,7 @@ use Rattle.framehop_cfi.specs.Header.{Header, fde_offset_in}
 use Rattle.framehop_cfi.specs.Row.{Row}
 use Rattle.framehop_dwarf.specs.Index.{pairs_of, fde_offset_for}
 use Rattle.framehop_dwarf.specs.Unwinder.{Reading, reading_of, found_by, direct_by, header_bases}
-use Rattle.framehop_dwarf.specs.declared.dwarf.DwarfUnwinderError.{DwarfUnwinderError}
+use Rattle.framehop_cfi.specs.declared.dwarf_error.DwarfUnwinderError.{DwarfUnwinderError}
 use Rattle.framehop_dwarf.specs.declared.index.DwarfCfiIndexError.{DwarfCfiIndexError}
 use Rattle.framehop.specs.Policy.{Policy}
 use Rattle.framehop.specs.Answer.{Fresh, fresh_of}

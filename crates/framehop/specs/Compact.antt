@@ -3,10 +3,19 @@
 use Rattle.std.specs.Prelude.{ℕ, ◌+◌, Bool, false, Option, Some, None, option_and_then, is_some, Ok, Err}
 use Rattle.framehop_macho.specs.Answer.{Answer}
 use Rattle.framehop_macho.specs.Unwinder.{Module, Words as CompactWords, unwound}
+use Rattle.framehop_macho.specs.declared.macho.CompactUnwindInfoUnwinderError.{CompactUnwindInfoUnwinderError}
+use Rattle.framehop_macho.specs.declared.macho.CompactUnwindInfoUnwinderError.TheVariants.{BadDwarfUnwinding}
 use Rattle.framehop_macho.specs.declared.macho.CuiUnwindResult.TheVariants.{ExecRule, NeedDwarf}
 use Rattle.framehop.specs.Policy.{Policy}
 use Rattle.framehop.specs.Answer.{Fresh, by_rule}
+use Rattle.framehop.specs.declared.modules.UnwinderError.{UnwinderError}
+use Rattle.framehop.specs.declared.modules.UnwinderError.TheVariants.{CompactUnwindInfo, Dwarf}
 use Rattle.framehop.specs.CallFrames.{CallFrames, RowWords, fde_answer}
+
+-- why compact unwind info does not unwind a frame: what call frame information refuses is its refusal
+abbrev pub refusal_of : CompactUnwindInfoUnwinderError → UnwinderError
+refusal_of (BadDwarfUnwinding error) = Dwarf error
+refusal_of error = CompactUnwindInfo error
 
 -- the info with the module's code and stubs, and `__eh_frame`, if it has one
 pub record CompactData : Type 0 where

@@ -55,7 +55,7 @@ pub enum ModuleListError {
 pub enum UnwinderError {
     /// The compact unwind info gives none.
     #[error("CompactUnwindInfo")]
-    CompactUnwindInfo(#[from] CompactUnwindInfoUnwinderError),
+    CompactUnwindInfo(CompactUnwindInfoUnwinderError),
 
     /// The call frame information gives none.
     #[error("Dwarf")]
@@ -80,6 +80,20 @@ pub enum UnwinderError {
     /// The index has no FDE for the address.
     #[error("DwarfCfiIndexCouldNotFindAddress")]
     DwarfCfiIndexCouldNotFindAddress,
+}
+
+impl From<CompactUnwindInfoUnwinderError> for UnwinderError {
+    ghost use Rattle.std.specs.Prelude.{◌≡◌};
+    ghost use Rattle.framehop.specs.Compact.{refusal_of};
+
+    ghost from_gives = { λ value error. error ≡ refusal_of value };
+
+    fn from(value: CompactUnwindInfoUnwinderError) -> Self {
+        match value {
+            CompactUnwindInfoUnwinderError::BadDwarfUnwinding(error) => UnwinderError::Dwarf(error),
+            error => UnwinderError::CompactUnwindInfo(error),
+        }
+    }
 }
 
 /// A module that is loaded in a process, as an executable or a library: its addresses, and its

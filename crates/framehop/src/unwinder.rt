@@ -8,6 +8,7 @@ ghost use Rattle.framehop.specs.UnwindIterator.{unwinder_of, progress_in, regs_o
 ghost use Rattle.framehop.specs.Unwinding.{Unwinding, Words, answer_by, takes_memory_by, RisesAsSaid};
 ghost use Rattle.framehop.specs.Meaning.{Meanings, MeansAt};
 ghost use Rattle.framehop_cfi.specs.Row.{Row};
+ghost use Rattle.framehop_analysis.specs.Answer.{Does};
 ghost use Rattle.framehop_macho.specs.Unwinder.{unwound};
 ghost use Rattle.framehop_pe.specs.Sections.{Sections};
 ghost use Rattle.framehop.specs.Told.{out_of_memory, is_of_row_values, is_of_pe_values, is_of_values, TellsFresh, TellsFreshValues, WritesComputed, AnswerHas, IsAnswerOf};
@@ -91,8 +92,10 @@ pub trait Unwinding: DwarfUnwinding + PeUnwinding + CompactUnwindInfoUnwinding {
     ghost by_code_is: { meanings.by_code ≡ Self.by_code };
 
     ghost undoes_is: { (code : List ℕ) (offset : ℕ) (rule : Self.UnwindRule) → meanings.undoes code offset rule
-        ↔ (Self.prologue_rule code offset rule × Self.reaches code offset × Self.undoes_prologue code offset rule)
-        ⊎ (Self.epilogue_rule code offset rule × Self.ends code offset × Self.does_epilogue code offset rule) };
+        ↔ (Self.prologue_rule code offset rule × Self.reaches code offset
+        × Does Self.UnwindRule.outcome (Self.undone_prologue code offset) rule)
+        ⊎ (Self.epilogue_rule code offset rule × Self.ends code offset
+        × Does Self.UnwindRule.outcome (Self.done_epilogue code offset) rule) };
 
     // what a module's unwind data gives is by its words
     ghost answer_is: { (policy : Policy) → (unwinding policy).module_answer ≡ answer_by words policy };

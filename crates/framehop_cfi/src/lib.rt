@@ -4,6 +4,7 @@
 pub mod augmentation;
 pub mod bytes;
 pub mod context;
+pub mod dwarf_error;
 pub mod entry;
 pub mod extent;
 pub mod header;

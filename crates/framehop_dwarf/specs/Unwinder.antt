@@ -11,8 +11,8 @@ use Rattle.framehop_cfi.specs.declared.entry.FrameDescriptionEntry.{FrameDescrip
 use Rattle.framehop_cfi.specs.declared.read_error.ReadError.{ReadError}
 use Rattle.framehop_cfi.specs.declared.read_error.ReadError.TheVariants.{NoRow}
 use Rattle.framehop_dwarf.specs.Told.{no_memory}
-use Rattle.framehop_dwarf.specs.declared.dwarf.DwarfUnwinderError.{DwarfUnwinderError}
-use Rattle.framehop_dwarf.specs.declared.dwarf.DwarfUnwinderError.TheVariants.{FdeFromOffsetFailed, UnwindInfoForAddressFailed}
+use Rattle.framehop_cfi.specs.declared.dwarf_error.DwarfUnwinderError.{DwarfUnwinderError}
+use Rattle.framehop_cfi.specs.declared.dwarf_error.DwarfUnwinderError.TheVariants.{FdeFromOffsetFailed, UnwindInfoForAddressFailed}
 use Rattle.framehop_cfi.specs.Header.{Header, layout_of, fde_offset_in}
 use Rattle.framehop_cfi.specs.declared.pointer.BaseAddresses.{BaseAddresses}
 use Rattle.framehop_cfi.specs.declared.pointer.SectionBaseAddresses.{SectionBaseAddresses}

@@ -4,11 +4,12 @@ ghost use Rattle.framehop_core.specs.Memory.{Memory, AnswersAs};
 ghost use Rattle.framehop_core.specs.Outcome.{answered};
 ghost use Rattle.framehop_cfi.specs.Row.{Row};
 ghost use Rattle.framehop_dwarf.specs.Told.{no_memory, NeedsNoStack, TellsFound, WritesWithAddress, TellsDirect, IsRule, IsMeant, RuleHas, AdvancesWithAddress};
-ghost use Rattle.framehop_dwarf.specs.declared.dwarf.DwarfUnwinderError.{DwarfUnwinderError as DwarfRefusal};
+ghost use Rattle.framehop_cfi.specs.declared.dwarf_error.DwarfUnwinderError.{DwarfUnwinderError as DwarfRefusal};
 ghost use Rattle.framehop_dwarf.specs.Units.{units_of, signed_units_of};
 ghost use Rattle.framehop_dwarf.specs.Direct.{sum_of, cfa_of, register_of};
 
 use crate::evaluation::{DwarfUnwindRegs, EvaluationStorage, evaluate};
+pub use framehop_cfi::dwarf_error::DwarfUnwinderError;
 use framehop_cfi::read_error::ReadError;
 use framehop_cfi::row::UnwindTableRow;
 use framehop_cfi::rule::{CfaRule, RegisterRule};
@@ -17,33 +18,6 @@ use framehop_core::arch::Arch;
 use framehop_core::unwind_result::UnwindResult;
 use framehop_core::unwind_rule::read_stack_word;
 use std::alloc::Global;
-use thiserror::Error;
-
-/// Why call frame information does not unwind a frame.
-#[derive(Clone, Copy, Debug, PartialEq, Eq, Error)]
-pub enum DwarfUnwinderError {
-    /// The FDE at the offset, or its CIE, can't be read.
-    #[error("FdeFromOffsetFailed")]
-    FdeFromOffsetFailed(ReadError),
-    /// The row or an expression can't be evaluated: memory ran out.
-    #[error("UnwindInfoForAddressFailed")]
-    UnwindInfoForAddressFailed(ReadError),
-    /// The caller's stack pointer is not above the callee's.
-    #[error("StackPointerMovedBackwards")]
-    StackPointerMovedBackwards,
-    /// Neither the stack pointer nor the code address changes.
-    #[error("DidNotAdvance")]
-    DidNotAdvance,
-    /// The canonical frame address has no value.
-    #[error("CouldNotRecoverCfa")]
-    CouldNotRecoverCfa,
-    /// The return address has no value.
-    #[error("CouldNotRecoverReturnAddress")]
-    CouldNotRecoverReturnAddress,
-    /// The frame pointer has no value.
-    #[error("CouldNotRecoverFramePointer")]
-    CouldNotRecoverFramePointer,
-}
 
 /// How an architecture unwinds by a row.
 pub trait DwarfUnwinding: Arch {

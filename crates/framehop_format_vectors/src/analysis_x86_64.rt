@@ -78,6 +78,12 @@ fn finds_epilogues(rt: HostRuntime) {
     assert_epilogue(&rt, &[0xeb], 0, None);
     assert_epilogue(&rt, &[0x57, 0xe9], 1, None);
     assert_epilogue(&rt, &[0x60, 0xff], 1, None);
+    // each instruction that begins with FF is taken for the end: INC, DEC, CALL, far CALL, JMP, far
+    // JMP and PUSH
+    for register in 0..7u8 {
+        let modrm = 0xc0 + 8 * register;
+        assert_epilogue(&rt, &[0x5d, 0xff, modrm], 0, restore_bp(2, 0));
+    }
     // no end
     assert_epilogue(&rt, &[0x5b], 0, None);
     assert_epilogue(&rt, &[0x5b, 0x41], 0, None);

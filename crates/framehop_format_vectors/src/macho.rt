@@ -2,6 +2,7 @@
 use crate::real_info::{
     AARCH64_END, AARCH64_FUNCTIONS, AARCH64_INFO, X86_64_END, X86_64_FUNCTIONS, X86_64_INFO,
 };
+use framehop_cfi::dwarf_error::DwarfUnwinderError;
 use framehop_cfi::entry::{UnwindSection, UnwindSectionType};
 use framehop_cfi::pointer::BaseAddresses;
 use framehop_core::aarch64::{ArchAarch64, UnwindRuleAarch64};
@@ -661,6 +662,12 @@ fn prints_the_names_of_errors(rt: HostRuntime) -> Result<(), Fail> {
         let outer = CompactUnwindInfoUnwinderError::from(error);
         assert_eq!(rt; outer.to_string(alloc)?.as_str(), "BadFormat");
     }
+    let outer = CompactUnwindInfoUnwinderError::from(DwarfUnwinderError::DidNotAdvance);
+    let expected = CompactUnwindInfoUnwinderError::BadDwarfUnwinding(
+        DwarfUnwinderError::DidNotAdvance,
+    );
+    assert_eq!(rt; outer, expected);
+    assert_eq!(rt; outer.to_string(alloc)?.as_str(), "BadDwarfUnwinding");
     for (error, name) in [
         (
             CompactUnwindInfoUnwinderError::AddressOutsideRange(0x1000),

@@ -6,4 +6,5 @@ pub mod Answer
 pub mod X86_64
 pub mod Aarch64
 pub mod Unwinder
+-- Lemmas that the traits' laws import: a reader of the contracts can pass them.
 pub mod Laws

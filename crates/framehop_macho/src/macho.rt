@@ -1,6 +1,7 @@
 //! Unwinding by compact unwind info, for any architecture (framehop 0.16.0, `macho.rs`).
 ghost use Rattle.std.specs.Prelude.{◌≡◌, ◌≤◌, ◌-◌, ℕ, IfOk, IfSome, option_map, List, length, ◌⊎◌, Bool, true, IsTrue, Some, None, Ok, Err, Result, Option};
 ghost use Rattle.std.specs.Option.{ForSome, option_copied};
+ghost use Rattle.framehop_analysis.specs.Answer.{Does};
 ghost use Rattle.framehop_macho.specs.Answer.{Answer, IfExecRule};
 ghost use Rattle.framehop_macho.specs.UnwindInfo.{function_of, Covers, HasNoFunction};
 ghost use Rattle.framehop_macho.specs.Unwinder.{text_of, module_of, code_between, code_of, is_in, function_for, unwound_in, unwound_by, unwound};
@@ -13,6 +14,7 @@ ghost use Rattle.framehop_macho.specs.declared.unwind_info.info.Function.{Functi
 use crate::unwind_info::error::CompactReadError;
 use crate::unwind_info::info::{Function, UnwindInfo};
 use framehop_analysis::InstructionAnalysis;
+use framehop_cfi::dwarf_error::DwarfUnwinderError;
 use framehop_core::unwind_rule::UnwindRule;
 use std::marker::PhantomData;
 use thiserror::Error;
@@ -38,6 +40,9 @@ pub enum CompactUnwindInfoUnwinderError {
     /// The opcode has an unknown mode.
     #[error("BadOpcodeKind")]
     BadOpcodeKind(u8),
+    /// The call frame information that the info names does not unwind the frame.
+    #[error("BadDwarfUnwinding")]
+    BadDwarfUnwinding(DwarfUnwinderError),
     /// The stack size lies in the function's code, which is not there.
     #[error("NoTextBytesToLookUpIndirectStackOffset")]
     NoTextBytesToLookUpIndirectStackOffset,
@@ -66,6 +71,17 @@ impl From<CompactReadError> for CompactUnwindInfoUnwinderError {
 
     fn from(value: CompactReadError) -> Self {
         CompactUnwindInfoUnwinderError::BadFormat(value)
+    }
+}
+
+impl From<DwarfUnwinderError> for CompactUnwindInfoUnwinderError {
+    ghost use Rattle.std.specs.Prelude.{◌≡◌};
+    ghost use Rattle.framehop_macho.specs.declared.macho.CompactUnwindInfoUnwinderError.TheVariants.{BadDwarfUnwinding};
+
+    ghost from_gives = { λ value error. error ≡ BadDwarfUnwinding value };
+
+    fn from(value: DwarfUnwinderError) -> Self {
+        CompactUnwindInfoUnwinderError::BadDwarfUnwinding(value)
     }
 }
 
@@ -120,8 +136,10 @@ pub trait CompactUnwindInfoUnwinding: InstructionAnalysis {
 
     // such a rule undoes what a prologue has done, or does what the rest of an epilogue does
     ghost code_means: { (function : Function) (code : List ℕ) (offset : ℕ) (rule : Self.UnwindRule) → by_code function code offset ≡ Some rule
-        → (Self.prologue_rule code offset rule × Self.reaches code offset × Self.undoes_prologue code offset rule)
-        ⊎ (Self.epilogue_rule code offset rule × Self.ends code offset × Self.does_epilogue code offset rule) };
+        → (Self.prologue_rule code offset rule × Self.reaches code offset
+        × Does Self.UnwindRule.outcome (Self.undone_prologue code offset) rule)
+        ⊎ (Self.epilogue_rule code offset rule × Self.ends code offset
+        × Does Self.UnwindRule.outcome (Self.done_epilogue code offset) rule) };
 }
 
 /// The code of a module, or a part of it.

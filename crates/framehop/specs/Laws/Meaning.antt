@@ -8,7 +8,7 @@ use Rattle.framehop_core.specs.Outcome.{Outcome, answered}
 use Rattle.framehop_cfi.specs.Row.{Row}
 use Rattle.framehop_cfi.specs.Section.{Section}
 use Rattle.framehop_dwarf.specs.Unwinder.{Reading, unread, uncovered, by_row, reading_of, OfRow}
-use Rattle.framehop_dwarf.specs.declared.dwarf.DwarfUnwinderError.{DwarfUnwinderError}
+use Rattle.framehop_cfi.specs.declared.dwarf_error.DwarfUnwinderError.{DwarfUnwinderError}
 use Rattle.framehop_pe.specs.Answer.{Simulates}
 use Rattle.framehop_pe.specs.Sections.{Sections}
 use Rattle.framehop_pe.specs.declared.pe.PeUnwinderError.{PeUnwinderError}

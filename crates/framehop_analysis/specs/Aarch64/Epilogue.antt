@@ -1,11 +1,12 @@
 -- Epilogues on aarch64: where the remaining instructions leave sp, and from where they restore fp and lr (framehop
 -- 0.16.0, `aarch64::instruction_analysis::epilogue`).
 use Rattle.std.specs.Prelude.{◌≡◌, ◌≢◌, ℕ, ◌+◌, ◌-◌, ◌*◌, ◌^◌, ◌<◌, ◌≤◌, ℤ, pos, ◌+ℤ◌, Bool, true, false, ◌&&◌, ◌||◌, ◌==◌, if◌then◌else◌, List, [], ◌∷◌, ◌++◌, length, Option, Some, None}
-use Rattle.framehop_core.specs.Outcome.{answered}
+use Rattle.framehop_core.specs.Memory.{Memory}
 use Rattle.framehop_core.specs.Aarch64.Registers.{Registers}
 use Rattle.framehop_core.specs.Aarch64.Rules.{outcome}
 use Rattle.framehop_core.specs.declared.aarch64.unwind_rule.UnwindRuleAarch64.{UnwindRuleAarch64}
 use Rattle.framehop_core.specs.declared.aarch64.unwind_rule.UnwindRuleAarch64.TheVariants.{NoOp, OffsetSp, OffsetSpAndRestoreLr, OffsetSpAndRestoreFpAndLr}
+use Rattle.framehop_analysis.specs.Answer.{Does}
 use Rattle.framehop_analysis.specs.Aarch64.Words.{word_at, AreWordsAt, is_load, is_add_sp, is_indexed, addressing, pair_offset, first_register, second_register, immediate, is_return, is_b, is_br, is_braa, is_mov}
 use Rattle.framehop_analysis.specs.Aarch64.Units.{IsUnitsOf16, IsUnitsOf8}
 use Rattle.framehop_analysis.specs.Aarch64.Machine.{State, RunOut, HasRegisters}
@@ -148,12 +149,15 @@ pub data IsEpilogueRule (text : List ℕ) (pc : ℕ) (rule : UnwindRuleAarch64) 
 abbrev pub EndsFrom : List ℕ → ℕ → Type 0
 EndsFrom text pc = (mask : ℕ) (here : State) → (count : ℕ) × (out : State) × RunOut mask text count pc here out
 
--- The rule does what the epilogue does: wherever the instructions from the pc up to the first branch lead from the
--- registers at hand, and the rule answers an address in a frame of either kind, the new registers are those after the
--- branch, all known, and the address is the return address.
-abbrev pub DoesEpilogue : List ℕ → ℕ → UnwindRuleAarch64 → Type 0
-DoesEpilogue text pc rule =
-    (r new : Registers) (here out : State) (count : ℕ) (first : Bool) (address : ℕ) → here.sp < 2 ^ 64
-    → HasRegisters r here → RunOut r.lr_mask text count pc here out
-    → outcome rule first r here.memory ≡ answered address new
+-- The epilogue done, in a frame of either kind: wherever the instructions from the pc up to the first branch lead from
+-- these registers over this memory, the new registers are those after the branch, all known, and the address is the
+-- return address.
+abbrev pub DoneEpilogue : List ℕ → ℕ → Bool → Registers → Memory → ℕ → Registers → Type 0
+DoneEpilogue text pc first r memory address new =
+    (here out : State) (count : ℕ) → here.sp < 2 ^ 64 → HasRegisters r here → here.memory ≡ memory
+    → RunOut r.lr_mask text count pc here out
     → HasRegisters new out × (new.lr_mask ≡ r.lr_mask) × (address ≡ new.lr)
+
+-- the rule does what the epilogue does
+abbrev pub DoesEpilogue : List ℕ → ℕ → UnwindRuleAarch64 → Type 0
+DoesEpilogue text pc rule = Does outcome (DoneEpilogue text pc) rule

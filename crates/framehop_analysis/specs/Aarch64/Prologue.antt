@@ -1,11 +1,12 @@
 -- Prologues on aarch64: how far sp lies below the caller's, and what the unwind rule undoes (framehop 0.16.0,
 -- `aarch64::instruction_analysis::prologue`).
 use Rattle.std.specs.Prelude.{◌≡◌, ◌≢◌, ℕ, ◌+◌, ◌*◌, ◌/◌, ◌^◌, ◌<◌, ◌≤◌, ℤ, pos, ◌+ℤ◌, ◌-ℤ◌, Bool, true, not, ◌&&◌, ◌||◌, if◌then◌else◌, List, [], ◌∷◌, length, Some}
-use Rattle.framehop_core.specs.Outcome.{answered}
+use Rattle.framehop_core.specs.Memory.{Memory}
 use Rattle.framehop_core.specs.Aarch64.Registers.{Registers}
 use Rattle.framehop_core.specs.Aarch64.Rules.{outcome}
 use Rattle.framehop_core.specs.declared.aarch64.unwind_rule.UnwindRuleAarch64.{UnwindRuleAarch64}
 use Rattle.framehop_core.specs.declared.aarch64.unwind_rule.UnwindRuleAarch64.TheVariants.{NoOp, OffsetSp}
+use Rattle.framehop_analysis.specs.Answer.{Does}
 use Rattle.framehop_analysis.specs.Aarch64.Words.{word_at, is_store, is_sub_sp, is_add_fp, is_pacibsp, is_indexed, pair_offset, immediate}
 use Rattle.framehop_analysis.specs.Aarch64.Units.{IsUnitsOf16}
 use Rattle.framehop_analysis.specs.Aarch64.Machine.{State, Run, HasRegisters}
@@ -74,18 +75,20 @@ pub record IsPrologueRule (before after : List ℕ) (rule : UnwindRuleAarch64) :
   pub expected : IsNext next (lowered run)
   pub made : IsRuleOfDepth (lowered run) rule
 
--- The rule undoes the run: wherever the run leads from a state at the function's entry to the registers at hand, and
--- the rule answers an address in a first frame, the new registers are those of the entry, and the address is its
--- return address.
-abbrev pub UndoesRun : List ℕ → UnwindRuleAarch64 → Type 0
-UndoesRun run rule =
-    (r new : Registers) (entry here : State) (address : ℕ) → entry.sp < 2 ^ 64
-    → Run r.lr_mask run entry here → HasRegisters r here
-    → outcome rule true r here.memory ≡ answered address new
-    → HasRegisters new entry × (new.lr_mask ≡ r.lr_mask) × (address ≡ new.lr)
+-- The run undone, in a first frame: wherever it leads from a state at the function's entry to these registers over this
+-- memory, the new registers are those of the entry, and the address is its return address.
+abbrev pub UndoneRun : List ℕ → Bool → Registers → Memory → ℕ → Registers → Type 0
+UndoneRun run first r memory address new =
+    first ≡ true → (entry here : State) → entry.sp < 2 ^ 64 → Run r.lr_mask run entry here → HasRegisters r here
+    → here.memory ≡ memory → HasRegisters new entry × (new.lr_mask ≡ r.lr_mask) × (address ≡ new.lr)
 
+abbrev pub UndonePrologue : List ℕ → Bool → Registers → Memory → ℕ → Registers → Type 0
+UndonePrologue before first r memory address new =
+    (run : List ℕ) → IsLongestRun before run → UndoneRun run first r memory address new
+
+-- the rule undoes the prologue
 abbrev pub UndoesPrologue : List ℕ → UnwindRuleAarch64 → Type 0
-UndoesPrologue before rule = (run : List ℕ) → IsLongestRun before run → UndoesRun run rule
+UndoesPrologue before rule = Does outcome (UndonePrologue before) rule
 
 -- there is such a run, and from each state the machine goes through it
 pub record ReachesFrom (before : List ℕ) : Type 0 where

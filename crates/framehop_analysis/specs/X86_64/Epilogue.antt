@@ -1,11 +1,12 @@
 -- Epilogues on x86_64: how many words are still popped, and which of them is rbp (framehop 0.16.0,
 -- `x86_64::instruction_analysis::epilogue`).
 use Rattle.std.specs.Prelude.{◌≡◌, ℕ, zero, suc, ◌+◌, ◌-◌, ◌^◌, ◌<◌, ◌≤◌, pos, Bool, true, false, not, ◌&&◌, ◌||◌, ◌==◌, if◌then◌else◌, List, [], ◌∷◌, slice_get, Option, Some, None}
-use Rattle.framehop_core.specs.Outcome.{answered}
+use Rattle.framehop_core.specs.Memory.{Memory}
 use Rattle.framehop_core.specs.X86_64.Registers.{Registers}
 use Rattle.framehop_core.specs.X86_64.Rules.{outcome}
 use Rattle.framehop_core.specs.declared.x86_64.unwind_rule.UnwindRuleX86_64.{UnwindRuleX86_64}
 use Rattle.framehop_core.specs.declared.x86_64.unwind_rule.UnwindRuleX86_64.TheVariants.{JustReturn, OffsetSp, OffsetSpAndRestoreBp}
+use Rattle.framehop_analysis.specs.Answer.{Does}
 use Rattle.framehop_analysis.specs.X86_64.Bytes.{is_pop_opcode}
 use Rattle.framehop_analysis.specs.X86_64.Machine.{State, HasRegisters, Run, Leaves, Returns}
 
@@ -98,11 +99,14 @@ abbrev pub EndsFrom : List ℕ → ℕ → Type 0
 EndsFrom text pc =
     (here : State) → (count : ℕ) × (end : ℕ) × (out : State) × Run text count pc end here out × IsTakenForEnd text end
 
--- The rule does what the epilogue does: wherever the machine's run from the pc up to the first instruction that is taken
--- for the function's end leads from the registers at hand, and the rule answers an address, it does as a return from
--- there.
+-- The epilogue done: wherever the machine's run from the pc up to the first instruction that is taken for the
+-- function's end leads from these registers over this memory, the address and the new registers are those of a return
+-- from there.
+abbrev pub DoneEpilogue : List ℕ → ℕ → Bool → Registers → Memory → ℕ → Registers → Type 0
+DoneEpilogue text pc first r memory address new =
+    (here out : State) (count end : ℕ) → HasRegisters r here → here.memory ≡ memory → Run text count pc end here out
+    → IsTakenForEnd text end → Returns out address new
+
+-- the rule does what the epilogue does
 abbrev pub DoesEpilogue : List ℕ → ℕ → UnwindRuleX86_64 → Type 0
-DoesEpilogue text pc rule =
-    (r new : Registers) (here out : State) (count end : ℕ) (first : Bool) (address : ℕ)
-    → HasRegisters r here → Run text count pc end here out → IsTakenForEnd text end
-    → outcome rule first r here.memory ≡ answered address new → Returns out address new
+DoesEpilogue text pc rule = Does outcome (DoneEpilogue text pc) rule

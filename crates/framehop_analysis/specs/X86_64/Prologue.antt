@@ -1,11 +1,12 @@
 -- Prologues on x86_64: how many words have been pushed, or that the frame is set up (framehop 0.16.0,
 -- `x86_64::instruction_analysis::prologue`).
 use Rattle.std.specs.Prelude.{◌≡◌, ℕ, zero, suc, ◌+◌, ◌-◌, ◌*◌, ◌^◌, ◌<◌, ◌≤◌, Bool, true, ◌&&◌, ◌||◌, ◌==◌, List, length, slice_get, slice_index, Some}
-use Rattle.framehop_core.specs.Outcome.{answered}
+use Rattle.framehop_core.specs.Memory.{Memory}
 use Rattle.framehop_core.specs.X86_64.Registers.{Registers}
 use Rattle.framehop_core.specs.X86_64.Rules.{outcome}
 use Rattle.framehop_core.specs.declared.x86_64.unwind_rule.UnwindRuleX86_64.{UnwindRuleX86_64}
 use Rattle.framehop_core.specs.declared.x86_64.unwind_rule.UnwindRuleX86_64.TheVariants.{OffsetSp, UseFramePointer}
+use Rattle.framehop_analysis.specs.Answer.{Does}
 use Rattle.framehop_analysis.specs.X86_64.Bytes.{is_prefix, is_push}
 use Rattle.framehop_analysis.specs.X86_64.Machine.{State, HasRegisters, Run, Returns}
 
@@ -13,7 +14,8 @@ use Rattle.framehop_analysis.specs.X86_64.Machine.{State, HasRegisters, Run, Ret
 
 -- a push between two offsets, with or without a prefix
 pub data IsPushBytes (text : List ℕ) (at next : ℕ) : Type 0 where
-  plain : (opcode : ℕ) → slice_get text at ≡ Some opcode → is_push opcode ≡ true → next ≡ at + 1 → IsPushBytes text at next
+  plain : (opcode : ℕ) → slice_get text at ≡ Some opcode → is_push opcode ≡ true → next ≡ at + 1
+      → IsPushBytes text at next
   prefixed : (prefix opcode : ℕ) → slice_get text at ≡ Some prefix → is_prefix prefix ≡ true
       → slice_get text (at + 1) ≡ Some opcode → is_push opcode ≡ true → next ≡ at + 2 → IsPushBytes text at next
 
@@ -86,14 +88,16 @@ pub data BeginsAt (text : List ℕ) (pc start : ℕ) : Type 0 where
   frameless : (count : ℕ) → AreLongestPushes text pc start count → ¬ IsFrameSetUpBefore text start
       → BeginsAt text pc start
 
--- The rule undoes the prologue: wherever the machine's run over its instructions leads from a state at the function's
--- entry to the registers at hand, and the rule answers an address, it does as a return from the entry.
+-- The prologue undone: wherever the machine's run over its instructions leads from a state at the function's entry to
+-- these registers over this memory, the address and the new registers are those of a return from the entry.
+abbrev pub UndonePrologue : List ℕ → ℕ → Bool → Registers → Memory → ℕ → Registers → Type 0
+UndonePrologue text pc first r memory address new =
+    (start : ℕ) → BeginsAt text pc start → (entry here : State) (count : ℕ) → Run text count start pc entry here
+    → HasRegisters r here → here.memory ≡ memory → Returns entry address new
+
+-- the rule undoes the prologue
 abbrev pub UndoesPrologue : List ℕ → ℕ → UnwindRuleX86_64 → Type 0
-UndoesPrologue text pc rule =
-    (start : ℕ) → BeginsAt text pc start
-    → (r new : Registers) (entry here : State) (count : ℕ) (first : Bool) (address : ℕ)
-    → Run text count start pc entry here → HasRegisters r here
-    → outcome rule first r here.memory ≡ answered address new → Returns entry address new
+UndoesPrologue text pc rule = Does outcome (UndonePrologue text pc) rule
 
 -- There are such instructions: from each state that has room on the stack the machine comes to the pc.
 pub record ReachesFrom (text : List ℕ) (pc : ℕ) : Type 0 where

@@ -11,8 +11,8 @@ pub use prologue::unwind_rule_from_detected_prologue;
 
 impl InstructionAnalysis for ArchAarch64 {
     ghost use Rattle.std.specs.Prelude.{take, drop};
-    ghost use Rattle.framehop_analysis.specs.Aarch64.Prologue.{IsPrologueRule, ReachesFrom, UndoesPrologue};
-    ghost use Rattle.framehop_analysis.specs.Aarch64.Epilogue.{IsEpilogueRule, EndsFrom, DoesEpilogue};
+    ghost use Rattle.framehop_analysis.specs.Aarch64.Prologue.{IsPrologueRule, ReachesFrom, UndonePrologue};
+    ghost use Rattle.framehop_analysis.specs.Aarch64.Epilogue.{IsEpilogueRule, EndsFrom, DoneEpilogue};
     ghost use Rattle.framehop_analysis.specs.Aarch64.Analysed.{analysed, analysed-only};
 
     ghost prologue_rule = { λ text pc rule. IsPrologueRule (take pc text) (drop pc text) rule };
@@ -25,11 +25,11 @@ impl InstructionAnalysis for ArchAarch64 {
 
     ghost reaches = { λ text pc. ReachesFrom (take pc text) };
 
-    ghost undoes_prologue = { λ text pc rule. UndoesPrologue (take pc text) rule };
+    ghost undone_prologue = { λ text pc. UndonePrologue (take pc text) };
 
     ghost ends = { EndsFrom };
 
-    ghost does_epilogue = { DoesEpilogue };
+    ghost done_epilogue = { DoneEpilogue };
 
     fn rule_from_prologue_analysis(
         text_bytes: &[u8],

@@ -9,8 +9,8 @@ use framehop_core::x86_64::{ArchX86_64, UnwindRuleX86_64};
 pub use prologue::unwind_rule_from_detected_prologue;
 
 impl InstructionAnalysis for ArchX86_64 {
-    ghost use Rattle.framehop_analysis.specs.X86_64.Prologue.{IsPrologueRule, ReachesFrom, UndoesPrologue};
-    ghost use Rattle.framehop_analysis.specs.X86_64.Epilogue.{IsEpilogueRule, EndsFrom, DoesEpilogue};
+    ghost use Rattle.framehop_analysis.specs.X86_64.Prologue.{IsPrologueRule, ReachesFrom, UndonePrologue};
+    ghost use Rattle.framehop_analysis.specs.X86_64.Epilogue.{IsEpilogueRule, EndsFrom, DoneEpilogue};
     ghost use Rattle.framehop_analysis.specs.X86_64.Analysed.{analysed, analysed-only};
 
     ghost prologue_rule = { IsPrologueRule };
@@ -23,11 +23,11 @@ impl InstructionAnalysis for ArchX86_64 {
 
     ghost reaches = { ReachesFrom };
 
-    ghost undoes_prologue = { UndoesPrologue };
+    ghost undone_prologue = { UndonePrologue };
 
     ghost ends = { EndsFrom };
 
-    ghost does_epilogue = { DoesEpilogue };
+    ghost done_epilogue = { DoneEpilogue };
 
     fn rule_from_prologue_analysis(
         text_bytes: &[u8],

@@ -5,7 +5,7 @@ use Rattle.std.proofs.lemmas.Bool.Decides.{nat_tests}
 use Rattle.framehop_core.specs.Memory.{Memory}
 use Rattle.framehop_core.specs.Aarch64.Registers.{Registers, strip_ptr_auth}
 use Rattle.framehop_cfi.specs.Row.{Row, rule_of}
-use Rattle.framehop_dwarf.specs.declared.dwarf.DwarfUnwinderError.{DwarfUnwinderError}
+use Rattle.framehop_cfi.specs.declared.dwarf_error.DwarfUnwinderError.{DwarfUnwinderError}
 use Rattle.framehop_dwarf.specs.Direct.{cfa_of, register_of}
 use Rattle.framehop_dwarf.specs.Aarch64.{or_kept, stepped, scope_of, direct_of, fp_column, lr_column, ColumnsMean}
 use Rattle.framehop_dwarf.specs.Laws.Columns.{cfa-means, column-means}

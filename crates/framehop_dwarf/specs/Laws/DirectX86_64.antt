@@ -5,7 +5,7 @@ use Rattle.std.proofs.lemmas.Bool.{cases_Bool}
 use Rattle.framehop_core.specs.Memory.{Memory}
 use Rattle.framehop_core.specs.X86_64.Registers.{Registers}
 use Rattle.framehop_cfi.specs.Row.{Row, rule_of}
-use Rattle.framehop_dwarf.specs.declared.dwarf.DwarfUnwinderError.{DwarfUnwinderError}
+use Rattle.framehop_cfi.specs.declared.dwarf_error.DwarfUnwinderError.{DwarfUnwinderError}
 use Rattle.framehop_dwarf.specs.Direct.{cfa_of, register_of, needed}
 use Rattle.framehop_dwarf.specs.X86_64.{or_below, below, stepped, scope_of, direct_of, bp_column, return_column, ColumnsMean}
 use Rattle.framehop_dwarf.specs.Laws.Columns.{cfa-means, column-means}

@@ -16,7 +16,7 @@ use Rattle.framehop_analysis.specs.Aarch64.Epilogue.{Places, at_pc, is_restoring
 use Rattle.framehop_analysis.specs.Laws.Aarch64.Offsets.{offset_by-fits, offset_by-zero, offset_by-offset_by}
 use Rattle.framehop_analysis.specs.Laws.Answer.{some-same}
 use Rattle.framehop_analysis.specs.Laws.Aarch64.Calls.{branch-not-restoring, return-branch, b-branch, br-branch, braa-branch, or-left, or-right, or-cases}
-use Rattle.framehop_analysis.specs.Laws.Aarch64.Undoes.{stripped-again, ok-same}
+use Rattle.framehop_analysis.specs.Laws.Aarch64.Undoes.{stripped-again, ok-same, at-memory}
 
 -- ---- what restores
 
@@ -371,13 +371,16 @@ start s fits = record { sp = sym (offset_by-zero s.sp fits); fp = refl; lr = ref
 
 pub does : (text : List ℕ) (pc : ℕ) (rule : UnwindRuleAarch64) → IsEpilogueRule text pc rule → DoesEpilogue text pc rule
 unfolding IsOut
-does text pc rule (restored is e) = λ r new here out count first address fits stands run answer.
+does text pc rule (restored is e) = λ first r new memory address answer here out count fits stands same run.
+    let answer = at-memory rule first r new memory here.memory address (sym same) answer in
     let q = restored-quiet text pc is in
     let P : UnwindRuleAarch64 → Type 0 = IsRuleOfPlaces at_pc in
     rule-does rule r new here out first address at_pc (subst P (sym e) (refl, refl, refl)) stands
     (signed r.lr_mask here here out at_pc (start here fits)
     (run-quiet r.lr_mask text count pc q.0 q.1 here out q.2 q.3 run)) answer
-does text pc rule (restores not_restored rest) = λ r new here out count first address fits stands run answer.
+does text pc rule (restores not_restored rest) =
+    λ first r new memory address answer here out count fits stands same run.
+    let answer = at-memory rule first r new memory here.memory address (sym same) answer in
     rule-does rule r new here out first address (places_after_all at_pc rest.restoring) rest.made stands
     (run-out r.lr_mask text count pc rest.restoring rest.end here here out at_pc
     rest.stands rest.restore rest.ends (start here fits) run) answer

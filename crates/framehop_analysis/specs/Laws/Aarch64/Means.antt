@@ -10,7 +10,8 @@ use Rattle.framehop_analysis.specs.Laws.Aarch64.Reaches.{reaches-from, ends-from
 use Rattle.framehop_analysis.specs.Laws.Aarch64.Does.{does}
 
 pub analysed-means : (text : List ℕ) (pc : ℕ) (rule : UnwindRuleAarch64) → analysed text pc ≡ Some rule
-    → (IsPrologueRule (take pc text) (drop pc text) rule × ReachesFrom (take pc text) × UndoesPrologue (take pc text) rule)
+    → (IsPrologueRule (take pc text) (drop pc text) rule × ReachesFrom (take pc text)
+    × UndoesPrologue (take pc text) rule)
     ⊎ (IsEpilogueRule text pc rule × EndsFrom text pc × DoesEpilogue text pc rule)
 analysed-means text pc =
     means-first _ _ (analysed text pc) (analysed-only text pc)

@@ -49,17 +49,20 @@ mov-apart word e =
     let high = bits_at word 25 7 in
     let field : bit_and (word / 2 ^ 23) 0x1C7 ≡ 0x185 = eq-true _ _ (and-left _ _ e) in
     let shifted : bit_and (word / 2 ^ 25) 0x71 ≡ 0x61 =
-    ap (λ n. bit_and n 0x71) (sym (shr-shr word 23 2)) ∙ sym (and_shr (word / 2 ^ 23) 0x1C7 2) ∙ ap (λ n. n / 2 ^ 2) field in
+    ap (λ n. bit_and n 0x71) (sym (shr-shr word 23 2)) ∙ sym (and_shr (word / 2 ^ 23) 0x1C7 2)
+    ∙ ap (λ n. n / 2 ^ 2) field in
     let bits : bit_and high 0x71 ≡ 0x61 = sym (and_mod (word / 2 ^ 25) 0x71 7) ∙ ap (λ n. n % 2 ^ 7) shifted in
     let fifth : bit_and high 0x10 ≡ 0 = sym (and_assoc 0x10 high 0x71) ∙ ap (λ n. bit_and n 0x10) bits in
     record {
       pair = λ pair.
-          (let other : bit_and high 0x10 ≡ 0x10 = sym (and_assoc 0x10 high 0x5F) ∙ ap (λ n. bit_and n 0x10) pair in omega arith);
+          (let other : bit_and high 0x10 ≡ 0x10 = sym (and_assoc 0x10 high 0x5F) ∙ ap (λ n. bit_and n 0x10) pair in
+          omega arith);
       sub = λ sub. (let other : 0x60 ≡ 0x61 = ap (λ n. bit_and n 0x71) (sym sub) ∙ bits in omega arith);
       add = λ add. (let other : 0x40 ≡ 0x61 = ap (λ n. bit_and n 0x71) (sym add) ∙ bits in omega arith);
     }
 
-numeral : (high : ℕ) → (bit_and high 0x5F == 0x54) ≡ false → (high == 0x68) ≡ false → (high == 0x48) ≡ false → IsApart high
+numeral : (high : ℕ) → (bit_and high 0x5F == 0x54) ≡ false → (high == 0x68) ≡ false → (high == 0x48) ≡ false
+    → IsApart high
 numeral high a b c = record {
   pair = λ e. (let t = ap (λ n. n == 0x54) e in cc);
   sub = λ e. (let t = ap (λ n. n == 0x68) e in cc);
@@ -111,8 +114,10 @@ load-step mask word s load =
       known = or-left _ _ (or-left _ _ (or-left _ _ (or-left _ _ (or-right (is_store word) (is_load word) load))));
       stores = λ store. absurd (store-load word store load);
       loads = λ l. refl;
-      subs = λ sub. absurd (let t : 0x48 ≡ 0x54 = ap (λ n. bit_and n 0x5F) (sym (sub-high word sub)) ∙ high in omega arith);
-      adds = λ add. absurd (let t : 0x48 ≡ 0x54 = ap (λ n. bit_and n 0x5F) (sym (add-high word add)) ∙ high in omega arith);
+      subs = λ sub. absurd (let t : 0x48 ≡ 0x54 = ap (λ n. bit_and n 0x5F) (sym (sub-high word sub)) ∙ high in
+          omega arith);
+      adds = λ add. absurd (let t : 0x48 ≡ 0x54 = ap (λ n. bit_and n 0x5F) (sym (add-high word add)) ∙ high in
+          omega arith);
       signs = λ sign. absurd ((signing-apart word sign).pair high);
       others = λ other. absurd ((other-apart word other).pair high);
     }
@@ -125,8 +130,10 @@ store-step mask word s store =
       known = or-left _ _ (or-left _ _ (or-left _ _ (or-left _ _ (or-left (is_store word) (is_load word) store))));
       stores = λ s. refl;
       loads = λ load. absurd (store-load word store load);
-      subs = λ sub. absurd (let t : 0x48 ≡ 0x54 = ap (λ n. bit_and n 0x5F) (sym (sub-high word sub)) ∙ high in omega arith);
-      adds = λ add. absurd (let t : 0x48 ≡ 0x54 = ap (λ n. bit_and n 0x5F) (sym (add-high word add)) ∙ high in omega arith);
+      subs = λ sub. absurd (let t : 0x48 ≡ 0x54 = ap (λ n. bit_and n 0x5F) (sym (sub-high word sub)) ∙ high in
+          omega arith);
+      adds = λ add. absurd (let t : 0x48 ≡ 0x54 = ap (λ n. bit_and n 0x5F) (sym (add-high word add)) ∙ high in
+          omega arith);
       signs = λ sign. absurd ((signing-apart word sign).pair high);
       others = λ other. absurd ((other-apart word other).pair high);
     }
@@ -137,28 +144,34 @@ sub-step mask word s sub =
     let high = sub-high word sub in
     record {
       known = or-left _ _ (or-left _ _ (or-left _ _ (or-right _ (is_sub_sp word) sub)));
-      stores = λ store. absurd (let t : 0x48 ≡ 0x54 = ap (λ n. bit_and n 0x5F) (sym high) ∙ store-high word store in omega arith);
-      loads = λ load. absurd (let t : 0x48 ≡ 0x54 = ap (λ n. bit_and n 0x5F) (sym high) ∙ load-high word load in omega arith);
+      stores = λ store. absurd (let t : 0x48 ≡ 0x54 = ap (λ n. bit_and n 0x5F) (sym high) ∙ store-high word store in
+          omega arith);
+      loads = λ load. absurd (let t : 0x48 ≡ 0x54 = ap (λ n. bit_and n 0x5F) (sym high) ∙ load-high word load in
+          omega arith);
       subs = λ s. refl;
       adds = λ add. absurd (let t = add-high word add in omega arith);
       signs = λ sign. absurd ((signing-apart word sign).sub high);
       others = λ other. absurd ((other-apart word other).sub high);
     }
 
-add-step : (mask word : ℕ) (s : State) → is_add_sp word ≡ true → Step mask word s (with_sp_moved s (pos (immediate word)))
+add-step : (mask word : ℕ) (s : State) → is_add_sp word ≡ true
+    → Step mask word s (with_sp_moved s (pos (immediate word)))
 add-step mask word s add =
     let high = add-high word add in
     record {
       known = or-left _ _ (or-left _ _ (or-right _ (is_add_sp word) add));
-      stores = λ store. absurd (let t : 0x48 ≡ 0x54 = ap (λ n. bit_and n 0x5F) (sym high) ∙ store-high word store in omega arith);
-      loads = λ load. absurd (let t : 0x48 ≡ 0x54 = ap (λ n. bit_and n 0x5F) (sym high) ∙ load-high word load in omega arith);
+      stores = λ store. absurd (let t : 0x48 ≡ 0x54 = ap (λ n. bit_and n 0x5F) (sym high) ∙ store-high word store in
+          omega arith);
+      loads = λ load. absurd (let t : 0x48 ≡ 0x54 = ap (λ n. bit_and n 0x5F) (sym high) ∙ load-high word load in
+          omega arith);
       subs = λ sub. absurd (let t = sub-high word sub in omega arith);
       adds = λ a. refl;
       signs = λ sign. absurd ((signing-apart word sign).add high);
       others = λ other. absurd ((other-apart word other).add high);
     }
 
-quiet-known : (word : ℕ) → (is_signing word || is_other word) ≡ true → (is_store word || is_load word || is_sub_sp word || is_add_sp word || is_signing word || is_other word) ≡ true
+quiet-known : (word : ℕ) → (is_signing word || is_other word) ≡ true
+    → (is_store word || is_load word || is_sub_sp word || is_add_sp word || is_signing word || is_other word) ≡ true
 quiet-known word e = elim (or-cases (is_signing word) (is_other word) e) [
   | inl sign ↦ or-left _ _ (or-right _ (is_signing word) sign)
   | inr other ↦ or-right _ (is_other word) other
@@ -190,7 +203,8 @@ quiet-step mask word s quiet =
 Ending : ℕ → List ℕ → ℕ → State → Type 0
 Ending mask text at s = (count : ℕ) × (out : State) × RunOut mask text count at s out
 
-quiet-ending : (mask : ℕ) (text : List ℕ) (at word : ℕ) (words : List ℕ) (s : State) (branch : Bool) → is_branch word ≡ branch → AreWordsAt text at (word ∷ words) → IsQuiet word words → Ending mask text at s
+quiet-ending : (mask : ℕ) (text : List ℕ) (at word : ℕ) (words : List ℕ) (s : State) (branch : Bool)
+    → is_branch word ≡ branch → AreWordsAt text at (word ∷ words) → IsQuiet word words → Ending mask text at s
 unfolding Ending IsQuiet
 quiet-ending mask text at word [] s branch branch_is stands quiet =
     (0, s, (word, stands.0, quiet.1, quiet-step mask word s quiet.0))
@@ -206,7 +220,9 @@ restoring-step mask word s e = elim (or-cases (is_load word) (is_add_sp word) e)
   | inr add ↦ (with_sp_moved s (pos (immediate word)), add-step mask word s add)
 ]
 
-restoring-ending : (mask : ℕ) (text : List ℕ) (at : ℕ) (restoring end : List ℕ) (p : Places) (s : State) → AreWordsAt text at (restoring ++ end) → AllRestoring restoring → IsEnd (places_after_all p restoring).sp end → Ending mask text at s
+restoring-ending : (mask : ℕ) (text : List ℕ) (at : ℕ) (restoring end : List ℕ) (p : Places) (s : State)
+    → AreWordsAt text at (restoring ++ end) → AllRestoring restoring → IsEnd (places_after_all p restoring).sp end
+    → Ending mask text at s
 unfolding Ending IsQuietList
 restoring-ending mask text at [] end p s stands restore ends =
     let q = end-quiet p.sp end ends in
@@ -215,7 +231,8 @@ restoring-ending mask text at [] end p s stands restore ends =
 restoring-ending mask text at (word ∷ restoring) end p s stands restore ends =
     let step = restoring-step mask word s restore.0 in
     let rest = restoring-ending mask text (at + 4) restoring end (places_after p word) step.0 stands.1 restore.1 ends in
-    let none : is_branch word ≡ false = not-true (is_branch word) (λ branch. let t = branch-not-restoring word branch in let u = restore.0 in cc) in
+    let none : is_branch word ≡ false = not-true (is_branch word) (λ branch. let t =
+    branch-not-restoring word branch in let u = restore.0 in cc) in
     (suc rest.0, rest.1, (word, stands.0, none, step.0, step.1, rest.2))
 
 pub ends-from : (text : List ℕ) (pc : ℕ) (rule : UnwindRuleAarch64) → IsEpilogueRule text pc rule → EndsFrom text pc

@@ -4,16 +4,17 @@ use Rattle.std.specs.Prelude.{option_map}
 use Rattle.std.proofs.lemmas.Int.{ints}
 use Rattle.std.proofs.lemmas.Nat.{and_assoc}
 use Rattle.std.specs.Int.Bits.{bit_and, and_self}
-use Rattle.framehop_core.specs.Outcome.{above}
+use Rattle.framehop_core.specs.Memory.{Memory}
+use Rattle.framehop_core.specs.Outcome.{answered, above}
 use Rattle.framehop_core.specs.Aarch64.Registers.{Registers, strip_ptr_auth}
-use Rattle.framehop_core.specs.Aarch64.Rules.{nothing_more, kept}
+use Rattle.framehop_core.specs.Aarch64.Rules.{nothing_more, kept, outcome}
 use Rattle.framehop_core.specs.Laws.Aarch64.{IsCaller, caller-answered}
 use Rattle.framehop_core.specs.declared.error.Error.{Error}
 use Rattle.framehop_core.specs.declared.aarch64.unwind_rule.UnwindRuleAarch64.{UnwindRuleAarch64}
 use Rattle.framehop_core.specs.declared.aarch64.unwind_rule.UnwindRuleAarch64.TheVariants.{NoOp, NoOpIfFirstFrameOtherwiseFp, OffsetSp, OffsetSpIfFirstFrameOtherwiseStackEndsHere, OffsetSpAndRestoreLr, OffsetSpAndRestoreFpAndLr, UseFramePointer, UseFramepointerWithOffsets}
 use Rattle.framehop_analysis.specs.Aarch64.Words.{is_store, is_sub_sp, is_pacibsp, addressing, is_indexed, pair_offset, immediate}
 use Rattle.framehop_analysis.specs.Aarch64.Machine.{State, Step, Run, SameAddress, HasRegisters, offset_by}
-use Rattle.framehop_analysis.specs.Aarch64.Prologue.{lowered_by, lowered, IsRun, IsRuleOfDepth, IsPrologueRule, UndoesRun, UndoesPrologue}
+use Rattle.framehop_analysis.specs.Aarch64.Prologue.{lowered_by, lowered, IsRun, IsRuleOfDepth, IsPrologueRule, UndoesPrologue}
 use Rattle.framehop_analysis.specs.Laws.Aarch64.Offsets.{offset_by-fits, offset_by-zero, offset_by-offset_by, offset_by-below}
 use Rattle.framehop_analysis.specs.Laws.Aarch64.Runs.{longest-same}
 
@@ -136,29 +137,48 @@ offset-undoes mask depth x sp r new entry here address mask_is depth_is sp_is fi
       sym lr_is,
     )
 
-undoes-run : (bytes run : List ℕ) (at : ℕ) (rule : UnwindRuleAarch64) → IsRun bytes at run
-    → IsRuleOfDepth (lowered run) rule → UndoesRun run rule
-undoes-run bytes run at NoOp stands made =
-    λ r new entry here address fits ran holds e.
+-- what a rule answers, over an equal memory
+pub at-memory : (rule : UnwindRuleAarch64) (first : Bool) (r new : Registers) (m n : Memory) (address : ℕ) → m ≡ n
+    → outcome rule first r m ≡ answered address new → outcome rule first r n ≡ answered address new
+at-memory rule first r new m n address same e =
+    let P : Memory → Type 0 = λ memory. outcome rule first r memory ≡ answered address new in subst P same e
+
+-- in a first frame
+as-first : (rule : UnwindRuleAarch64) (first : Bool) (r new : Registers) (m : Memory) (address : ℕ) → first ≡ true
+    → outcome rule first r m ≡ answered address new → outcome rule true r m ≡ answered address new
+as-first rule first r new m address is e =
+    let P : Bool → Type 0 = λ b. outcome rule b r m ≡ answered address new in subst P is e
+
+undoes-run : (bytes run : List ℕ) (at : ℕ) (rule : UnwindRuleAarch64) (r new : Registers) (entry here : State)
+    (address : ℕ) → IsRun bytes at run → IsRuleOfDepth (lowered run) rule → entry.sp < 2 ^ 64
+    → Run r.lr_mask run entry here → HasRegisters r here → outcome rule true r here.memory ≡ answered address new
+    → HasRegisters new entry × (new.lr_mask ≡ r.lr_mask) × (address ≡ new.lr)
+undoes-run bytes run at NoOp r new entry here address stands made fits ran holds e =
     offset-undoes r.lr_mask (lowered run) 0 (pos r.sp) r new entry here address refl made (omega (arith, ints)) fits
     (run-lowered r.lr_mask at bytes run entry here stands fits ran) holds
     (caller-answered _ _ _ _ true r here.memory address new e)
-undoes-run bytes run at (OffsetSp x) stands made =
-    λ r new entry here address fits ran holds e.
+undoes-run bytes run at (OffsetSp x) r new entry here address stands made fits ran holds e =
     offset-undoes r.lr_mask (lowered run) (x * 16)
     (above r.sp (x * 16)) r new entry here address refl made.0.0 refl fits
     (run-lowered r.lr_mask at bytes run entry here stands fits ran) holds
     (caller-answered _ _ _ _ true r here.memory address new e)
-undoes-run bytes run at NoOpIfFirstFrameOtherwiseFp stands made = elim made [ ]
-undoes-run bytes run at (OffsetSpIfFirstFrameOtherwiseStackEndsHere x) stands made = elim made [ ]
-undoes-run bytes run at (OffsetSpAndRestoreLr x z) stands made = elim made [ ]
-undoes-run bytes run at (OffsetSpAndRestoreFpAndLr x y z) stands made = elim made [ ]
-undoes-run bytes run at UseFramePointer stands made = elim made [ ]
-undoes-run bytes run at (UseFramepointerWithOffsets x y z) stands made = elim made [ ]
+undoes-run bytes run at NoOpIfFirstFrameOtherwiseFp r new entry here address stands made fits ran holds e =
+    elim made [ ]
+undoes-run bytes run at (OffsetSpIfFirstFrameOtherwiseStackEndsHere x) r new entry here address stands made fits ran
+    holds e = elim made [ ]
+undoes-run bytes run at (OffsetSpAndRestoreLr x z) r new entry here address stands made fits ran holds e = elim made [ ]
+undoes-run bytes run at (OffsetSpAndRestoreFpAndLr x y z) r new entry here address stands made fits ran holds e =
+    elim made [ ]
+undoes-run bytes run at UseFramePointer r new entry here address stands made fits ran holds e = elim made [ ]
+undoes-run bytes run at (UseFramepointerWithOffsets x y z) r new entry here address stands made fits ran holds e =
+    elim made [ ]
 
 pub undoes : (before after : List ℕ) (rule : UnwindRuleAarch64) → IsPrologueRule before after rule
     → UndoesPrologue before rule
-undoes before after rule p run longest =
-    let same : p.run ≡ run = longest-same before p.run run p.longest longest in
-    let P : List ℕ → Type 0 = λ words. UndoesRun words rule in
-    subst P same (undoes-run before p.run (4 * p.longest.start) rule p.longest.stands p.made)
+undoes before after rule p first r new memory address e run longest is entry here fits ran holds same =
+    let at = at-memory rule true r new memory here.memory address (sym same)
+    (as-first rule first r new memory address is e) in
+    let one : run ≡ p.run = longest-same before run p.run longest p.longest in
+    let P : List ℕ → Type 0 = λ words. Run r.lr_mask words entry here in
+    undoes-run before p.run (4 * p.longest.start) rule r new entry here address p.longest.stands p.made fits
+    (subst P one ran) holds at

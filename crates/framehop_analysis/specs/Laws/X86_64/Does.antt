@@ -6,7 +6,6 @@ use Rattle.framehop_core.specs.Outcome.{answered, above, beside, word_from}
 use Rattle.framehop_core.specs.X86_64.Registers.{Registers}
 use Rattle.framehop_core.specs.X86_64.Rules.{Source, nothing_more, kept, stored_at, restored_at, outcome}
 use Rattle.framehop_core.specs.Laws.X86_64.{IsCaller, caller-answered}
-use Rattle.framehop_core.specs.declared.error.Error.{Error}
 use Rattle.framehop_core.specs.declared.x86_64.unwind_rule.UnwindRuleX86_64.{UnwindRuleX86_64}
 use Rattle.framehop_core.specs.declared.x86_64.unwind_rule.UnwindRuleX86_64.TheVariants.{EndOfStack, JustReturn, JustReturnIfFirstFrameOtherwiseFp, OffsetSp, OffsetSpAndRestoreBp, UseFramePointer, OffsetSpAndPopRegisters}
 use Rattle.framehop_analysis.specs.X86_64.Machine.{State, HasRegisters, by_ret, by_jmp_rel8, by_jmp_rel32, by_jmp_rm64, Run, Returns}
@@ -14,12 +13,13 @@ use Rattle.framehop_analysis.specs.X86_64.Epilogue.{ArePops, Popped, none_popped
 use Rattle.framehop_analysis.specs.Laws.Answer.{some-same}
 use Rattle.framehop_analysis.specs.Laws.X86_64.Pops.{pop-low, end-high}
 use Rattle.framehop_analysis.specs.Laws.X86_64.Steps.{step-low, IsSamePop, step-pop}
-use Rattle.framehop_analysis.specs.Laws.X86_64.Undoes.{read-word, IsFound, found}
+use Rattle.framehop_analysis.specs.Laws.X86_64.Undoes.{ok-same, pos-same, read-word, IsFound, found, at-memory}
 
 -- ---- ends
 
 -- what is taken for the end begins with a higher byte than each instruction of the machine
-taken-high : (text : List ℕ) (at : ℕ) → IsTakenForEnd text at → (byte : ℕ) × (slice_get text at ≡ Some byte) × (96 ≤ byte)
+taken-high : (text : List ℕ) (at : ℕ) → IsTakenForEnd text at
+    → (byte : ℕ) × (slice_get text at ≡ Some byte) × (96 ≤ byte)
 taken-high text at (leaves (by_ret there)) = (0xC3, there, omega arith)
 taken-high text at (leaves (by_jmp_rel8 there)) = (0xEB, there, omega arith)
 taken-high text at (leaves (by_jmp_rel32 there)) = (0xE9, there, omega arith)
@@ -88,12 +88,6 @@ none-popped : (pops : List Bool) → (after_pops none_popped pops).count ≡ 0
 none-popped [] e = refl
 none-popped (is_bp ∷ pops) e = let rest = count-after (after_pop none_popped is_bp) pops in absurd (omega arith)
 
-ok-same : (m n : ℕ) → ◌≡◌ {A = Result ℕ Error} (Ok m) (Ok n) → m ≡ n
-ok-same m n e = cc
-
-pos-same : (m n : ℕ) → pos m ≡ pos n → m ≡ n
-pos-same m n e = cc
-
 found-out : (r new : Registers) (here u : State) (p : Popped) (x new_sp new_bp address : ℕ) → HasRegisters r here
     → Tracks here u p → r.rsp + x * 8 ≡ new_sp → x ≡ p.count + 1 → bp_at here p.before_bp ≡ Some new_bp
     → IsFound r new here.memory new_sp new_bp address → Returns u address new
@@ -161,7 +155,8 @@ unfolding bp_at
 start s = record { sp = omega arith; bp = refl; memory = refl }
 
 pub does : (text : List ℕ) (pc : ℕ) (rule : UnwindRuleX86_64) → IsEpilogueRule text pc rule → DoesEpilogue text pc rule
-does text pc rule rest r new here out count end first address stands run taken e =
+does text pc rule rest first r new memory address e here out count end stands same run taken =
+    let e = at-memory rule first r new memory here.memory address (sym same) e in
     let tracked =
     run-out text pc count pc end rest.end _ rest.pops here here out none_popped
     rest.stand rest.ends (start here) run taken in

@@ -1,14 +1,11 @@
 -- Pushes on x86_64, walked backwards from the pc.
-use Rattle.std.proofs.Common.{◌≡◌, ◌⊎◌, inl, inr, ℕ, zero, suc, ◌+◌, ◌-◌, ◌/◌, ◌<◌, ◌≤◌, true, false, nat_eq, List, slice_get, Option, Some, None, refl, sym, ap, ◌∙◌, subst, arith}
-use Rattle.std.proofs.lemmas.Bool.Decides.{nat_tests}
+use Rattle.std.proofs.Common.{◌≡◌, ◌⊎◌, inl, inr, ℕ, zero, suc, ◌+◌, ◌-◌, ◌/◌, ◌<◌, ◌≤◌, true, false, List, slice_get, Option, Some, None, refl, sym, ap, ◌∙◌, subst, arith}
 use Rattle.framehop_core.specs.declared.x86_64.unwind_rule.UnwindRuleX86_64.{UnwindRuleX86_64}
 use Rattle.framehop_analysis.specs.Answer.{IsOnly}
 use Rattle.framehop_analysis.specs.X86_64.Bytes.{is_prefix, is_push}
 use Rattle.framehop_analysis.specs.X86_64.Prologue.{IsPushBytes, plain, prefixed, IsPrefixBefore, IsPushBefore, ArePushes, AreLongestPushes, IsNext, IsRuleOfPushes, IsPrologueRule}
 use Rattle.framehop_analysis.specs.Laws.Answer.{only-map, some-same}
-
-eq-true : (m n : ℕ) → nat_eq m n ≡ true → m ≡ n
-eq-true m n e = grind (arith, nat_tests)
+use Rattle.framehop_analysis.specs.Laws.X86_64.Pops.{eq-true}
 
 -- no byte is both
 push-prefix-apart : (byte : ℕ) → is_push byte ≡ true → is_prefix byte ≡ true → ⊥

@@ -131,7 +131,8 @@ reaches-from text pc rule p = elim (frame-decidable text p.start) [
       record {
         start = p.start - 4;
         count = suc (suc p.count);
-        begins = framed p.count (let R : ℕ → Type 0 = λ at. AreLongestPushes text pc at p.count in subst R back p.longest) frame';
+        begins = framed p.count (let R : ℕ → Type 0 = λ at. AreLongestPushes text pc at p.count in
+            subst R back p.longest) frame';
         run = λ entry. framed-run text p.count (p.start - 4) pc entry frame' (subst Q back p.longest.pushes);
       }
   | inr none ↦ record {

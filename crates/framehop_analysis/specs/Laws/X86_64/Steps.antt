@@ -19,7 +19,8 @@ step-low text at next s t (by_push r (long low high low_fits high_fits first sec
 step-low text at next s t (by_pop r (short fits there next_is) does) = (0x58 + r, there, omega arith, omega arith)
 step-low text at next s t (by_pop r (long low high low_fits high_fits first second next_is r_is) does) =
     (0x40 + high, first, omega arith, omega arith)
-step-low text at next s t (by_move a b move does) = let next_is = move.next_is in (0x48, move.rex, omega arith, omega arith)
+step-low text at next s t (by_move a b move does) = let next_is = move.next_is in
+    (0x48, move.rex, omega arith, omega arith)
 
 pub run-forward : (text : List ℕ) (n at end : ℕ) (s t : State) → Run text n at end s t → at + n ≤ end
 run-forward text zero at end s t (same, e) = omega arith

@@ -93,10 +93,10 @@ run-framed text count (suc (suc n)) start end entry here frame pushes (next, u, 
 
 -- ---- reads
 
-ok-same : (m n : ℕ) → ◌≡◌ {A = Result ℕ Error} (Ok m) (Ok n) → m ≡ n
+pub ok-same : (m n : ℕ) → ◌≡◌ {A = Result ℕ Error} (Ok m) (Ok n) → m ≡ n
 ok-same m n e = cc
 
-pos-same : (m n : ℕ) → pos m ≡ pos n → m ≡ n
+pub pos-same : (m n : ℕ) → pos m ≡ pos n → m ≡ n
 pos-same m n e = cc
 
 pub read-word : (memory : Memory) (z : ℤ) (n word : ℕ) → z ≡ pos n → word_from memory z ≡ Ok word → memory n ≡ Some word
@@ -202,13 +202,21 @@ made-of text pc start count rule p longest =
     let Q : ℕ → Type 0 = λ n. IsRuleOfPushes text start n rule in
     subst Q counts (subst P starts p.made)
 
+-- what a rule answers, over an equal memory
+pub at-memory : (rule : UnwindRuleX86_64) (first : Bool) (r new : Registers) (m n : Memory) (address : ℕ) → m ≡ n
+    → outcome rule first r m ≡ answered address new → outcome rule first r n ≡ answered address new
+at-memory rule first r new m n address same e =
+    let P : Memory → Type 0 = λ memory. outcome rule first r memory ≡ answered address new in subst P same e
+
 pub undoes : (text : List ℕ) (pc : ℕ) (rule : UnwindRuleX86_64) → IsPrologueRule text pc rule
     → UndoesPrologue text pc rule
-undoes text pc rule p start (framed count longest frame) r new entry here n first address run stands e =
+undoes text pc rule p first r new memory address e start (framed count longest frame) entry here n run stands same =
+    let e = at-memory rule first r new memory here.memory address (sym same) e in
     let executed = run-framed text count n start pc entry here frame longest.pushes run in
     rule-undoes text (start + 4) count rule r new entry here first address
     (made-of text pc (start + 4) count rule p longest)
     (with_frame frame executed.0 executed.1 executed.2) stands e
-undoes text pc rule p start (frameless count longest none) r new entry here n first address run stands e =
+undoes text pc rule p first r new memory address e start (frameless count longest none) entry here n run stands same =
+    let e = at-memory rule first r new memory here.memory address (sym same) e in
     rule-undoes text start count rule r new entry here first address (made-of text pc start count rule p longest)
     (alone none (run-pushed text count n start pc entry here longest.pushes run)) stands e

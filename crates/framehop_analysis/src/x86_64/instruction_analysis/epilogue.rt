@@ -1,7 +1,7 @@
 //! The unwind rule inside an epilogue on x86_64.
 //!
-//! The pops from the pc on are counted, up to the end of the function, which is a return or a tail
-//! call.
+//! The pops from the pc on are counted, up to what is taken for the end of the function: a return, or
+//! a tail call.
 ghost use Rattle.std.specs.Prelude.{◌≡◌, ℕ, ◌+◌, ◌-◌, ◌<◌, ◌≤◌, ◌↔◌, Bool, true, length, Some, IsTrue, MatchOption, IfSome, OnSome, if◌then◌else◌};
 ghost use Rattle.framehop_core.specs.X86_64.Rules.{is_executable};
 ghost use Rattle.framehop_analysis.specs.Answer.{IsOnly};
@@ -100,7 +100,8 @@ fn is_end(text_bytes: &[u8], pc_offset: usize, at: usize, pops: usize) -> bool
     is_jump(opcode) && follows_pop(text_bytes, pc_offset, pops)
 }
 
-/// Whether the byte is the first one of a `jmp`.
+/// Whether the byte is taken for the first one of a `jmp`. `FF` also begins `call`, `push` and others,
+/// which the next byte would tell apart.
 fn is_jump(opcode: u8) -> bool
     ensures { result ≡ is_jump opcode }
 {
