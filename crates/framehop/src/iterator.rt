@@ -1,14 +1,12 @@
 //! The iterator over the frames of a stack.
-ghost use Rattle.std.specs.Prelude.{◌≡◌, ◌≢◌, ◌-◌, ◌<◌, IfOk, IfErr, IfSome, IfNone, Ok, Err, None, drop, Option};
+ghost use Rattle.std.specs.Prelude.{◌≡◌, ◌≢◌, IfOk, IfErr, IfSome, IfNone, Ok, Err};
 ghost use Rattle.framehop.specs.Memory.{Memory, AnswersAs};
 ghost use Rattle.framehop.specs.CodeAddress.{location_of};
 ghost use Rattle.framehop.specs.Iterator.{before};
 ghost use Rattle.framehop.specs.UnwindIterator.{unwinder_of, progress_in, regs_of, cache_of, read_stack_of};
-ghost use Rattle.framehop.specs.Unwinding.{Unwinding};
 ghost use Rattle.framehop.specs.Soundness.{AreApart};
 ghost use Rattle.framehop.specs.Modules.{UnwinderView};
 
-use crate::cache::Cache;
 use crate::unwinder::Unwinder;
 use framehop_core::{Error, FrameAddress};
 

@@ -1,7 +1,6 @@
 //! Modules that are loaded in a process, and unwinding by their unwind data.
 ghost use Rattle.std.specs.Prelude.{◌≡◌, ◌≢◌, ◌+◌, ◌-◌, ◌<◌, true, IfOk, IfErr, SomeIff, IsTrue, is_some, option_map, ℕ, List, Ok, Err, None, string_bytes, Option};
 ghost use Rattle.framehop.specs.Memory.{Memory, AnswersAs};
-ghost use Rattle.framehop.specs.CodeAddress.{is_first_frame};
 ghost use Rattle.framehop.specs.Unwinding.{Unwinding, answer_by, takes_memory_by};
 ghost use Rattle.framehop.specs.CallFrames.{frames_with_header, frames_answer, fde_answer, fde_offset_of};
 ghost use Rattle.framehop.specs.UnwindData.{unwind_data_of, placed_data};
@@ -13,20 +12,16 @@ ghost use Rattle.framehop.specs.Answer.{fresh_of};
 ghost use Rattle.framehop_pe.specs.Sections.{sections_of, placed_of};
 ghost use Rattle.framehop.specs.ModuleData.{unwind_data_in};
 ghost use Rattle.framehop.specs.Told.{out_of_memory, TellsAnswer, TellsValues, WritesWithAddress, RuleHas};
-ghost use Rattle.framehop_cache.specs.Cache.{found};
 ghost use Rattle.framehop.specs.Modules.{ModuleView, starts_by, covers};
 
 use crate::cache::AllocationPolicy;
 use crate::unwind_data::{CompactInfo, IndexedFrames, ModuleUnwindDataInternal};
 use crate::unwinder::Unwinding;
-use framehop_cache::generations::Generations;
 use framehop_cfi::context::UnwindContext;
 use framehop_cfi::entry::UnwindSectionType;
 use framehop_cfi::pointer::BaseAddresses;
 use framehop_cfi::section::{ModuleSectionInfo, SectionBytes};
-use framehop_core::Error;
 use framehop_core::unwind_result::UnwindResult;
-use framehop_core::unwind_rule::UnwindRule;
 use framehop_dwarf::dwarf::DwarfUnwinderError;
 use framehop_dwarf::unwinder::DwarfUnwinder;
 use framehop_macho::macho::{

@@ -1,6 +1,6 @@
 //! Lists of commands over unwinders that share caches.
 ghost use Rattle.std.specs.Prelude.{◌≡◌, ◌≢◌, ◌+◌, ◌≤◌, map, IfOk, IfErr, length};
-ghost use Rattle.framehop.specs.Memory.{Memory as StackMemory, AnswersAs, reply};
+ghost use Rattle.framehop.specs.Memory.{Memory as StackMemory, AnswersAs};
 ghost use Rattle.framehop.specs.SessionView.{result_view, reply_view};
 ghost use Rattle.framehop.specs.World.{empty_world, world_replies};
 ghost use Rattle.framehop.specs.Soundness.{AreApart};

@@ -1,5 +1,5 @@
 //! The unwind data of a module: which of its sections are taken, and what is kept of them.
-ghost use Rattle.std.specs.Prelude.{◌≡◌, ◌+◌, ◌-◌, ◌<◌, IfOk, IfErr, codes, option_map, ℕ, Ok, Err, None, Option};
+ghost use Rattle.std.specs.Prelude.{◌≡◌, IfOk, IfErr, codes, option_map, ℕ, Ok, Err, None, Option};
 ghost use Rattle.framehop.specs.UnwindData.{unwind_data_of, placed_data};
 ghost use Rattle.framehop.specs.TextData.{text_data};
 ghost use Rattle.framehop.specs.Modules.{compact_info};
@@ -8,7 +8,6 @@ ghost use Rattle.framehop_dwarf.specs.Bases.{base_addresses_of};
 ghost use Rattle.framehop.specs.ModuleData.{ask_either, with_eh_frame, with_index, by_eh_frame, call_frame_data, pdata_data, ask, placed_in, relative_range, range_or_empty, text_or, text_in, with_unwind_info, unwind_data_in};
 ghost use Rattle.framehop_cfi.specs.Section.{section_of};
 ghost use Rattle.framehop_dwarf.specs.Bases.{section_in};
-ghost use Rattle.framehop_cache.specs.Cache.{found};
 
 use crate::modules::ModuleListError;
 use framehop_cfi::entry::UnwindSectionType;

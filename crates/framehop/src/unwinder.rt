@@ -9,7 +9,6 @@ ghost use Rattle.framehop.specs.Unwinding.{Unwinding, Words, answer_by, takes_me
 ghost use Rattle.framehop.specs.Meaning.{Meanings, MeansAt};
 ghost use Rattle.framehop_cfi.specs.Row.{Row};
 ghost use Rattle.framehop_analysis.specs.Answer.{Does};
-ghost use Rattle.framehop_macho.specs.Unwinder.{unwound};
 ghost use Rattle.framehop_pe.specs.Sections.{Sections};
 ghost use Rattle.framehop.specs.Told.{out_of_memory, is_of_row_values, is_of_pe_values, is_of_values, TellsFresh, TellsFreshValues, WritesComputed, AnswerHas, IsAnswerOf};
 ghost use Rattle.framehop.specs.Policy.{Policy};

@@ -1,11 +1,9 @@
 //! Commands of a session, and the replies to them.
-ghost use Rattle.std.specs.Prelude.{◌≡◌, ◌+◌};
+ghost use Rattle.std.specs.Prelude.{◌≡◌};
 ghost use Rattle.framehop.specs.Memory.{reply};
 ghost use Rattle.framehop.specs.World.{memory_of};
-ghost use Rattle.framehop.specs.Fresh.{step};
 
 use crate::unwinder::Module;
-use framehop_cache::generations::Generations;
 use framehop_cache::rule_cache::CacheStats;
 use framehop_cfi::section::SectionBytes;
 use framehop_core::{Error, FrameAddress};

@@ -8,7 +8,6 @@ ghost use Rattle.framehop.specs.World.{memory_of};
 ghost use Rattle.framehop.specs.Walk.{walk_from, cache_after_walk};
 ghost use Rattle.framehop.specs.Soundness.{IsSound, AreApart, MayRunOut, cache_after};
 ghost use Rattle.framehop.specs.CachedWorld.{step_of};
-ghost use Rattle.framehop.specs.Fresh.{step};
 ghost use Rattle.framehop.specs.Modules.{UnwinderView};
 ghost use Rattle.framehop.specs.CodeAddress.{FrameLocation, location_of};
 ghost use Rattle.framehop.specs.Outcome.{Outcome, answer_of, registers_after};

@@ -1,7 +1,6 @@
 //! Unwinders with the caches that they share, and the commands over them.
 ghost use Rattle.std.specs.Prelude.{◌≡◌, ◌+◌, ◌≤◌, ℕ, [], replicate, IfOk, IfErr};
 ghost use Rattle.framehop.specs.CachedWorld.{CachedWorld, state_of};
-ghost use Rattle.framehop.specs.Fresh.{step};
 ghost use Rattle.framehop.specs.Transparent.{IsTransparent, Serves};
 ghost use Rattle.framehop_cache.specs.Cache.{empty_cache};
 
