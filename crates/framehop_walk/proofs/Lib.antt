@@ -1,4 +1,6 @@
 pub mod Hexadecimal
+pub mod Items
 pub mod Lines
 pub mod NamedSections
 pub mod Readings
+pub mod Tables
