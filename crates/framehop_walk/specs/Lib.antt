@@ -2,6 +2,7 @@
 pub mod Commands
 pub mod Fields
 pub mod Numbers
+pub mod Program
 pub mod Reading
 pub mod Refusals
 pub mod Registers
