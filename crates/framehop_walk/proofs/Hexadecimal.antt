@@ -1,12 +1,12 @@
 -- Texts of at most sixteen hexadecimal digits.
-use Rattle.std.proofs.Common.{◌≡◌, ◌≢◌, ℕ, ◌<◌, ◌≤◌, ◌^◌, List, length, drop, get_or, cond, Some, sym, ◌∙◌, Result, Ok, Err, ap, subst, arith, inl, inr, SomeIff, lit<}
+use Rattle.std.proofs.Common.{◌≡◌, ◌≢◌, ℕ, ◌<◌, ◌≤◌, ◌^◌, ◌&&◌, Bool, true, false, List, [], ◌∷◌, length, drop, get_or, cond, Option, Some, None, nat_lt, nat_le, if◌then◌else◌, refl, sym, ◌∙◌, Result, Ok, Err, ap, subst, arith, inl, inr, SomeIff, lit<}
 use Rattle.std.specs.Result.{OkIff, result_ok}
-use Rattle.serde_json.specs.Data.{Data}
-use Rattle.serde_json.specs.Find.{get}
-use Rattle.framehop_walk.specs.Fields.{IsAddress, IsAddressField}
-use Rattle.std.specs.Str.Parse.{IsNumeral, digits_value, without_leading_plus}
+use Rattle.std.specs.Char.{digit_value}
+use Rattle.framehop_walk.specs.Fields.{all_digits, hexadecimal}
+use Rattle.std.specs.Str.Parse.{AllDigits, IsNumeral, digits_value, without_leading_plus}
 use Rattle.std.proofs.Math.Nat.{pow-le-pow_right}
 use Rattle.std.proofs.lemmas.Int.Digits.{digits_value-lt}
+use Rattle.std.proofs.lemmas.Bool.{and_parts, and_from, ltb-true, leb-true, lt-ltb, le-leb}
 use Rattle.std.proofs.lemmas.Bool.Decides.{eqb_tells}
 
 -- a text that doesn't begin with a plus has none to leave out
@@ -38,12 +38,33 @@ parsed-short digits result parsed plain short =
     let P : List ℕ → Type 0 = λ ds. OkIff result (IsNumeral 16 ds × (digits_value 16 ds < 2 ^ 64)) (digits_value 16 ds) in
     answer digits result (subst P (without_leading_plus-none digits plain) parsed) short
 
-some-same : (a b : Data) → Some a ≡ Some b → a ≡ b
-some-same a b same = cc
+all_digits-AllDigits : (digits : List ℕ) → all_digits digits ≡ true → AllDigits 16 digits
+all_digits-AllDigits [] h = tt
+all_digits-AllDigits (c ∷ cs) h =
+    let both = and_parts (nat_lt (digit_value c) 16) (all_digits cs) h in
+    (ltb-true (digit_value c) 16 both.0, all_digits-AllDigits cs both.1)
 
--- a field whose value is no address
-pub address_field-none : (name : List ℕ) (fields value : Data) → get name fields ≡ Some value → ((number : ℕ) → IsAddress value number → ⊥)
-    → (number : ℕ) → IsAddressField name fields number → ⊥
-address_field-none name fields value stands none number field =
-    let same : field.value ≡ value = some-same field.value value (sym field.stands ∙ stands) in
-    none number (subst (λ v. IsAddress v number) same field.is_address)
+AllDigits-all_digits : (digits : List ℕ) → AllDigits 16 digits → all_digits digits ≡ true
+AllDigits-all_digits [] h = refl
+AllDigits-all_digits (c ∷ cs) h =
+    and_from (nat_lt (digit_value c) 16) (all_digits cs) (lt-ltb (digit_value c) 16 h.0) (AllDigits-all_digits cs h.1)
+
+chosen : (b : Bool) (P : Type 0) (number : ℕ) (found : Option ℕ) → (b ≡ true → P) → (P → b ≡ true) → SomeIff found P number
+    → found ≡ (if b then Some number else None)
+chosen true P number (Some n) to from h = ap (λ k. Some k) h.1
+chosen true P number None to from h = absurd (h (to refl))
+chosen false P number (Some n) to from h = let no : ⊥ = let e = from h.0 in cc in absurd no
+chosen false P number None to from h = refl
+
+-- the number of a text of digits is its one value
+pub hexadecimal-is : (digits : List ℕ) (found : Option ℕ) → SomeIff found (IsNumeral 16 digits × (length digits ≤ 16)) (digits_value 16 digits)
+    → found ≡ hexadecimal digits
+unfolding hexadecimal
+hexadecimal-is digits found h =
+    let some = nat_lt 0 (length digits) in let short = nat_le (length digits) 16 in
+    chosen ((some && short) && all_digits digits) (IsNumeral 16 digits × (length digits ≤ 16)) (digits_value 16 digits) found
+    (λ e. let a = and_parts (some && short) (all_digits digits) e in let b = and_parts some short a.0 in
+    ((ltb-true 0 (length digits) b.0, all_digits-AllDigits digits a.1), leb-true (length digits) 16 b.1))
+    (λ p. and_from (some && short) (all_digits digits)
+    (and_from some short (lt-ltb 0 (length digits) p.0.0) (le-leb (length digits) 16 p.1)) (AllDigits-all_digits digits p.0.1))
+    h

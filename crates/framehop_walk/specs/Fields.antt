@@ -1,38 +1,58 @@
 -- The fields of a JSON object, each of one kind.
-use Rattle.std.specs.Prelude.{◌≡◌, ℕ, ◌≤◌, List, length, Option, Some, option_and_then}
-use Rattle.serde_json.specs.Data.{Data, Items}
-use Rattle.serde_json.specs.Find.{get, as_number, as_str, as_array, as_u64}
-use Rattle.std.specs.Str.Parse.{IsNumeral, digits_value}
-use Rattle.framehop_walk.specs.declared.refusal.Refusal.{Refusal}
-use Rattle.framehop_walk.specs.declared.refusal.Refusal.TheVariants.{BadField}
+use Rattle.std.specs.Prelude.{ℕ, ◌&&◌, List, [], ◌∷◌, ◌++◌, length, nat_le, nat_lt, Bool, true, if◌then◌else◌, Option, Some, None, Ok, Err, is_some, option_map, option_and_then}
+use Rattle.std.specs.Char.{digit_value}
+use Rattle.std.specs.Str.Parse.{digits_value}
+use Rattle.serde_json.specs.Data.{Data, Items, no_items, item}
+use Rattle.serde_json.specs.Find.{get, as_number, as_str, as_array, as_object, as_u64}
+use Rattle.framehop_walk.specs.Refusals.{Reading, bad_field, and_then}
 
--- the refusal that names this field
-abbrev pub IsBadField : List ℕ → Refusal → Type 0
-IsBadField name (BadField field) = field.now ≡ name
-IsBadField name _ = ⊥
+-- each byte is a hexadecimal digit, of either case
+abbrev pub all_digits : List ℕ → Bool
+all_digits [] = true
+all_digits (c ∷ cs) = nat_lt (digit_value c) 16 && all_digits cs
 
--- a field that is a text, a list, a whole number below 2^64
-abbrev pub text_field : List ℕ → Data → Option (List ℕ)
-text_field name fields = option_and_then as_str (get name fields)
+-- the number of 1 to 16 hexadecimal digits
+unfoldable pub hexadecimal : List ℕ → Option ℕ
+hexadecimal digits =
+    if nat_lt 0 (length digits) && nat_le (length digits) 16 && all_digits digits
+    then Some (digits_value 16 digits) else None
 
-abbrev pub list_field : List ℕ → Data → Option Items
-list_field name fields = option_and_then as_array (get name fields)
+-- the kinds of values: an address, a register or a word; a whole number below 2^64; an object
+unfoldable pub address : Data → Option ℕ
+address value = option_and_then hexadecimal (as_str value)
 
-abbrev pub count_field : List ℕ → Data → Option ℕ
-count_field name fields = option_and_then as_u64 (option_and_then as_number (get name fields))
+abbrev pub whole_number : Data → Option ℕ
+whole_number value = option_and_then as_u64 (as_number value)
 
--- a text of 1 to 16 hexadecimal digits, of either case, that write this number
-abbrev pub IsHexadecimal : List ℕ → ℕ → Type 0
-IsHexadecimal text number = IsNumeral 16 text × (length text ≤ 16) × (digits_value 16 text ≡ number)
+abbrev pub group : Data → Option Data
+group value = if is_some (as_object value) then Some value else None
 
--- the value is such a text
-pub record IsAddress (value : Data) (number : ℕ) : Type 0 where
-  pub text : List ℕ
-  pub is_text : as_str value ≡ Some text
-  pub writes : IsHexadecimal text number
+-- a value that is asked for under this name
+abbrev pub required : {A : Type 0} → List ℕ → Option A → Reading A
+required name None = Err (bad_field name)
+required name (Some value) = Ok value
 
--- the field is such a text
-pub record IsAddressField (name : List ℕ) (fields : Data) (number : ℕ) : Type 0 where
-  pub value : Data
-  pub stands : get name fields ≡ Some value
-  pub is_address : IsAddress value number
+-- a field of this kind
+unfoldable pub field_as : {A : Type 0} → (Data → Option A) → List ℕ → Data → Reading A
+field_as kind name fields = and_then (required name (get name fields)) (λ value. required name (kind value))
+
+-- the same of a field that may be left out
+abbrev pub optional : {A : Type 0} → (Data → Option A) → List ℕ → Option Data → Reading (Option A)
+optional kind name None = Ok None
+optional kind name (Some value) = required name (option_map (λ x. Some x) (kind value))
+
+unfoldable pub optional_field_as : {A : Type 0} → (Data → Option A) → List ℕ → Data → Reading (Option A)
+optional_field_as kind name fields = optional kind name (get name fields)
+
+-- the items of a list, each read after those that are read already
+unfoldable pub each : {A : Type 0} → (List A → Data → Reading A) → List A → Items → Reading (List A)
+each read done no_items = Ok done
+each read done (item value items) = and_then (read done value) (λ next. each read (done ++ next ∷ []) items)
+
+-- a whole number below another one
+abbrev pub below : ℕ → ℕ → Option ℕ
+below limit number = if nat_lt number limit then Some number else None
+
+-- the field is a whole number below another one
+unfoldable pub field_below : ℕ → List ℕ → Data → Reading ℕ
+field_below limit name fields = and_then (field_as whole_number name fields) (λ number. required name (below limit number))

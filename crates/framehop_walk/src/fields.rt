@@ -1,11 +1,12 @@
 //! Fields of a JSON object, each of one kind.
 // Reads the fields of JSON objects. A field that is missing or of another kind is refused by its
 // name.
-ghost use Rattle.std.specs.Prelude.{◌≡◌, ◌≤◌, length, SomeIff, ℕ, MatchOption, MatchResult, Some, None};
-ghost use Rattle.serde_json.specs.Find.{get};
+ghost use Rattle.std.specs.Prelude.{◌≡◌, ◌≤◌, length, SomeIff};
+ghost use Rattle.serde_json.specs.Find.{get, as_str, as_array};
 ghost use Rattle.serde_json.specs.View.{view, items_view, members_view};
 ghost use Rattle.framehop_walk.specs.Numbers.{has_bad_number, any_bad_item, any_bad_member};
-ghost use Rattle.framehop_walk.specs.Fields.{IsBadField, text_field, list_field, count_field, IsAddress, IsAddressField};
+ghost use Rattle.framehop_walk.specs.Refusals.{told, reading_of};
+ghost use Rattle.framehop_walk.specs.Fields.{required, field_as, optional_field_as, whole_number, group as group_of, address};
 ghost use Rattle.std.specs.Str.Parse.{IsNumeral, digits_value};
 
 use crate::refusal::Refusal;
@@ -14,9 +15,8 @@ use serde_json::{Map, Value};
 const MAX_DIGITS: usize = 16;
 
 pub fn field<'v>(object: &'v Value, name: &'static str) -> Result<&'v Value, Refusal>
-    ensures { MatchResult result
-        (λ value. get name.entry.now (view object.entry.now) ≡ Some (view value.now))
-        (λ refusal. IsBadField name.entry.now refusal × (get name.entry.now (view object.entry.now) ≡ None)) }
+    ensures { reading_of (λ value. view value.now) result
+        ≡ required name.entry.now (get name.entry.now (view object.entry.now)) }
 {
     match object.get(name) {
         Some(value) => Ok(value),
@@ -25,10 +25,9 @@ pub fn field<'v>(object: &'v Value, name: &'static str) -> Result<&'v Value, Ref
 }
 
 /// A field that is a text.
+#[tactic(auto, unfolding(crate::specs::Fields::field_as))]
 pub fn text<'v>(object: &'v Value, name: &'static str) -> Result<&'v str, Refusal>
-    ensures { MatchResult result
-        (λ text. text_field name.entry.now (view object.entry.now) ≡ Some text.now)
-        (λ refusal. IsBadField name.entry.now refusal × (text_field name.entry.now (view object.entry.now) ≡ None)) }
+    ensures { reading_of (λ text. text.now) result ≡ field_as as_str name.entry.now (view object.entry.now) }
 {
     match field(object, name)?.as_str() {
         Some(text) => Ok(text),
@@ -37,10 +36,10 @@ pub fn text<'v>(object: &'v Value, name: &'static str) -> Result<&'v str, Refusa
 }
 
 /// A field that is a list.
+#[tactic(auto, unfolding(crate::specs::Fields::field_as))]
 pub fn list<'v>(object: &'v Value, name: &'static str) -> Result<&'v Vec<Value>, Refusal>
-    ensures { MatchResult result
-        (λ list. list_field name.entry.now (view object.entry.now) ≡ Some (items_view list.now.items))
-        (λ refusal. IsBadField name.entry.now refusal × (list_field name.entry.now (view object.entry.now) ≡ None)) }
+    ensures { reading_of (λ list. items_view list.now.items) result
+        ≡ field_as as_array name.entry.now (view object.entry.now) }
 {
     match field(object, name)?.as_array() {
         Some(list) => Ok(list),
@@ -49,7 +48,11 @@ pub fn list<'v>(object: &'v Value, name: &'static str) -> Result<&'v Vec<Value>,
 }
 
 /// A field that is an object.
-pub fn group<'v>(object: &'v Value, name: &'static str) -> Result<&'v Value, Refusal> {
+#[tactic(auto, unfolding(crate::specs::Fields::field_as))]
+pub fn group<'v>(object: &'v Value, name: &'static str) -> Result<&'v Value, Refusal>
+    ensures { reading_of (λ value. view value.now) result
+        ≡ field_as group_of name.entry.now (view object.entry.now) }
+{
     let inner = field(object, name)?;
     if !inner.is_object() {
         return Err(Refusal::BadField(name));
@@ -58,10 +61,9 @@ pub fn group<'v>(object: &'v Value, name: &'static str) -> Result<&'v Value, Ref
 }
 
 /// A whole number below 2^64.
+#[tactic(auto, unfolding(crate::specs::Fields::field_as))]
 pub fn count(object: &Value, name: &'static str) -> Result<u64, Refusal>
-    ensures { MatchResult result
-        (λ number. count_field name.entry.now (view object.now) ≡ Some number)
-        (λ refusal. IsBadField name.entry.now refusal × (count_field name.entry.now (view object.now) ≡ None)) }
+    ensures { told result ≡ field_as whole_number name.entry.now (view object.now) }
 {
     match field(object, name)?.as_u64() {
         Some(number) => Ok(number),
@@ -71,19 +73,15 @@ pub fn count(object: &Value, name: &'static str) -> Result<u64, Refusal>
 
 /// The number of an unwinder or a cache.
 pub fn number(object: &Value, name: &'static str) -> Result<usize, Refusal>
-    ensures { MatchResult result
-        (λ number. count_field name.entry.now (view object.now) ≡ Some number)
-        (λ refusal. IsBadField name.entry.now refusal × (count_field name.entry.now (view object.now) ≡ None)) }
+    ensures { told result ≡ field_as whole_number name.entry.now (view object.now) }
 {
     Ok(count(object, name)? as usize)
 }
 
 /// An address, a register or a word: a text of hexadecimal digits.
+#[tactic(auto, unfolding(crate::specs::Fields::field_as))]
 pub fn hexadecimal(object: &Value, name: &'static str) -> Result<u64, Refusal>
-    ensures { MatchResult result
-        (λ number. IsAddressField name.entry.now (view object.now) number)
-        (λ refusal. IsBadField name.entry.now refusal
-        × ((number : ℕ) → IsAddressField name.entry.now (view object.now) number → ⊥)) }
+    ensures { told result ≡ field_as address name.entry.now (view object.now) }
 {
     match hexadecimal_value(field(object, name)?) {
         Some(number) => Ok(number),
@@ -92,7 +90,10 @@ pub fn hexadecimal(object: &Value, name: &'static str) -> Result<u64, Refusal>
 }
 
 /// An address that may be left out.
-pub fn optional_hexadecimal(object: &Value, name: &'static str) -> Result<Option<u64>, Refusal> {
+#[tactic(auto, unfolding(crate::specs::Fields::optional_field_as))]
+pub fn optional_hexadecimal(object: &Value, name: &'static str) -> Result<Option<u64>, Refusal>
+    ensures { told result ≡ optional_field_as address name.entry.now (view object.now) }
+{
     match object.get(name) {
         None => Ok(None),
         Some(value) => match hexadecimal_value(value) {
@@ -102,10 +103,10 @@ pub fn optional_hexadecimal(object: &Value, name: &'static str) -> Result<Option
     }
 }
 
+/// The number of a text of hexadecimal digits.
+#[tactic(auto, unfolding(crate::specs::Fields::address))]
 pub fn hexadecimal_value(value: &Value) -> Option<u64>
-    ensures { MatchOption result
-        ((number : ℕ) → IsAddress (view value.now) number → ⊥)
-        (λ number. IsAddress (view value.now) number) }
+    ensures { result ≡ address (view value.now) }
 {
     match value.as_str() {
         Some(text) => parse_hexadecimal(text),

@@ -1,8 +1,13 @@
 //! The whole run of the program, over a reader and two writers.
-ghost use Rattle.std.specs.Prelude.{◌≡◌, ◌≢◌, ◌≤◌, IfOk, IfErr, OnOk, IfSome, true, false, Some, None, Err, IsUtf8};
-ghost use Rattle.std.specs.Io.KnownBytes.{Keeps};
+ghost use Rattle.std.specs.Prelude.{◌≡◌, ◌≢◌, ◌≤◌, ◌^◌, IfOk, IfErr, OnOk, IfSome, true, false, Some, None, Err, map, codes, string_bytes, IsUtf8};
+ghost use Rattle.std.specs.Io.KnownBytes.{Keeps, Appends};
 ghost use Rattle.serde_json.specs.Read.{read};
 ghost use Rattle.serde_json.specs.View.{view};
+ghost use Rattle.framehop.specs.CachedWorld.{cached_replies, empty_cached_world};
+ghost use Rattle.framehop.specs.SessionView.{reply_view};
+ghost use Rattle.framehop_walk.specs.Refusals.{told, reading_of, refusal_status};
+ghost use Rattle.framehop_walk.specs.Fields.{field_below};
+ghost use Rattle.framehop_walk.specs.Program.{lines_of, printed};
 ghost use Rattle.framehop_walk.specs.Numbers.{has_bad_number as has_bad};
 ghost use Rattle.framehop_walk.specs.Reading.{IsAccepted};
 
@@ -13,13 +18,13 @@ use crate::refusal::Refusal;
 use crate::registers::Registers;
 use crate::replies::print_reply;
 use framehop::aarch64::ArchAarch64;
-use framehop::session::run;
+use framehop::session::{Command, Reply, run};
 use framehop::x86_64::ArchX86_64;
 use framehop::{
     AllocationPolicy, Generations, MayAllocateDuringUnwind, MustNotAllocateDuringUnwind,
 };
 use serde_json::Value;
-use std::alloc::Global;
+use std::alloc::{AllocError, Global};
 use std::io;
 use std::io::{Read, Write};
 
@@ -35,6 +40,7 @@ pub fn walk_program<R: Read, W: Write, E: Write>(
     ensures read { result ≡ 0 → IfSome (R.remaining input.old) IsAccepted }
     ensures refused { result ≢ 0 → out.new.has_failed ≡ false
         → Keeps (W.contents out.old.writer) (W.contents out.new.writer) }
+    ensures noted { result ≡ 0 → out.new.has_failed ≡ out.old.has_failed }
     ensures status { result ≤ 2 }
 {
     match replies_to_input(alloc, input) {
@@ -49,15 +55,16 @@ pub fn walk_program<R: Read, W: Write, E: Write>(
 /// Writes the line of a refusal, and returns its exit status. Where the line can't be written
 /// there is none.
 pub fn refuse<E: Write>(err: &mut E, refusal: Refusal) -> u8
-    ensures refused { result ≢ 0 }
-    ensures status { result ≤ 2 }
+    ensures { result ≡ refusal_status refusal }
 {
     let _ = writeln!(err, "framehop-walk: {refusal}");
     refusal.status()
 }
 
 fn write_whole<W: Write>(out: &mut Output<W>, text: &[u8]) -> io::Result<()>
-    ensures { IfErr result (λ _. out.new.has_failed ≡ true) }
+    ensures failed { IfErr result (λ _. out.new.has_failed ≡ true) }
+    ensures noted { OnOk result (out.new.has_failed ≡ out.old.has_failed) }
+    ensures written { OnOk result (Appends (W.contents out.old.writer) (W.contents out.new.writer) text.now) }
 {
     out.write_all(text)?;
     out.flush()
@@ -129,26 +136,67 @@ fn replies_under<A: Registers, P: AllocationPolicy>(
     alloc: Global,
     value: &Value,
 ) -> Result<String, Refusal> {
-    let Ok(cache_count) = u16::try_from(count(value, "caches")?) else {
-        return Err(Refusal::BadField("caches"));
-    };
+    let cache_count = read_caches(value)?;
+    let (verbs, commands) = read_commands::<A>(alloc, list(value, "commands")?)?;
+    run_commands::<A, P>(alloc, &verbs, commands, usize::from(cache_count))
+}
+
+/// Reads the field `caches`.
+#[tactic(auto, unfolding(crate::specs::Fields::field_below))]
+fn read_caches(value: &Value) -> Result<u16, Refusal>
+    ensures { told result ≡ field_below (2 ^ 16) (codes "caches") (view value.now) }
+{
+    match u16::try_from(count(value, "caches")?) {
+        Ok(cache_count) => Ok(cache_count),
+        Err(_) => Err(Refusal::BadField("caches")),
+    }
+}
+
+/// Reads the commands, and returns them with their fields `do`.
+fn read_commands<'v, A: Registers>(
+    alloc: Global,
+    items: &'v Vec<Value>,
+) -> Result<(Vec<&'v str>, Vec<Command<Vec<u8>, A::UnwindRegs>>), Refusal> {
     let mut verbs = Vec::new(alloc);
     let mut commands = Vec::new(alloc);
-    for command in list(value, "commands")? {
+    for command in items {
         let verb = text(command, "do")?;
         commands.push(read_command::<A>(alloc, verb, command)?)?;
         verbs.push(verb)?;
     }
+    Ok((verbs, commands))
+}
+
+/// Carries out the commands over so many caches, and returns the lines of their replies.
+fn run_commands<A: Registers, P: AllocationPolicy>(
+    alloc: Global,
+    verbs: &Vec<&str>,
+    commands: Vec<Command<Vec<u8>, A::UnwindRegs>>,
+    cache_count: usize,
+) -> Result<String, Refusal>
+    ensures { result ≢ Err Refusal.OutOfMemory → reading_of (λ text. string_bytes text) result
+        ≡ printed A.text (map (λ verb. verb.now) verbs.now.items)
+        (cached_replies (A.unwinding P.policy) (empty_cached_world cache_count 0) commands.items) }
+{
     let mut generations = Generations::new();
-    let replies = run::<Vec<u8>, A, P>(
-        alloc,
-        commands,
-        usize::from(cache_count),
-        &mut generations,
-    )?;
+    let replies = run::<Vec<u8>, A, P>(alloc, commands, cache_count, &mut generations)?;
+    Ok(print_replies::<A>(alloc, verbs, &replies)?)
+}
+
+/// The lines of the replies to commands of these verbs.
+fn print_replies<A: Registers>(
+    alloc: Global,
+    verbs: &Vec<&str>,
+    replies: &Vec<Reply<A::UnwindRegs>>,
+) -> Result<String, AllocError>
+    ensures { IfOk result (λ text. string_bytes text
+        ≡ lines_of A.text (map (λ verb. verb.now) verbs.now.items) (map reply_view replies.now.items)) }
+{
     let mut out = String::new(alloc);
-    for (verb, reply) in verbs.iter().zip(replies.iter()) {
-        print_reply::<A>(*verb, reply, &mut out)?;
+    for (i, reply) in replies.iter().enumerate() {
+        if let Some(verb) = verbs.get(i) {
+            print_reply::<A>(*verb, reply, &mut out)?;
+        }
     }
     Ok(out)
 }

@@ -1,56 +1,70 @@
 //! Why a run is refused: its line and its exit status.
-ghost use Rattle.std.specs.Prelude.{◌≢◌, ◌≤◌};
+ghost use Rattle.std.specs.Prelude.{◌≡◌, Some};
+ghost use Rattle.std.specs.IoError.{error_kind};
+ghost use Rattle.framehop_walk.specs.Refusals.{refusal_text, refusal_status, of_session, of_kind};
+ghost use Rattle.framehop_walk.specs.declared.refusal.Refusal.TheVariants.{OutOfMemory};
 
 use framehop::session::SessionError;
 use std::alloc::{AllocError, AllocFailed};
-use std::io;
+use std::{error, fmt, io};
 
 /// Why a run of the program was refused. The text is that of its error line, after the
 /// program's name.
-#[derive(Clone, Copy, Debug, thiserror::Error)]
+#[derive(Clone, Copy, Debug)]
 pub enum Refusal {
     /// There is more than one argument.
-    #[error("usage: framehop-walk [FILE]")]
     Usage,
 
     /// The file could not be opened, or a read failed.
-    #[error("cannot read input")]
     CannotReadInput,
 
     /// The input is no JSON text.
-    #[error("input refused: not JSON")]
     NotJson,
 
     /// A number of the input is no whole number of 64 bits.
-    #[error("input refused: bad number")]
     BadNumber,
 
     /// The first field that is missing or wrong.
-    #[error("input refused: bad field {0}")]
     BadField(&'static str),
 
     /// A command names an unwinder that was not made.
-    #[error("input refused: no such unwinder")]
     NoSuchUnwinder,
 
     /// A command names a cache that the input does not ask for.
-    #[error("input refused: no such cache")]
     NoSuchCache,
 
     /// An allocation failed.
-    #[error("out of memory")]
     OutOfMemory,
 
     /// The counter of generations is at its end.
-    #[error("generations exhausted")]
     GenerationsExhausted,
 }
+
+#[tactic(auto, unfolding(crate::specs::Refusals::bad_field))]
+impl fmt::Display for Refusal {
+    ghost output = { λ refusal. Some (refusal_text refusal) };
+
+    fn fmt<W: fmt::Write>(&self, f: &mut fmt::Formatter<W>) -> fmt::Result {
+        match self {
+            Refusal::Usage => write!(f, "usage: framehop-walk [FILE]"),
+            Refusal::CannotReadInput => write!(f, "cannot read input"),
+            Refusal::NotJson => write!(f, "input refused: not JSON"),
+            Refusal::BadNumber => write!(f, "input refused: bad number"),
+            Refusal::BadField(name) => write!(f, "input refused: bad field {name}"),
+            Refusal::NoSuchUnwinder => write!(f, "input refused: no such unwinder"),
+            Refusal::NoSuchCache => write!(f, "input refused: no such cache"),
+            Refusal::OutOfMemory => write!(f, "out of memory"),
+            Refusal::GenerationsExhausted => write!(f, "generations exhausted"),
+        }
+    }
+}
+
+impl error::Error for Refusal {}
 
 impl Refusal {
     /// The exit status of the refused run: 2 where the machine was too small for it, else 1.
     pub fn status(self) -> u8
-        ensures refused { result ≢ 0 }
-        ensures small { result ≤ 2 }
+        ensures { result ≡ refusal_status self }
     {
         match self {
             Refusal::OutOfMemory | Refusal::GenerationsExhausted => 2,
@@ -60,18 +74,24 @@ impl Refusal {
 }
 
 impl From<AllocError> for Refusal {
+    ghost from_gives = { λ _ refusal. refusal ≡ OutOfMemory };
+
     fn from(_error: AllocError) -> Refusal {
         Refusal::OutOfMemory
     }
 }
 
 impl<T: Drop> From<AllocFailed<T>> for Refusal {
+    ghost from_gives = { λ _ refusal. refusal ≡ OutOfMemory };
+
     fn from(_error: AllocFailed<T>) -> Refusal {
         Refusal::OutOfMemory
     }
 }
 
 impl From<io::Error> for Refusal {
+    ghost from_gives = { λ error refusal. refusal ≡ of_kind (error_kind error) };
+
     fn from(error: io::Error) -> Refusal {
         match error.kind() {
             io::ErrorKind::OutOfMemory => Refusal::OutOfMemory,
@@ -81,6 +101,8 @@ impl From<io::Error> for Refusal {
 }
 
 impl From<SessionError> for Refusal {
+    ghost from_gives = { λ error refusal. refusal ≡ of_session error };
+
     fn from(error: SessionError) -> Refusal {
         match error {
             SessionError::OutOfMemory => Refusal::OutOfMemory,

@@ -1,5 +1,10 @@
 //! The sections and segments of a module, read from JSON.
-ghost use Rattle.std.specs.Prelude.{◌≡◌, ◌≢◌, IfOk, IfErr, Ok, Err};
+ghost use Rattle.std.specs.Prelude.{◌≡◌, ◌≢◌, IfOk, IfErr, Ok, Err, ℕ, List, [], ◌∷◌, ◌++◌, map, codes, option_map};
+ghost use Rattle.framehop_cfi.specs.SectionTable.{Entry};
+ghost use Rattle.serde_json.specs.View.{view, items_view};
+ghost use Rattle.framehop_walk.specs.Refusals.{told, reading_of};
+ghost use Rattle.framehop_walk.specs.Fields.{optional_field_as, each};
+ghost use Rattle.framehop_walk.specs.Sections.{entry_view, entries_view, bytes_of_entry, bytes_of_table, table_view, HasNames, read_contents as contents_read, read_section as section_read, read_table, range, two_addresses as two, bytes};
 ghost use Rattle.hex.specs.Hex.{decode_of};
 ghost use Rattle.hex.specs.declared.error.FromHexError.TheVariants.{OutOfMemory};
 
@@ -38,13 +43,7 @@ pub struct Sections {
 }
 
 impl ModuleSectionInfo<Vec<u8>> for Sections {
-    ghost use Rattle.framehop_walk.specs.Sections.{entries_view};
-
-    ghost table = { λ s. record {
-      base_svma = s.base_svma;
-      sections = entries_view s.sections.items;
-      segments = entries_view s.segments.items;
-    } };
+    ghost table = { table_view };
 
     fn base_svma(&self) -> u64 {
         self.base_svma
@@ -68,33 +67,73 @@ impl ModuleSectionInfo<Vec<u8>> for Sections {
 }
 
 /// Reads the fields `base_svma`, `sections` and `segments` of a command.
-pub fn read_sections(alloc: Global, command: &Value) -> Result<Sections, Refusal> {
+#[tactic(auto, unfolding(crate::specs::Sections::read_table))]
+pub fn read_sections(alloc: Global, command: &Value) -> Result<Sections, Refusal>
+    ensures { result ≢ Err Refusal.OutOfMemory
+        → reading_of (λ sections. bytes_of_table (table_view sections)) result ≡ read_table (view command.now) }
+{
+    let base_svma = hexadecimal(command, "base_svma")?;
+    let sections = read_list(alloc, list(command, "sections")?)?;
+    let segments = read_list(alloc, list(command, "segments")?)?;
     Ok(Sections {
-        base_svma: hexadecimal(command, "base_svma")?,
-        sections: read_list(alloc, list(command, "sections")?)?,
-        segments: read_list(alloc, list(command, "segments")?)?,
+        base_svma,
+        sections,
+        segments,
     })
 }
 
-fn read_list(alloc: Global, items: &Vec<Value>) -> Result<Vec<Section>, Refusal> {
+fn read_list(alloc: Global, items: &Vec<Value>) -> Result<Vec<Section>, Refusal>
+    ensures { result ≢ Err Refusal.OutOfMemory
+        → reading_of (λ sections. map bytes_of_entry (entries_view sections.items)) result
+        ≡ each section_read [] (items_view items.now.items) }
+{
     let mut names: BTreeSet<&str> = BTreeSet::new(alloc);
     let mut sections = Vec::with_capacity(alloc, items.len())?;
     for item in items {
-        let name = text(item, "name")?;
-        if !names.insert(name)? {
-            return Err(Refusal::BadField("name"));
-        }
-        sections.push(Section {
-            name: String::from_str(alloc, name)?,
-            svma: read_range(item)?,
-            bytes: read_bytes(alloc, item)?,
-        })?;
+        sections.push(read_section(alloc, &mut names, item)?)?;
     }
     Ok(sections)
 }
 
+/// Reads a section whose name is not among `names`, and adds it to them.
+fn read_section<'v>(
+    alloc: Global,
+    names: &mut BTreeSet<&'v str>,
+    section: &'v Value,
+) -> Result<Section, Refusal>
+    ensures { (entries : List (Entry (List ℕ))) → HasNames names.old entries → result ≢ Err Refusal.OutOfMemory
+        → (reading_of (λ section. bytes_of_entry (entry_view section)) result
+        ≡ section_read entries (view section.entry.now))
+        × IfOk result (λ section. HasNames names.new (entries ++ bytes_of_entry (entry_view section) ∷ [])) }
+{
+    let name = text(section, "name")?;
+    if !names.insert(name)? {
+        return Err(Refusal::BadField("name"));
+    }
+    read_contents(alloc, name, section)
+}
+
+/// Reads where the section of this name lies, and its bytes.
+#[tactic(auto, unfolding(crate::specs::Sections::read_contents))]
+fn read_contents(alloc: Global, name: &str, section: &Value) -> Result<Section, Refusal>
+    ensures { result ≢ Err Refusal.OutOfMemory
+        → reading_of (λ section. bytes_of_entry (entry_view section)) result
+        ≡ contents_read name.now (view section.now) }
+{
+    let svma = read_range(section)?;
+    let bytes = read_bytes(alloc, section)?;
+    Ok(Section {
+        name: String::from_str(alloc, name)?,
+        svma,
+        bytes,
+    })
+}
+
 /// Reads the field `svma` of a section, a list of its start and its end.
-fn read_range(section: &Value) -> Result<Option<Range<u64>>, Refusal> {
+#[tactic(auto, unfolding(crate::specs::Fields::optional_field_as))]
+fn read_range(section: &Value) -> Result<Option<Range<u64>>, Refusal>
+    ensures { told result ≡ optional_field_as range (codes "svma") (view section.now) }
+{
     let Some(value) = section.get("svma") else {
         return Ok(None);
     };
@@ -104,16 +143,30 @@ fn read_range(section: &Value) -> Result<Option<Range<u64>>, Refusal> {
     }
 }
 
-fn range_value(value: &Value) -> Option<Range<u64>> {
-    let ends = value.as_array()?;
-    if ends.len() != 2 {
+#[tactic(auto, unfolding(crate::specs::Sections::range))]
+fn range_value(value: &Value) -> Option<Range<u64>>
+    ensures { result ≡ range (view value.now) }
+{
+    two_addresses(value.as_array()?)
+}
+
+/// A list of a start and an end.
+fn two_addresses(items: &Vec<Value>) -> Option<Range<u64>>
+    ensures { result ≡ two (items_view items.now.items) }
+{
+    if items.len() != 2 {
         return None;
     }
-    Some(hexadecimal_value(&ends[0])?..hexadecimal_value(&ends[1])?)
+    Some(hexadecimal_value(&items[0])?..hexadecimal_value(&items[1])?)
 }
 
 /// Reads the field `data` of a section.
-fn read_bytes(alloc: Global, section: &Value) -> Result<Option<Vec<u8>>, Refusal> {
+#[tactic(auto, unfolding(crate::specs::Fields::optional_field_as, crate::specs::Sections::bytes))]
+fn read_bytes(alloc: Global, section: &Value) -> Result<Option<Vec<u8>>, Refusal>
+    ensures { result ≢ Err Refusal.OutOfMemory
+        → reading_of (λ bytes. option_map (λ vec. vec.items) bytes) result
+        ≡ optional_field_as bytes (codes "data") (view section.now) }
+{
     let Some(value) = section.get("data") else {
         return Ok(None);
     };
