@@ -122,7 +122,8 @@ module _ (first : Bool) (memory : Memory) (old : Registers) (address : ℕ) (new
       elim (cases_Bool (nat_eq old.rbp 0)) [
         | inl zero ↦ (let f = rw zero at e in cc)
         | inr more ↦
-            let f : outcome_of_line (frame_pointer_line_with x y old) old memory ≡ answered address new = rw more at e in
+            let f : outcome_of_line (frame_pointer_line_with x y old) old memory ≡ answered address new
+            = rw more at e in
             let c =
             caller-answered (above old.rbp (x * 8)) stack_pointer_rises
             (stored_at (beside old.rbp y)) old memory address new f in
