@@ -181,11 +181,10 @@ fn lengths_that_are_refused(rt: HostRuntime) -> Result<(), Fail> {
 
 #[test]
 fn debug_frame_cut_off(rt: HostRuntime) -> Result<(), Fail> {
-    let section = bytes(rt.alloc(), DEBUG_FRAME)?;
-    let len = 51;
-    assert!(rt; len <= section.len());
+    let mut section = bytes(rt.alloc(), DEBUG_FRAME)?;
+    assert!(rt; section.pop().is_some());
     let kind = UnwindSectionType::DebugFrame;
-    let index = DwarfCfiIndex::try_new(rt.alloc(), &section[..len], kind, at(0), 0);
+    let index = DwarfCfiIndex::try_new(rt.alloc(), section.bytes(), kind, at(0), 0);
     assert_eq!(rt;
         index.err(),
         Some(DwarfCfiIndexError::Gimli(ReadError::Eof))
