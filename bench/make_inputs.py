@@ -2,6 +2,8 @@
 """Makes the inputs of compare.sh, in the format of docs/JSON.md.
 
     make_inputs.py frame-pointers ARCH      a walk of 400 frames that are linked by frame pointers
+    make_inputs.py scattered COUNT          a walk of COUNT frames that are linked by frame pointers
+                                            and whose return addresses are scattered over 16 MB
     make_inputs.py cold SECTIONS ELF COUNT  a walk of COUNT frames, each of another row of the
                                             file's .eh_frame; SECTIONS is what `oracle-bench json
                                             ELF` prints, and `readelf -wF ELF` tells the rows
@@ -53,6 +55,16 @@ def session(arch, commands):
 
 def frame_pointers(arch):
     return session(arch, [walk(arch, CODE, STACK, STACK, linked_frames(400), 1000)])
+
+
+def scattered(count):
+    """A walk whose addresses share sets of the cache. They are made by a linear congruential
+    generator modulo 2^64, with the factors of Knuth's MMIX."""
+    words, state = [], 1
+    for frame in range(1, count + 1):
+        state = (state * 6364136223846793005 + 1442695040888963407) % 2**64
+        words += [STACK + 32 * frame, CODE + (state >> 32) % 2**24, 0, 0]
+    return session("x86_64", [walk("x86_64", CODE, STACK, STACK, words + [0, 0], count + 10)])
 
 
 def many(walks):
@@ -109,6 +121,8 @@ def main(arguments):
     match arguments:
         case ["frame-pointers", arch]:
             made = frame_pointers(arch)
+        case ["scattered", count]:
+            made = scattered(int(count))
         case ["cold", sections, elf, count]:
             made = cold(sections, elf, int(count))
         case ["many", walks]:

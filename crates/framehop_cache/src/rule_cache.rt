@@ -1,5 +1,5 @@
 //! The cache of unwind rules by address, generation and kind of frame, and its counts.
-ghost use Rattle.std.specs.Prelude.{◌≡◌, ◌^◌, ◌-◌, ◌+◌, ◌∷◌, [], ◌==◌, nat_le, min, true, IfOk, IfSome, length, find};
+ghost use Rattle.std.specs.Prelude.{◌≡◌, ◌^◌, ◌-◌, ◌+◌, ◌∷◌, [], ◌==◌, nat_le, min, true, IfOk, IfSome, Some, length, find};
 ghost use Rattle.std.specs.List.{list_any};
 ghost use Rattle.framehop_cache.specs.Cache.{Key, counted, empty_cache, no_stats, found, inserted, inserted_in, misses_of, same_key, total_of, set_number, ways};
 ghost use Rattle.framehop_cache.specs.CacheResult.{result_of, HitRuns};
@@ -57,6 +57,33 @@ impl<R: UnwindRule> RuleCache<R> {
     #[inline]
     #[tactic(auto, using(crate::proofs::SetLemmas::missed, crate::proofs::SetLemmas::set_at))]
     pub fn lookup(
+        &mut self,
+        address: u64,
+        modules_generation: u64,
+        is_first_frame: bool,
+    ) -> CacheResult<R>
+        ensures answer { let key : Key = record { address = address; generation = modules_generation; is_first_frame = is_first_frame } in
+            result ≡ result_of key (found ways self.old.sets key) }
+        ensures runnable { HitRuns R.executable result }
+        ensures kept { self.new.sets ≡ self.old.sets }
+        ensures stats { self.new.stats ≡ counted self.old.stats
+            (found ways self.old.sets (record { address = address; generation = modules_generation; is_first_frame = is_first_frame })) }
+        ensures total { total_of self.new.stats ≡ min (total_of self.old.stats + 1) (2 ^ 64 - 1) }
+    {
+        let number = (address % CACHE_SET_COUNT as u64) as u16;
+        let set = &self.sets[number as usize];
+        if let Some(unwind_rule) = set.find_newest(address, modules_generation, is_first_frame) {
+            self.stats.hit_count = self.stats.hit_count.saturating_add(1);
+            return CacheResult::Hit(unwind_rule);
+        }
+        self.lookup_in_set(address, modules_generation, is_first_frame)
+    }
+
+    /// The same with both entries of the set. It is called, so that a hit of the newest entry is
+    /// inlined.
+    #[inline(never)]
+    #[tactic(auto, using(crate::proofs::SetLemmas::missed, crate::proofs::SetLemmas::set_at))]
+    fn lookup_in_set(
         &mut self,
         address: u64,
         modules_generation: u64,
@@ -163,6 +190,17 @@ struct CacheSet<R> {
 }
 
 impl<R: UnwindRule> CacheSet<R> {
+    /// The rule of the newest entry, if that is stored under a key.
+    #[inline(always)]
+    fn find_newest(&self, address: u64, modules_generation: u64, is_first_frame: bool) -> Option<R>
+        ensures answer { let key : Key = record { address = address; generation = modules_generation; is_first_frame = is_first_frame } in
+            IfSome result (λ rule. rule_found (find (λ entry. same_key entry.key key) (entries_of self.now)) ≡ Some rule) }
+        ensures runnable { IsSet R.executable self.now → IfSome result (λ rule. R.executable rule ≡ true) }
+    {
+        self.newest
+            .find(address, modules_generation, is_first_frame)
+    }
+
     /// The rule that is stored under a key.
     #[inline(always)]
     fn find(&self, address: u64, modules_generation: u64, is_first_frame: bool) -> Option<R>
