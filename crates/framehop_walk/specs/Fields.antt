@@ -55,4 +55,5 @@ below limit number = if nat_lt number limit then Some number else None
 
 -- the field is a whole number below another one
 unfoldable pub field_below : ℕ → List ℕ → Data → Reading ℕ
-field_below limit name fields = and_then (field_as whole_number name fields) (λ number. required name (below limit number))
+field_below limit name fields =
+    and_then (field_as whole_number name fields) (λ number. required name (below limit number))

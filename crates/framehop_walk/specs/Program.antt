@@ -19,7 +19,8 @@ lines_of text (verb ∷ verbs) [] = []
 lines_of text (verb ∷ verbs) (reply ∷ replies) = reply_lines text verb reply ++ lines_of text verbs replies
 
 -- the lines, or why the session was refused
-abbrev pub printed : {Regs : Type 0} → (Regs → List ℕ) → List (List ℕ) → Result (List (CachedReply Regs)) SessionError → Reading (List ℕ)
+abbrev pub printed : {Regs : Type 0} → (Regs → List ℕ) → List (List ℕ) → Result (List (CachedReply Regs)) SessionError
+    → Reading (List ℕ)
 printed text verbs (Ok replies) = Ok (lines_of text verbs replies)
 printed text verbs (Err error) = Err (refusal_text (of_session error))
 
@@ -38,7 +39,8 @@ AreSaid (written ∷ others) [] = ⊥
 AreSaid (written ∷ others) (command ∷ commands) = Says (Ok written.1) command × AreSaid others commands
 
 -- the commands that are read, in memory, and their verbs
-abbrev pub AreRead : {Regs : Type 0} → (Data → Reading Regs) → Items → List (List ℕ) → List (Command (Vec ℕ Global) Regs) → Type 0
+abbrev pub AreRead : {Regs : Type 0} → (Data → Reading Regs) → Items → List (List ℕ)
+    → List (Command (Vec ℕ Global) Regs) → Type 0
 AreRead {Regs} registers items verbs commands =
     (written : List (List ℕ × Written Regs)) × (each (read_next registers) [] items ≡ Ok written)
     × (map (λ (w : List ℕ × Written Regs). w.0) written ≡ verbs) × AreSaid written commands

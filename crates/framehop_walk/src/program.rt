@@ -158,7 +158,8 @@ fn read_commands<'v, A: Registers>(
     items: &'v Vec<Value>,
 ) -> Result<(Vec<&'v str>, Vec<Command<Vec<u8>, A::UnwindRegs>>), Refusal>
     ensures { MatchResult result
-        (λ read. AreRead A.reading (items_view items.entry.now.items) (map (λ verb. verb.now) read.0.items) read.1.items)
+        (λ read. AreRead A.reading (items_view items.entry.now.items)
+        (map (λ verb. verb.now) read.0.items) read.1.items)
         (λ refusal. refusal ≢ Refusal.OutOfMemory
         → each (read_next A.reading) [] (items_view items.entry.now.items) ≡ Err (refusal_text refusal)) }
 {
