@@ -4,4 +4,5 @@ pub mod Lines
 pub mod NamedSections
 pub mod Outputs
 pub mod Readings
+pub mod Sequences
 pub mod Tables

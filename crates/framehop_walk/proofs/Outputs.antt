@@ -1,5 +1,5 @@
 -- The lines of the replies to a list of commands.
-use Rattle.std.proofs.Common.{◌≡◌, ℕ, ◌+◌, ◌<◌, ◌≤◌, suc, List, [], ◌∷◌, ◌++◌, drop, get_or, length, map, refl, sym, ap, ◌∙◌, append_assoc, append-nil, drop-cons, arith, Bor}
+use Rattle.std.proofs.Common.{◌≡◌, ℕ, ◌+◌, ◌<◌, ◌≤◌, suc, List, [], ◌∷◌, ◌++◌, drop, get_or, length, map, refl, sym, ap, ◌∙◌, append_assoc, drop-cons, arith, Bor}
 use Rattle.std.proofs.lemmas.List.{drop_all, drop-map}
 use Rattle.framehop.specs.CachedWorld.{CachedReply}
 use Rattle.framehop.specs.SessionView.{reply_view}

@@ -3,7 +3,7 @@ use Rattle.std.specs.Prelude.{ℕ, ◌&&◌, List, [], ◌∷◌, ◌++◌, leng
 use Rattle.std.specs.Char.{digit_value}
 use Rattle.std.specs.Str.Parse.{digits_value}
 use Rattle.serde_json.specs.Data.{Data, Items, no_items, item}
-use Rattle.serde_json.specs.Find.{get, as_number, as_str, as_array, as_object, as_u64}
+use Rattle.serde_json.specs.Find.{get, as_number, as_str, as_object, as_u64}
 use Rattle.framehop_walk.specs.Refusals.{Reading, bad_field, and_then}
 
 -- each byte is a hexadecimal digit, of either case
@@ -55,4 +55,5 @@ below limit number = if nat_lt number limit then Some number else None
 
 -- the field is a whole number below another one
 unfoldable pub field_below : ℕ → List ℕ → Data → Reading ℕ
-field_below limit name fields = and_then (field_as whole_number name fields) (λ number. required name (below limit number))
+field_below limit name fields =
+    and_then (field_as whole_number name fields) (λ number. required name (below limit number))

@@ -1,5 +1,5 @@
 -- Why a run is refused: the line that it prints after the program's name, and its exit status.
-use Rattle.std.specs.Prelude.{◌≡◌, ◌≢◌, ℕ, List, ◌++◌, codes, Result, Ok, Err, Option, Some, None}
+use Rattle.std.specs.Prelude.{◌≡◌, ◌≢◌, ℕ, List, ◌++◌, codes, Result, Ok, Err}
 use Rattle.framehop_walk.specs.declared.refusal.Refusal.{Refusal}
 use Rattle.framehop_walk.specs.declared.refusal.Refusal.TheVariants.{Usage, CannotReadInput, NotJson, BadNumber, BadField, NoSuchUnwinder, NoSuchCache, OutOfMemory, GenerationsExhausted}
 use Rattle.std.specs.declared.io.ErrorKind.{ErrorKind}

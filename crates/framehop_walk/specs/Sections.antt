@@ -75,7 +75,8 @@ new_name entries name = if list_any (is_called name) entries then Err (bad_field
 -- the set has the names of these entries
 abbrev pub HasNames : BTreeSet (Bor (List ℕ)) → List (Entry (List ℕ)) → Type 0
 HasNames set entries =
-    (name : Bor (List ℕ)) → contains (λ x y. slice_cmp nat_cmp x.now y.now) set name ≡ list_any (is_called name.now) entries
+    (name : Bor (List ℕ)) → contains (λ x y. slice_cmp nat_cmp x.now y.now) set name
+    ≡ list_any (is_called name.now) entries
 
 -- where a section lies (SVMAs), and its bytes
 unfoldable pub read_contents : List ℕ → Data → Reading (Entry (List ℕ))

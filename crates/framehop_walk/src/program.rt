@@ -1,13 +1,13 @@
 //! The whole run of the program, over a reader and two writers.
-ghost use Rattle.std.specs.Prelude.{◌≡◌, ◌≢◌, ◌≤◌, ◌^◌, IfOk, IfErr, OnOk, IfSome, true, false, Some, None, Err, map, codes, string_bytes, IsUtf8};
+ghost use Rattle.std.specs.Prelude.{◌≡◌, ◌≢◌, ◌≤◌, ◌^◌, IfOk, IfErr, OnOk, IfSome, MatchResult, [], true, false, Some, None, Err, map, codes, string_bytes, IsUtf8};
 ghost use Rattle.std.specs.Io.KnownBytes.{Keeps, Appends};
 ghost use Rattle.serde_json.specs.Read.{read};
-ghost use Rattle.serde_json.specs.View.{view};
+ghost use Rattle.serde_json.specs.View.{view, items_view};
 ghost use Rattle.framehop.specs.CachedWorld.{cached_replies, empty_cached_world};
 ghost use Rattle.framehop.specs.SessionView.{reply_view};
-ghost use Rattle.framehop_walk.specs.Refusals.{told, reading_of, refusal_status};
-ghost use Rattle.framehop_walk.specs.Fields.{field_below};
-ghost use Rattle.framehop_walk.specs.Program.{lines_of, printed};
+ghost use Rattle.framehop_walk.specs.Refusals.{told, reading_of, refusal_status, refusal_text};
+ghost use Rattle.framehop_walk.specs.Fields.{each, field_below};
+ghost use Rattle.framehop_walk.specs.Program.{lines_of, printed, read_next, AreRead};
 ghost use Rattle.framehop_walk.specs.Numbers.{has_bad_number as has_bad};
 ghost use Rattle.framehop_walk.specs.Reading.{IsAccepted};
 
@@ -156,7 +156,13 @@ fn read_caches(value: &Value) -> Result<u16, Refusal>
 fn read_commands<'v, A: Registers>(
     alloc: Global,
     items: &'v Vec<Value>,
-) -> Result<(Vec<&'v str>, Vec<Command<Vec<u8>, A::UnwindRegs>>), Refusal> {
+) -> Result<(Vec<&'v str>, Vec<Command<Vec<u8>, A::UnwindRegs>>), Refusal>
+    ensures { MatchResult result
+        (λ read. AreRead A.reading (items_view items.entry.now.items)
+        (map (λ verb. verb.now) read.0.items) read.1.items)
+        (λ refusal. refusal ≢ Refusal.OutOfMemory
+        → each (read_next A.reading) [] (items_view items.entry.now.items) ≡ Err (refusal_text refusal)) }
+{
     let mut verbs = Vec::new(alloc);
     let mut commands = Vec::new(alloc);
     for command in items {

@@ -365,6 +365,62 @@ fn stops_at_a_failed_write(rt: HostRuntime) -> Result<(), Fail> {
     Ok(())
 }
 
+/// A writer whose writes succeed and whose flush fails.
+#[derive(Drop)]
+struct FailingFlush;
+
+impl Write for FailingFlush {
+    fn write(&mut self, buf: &[u8]) -> io::Result<usize> {
+        Ok(buf.len())
+    }
+
+    fn flush(&mut self) -> io::Result<()> {
+        Err(io::Error::from(io::ErrorKind::Other))
+    }
+}
+
+#[test]
+fn stops_at_a_failed_flush(rt: HostRuntime) -> Result<(), Fail> {
+    let mut reader = MODULE.as_bytes();
+    let mut out = Output::new(FailingFlush);
+    let mut err = Vec::new(rt.alloc());
+    assert_eq!(rt;
+        walk_program(rt.alloc(), &mut reader, &mut out, &mut err),
+        1
+    );
+    assert!(rt; out.has_failed);
+    assert!(rt; err.is_empty());
+    Ok(())
+}
+
+/// Each frame pointer is 16 above the one before it, and each return address is 0x1000.
+#[test]
+fn prints_ten_thousand_frames(rt: HostRuntime) -> Result<(), Fail> {
+    let alloc = rt.alloc();
+    let mut words = String::new(alloc);
+    let mut frames = String::from_str(alloc, "new 0\nip 1000\n")?;
+    for frame in 1..10_000 {
+        write!(words, "\"{:x}\",\"1000\",", 16 * frame)?;
+        write!(frames, "ra 1000\n")?;
+    }
+    write!(
+        frames,
+        "limit\nregs lr=1000 sp={:x} fp={:x}\n",
+        16 * 9999,
+        16 * 9999
+    )?;
+    let input = format!(in alloc;
+        "{{\"arch\":\"aarch64\",\"policy\":\"must\",\"caches\":1,\"commands\":[{{\"do\":\"new\"}},\
+         {{\"do\":\"walk\",\"unwinder\":0,\"cache\":0,\"pc\":\"1000\",\"regs\":{{\"lr\":\"1000\",\"sp\":\"0\",\"fp\":\"0\"}},\
+         \"memory\":{{\"base\":\"0\",\"words\":[{words}\"0\",\"0\"]}},\"limit\":10000}}]}}"
+    )?;
+    let run = run(alloc, input.as_str());
+    assert_eq!(rt; run.status, 0);
+    assert!(rt; run.out.as_slice() == frames.as_str().as_bytes());
+    assert!(rt; run.out.len() > 65536);
+    Ok(())
+}
+
 #[test]
 fn prints_refusals(rt: HostRuntime) -> Result<(), Fail> {
     for (refusal, status, line) in [

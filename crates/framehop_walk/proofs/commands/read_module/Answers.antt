@@ -1,4 +1,4 @@
-use Rattle.std.proofs.Common.{◌≡◌, refl, sym}
+use Rattle.std.proofs.Common.{refl, sym}
 use Rattle.serde_json.specs.View.{view}
 use Rattle.framehop_walk.specs.Commands.{LoadedModule}
 use Rattle.framehop_walk.specs.Sections.{bytes_of_table, table_view}

@@ -1,5 +1,4 @@
 use Rattle.std.proofs.Common.{◌≡◌, ◌<◌, ◌≤◌, ◌++◌, ◌∷◌, [], ◌∙◌, ap, sym, refl, rules, map, Ok, Err, length, get_or}
-use Rattle.serde_json.specs.View.{view}
 use Rattle.framehop_walk.specs.Refusals.{refusal_text}
 use Rattle.framehop_walk.specs.Sections.{read_section, bytes_of_entry, entry_view, entries_view}
 use Rattle.framehop_walk.proofs.Items.{each-more, each-refused, each-end}
