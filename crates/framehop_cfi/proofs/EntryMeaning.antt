@@ -9,8 +9,8 @@ use Rattle.framehop_cfi.specs.Pointer.{pointer_at}
 use Rattle.framehop_cfi.specs.Augmentation.{terminator_at, augmentation_at}
 use Rattle.framehop_cfi.specs.EntryExtent.{extent_at, is_zero_length}
 use Rattle.framehop_cfi.specs.Section.{Section}
-use Rattle.framehop_cfi.specs.Entry.{head_at, entry_of_head, entry_at, is_known_version, sizes_of, return_register_at, alignments_at, versioned_fields, cie_fields, cie_of_head, cie_at, skipped_at, fde_range, fde_fields, fde_of_head, fde_at}
-use Rattle.framehop_cfi.specs.EntryMeaning.{Begins, HasCieFields, IsCie, IsFde, IsEntry}
+use Rattle.framehop_cfi.specs.Entry.{head_at, is_known_version, sizes_of, return_register_at, alignments_at, versioned_fields, cie_fields, cie_of_head, cie_at, skipped_at, fde_range, fde_fields, fde_of_head, fde_at}
+use Rattle.framehop_cfi.specs.EntryMeaning.{Begins, HasCieFields, IsCie, IsFde}
 use Rattle.framehop_cfi.specs.declared.extent.EntryExtent.{EntryExtent}
 use Rattle.framehop_cfi.specs.declared.pointer.SectionBaseAddresses.{SectionBaseAddresses}
 use Rattle.framehop_cfi.specs.declared.entry.UnwindSectionType.{UnwindSectionType}
@@ -18,8 +18,6 @@ use Rattle.framehop_cfi.specs.declared.entry.EntryHead.{EntryHead}
 use Rattle.framehop_cfi.specs.declared.entry.EntryHead.TheVariants.{ZeroLength, Cie, Fde}
 use Rattle.framehop_cfi.specs.declared.entry.CommonInformationEntry.{CommonInformationEntry}
 use Rattle.framehop_cfi.specs.declared.entry.FrameDescriptionEntry.{FrameDescriptionEntry}
-use Rattle.framehop_cfi.specs.declared.entry.CieOrFde.{CieOrFde}
-use Rattle.framehop_cfi.specs.declared.entry.CieOrFde.TheVariants as or
 use Rattle.framehop_cfi.specs.declared.read_error.ReadError.{ReadError}
 use Rattle.framehop_cfi.proofs.AugmentationMeaning.{augmentation-means, means-augmentation}
 use Rattle.framehop_cfi.proofs.Spans.{bind_ok, id-ends}
@@ -207,42 +205,3 @@ module _ (section : Section) where
   pub no-fde : (at : ℕ) (result : Result FrameDescriptionEntry ReadError) → result ≡ fde_at section at → IfErr result (λ _. (fde : FrameDescriptionEntry) → IsFde section at fde → ⊥)
   no-fde at (Ok fde) is = tt
   no-fde at (Err error) is = λ fde there. let read = means-fde_at at fde there in cc
-
-  -- an entry that is read stands there
-  one-entry : (a b : CieOrFde) → ◌≡◌ {A = Result CieOrFde ReadError} (Ok a) (Ok b) → a ≡ b
-  one-entry a b is = cc
-
-  entry-of : (at : ℕ) (head : EntryHead) (entry : CieOrFde) → head_at section.kind section.bytes at ≡ Ok head → entry_of_head section head ≡ Ok entry → IsEntry section at entry
-  entry-of at (ZeroLength end) entry begins is = cc
-  entry-of at (Cie fields end) entry begins is =
-      let cie = bind_ok (cie_of_head section (Cie fields end)) _ entry is in
-      subst (IsEntry section at) (one-entry (or.Cie cie.0) entry cie.2) (cie-of at (Cie fields end) cie.0 begins cie.1)
-  entry-of at (Fde cie_offset fields end) entry begins is =
-      let fde = bind_ok (fde_of_head section (Fde cie_offset fields end)) _ entry is in
-      subst (IsEntry section at) (one-entry (or.Fde fde.0) entry fde.2) (fde-of at (Fde cie_offset fields end) fde.0 begins fde.1)
-
-  pub entry_at-means : (at : ℕ) (entry : CieOrFde) → entry_at section at ≡ Ok entry → IsEntry section at entry
-  unfolding entry_at
-  entry_at-means at entry is =
-      let head = bind_ok (head_at section.kind section.bytes at) _ entry is in
-      entry-of at head.0 entry head.1 head.2
-
-  -- one that stands there is read
-  of-cie : (head : EntryHead) (cie : CommonInformationEntry) → cie_of_head section head ≡ Ok cie → entry_of_head section head ≡ Ok (or.Cie cie)
-  of-cie (ZeroLength end) cie is = cc
-  of-cie (Cie fields end) cie is = rw is refl
-  of-cie (Fde cie_offset fields end) cie is = cc
-
-  of-fde : (head : EntryHead) (fde : FrameDescriptionEntry) → fde_of_head section head ≡ Ok fde → entry_of_head section head ≡ Ok (or.Fde fde)
-  of-fde (ZeroLength end) fde is = cc
-  of-fde (Cie fields end) fde is = cc
-  of-fde (Fde cie_offset fields end) fde is = rw is refl
-
-  pub means-entry_at : (at : ℕ) (entry : CieOrFde) → IsEntry section at entry → entry_at section at ≡ Ok entry
-  unfolding entry_at cie_at fde_at
-  means-entry_at at (or.Cie cie) there =
-      let read = bind_ok (head_at section.kind section.bytes at) _ cie (means-cie_at at cie there) in
-      rw read.1 (of-cie read.0 cie read.2)
-  means-entry_at at (or.Fde fde) there =
-      let read = bind_ok (head_at section.kind section.bytes at) _ fde (means-fde_at at fde there) in
-      rw read.1 (of-fde read.0 fde read.2)

@@ -1,13 +1,11 @@
 -- The entries of a section, one after another (DWARF 5 section 6.4.1; LSB, ".eh_frame"): first where each begins, by
 -- the lengths alone, and then what each is.
-use Rattle.std.specs.Prelude.{ℕ, zero, suc, ◌≤◌, ◌≡◌, true, false, List, [], ◌∷◌, length, map, Option, Some, None, Result, Ok, Err, nat_le, if◌then◌else◌}
+use Rattle.std.specs.Prelude.{ℕ, zero, suc, ◌≤◌, ◌≡◌, true, false, List, [], ◌∷◌, length, Option, Some, None, Result, Ok, Err, nat_le, if◌then◌else◌}
 use Rattle.framehop_cfi.specs.EntryExtent.{extent_at, is_zero_length}
 use Rattle.framehop_cfi.specs.Section.{Section}
-use Rattle.framehop_cfi.specs.EntryMeaning.{IsEntry}
 use Rattle.framehop_cfi.specs.declared.extent.EntryExtent.{EntryExtent}
 use Rattle.framehop_cfi.specs.declared.entry.UnwindSectionType.{UnwindSectionType}
 use Rattle.framehop_cfi.specs.declared.entry.UnwindSectionType.TheVariants.{EhFrame, DebugFrame}
-use Rattle.framehop_cfi.specs.declared.entry.CieOrFde.{CieOrFde}
 use Rattle.framehop_cfi.specs.declared.read_error.ReadError.{ReadError}
 
 -- a section cut into its entries: the offset of each, and why the next length can't be read, if one can't
@@ -53,13 +51,3 @@ pub data AreOffsets (section : Section) : ℕ → List ℕ → Type 0 where
       → AreOffsets section at offsets
   one : {at : ℕ} {span : EntryExtent} {offsets : List ℕ} → extent_at section.bytes at ≡ Ok span
       → is_zero_length span ≡ false → AreOffsets section span.end offsets → AreOffsets section at (at ∷ offsets)
-
--- each entry stands at its offset
-abbrev pub EachStands : Section → List (ℕ × CieOrFde) → Type 0
-EachStands section [] = Unit {0}
-EachStands section (entry ∷ entries) = IsEntry section entry.0 entry.1 × EachStands section entries
-
--- a section's entries, each with its offset: all that the lengths tell, and each can be read
-pub record AreEntries (section : Section) (entries : List (ℕ × CieOrFde)) : Type 0 where
-  pub offsets : AreOffsets section 0 (map (λ (entry : ℕ × CieOrFde). entry.0) entries)
-  pub stand : EachStands section entries

@@ -13,8 +13,6 @@ use Rattle.framehop_cfi.specs.declared.entry.UnwindSectionType.{UnwindSectionTyp
 use Rattle.framehop_cfi.specs.declared.entry.UnwindSectionType.TheVariants.{EhFrame, DebugFrame}
 use Rattle.framehop_cfi.specs.declared.entry.EntryHead.{EntryHead}
 use Rattle.framehop_cfi.specs.declared.entry.EntryHead.TheVariants.{ZeroLength, Cie, Fde}
-use Rattle.framehop_cfi.specs.declared.entry.CieOrFde.{CieOrFde}
-use Rattle.framehop_cfi.specs.declared.entry.CieOrFde.TheVariants as or
 use Rattle.framehop_cfi.specs.declared.entry.CommonInformationEntry.{CommonInformationEntry}
 use Rattle.framehop_cfi.specs.declared.entry.FrameDescriptionEntry.{FrameDescriptionEntry}
 use Rattle.framehop_cfi.specs.declared.read_error.ReadError.{ReadError}
@@ -148,14 +146,3 @@ unfoldable pub fde_at : Section → ℕ → Result FrameDescriptionEntry ReadErr
 fde_at section at = do
   head ← head_at section.kind section.bytes at
   fde_of_head section head
-
--- the entry at an offset, of either kind
-abbrev pub entry_of_head : Section → EntryHead → Result CieOrFde ReadError
-entry_of_head section (ZeroLength end) = Err NotFde
-entry_of_head section (Cie at end) = cie_of_head section (Cie at end) >>= λ cie. Ok (or.Cie cie)
-entry_of_head section (Fde cie_offset at end) = fde_of_head section (Fde cie_offset at end) >>= λ fde. Ok (or.Fde fde)
-
-unfoldable pub entry_at : Section → ℕ → Result CieOrFde ReadError
-entry_at section at = do
-  head ← head_at section.kind section.bytes at
-  entry_of_head section head

@@ -15,8 +15,6 @@ use Rattle.framehop_cfi.specs.declared.entry.EntryHead.{EntryHead}
 use Rattle.framehop_cfi.specs.declared.entry.EntryHead.TheVariants.{Cie, Fde}
 use Rattle.framehop_cfi.specs.declared.entry.CommonInformationEntry.{CommonInformationEntry}
 use Rattle.framehop_cfi.specs.declared.entry.FrameDescriptionEntry.{FrameDescriptionEntry}
-use Rattle.framehop_cfi.specs.declared.entry.CieOrFde.{CieOrFde}
-use Rattle.framehop_cfi.specs.declared.entry.CieOrFde.TheVariants as or
 
 -- an entry stands at an offset: its length, which is not 0, and its id
 pub record Begins (kind : UnwindSectionType) (bytes : List ℕ) (at : ℕ) (span : EntryExtent)
@@ -73,8 +71,3 @@ pub record IsFde (section : Section) (at : ℕ) (fde : FrameDescriptionEntry) : 
   pub is_augmentation : skipped_at fde.cie.has_augmentation_data
       (take span.end section.bytes) augmentation_data ≡ Ok fde.instructions
   pub ends : fde.end ≡ span.end
-
--- an entry of either kind stands at an offset
-abbrev pub IsEntry : Section → ℕ → CieOrFde → Type 0
-IsEntry section at (or.Cie cie) = IsCie section at cie
-IsEntry section at (or.Fde fde) = IsFde section at fde

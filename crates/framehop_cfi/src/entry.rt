@@ -74,13 +74,6 @@ pub struct FrameDescriptionEntry {
     pub end: usize,
 }
 
-/// An entry of a section.
-#[derive(Clone, Copy, Debug, PartialEq, Eq)]
-pub enum CieOrFde {
-    Cie(CommonInformationEntry),
-    Fde(FrameDescriptionEntry),
-}
-
 /// A call frame section.
 #[derive(Drop)]
 pub struct UnwindSection<'a> {

@@ -1,5 +1,5 @@
 -- The rule of an epilogue on x86_64 does what the machine does.
-use Rattle.std.proofs.Common.{◌≡◌, ◌≢◌, inl, inr, ℕ, zero, suc, ◌+◌, ◌*◌, ◌/◌, ◌%◌, ◌<◌, ◌≤◌, ℤ, pos, Bool, true, false, not, cond, nat_eq, ◌==◌, List, [], ◌∷◌, slice_get, Option, Some, None, Result, Ok, refl, sym, ap, ◌∙◌, subst, arith}
+use Rattle.std.proofs.Common.{◌≡◌, ℕ, zero, suc, ◌+◌, ◌*◌, ◌≤◌, ℤ, pos, Bool, true, false, cond, nat_eq, List, [], ◌∷◌, slice_get, Option, Some, None, Ok, refl, sym, ap, ◌∙◌, subst, arith}
 use Rattle.std.proofs.lemmas.Int.{ints}
 use Rattle.framehop_core.specs.Memory.{Memory}
 use Rattle.framehop_core.specs.Outcome.{answered, above, beside, word_from}
@@ -7,7 +7,7 @@ use Rattle.framehop_core.specs.X86_64.Registers.{Registers}
 use Rattle.framehop_core.specs.X86_64.Rules.{Source, nothing_more, kept, stored_at, restored_at, outcome}
 use Rattle.framehop_core.specs.Laws.X86_64.{IsCaller, caller-answered}
 use Rattle.framehop_core.specs.declared.x86_64.unwind_rule.UnwindRuleX86_64.{UnwindRuleX86_64}
-use Rattle.framehop_core.specs.declared.x86_64.unwind_rule.UnwindRuleX86_64.TheVariants.{EndOfStack, JustReturn, JustReturnIfFirstFrameOtherwiseFp, OffsetSp, OffsetSpAndRestoreBp, UseFramePointer, OffsetSpAndPopRegisters}
+use Rattle.framehop_core.specs.declared.x86_64.unwind_rule.UnwindRuleX86_64.TheVariants.{JustReturn, OffsetSp, OffsetSpAndRestoreBp}
 use Rattle.framehop_analysis.specs.X86_64.Machine.{State, HasRegisters, by_ret, by_jmp_rel8, by_jmp_rel32, by_jmp_rm64, Run, Returns}
 use Rattle.framehop_analysis.specs.X86_64.Epilogue.{ArePops, Popped, none_popped, after_pop, after_pops, IsEnd, IsRuleOfPopped, IsEpilogueRule, IsTakenForEnd, leaves, other, DoesEpilogue}
 use Rattle.framehop_analysis.specs.Laws.Answer.{some-same}

@@ -1,12 +1,10 @@
 -- The machine of x86_64 goes through what has been read: a prologue up to the pc, and an epilogue to its end.
-use Rattle.std.proofs.Common.{◌≡◌, ◌≢◌, ◌⊎◌, inl, inr, ℕ, zero, suc, ◌+◌, ◌-◌, ◌*◌, ◌/◌, ◌%◌, ◌<◌, ◌≤◌, Bool, true, false, nat_eq, cond, ◌||◌, ◌==◌, List, [], ◌∷◌, slice_get, Option, Some, refl, sym, ap, ◌∙◌, subst, arith}
+use Rattle.std.proofs.Common.{◌≡◌, ◌≢◌, ◌⊎◌, inl, inr, ℕ, zero, suc, ◌+◌, ◌-◌, ◌*◌, ◌/◌, ◌%◌, ◌≤◌, Bool, true, false, nat_eq, cond, ◌||◌, ◌==◌, List, [], ◌∷◌, slice_get, Option, Some, refl, sym, ap, ◌∙◌, subst, arith}
 use Rattle.std.proofs.lemmas.Bool.Decides.{nat_tests}
-use Rattle.framehop_core.specs.Memory.{Memory}
 use Rattle.framehop_core.specs.declared.x86_64.unwind_rule.UnwindRuleX86_64.{UnwindRuleX86_64}
-use Rattle.framehop_analysis.specs.X86_64.Bytes.{is_prefix, is_push}
-use Rattle.framehop_analysis.specs.X86_64.Machine.{State, short, long, Pushes, Pops, Moves, Step, by_push, by_pop, by_move, Run, by_ret, by_jmp_rel8, by_jmp_rel32}
+use Rattle.framehop_analysis.specs.X86_64.Machine.{State, short, long, Pushes, Pops, Step, by_push, by_pop, by_move, Run, by_ret, by_jmp_rel8, by_jmp_rel32}
 use Rattle.framehop_analysis.specs.X86_64.Prologue.{IsPushBytes, plain, prefixed, IsFrameSetUpBefore, ArePushes, AreLongestPushes, IsPrologueRule, framed, frameless, ReachesFrom}
-use Rattle.framehop_analysis.specs.X86_64.Epilogue.{is_plain_pop, IsPopBytes, alone, after_40, after_41, ArePops, is_jump, IsEnd, returns, jumps, IsEpilogueRule, IsTakenForEnd, leaves, other, EndsFrom}
+use Rattle.framehop_analysis.specs.X86_64.Epilogue.{IsPopBytes, alone, after_40, after_41, ArePops, is_jump, IsEnd, returns, jumps, IsEpilogueRule, IsTakenForEnd, leaves, other, EndsFrom}
 use Rattle.framehop_analysis.specs.Laws.X86_64.Pops.{eq-true, and-left, or-cases}
 use Rattle.framehop_analysis.specs.Laws.X86_64.Prologue.{frame-decidable}
 use Rattle.framehop_analysis.specs.Laws.X86_64.Pushes.{first-push}

@@ -1,8 +1,8 @@
 -- The machine of x86_64 at instructions that the analysis has read.
-use Rattle.std.proofs.Common.{◌≡◌, ◌≢◌, ℕ, zero, suc, ◌+◌, ◌*◌, ◌/◌, ◌%◌, ◌<◌, ◌≤◌, Bool, true, false, not, nat_eq, ◌==◌, List, slice_get, Some, refl, sym, ap, ◌∙◌, subst, arith}
+use Rattle.std.proofs.Common.{◌≡◌, ◌≢◌, ℕ, zero, suc, ◌+◌, ◌*◌, ◌/◌, ◌<◌, ◌≤◌, Bool, true, false, not, nat_eq, ◌==◌, List, slice_get, Some, refl, sym, ◌∙◌, subst, arith}
 use Rattle.std.proofs.lemmas.Bool.Decides.{nat_tests}
 use Rattle.framehop_analysis.specs.X86_64.Bytes.{is_prefix, is_push, is_pop_opcode}
-use Rattle.framehop_analysis.specs.X86_64.Machine.{State, IsOpcodePlus, short, long, IsPop, IsMove, Pushes, Pops, Moves, Step, by_push, by_pop, by_move, Run}
+use Rattle.framehop_analysis.specs.X86_64.Machine.{State, short, long, Pushes, Pops, Moves, Step, by_push, by_pop, by_move, Run}
 use Rattle.framehop_analysis.specs.X86_64.Prologue.{IsPushBytes, plain, prefixed}
 use Rattle.framehop_analysis.specs.X86_64.Epilogue.{is_plain_pop, IsPopBytes, alone, after_40, after_41}
 use Rattle.framehop_analysis.specs.Laws.Answer.{some-same}

@@ -9,9 +9,9 @@ use Rattle.framehop_core.specs.X86_64.Rules.{Source, Demand, nothing_more, stack
 use Rattle.framehop_core.specs.Laws.X86_64.{IsCaller, caller-answered}
 use Rattle.framehop_core.specs.declared.error.Error.{Error}
 use Rattle.framehop_core.specs.declared.x86_64.unwind_rule.UnwindRuleX86_64.{UnwindRuleX86_64}
-use Rattle.framehop_core.specs.declared.x86_64.unwind_rule.UnwindRuleX86_64.TheVariants.{EndOfStack, JustReturn, JustReturnIfFirstFrameOtherwiseFp, OffsetSp, OffsetSpAndRestoreBp, UseFramePointer, OffsetSpAndPopRegisters}
+use Rattle.framehop_core.specs.declared.x86_64.unwind_rule.UnwindRuleX86_64.TheVariants.{OffsetSp, UseFramePointer}
 use Rattle.framehop_analysis.specs.X86_64.Machine.{State, HasRegisters, Pushes, Moves, Run, Returns}
-use Rattle.framehop_analysis.specs.X86_64.Prologue.{IsFrameSetUpBefore, ArePushes, AreLongestPushes, IsRuleOfPushes, IsPrologueRule, BeginsAt, framed, frameless, UndoesPrologue}
+use Rattle.framehop_analysis.specs.X86_64.Prologue.{IsFrameSetUpBefore, ArePushes, AreLongestPushes, IsRuleOfPushes, IsPrologueRule, framed, frameless, UndoesPrologue}
 use Rattle.framehop_analysis.specs.Laws.Answer.{some-same}
 use Rattle.framehop_analysis.specs.Laws.X86_64.Pushes.{first-push, pushes-below}
 use Rattle.framehop_analysis.specs.Laws.X86_64.Steps.{step-low, run-forward, step-push, step-push_rbp, step-move}

@@ -1,7 +1,7 @@
 //! Instruction words of aarch64: which word is which instruction, and its fields (Arm Architecture
 //! Reference Manual, "A64 instruction set encoding").
 ghost use Rattle.std.specs.Prelude.{◌≡◌, ◌+◌, ◌<◌, ◌≤◌, pos, negsuc, ◌≤ℤ◌, ◌==◌, length, IsTrue, ◌↔◌, Some, OnSome, IfNone};
-ghost use Rattle.framehop_analysis.specs.Aarch64.Words.{word_at, addressing, first_register, second_register, is_store, is_load, is_sub_sp, is_add_sp, is_add_fp, is_indexed, pair_offset, immediate, is_pacibsp, is_autibsp, is_return, is_b, is_br, is_braa, is_mov};
+ghost use Rattle.framehop_analysis.specs.Aarch64.Words.{word_at, addressing, first_register, second_register, is_store, is_load, is_sub_sp, is_add_sp, is_add_fp, is_indexed, pair_offset, immediate, is_pacibsp, is_return, is_b, is_br, is_braa, is_mov};
 
 /// Returns the instruction word at an offset (in bytes), or `None` where the slice does not have
 /// all of its four bytes.
@@ -139,14 +139,6 @@ pub fn is_pacibsp(word: u32) -> bool
     ensures { result ≡ is_pacibsp word }
 {
     word == 0xd503237f
-}
-
-/// Whether the word is `autibsp`, which authenticates lr.
-#[inline]
-pub fn is_autibsp(word: u32) -> bool
-    ensures { result ≡ is_autibsp word }
-{
-    word == 0xd50323ff
 }
 
 /// Whether the word is `ret`, or `retab`, which authenticates lr as it returns.
