@@ -752,8 +752,14 @@ const X86_64_RULES: [(&str, &str); 40] = [
         "r7+32 6=c-16 16=c-8",
         "OffsetSpAndRestoreBp { sp_offset_by_8: 4, bp_storage_offset_from_sp_by_8: 2 }",
     ),
-    ("r6+32 3=r8 6=c-16 16=c-8", "direct"),
-    ("r6+32 3=r8 6=c-16 13=s 14=v-24 16=c-8", "direct"),
+    (
+        "r6+32 3=r8 6=c-16 16=c-8",
+        "UseFramePointerWithOffsets { sp_offset_from_bp_by_8: 4, bp_storage_offset_from_bp_by_8: 2 }",
+    ),
+    (
+        "r6+32 3=r8 6=c-16 13=s 14=v-24 16=c-8",
+        "UseFramePointerWithOffsets { sp_offset_from_bp_by_8: 4, bp_storage_offset_from_bp_by_8: 2 }",
+    ),
     ("r6+32 3=r8 15=v+16 16=c-8", "direct"),
     (
         "r7+8 3=r8 13=c-16 15=v+16 16=c-8",

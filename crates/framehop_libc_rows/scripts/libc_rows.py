@@ -147,7 +147,13 @@ def rule(cfa, bp, ra):
     if ra != ("c", -8):
         return None
     if cfa[0] == RBP:
-        return "UseFramePointer" if cfa[1] == 16 and bp == ("c", -16) else None
+        if cfa[1] == 16 and bp == ("c", -16):
+            return "UseFramePointer"
+        words = units(cfa[1], 0, 1 << 16)
+        place = units(cfa[1] + bp[1], -(1 << 15), 1 << 15) if bp[0] == "c" else None
+        if words is None or place is None:
+            return None
+        return f"UseFramePointerWithOffsets {{ sp_offset_from_bp_by_8: {words}, bp_storage_offset_from_bp_by_8: {place} }}"
     if cfa[0] != RSP:
         return None
     words = units(cfa[1], 0, 1 << 16)
