@@ -36,6 +36,7 @@ make_inputs() {
     for arch in x86_64 aarch64; do python3 "$maker" frame-pointers "$arch" >"$made/fp-$arch.json"; done
     "$theirs" json "$elf" >"$made/sections.json"
     python3 "$maker" cold "$made/sections.json" "$elf" 300 >"$made/cold.json"
+    python3 "$maker" offsets 300 >"$made/offsets.json"
     python3 "$maker" many 16000 >"$made/many.json"
 }
 
@@ -98,6 +99,7 @@ table() {
 make_inputs
 for ((round = 1; round <= rounds; round++)); do
     for arch in x86_64 aarch64; do measure_walks "fp-$arch" 20000; done
+    measure_walks offsets 20000
     measure_walks cold 1000
     measure_index 100
     if [ -x "$(dirname "$theirs")/oracle-walk" ]; then

@@ -4,6 +4,8 @@
     make_inputs.py frame-pointers ARCH      a walk of 400 frames that are linked by frame pointers
     make_inputs.py scattered COUNT          a walk of COUNT frames that are linked by frame pointers
                                             and whose return addresses are scattered over 16 MB
+    make_inputs.py offsets COUNT            a walk of COUNT frames of one function whose rows have the
+                                            CFA rbp + 32 and rbp at CFA - 16
     make_inputs.py cold SECTIONS ELF COUNT  a walk of COUNT frames, each of another row of the
                                             file's .eh_frame; SECTIONS is what `oracle-bench json
                                             ELF` prints, and `readelf -wF ELF` tells the rows
@@ -15,6 +17,7 @@ They are written to standard output, and are the same in each run.
 import json
 import random
 import re
+import struct
 import subprocess
 import sys
 
@@ -65,6 +68,39 @@ def scattered(count):
         state = (state * 6364136223846793005 + 1442695040888963407) % 2**64
         words += [STACK + 32 * frame, CODE + (state >> 32) % 2**24, 0, 0]
     return session("x86_64", [walk("x86_64", CODE, STACK, STACK, words + [0, 0], count + 10)])
+
+
+def with_offsets(count):
+    """A module with one FDE of 64 KiB of code, and frames of 32 bytes in it: in the last two words
+    of each are the next frame's rbp, which is 0 in the last one, and the return address."""
+    start, section, size = 0x1000, 0x30000, 0x10000
+    entry = struct.pack("<IIiIB", 0x14, 0x1C, start - section - 0x20, size, 0)
+    eh_frame = bytes.fromhex("1400000000000000017a5200017810011b0c070890010000") + entry
+    eh_frame += bytes.fromhex("0c06208602000000000000")
+    module = {
+        "name": "made",
+        "start": f"{start:x}",
+        "end": f"{start + size:x}",
+        "base": "0",
+        "base_svma": "0",
+        "sections": [
+            {
+                "name": ".eh_frame",
+                "svma": [f"{section:x}", f"{section + len(eh_frame):x}"],
+                "data": eh_frame.hex(),
+            }
+        ],
+        "segments": [],
+    }
+    words = []
+    for frame in range(1, count + 1):
+        last = frame == count
+        words += [0, 0, 0 if last else STACK + 32 * frame, start + 16 * frame + 1]
+    commands = [
+        {"do": "add", "unwinder": 0, **module},
+        walk("x86_64", start, STACK, STACK, words, count + 10),
+    ]
+    return session("x86_64", commands)
 
 
 def many(walks):
@@ -123,6 +159,8 @@ def main(arguments):
             made = frame_pointers(arch)
         case ["scattered", count]:
             made = scattered(int(count))
+        case ["offsets", count]:
+            made = with_offsets(int(count))
         case ["cold", sections, elf, count]:
             made = cold(sections, elf, int(count))
         case ["many", walks]:

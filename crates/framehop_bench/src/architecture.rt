@@ -25,7 +25,7 @@ pub trait MeasuredArch: Registers {
     fn rules(alloc: Global) -> Result<Vec<NamedRule<Self::UnwindRule>>, AllocError>;
 }
 
-const RULES_X86_64: [NamedRule<UnwindRuleX86_64>; 5] = [
+const RULES_X86_64: [NamedRule<UnwindRuleX86_64>; 6] = [
     NamedRule {
         name: "JustReturn",
         is_first_frame: true,
@@ -53,6 +53,14 @@ const RULES_X86_64: [NamedRule<UnwindRuleX86_64>; 5] = [
         name: "UseFramePointer",
         is_first_frame: false,
         rule: UnwindRuleX86_64::UseFramePointer,
+    },
+    NamedRule {
+        name: "UseFramePointerWithOffsets",
+        is_first_frame: false,
+        rule: UnwindRuleX86_64::UseFramePointerWithOffsets {
+            sp_offset_from_bp_by_8: 4,
+            bp_storage_offset_from_bp_by_8: 2,
+        },
     },
 ];
 
