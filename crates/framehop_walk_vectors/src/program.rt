@@ -399,8 +399,8 @@ fn prints_ten_thousand_frames(rt: HostRuntime) -> Result<(), Fail> {
     let alloc = rt.alloc();
     let mut words = String::new(alloc);
     let mut frames = String::from_str(alloc, "new 0\nip 1000\n")?;
-    for frame in 1..10_000 {
-        write!(words, "\"{:x}\",\"1000\",", 16 * frame)?;
+    for frame in 1..10_000u64 {
+        write!(words, "\"{:x}\",\"1000\",", frame.saturating_mul(16))?;
         write!(frames, "ra 1000\n")?;
     }
     write!(
