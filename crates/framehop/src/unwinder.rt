@@ -547,6 +547,7 @@ impl<D: SectionBytes + Drop, A: Unwinding, P: AllocationPolicy> UnwinderInternal
     }
 
     // looks for the rule of a frame in the cache
+    #[inline(always)]
     fn lookup_rule(
         &self,
         address: FrameAddress,

@@ -1,8 +1,10 @@
 -- The sets of the cache in memory, seen as lists of entries.
-use Rattle.std.proofs.Common.{◌≡◌, ℕ, zero, suc, ◌<◌, List, [], ◌∷◌, map, Option, Some, None, length, get_or, refl, ap, rules, slice_set}
+use Rattle.std.proofs.Common.{◌≡◌, ◌==◌, true, ℕ, zero, suc, ◌<◌, List, [], ◌∷◌, map, Option, Some, None, length, get_or, refl, ap, rules, slice_set}
 use Rattle.std.proofs.lemmas.List.{get_or-map}
-use Rattle.framehop_cache.specs.Cache.{Entry, Found, hit_or}
+use Rattle.framehop_cache.specs.Cache.{Key, Entry, Found, hit, empty_slot, wrong_modules, wrong_address, hit_or, found_in, ways}
+use Rattle.framehop_cache.specs.CacheResult.{result_of, rule_of}
 use Rattle.framehop_cache.specs.CacheSet.{entries_of, rule_found}
+use Rattle.framehop_cache.specs.declared.rule_cache.CacheResult.TheVariants.{Miss}
 use Rattle.framehop_cache.specs.declared.rule_cache.CacheSet.{CacheSet}
 
 -- a write to a set
@@ -22,3 +24,16 @@ pub missed : {R : Type 0} (found : Option (Entry R)) (other : Found R) → rule_
     → hit_or found other ≡ other
 missed None other none = refl
 missed (Some entry) other none = search rules
+
+-- a lookup in a set without an entry
+pub empty_misses : {R : Type 0} (set : List (Entry R)) (key : Key) → (length set == 0) ≡ true
+    → found_in ways set key ≡ empty_slot
+empty_misses [] key empty = refl
+empty_misses (entry ∷ set) key empty = search rules
+
+-- a lookup that found no rule
+pub no_rule : {R : Type 0} (key : Key) (found : Found R) → rule_of found ≡ None → result_of key found ≡ Miss key
+no_rule key (hit rule) none = search rules
+no_rule key empty_slot none = refl
+no_rule key wrong_modules none = refl
+no_rule key wrong_address none = refl

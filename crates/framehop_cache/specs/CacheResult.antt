@@ -1,5 +1,5 @@
 -- What a lookup returns.
-use Rattle.std.specs.Prelude.{◌≡◌, Bool, true, ⊤}
+use Rattle.std.specs.Prelude.{◌≡◌, Bool, true, Option, Some, None, ⊤}
 use Rattle.framehop_cache.specs.Cache.{Key, Found, hit, empty_slot, wrong_modules, wrong_address}
 use Rattle.framehop_cache.specs.declared.rule_cache.CacheResult.{CacheResult}
 use Rattle.framehop_cache.specs.declared.rule_cache.CacheResult.TheVariants.{Hit, Miss}
@@ -11,7 +11,14 @@ result_of key empty_slot = Miss key
 result_of key wrong_modules = Miss key
 result_of key wrong_address = Miss key
 
--- a rule that a lookup answers can be run
+-- the rule that was found
+abbrev pub rule_of : {R : Type 0} → Found R → Option R
+rule_of (hit rule) = Some rule
+rule_of empty_slot = None
+rule_of wrong_modules = None
+rule_of wrong_address = None
+
+-- a rule that a lookup returns can be run
 abbrev pub HitRuns : {R : Type 0} → (R → Bool) → CacheResult R → Type 0
 HitRuns executable (Hit rule) = executable rule ≡ true
 HitRuns executable (Miss _) = ⊤

@@ -2,7 +2,7 @@
 ghost use Rattle.std.specs.Prelude.{◌≡◌, ◌^◌, ◌-◌, ◌+◌, ◌∷◌, [], ◌==◌, nat_le, min, true, IfOk, IfSome, Some, length, find};
 ghost use Rattle.std.specs.List.{list_any};
 ghost use Rattle.framehop_cache.specs.Cache.{Key, counted, empty_cache, no_stats, found, inserted, inserted_in, misses_of, same_key, total_of, set_number, ways};
-ghost use Rattle.framehop_cache.specs.CacheResult.{result_of, HitRuns};
+ghost use Rattle.framehop_cache.specs.CacheResult.{result_of, rule_of, HitRuns};
 ghost use Rattle.framehop_cache.specs.CacheSet.{entry_of, entries_of_slot, entries_of, rule_found, IsSet};
 
 use framehop_core::unwind_rule::UnwindRule;
@@ -54,8 +54,8 @@ impl<R: UnwindRule> RuleCache<R> {
 
     /// Looks for the rule of a lookup address (AVMA), and counts the lookup. A handle for
     /// [`RuleCache::insert`] comes where there is none.
-    #[inline]
-    #[tactic(auto, using(crate::proofs::SetLemmas::missed, crate::proofs::SetLemmas::set_at))]
+    #[inline(always)]
+    #[tactic(auto, using(crate::proofs::SetLemmas::missed, crate::proofs::SetLemmas::set_at, crate::proofs::SetLemmas::empty_misses, crate::proofs::SetLemmas::no_rule))]
     pub fn lookup(
         &mut self,
         address: u64,
@@ -76,11 +76,25 @@ impl<R: UnwindRule> RuleCache<R> {
             self.stats.hit_count = self.stats.hit_count.saturating_add(1);
             return CacheResult::Hit(unwind_rule);
         }
-        self.lookup_in_set(address, modules_generation, is_first_frame)
+        if set.is_empty() {
+            self.stats.miss_empty_slot_count = self.stats.miss_empty_slot_count.saturating_add(1);
+        } else if let Some(unwind_rule) = self.lookup_in_set(
+            address,
+            modules_generation,
+            is_first_frame,
+        ) {
+            return CacheResult::Hit(unwind_rule);
+        }
+        CacheResult::Miss(CacheHandle {
+            set: number,
+            address,
+            modules_generation,
+            is_first_frame,
+        })
     }
 
-    /// The same with both entries of the set. It is called, so that a hit of the newest entry is
-    /// inlined.
+    /// Looks for the rule in both entries of the set, and counts the lookup. It is called, so that
+    /// a hit of the newest entry and a miss at an empty set are inlined.
     #[inline(never)]
     #[tactic(auto, using(crate::proofs::SetLemmas::missed, crate::proofs::SetLemmas::set_at))]
     fn lookup_in_set(
@@ -88,10 +102,10 @@ impl<R: UnwindRule> RuleCache<R> {
         address: u64,
         modules_generation: u64,
         is_first_frame: bool,
-    ) -> CacheResult<R>
-        ensures answer { let key : Key = record { address = address; generation = modules_generation; is_first_frame = is_first_frame } in
-            result ≡ result_of key (found ways self.old.sets key) }
-        ensures runnable { HitRuns R.executable result }
+    ) -> Option<R>
+        ensures answer { result ≡ rule_of
+            (found ways self.old.sets (record { address = address; generation = modules_generation; is_first_frame = is_first_frame })) }
+        ensures runnable { IfSome result (λ rule. R.executable rule ≡ true) }
         ensures kept { self.new.sets ≡ self.old.sets }
         ensures stats { self.new.stats ≡ counted self.old.stats
             (found ways self.old.sets (record { address = address; generation = modules_generation; is_first_frame = is_first_frame })) }
@@ -101,7 +115,7 @@ impl<R: UnwindRule> RuleCache<R> {
         let set = &self.sets[number as usize];
         if let Some(unwind_rule) = set.find(address, modules_generation, is_first_frame) {
             self.stats.hit_count = self.stats.hit_count.saturating_add(1);
-            return CacheResult::Hit(unwind_rule);
+            return Some(unwind_rule);
         }
         if !set.is_full() {
             self.stats.miss_empty_slot_count = self.stats.miss_empty_slot_count.saturating_add(1);
@@ -116,12 +130,7 @@ impl<R: UnwindRule> RuleCache<R> {
                 .miss_wrong_modules_count
                 .saturating_add(1);
         }
-        CacheResult::Miss(CacheHandle {
-            set: number,
-            address,
-            modules_generation,
-            is_first_frame,
-        })
+        None
     }
 }
 
@@ -217,6 +226,15 @@ impl<R: UnwindRule> CacheSet<R> {
         }
     }
 
+    /// Whether the set has no entry.
+    #[inline(always)]
+    fn is_empty(&self) -> bool
+        requires { IsSet R.executable self.now }
+        ensures { result ≡ (length (entries_of self.now) == 0) }
+    {
+        matches!(self.newest, Slot::Empty)
+    }
+
     /// Whether the set has no room without dropping an entry.
     #[inline(always)]
     fn is_full(&self) -> bool
@@ -244,10 +262,11 @@ impl<R: UnwindRule> CacheSet<R> {
         ensures stored { entries_of self.new ≡ inserted_in ways (entry_of is_first_frame entry) (entries_of self.old) }
         ensures set { IsSet R.executable self.new }
     {
-        if self
-            .newest
-            .find(entry.address, entry.modules_generation, is_first_frame)
-            .is_none()
+        if !self.is_empty()
+            && self
+                .newest
+                .find(entry.address, entry.modules_generation, is_first_frame)
+                .is_none()
         {
             self.older = self.newest;
         }
