@@ -1,5 +1,6 @@
 -- What the contracts of this crate cite: memory, outcomes, runs, and each architecture's registers and rules.
 pub mod AddSigned
+pub mod Bits
 pub mod ErrorText
 pub mod Memory
 pub mod CodeAddress
