@@ -1,6 +1,6 @@
 -- The modules in order of start, around the place of an address.
-use Rattle.std.proofs.Common.{◌≡◌, ℕ, zero, suc, ◌+◌, ◌<◌, ◌≤◌, Bool, true, false, not, List, [], ◌∷◌, length, take, drop, filter, slice_index_or, refl, ap, sym, arith, insert, remove, leb-true, leb-false, eq-eqb, ne_eqb, ◌==◌, ◌||◌, ⊎_elim}
-use Rattle.std.proofs.lemmas.Bool.{cases_lt}
+use Rattle.std.proofs.Common.{◌≡◌, ℕ, zero, suc, ◌+◌, ◌<◌, ◌≤◌, Bool, true, false, not, List, [], ◌∷◌, length, take, drop, filter, slice_index_or, refl, ap, sym, arith, insert, remove, leb-true, leb-false, eq-eqb, ne_eqb, ◌==◌, ⊎_elim}
+use Rattle.std.proofs.lemmas.Bool.{cases_lt, or_right}
 use Rattle.std.specs.List.Sorted.{IsPartitionPoint}
 use Rattle.std.proofs.lemmas.List.Sorted.{IsNonDecreasingBy-insert}
 use Rattle.framehop.specs.Modules.{ModuleView, AreInOrder, has_start, without_module, starts_by, starting_by, starting_above}
@@ -57,10 +57,6 @@ AreInOrder-inserted modules i m ordered within point =
 
 -- ---- the last module of a start
 
-either-true : (a b : Bool) → b ≡ true → (a || b) ≡ true
-either-true true b e = refl
-either-true false b e = e
-
 -- no module has the start
 absent-start : (start : ℕ) (modules : List ModuleView) → ((k : ℕ) (d : ModuleView) → k < length modules → (slice_index_or modules k d).start ≡ start → ⊥) → has_start start modules ≡ false
 absent-start start [] none = refl
@@ -78,7 +74,7 @@ last-start start (m ∷ modules) zero d within is none =
     (rw here refl, rw (rest, here) refl)
 last-start start (m ∷ modules) (suc i) d within is none =
     let rest = last-start start modules i d (omega arith) is (λ k e behind inside. none (suc k) e (omega arith) (omega arith)) in
-    (either-true (m.start == start) (has_start start modules) rest.0, rw rest.0 (ap (λ others. m ∷ others) rest.1))
+    (or_right (m.start == start) (has_start start modules) rest.0, rw rest.0 (ap (λ others. m ∷ others) rest.1))
 
 module _ (start : ℕ) (modules : List ModuleView) (i : ℕ) (point : IsPartitionPoint (λ m. starts_by start m ≡ true) (λ m. starts_by start m ≡ false) modules i) where
   -- behind the place no module has the start

@@ -1,10 +1,11 @@
 -- A step that answers an address does what the source of its rule means, by the laws of the readers.
-use Rattle.std.proofs.Common.{◌≡◌, ℕ, ◌+◌, ◌-◌, ◌==◌, Bool, true, false, List, Option, Some, None, Result, Ok, Err, IfOk, IfSome, MatchOption, option_map, inl, inr, refl, sym, ap, ◌∙◌, subst}
+use Rattle.std.proofs.Common.{◌≡◌, ℕ, ◌+◌, ◌-◌, ◌==◌, Bool, true, false, List, Option, Some, None, Result, Ok, Err, IfOk, IfSome, MatchOption, inl, inr, refl, sym, ap, ◌∙◌, subst}
 use Rattle.std.specs.Option.{option_and_then, unwrap_or}
 use Rattle.std.proofs.lemmas.Bool.{cases_Bool}
 use Rattle.framehop_core.specs.Memory.{Memory}
 use Rattle.framehop_core.specs.CodeAddress.{FrameLocation, is_first_frame, lookup_address}
 use Rattle.framehop_core.specs.Outcome.{Outcome, answered}
+use Rattle.framehop_core.specs.Laws.Basics.{option_map-some}
 use Rattle.framehop_cfi.specs.Row.{Row}
 use Rattle.framehop_cfi.specs.Section.{Section}
 use Rattle.framehop_dwarf.specs.Unwinder.{Reading, unread, uncovered, by_row, reading_of, OfRow}
@@ -53,11 +54,6 @@ pub record Laws {Rule Regs : Type 0} (words : Words Rule Regs) (meanings : Meani
   pub code_means : (function : Function) (code : List ℕ) (offset : ℕ) (rule : Rule)
       → meanings.by_code function code offset ≡ Some rule → meanings.undoes code offset rule
 
-mapped : {A B : Type 0} (f : A → B) (o : Option A) (y : B) → option_map f o ≡ Some y
-    → (x : A) × (o ≡ Some x) × (f x ≡ y)
-mapped f (Some x) y is = (x, refl, cc)
-mapped f None y is = cc
-
 answered-same : {Regs : Type 0} (values : ℕ × Regs) (address : ℕ) (new : Regs)
     → answered values.0 values.1 ≡ answered address new → values ≡ (address, new)
 answered-same (a, r) address new e = cc
@@ -82,7 +78,7 @@ module _ {Rule Regs : Type 0} (words : Words Rule Regs) where
         | inl begins ↦ (let e = rw begins at is in cc)
         | inr past ↦
             let e = rw past at is in
-            let c = mapped (λ code. record {
+            let c = option_map-some (λ code. record {
               function = function;
               code = code;
               offset = address -
