@@ -5,7 +5,8 @@ pub mod ErrorText
 pub mod Memory
 pub mod CodeAddress
 pub mod Outcome
-pub mod Laws
 pub mod Runs
 pub mod Aarch64
 pub mod X86_64
+-- Lemmas that the traits' laws and other crates import: a reader of the contracts can pass them.
+pub mod Laws
