@@ -96,15 +96,15 @@ abbrev pub found_opcode : Option ℕ → Result ℕ CompactReadError
 found_opcode None = Err BadEncodingIndex
 found_opcode (Some opcode) = Ok opcode
 
-unfoldable pub opcode_of : List ℕ → List ℕ → ℕ → Result ℕ CompactReadError
-opcode_of common own number = found_opcode (slice_get (opcodes_of common ++ opcodes_of own) number)
+unfoldable pub opcode_by_number : List ℕ → List ℕ → ℕ → Result ℕ CompactReadError
+opcode_by_number common own number = found_opcode (slice_get (opcodes_of common ++ opcodes_of own) number)
 
 -- the function of a row of a compressed page: the high 8 bits of its word are the opcode's number
 abbrev pub compressed_function : List ℕ → List ℕ → List ℕ → ℕ → Row → ℕ → Result (Option Function) CompactReadError
 compressed_function common entries opcodes address row end =
     if nat_le (2 ^ 32) end then Err AddressTooBig
     else (if nat_le end address then Ok None
-    else (opcode_of common opcodes (le4 entries (4 * row.index) / 2 ^ 24) >>= (λ opcode.
+    else (opcode_by_number common opcodes (le4 entries (4 * row.index) / 2 ^ 24) >>= (λ opcode.
     Ok (Some (record { start_address = row.start; end_address = end; opcode = opcode })))))
 
 abbrev pub in_compressed : List ℕ → List ℕ → List ℕ → ℕ → ℕ → Option Row → Result (Option Function) CompactReadError

@@ -15,7 +15,7 @@ use Rattle.framehop_core.specs.declared.aarch64.unwind_rule.UnwindRuleAarch64.Th
 use Rattle.framehop_core.specs.Laws.Basics.{ok-same}
 use Rattle.framehop_analysis.specs.Aarch64.Words.{AreWordsAt, is_load, is_add_sp, addressing, pair_offset, first_register, second_register, immediate, is_signing, is_other, is_return, is_b, is_br, is_braa, is_mov, is_check, is_branch}
 use Rattle.framehop_analysis.specs.Aarch64.Machine.{State, Step, Signs, RunOut, SameAddress, HasRegisters, offset_by, access_address}
-use Rattle.framehop_analysis.specs.Aarch64.Epilogue.{Places, at_pc, is_restoring, places_after, places_after_all, place_after_load, AllRestoring, IsAuthenticatedCall, by_b, by_braa, IsEnd, returns, branches, calls, IsRestored, inside_call, at_tail_call, IsPlace, IsRuleOfPlaces, IsEpilogueRule, restored, restores, DoesEpilogue}
+use Rattle.framehop_analysis.specs.Aarch64.Epilogue.{Places, at_pc, is_restoring, places_after, places_after_all, place_after_load, AllRestoring, IsAuthenticatedCall, by_b, by_braa, IsEnd, returns, branches, calls, IsRestored, inside_call, at_tail_call, IsPlaceInWords, IsRuleOfPlaces, IsEpilogueRule, restored, restores, DoesEpilogue}
 use Rattle.framehop_analysis.specs.Laws.Aarch64.Offsets.{offset_by-fits, offset_by-zero, offset_by-offset_by}
 use Rattle.framehop_analysis.specs.Laws.Aarch64.Calls.{branch-not-restoring, return-branch, b-branch, br-branch, braa-branch}
 use Rattle.framehop_analysis.specs.Laws.Aarch64.Undoes.{stripped-again, at-memory}
@@ -312,7 +312,7 @@ fp-kept r here out new_fp None e fp stands same = fp ∙ stands.fp ∙ ap Some s
 fp-kept r here out new_fp (Some place) e fp stands same = cc
 
 stored : (here : State) (r : Registers) (p : Option ℤ) (z : ℤ) (old : Option ℕ) (word : ℕ) → here.sp ≡ r.sp
-    → IsPlace p z → word_from here.memory (beside r.sp z) ≡ Ok word → value_at here p old ≡ Some word
+    → IsPlaceInWords p z → word_from here.memory (beside r.sp z) ≡ Ok word → value_at here p old ≡ Some word
 unfolding value_at
 stored here r None z old word sp is read = elim is [ ]
 stored here r (Some place) z old word sp is read =

@@ -124,7 +124,8 @@ not-eq m n e = λ same. grind (arith, nat_tests)
 -- the opcode of a pop of one of the first eight registers but rsp
 plain-code : (opcode : ℕ) → is_plain_pop opcode ≡ true → (opcode / 8 ≡ 11) × (opcode ≢ 0x5C)
 plain-code opcode is =
-    (eqb-true _ _ (and_parts _ _ is).0, not-eq opcode 0x5C (and_parts (is_pop_opcode opcode) (not (opcode == 0x5C)) is).1)
+    let parts = and_parts (is_pop_opcode opcode) (not (opcode == 0x5C)) is in
+    (eqb-true _ _ parts.0, not-eq opcode 0x5C parts.1)
 
 -- at a pop that has been read the machine pops the same
 pub step-pop : (text : List ℕ) (at next size : ℕ) (is_bp : Bool) (s t : State) → IsPopBytes text at size is_bp
