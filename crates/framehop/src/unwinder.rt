@@ -17,7 +17,7 @@ ghost use Rattle.framehop_cache.specs.Cache.{found, counted, ways};
 ghost use Rattle.framehop_cache.specs.CacheResult.{result_of, HitRuns};
 ghost use Rattle.framehop.specs.Soundness.{key_of, AreApart, sets_after_miss, TakesMemory};
 ghost use Rattle.std.specs.List.Sorted.{IsPartitionPoint};
-ghost use Rattle.framehop.specs.Modules.{ModuleView, UnwinderView, AreInOrder, starting_by, starting_above, with_module, has_start, without_module, starts_by, covers, covering, greatest_end};
+ghost use Rattle.framehop.specs.Modules.{ModuleView, UnwinderView, IsMade, AreInOrder, starting_by, starting_above, with_module, has_start, without_module, starts_by, covers, covering, greatest_end};
 
 use crate::cache::{AllocationPolicy, Cache};
 pub use crate::iterator::UnwindIterator;
@@ -482,11 +482,7 @@ impl<D: SectionBytes + Drop, A: Unwinding, P: AllocationPolicy> UnwinderInternal
     /// An unwinder without modules, of the next generation. It takes no memory, and is refused
     /// only at the counter's end.
     pub fn new(alloc: Global, generations: &mut Generations) -> Result<Self, ModuleListError>
-        ensures { MatchResult result
-            (λ made. (made ≡ record { modules = []; generation = generations.old })
-            × (generations.new ≡ generations.old + 1) × (generations.old < 2 ^ 64 - 1))
-            (λ error. (error ≡ ModuleListError.GenerationsExhausted)
-            × (generations.old ≡ 2 ^ 64 - 1) × (generations.new ≡ generations.old)) }
+        ensures { IsMade result generations.old generations.new }
     {
         let Some(modules_generation) = generations.next() else {
             return Err(ModuleListError::GenerationsExhausted);
