@@ -10,8 +10,8 @@ use Rattle.framehop_core.specs.declared.unwind_result.UnwindResult.TheVariants.{
 use Rattle.framehop.specs.Answer.{Fresh, by_rule, direct}
 use Rattle.framehop.specs.Modules.{ModuleView, covering}
 use Rattle.framehop.specs.Policy.{Policy}
-use Rattle.framehop.specs.Unwinding.{Unwinding, Words, answer_by, takes_memory_by}
-use Rattle.framehop.specs.Soundness.{TakesMemory}
+use Rattle.framehop.specs.Unwinding.{Unwinding, Readers, answer_by, may_take_memory_by}
+use Rattle.framehop.specs.Soundness.{MayTakeMemory}
 use Rattle.framehop.specs.Fresh.{fresh, outcome_of}
 use Rattle.framehop.specs.Told.{out_of_memory, IsDirect, values_in, TellsAnswer, TellsValues, WritesWithAddress, RuleHas, TellsFresh, TellsFreshValues, WritesComputed, AnswerHas, no_memory, no_values, nothing, IsAnswerOf}
 use Rattle.framehop.specs.Laws.Meaning.{fresh-covered}
@@ -24,19 +24,19 @@ pub fresh-uncovered : {R Regs : Type 0} (unwinding : Unwinding R Regs) (modules 
 unfolding fresh
 fresh-uncovered unwinding modules address first covers = rw covers refl
 
--- the same by the words of an architecture
-pub given-fresh : {R Regs : Type 0} (unwinding : Unwinding R Regs) (words : Words R Regs) (policy : Policy) (fallback : R) → unwinding.module_answer ≡ answer_by words policy → unwinding.fallback ≡ fallback → (modules : List ModuleView) (address : ℕ) (first : Bool) (m : ModuleView) (relative : ℕ) → covering modules address ≡ Some m → relative ≡ address - m.base_avma → unwrap_or (answer_by words policy m relative first) (by_rule fallback) ≡ fresh unwinding modules address first
-given-fresh unwinding words policy fallback answers default modules address first m relative covers is =
+-- the same by the readers of an architecture
+pub given-fresh : {R Regs : Type 0} (unwinding : Unwinding R Regs) (readers : Readers R Regs) (policy : Policy) (fallback : R) → unwinding.module_answer ≡ answer_by readers policy → unwinding.fallback ≡ fallback → (modules : List ModuleView) (address : ℕ) (first : Bool) (m : ModuleView) (relative : ℕ) → covering modules address ≡ Some m → relative ≡ address - m.base_avma → unwrap_or (answer_by readers policy m relative first) (by_rule fallback) ≡ fresh unwinding modules address first
+given-fresh unwinding readers policy fallback answers default modules address first m relative covers is =
     sym (fresh-covered unwinding modules address first m covers
     ∙ ap (λ answer. unwrap_or (answer m (address - m.base_avma) first) (by_rule unwinding.fallback)) answers
-    ∙ ap (λ at. unwrap_or (answer_by words policy m at first) (by_rule unwinding.fallback)) (sym is)
-    ∙ ap (λ rule. unwrap_or (answer_by words policy m relative first) (by_rule rule)) default)
+    ∙ ap (λ at. unwrap_or (answer_by readers policy m at first) (by_rule unwinding.fallback)) (sym is)
+    ∙ ap (λ rule. unwrap_or (answer_by readers policy m relative first) (by_rule rule)) default)
 
-pub takes-memory : {R Regs : Type 0} (unwinding : Unwinding R Regs) (words : Words R Regs) (policy : Policy) → unwinding.takes_memory ≡ takes_memory_by words policy → (modules : List ModuleView) (address : ℕ) (first : Bool) (m : ModuleView) (relative : ℕ) → covering modules address ≡ Some m → relative ≡ address - m.base_avma → takes_memory_by words policy m relative first ≡ true → TakesMemory unwinding modules address first
-takes-memory unwinding words policy memory modules address first m relative covers is takes = record {
+pub may-take-memory : {R Regs : Type 0} (unwinding : Unwinding R Regs) (readers : Readers R Regs) (policy : Policy) → unwinding.may_take_memory ≡ may_take_memory_by readers policy → (modules : List ModuleView) (address : ℕ) (first : Bool) (m : ModuleView) (relative : ℕ) → covering modules address ≡ Some m → relative ≡ address - m.base_avma → may_take_memory_by readers policy m relative first ≡ true → MayTakeMemory unwinding modules address first
+may-take-memory unwinding readers policy memory modules address first m relative covers is takes = record {
   covered_by = m;
   covers = covers;
-  takes = ap (λ test. test m (address - m.base_avma) first) memory ∙ ap (λ at. takes_memory_by words policy m at first) (sym is) ∙ takes;
+  takes = ap (λ test. test m (address - m.base_avma) first) memory ∙ ap (λ at. may_take_memory_by readers policy m at first) (sym is) ∙ takes;
 }
 
 error-is : {A : Type 0} (error : UnwinderError) → error ≢ out_of_memory → ◌≢◌ {A = Result A UnwinderError} (Err error) (Err out_of_memory)

@@ -1,4 +1,4 @@
--- Why a walk on aarch64 ends: each frame behind the second raises sp, which stays below 2^64.
+-- Why a walk on aarch64 ends: each frame after the second raises sp, which stays below 2^64.
 use Rattle.std.proofs.Common.{◌≡◌, ◌≢◌, ℕ, ◌+◌, ◌-◌, ◌^◌, ◌<◌, ◌≤◌, List, [], ◌∷◌, ◌++◌, length, Option, Some, None, option_map, Result, Ok, Err, IfNone, inl, refl, sym, ap, ◌∙◌, arith}
 use Rattle.std.proofs.lemmas.List.{length_push}
 use Rattle.framehop_core.specs.CodeAddress.{FrameLocation, at_instruction_pointer, at_return_address, location_of}

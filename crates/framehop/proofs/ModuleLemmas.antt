@@ -1,6 +1,6 @@
 -- The modules in order of start, around the place of an address.
-use Rattle.std.proofs.Common.{◌≡◌, ℕ, zero, suc, ◌+◌, ◌<◌, ◌≤◌, Bool, true, false, not, List, [], ◌∷◌, length, take, drop, filter, slice_index_or, refl, ap, sym, arith, insert, remove, leb-true, leb-false, eq-eqb, ne_eqb, ◌==◌, ◌||◌, ⊎_elim}
-use Rattle.std.proofs.lemmas.Bool.{cases_lt}
+use Rattle.std.proofs.Common.{◌≡◌, ℕ, zero, suc, ◌+◌, ◌<◌, ◌≤◌, Bool, true, false, not, List, [], ◌∷◌, length, take, drop, filter, slice_index_or, refl, ap, sym, arith, insert, remove, leb-true, leb-false, eq-eqb, ne_eqb, ◌==◌, ⊎_elim}
+use Rattle.std.proofs.lemmas.Bool.{cases_lt, or_right}
 use Rattle.std.specs.List.Sorted.{IsPartitionPoint}
 use Rattle.std.proofs.lemmas.List.Sorted.{IsNonDecreasingBy-insert}
 use Rattle.framehop.specs.Modules.{ModuleView, AreInOrder, has_start, without_module, starts_by, starting_by, starting_above}
@@ -48,7 +48,7 @@ module _ (address : ℕ) (modules : List ModuleView) (i : ℕ) (point : IsPartit
   dropped-starting_above =
       sym (filter-behind (λ m. not (starts_by address m)) modules i (λ k d h. ap not (point.0 k d (omega arith) h)) (λ k d h within. ap not (point.1 k d h within)))
 
--- the list stays in order with a module behind those that start by its start
+-- the list stays in order with a module after those that start by its start
 pub AreInOrder-inserted : (modules : List ModuleView) (i : ℕ) (m : ModuleView) → AreInOrder modules → i ≤ length modules → IsPartitionPoint (λ n. starts_by m.start n ≡ true) (λ n. starts_by m.start n ≡ false) modules i → AreInOrder (insert modules i m)
 AreInOrder-inserted modules i m ordered within point =
     IsNonDecreasingBy-insert (λ n. n.start) modules i m ordered within
@@ -56,10 +56,6 @@ AreInOrder-inserted modules i m ordered within point =
     (λ k d low h. let above = leb-false _ _ (point.1 k d low h) in omega arith)
 
 -- ---- the last module of a start
-
-either-true : (a b : Bool) → b ≡ true → (a || b) ≡ true
-either-true true b e = refl
-either-true false b e = e
 
 -- no module has the start
 absent-start : (start : ℕ) (modules : List ModuleView) → ((k : ℕ) (d : ModuleView) → k < length modules → (slice_index_or modules k d).start ≡ start → ⊥) → has_start start modules ≡ false
@@ -69,7 +65,7 @@ absent-start start (m ∷ modules) none =
     let rest = absent-start start modules (λ k d within. none (suc k) d (omega arith)) in
     rw (here, rest) refl
 
--- the module at a place has the start, and none behind it
+-- the module at a place has the start, and none after it
 pub last-start : (start : ℕ) (modules : List ModuleView) (i : ℕ) (d : ModuleView) → i < length modules → (slice_index_or modules i d).start ≡ start → ((k : ℕ) (d : ModuleView) → i < k → k < length modules → (slice_index_or modules k d).start ≡ start → ⊥) → (has_start start modules ≡ true) × (remove modules i ≡ without_module start modules)
 last-start start [] i d within is none = absurd (omega arith)
 last-start start (m ∷ modules) zero d within is none =
@@ -78,10 +74,10 @@ last-start start (m ∷ modules) zero d within is none =
     (rw here refl, rw (rest, here) refl)
 last-start start (m ∷ modules) (suc i) d within is none =
     let rest = last-start start modules i d (omega arith) is (λ k e behind inside. none (suc k) e (omega arith) (omega arith)) in
-    (either-true (m.start == start) (has_start start modules) rest.0, rw rest.0 (ap (λ others. m ∷ others) rest.1))
+    (or_right (m.start == start) (has_start start modules) rest.0, rw rest.0 (ap (λ others. m ∷ others) rest.1))
 
 module _ (start : ℕ) (modules : List ModuleView) (i : ℕ) (point : IsPartitionPoint (λ m. starts_by start m ≡ true) (λ m. starts_by start m ≡ false) modules i) where
-  -- behind the place no module has the start
+  -- after the place no module has the start
   above-start : (k : ℕ) (d : ModuleView) → i ≤ k → k < length modules → (slice_index_or modules k d).start ≡ start → ⊥
   above-start k d behind within is = let above = leb-false _ _ (point.1 k d behind within) in absurd (omega arith)
 

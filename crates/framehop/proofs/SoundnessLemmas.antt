@@ -1,5 +1,6 @@
 -- A lookup in a sound cache, and what an insert leaves standing.
 use Rattle.std.proofs.Common.{eqb-true, ◌≡◌, ◌≢◌, ℕ, zero, suc, Bool, true, false, not, cond, ◌&&◌, ◌==◌, ◌⊎◌, List, [], ◌∷◌, take, filter, find, slice_index_or, slice_set, replicate, Option, Some, None, Result, Ok, Err, refl, sym, ap, ◌∙◌, subst, inl, inr, ⊎_elim}
+use Rattle.std.proofs.lemmas.Bool.{and_parts}
 use mathlib.Core.Bool.{beq}
 use Rattle.framehop_core.specs.CodeAddress.{FrameLocation, lookup_address, is_first_frame}
 use Rattle.framehop_cache.specs.Cache.{Key, Entry, Sets, CacheView, Found, hit, empty_slot, wrong_modules, wrong_address, found, hit_or, inserted, inserted_in, same_key, set_of, set_number, counted, ways, empty_cache, set_count}
@@ -86,10 +87,6 @@ empty-stands entry h = none-stands entry set_count h
 
 -- ---- keys
 
-both-true : (a b : Bool) → (a && b) ≡ true → (a ≡ true) × (b ≡ true)
-both-true true b e = (refl, e)
-both-true false b e = cc
-
 beq-true : (a b : Bool) → beq a b ≡ true → a ≡ b
 beq-true true true e = refl
 beq-true false false e = refl
@@ -101,8 +98,8 @@ key-from_parts a b p q r = λ i. record { address = p i; generation = q i; is_fi
 
 same_key-true : (a b : Key) → same_key a b ≡ true → a ≡ b
 same_key-true a b h =
-    let outer = both-true ((a.address == b.address) && (a.generation == b.generation)) (beq a.is_first_frame b.is_first_frame) h in
-    let inner = both-true (a.address == b.address) (a.generation == b.generation) outer.0 in
+    let outer = and_parts ((a.address == b.address) && (a.generation == b.generation)) (beq a.is_first_frame b.is_first_frame) h in
+    let inner = and_parts (a.address == b.address) (a.generation == b.generation) outer.0 in
     key-from_parts a b (eqb-true a.address b.address inner.0) (eqb-true a.generation b.generation inner.1) (beq-true a.is_first_frame b.is_first_frame outer.1)
 
 -- ---- lookups

@@ -12,8 +12,8 @@ use Rattle.framehop_cfi.specs.declared.dwarf_error.DwarfUnwinderError.{DwarfUnwi
 use Rattle.framehop_cfi.specs.declared.dwarf_error.DwarfUnwinderError.TheVariants.{FdeFromOffsetFailed, UnwindInfoForAddressFailed, StackPointerMovedBackwards, DidNotAdvance, CouldNotRecoverCfa, CouldNotRecoverReturnAddress, CouldNotRecoverFramePointer}
 use Rattle.framehop.specs.Policy.{Policy}
 use Rattle.framehop.specs.Answer.{Fresh, by_rule, values_of, fresh_of}
-use Rattle.framehop.specs.CallFrames.{RowWords, answer_of_reading, fde_answer}
-use Rattle.framehop.specs.Unwinding.{Words}
+use Rattle.framehop.specs.CallFrames.{RowReader, answer_of_reading, fde_answer}
+use Rattle.framehop.specs.Unwinding.{Readers}
 use Rattle.framehop_pe.specs.Answer.{IsMissingStackData, TellsFound as PeTellsFound, IsComputed, KeptUnlessDirect}
 use Rattle.framehop_pe.specs.declared.pe.PeUnwinderError.{PeUnwinderError}
 use Rattle.framehop_pe.specs.declared.pe.PeUnwinderError.TheVariants.{MissingUnwindInfoData, MissingInstructionData, MissingStackData, UnwindInfoParseError, Aarch64Unsupported}
@@ -29,9 +29,9 @@ error-in other (Err error) = error
 pub err-same : {A E : Type 0} (a b : E) → ◌≡◌ {A = Result A E} (Err a) (Err b) → a ≡ b
 err-same a b e = cc
 
--- equal words are equal for rows
-pub rows-are : {Rule Regs : Type 0} (words words' : Words Rule Regs) → words ≡ words' → words.rows ≡ words'.rows
-rows-are words words' same = ap (λ w. w.rows) same
+-- equal readers are equal for rows
+pub rows-are : {Rule Regs : Type 0} (readers readers' : Readers Rule Regs) → readers ≡ readers' → readers.rows ≡ readers'.rows
+rows-are readers readers' same = ap (λ w. w.rows) same
 
 -- the refusals of values, but for out of memory
 values-refused : (error : DwarfUnwinderError) → error ≢ no_memory → IsOfValues error → is_of_row_values error ≡ true
@@ -51,12 +51,12 @@ either-way : {P : Type 0} (b : Bool) → P → MatchBool b P (Unit {0})
 either-way true p = p
 either-way false p = tt
 
-module _ {Rule Regs : Type 0} (words : RowWords Rule Regs) (policy : Policy) (bytes : List ℕ) (first : Bool) where
+module _ {Rule Regs : Type 0} (reader : RowReader Rule Regs) (policy : Policy) (bytes : List ℕ) (first : Bool) where
   abbrev Gives : Reading → Option (Fresh Rule Regs)
-  Gives reading = answer_of_reading words policy bytes first reading
+  Gives reading = answer_of_reading reader policy bytes first reading
 
   abbrev Finds : Reading → Result (UnwindResult Rule) DwarfUnwinderError → Type 0
-  Finds reading result = TellsFound (found_by words.translated words.uncovered reading) result
+  Finds reading result = TellsFound (found_by reader.translated reader.uncovered reading) result
 
   row-err-told : (translated : Option Rule) (compute : Regs → Memory → Result (ℕ × Regs) DwarfUnwinderError) (error : DwarfUnwinderError) → error ≢ no_memory → TellsFound (Ok translated) (Err error) → TellsAnswer (fresh_of (Ok translated) compute) (Err (Dwarf error))
   row-err-told (Some rule) compute error some told = cc
@@ -68,11 +68,11 @@ module _ {Rule Regs : Type 0} (words : RowWords Rule Regs) (policy : Policy) (by
       let same : error ≡ FdeFromOffsetFailed e = ap (error-in error) told in
       subst (λ (x : DwarfUnwinderError). TellsAnswer (Gives (unread e)) (Err (Dwarf x))) (sym same) refl
   err-told uncovered error some told = cc
-  err-told (by_row row) error some told = row-err-told (words.translated row) _ error some told
+  err-told (by_row row) error some told = row-err-told (reader.translated row) _ error some told
 
   module _ (memory : Memory) (old new : Regs) where
     abbrev Computes : Reading → Result (ℕ × Regs) DwarfUnwinderError
-    Computes reading = direct_by (λ row. words.direct bytes policy.values memory row first old) reading
+    Computes reading = direct_by (λ row. reader.direct bytes policy.values memory row first old) reading
 
     row-err-values : (translated : Option Rule) (compute : Regs → Memory → Result (ℕ × Regs) DwarfUnwinderError) (error : DwarfUnwinderError) → TellsFound (Ok translated) (Err error) → compute old memory ≡ Err error → TellsValues (fresh_of (Ok translated) compute) old memory (Err (Dwarf error)) new
     row-err-values (Some rule) compute error told is = cc
@@ -81,7 +81,7 @@ module _ {Rule Regs : Type 0} (words : RowWords Rule Regs) (policy : Policy) (by
     pub err-values : (reading : Reading) (error : DwarfUnwinderError) → error ≢ no_memory → Finds reading (Err error) → TellsDirect {R = Rule} (Computes reading) (Err error) new → TellsValues (Gives reading) old memory (Err (Dwarf error)) new
     err-values (unread e) error some told is = either-way (is_of_row_values error) refl
     err-values uncovered error some told is = cc
-    err-values (by_row row) error some told is = row-err-values (words.translated row) _ error told (is some)
+    err-values (by_row row) error some told is = row-err-values (reader.translated row) _ error told (is some)
 
     row-ok-values : (translated : Option Rule) (compute : Regs → Memory → Result (ℕ × Regs) DwarfUnwinderError) (address : ℕ) → TellsFound (Ok translated) (Ok (Uncacheable address)) → compute old memory ≡ Ok (address, new) → TellsValues (fresh_of (Ok translated) compute) old memory (Ok (Uncacheable address)) new
     row-ok-values (Some rule) compute address told is = cc
@@ -91,7 +91,7 @@ module _ {Rule Regs : Type 0} (words : RowWords Rule Regs) (policy : Policy) (by
     ok-values reading (ExecRule rule) told is = tt
     ok-values (unread e) (Uncacheable address) told is = cc
     ok-values uncovered (Uncacheable address) told is = cc
-    ok-values (by_row row) (Uncacheable address) told is = row-ok-values (words.translated row) _ address told is
+    ok-values (by_row row) (Uncacheable address) told is = row-ok-values (reader.translated row) _ address told is
 
 -- ---- PE unwind info
 
@@ -150,33 +150,33 @@ module _ {Rule Regs : Type 0} where
 -- ---- call frame sections
 
 -- the same of the FDE at an offset, by the limits of a policy
-module _ {Rule Regs : Type 0} (words : RowWords Rule Regs) (policy : Policy) (section : Section) (address : ℕ) (first : Bool) (offset : ℕ) (rows : Option StorageLimits) (values : Option ℕ) (same_rows : policy.rows ≡ rows) (same_values : policy.values ≡ values) where
+module _ {Rule Regs : Type 0} (reader : RowReader Rule Regs) (policy : Policy) (section : Section) (address : ℕ) (first : Bool) (offset : ℕ) (rows : Option StorageLimits) (values : Option ℕ) (same_rows : policy.rows ≡ rows) (same_values : policy.values ≡ values) where
   abbrev Found : Result (UnwindResult Rule) DwarfUnwinderError → Type 0
-  Found result = TellsFound (found_by words.translated words.uncovered (reading_of rows section address offset)) result
+  Found result = TellsFound (found_by reader.translated reader.uncovered (reading_of rows section address offset)) result
 
-  same-found : (result : Result (UnwindResult Rule) DwarfUnwinderError) → Found result → TellsFound (found_by words.translated words.uncovered (reading_of policy.rows section address offset)) result
+  same-found : (result : Result (UnwindResult Rule) DwarfUnwinderError) → Found result → TellsFound (found_by reader.translated reader.uncovered (reading_of policy.rows section address offset)) result
   same-found result told =
-      subst (λ (limits : Option StorageLimits). TellsFound (found_by words.translated words.uncovered (reading_of limits section address offset)) result) (sym same_rows) told
+      subst (λ (limits : Option StorageLimits). TellsFound (found_by reader.translated reader.uncovered (reading_of limits section address offset)) result) (sym same_rows) told
 
-  pub fde-err-told : (error : DwarfUnwinderError) → error ≢ no_memory → Found (Err error) → TellsAnswer (fde_answer words policy section address first offset) (Err (Dwarf error))
+  pub fde-err-told : (error : DwarfUnwinderError) → error ≢ no_memory → Found (Err error) → TellsAnswer (fde_answer reader policy section address first offset) (Err (Dwarf error))
   unfolding fde_answer
-  fde-err-told error some told = err-told words policy section.bytes first _ error some (same-found (Err error) told)
+  fde-err-told error some told = err-told reader policy section.bytes first _ error some (same-found (Err error) told)
 
   module _ (memory : Memory) (old new : Regs) where
     abbrev Direct : Option StorageLimits → Option ℕ → Result (ℕ × Regs) DwarfUnwinderError
-    Direct limits most = direct_by (λ row. words.direct section.bytes most memory row first old) (reading_of limits section address offset)
+    Direct limits most = direct_by (λ row. reader.direct section.bytes most memory row first old) (reading_of limits section address offset)
 
     same-direct : (result : Result (UnwindResult Rule) DwarfUnwinderError) → TellsDirect {R = Rule} (Direct rows values) result new → TellsDirect {R = Rule} (Direct policy.rows policy.values) result new
     same-direct result told =
         subst (λ (limits : Option StorageLimits). TellsDirect {R = Rule} (Direct limits policy.values) result new) (sym same_rows)
         (subst (λ (most : Option ℕ). TellsDirect {R = Rule} (Direct rows most) result new) (sym same_values) told)
 
-    pub fde-err-values : (error : DwarfUnwinderError) → error ≢ no_memory → Found (Err error) → TellsDirect {R = Rule} (Direct rows values) (Err error) new → TellsValues (fde_answer words policy section address first offset) old memory (Err (Dwarf error)) new
+    pub fde-err-values : (error : DwarfUnwinderError) → error ≢ no_memory → Found (Err error) → TellsDirect {R = Rule} (Direct rows values) (Err error) new → TellsValues (fde_answer reader policy section address first offset) old memory (Err (Dwarf error)) new
     unfolding fde_answer
     fde-err-values error some told is =
-        err-values words policy section.bytes first memory old new _ error some (same-found (Err error) told) (same-direct (Err error) is)
+        err-values reader policy section.bytes first memory old new _ error some (same-found (Err error) told) (same-direct (Err error) is)
 
-    pub fde-ok-values : (found : UnwindResult Rule) → Found (Ok found) → TellsDirect {R = Rule} (Direct rows values) (Ok found) new → TellsValues (fde_answer words policy section address first offset) old memory (Ok found) new
+    pub fde-ok-values : (found : UnwindResult Rule) → Found (Ok found) → TellsDirect {R = Rule} (Direct rows values) (Ok found) new → TellsValues (fde_answer reader policy section address first offset) old memory (Ok found) new
     unfolding fde_answer
     fde-ok-values found told is =
-        ok-values words policy section.bytes first memory old new _ found (same-found (Ok found) told) (same-direct (Ok found) is)
+        ok-values reader policy section.bytes first memory old new _ found (same-found (Ok found) told) (same-direct (Ok found) is)

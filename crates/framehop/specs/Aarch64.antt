@@ -16,7 +16,7 @@ use Rattle.framehop_cache.specs.Cache.{CacheView}
 use Rattle.framehop.specs.Modules.{ModuleView, UnwinderView}
 use Rattle.framehop.specs.Meaning.{Meanings, MeansAt}
 use Rattle.framehop.specs.Policy.{Policy}
-use Rattle.framehop.specs.Unwinding.{Unwinding, Words, answer_by, takes_memory_by}
+use Rattle.framehop.specs.Unwinding.{Unwinding, Readers, answer_by, may_take_memory_by}
 use Rattle.framehop.specs.Soundness.{IsSound, cache_after}
 use Rattle.framehop.specs.Walk.{at_limit, walk_from, cache_after_walk}
 use Rattle.framehop.specs.Rise.{IsWalkWithinRise}
@@ -26,8 +26,8 @@ use Rattle.framehop.specs.CachedWorld.{CachedReply, of_world, step_of}
 use Rattle.framehop.specs.declared.aarch64.cache.CacheAarch64.{CacheAarch64}
 
 -- what aarch64 makes of unwind data
-abbrev pub aarch64_words : Words UnwindRuleAarch64 Registers
-aarch64_words = record {
+abbrev pub aarch64_readers : Readers UnwindRuleAarch64 Registers
+aarch64_readers = record {
   rows = record { translated = translated; uncovered = NoOpIfFirstFrameOtherwiseFp; direct = direct_of };
   pe_found = λ sections relative first. Err Aarch64Unsupported;
   pe_computed = λ sections relative first memory old. Err Aarch64Unsupported;
@@ -40,7 +40,7 @@ aarch64_meanings = record {
   row = RowMeans;
   columns = ColumnsMean;
   by_code = by_code;
-  undoes = λ code offset rule.
+  does_code = λ code offset rule.
       (IsPrologueRule (take offset code) (drop offset code) rule × ReachesFrom (take offset code)
       × UndoesPrologue (take offset code) rule)
       ⊎ (IsEpilogueRule code offset rule × EndsFrom code offset × DoesEpilogue code offset rule);
@@ -49,15 +49,15 @@ aarch64_meanings = record {
 -- a step is what the source of its rule means
 abbrev pub aarch64_means : Policy → List ModuleView → FrameLocation → Registers → Memory → ℕ → Registers → Type 0
 aarch64_means policy modules location old memory address new =
-    MeansAt aarch64_words aarch64_meanings outcome policy modules location old memory address new
+    MeansAt aarch64_readers aarch64_meanings outcome policy modules location old memory address new
 
 -- aarch64 under a policy
 unfoldable pub aarch64 : Policy → Unwinding UnwindRuleAarch64 Registers
 aarch64 policy = record {
   outcome = outcome;
   fallback = UseFramePointer;
-  module_answer = answer_by aarch64_words policy;
-  takes_memory = takes_memory_by aarch64_words policy;
+  module_answer = answer_by aarch64_readers policy;
+  may_take_memory = may_take_memory_by aarch64_readers policy;
   stack_pointer = λ r. r.sp;
   always_rises = true;
 }

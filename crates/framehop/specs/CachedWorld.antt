@@ -22,10 +22,6 @@ pub record CachedWorld (R : Type 0) : Type 0 where
   pub next : ℕ
   pub caches : List (CacheView R)
 
--- the unwinders and the caches of a session, with the next generation
-abbrev pub state_of : {R : Type 0} → List UnwinderView → List (CacheView R) → ℕ → CachedWorld R
-state_of unwinders caches next = record { unwinders = unwinders; next = next; caches = caches }
-
 -- the same without caches and generation numbers
 abbrev pub world_of : {R : Type 0} → CachedWorld R → World
 world_of state =

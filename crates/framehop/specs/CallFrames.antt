@@ -47,29 +47,29 @@ offset_by frames None relative = offset_among (pairs_of frames.section frames.ba
 unfoldable pub fde_offset_of : CallFrames → ℕ → Option ℕ
 fde_offset_of frames relative = offset_by frames frames.header relative
 
--- what an architecture makes of rows: the rule that a row is translated to, if it is, the rule of an address without a
--- row, and the values of a row without a rule
-pub record RowWords (Rule Regs : Type 0) : Type 0 where
+-- what the reader of rows gives on an architecture: the rule that a row is translated to, if it is, the rule of an
+-- address without a row, and the values of a row without a rule
+pub record RowReader (Rule Regs : Type 0) : Type 0 where
   pub translated : Row → Option Rule
   pub uncovered : Rule
   pub direct : List ℕ → Option ℕ → Memory → Row → Bool → Regs → Result (ℕ × Regs) DwarfUnwinderError
 
 -- what is read for an address gives: a rule, or values
-abbrev pub answer_of_reading : {Rule Regs : Type 0} → RowWords Rule Regs → Policy → List ℕ → Bool → Reading
+abbrev pub answer_of_reading : {Rule Regs : Type 0} → RowReader Rule Regs → Policy → List ℕ → Bool → Reading
     → Option (Fresh Rule Regs)
-answer_of_reading words policy bytes first reading =
-    fresh_of (found_by words.translated words.uncovered reading)
-    (λ regs memory. direct_by (λ row. words.direct bytes policy.values memory row first regs) reading)
+answer_of_reading reader policy bytes first reading =
+    fresh_of (found_by reader.translated reader.uncovered reading)
+    (λ regs memory. direct_by (λ row. reader.direct bytes policy.values memory row first regs) reading)
 
 -- what the FDE at an offset gives for an address, an SVMA
-unfoldable pub fde_answer : {Rule Regs : Type 0} → RowWords Rule Regs → Policy → Section → ℕ → Bool → ℕ
+unfoldable pub fde_answer : {Rule Regs : Type 0} → RowReader Rule Regs → Policy → Section → ℕ → Bool → ℕ
     → Option (Fresh Rule Regs)
-fde_answer words policy section address first offset =
-    answer_of_reading words policy section.bytes first (reading_of policy.rows section address offset)
+fde_answer reader policy section address first offset =
+    answer_of_reading reader policy section.bytes first (reading_of policy.rows section address offset)
 
 -- what the section gives for a relative address in a frame of this kind, if anything
-abbrev pub frames_answer : {Rule Regs : Type 0} → RowWords Rule Regs → Policy → CallFrames → ℕ → Bool
+abbrev pub frames_answer : {Rule Regs : Type 0} → RowReader Rule Regs → Policy → CallFrames → ℕ → Bool
     → Option (Fresh Rule Regs)
-frames_answer words policy frames relative first =
-    option_and_then (fde_answer words policy frames.section (frames.base_svma + relative) first)
+frames_answer reader policy frames relative first =
+    option_and_then (fde_answer reader policy frames.section (frames.base_svma + relative) first)
     (fde_offset_of frames relative)

@@ -2,7 +2,7 @@
 -- `CompactUnwindInfoUnwinder`).
 use Rattle.std.specs.Prelude.{ℕ, ◌+◌, Bool, false, Option, Some, None, option_and_then, is_some, Ok, Err}
 use Rattle.framehop_macho.specs.Answer.{Answer}
-use Rattle.framehop_macho.specs.Unwinder.{Module, Words as CompactWords, unwound}
+use Rattle.framehop_macho.specs.Unwinder.{Module, CompactReader, unwound}
 use Rattle.framehop_macho.specs.declared.macho.CompactUnwindInfoUnwinderError.{CompactUnwindInfoUnwinderError}
 use Rattle.framehop_macho.specs.declared.macho.CompactUnwindInfoUnwinderError.TheVariants.{BadDwarfUnwinding}
 use Rattle.framehop_macho.specs.declared.macho.CuiUnwindResult.TheVariants.{ExecRule, NeedDwarf}
@@ -10,7 +10,7 @@ use Rattle.framehop.specs.Policy.{Policy}
 use Rattle.framehop.specs.Answer.{Fresh, by_rule}
 use Rattle.framehop.specs.declared.modules.UnwinderError.{UnwinderError}
 use Rattle.framehop.specs.declared.modules.UnwinderError.TheVariants.{CompactUnwindInfo, Dwarf}
-use Rattle.framehop.specs.CallFrames.{CallFrames, RowWords, fde_answer}
+use Rattle.framehop.specs.CallFrames.{CallFrames, RowReader, fde_answer}
 
 -- why compact unwind info does not unwind a frame: what call frame information refuses is its refusal
 abbrev pub refusal_of : CompactUnwindInfoUnwinderError → UnwinderError
@@ -23,7 +23,7 @@ pub record CompactData : Type 0 where
   pub frames : Option CallFrames
 
 -- what the info gives: a rule, or what the FDE at an offset of `__eh_frame` gives
-abbrev pub by_info : {Rule Regs : Type 0} → RowWords Rule Regs → Policy → Option CallFrames → ℕ → Bool → Answer Rule
+abbrev pub by_info : {Rule Regs : Type 0} → RowReader Rule Regs → Policy → Option CallFrames → ℕ → Bool → Answer Rule
     → Option (Fresh Rule Regs)
 by_info rows policy frames relative first (Ok (ExecRule rule)) = Some (by_rule rule)
 by_info rows policy frames relative first (Ok (NeedDwarf offset)) =
@@ -32,10 +32,10 @@ by_info rows policy frames relative first (Ok (NeedDwarf offset)) =
     frames
 by_info rows policy frames relative first (Err error) = None
 
-abbrev pub compact_answer : {Rule Regs : Type 0} → CompactWords Rule → RowWords Rule Regs → Policy → CompactData → ℕ
+abbrev pub compact_answer : {Rule Regs : Type 0} → CompactReader Rule → RowReader Rule Regs → Policy → CompactData → ℕ
     → Bool → Option (Fresh Rule Regs)
-compact_answer words rows policy d relative first =
-    by_info rows policy d.frames relative first (unwound words d.info relative first)
+compact_answer reader rows policy d relative first =
+    by_info rows policy d.frames relative first (unwound reader d.info relative first)
 
 -- the info names an FDE
 abbrev pub needs_fde : {Rule : Type 0} → Option CallFrames → Answer Rule → Bool

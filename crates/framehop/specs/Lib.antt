@@ -23,7 +23,8 @@ pub mod Rise
 pub mod Meant
 pub mod Aarch64
 pub mod X86_64
-pub mod Laws
 pub use Rattle.framehop_core.specs.Memory
 pub use Rattle.framehop_core.specs.Outcome
 pub use Rattle.framehop_core.specs.CodeAddress
+-- Lemmas that the traits' laws import: a reader of the contracts can pass them.
+pub mod Laws

@@ -18,16 +18,16 @@ use Rattle.framehop.specs.Policy.{Policy}
 use Rattle.framehop.specs.CallFrames.{CallFrames, fde_offset_of}
 use Rattle.framehop.specs.Compact.{CompactData}
 use Rattle.framehop.specs.Modules.{ModuleView, UnwindData, no_unwind_data, call_frames, pe_sections, compact_info, covering}
-use Rattle.framehop.specs.Unwinding.{Words}
+use Rattle.framehop.specs.Unwinding.{Readers}
 
 -- What the sources mean on an architecture. `row`: a row that is translated to a rule; `columns`: one that is not, as
 -- far as its columns have values; `by_code`: the rule by the code around an offset of a function, if the code gives
--- one; `undoes`: that such a rule undoes a prologue or does the rest of an epilogue.
+-- one; `does_code`: that such a rule undoes a prologue or does the rest of an epilogue.
 pub record Meanings (Rule Regs : Type 0) : Type 1 where
   pub row : List ℕ → Memory → Row → Bool → Regs → ℕ → Regs → Type 0
   pub columns : List ℕ → Option ℕ → Memory → Row → Bool → Regs → ℕ → Regs → Type 0
   pub by_code : Function → List ℕ → ℕ → Option Rule
-  pub undoes : List ℕ → ℕ → Rule → Type 0
+  pub does_code : List ℕ → ℕ → Rule → Type 0
 
 -- a step of a frame: its kind (`true`: the first), its registers, the memory, the return address, and the caller's
 -- registers
@@ -58,13 +58,13 @@ code_place m address first =
     if first && not (is_in m.stubs address) && not (is_in m.stub_helper address)
     then place_in m.text address (function_of m.unwind_info address) else None
 
-module _ {Rule Regs : Type 0} (words : Words Rule Regs) (meanings : Meanings Rule Regs)
+module _ {Rule Regs : Type 0} (readers : Readers Rule Regs) (meanings : Meanings Rule Regs)
     (outcome : Rule → Bool → Regs → Memory → Outcome Regs) (policy : Policy) (s : Step Regs) where
   -- by a row: what it means, or where it has no rule, what its columns mean, if its values can be computed
   abbrev pub MeansRow : List ℕ → Row → Type 0
   MeansRow bytes row =
-      MatchOption (words.rows.translated row)
-      (IfOk (words.rows.direct bytes policy.values s.memory row s.first s.old)
+      MatchOption (readers.rows.translated row)
+      (IfOk (readers.rows.direct bytes policy.values s.memory row s.first s.old)
       (λ _. meanings.columns bytes policy.values s.memory row s.first s.old s.address s.new))
       (λ _. meanings.row bytes s.memory row s.first s.old s.address s.new)
 
@@ -79,15 +79,15 @@ module _ {Rule Regs : Type 0} (words : Words Rule Regs) (meanings : Meanings Rul
   -- by a rule of PE unwind info: the return address and the registers that the codes or the epilog say
   abbrev pub MeansPe : Sections → ℕ → Type 0
   MeansPe sections relative =
-      IfOk (words.pe_found sections relative s.first)
+      IfOk (readers.pe_found sections relative s.first)
       (λ found. IfSome found
-      (λ _. words.pe_computed sections relative s.first s.memory s.old ≡ Ok (s.address, s.new)))
+      (λ _. readers.pe_computed sections relative s.first s.memory s.old ≡ Ok (s.address, s.new)))
 
   -- by the code around the address: the step is that of a rule which undoes a prologue or does the rest of an epilogue
   abbrev pub MeansCode : Place → Type 0
   MeansCode place =
       IfSome (meanings.by_code place.function place.code place.offset)
-      (λ rule. meanings.undoes place.code place.offset rule
+      (λ rule. meanings.does_code place.code place.offset rule
       × (outcome rule true s.old s.memory ≡ answered s.address s.new))
 
   -- by the FDE that the info names, if it does
@@ -100,7 +100,7 @@ module _ {Rule Regs : Type 0} (words : Words Rule Regs) (meanings : Meanings Rul
   abbrev pub MeansCompact : CompactData → ℕ → Type 0
   MeansCompact d relative =
       IfSome (code_place d.info relative s.first) MeansCode
-      × MeansNamed d.frames relative (unwound words.compact d.info relative s.first)
+      × MeansNamed d.frames relative (unwound readers.compact d.info relative s.first)
 
   -- by the unwind data of a module, at a relative address
   abbrev pub MeansData : UnwindData → ℕ → Type 0
@@ -116,10 +116,10 @@ module _ {Rule Regs : Type 0} (words : Words Rule Regs) (meanings : Meanings Rul
 
 -- a step at a location by a list of modules, from registers over a memory to a return address and the caller's
 -- registers
-abbrev pub MeansAt : {Rule Regs : Type 0} → Words Rule Regs → Meanings Rule Regs
+abbrev pub MeansAt : {Rule Regs : Type 0} → Readers Rule Regs → Meanings Rule Regs
     → (Rule → Bool → Regs → Memory → Outcome Regs) → Policy → List ModuleView → FrameLocation → Regs → Memory → ℕ → Regs
     → Type 0
-MeansAt words meanings outcome policy modules location old memory address new =
-    MeansStep words meanings outcome policy
+MeansAt readers meanings outcome policy modules location old memory address new =
+    MeansStep readers meanings outcome policy
     (record { first = is_first_frame location; old = old; memory = memory; address = address; new = new })
     modules (lookup_address location)

@@ -1,9 +1,11 @@
 -- The modules of an unwinder, in order of start (framehop 0.16.0, `Module` and `Unwinder::add_module`).
-use Rattle.std.specs.Prelude.{ℕ, ◌-◌, ◌^◌, Bool, not, ◌&&◌, ◌||◌, ◌==◌, nat_le, nat_lt, if◌then◌else◌, max, List, [], ◌∷◌, ◌++◌, length, filter, slice_get, Option, Some, None, option_and_then}
+use Rattle.std.specs.Prelude.{◌≡◌, ℕ, ◌+◌, ◌-◌, ◌^◌, ◌<◌, Bool, not, ◌&&◌, ◌||◌, ◌==◌, nat_le, nat_lt, if◌then◌else◌, max, List, [], ◌∷◌, ◌++◌, length, filter, slice_get, Option, Some, None, option_and_then, Result, Ok, Err}
 use Rattle.std.specs.List.{list_any}
 use Rattle.framehop_pe.specs.Sections.{Sections}
 use Rattle.framehop.specs.CallFrames.{CallFrames}
 use Rattle.framehop.specs.Compact.{CompactData}
+use Rattle.framehop.specs.declared.modules.ModuleListError.{ModuleListError}
+use Rattle.framehop.specs.declared.modules.ModuleListError.TheVariants.{GenerationsExhausted}
 use Rattle.std.specs.List.Sorted.{IsNonDecreasingBy}
 
 -- what unwind data a module has
@@ -25,6 +27,13 @@ pub record ModuleView : Type 0 where
 pub record UnwinderView : Type 0 where
   pub modules : List ModuleView
   pub generation : ℕ
+
+-- What a call that makes an unwinder has returned, over the counter of generations before and after it: an unwinder
+-- without modules, of the generation that it has drawn, or at the counter's end a refusal, and nothing is drawn.
+abbrev pub IsMade : Result UnwinderView ModuleListError → ℕ → ℕ → Type 0
+IsMade (Ok unwinder) old new =
+    (unwinder ≡ record { modules = []; generation = old }) × (new ≡ old + 1) × (old < 2 ^ 64 - 1)
+IsMade (Err error) old new = (error ≡ GenerationsExhausted) × (old ≡ 2 ^ 64 - 1) × (new ≡ old)
 
 -- the module starts at or below the address
 abbrev pub starts_by : ℕ → ModuleView → Bool

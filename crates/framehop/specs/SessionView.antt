@@ -1,18 +1,25 @@
--- Replies in memory, as what they tell: the capacities of their vectors do not count.
-use Rattle.std.specs.Prelude.{List, map, Result, Ok, Err}
+-- A session and its replies in memory, as what they tell: the capacities of their vectors do not count.
+use Rattle.std.specs.Prelude.{ℕ, List, map, Result, Ok, Err}
 use Rattle.std.specs.Global.{Global}
 use Rattle.std.specs.declared.vec.Vec.{Vec}
 use Rattle.framehop_core.specs.CodeAddress.{location_of}
 use Rattle.framehop_core.specs.declared.code_address.FrameAddress.{FrameAddress}
 use Rattle.framehop.specs.Walk.{Walk, End, at_root, at_refusal, at_limit}
 use Rattle.framehop.specs.World.{made, done, stepped, walked}
-use Rattle.framehop.specs.CachedWorld.{CachedReply, of_world, counts}
+use Rattle.framehop.specs.CachedWorld.{CachedWorld, CachedReply, of_world, counts}
 use Rattle.framehop.specs.declared.session.commands.Reply.{Reply}
 use Rattle.framehop.specs.declared.session.commands.Reply.TheVariants.{Made, Done, Step as StepReply, Walk as WalkReply, Stats}
 use Rattle.framehop.specs.declared.session.commands.SessionError.{SessionError}
 use Rattle.framehop.specs.declared.session.commands.WalkEnd.{WalkEnd}
 use Rattle.framehop.specs.declared.session.commands.WalkEnd.TheVariants.{Root, Refused, Limit}
+use Rattle.framehop.specs.declared.session.world.Session.{Session}
 
+-- the unwinders and the caches of a session, with the next generation
+abbrev pub state_of : {D A P Regs Rule Rows Values Stack : Type 0} → Session D A P Regs Rule Rows Values Stack → ℕ
+    → CachedWorld Rule
+state_of session next = record { unwinders = session.unwinders.items; next = next; caches = session.caches.items }
+
+-- how a walk ended
 abbrev pub end_of : WalkEnd → End
 end_of Root = at_root
 end_of (Refused error) = at_refusal error

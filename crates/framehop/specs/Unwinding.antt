@@ -5,62 +5,63 @@ use Rattle.framehop_core.specs.Memory.{Memory}
 use Rattle.framehop_core.specs.Outcome.{Outcome, answered}
 use Rattle.framehop_pe.specs.Sections.{Sections}
 use Rattle.framehop_pe.specs.declared.pe.PeUnwinderError.{PeUnwinderError}
-use Rattle.framehop_macho.specs.Unwinder.{Words as CompactWords, unwound}
+use Rattle.framehop_macho.specs.Unwinder.{CompactReader, unwound}
 use Rattle.framehop.specs.Policy.{Policy}
 use Rattle.framehop.specs.Compact.{compact_answer, needs_fde}
 use Rattle.framehop.specs.Answer.{Fresh, direct, fresh_of}
-use Rattle.framehop.specs.CallFrames.{RowWords, frames_answer, fde_offset_of}
+use Rattle.framehop.specs.CallFrames.{RowReader, frames_answer, fde_offset_of}
 use Rattle.framehop.specs.Modules.{ModuleView, UnwindData, no_unwind_data, call_frames, pe_sections, compact_info}
 
 -- `outcome`: what a rule does to a frame, a first one (`true`) or another. `fallback`: the rule where nothing is known.
 -- `module_answer`: what the unwind data of a module gives for a relative address in a frame of this kind, if anything.
--- `takes_memory`: whether finding that out for a relative address can take memory. `stack_pointer`: that of registers.
--- `always_rises`: whether each step that leaves a frame other than the first raises the stack pointer.
+-- `may_take_memory`: whether finding that out for a relative address may take memory. `stack_pointer`: that of
+-- registers. `always_rises`: whether each step that leaves a frame other than the first raises the stack pointer.
 pub record Unwinding (Rule Regs : Type 0) : Type 0 where
   pub outcome : Rule → Bool → Regs → Memory → Outcome Regs
   pub fallback : Rule
   pub module_answer : ModuleView → ℕ → Bool → Option (Fresh Rule Regs)
-  pub takes_memory : ModuleView → ℕ → Bool → Bool
+  pub may_take_memory : ModuleView → ℕ → Bool → Bool
   pub stack_pointer : Regs → ℕ
   pub always_rises : Bool
 
--- what an architecture makes of unwind data
-pub record Words (Rule Regs : Type 0) : Type 0 where
-  pub rows : RowWords Rule Regs
+-- what the readers of unwind data give on an architecture
+pub record Readers (Rule Regs : Type 0) : Type 0 where
+  pub rows : RowReader Rule Regs
   pub pe_found : Sections → ℕ → Bool → Result (Option Rule) PeUnwinderError
   pub pe_computed : Sections → ℕ → Bool → Memory → Regs → Result (ℕ × Regs) PeUnwinderError
-  pub compact : CompactWords Rule
+  pub compact : CompactReader Rule
 
 -- what the unwind info of a PE module gives for a relative address in a frame of this kind, if anything
-abbrev pub pe_answer : {Rule Regs : Type 0} → Words Rule Regs → Sections → ℕ → Bool → Option (Fresh Rule Regs)
-pe_answer words sections relative first =
-    fresh_of (words.pe_found sections relative first)
-    (λ regs memory. words.pe_computed sections relative first memory regs)
+abbrev pub pe_answer : {Rule Regs : Type 0} → Readers Rule Regs → Sections → ℕ → Bool → Option (Fresh Rule Regs)
+pe_answer readers sections relative first =
+    fresh_of (readers.pe_found sections relative first)
+    (λ regs memory. readers.pe_computed sections relative first memory regs)
 
 -- what unwind data gives for a relative address in a frame of this kind, if anything
-abbrev pub data_answer : {Rule Regs : Type 0} → Words Rule Regs → Policy → UnwindData → ℕ → Bool
+abbrev pub data_answer : {Rule Regs : Type 0} → Readers Rule Regs → Policy → UnwindData → ℕ → Bool
     → Option (Fresh Rule Regs)
-data_answer words policy no_unwind_data relative first = None
-data_answer words policy (call_frames frames) relative first = frames_answer words.rows policy frames relative first
-data_answer words policy (pe_sections sections) relative first = pe_answer words sections relative first
-data_answer words policy (compact_info d) relative first =
-    compact_answer words.compact words.rows policy d relative first
+data_answer readers policy no_unwind_data relative first = None
+data_answer readers policy (call_frames frames) relative first = frames_answer readers.rows policy frames relative first
+data_answer readers policy (pe_sections sections) relative first = pe_answer readers sections relative first
+data_answer readers policy (compact_info d) relative first =
+    compact_answer readers.compact readers.rows policy d relative first
 
 -- unwind data names an FDE for a relative address in a frame of this kind
-abbrev pub names_fde : {Rule Regs : Type 0} → Words Rule Regs → UnwindData → ℕ → Bool → Bool
-names_fde words no_unwind_data relative first = false
-names_fde words (call_frames frames) relative first = is_some (fde_offset_of frames relative)
-names_fde words (pe_sections sections) relative first = false
-names_fde words (compact_info d) relative first = needs_fde d.frames (unwound words.compact d.info relative first)
+abbrev pub names_fde : {Rule Regs : Type 0} → Readers Rule Regs → UnwindData → ℕ → Bool → Bool
+names_fde readers no_unwind_data relative first = false
+names_fde readers (call_frames frames) relative first = is_some (fde_offset_of frames relative)
+names_fde readers (pe_sections sections) relative first = false
+names_fde readers (compact_info d) relative first = needs_fde d.frames (unwound readers.compact d.info relative first)
 
 -- what the unwind data of a module gives
-unfoldable pub answer_by : {Rule Regs : Type 0} → Words Rule Regs → Policy → ModuleView → ℕ → Bool
+unfoldable pub answer_by : {Rule Regs : Type 0} → Readers Rule Regs → Policy → ModuleView → ℕ → Bool
     → Option (Fresh Rule Regs)
-answer_by words policy m relative first = data_answer words policy m.unwind_data relative first
+answer_by readers policy m relative first = data_answer readers policy m.unwind_data relative first
 
 -- reading it takes memory only where the policy allows it and an FDE is named
-unfoldable pub takes_memory_by : {Rule Regs : Type 0} → Words Rule Regs → Policy → ModuleView → ℕ → Bool → Bool
-takes_memory_by words policy m relative first = policy.may_allocate && names_fde words m.unwind_data relative first
+unfoldable pub may_take_memory_by : {Rule Regs : Type 0} → Readers Rule Regs → Policy → ModuleView → ℕ → Bool → Bool
+may_take_memory_by readers policy m relative first =
+    policy.may_allocate && names_fde readers m.unwind_data relative first
 
 -- that is so where it is said: a rule's step, and computed values, raise the stack pointer
 pub record RisesAsSaid {Rule Regs : Type 0} (unwinding : Unwinding Rule Regs) : Type 0 where

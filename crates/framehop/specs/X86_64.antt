@@ -15,12 +15,12 @@ use Rattle.framehop_cache.specs.Cache.{CacheView}
 use Rattle.framehop.specs.Modules.{ModuleView, UnwinderView}
 use Rattle.framehop.specs.Meaning.{Meanings, MeansAt}
 use Rattle.framehop.specs.Policy.{Policy}
-use Rattle.framehop.specs.Unwinding.{Unwinding, Words, answer_by, takes_memory_by}
+use Rattle.framehop.specs.Unwinding.{Unwinding, Readers, answer_by, may_take_memory_by}
 use Rattle.framehop.specs.Soundness.{IsSound}
 
 -- what x86_64 makes of unwind data
-abbrev pub x86_64_words : Words UnwindRuleX86_64 Registers
-x86_64_words = record {
+abbrev pub x86_64_readers : Readers UnwindRuleX86_64 Registers
+x86_64_readers = record {
   rows = record { translated = translated; uncovered = JustReturnIfFirstFrameOtherwiseFp; direct = direct_of };
   pe_found = found_at;
   pe_computed = computed_at;
@@ -33,7 +33,7 @@ x86_64_meanings = record {
   row = RowMeans;
   columns = ColumnsMean;
   by_code = by_code;
-  undoes = λ code offset rule.
+  does_code = λ code offset rule.
       (IsPrologueRule code offset rule × ReachesFrom code offset × UndoesPrologue code offset rule)
       ⊎ (IsEpilogueRule code offset rule × EndsFrom code offset × DoesEpilogue code offset rule);
 }
@@ -41,15 +41,15 @@ x86_64_meanings = record {
 -- a step is what the source of its rule means
 abbrev pub x86_64_means : Policy → List ModuleView → FrameLocation → Registers → Memory → ℕ → Registers → Type 0
 x86_64_means policy modules location old memory address new =
-    MeansAt x86_64_words x86_64_meanings outcome policy modules location old memory address new
+    MeansAt x86_64_readers x86_64_meanings outcome policy modules location old memory address new
 
 -- x86_64 under a policy
 unfoldable pub x86_64 : Policy → Unwinding UnwindRuleX86_64 Registers
 x86_64 policy = record {
   outcome = outcome;
   fallback = UseFramePointer;
-  module_answer = answer_by x86_64_words policy;
-  takes_memory = takes_memory_by x86_64_words policy;
+  module_answer = answer_by x86_64_readers policy;
+  may_take_memory = may_take_memory_by x86_64_readers policy;
   stack_pointer = λ r. r.rsp;
   always_rises = false;
 }

@@ -93,7 +93,8 @@ impl<R: UnwindRule, P: AllocationPolicy> Model for Cache<R, P> {
 }
 
 impl<R: UnwindRule, P: AllocationPolicy> Cache<R, P> {
-    /// An empty cache. Refused where the memory for it is. It changes no answer of any unwinder.
+    /// Returns an empty cache, which changes no answer of any unwinder, or an error if an allocation
+    /// fails.
     pub fn new(alloc: Global) -> Result<Self, AllocError>
         ensures made { IfOk result (λ cache. cache ≡ empty_cache) }
         ensures sound { IfOk result (λ cache. (unwinding : Unwinding R R.UnwindRegs) (unwinder : UnwinderView)

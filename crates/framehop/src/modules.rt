@@ -1,7 +1,7 @@
 //! Modules that are loaded in a process, and unwinding by their unwind data.
 ghost use Rattle.std.specs.Prelude.{◌≡◌, ◌≢◌, ◌+◌, ◌-◌, ◌<◌, true, IfOk, IfErr, SomeIff, IsTrue, is_some, option_map, ℕ, List, Ok, Err, None, string_bytes, Option};
 ghost use Rattle.framehop.specs.Memory.{Memory, AnswersAs};
-ghost use Rattle.framehop.specs.Unwinding.{Unwinding, answer_by, takes_memory_by};
+ghost use Rattle.framehop.specs.Unwinding.{Unwinding, answer_by, may_take_memory_by};
 ghost use Rattle.framehop.specs.CallFrames.{frames_with_header, frames_answer, fde_answer, fde_offset_of};
 ghost use Rattle.framehop.specs.UnwindData.{unwind_data_of, placed_data};
 ghost use Rattle.framehop.specs.Compact.{by_info, compact_answer, needs_fde};
@@ -134,7 +134,7 @@ impl<D: SectionBytes + Drop> Clone for Module<D> {
 impl<D: SectionBytes + Drop> Module<D> {
     /// A module of the name that is loaded at the addresses (AVMAs) from `avma_range.start` to
     /// below `avma_range.end`. Its relative address 0 is `base_avma`. The sections are asked for
-    /// the unwind data. Refused only with `OutOfMemory`.
+    /// the unwind data. Fails only with `OutOfMemory`.
     pub fn new<I: ModuleSectionInfo<D> + Drop>(
         alloc: Global,
         name: String,
@@ -222,11 +222,11 @@ where
     ensures executable { RuleHas (λ rule. IsTrue (A.UnwindRule.executable rule)) result }
     ensures memory { result ≡ Err out_of_memory → P.policy.may_allocate ≡ true }
     ensures told { result ≢ Err out_of_memory → TellsAnswer
-        (fde_answer A.words.rows P.policy unwinder.old.section (unwinder.old.base_svma + relative_address) is_first_frame fde_offset) result }
+        (fde_answer A.readers.rows P.policy unwinder.old.section (unwinder.old.base_svma + relative_address) is_first_frame fde_offset) result }
     ensures answers { (memory : Memory) → AnswersAs F.FnMut read_stack.old memory
         → AnswersAs F.FnMut read_stack.new memory
         × (result ≢ Err out_of_memory → TellsValues
-        (fde_answer A.words.rows P.policy unwinder.old.section (unwinder.old.base_svma + relative_address) is_first_frame fde_offset)
+        (fde_answer A.readers.rows P.policy unwinder.old.section (unwinder.old.base_svma + relative_address) is_first_frame fde_offset)
         regs.old memory result regs.new) }
 {
     match unwinder.unwind_frame_with_fde::<P::GimliEvaluationStorage, F>(
@@ -264,11 +264,11 @@ where
     ensures memory { result ≡ Err out_of_memory → (P.policy.may_allocate ≡ true)
         × (is_some (fde_offset_of (frames_with_header eh_frame_hdr.now eh_frame.now base_addresses base_svma) relative_address) ≡ true) }
     ensures told { result ≢ Err out_of_memory → TellsAnswer
-        (frames_answer A.words.rows P.policy (frames_with_header eh_frame_hdr.now eh_frame.now base_addresses base_svma) relative_address is_first_frame) result }
+        (frames_answer A.readers.rows P.policy (frames_with_header eh_frame_hdr.now eh_frame.now base_addresses base_svma) relative_address is_first_frame) result }
     ensures answers { (memory : Memory) → AnswersAs F.FnMut read_stack.old memory
         → AnswersAs F.FnMut read_stack.new memory
         × (result ≢ Err out_of_memory → TellsValues
-        (frames_answer A.words.rows P.policy (frames_with_header eh_frame_hdr.now eh_frame.now base_addresses base_svma) relative_address is_first_frame)
+        (frames_answer A.readers.rows P.policy (frames_with_header eh_frame_hdr.now eh_frame.now base_addresses base_svma) relative_address is_first_frame)
         regs.old memory result regs.new) }
 {
     let mut unwinder = DwarfUnwinder::new(
@@ -319,11 +319,11 @@ impl<D: SectionBytes> IndexedFrames<D> {
         ensures executable { RuleHas (λ rule. IsTrue (A.UnwindRule.executable rule)) result }
         ensures memory { result ≡ Err out_of_memory → (P.policy.may_allocate ≡ true) × (is_some (fde_offset_of self.now relative_address) ≡ true) }
         ensures told { result ≢ Err out_of_memory → TellsAnswer
-            (frames_answer A.words.rows P.policy self.now relative_address is_first_frame) result }
+            (frames_answer A.readers.rows P.policy self.now relative_address is_first_frame) result }
         ensures answers { (memory : Memory) → AnswersAs F.FnMut read_stack.old memory
             → AnswersAs F.FnMut read_stack.new memory
             × (result ≢ Err out_of_memory → TellsValues
-            (frames_answer A.words.rows P.policy self.now relative_address is_first_frame) regs.old memory result regs.new) }
+            (frames_answer A.readers.rows P.policy self.now relative_address is_first_frame) regs.old memory result regs.new) }
     {
         let Some(fde_offset) = self.fde_offset(relative_address) else {
             return Err(UnwinderError::DwarfCfiIndexCouldNotFindAddress);
@@ -355,7 +355,7 @@ impl<D: SectionBytes> CompactInfo<D> {
         relative_address: u32,
         is_first_frame: bool,
     ) -> Result<CuiUnwindResult<A::UnwindRule>, CompactUnwindInfoUnwinderError>
-        ensures says { result ≡ unwound A.words.compact self.now.info relative_address is_first_frame }
+        ensures says { result ≡ unwound A.readers.compact self.now.info relative_address is_first_frame }
         ensures executable { IfExecRule result (λ rule. IsTrue (A.UnwindRule.executable rule)) }
     {
         let text = match &self.text {
@@ -390,11 +390,11 @@ impl<D: SectionBytes> CompactInfo<D> {
         ensures executable { RuleHas (λ rule. IsTrue (A.UnwindRule.executable rule)) result }
         ensures memory { result ≡ Err out_of_memory → (P.policy.may_allocate ≡ true) × (is_some self.now.frames ≡ true) }
         ensures told { result ≢ Err out_of_memory → TellsAnswer
-            (by_info A.words.rows P.policy self.now.frames relative_address is_first_frame (Ok (NeedDwarf fde_offset))) result }
+            (by_info A.readers.rows P.policy self.now.frames relative_address is_first_frame (Ok (NeedDwarf fde_offset))) result }
         ensures answers { (memory : Memory) → AnswersAs F.FnMut read_stack.old memory
             → AnswersAs F.FnMut read_stack.new memory
             × (result ≢ Err out_of_memory → TellsValues
-            (by_info A.words.rows P.policy self.now.frames relative_address is_first_frame (Ok (NeedDwarf fde_offset))) regs.old memory result regs.new) }
+            (by_info A.readers.rows P.policy self.now.frames relative_address is_first_frame (Ok (NeedDwarf fde_offset))) regs.old memory result regs.new) }
     {
         let Some(eh_frame) = &self.eh_frame else {
             return Err(UnwinderError::NoDwarfData);
@@ -435,15 +435,15 @@ impl<D: SectionBytes> CompactInfo<D> {
         ensures written { WritesWithAddress (A.step_advances is_first_frame) result regs.old regs.new }
         ensures executable { RuleHas (λ rule. IsTrue (A.UnwindRule.executable rule)) result }
         ensures memory { result ≡ Err out_of_memory → (P.policy.may_allocate ≡ true)
-            × (needs_fde self.now.frames (unwound A.words.compact self.now.info relative_address is_first_frame) ≡ true) }
+            × (needs_fde self.now.frames (unwound A.readers.compact self.now.info relative_address is_first_frame) ≡ true) }
         ensures told { result ≢ Err out_of_memory → TellsAnswer
-            (compact_answer A.words.compact
-            A.words.rows P.policy self.now relative_address is_first_frame) result }
+            (compact_answer A.readers.compact
+            A.readers.rows P.policy self.now relative_address is_first_frame) result }
         ensures answers { (memory : Memory) → AnswersAs F.FnMut read_stack.old memory
             → AnswersAs F.FnMut read_stack.new memory
             × (result ≢ Err out_of_memory → TellsValues
-            (compact_answer A.words.compact
-            A.words.rows P.policy self.now relative_address is_first_frame) regs.old memory result regs.new) }
+            (compact_answer A.readers.compact
+            A.readers.rows P.policy self.now relative_address is_first_frame) regs.old memory result regs.new) }
     {
         match self.unwind_frame_by_info::<A>(relative_address, is_first_frame) {
             Ok(CuiUnwindResult::ExecRule(rule)) => Ok(UnwindResult::ExecRule(rule)),
@@ -509,7 +509,7 @@ fn lent<D>(section: &Option<DataAtRvaRange<D>>) -> Option<&DataAtRvaRange<D>>
 impl<D: SectionBytes> Module<D> {
     /// Unwinds a frame at a relative address by the module's unwind data. It is a call of its own, so that the way
     /// of a hit is short.
-    #[tactic(auto, unfolding(crate::specs::Unwinding::answer_by, crate::specs::Unwinding::takes_memory_by))]
+    #[tactic(auto, unfolding(crate::specs::Unwinding::answer_by, crate::specs::Unwinding::may_take_memory_by))]
     #[inline(never)]
     pub(crate) fn unwind_frame<A: Unwinding, P: AllocationPolicy, F>(
         &self,
@@ -526,14 +526,14 @@ impl<D: SectionBytes> Module<D> {
         ensures callable { F.IsAlwaysCallable read_stack.new }
         ensures written { WritesWithAddress (A.step_advances is_first_frame) result regs.old regs.new }
         ensures executable { RuleHas (λ rule. IsTrue (A.UnwindRule.executable rule)) result }
-        ensures memory { result ≡ Err out_of_memory → takes_memory_by
-            A.words P.policy self.now relative_address is_first_frame ≡ true }
+        ensures memory { result ≡ Err out_of_memory → may_take_memory_by
+            A.readers P.policy self.now relative_address is_first_frame ≡ true }
         ensures told { result ≢ Err out_of_memory → TellsAnswer
-            (answer_by A.words P.policy self.now relative_address is_first_frame) result }
+            (answer_by A.readers P.policy self.now relative_address is_first_frame) result }
         ensures answers { (memory : Memory) → AnswersAs F.FnMut read_stack.old memory
             → AnswersAs F.FnMut read_stack.new memory
             × (result ≢ Err out_of_memory → TellsValues
-            (answer_by A.words P.policy self.now relative_address is_first_frame) regs.old memory result regs.new) }
+            (answer_by A.readers P.policy self.now relative_address is_first_frame) regs.old memory result regs.new) }
     {
         match &*self.unwind_data {
             ModuleUnwindDataInternal::EhFrameHdrAndEhFrame {

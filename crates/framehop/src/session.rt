@@ -48,7 +48,7 @@ pub fn run<D: SectionBytes + Drop, A: Unwinding, P: AllocationPolicy>(
     ensures drawn_at_most { generations.new ≤ generations.old + length commands.items }
     ensures bounded { IfOk result (λ replies. EachReply (IsReplyWithinRise (A.unwinding P.policy))
         (empty_world generations.old) commands.items (map reply_view replies.items)) }
-    ensures means { IfOk result (λ replies. EachReply (IsReplyMeant (MeansAt A.words A.meanings A.UnwindRule.outcome P.policy))
+    ensures means { IfOk result (λ replies. EachReply (IsReplyMeant (MeansAt A.readers A.meanings A.UnwindRule.outcome P.policy))
         (empty_world generations.old) commands.items (map reply_view replies.items)) }
 {
     let mut session: Session<D, A, P> = Session::new(alloc, cache_count)?;

@@ -5,7 +5,7 @@ ghost use Rattle.framehop.specs.Outcome.{Outcome, answered, answer_of, registers
 ghost use Rattle.framehop.specs.CodeAddress.{FrameLocation, location_of, is_first_frame};
 ghost use Rattle.framehop.specs.Iterator.{before};
 ghost use Rattle.framehop.specs.UnwindIterator.{unwinder_of, progress_in, regs_of, cache_of, read_stack_of};
-ghost use Rattle.framehop.specs.Unwinding.{Unwinding, Words, answer_by, takes_memory_by, RisesAsSaid};
+ghost use Rattle.framehop.specs.Unwinding.{Unwinding, Readers, answer_by, may_take_memory_by, RisesAsSaid};
 ghost use Rattle.framehop.specs.Meaning.{Meanings, MeansAt};
 ghost use Rattle.framehop_cfi.specs.Row.{Row};
 ghost use Rattle.framehop_analysis.specs.Answer.{Does};
@@ -15,9 +15,9 @@ ghost use Rattle.framehop.specs.Policy.{Policy};
 ghost use Rattle.framehop.specs.Fresh.{fresh, outcome_of};
 ghost use Rattle.framehop_cache.specs.Cache.{found, counted, ways};
 ghost use Rattle.framehop_cache.specs.CacheResult.{result_of, HitRuns};
-ghost use Rattle.framehop.specs.Soundness.{key_of, AreApart, sets_after_miss, TakesMemory};
+ghost use Rattle.framehop.specs.Soundness.{key_of, AreApart, sets_after_miss, MayTakeMemory};
 ghost use Rattle.std.specs.List.Sorted.{IsPartitionPoint};
-ghost use Rattle.framehop.specs.Modules.{ModuleView, UnwinderView, AreInOrder, starting_by, starting_above, with_module, has_start, without_module, starts_by, covers, covering, greatest_end};
+ghost use Rattle.framehop.specs.Modules.{ModuleView, UnwinderView, IsMade, AreInOrder, starting_by, starting_above, with_module, has_start, without_module, starts_by, covers, covering, greatest_end};
 
 use crate::cache::{AllocationPolicy, Cache};
 pub use crate::iterator::UnwindIterator;
@@ -51,8 +51,8 @@ pub trait Unwinding: DwarfUnwinding + PeUnwinding + CompactUnwindInfoUnwinding {
     // what a step gives by the modules' bytes, under an allocation policy
     ghost unwinding: { Policy → Unwinding Self.UnwindRule Self.UnwindRegs };
 
-    // what it makes of unwind data, in the words of the readers
-    ghost words: { Words Self.UnwindRule Self.UnwindRegs };
+    // what the readers of unwind data give on it
+    ghost readers: { Readers Self.UnwindRule Self.UnwindRegs };
 
     // what the sources of its rules mean
     ghost meanings: { Meanings Self.UnwindRule Self.UnwindRegs };
@@ -68,8 +68,8 @@ pub trait Unwinding: DwarfUnwinding + PeUnwinding + CompactUnwindInfoUnwinding {
 
     ghost stack_pointer_is: { (policy : Policy) → (unwinding policy).stack_pointer ≡ Self.UnwindRule.stack_pointer };
 
-    // its words are those of the readers
-    ghost words_are: { words ≡ record {
+    // they are the readers of the traits that it has
+    ghost readers_are: { readers ≡ record {
       rows = record { translated = Self.translated; uncovered = Self.uncovered; direct = Self.direct };
       pe_found = Self.found;
       pe_computed = Self.computed;
@@ -90,21 +90,21 @@ pub trait Unwinding: DwarfUnwinding + PeUnwinding + CompactUnwindInfoUnwinding {
 
     ghost by_code_is: { meanings.by_code ≡ Self.by_code };
 
-    ghost undoes_is: { (code : List ℕ) (offset : ℕ) (rule : Self.UnwindRule) → meanings.undoes code offset rule
+    ghost does_code_is: { (code : List ℕ) (offset : ℕ) (rule : Self.UnwindRule) → meanings.does_code code offset rule
         ↔ (Self.prologue_rule code offset rule × Self.reaches code offset
         × Does Self.UnwindRule.outcome (Self.undone_prologue code offset) rule)
         ⊎ (Self.epilogue_rule code offset rule × Self.ends code offset
         × Does Self.UnwindRule.outcome (Self.done_epilogue code offset) rule) };
 
-    // what a module's unwind data gives is by its words
-    ghost answer_is: { (policy : Policy) → (unwinding policy).module_answer ≡ answer_by words policy };
+    // what a module's unwind data gives is by its readers
+    ghost answer_is: { (policy : Policy) → (unwinding policy).module_answer ≡ answer_by readers policy };
 
-    ghost memory_is: { (policy : Policy) → (unwinding policy).takes_memory ≡ takes_memory_by words policy };
+    ghost memory_is: { (policy : Policy) → (unwinding policy).may_take_memory ≡ may_take_memory_by readers policy };
 
     // a step that answers an address does what the source of its rule means
     ghost step_means: { (policy : Policy) (modules : List ModuleView) (location : FrameLocation) (old new : Self.UnwindRegs) (memory : Memory) (address : ℕ)
         → step (unwinding policy) modules location old memory ≡ answered address new
-        → MeansAt words meanings Self.UnwindRule.outcome policy modules location old memory address new };
+        → MeansAt readers meanings Self.UnwindRule.outcome policy modules location old memory address new };
 
     ghost values_advance: { (first : Bool) (old new : Self.UnwindRegs) → Self.ascends first old new → step_advances first old new };
 
@@ -123,12 +123,12 @@ pub trait Unwinding: DwarfUnwinding + PeUnwinding + CompactUnwindInfoUnwinding {
 
 impl Unwinding for ArchAarch64 {
     ghost use Rattle.framehop_dwarf.specs.Aarch64.{Ascends};
-    ghost use Rattle.framehop.specs.Aarch64.{aarch64, aarch64_words, aarch64_meanings};
+    ghost use Rattle.framehop.specs.Aarch64.{aarch64, aarch64_readers, aarch64_meanings};
     ghost use Rattle.framehop.specs.Laws.Aarch64.{outcome-is, fallback-is, stack_pointer-is, answer-is, memory-is, step-means, says-rising, no-pe-values, Ascends-rule, rises-as-said};
 
     ghost unwinding = { aarch64 };
 
-    ghost words = { aarch64_words };
+    ghost readers = { aarch64_readers };
 
     ghost meanings = { aarch64_meanings };
 
@@ -140,7 +140,7 @@ impl Unwinding for ArchAarch64 {
 
     ghost stack_pointer_is = { stack_pointer-is };
 
-    ghost words_are = { refl };
+    ghost readers_are = { refl };
 
     ghost row_is = { λ section memory row first old address new. (λ means. means, λ means. means) };
 
@@ -148,7 +148,7 @@ impl Unwinding for ArchAarch64 {
 
     ghost by_code_is = { refl };
 
-    ghost undoes_is = { λ code offset rule. (λ undoes. undoes, λ undoes. undoes) };
+    ghost does_code_is = { λ code offset rule. (λ does. does, λ does. does) };
 
     ghost answer_is = { answer-is };
 
@@ -168,12 +168,12 @@ impl Unwinding for ArchAarch64 {
 }
 
 impl Unwinding for ArchX86_64 {
-    ghost use Rattle.framehop.specs.X86_64.{x86_64, x86_64_words, x86_64_meanings};
+    ghost use Rattle.framehop.specs.X86_64.{x86_64, x86_64_readers, x86_64_meanings};
     ghost use Rattle.framehop.specs.Laws.X86_64.{outcome-is, fallback-is, stack_pointer-is, answer-is, memory-is, step-means, says-rising, rises-as-said};
 
     ghost unwinding = { x86_64 };
 
-    ghost words = { x86_64_words };
+    ghost readers = { x86_64_readers };
 
     ghost meanings = { x86_64_meanings };
 
@@ -186,7 +186,7 @@ impl Unwinding for ArchX86_64 {
 
     ghost stack_pointer_is = { stack_pointer-is };
 
-    ghost words_are = { refl };
+    ghost readers_are = { refl };
 
     ghost row_is = { λ section memory row first old address new. (λ means. means, λ means. means) };
 
@@ -194,7 +194,7 @@ impl Unwinding for ArchX86_64 {
 
     ghost by_code_is = { refl };
 
-    ghost undoes_is = { λ code offset rule. (λ undoes. undoes, λ undoes. undoes) };
+    ghost does_code_is = { λ code offset rule. (λ does. does, λ does. does) };
 
     ghost answer_is = { answer-is };
 
@@ -482,11 +482,7 @@ impl<D: SectionBytes + Drop, A: Unwinding, P: AllocationPolicy> UnwinderInternal
     /// An unwinder without modules, of the next generation. It takes no memory, and is refused
     /// only at the counter's end.
     pub fn new(alloc: Global, generations: &mut Generations) -> Result<Self, ModuleListError>
-        ensures { MatchResult result
-            (λ made. (made ≡ record { modules = []; generation = generations.old })
-            × (generations.new ≡ generations.old + 1) × (generations.old < 2 ^ 64 - 1))
-            (λ error. (error ≡ ModuleListError.GenerationsExhausted)
-            × (generations.old ≡ 2 ^ 64 - 1) × (generations.new ≡ generations.old)) }
+        ensures { IsMade result generations.old generations.new }
     {
         let Some(modules_generation) = generations.next() else {
             return Err(ModuleListError::GenerationsExhausted);
@@ -581,7 +577,7 @@ impl<D: SectionBytes + Drop, A: Unwinding, P: AllocationPolicy> UnwinderInternal
         ensures callable { F.IsAlwaysCallable read_stack.new }
         ensures kept { cache.new ≡ cache.old }
         ensures refused { IfErr result (λ error. (error ≡ Error.OutOfMemory) × (regs.new ≡ regs.old)
-            × TakesMemory (A.unwinding P.policy) self.now.modules lookup_address is_first_frame) }
+            × MayTakeMemory (A.unwinding P.policy) self.now.modules lookup_address is_first_frame) }
         ensures written { IfOk result (λ answer. WritesComputed (A.step_advances is_first_frame) answer regs.old regs.new) }
         ensures executable { IfOk result (AnswerHas (λ rule. A.UnwindRule.executable rule ≡ true)) }
         ensures told { IfOk result (TellsFresh (fresh (A.unwinding P.policy) self.now.modules lookup_address is_first_frame)) }
@@ -621,7 +617,7 @@ impl<D: SectionBytes + Drop, A: Unwinding, P: AllocationPolicy> UnwinderInternal
             (λ answer. IfNone answer (regs.new ≡ regs.old))
             (λ _. regs.new ≡ regs.old) }
         ensures advances { IfOk result (λ answer. OnSome answer (A.step_advances is_first_frame regs.old regs.new)) }
-        ensures may_run_out { result ≡ Err Error.OutOfMemory → TakesMemory (A.unwinding P.policy) self.now.modules lookup_address is_first_frame }
+        ensures may_run_out { result ≡ Err Error.OutOfMemory → MayTakeMemory (A.unwinding P.policy) self.now.modules lookup_address is_first_frame }
         ensures stored { result ≢ Err Error.OutOfMemory → cache.new ≡ record cache.old {
           sets = sets_after_miss cache.old.sets handle (fresh (A.unwinding P.policy) self.now.modules lookup_address is_first_frame);
         } }
@@ -681,7 +677,7 @@ impl<D: SectionBytes + Drop, A: Unwinding, P: AllocationPolicy> Unwinder
     ghost may_run_out = { λ u cache location. MayRunOut (A.unwinding P.policy) u cache location };
 
     ghost means = { λ u location old memory address new.
-        MeansAt A.words A.meanings A.UnwindRule.outcome P.policy u.modules location old memory address new };
+        MeansAt A.readers A.meanings A.UnwindRule.outcome P.policy u.modules location old memory address new };
 
     ghost step_means = { λ u location old new memory address answers.
         A.step_means P.policy u.modules location old new memory address answers };

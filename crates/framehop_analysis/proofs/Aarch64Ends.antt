@@ -1,11 +1,12 @@
 -- The detector of an epilogue on aarch64: each end, each instruction and the walk forwards.
 use Rattle.std.proofs.Common.{◌≡◌, ◌≢◌, ◌↔◌, ℕ, ◌+◌, ◌*◌, ℤ, pos, ◌+ℤ◌, ◌≤ℤ◌, Bool, true, false, ◌==◌, IsTrue, cond, List, [], ◌∷◌, length, Option, Some, None, MatchOption, is_some, refl, sym, ap, ◌∙◌, subst, arith}
 use Rattle.std.proofs.lemmas.Int.{ints}
+use Rattle.std.proofs.lemmas.Option.{same_Some}
 use Rattle.framehop_core.specs.declared.aarch64.unwind_rule.UnwindRuleAarch64.{UnwindRuleAarch64}
 use Rattle.framehop_analysis.specs.Answer.{IsOnly}
 use Rattle.framehop_analysis.specs.Aarch64.Words.{word_at, AreWordsAt, is_load, is_return, is_b, addressing, pair_offset}
 use Rattle.framehop_analysis.specs.Aarch64.Epilogue.{Places, at_pc, is_restoring, places_after, place_after_load, IsAuthenticatedCall, IsEnd, returns, branches, calls, IsRestored, IsRuleOfPlaces, IsRestOfEpilogue, IsEpilogueRule, restored, restores}
-use Rattle.framehop_analysis.specs.Laws.Answer.{only-map, some-same}
+use Rattle.framehop_analysis.specs.Laws.Answer.{only-map}
 use Rattle.framehop_analysis.specs.Laws.Aarch64.Ends.{Ends, rest-forward, rest-back, rest-end, end-rest}
 
 -- ---- ends
@@ -23,10 +24,10 @@ end-call text at word by None there no_return no_branch call = (λ t. cc, λ e. 
   no_end : (words : List ℕ) → AreWordsAt text at words → IsEnd by words → ⊥
   no_end words stands (returns w is e) =
       let P : List ℕ → Type 0 = AreWordsAt text at in
-      no_return (ap is_return (some-same word w (there ∙ (subst P e stands).0)) ∙ is)
+      no_return (ap is_return (same_Some word w (there ∙ (subst P e stands).0)) ∙ is)
   no_end words stands (branches w is apart e) =
       let P : List ℕ → Type 0 = AreWordsAt text at in
-      no_branch (ap is_b (some-same word w (there ∙ (subst P e stands).0)) ∙ is) apart
+      no_branch (ap is_b (same_Some word w (there ∙ (subst P e stands).0)) ∙ is) apart
   no_end words stands (calls is) = call words stands is
 
 -- ---- one instruction

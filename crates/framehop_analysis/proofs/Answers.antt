@@ -1,13 +1,13 @@
 -- Answers that find at most one thing: from one fact to another, and to the clause of a public function.
 use Rattle.std.proofs.Common.{◌≡◌, Option, Some, None, ◌↔◌, inl, inr, refl, sym, ◌∙◌, subst, IfSome, OnSome, MatchOption}
+use Rattle.std.proofs.lemmas.Option.{same_Some}
 use Rattle.framehop_analysis.specs.Answer.{IsOnly, FirstOf}
-use Rattle.framehop_analysis.specs.Laws.Answer.{some-same}
 
 -- the answer is a value exactly where the value meets the fact
 pub only-iff : {A : Type 0} (P : A → Type 0) (found : Option A) → IsOnly P found → (x : A) → (found ≡ Some x) ↔ P x
 only-iff P None only x = (λ e. cc, λ p. absurd (only x p))
 only-iff {A} P (Some y) only x =
-    (λ e. (let same : y ≡ x = some-same y x e in subst P same only.0), λ p. (let same : x ≡ y = only.1 x p in cc))
+    (λ e. (let same : y ≡ x = same_Some y x e in subst P same only.0), λ p. (let same : x ≡ y = only.1 x p in cc))
 
 -- there is one answer to a fact
 pub only-same : {A : Type 0} (P : A → Type 0) (result found : Option A) → ((x : A) → (result ≡ Some x) ↔ P x) → IsOnly P found → result ≡ found

@@ -38,7 +38,7 @@ abbrev pub HaveTwoKeys : {R : Type 0} → List (Entry R) → Type 0
 HaveTwoKeys (newest ∷ older ∷ _) = same_key older.key newest.key ≡ false
 HaveTwoKeys _ = ⊤
 
--- a set in memory: an older entry only behind a newest one, of another key, and rules that can be run
+-- a set in memory: an older entry only where there is a newest one, of another key, and rules that can be run
 pub record IsSet {R : Type 0} (executable : R → Bool) (set : CacheSet R) : Type 0 where
   pub filled : set.newest ≡ Empty → set.older ≡ Empty
   pub keys : HaveTwoKeys (entries_of set)

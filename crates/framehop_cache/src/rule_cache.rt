@@ -36,7 +36,7 @@ impl<R: UnwindRule> Model for RuleCache<R> {
 }
 
 impl<R: UnwindRule> RuleCache<R> {
-    /// A cache with 509 empty sets. Refused where the memory for them is.
+    /// Returns a cache with 509 empty sets, or an error if their allocation fails.
     pub fn new(alloc: Global) -> Result<Self, AllocError>
         ensures { IfOk result (λ cache. cache ≡ empty_cache) }
     {

@@ -1,6 +1,6 @@
 -- An instruction ends after the place where it begins.
 use Rattle.std.proofs.Common.{◌≡◌, ℕ, suc, ◌+◌, ◌-◌, ◌<◌, ◌≤◌, Bool, true, false, List, length, drop, Result, Ok, Err, arith, if◌then◌else◌, ◌==◌, ◌||◌, ◌&&◌, leb, ltb, ℤ, pos, ◌*ℤ◌, ◌^◌}
-use Rattle.framehop_cfi.specs.Bytes.{Reading, ◌>>=◌, sized_at, u8_at, u16_at, u32_at, u64_at}
+use Rattle.framehop_cfi.specs.Bytes.{Parsed, ◌>>=◌, sized_at, u8_at, u16_at, u32_at, u64_at}
 use Rattle.framehop_cfi.specs.Leb128.{continued, groups_at, uleb_at, sleb_at, with_sign, fits_i64}
 use Rattle.framehop_cfi.specs.Raw.{raw_at, format_of}
 use Rattle.framehop_cfi.specs.Pointer.{pointer_at, base_of, application_of}
@@ -16,24 +16,24 @@ use Rattle.framehop_cfi.specs.declared.read_error.ReadError.{ReadError}
 use Rattle.framehop_cfi.specs.declared.read_error.ReadError.TheVariants.{Eof}
 
 -- what is read ends at or after a place
-abbrev pub Reaches : {A : Type 0} → ℕ → Reading A → Type 0
+abbrev pub Reaches : {A : Type 0} → ℕ → Parsed A → Type 0
 Reaches n (Ok read) = n ≤ read.1
 Reaches n (Err error) = Unit {0}
 
 module _ {A : Type 0} (n : ℕ) where
-  choose : (b : Bool) (x y : Reading A) → Reaches n x → Reaches n y → Reaches n (if b then x else y)
+  choose : (b : Bool) (x y : Parsed A) → Reaches n x → Reaches n y → Reaches n (if b then x else y)
   choose true x y p q = p
   choose false x y p q = q
 
-  after : {B : Type 0} (r : Result B ReadError) (f : B → Reading A) → ((x : B) → Reaches n (f x)) → Reaches n (r >>= f)
+  after : {B : Type 0} (r : Result B ReadError) (f : B → Parsed A) → ((x : B) → Reaches n (f x)) → Reaches n (r >>= f)
   after (Ok x) f p = p x
   after (Err e) f p = tt
 
-  behind : {B : Type 0} (r : Reading B) (f : B × ℕ → Reading A) → Reaches n r → ((x : B × ℕ) → n ≤ x.1 → Reaches n (f x)) → Reaches n (r >>= f)
+  behind : {B : Type 0} (r : Parsed B) (f : B × ℕ → Parsed A) → Reaches n r → ((x : B × ℕ) → n ≤ x.1 → Reaches n (f x)) → Reaches n (r >>= f)
   behind (Ok x) f p q = q x p
   behind (Err e) f p q = tt
 
-  less : (m : ℕ) (r : Reading A) → n ≤ m → Reaches m r → Reaches n r
+  less : (m : ℕ) (r : Parsed A) → n ≤ m → Reaches m r → Reaches n r
   less m (Ok x) le p = omega arith
   less m (Err e) le p = tt
 
@@ -116,7 +116,7 @@ module _ (bytes : List ℕ) (at : ℕ) where
   unfolding expression_at
   expression-reaches = behind (suc at) (counted_at bytes at) _ counted-reaches (λ place past. past)
 
-mapped-reaches : {A B : Type 0} (n : ℕ) (f : A → B) (r : Reading A) → Reaches n r → Reaches n (mapped f r)
+mapped-reaches : {A B : Type 0} (n : ℕ) (f : A → B) (r : Parsed A) → Reaches n r → Reaches n (mapped f r)
 mapped-reaches n f (Ok x) p = p
 mapped-reaches n f (Err e) p = tt
 

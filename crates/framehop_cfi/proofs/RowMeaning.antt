@@ -16,10 +16,7 @@ use Rattle.framehop_cfi.specs.declared.read_error.ReadError.TheVariants.{OutOfMe
 use Rattle.framehop_cfi.specs.Outcome.{Becomes}
 use Rattle.std.specs.Prelude.{OnOk, IfErr}
 use Rattle.framehop_cfi.proofs.Forward.{instruction-forward}
-
-bind_ok : {A B E : Type 0} (r : Result A E) (f : A → Result B E) (y : B) → (r >>= f) ≡ Ok y → (x : A) × (r ≡ Ok x) × (f x ≡ Ok y)
-bind_ok (Ok x) f y is = (x, refl, is)
-bind_ok (Err e) f y is = cc
+use Rattle.framehop_cfi.proofs.Spans.{bind_ok}
 
 same : (x y : TableRows) → ◌≡◌ {A = Result TableRows ReadError} (Ok x) (Ok y) → x ≡ y
 same x y is = cc

@@ -1,6 +1,6 @@
 -- The augmentation of a CIE (LSB, ".eh_frame"; DWARF 5 section 6.4.1).
 use Rattle.std.specs.Prelude.{ℕ, ◌+◌, List, [], ◌∷◌, length, take, drop, position, true, false, Option, Some, None, Result, Ok, Err, ◌==◌, ◌||◌, nat_le, if◌then◌else◌}
-use Rattle.framehop_cfi.specs.Bytes.{Reading, ◌>>=◌, u8_at}
+use Rattle.framehop_cfi.specs.Bytes.{Parsed, ◌>>=◌, u8_at}
 use Rattle.framehop_cfi.specs.Leb128.{uleb_at}
 use Rattle.framehop_cfi.specs.Pointer.{pointer_at}
 use Rattle.framehop_cfi.specs.declared.augmentation.Augmentation.{Augmentation}
@@ -17,23 +17,23 @@ unfoldable pub terminator_at : List ℕ → ℕ → Result ℕ ReadError
 terminator_at bytes at = found_at at (position (λ byte. byte == 0) (drop at bytes))
 
 -- the place after so many bytes of data, whose count stands before them
-unfoldable pub counted_at : List ℕ → ℕ → Reading ℕ
+unfoldable pub counted_at : List ℕ → ℕ → Parsed ℕ
 counted_at bytes at = do
   count ← uleb_at bytes at
   if nat_le (count.1 + count.0) (length bytes) then Ok (count.1, count.1 + count.0) else Err Eof
 
 -- this value, with the place after something that is read past
-abbrev pub unchanged_after : {A : Type 0} → ℕ → Reading A → Reading ℕ
+abbrev pub unchanged_after : {A : Type 0} → ℕ → Parsed A → Parsed ℕ
 unchanged_after value reading = reading >>= λ read. Ok (value, read.1)
 
 -- a personality routine's encoding and pointer; encoding FF has no pointer
-unfoldable pub personality_at : SectionBaseAddresses → List ℕ → ℕ → Reading ℕ
+unfoldable pub personality_at : SectionBaseAddresses → List ℕ → ℕ → Parsed ℕ
 personality_at bases bytes at = do
   encoding ← u8_at bytes at
   if encoding.0 == 255 then Ok (0, encoding.1) else pointer_at bases encoding.0 bytes encoding.1
 
 -- one letter of an augmentation text: the pointer encoding of the FDEs after it, and the place after its data
-abbrev pub letter_at : SectionBaseAddresses → ℕ → List ℕ → ℕ → ℕ → Reading ℕ
+abbrev pub letter_at : SectionBaseAddresses → ℕ → List ℕ → ℕ → ℕ → Parsed ℕ
 letter_at bases letter bytes at encoding =
     if letter == 82 then u8_at bytes at
     else (if letter == 76 then unchanged_after encoding (u8_at bytes at)

@@ -10,8 +10,8 @@ abbrev pub ◌>>=◌ : {A B E : Type 0} → Result A E → (A → Result B E) �
 (Err e) >>= f = Err e
 
 -- what is read at an offset: a value and the offset after it, or why there is none
-abbrev pub Reading : Type 0 → Type 0
-Reading A = Result (A × ℕ) ReadError
+abbrev pub Parsed : Type 0 → Type 0
+Parsed A = Result (A × ℕ) ReadError
 
 -- little-endian numbers of two, four and eight bytes
 abbrev pub le2 : List ℕ → ℕ → ℕ
@@ -24,17 +24,17 @@ abbrev pub le8 : List ℕ → ℕ → ℕ
 le8 bytes at = le4 bytes at + 4294967296 * le4 bytes (at + 4)
 
 -- a number of that size, if the bytes hold it
-abbrev pub sized_at : ℕ → ℕ → List ℕ → ℕ → Reading ℕ
+abbrev pub sized_at : ℕ → ℕ → List ℕ → ℕ → Parsed ℕ
 sized_at number size bytes at = if nat_le (at + size) (length bytes) then Ok (number, at + size) else Err Eof
 
-unfoldable pub u8_at : List ℕ → ℕ → Reading ℕ
+unfoldable pub u8_at : List ℕ → ℕ → Parsed ℕ
 u8_at bytes at = sized_at (slice_index bytes at) 1 bytes at
 
-unfoldable pub u16_at : List ℕ → ℕ → Reading ℕ
+unfoldable pub u16_at : List ℕ → ℕ → Parsed ℕ
 u16_at bytes at = sized_at (le2 bytes at) 2 bytes at
 
-unfoldable pub u32_at : List ℕ → ℕ → Reading ℕ
+unfoldable pub u32_at : List ℕ → ℕ → Parsed ℕ
 u32_at bytes at = sized_at (le4 bytes at) 4 bytes at
 
-unfoldable pub u64_at : List ℕ → ℕ → Reading ℕ
+unfoldable pub u64_at : List ℕ → ℕ → Parsed ℕ
 u64_at bytes at = sized_at (le8 bytes at) 8 bytes at

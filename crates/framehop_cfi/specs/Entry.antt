@@ -1,6 +1,6 @@
 -- The two kinds of entries of a call frame section (DWARF 5 section 6.4.1; LSB, ".eh_frame").
 use Rattle.std.specs.Prelude.{ℕ, ◌+◌, ◌-◌, List, take, slice_range, Bool, true, false, Result, Ok, Err, ◌==◌, ◌||◌, nat_le, if◌then◌else◌}
-use Rattle.framehop_cfi.specs.Bytes.{Reading, ◌>>=◌, u8_at, u32_at, u64_at}
+use Rattle.framehop_cfi.specs.Bytes.{Parsed, ◌>>=◌, u8_at, u32_at, u64_at}
 use Rattle.framehop_cfi.specs.Leb128.{uleb_at, sleb_at}
 use Rattle.framehop_cfi.specs.Raw.{raw_at, format_of}
 use Rattle.framehop_cfi.specs.Augmentation.{terminator_at, counted_at, augmentation_at}
@@ -62,7 +62,7 @@ sizes_of EhFrame version bytes at = Ok at
 sizes_of DebugFrame version bytes at = if version == 4 then sizes_at bytes at else Ok at
 
 -- the place after the return register, which is not used: a byte in version 1, else a ULEB
-abbrev pub place_after : {A : Type 0} → Reading A → Result ℕ ReadError
+abbrev pub place_after : {A : Type 0} → Parsed A → Result ℕ ReadError
 place_after reading = reading >>= λ read. Ok read.1
 
 abbrev pub return_register_at : ℕ → List ℕ → ℕ → Result ℕ ReadError

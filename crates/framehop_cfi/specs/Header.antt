@@ -1,7 +1,7 @@
 -- The binary search table of `.eh_frame_hdr` (LSB, ".eh_frame_hdr").
 use Rattle.std.specs.Prelude.{ℕ, ◌+◌, ◌-◌, ◌*◌, ◌^◌, ◌≡◌, List, length, map, Option, Some, None, Result, Ok, Err, ◌==◌, ◌||◌, ◌&&◌, nat_le, nat_lt, if◌then◌else◌}
 use Rattle.std.specs.List.{range_with_len}
-use Rattle.framehop_cfi.specs.Bytes.{Reading, ◌>>=◌, u8_at}
+use Rattle.framehop_cfi.specs.Bytes.{Parsed, ◌>>=◌, u8_at}
 use Rattle.framehop_cfi.specs.Raw.{raw_at, format_of}
 use Rattle.framehop_cfi.specs.Pointer.{pointer_at}
 use Rattle.framehop_cfi.specs.Place.{place_of, IsPlace}
@@ -59,18 +59,18 @@ layout_of bases bytes = do
   if version.0 == 1 then encodings_at bases bytes version.1 else Err UnknownVersion
 
 -- a number that stands where one is known to stand
-abbrev pub value_of : Reading ℕ → ℕ
-value_of (Ok read) = read.0
-value_of (Err error) = 0
+abbrev pub value_or_zero : Parsed ℕ → ℕ
+value_or_zero (Ok read) = read.0
+value_or_zero (Err error) = 0
 
 -- a row's start, and the address of its FDE
 unfoldable pub start_of_row : SectionBaseAddresses → Layout → List ℕ → ℕ → ℕ
 start_of_row bases layout bytes index =
-    value_of (pointer_at bases layout.encoding bytes (layout.rows + 2 * layout.size * index))
+    value_or_zero (pointer_at bases layout.encoding bytes (layout.rows + 2 * layout.size * index))
 
 unfoldable pub fde_of_row : SectionBaseAddresses → Layout → List ℕ → ℕ → ℕ
 fde_of_row bases layout bytes index =
-    value_of (pointer_at bases layout.encoding bytes (layout.rows + 2 * layout.size * index + layout.size))
+    value_or_zero (pointer_at bases layout.encoding bytes (layout.rows + 2 * layout.size * index + layout.size))
 
 -- all the starts
 unfoldable pub starts_of : SectionBaseAddresses → Layout → List ℕ → List ℕ

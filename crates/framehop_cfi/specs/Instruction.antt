@@ -1,6 +1,6 @@
 -- Call frame instructions (DWARF 5 section 6.4.2).
 use Rattle.std.specs.Prelude.{ℕ, ◌-◌, List, [], ◌∷◌, Result, Ok, Err, ℤ, pos, ◌*ℤ◌, ◌==◌, ◌||◌, ◌&&◌, nat_le, nat_lt, if◌then◌else◌}
-use Rattle.framehop_cfi.specs.Bytes.{Reading, ◌>>=◌, u8_at, u16_at, u32_at}
+use Rattle.framehop_cfi.specs.Bytes.{Parsed, ◌>>=◌, u8_at, u16_at, u32_at}
 use Rattle.framehop_cfi.specs.ByCode.{by_code, by_test}
 use Rattle.framehop_cfi.specs.Leb128.{uleb_at, sleb_at, fits_i64}
 use Rattle.framehop_cfi.specs.Augmentation.{counted_at}
@@ -18,11 +18,11 @@ use Rattle.framehop_cfi.specs.declared.read_error.ReadError.{ReadError}
 use Rattle.framehop_cfi.specs.declared.read_error.ReadError.TheVariants.{UnknownInstruction, NumberTooBig}
 
 -- what is read, put into another form
-abbrev pub mapped : {A B : Type 0} → (A → B) → Reading A → Reading B
+abbrev pub mapped : {A B : Type 0} → (A → B) → Parsed A → Parsed B
 mapped f reading = reading >>= λ read. Ok (f read.0, read.1)
 
 -- a register's number, up to 65535
-unfoldable pub register_at : List ℕ → ℕ → Reading Register
+unfoldable pub register_at : List ℕ → ℕ → Parsed Register
 register_at bytes at = do
   number ← uleb_at bytes at
   if nat_lt number.0 65536 then Ok (record { 0 = number.0 }, number.1) else Err NumberTooBig
@@ -32,27 +32,27 @@ abbrev pub checked_i64 : ℤ → Result ℤ ReadError
 checked_i64 number = if fits_i64 number then Ok number else Err NumberTooBig
 
 -- a number times the data alignment
-unfoldable pub factored_at : ℤ → List ℕ → ℕ → Reading ℤ
+unfoldable pub factored_at : ℤ → List ℕ → ℕ → Parsed ℤ
 factored_at alignment bytes at = do
   number ← uleb_at bytes at
   product ← checked_i64 (pos number.0 *ℤ alignment)
   Ok (product, number.1)
 
-unfoldable pub factored_signed_at : ℤ → List ℕ → ℕ → Reading ℤ
+unfoldable pub factored_signed_at : ℤ → List ℕ → ℕ → Parsed ℤ
 factored_signed_at alignment bytes at = do
   number ← sleb_at bytes at
   product ← checked_i64 (number.0 *ℤ alignment)
   Ok (product, number.1)
 
 -- an offset that is not factored
-unfoldable pub offset_at : List ℕ → ℕ → Reading ℤ
+unfoldable pub offset_at : List ℕ → ℕ → Parsed ℤ
 offset_at bytes at = do
   number ← uleb_at bytes at
   offset ← checked_i64 (pos number.0)
   Ok (offset, number.1)
 
 -- an expression's bytes, after their count
-unfoldable pub expression_at : List ℕ → ℕ → Reading Expression
+unfoldable pub expression_at : List ℕ → ℕ → Parsed Expression
 expression_at bytes at = do
   place ← counted_at bytes at
   Ok (record { start = place.0; end = place.1 }, place.1)
@@ -60,7 +60,7 @@ expression_at bytes at = do
 -- the rule that an instruction gives to the register that it names, by its code
 -- DW_CFA_offset_extended 05, DW_CFA_undefined 07, DW_CFA_same_value 08, DW_CFA_register 09, DW_CFA_expression 10,
 -- DW_CFA_offset_extended_sf 11, DW_CFA_val_offset 14, DW_CFA_val_offset_sf 15, DW_CFA_val_expression 16
-abbrev pub rule_at : ℤ → ℕ → List ℕ → ℕ → Reading RegisterRule
+abbrev pub rule_at : ℤ → ℕ → List ℕ → ℕ → Parsed RegisterRule
 rule_at alignment code bytes at =
     by_code code (
     (0x05, mapped rule.Offset (factored_at alignment bytes at))
@@ -75,7 +75,7 @@ rule_at alignment code bytes at =
     ∷ []) (Err UnknownInstruction)
 
 -- an instruction that names a register and gives it a rule
-unfoldable pub set_rule_at : ℤ → ℕ → List ℕ → ℕ → Reading CallFrameInstruction
+unfoldable pub set_rule_at : ℤ → ℕ → List ℕ → ℕ → Parsed CallFrameInstruction
 set_rule_at alignment code bytes at = do
   register ← register_at bytes at
   found ← rule_at alignment code bytes register.1
@@ -85,13 +85,13 @@ set_rule_at alignment code bytes at = do
 abbrev pub register_and_offset : Register → ℤ → CallFrameInstruction
 register_and_offset register offset = DefCfa (cfa.RegisterAndOffset register offset)
 
-unfoldable pub def_cfa_at : List ℕ → ℕ → Reading CallFrameInstruction
+unfoldable pub def_cfa_at : List ℕ → ℕ → Parsed CallFrameInstruction
 def_cfa_at bytes at = do
   register ← register_at bytes at
   offset ← offset_at bytes register.1
   Ok (register_and_offset register.0 offset.0, offset.1)
 
-unfoldable pub def_cfa_factored_at : ℤ → List ℕ → ℕ → Reading CallFrameInstruction
+unfoldable pub def_cfa_factored_at : ℤ → List ℕ → ℕ → Parsed CallFrameInstruction
 def_cfa_factored_at alignment bytes at = do
   register ← register_at bytes at
   offset ← factored_signed_at alignment bytes register.1
@@ -99,7 +99,7 @@ def_cfa_factored_at alignment bytes at = do
 
 -- An instruction on the CFA, by its code: DW_CFA_def_cfa 0C, DW_CFA_def_cfa_register 0D, DW_CFA_def_cfa_offset 0E,
 -- DW_CFA_def_cfa_expression 0F, DW_CFA_def_cfa_sf 12, DW_CFA_def_cfa_offset_sf 13.
-abbrev pub cfa_at : ℤ → ℕ → List ℕ → ℕ → Reading CallFrameInstruction
+abbrev pub cfa_at : ℤ → ℕ → List ℕ → ℕ → Parsed CallFrameInstruction
 cfa_at alignment code bytes at =
     by_code code (
     (0x0C, def_cfa_at bytes at)
@@ -111,7 +111,7 @@ cfa_at alignment code bytes at =
     ∷ []) (Err UnknownInstruction)
 
 -- an advance of the location by one, two or four bytes
-abbrev pub advance_at : ℕ → List ℕ → ℕ → Reading CallFrameInstruction
+abbrev pub advance_at : ℕ → List ℕ → ℕ → Parsed CallFrameInstruction
 advance_at code bytes at =
     if code == 0x02 then mapped AdvanceLoc (u8_at bytes at)
     else (if code == 0x03 then mapped AdvanceLoc (u16_at bytes at)
@@ -120,7 +120,7 @@ advance_at code bytes at =
 -- An instruction with its own byte, by its code: DW_CFA_nop 00, DW_CFA_AARCH64_negate_ra_state 2D, DW_CFA_set_loc 01,
 -- DW_CFA_advance_loc1 to 4 02 to 04, DW_CFA_restore_extended 06, DW_CFA_remember_state 0A, DW_CFA_restore_state 0B,
 -- DW_CFA_GNU_args_size 2E, then those on the CFA, and those that give a register a rule.
-abbrev pub coded_at : CommonInformationEntry → SectionBaseAddresses → ℕ → List ℕ → ℕ → Reading CallFrameInstruction
+abbrev pub coded_at : CommonInformationEntry → SectionBaseAddresses → ℕ → List ℕ → ℕ → Parsed CallFrameInstruction
 coded_at cie bases code bytes at =
     by_test (
     (code == 0x00, Ok (Nop, at))
@@ -140,7 +140,7 @@ coded_at cie bases code bytes at =
 
 -- an instruction that has its first operand in the byte: DW_CFA_advance_loc from 40 on, DW_CFA_offset from 80 on,
 -- DW_CFA_restore from C0 on
-abbrev pub operands_at : CommonInformationEntry → SectionBaseAddresses → ℕ → List ℕ → ℕ → Reading CallFrameInstruction
+abbrev pub operands_at : CommonInformationEntry → SectionBaseAddresses → ℕ → List ℕ → ℕ → Parsed CallFrameInstruction
 operands_at cie bases code bytes at =
     by_test (
     (nat_le 0xC0 code, Ok (Restore (record { 0 = code - 0xC0 }), at))
@@ -154,7 +154,7 @@ operands_at cie bases code bytes at =
 
 -- the instruction at an offset
 unfoldable pub instruction_at : CommonInformationEntry → SectionBaseAddresses → List ℕ → ℕ
-    → Reading CallFrameInstruction
+    → Parsed CallFrameInstruction
 instruction_at cie bases bytes at = do
   code ← u8_at bytes at
   operands_at cie bases code.0 bytes code.1

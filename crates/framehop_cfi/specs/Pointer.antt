@@ -1,6 +1,6 @@
 -- Encoded pointers of the exception frame sections (LSB, "DWARF Exception Header Encoding").
 use Rattle.std.specs.Prelude.{ℕ, ◌+◌, ◌/◌, ◌%◌, ◌^◌, List, Result, Ok, Err, ◌==◌, if◌then◌else◌}
-use Rattle.framehop_cfi.specs.Bytes.{Reading, ◌>>=◌}
+use Rattle.framehop_cfi.specs.Bytes.{Parsed, ◌>>=◌}
 use Rattle.framehop_cfi.specs.Raw.{raw_at, format_of}
 use Rattle.framehop_cfi.specs.declared.pointer.SectionBaseAddresses.{SectionBaseAddresses}
 use Rattle.framehop_cfi.specs.declared.read_error.ReadError.{ReadError}
@@ -20,7 +20,7 @@ abbrev pub application_of : ℕ → ℕ
 application_of encoding = encoding / 16 % 8
 
 -- an encoded pointer; sums are modulo 2^64
-unfoldable pub pointer_at : SectionBaseAddresses → ℕ → List ℕ → ℕ → Reading ℕ
+unfoldable pub pointer_at : SectionBaseAddresses → ℕ → List ℕ → ℕ → Parsed ℕ
 pointer_at bases encoding bytes at = do
   base ← base_of bases at (application_of encoding)
   raw ← raw_at (format_of encoding) bytes at

@@ -2,7 +2,7 @@
 use Rattle.std.specs.Prelude.{ℕ, ◌+◌, ◌-◌, ◌*◌, ◌%◌, ◌^◌, List, [], ◌∷◌, Ok, Err, ◌==◌, ◌||◌, nat_lt, if◌then◌else◌}
 use Rattle.std.specs.Int.{cast_unsigned, w64}
 use Rattle.framehop_cfi.specs.ByCode.{by_test}
-use Rattle.framehop_cfi.specs.Bytes.{Reading, ◌>>=◌, u16_at, u32_at, u64_at}
+use Rattle.framehop_cfi.specs.Bytes.{Parsed, ◌>>=◌, u16_at, u32_at, u64_at}
 use Rattle.framehop_cfi.specs.Leb128.{uleb_at, sleb_at}
 use Rattle.framehop_cfi.specs.declared.read_error.ReadError.TheVariants.{BadEncoding}
 
@@ -15,7 +15,7 @@ abbrev pub sign_extended : ℕ → ℕ → ℕ
 sign_extended bits number = if nat_lt (2 * number) (2 ^ bits) then number else number + (2 ^ 64 - 2 ^ bits)
 
 -- a pointer's value by its format only, as a number of 64 bits
-unfoldable pub raw_at : ℕ → List ℕ → ℕ → Reading ℕ
+unfoldable pub raw_at : ℕ → List ℕ → ℕ → Parsed ℕ
 raw_at format bytes at =
     by_test (
     ((format == 0) || (format == 4) || (format == 12), u64_at bytes at)

@@ -12,7 +12,8 @@ pub enum DwarfUnwinderError {
     /// The row or an expression can't be evaluated: memory ran out.
     #[error("UnwindInfoForAddressFailed")]
     UnwindInfoForAddressFailed(ReadError),
-    /// The caller's stack pointer is not above the callee's.
+    /// In a frame other than the first, the caller's stack pointer is below the callee's, or on
+    /// aarch64 equal to it.
     #[error("StackPointerMovedBackwards")]
     StackPointerMovedBackwards,
     /// Neither the stack pointer nor the code address changes.

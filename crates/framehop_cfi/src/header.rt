@@ -1,7 +1,7 @@
 //! The binary search table of `.eh_frame_hdr` (LSB, `.eh_frame_hdr`), read in place.
 ghost use Rattle.std.specs.Prelude.{◌≡◌, ◌<◌, ◌≤◌, ◌+◌, ◌*◌, ◌^◌, IfOk, IfSome, IfNone, IsOk, IsErr};
 ghost use Rattle.framehop_cfi.specs.Place.{place_of, IsPlace};
-ghost use Rattle.framehop_cfi.specs.Header.{size_of_format, table_size, encoded_at, encodings_at, layout_of, start_of_row, fde_of_row, starts_of, fde_offset_of, fde_offset_in, IsOfRowFor, value_of};
+ghost use Rattle.framehop_cfi.specs.Header.{size_of_format, table_size, encoded_at, encodings_at, layout_of, start_of_row, fde_of_row, starts_of, fde_offset_of, fde_offset_in, IsOfRowFor, value_or_zero};
 ghost use Rattle.framehop_cfi.specs.Pointer.{pointer_at};
 
 use crate::bytes::read_u8;
@@ -197,7 +197,7 @@ impl<'a> Table<'a> {
 
     /// Returns the address that stands at an offset of the table.
     fn number_at(&self, at: usize) -> u64
-        ensures { result ≡ value_of (pointer_at self.now.bases self.now.layout.encoding self.now.bytes.now at) }
+        ensures { result ≡ value_or_zero (pointer_at self.now.bases self.now.layout.encoding self.now.bytes.now at) }
     {
         match self
             .bases

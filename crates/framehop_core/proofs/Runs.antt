@@ -19,7 +19,7 @@ later-later : {R : Type 0} (m n : ℕ) (run : Run R) → later m (later n run) �
 later-later m n run = ap (λ k. record { count = k; end = run.end; registers = run.registers }) (sym (add_assoc m n run.count))
 
 module _ {U R : Type 0} (outcome : U → Bool → R → Memory → Outcome R) (memory : Memory) (rules : List U) (n : ℕ) (first : Bool) (r : R) (all : Run R) (so_far : later n (run_of outcome first (drop n rules) r memory) ≡ all) where
-  -- a rule that answers: the run goes on behind it
+  -- a rule that answers: the run goes on after it
   pub run_of-more : (rule : U) (address : ℕ) (new : R) → n < length rules → rule ≡ get_or rules n rule → outcome rule first r memory ≡ answered address new → later (n + 1) (run_of outcome false (drop (n + 1) rules) new memory) ≡ all
   run_of-more rule address new within is o =
       let split : drop n rules ≡ rule ∷ drop (n + 1) rules = drop_more rules n rule within ∙ ap (λ u. u ∷ drop (n + 1) rules) (sym is) in

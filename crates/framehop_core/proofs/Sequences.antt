@@ -46,7 +46,7 @@ continued-none : (first : Bool) (x : ℕ) (registers : List Reg) → continued f
 continued-none true x registers = ap (λ r. Some (x, r)) (append-nil registers)
 continued-none false x registers = ap (λ r. Some (x, r)) (append-nil registers)
 
--- an offset behind another operation, or an operation that is neither an offset nor a pop
+-- an offset after another operation, or an operation that is neither an offset nor a pop
 pub continued-offset : (first : Bool) (x y : ℕ) (registers : List Reg) (operation : OffsetOrPop) (operations : List OffsetOrPop) → first ≡ false → operation ≡ OffsetBy8 y → continued first x registers (operation ∷ operations) ≡ None
 continued-offset first x y registers operation operations behind is = rw (behind, is) refl
 

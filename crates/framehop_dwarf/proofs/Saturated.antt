@@ -1,26 +1,26 @@
 -- An address beyond 64 bits has the place of the last one of 64 bits.
 use Rattle.std.proofs.Common.{◌≡◌, ℕ, zero, suc, ◌+◌, ◌-◌, ◌*◌, ◌/◌, ◌<◌, ◌≤◌, ◌^◌, ◌%◌, min, List, length, get_or, refl, ap, arith, Result, Ok, Err, leb, Option, if◌then◌else◌, inl, inr}
 use Rattle.std.proofs.lemmas.Bool.{le-leb, cases_lt}
-use Rattle.framehop_cfi.specs.Bytes.{Reading, ◌>>=◌}
+use Rattle.framehop_cfi.specs.Bytes.{Parsed, ◌>>=◌}
 use Rattle.framehop_cfi.specs.Raw.{raw_at, format_of}
 use Rattle.framehop_cfi.specs.Pointer.{pointer_at, base_of, application_of}
 use Rattle.framehop_cfi.specs.Place.{halved, place_of}
 use Rattle.framehop_cfi.specs.Layout.{Layout}
-use Rattle.framehop_cfi.specs.Header.{value_of, start_of_row, starts_of, layout_of, Header, fde_offset_by, fde_offset_in, IsOfRowFor}
+use Rattle.framehop_cfi.specs.Header.{value_or_zero, start_of_row, starts_of, layout_of, Header, fde_offset_by, fde_offset_in, IsOfRowFor}
 use Rattle.framehop_cfi.proofs.Table.{get_or-starts_of, length-starts_of}
 use Rattle.std.proofs.lemmas.List.{get_or_past}
 use Rattle.framehop_cfi.specs.declared.pointer.SectionBaseAddresses.{SectionBaseAddresses}
 use Rattle.framehop_cfi.specs.declared.read_error.ReadError.{ReadError}
 
-value_of-sum : (base : Result ℕ ReadError) (raw : Reading ℕ) → value_of (base >>= λ b. raw >>= λ r. Ok ((b + r.0) % 2 ^ 64, r.1)) < 2 ^ 64
-value_of-sum (Ok b) (Ok r) = omega arith
-value_of-sum (Ok b) (Err e) = omega arith
-value_of-sum (Err e) raw = omega arith
+value_or_zero-sum : (base : Result ℕ ReadError) (raw : Parsed ℕ) → value_or_zero (base >>= λ b. raw >>= λ r. Ok ((b + r.0) % 2 ^ 64, r.1)) < 2 ^ 64
+value_or_zero-sum (Ok b) (Ok r) = omega arith
+value_or_zero-sum (Ok b) (Err e) = omega arith
+value_or_zero-sum (Err e) raw = omega arith
 
-value_of-pointer_at : (bases : SectionBaseAddresses) (encoding : ℕ) (bytes : List ℕ) (at : ℕ) → value_of (pointer_at bases encoding bytes at) < 2 ^ 64
+value_or_zero-pointer_at : (bases : SectionBaseAddresses) (encoding : ℕ) (bytes : List ℕ) (at : ℕ) → value_or_zero (pointer_at bases encoding bytes at) < 2 ^ 64
 unfolding pointer_at
-value_of-pointer_at bases encoding bytes at =
-    value_of-sum (base_of bases at (application_of encoding)) (raw_at (format_of encoding) bytes at)
+value_or_zero-pointer_at bases encoding bytes at =
+    value_or_zero-sum (base_of bases at (application_of encoding)) (raw_at (format_of encoding) bytes at)
 
 -- starts that all fit 64 bits don't tell such addresses apart
 halved-past : (starts : List ℕ) (a b n low high : ℕ) → ((i : ℕ) → get_or starts i 0 < 2 ^ 64) → 2 ^ 64 ≤ a + 1 → 2 ^ 64 ≤ b + 1 → halved starts a n low high ≡ halved starts b n low high
@@ -39,7 +39,7 @@ starts-fit : (bases : SectionBaseAddresses) (layout : Layout) (bytes : List ℕ)
 unfolding start_of_row
 starts-fit bases layout bytes i =
     elim (cases_lt i layout.count) as (λ _. get_or (starts_of bases layout bytes) i 0 < 2 ^ 64) [
-      | inl below ↦ rw (get_or-starts_of bases layout bytes i below) (value_of-pointer_at bases layout.encoding bytes (layout.rows + 2 * layout.size * i))
+      | inl below ↦ rw (get_or-starts_of bases layout bytes i below) (value_or_zero-pointer_at bases layout.encoding bytes (layout.rows + 2 * layout.size * i))
       | inr past ↦ (let long = length-starts_of bases layout bytes in let e = get_or_past (starts_of bases layout bytes) i 0 (omega arith) in omega arith)
     ]
 

@@ -2,7 +2,7 @@
 -- end.
 use Rattle.std.specs.Prelude.{ℕ, zero, suc, ◌+◌, ◌%◌, ◌^◌, ◌≤◌, ◌≡◌, Bool, true, List, [], ◌∷◌, length, slice_get, slice_range, Option, Some, None, option_map, option_and_then, option_to_list, Ok, Err, ℤ, pos, negsuc, ◌+ℤ◌, ◌==◌, nat_le, if◌then◌else◌}
 use Rattle.std.specs.Int.{cast_unsigned, w64}
-use Rattle.framehop_cfi.specs.Bytes.{Reading}
+use Rattle.framehop_cfi.specs.Bytes.{Parsed}
 use Rattle.framehop_cfi.specs.declared.rule.Register.{Register}
 use Rattle.framehop_cfi.specs.declared.rule.Expression.{Expression}
 use Rattle.framehop_dwarf.specs.Operation.{operation_at, changed, combined}
@@ -68,7 +68,7 @@ state_after e operation next stack =
     (stack_after e.limit e.columns operation stack))
     (position_after (length e.code) operation next (slice_get stack 0))
 
-abbrev pub state_by : Evaluation → List ℕ → Reading Operation → Option State
+abbrev pub state_by : Evaluation → List ℕ → Parsed Operation → Option State
 state_by e stack (Ok read) = state_after e read.0 read.1 stack
 state_by e stack (Err error) = None
 

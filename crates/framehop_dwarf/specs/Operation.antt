@@ -1,7 +1,7 @@
 -- The operations of DWARF expressions (DWARF 5 sections 2.5.1 and 7.7.1).
 use Rattle.std.specs.Prelude.{ℕ, ◌-◌, ◌+◌, ◌*◌, ◌/◌, ◌%◌, ◌^◌, Bool, true, false, not, List, Option, Some, None, Ok, Err, ℤ, int_div, int_lt, int_le, unsigned_abs, bit_xor, ◌==◌, ◌||◌, ◌&&◌, nat_le, nat_lt, bit_and, bit_or, if◌then◌else◌}
 use Rattle.std.specs.Int.{int_shr, cast_signed, cast_unsigned, bit_not, w16, w64}
-use Rattle.framehop_cfi.specs.Bytes.{Reading, ◌>>=◌, u8_at, u16_at, u32_at, u64_at}
+use Rattle.framehop_cfi.specs.Bytes.{Parsed, ◌>>=◌, u8_at, u16_at, u32_at, u64_at}
 use Rattle.framehop_cfi.specs.Leb128.{uleb_at, sleb_at}
 use Rattle.framehop_cfi.specs.Raw.{sign_extended}
 use Rattle.framehop_cfi.specs.Instruction.{mapped}
@@ -17,7 +17,7 @@ use Rattle.framehop_dwarf.specs.declared.operation.Operation.TheVariants.{Nop, C
 -- ---- reading
 
 -- the number that an operation pushes, by its code from 08 to 11
-abbrev pub constant_at : ℕ → List ℕ → ℕ → Reading ℕ
+abbrev pub constant_at : ℕ → List ℕ → ℕ → Parsed ℕ
 constant_at code bytes at =
     if code == 0x08 then u8_at bytes at
     else (if code == 0x09 then mapped (sign_extended 8) (u8_at bytes at)
@@ -74,29 +74,29 @@ plain_of code =
     else (if code == 0x96 then Some Nop
     else either (unary_of code) (binary_of code))))))
 
-abbrev pub plain_at : Option Operation → ℕ → Reading Operation
+abbrev pub plain_at : Option Operation → ℕ → Parsed Operation
 plain_at (Some operation) at = Ok (operation, at)
 plain_at None at = Err UnknownInstruction
 
 -- a register plus an offset
-unfoldable pub offset_at : Register → List ℕ → ℕ → Reading Operation
+unfoldable pub offset_at : Register → List ℕ → ℕ → Parsed Operation
 offset_at register bytes at = do
   offset ← sleb_at bytes at
   Ok (RegisterOffset register offset.0, offset.1)
 
-unfoldable pub register_offset_at : List ℕ → ℕ → Reading Operation
+unfoldable pub register_offset_at : List ℕ → ℕ → Parsed Operation
 register_offset_at bytes at = do
   number ← uleb_at bytes at
   if nat_lt number.0 65536 then offset_at (record { 0 = number.0 }) bytes number.1 else Err NumberTooBig
 
 -- how far a jump goes
-unfoldable pub jump_at : List ℕ → ℕ → Reading ℤ
+unfoldable pub jump_at : List ℕ → ℕ → Parsed ℤ
 jump_at bytes at = do
   distance ← u16_at bytes at
   Ok (cast_signed w16 distance.0, distance.1)
 
 -- an operation that has a code of its own
-abbrev pub coded_at : ℕ → List ℕ → ℕ → Reading Operation
+abbrev pub coded_at : ℕ → List ℕ → ℕ → Parsed Operation
 coded_at code bytes at =
     if code == 0x15 then mapped Pick (u8_at bytes at)
     else (if code == 0x23 then mapped PlusConstant (uleb_at bytes at)
@@ -106,14 +106,14 @@ coded_at code bytes at =
     else plain_at (plain_of code) at))))
 
 -- the operation at an offset: from 30 on the numbers 0 to 31, from 70 on a register plus an offset
-abbrev pub ranged_at : ℕ → List ℕ → ℕ → Reading Operation
+abbrev pub ranged_at : ℕ → List ℕ → ℕ → Parsed Operation
 ranged_at code bytes at =
     if nat_le 0x30 code && nat_lt code 0x50 then Ok (Constant (code - 0x30), at)
     else (if nat_le 0x70 code && nat_lt code 0x90 then offset_at (record { 0 = code - 0x70 }) bytes at
     else (if nat_le 0x08 code && nat_lt code 0x12 then mapped Constant (constant_at code bytes at)
     else coded_at code bytes at))
 
-unfoldable pub operation_at : List ℕ → ℕ → Reading Operation
+unfoldable pub operation_at : List ℕ → ℕ → Parsed Operation
 operation_at bytes at = do
   code ← u8_at bytes at
   ranged_at code.0 bytes code.1

@@ -6,6 +6,7 @@ use Rattle.std.proofs.Math.Nat.{suc-mul, mul-zero, mul-le-mul_left, div-add-mod,
 use Rattle.std.proofs.lemmas.List.{length-map, append-nil}
 use Rattle.std.proofs.lemmas.List.Edits.{length-remove}
 use Rattle.std.proofs.lemmas.Option.{slice_get-map, slice_get_past, slice_get_within}
+use Rattle.framehop_core.specs.Laws.Basics.{option_map-some}
 use Rattle.framehop_macho.specs.SavedRegisters.{choices, lists_of, list_count}
 
 -- ---- places in a sum of lists
@@ -62,10 +63,6 @@ slice_get-choices {A} (x ∷ xs) (suc q) =
     slice_get-map (λ (choice : A × List A). (choice.0, x ∷ choice.1)) (choices xs) q
     ∙ ap (option_map (λ (choice : A × List A). (choice.0, x ∷ choice.1))) (slice_get-choices xs q)
     ∙ option_map-option_map (λ y. (y, remove xs q)) (λ (choice : A × List A). (choice.0, x ∷ choice.1)) (slice_get xs q)
-
-option_map-some : {A B : Type 0} (f : A → B) (o : Option A) (y : B) → option_map f o ≡ Some y → (x : A) × (o ≡ Some x) × (f x ≡ y)
-option_map-some f None y e = cc
-option_map-some f (Some x) y e = (x, refl, cc)
 
 length-others : {A : Type 0} (pool : List A) (k : ℕ) (choice : A × List A) → slice_get (choices pool) k ≡ Some choice → length choice.1 + 1 ≡ length pool
 length-others {A} pool k choice e =

@@ -8,7 +8,7 @@ use Rattle.std.proofs.lemmas.Nat.{and_mask}
 use Rattle.std.proofs.lemmas.Option.{slice_get-get_or, slice_get_past, slice_get_within, get_or_from_slice_get}
 use Rattle.framehop_cfi.specs.Bytes.{le4}
 use Rattle.framehop_macho.specs.Table.{column, index_starts, regular_starts, compressed_starts, opcodes_of}
-use Rattle.framehop_macho.specs.UnwindInfo.{opcode_of, found_opcode}
+use Rattle.framehop_macho.specs.UnwindInfo.{opcode_by_number, found_opcode}
 use Rattle.framehop_macho.specs.declared.unwind_info.error.CompactReadError.TheVariants.{BadEncodingIndex}
 
 pub length-column : (number : ℕ → ℕ) (size : ℕ) (table : List ℕ) → length (column number size table) ≡ length table / size
@@ -87,24 +87,24 @@ get_or-opcodes_of : (table : List ℕ) (index : ℕ) → index < length table / 
 unfolding opcodes_of
 get_or-opcodes_of table index below = get_or-column (λ word. word) 4 table index below
 
-pub opcode_of-common : (common own : List ℕ) (number : ℕ) → number < length common / 4 → opcode_of common own number ≡ Ok (le4 common (4 * number))
-unfolding opcode_of
-opcode_of-common common own number below =
+pub opcode_by_number-common : (common own : List ℕ) (number : ℕ) → number < length common / 4 → opcode_by_number common own number ≡ Ok (le4 common (4 * number))
+unfolding opcode_by_number
+opcode_by_number-common common own number below =
     let within : number < length (opcodes_of common) = omega (arith, length-opcodes_of common) in
     let all : number < length (opcodes_of common ++ opcodes_of own) = rw length-append (omega arith) in
     ap found_opcode (slice_get-get_or (opcodes_of common ++ opcodes_of own) number 0 all)
     ∙ ap Ok (get_or_append_left (opcodes_of common) (opcodes_of own) 0 number within ∙ get_or-opcodes_of common number below)
 
-pub opcode_of-own : (common own : List ℕ) (number rest : ℕ) → number ≡ length common / 4 + rest → rest < length own / 4 → opcode_of common own number ≡ Ok (le4 own (4 * rest))
-unfolding opcode_of
-opcode_of-own common own number rest is below =
+pub opcode_by_number-own : (common own : List ℕ) (number rest : ℕ) → number ≡ length common / 4 + rest → rest < length own / 4 → opcode_by_number common own number ≡ Ok (le4 own (4 * rest))
+unfolding opcode_by_number
+opcode_by_number-own common own number rest is below =
     let place : number ≡ length (opcodes_of common) + rest = omega (arith, length-opcodes_of common) in
     let all : number < length (opcodes_of common ++ opcodes_of own) = rw length-append (omega (arith, length-opcodes_of own)) in
     ap found_opcode (slice_get-get_or (opcodes_of common ++ opcodes_of own) number 0 all)
     ∙ ap Ok (ap (λ n. get_or (opcodes_of common ++ opcodes_of own) n 0) place ∙ get_or-append-add (opcodes_of common) (opcodes_of own) rest 0 ∙ get_or-opcodes_of own rest below)
 
-pub opcode_of-beyond : (common own : List ℕ) (number : ℕ) → length common / 4 + length own / 4 ≤ number → opcode_of common own number ≡ Err BadEncodingIndex
-unfolding opcode_of
-opcode_of-beyond common own number beyond =
+pub opcode_by_number-beyond : (common own : List ℕ) (number : ℕ) → length common / 4 + length own / 4 ≤ number → opcode_by_number common own number ≡ Err BadEncodingIndex
+unfolding opcode_by_number
+opcode_by_number-beyond common own number beyond =
     let past : length (opcodes_of common ++ opcodes_of own) ≤ number = rw length-append (omega (arith, length-opcodes_of common, length-opcodes_of own)) in
     ap found_opcode (slice_get_past (opcodes_of common ++ opcodes_of own) number past)

@@ -2,8 +2,9 @@
 use Rattle.std.specs.Prelude.{ℕ, ◌==◌, nat_lt, Bool, true, false, List, if◌then◌else◌, Option, Some, None, Ok, Err}
 use Rattle.framehop_core.specs.declared.aarch64.unwind_rule.UnwindRuleAarch64.{UnwindRuleAarch64}
 use Rattle.framehop_core.specs.declared.aarch64.unwind_rule.UnwindRuleAarch64.TheVariants.{NoOp, OffsetSp, UseFramePointer}
+use Rattle.framehop_core.specs.Bits.{bits_at}
 use Rattle.framehop_analysis.specs.Aarch64.Analysed.{analysed}
-use Rattle.framehop_macho.specs.Answer.{Answer, bits_at, rule_or}
+use Rattle.framehop_macho.specs.Answer.{Answer, rule_or}
 use Rattle.framehop_macho.specs.declared.aarch64.opcode.OpcodeArm64.{OpcodeArm64}
 use Rattle.framehop_macho.specs.declared.aarch64.opcode.OpcodeArm64.TheVariants.{Null, Frameless, Dwarf, FrameBased, UnrecognizedKind}
 use Rattle.framehop_macho.specs.declared.macho.CompactUnwindInfoUnwinderError.TheVariants.{CallerCannotBeFrameless, FunctionHasNoInfo, BadOpcodeKind}

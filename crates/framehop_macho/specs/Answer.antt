@@ -1,5 +1,5 @@
 -- What unwinding by compact unwind info returns.
-use Rattle.std.specs.Prelude.{ℕ, ◌/◌, ◌%◌, ◌^◌, Option, Some, None, Result, Ok, Err}
+use Rattle.std.specs.Prelude.{Option, Some, None, Result, Ok, Err}
 use Rattle.framehop_macho.specs.declared.macho.CompactUnwindInfoUnwinderError.{CompactUnwindInfoUnwinderError}
 use Rattle.framehop_macho.specs.declared.macho.CuiUnwindResult.{CuiUnwindResult}
 use Rattle.framehop_macho.specs.declared.macho.CuiUnwindResult.TheVariants.{ExecRule, NeedDwarf}
@@ -9,9 +9,6 @@ abbrev pub Answer : Type 0 → Type 0
 Answer Rule = Result (CuiUnwindResult Rule) CompactUnwindInfoUnwinderError
 
 -- so many bits of a word, from a lowest one on
-abbrev pub bits_at : ℕ → ℕ → ℕ → ℕ
-bits_at word low count = word / 2 ^ low % 2 ^ count
-
 -- a rule, where one is found
 abbrev pub exec_rule : {Rule E : Type 0} → Result Rule E → Result (CuiUnwindResult Rule) E
 exec_rule (Ok rule) = Ok (ExecRule rule)

@@ -1,6 +1,6 @@
 -- The section `__unwind_info` (Apple, mach-o/compact_unwind_encoding.h): which function an address is in.
 use Rattle.std.specs.Prelude.{◌≡◌, ◌⊎◌, ℕ, ◌≤◌, ◌<◌, ◌+◌, ◌-◌, ◌*◌, ◌/◌, ◌^◌, ◌==◌, nat_le, nat_lt, List, ◌++◌, length, slice_get, if◌then◌else◌, Option, Some, None, Result, Ok, Err, unwrap_or}
-use Rattle.framehop_cfi.specs.Bytes.{le2, le4}
+use Rattle.framehop_cfi.specs.Bytes.{◌>>=◌, le2, le4}
 use Rattle.framehop_macho.specs.Table.{part_of, index_starts, regular_starts, compressed_starts, opcodes_of, row_of, IsBefore}
 use Rattle.framehop_macho.specs.declared.unwind_info.error.CompactReadError.{CompactReadError}
 use Rattle.framehop_macho.specs.declared.unwind_info.error.CompactReadError.TheVariants.{Eof, BadVersion, BadPageKind, BadEncodingIndex, AddressTooBig}
@@ -10,12 +10,6 @@ use Rattle.framehop_macho.specs.declared.unwind_info.info.UnwindInfo.{UnwindInfo
 use Rattle.framehop_macho.specs.declared.unwind_info.page.Page.{Page as LentPage}
 use Rattle.framehop_macho.specs.declared.unwind_info.page.Page.TheVariants.{Regular, Compressed}
 use Rattle.framehop_macho.specs.declared.unwind_info.table.Row.{Row}
-
--- do one thing, then another with what it gives; the first refusal stands
-infixl 10 ◌>>=◌
-abbrev pub ◌>>=◌ : {A B E : Type 0} → Result A E → (A → Result B E) → Result B E
-(Ok x) >>= f = f x
-(Err e) >>= f = Err e
 
 -- ---- the header
 
@@ -102,15 +96,15 @@ abbrev pub found_opcode : Option ℕ → Result ℕ CompactReadError
 found_opcode None = Err BadEncodingIndex
 found_opcode (Some opcode) = Ok opcode
 
-unfoldable pub opcode_of : List ℕ → List ℕ → ℕ → Result ℕ CompactReadError
-opcode_of common own number = found_opcode (slice_get (opcodes_of common ++ opcodes_of own) number)
+unfoldable pub opcode_by_number : List ℕ → List ℕ → ℕ → Result ℕ CompactReadError
+opcode_by_number common own number = found_opcode (slice_get (opcodes_of common ++ opcodes_of own) number)
 
 -- the function of a row of a compressed page: the high 8 bits of its word are the opcode's number
 abbrev pub compressed_function : List ℕ → List ℕ → List ℕ → ℕ → Row → ℕ → Result (Option Function) CompactReadError
 compressed_function common entries opcodes address row end =
     if nat_le (2 ^ 32) end then Err AddressTooBig
     else (if nat_le end address then Ok None
-    else (opcode_of common opcodes (le4 entries (4 * row.index) / 2 ^ 24) >>= (λ opcode.
+    else (opcode_by_number common opcodes (le4 entries (4 * row.index) / 2 ^ 24) >>= (λ opcode.
     Ok (Some (record { start_address = row.start; end_address = end; opcode = opcode })))))
 
 abbrev pub in_compressed : List ℕ → List ℕ → List ℕ → ℕ → ℕ → Option Row → Result (Option Function) CompactReadError

@@ -50,8 +50,9 @@ function_for (Ok (Some function)) address = Ok function
 function_for (Ok None) address = Err (AddressOutsideRange address)
 function_for (Err error) address = Err (BadFormat error)
 
--- what an architecture gives
-pub record Words (Rule : Type 0) : Type 0 where
+-- what an architecture makes of compact unwind info: its rules in stubs, at a function's start and in helpers, and
+-- what an opcode and the code say
+pub record CompactReader (Rule : Type 0) : Type 0 where
   pub stub_rule : Rule
   pub start_rule : Rule
   pub helper_rule : ℕ → Rule
@@ -67,23 +68,23 @@ abbrev pub code_of : Option Text → Function → Option (List ℕ)
 code_of text function = option_and_then (λ t. code_between t function.start_address function.end_address) text
 
 -- in a function: a first frame at its start has done nothing yet
-abbrev pub unwound_in : {Rule : Type 0} → Words Rule → Option Text → ℕ → Bool → Function → Answer Rule
-unwound_in words text address first function =
-    if first && (address == function.start_address) then Ok (ExecRule words.start_rule)
-    else words.says function first (address - function.start_address) (code_of text function)
+abbrev pub unwound_in : {Rule : Type 0} → CompactReader Rule → Option Text → ℕ → Bool → Function → Answer Rule
+unwound_in reader text address first function =
+    if first && (address == function.start_address) then Ok (ExecRule reader.start_rule)
+    else reader.says function first (address - function.start_address) (code_of text function)
 
-module _ {Rule : Type 0} (words : Words Rule) (m : Module) (address : ℕ) (first : Bool) where
+module _ {Rule : Type 0} (reader : CompactReader Rule) (m : Module) (address : ℕ) (first : Bool) where
   -- by the function of the address; outside the functions a first frame can be in a stub
   abbrev pub unwound_by : Result (Option Function) CompactReadError → Answer Rule
   unwound_by (Err error) = Err (BadFormat error)
-  unwound_by (Ok None) = first_only first words.stub_rule (AddressOutsideRange address)
-  unwound_by (Ok (Some function)) = unwound_in words m.text address first function
+  unwound_by (Ok None) = first_only first reader.stub_rule (AddressOutsideRange address)
+  unwound_by (Ok (Some function)) = unwound_in reader m.text address first function
 
   -- What unwinding a frame (`true`: the first) at a relative address returns. `__unwind_info` does not describe
   -- `__stubs` and `__stub_helper`.
   abbrev pub unwound : Answer Rule
   unwound =
-      if is_in m.stubs address then first_only first words.stub_rule StubFunctionCannotBeCaller
+      if is_in m.stubs address then first_only first reader.stub_rule StubFunctionCannotBeCaller
       else (if is_in m.stub_helper address
-      then first_only first (words.helper_rule (address - m.stub_helper.0)) StubFunctionCannotBeCaller
+      then first_only first (reader.helper_rule (address - m.stub_helper.0)) StubFunctionCannotBeCaller
       else unwound_by (function_of m.unwind_info address))

@@ -4,10 +4,11 @@ use Rattle.std.specs.List.{starts_with}
 use Rattle.framehop_cfi.specs.Bytes.{le4}
 use Rattle.framehop_core.specs.declared.x86_64.unwind_rule.UnwindRuleX86_64.{UnwindRuleX86_64}
 use Rattle.framehop_core.specs.declared.x86_64.unwind_rule.UnwindRuleX86_64.TheVariants.{JustReturn, OffsetSp, OffsetSpAndRestoreBp, UseFramePointer}
+use Rattle.framehop_core.specs.Bits.{bits_at}
 use Rattle.framehop_analysis.specs.X86_64.Analysed.{analysed}
-use Rattle.framehop_macho.specs.Answer.{Answer, bits_at, exec_rule, rule_or}
+use Rattle.framehop_macho.specs.Answer.{Answer, exec_rule, rule_or}
 use Rattle.framehop_macho.specs.SavedRegisters.{saved_registers, bp_position}
-use Rattle.framehop_macho.specs.UnwindInfo.{◌>>=◌}
+use Rattle.framehop_cfi.specs.Bytes.{◌>>=◌}
 use Rattle.framehop_macho.specs.declared.macho.CompactUnwindInfoUnwinderError.{CompactUnwindInfoUnwinderError}
 use Rattle.framehop_macho.specs.declared.macho.CompactUnwindInfoUnwinderError.TheVariants.{FunctionHasNoInfo, BpOffsetDoesNotFit, BadOpcodeKind, NoTextBytesToLookUpIndirectStackOffset, IndirectStackOffsetOutOfBounds, StackAdjustOverflow, StackSizeDoesNotFit, InvalidFrameless}
 use Rattle.framehop_macho.specs.declared.macho.CuiUnwindResult.TheVariants.{ExecRule, NeedDwarf}

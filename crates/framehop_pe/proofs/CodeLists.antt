@@ -23,7 +23,7 @@ more f b bytes code n e =
     ∙ ap (λ m. and_codes (Some (code, suc n)) (λ size. read_codes f m bytes)) (one-less n)
     ∙ ap (λ next. and_codes (Some (code, suc n)) (λ size. next)) (read_codes-skip f n bytes)
 
--- a code, and the codes behind it
+-- a code, and the codes after it
 read_codes-one : (f : Bool) (bytes : List ℕ) (code : UnwindCode) (size : ℕ) → unwind_code_at f bytes ≡ Some (code, size) → 0 < size → size ≤ length bytes → (read_codes f 0 bytes).0 ≡ code ∷ (read_codes f 0 (drop size bytes)).0
 read_codes-one f [] code zero e some within = absurd (omega arith)
 read_codes-one f [] code (suc n) e some within = absurd (omega arith)
@@ -36,7 +36,7 @@ read_codes-one_whole f [] code (suc n) e some within = absurd (omega arith)
 read_codes-one_whole f (b ∷ bytes) code zero e some within = absurd (omega arith)
 read_codes-one_whole f (b ∷ bytes) code (suc n) e some within = ap (λ read. read.1) (more f b bytes code n e)
 
--- the same, of bytes that are those behind the code
+-- the same, of bytes that are those after the code
 pub read_codes-more : (f : Bool) (bytes rest : List ℕ) (code : UnwindCode) (size : ℕ) → Some (code, size) ≡ unwind_code_at f bytes → (0 < size) × (size ≤ length bytes) → rest ≡ drop size bytes → (read_codes f 0 bytes).0 ≡ code ∷ (read_codes f 0 rest).0
 read_codes-more f bytes rest code size e within is =
     read_codes-one f bytes code size (sym e) within.0 within.1 ∙ ap (λ r. code ∷ (read_codes f 0 r).0) (sym is)

@@ -30,7 +30,7 @@ one [] register (suc n) e some within = absurd (omega arith)
 one (b ∷ bytes) register zero e some within = absurd (omega arith)
 one (b ∷ bytes) register (suc n) e some within = more b bytes register n e
 
--- a pop, and the pops behind it
+-- a pop, and the pops after it
 pub pops_in-more : (bytes rest : List ℕ) (register : Reg) (size : ℕ) → Some (register, size) ≡ pop_at bytes → (0 < size) × (size ≤ length bytes) → rest ≡ drop size bytes → (pops_in 0 bytes).0 ≡ register ∷ (pops_in 0 rest).0
 pops_in-more bytes rest register size e within is =
     ap (λ p. p.0) (one bytes register size (sym e) within.0 within.1) ∙ ap (λ r. register ∷ (pops_in 0 r).0) (sym is)

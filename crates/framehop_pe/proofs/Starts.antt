@@ -18,7 +18,7 @@ unfolding starts_of
 get_or-starts_of pdata index below =
     get_or-map-range_with_len (λ i. le4 pdata (12 * i)) 0 (length pdata / 12) index index 0 below (omega arith)
 
--- a number behind some bytes
+-- a number after some bytes
 le4-drop : (bytes : List ℕ) (n : ℕ) → le4 (drop n bytes) 0 ≡ le4 bytes n
 le4-drop bytes n = simp get_or-drop (search rules)
 

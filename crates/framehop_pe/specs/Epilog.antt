@@ -1,6 +1,7 @@
 -- Epilogs (Microsoft, "x64 exception handling", "Epilog code"; encodings from Intel's manual, volume 2).
 use Rattle.std.specs.Prelude.{ℕ, zero, suc, ◌+◌, ◌-◌, ◌/◌, ◌%◌, ℤ, pos, negsuc, ◌+ℤ◌, Bool, true, false, ◌==◌, ◌&&◌, nat_le, nat_lt, if◌then◌else◌, List, [], ◌∷◌, ◌++◌, length, drop, map, slice_index, option_to_list, Option, Some, None}
 use Rattle.std.specs.Int.{cast_signed, w8, w32}
+use Rattle.std.specs.Option.{option_or}
 use Rattle.framehop_cfi.specs.Bytes.{le4}
 use Rattle.framehop_core.specs.declared.x86_64.unwindregs.Reg.{Reg}
 use Rattle.framehop_core.specs.X86_64.RuleOfOperations.{register_eq}
@@ -68,14 +69,9 @@ lea_at frame bytes =
     else None))
     else None
 
--- the first that is there
-abbrev pub or_else : Option Sized → Option Sized → Option Sized
-or_else (Some read) other = Some read
-or_else None other = other
-
 -- an instruction that releases the stack, at the front of bytes
 abbrev pub instruction_at : Option Reg → List ℕ → Option Sized
-instruction_at frame bytes = or_else (add_at bytes) (lea_at frame bytes)
+instruction_at frame bytes = option_or (add_at bytes) (lea_at frame bytes)
 
 -- what is read of it, and the bytes after it
 abbrev pub after_read : Option Sized → List ℕ → Option FunctionEpilogInstruction × List ℕ

@@ -13,4 +13,5 @@ pub mod EpilogRun
 pub mod Answer
 pub mod Offsets
 pub mod Frame
+-- Lemmas that the traits' laws import: a reader of the contracts can pass them.
 pub mod Laws

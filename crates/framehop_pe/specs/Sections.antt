@@ -1,6 +1,7 @@
 -- The sections of a PE module that unwinding reads, as lists of bytes (Microsoft, PE format).
 use Rattle.std.specs.Prelude.{ℕ, ◌-◌, ◌&&◌, nat_le, nat_lt, List, length, drop, if◌then◌else◌, Option, Some, None, option_map, option_and_then}
 use Rattle.std.specs.Borrow.{Bor}
+use Rattle.std.specs.Option.{option_or}
 use Rattle.framehop_pe.specs.declared.pe.DataAtRvaRange.{DataAtRvaRange}
 use Rattle.framehop_pe.specs.declared.pe.PeSections.{PeSections}
 
@@ -45,14 +46,9 @@ bytes_from data' rva =
 abbrev pub bytes_at : Option Placed → ℕ → Option (List ℕ)
 bytes_at section rva = option_and_then (λ data'. bytes_from data' rva) section
 
--- the first that is there
-abbrev pub or_else : {A : Type 0} → Option A → Option A → Option A
-or_else (Some x) y = Some x
-or_else None y = y
-
 -- unwind info is in `.rdata`, or else in `.xdata`
 abbrev pub unwind_info_at : Sections → ℕ → Option (List ℕ)
-unwind_info_at s rva = or_else (bytes_at s.rdata rva) (bytes_at s.xdata rva)
+unwind_info_at s rva = option_or (bytes_at s.rdata rva) (bytes_at s.xdata rva)
 
 -- the code from a relative address on
 abbrev pub text_at : Sections → ℕ → Option (List ℕ)

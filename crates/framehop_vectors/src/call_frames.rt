@@ -385,7 +385,7 @@ fn steps_at(commands: &mut Vec<Do>, at: u64) -> Result<(), Fail> {
     Ok(())
 }
 
-/// Steps, twice over the same caches, at each row of the FDE, behind it and before it: each rule is stored.
+/// Steps, twice over the same caches, at each row of the FDE, after it and before it: each rule is stored.
 fn steps_through_rows<R: Abort>(
     rt: &R,
     alloc: Global,

@@ -9,9 +9,9 @@ use Rattle.framehop_dwarf.specs.Aarch64.{Ascends}
 use Rattle.framehop_dwarf.specs.Laws.DirectAarch64.{direct-means}
 use Rattle.framehop_pe.specs.Sections.{Sections}
 use Rattle.framehop.specs.Policy.{Policy}
-use Rattle.framehop.specs.Unwinding.{RisesAsSaid, answer_by, takes_memory_by}
+use Rattle.framehop.specs.Unwinding.{RisesAsSaid, answer_by, may_take_memory_by}
 use Rattle.framehop.specs.Laws.Values.{values-read}
-use Rattle.framehop.specs.Aarch64.{aarch64, aarch64_words, aarch64_meanings, aarch64_means}
+use Rattle.framehop.specs.Aarch64.{aarch64, aarch64_readers, aarch64_meanings, aarch64_means}
 use Rattle.framehop.specs.Fresh.{step}
 use Rattle.framehop.specs.Modules.{ModuleView}
 use Rattle.framehop.specs.Laws.Meaning.{Laws, step-means-by}
@@ -33,17 +33,17 @@ pub stack_pointer-is : (policy : Policy) → (aarch64 policy).stack_pointer ≡ 
 unfolding aarch64
 stack_pointer-is policy = refl
 
-pub answer-is : (policy : Policy) → (aarch64 policy).module_answer ≡ answer_by aarch64_words policy
+pub answer-is : (policy : Policy) → (aarch64 policy).module_answer ≡ answer_by aarch64_readers policy
 unfolding aarch64
 answer-is policy = refl
 
-pub memory-is : (policy : Policy) → (aarch64 policy).takes_memory ≡ takes_memory_by aarch64_words policy
+pub memory-is : (policy : Policy) → (aarch64 policy).may_take_memory ≡ may_take_memory_by aarch64_readers policy
 unfolding aarch64
 memory-is policy = refl
 
 -- there are no values by PE unwind info
 pub no-pe-values : (sections : Sections) (relative : ℕ) (first : Bool)
-    → aarch64_words.pe_found sections relative first ≡ Ok None → (old new : Registers) → Ascends first old new
+    → aarch64_readers.pe_found sections relative first ≡ Ok None → (old new : Registers) → Ascends first old new
 no-pe-values sections relative first none old new = cc
 
 -- a rule's step ascends
@@ -56,13 +56,13 @@ rises-as-said policy = record {
   rules = λ said rule old new memory address e. (outcome-Advances rule false old memory address new e).rises refl;
   values = λ said m relative compute e old memory values computed.
       let read =
-      values-read aarch64_words
+      values-read aarch64_readers
       (λ sections at kind none. cc) policy m relative false compute e old memory values computed in
       (direct-means read.bytes policy.values memory read.row false old values.0 values.1 read.direct_is).rises refl;
 }
 
 -- the readers' laws
-readers : Laws aarch64_words aarch64_meanings outcome
+readers : Laws aarch64_readers aarch64_meanings outcome
 readers = record {
   rule_means = rule-means;
   values_mean = values-mean;
@@ -76,7 +76,7 @@ pub step-means : (policy : Policy) (modules : List ModuleView) (location : Frame
     (memory : Memory) (address : ℕ) → step (aarch64 policy) modules location old memory ≡ answered address new
     → aarch64_means policy modules location old memory address new
 step-means policy modules location old new memory address answers =
-    step-means-by aarch64_words aarch64_meanings outcome policy readers (aarch64 policy) (outcome-is policy)
+    step-means-by aarch64_readers aarch64_meanings outcome policy readers (aarch64 policy) (outcome-is policy)
     (answer-is policy) modules location old new memory address answers
 
 pub always_rises-is : (policy : Policy) → (aarch64 policy).always_rises ≡ true

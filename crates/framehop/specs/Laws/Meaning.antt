@@ -1,10 +1,11 @@
 -- A step that answers an address does what the source of its rule means, by the laws of the readers.
-use Rattle.std.proofs.Common.{◌≡◌, ℕ, ◌+◌, ◌-◌, ◌==◌, Bool, true, false, List, Option, Some, None, Result, Ok, Err, IfOk, IfSome, MatchOption, option_map, inl, inr, refl, sym, ap, ◌∙◌, subst}
+use Rattle.std.proofs.Common.{◌≡◌, ℕ, ◌+◌, ◌-◌, ◌==◌, Bool, true, false, List, Option, Some, None, Result, Ok, Err, IfOk, IfSome, MatchOption, inl, inr, refl, sym, ap, ◌∙◌, subst}
 use Rattle.std.specs.Option.{option_and_then, unwrap_or}
 use Rattle.std.proofs.lemmas.Bool.{cases_Bool}
 use Rattle.framehop_core.specs.Memory.{Memory}
 use Rattle.framehop_core.specs.CodeAddress.{FrameLocation, is_first_frame, lookup_address}
 use Rattle.framehop_core.specs.Outcome.{Outcome, answered}
+use Rattle.framehop_core.specs.Laws.Basics.{option_map-some}
 use Rattle.framehop_cfi.specs.Row.{Row}
 use Rattle.framehop_cfi.specs.Section.{Section}
 use Rattle.framehop_dwarf.specs.Unwinder.{Reading, unread, uncovered, by_row, reading_of, OfRow}
@@ -25,7 +26,7 @@ use Rattle.framehop.specs.Fresh.{fresh, outcome_of, step}
 use Rattle.framehop.specs.Meaning.{Meanings, Step, Place, place_in, code_place, MeansRow, MeansFde, MeansCode, MeansNamed, MeansData, MeansStep, MeansAt}
 use Rattle.framehop.specs.Modules.{ModuleView, UnwindData, no_unwind_data, call_frames, pe_sections, compact_info, covering}
 use Rattle.framehop.specs.Policy.{Policy}
-use Rattle.framehop.specs.Unwinding.{Unwinding, Words, data_answer, answer_by}
+use Rattle.framehop.specs.Unwinding.{Unwinding, Readers, data_answer, answer_by}
 
 -- what the covering module gives
 pub fresh-covered : {R Regs : Type 0} (unwinding : Unwinding R Regs) (modules : List ModuleView) (address : ℕ)
@@ -35,45 +36,40 @@ pub fresh-covered : {R Regs : Type 0} (unwinding : Unwinding R Regs) (modules : 
 unfolding fresh
 fresh-covered unwinding modules address first m covers = rw covers refl
 
--- what the readers of an architecture promise of its words
-pub record Laws {Rule Regs : Type 0} (words : Words Rule Regs) (meanings : Meanings Rule Regs)
+-- what the readers of an architecture promise
+pub record Laws {Rule Regs : Type 0} (readers : Readers Rule Regs) (meanings : Meanings Rule Regs)
     (outcome : Rule → Bool → Regs → Memory → Outcome Regs) : Type 0 where
   pub rule_means : (section : List ℕ) (memory : Memory) (row : Row) (rule : Rule) (first : Bool) (old new : Regs)
-      (address : ℕ) → words.rows.translated row ≡ Some rule → outcome rule first old memory ≡ answered address new
+      (address : ℕ) → readers.rows.translated row ≡ Some rule → outcome rule first old memory ≡ answered address new
       → meanings.row section memory row first old address new
   pub values_mean : (section : List ℕ) (limit : Option ℕ) (memory : Memory) (row : Row) (first : Bool)
-      (old new : Regs) (address : ℕ) → words.rows.direct section limit memory row first old ≡ Ok (address, new)
+      (old new : Regs) (address : ℕ) → readers.rows.direct section limit memory row first old ≡ Ok (address, new)
       → meanings.columns section limit memory row first old address new
   pub rule_simulates : (sections : Sections) (address : ℕ) (first : Bool) (rule : Rule)
-      → words.pe_found sections address first ≡ Ok (Some rule)
-      → Simulates outcome (words.pe_computed sections address first) rule
+      → readers.pe_found sections address first ≡ Ok (Some rule)
+      → Simulates outcome (readers.pe_computed sections address first) rule
   pub says_by_code : (function : Function) (code : List ℕ) (offset : ℕ) (rule : Rule)
       → meanings.by_code function code offset ≡ Some rule
-      → words.compact.says function true offset (Some code) ≡ Ok (ExecRule rule)
+      → readers.compact.says function true offset (Some code) ≡ Ok (ExecRule rule)
   pub code_means : (function : Function) (code : List ℕ) (offset : ℕ) (rule : Rule)
-      → meanings.by_code function code offset ≡ Some rule → meanings.undoes code offset rule
-
-mapped : {A B : Type 0} (f : A → B) (o : Option A) (y : B) → option_map f o ≡ Some y
-    → (x : A) × (o ≡ Some x) × (f x ≡ y)
-mapped f (Some x) y is = (x, refl, cc)
-mapped f None y is = cc
+      → meanings.by_code function code offset ≡ Some rule → meanings.does_code code offset rule
 
 answered-same : {Regs : Type 0} (values : ℕ × Regs) (address : ℕ) (new : Regs)
     → answered values.0 values.1 ≡ answered address new → values ≡ (address, new)
 answered-same (a, r) address new e = cc
 
-module _ {Rule Regs : Type 0} (words : Words Rule Regs) where
+module _ {Rule Regs : Type 0} (readers : Readers Rule Regs) where
   coded : (m : Module) (address : ℕ) (function : Function) (code : List ℕ)
       → (address == function.start_address) ≡ false → code_of m.text function ≡ Some code
-      → unwound_by words.compact m address true (Ok (Some function)) ≡ words.compact.says function true
+      → unwound_by readers.compact m address true (Ok (Some function)) ≡ readers.compact.says function true
       (address - function.start_address) (Some code)
   coded m address function code past is = rw past
-      (ap (words.compact.says function true (address - function.start_address)) is)
+      (ap (readers.compact.says function true (address - function.start_address)) is)
 
   -- in a first frame past a function's start its code comes first
   placed-in : (m : Module) (address : ℕ) (told : Result (Option Function) CompactReadError) (place : Place)
       → place_in m.text address told ≡ Some place
-      → unwound_by words.compact m address true told ≡ words.compact.says place.function true place.offset
+      → unwound_by readers.compact m address true told ≡ readers.compact.says place.function true place.offset
       (Some place.code)
   placed-in m address (Err error) place is = cc
   placed-in m address (Ok None) place is = cc
@@ -82,19 +78,19 @@ module _ {Rule Regs : Type 0} (words : Words Rule Regs) where
         | inl begins ↦ (let e = rw begins at is in cc)
         | inr past ↦
             let e = rw past at is in
-            let c = mapped (λ code. record {
+            let c = option_map-some (λ code. record {
               function = function;
               code = code;
               offset = address -
                   function.start_address;
             }) (code_of m.text function) place e in
-            subst (λ (p : Place). unwound_by words.compact m address true (Ok (Some function)) ≡ words.compact.says
+            subst (λ (p : Place). unwound_by readers.compact m address true (Ok (Some function)) ≡ readers.compact.says
             p.function true p.offset (Some p.code)) c.2 (coded m address function c.0 past c.1)
       ]
 
   placed : (m : Module) (address : ℕ) (first : Bool) (place : Place) → code_place m address first ≡ Some place
-      → (first ≡ true) × (unwound words.compact m address first ≡ words.compact.says place.function true place.offset
-      (Some place.code))
+      → (first ≡ true)
+      × (unwound readers.compact m address first ≡ readers.compact.says place.function true place.offset (Some place.code))
   placed m address false place is = cc
   placed m address true place is =
       elim (cases_Bool (is_in m.stubs address)) [
@@ -109,8 +105,8 @@ module _ {Rule Regs : Type 0} (words : Words Rule Regs) where
             ]
       ]
 
-module _ {Rule Regs : Type 0} (words : Words Rule Regs) (meanings : Meanings Rule Regs)
-    (outcome : Rule → Bool → Regs → Memory → Outcome Regs) (policy : Policy) (laws : Laws words meanings outcome)
+module _ {Rule Regs : Type 0} (readers : Readers Rule Regs) (meanings : Meanings Rule Regs)
+    (outcome : Rule → Bool → Regs → Memory → Outcome Regs) (policy : Policy) (laws : Laws readers meanings outcome)
     (s : Step Regs) where
   -- what is found answers the step: a rule by its outcome, or values where there are any
   abbrev Answers : Option (Fresh Rule Regs) → Type 0
@@ -120,46 +116,46 @@ module _ {Rule Regs : Type 0} (words : Words Rule Regs) (meanings : Meanings Rul
       → values ≡ (s.address, s.new)
 
   columns-mean : (bytes : List ℕ) (row : Row) (computed : Result (ℕ × Regs) DwarfUnwinderError)
-      → words.rows.direct bytes policy.values s.memory row s.first s.old ≡ computed
+      → readers.rows.direct bytes policy.values s.memory row s.first s.old ≡ computed
       → ((values : ℕ × Regs) → values_of computed ≡ Some values → values ≡ (s.address, s.new))
       → IfOk computed (λ _. meanings.columns bytes policy.values s.memory row s.first s.old s.address s.new)
   columns-mean bytes row (Ok values) is same = laws.values_mean bytes policy.values s.memory row s.first s.old s.new
       s.address (is ∙ ap Ok (same values refl))
   columns-mean bytes row (Err error) is same = tt
 
-  row-means : (bytes : List ℕ) (row : Row) (found : Option Rule) → words.rows.translated row ≡ found
+  row-means : (bytes : List ℕ) (row : Row) (found : Option Rule) → readers.rows.translated row ≡ found
       → Answers (fresh_of {E = DwarfUnwinderError} (Ok found)
-      (λ regs memory. words.rows.direct bytes policy.values memory row s.first regs))
-      → MatchOption found (IfOk (words.rows.direct bytes policy.values s.memory row s.first s.old)
+      (λ regs memory. readers.rows.direct bytes policy.values memory row s.first regs))
+      → MatchOption found (IfOk (readers.rows.direct bytes policy.values s.memory row s.first s.old)
       (λ _. meanings.columns bytes policy.values s.memory row s.first s.old s.address s.new))
       (λ _. meanings.row bytes s.memory row s.first s.old s.address s.new)
   row-means bytes row (Some rule) is e = laws.rule_means bytes s.memory row rule s.first s.old s.new s.address is e
   row-means bytes row None is e = columns-mean bytes row
-      (words.rows.direct bytes policy.values s.memory row s.first s.old) refl e
+      (readers.rows.direct bytes policy.values s.memory row s.first s.old) refl e
 
   reading-means : (bytes : List ℕ) (reading : Reading)
-      → Answers (answer_of_reading words.rows policy bytes s.first reading)
-      → OfRow (MeansRow words meanings outcome policy s bytes) reading
+      → Answers (answer_of_reading readers.rows policy bytes s.first reading)
+      → OfRow (MeansRow readers meanings outcome policy s bytes) reading
   reading-means bytes (unread error) e = tt
   reading-means bytes uncovered e = tt
-  reading-means bytes (by_row row) e = row-means bytes row (words.rows.translated row) refl e
+  reading-means bytes (by_row row) e = row-means bytes row (readers.rows.translated row) refl e
 
   fde-means : (section : Section) (address offset : ℕ)
-      → Answers (fde_answer words.rows policy section address s.first offset)
-      → MeansFde words meanings outcome policy s section address offset
+      → Answers (fde_answer readers.rows policy section address s.first offset)
+      → MeansFde readers meanings outcome policy s section address offset
   unfolding fde_answer
   fde-means section address offset e = reading-means section.bytes (reading_of policy.rows section address offset) e
 
   frames-mean : (frames : CallFrames) (relative : ℕ) (offset : Option ℕ)
-      → Answers (option_and_then (fde_answer words.rows policy frames.section (frames.base_svma + relative) s.first)
-      offset) → IfSome offset (MeansFde words meanings outcome policy s frames.section (frames.base_svma + relative))
+      → Answers (option_and_then (fde_answer readers.rows policy frames.section (frames.base_svma + relative) s.first)
+      offset) → IfSome offset (MeansFde readers meanings outcome policy s frames.section (frames.base_svma + relative))
   frames-mean frames relative None e = tt
   frames-mean frames relative (Some offset) e = fde-means frames.section (frames.base_svma + relative) offset e
 
   pe-means : (sections : Sections) (relative : ℕ) (found : Result (Option Rule) PeUnwinderError)
-      → words.pe_found sections relative s.first ≡ found
-      → Answers (fresh_of found (λ regs memory. words.pe_computed sections relative s.first memory regs))
-      → IfOk found (λ o. IfSome o (λ _. words.pe_computed sections relative s.first s.memory s.old ≡ Ok
+      → readers.pe_found sections relative s.first ≡ found
+      → Answers (fresh_of found (λ regs memory. readers.pe_computed sections relative s.first memory regs))
+      → IfOk found (λ o. IfSome o (λ _. readers.pe_computed sections relative s.first s.memory s.old ≡ Ok
       (s.address, s.new)))
   pe-means sections relative (Err error) is e = tt
   pe-means sections relative (Ok None) is e = tt
@@ -167,8 +163,8 @@ module _ {Rule Regs : Type 0} (words : Words Rule Regs) (meanings : Meanings Rul
       s.old s.new s.memory s.address e
 
   named-means : (frames : Option CallFrames) (relative : ℕ) (told : Answer Rule)
-      → Answers (by_info words.rows policy frames relative s.first told)
-      → MeansNamed words meanings outcome policy s frames relative told
+      → Answers (by_info readers.rows policy frames relative s.first told)
+      → MeansNamed readers meanings outcome policy s frames relative told
   named-means frames relative (Ok (ExecRule rule)) e = tt
   named-means None relative (Ok (NeedDwarf offset)) e = tt
   named-means (Some frames) relative (Ok (NeedDwarf offset)) e = fde-means frames.section
@@ -176,36 +172,38 @@ module _ {Rule Regs : Type 0} (words : Words Rule Regs) (meanings : Meanings Rul
   named-means frames relative (Err error) e = tt
 
   code-means : (d : CompactData) (relative : ℕ) (place : Place) → code_place d.info relative s.first ≡ Some place
-      → Answers (by_info words.rows policy d.frames relative s.first (unwound words.compact d.info relative s.first))
+      → Answers (by_info readers.rows policy d.frames relative s.first
+      (unwound readers.compact d.info relative s.first))
       → (found : Option Rule) → meanings.by_code place.function place.code place.offset ≡ found
-      → IfSome found (λ rule. meanings.undoes place.code place.offset rule ×
+      → IfSome found (λ rule. meanings.does_code place.code place.offset rule ×
       (outcome rule true s.old s.memory ≡ answered s.address s.new))
   code-means d relative place is e None code = tt
   code-means d relative place is e (Some rule) code =
-      let at_code = placed words d.info relative s.first place is in
+      let at_code = placed readers d.info relative s.first place is in
       let says = at_code.1 ∙ laws.says_by_code place.function place.code place.offset rule code in
-      let runs = subst (λ told. Answers (by_info words.rows policy d.frames relative s.first told)) says e in (
+      let runs = subst (λ told. Answers (by_info readers.rows policy d.frames relative s.first told)) says e in (
         laws.code_means place.function place.code place.offset rule code,
         subst (λ first. outcome rule first s.old s.memory ≡ answered s.address s.new) at_code.0 runs,
       )
 
   places-mean : (d : CompactData) (relative : ℕ)
-      → Answers (by_info words.rows policy d.frames relative s.first (unwound words.compact d.info relative s.first))
+      → Answers (by_info readers.rows policy d.frames relative s.first
+      (unwound readers.compact d.info relative s.first))
       → (found : Option Place) → code_place d.info relative s.first ≡ found
-      → IfSome found (MeansCode words meanings outcome policy s)
+      → IfSome found (MeansCode readers meanings outcome policy s)
   places-mean d relative e None is = tt
   places-mean d relative e (Some place) is = code-means d relative place is e
       (meanings.by_code place.function place.code place.offset) refl
 
-  data-means : (known : UnwindData) (relative : ℕ) → Answers (data_answer words policy known relative s.first)
-      → MeansData words meanings outcome policy s known relative
+  data-means : (known : UnwindData) (relative : ℕ) → Answers (data_answer readers policy known relative s.first)
+      → MeansData readers meanings outcome policy s known relative
   data-means no_unwind_data relative e = tt
   data-means (call_frames frames) relative e = frames-mean frames relative (fde_offset_of frames relative) e
-  data-means (pe_sections sections) relative e = pe-means sections relative (words.pe_found sections relative s.first)
+  data-means (pe_sections sections) relative e = pe-means sections relative (readers.pe_found sections relative s.first)
       refl e
   data-means (compact_info d) relative e = (
     places-mean d relative e (code_place d.info relative s.first) refl,
-    named-means d.frames relative (unwound words.compact d.info relative s.first) e,
+    named-means d.frames relative (unwound readers.compact d.info relative s.first) e,
   )
 
   -- an answered step, whatever the fallback rule is
@@ -217,13 +215,13 @@ module _ {Rule Regs : Type 0} (words : Words Rule Regs) (meanings : Meanings Rul
     answers-given (Some (by_rule rule)) e = ap (λ run. run rule s.first s.old s.memory) (sym outcome-is) ∙ e
     answers-given (Some (direct compute)) e = λ values is. answered-same values s.address s.new (rw is at e)
 
-    step-means : unwinding.module_answer ≡ answer_by words policy → (modules : List ModuleView) (address : ℕ)
+    step-means : unwinding.module_answer ≡ answer_by readers policy → (modules : List ModuleView) (address : ℕ)
         → outcome_of unwinding (fresh unwinding modules address s.first) s.first s.old s.memory ≡ answered s.address
-        s.new → MeansStep words meanings outcome policy s modules address
+        s.new → MeansStep readers meanings outcome policy s modules address
     unfolding MeansStep answer_by
     step-means answers modules address e = covered (covering modules address) refl where
       covered : (found : Option ModuleView) → covering modules address ≡ found
-          → IfSome found (λ m. MeansData words meanings outcome policy s m.unwind_data (address - m.base_avma))
+          → IfSome found (λ m. MeansData readers meanings outcome policy s m.unwind_data (address - m.base_avma))
       covered None is = tt
       covered (Some m) is =
           let given = ap (λ answer. answer m (address - m.base_avma) s.first) (sym answers) in
@@ -234,16 +232,16 @@ module _ {Rule Regs : Type 0} (words : Words Rule Regs) (meanings : Meanings Rul
           (sym (fresh-covered unwinding modules address s.first m is)) ∙ e)))
 
 -- a step at a location
-pub step-means-by : {Rule Regs : Type 0} (words : Words Rule Regs) (meanings : Meanings Rule Regs)
-    (outcome : Rule → Bool → Regs → Memory → Outcome Regs) (policy : Policy) → Laws words meanings outcome
+pub step-means-by : {Rule Regs : Type 0} (readers : Readers Rule Regs) (meanings : Meanings Rule Regs)
+    (outcome : Rule → Bool → Regs → Memory → Outcome Regs) (policy : Policy) → Laws readers meanings outcome
     → (unwinding : Unwinding Rule Regs) → unwinding.outcome ≡ outcome
-    → unwinding.module_answer ≡ answer_by words policy
+    → unwinding.module_answer ≡ answer_by readers policy
     → (modules : List ModuleView) (location : FrameLocation) (old new : Regs) (memory : Memory) (address : ℕ)
     → step unwinding modules location old memory ≡ answered address new
-    → MeansAt words meanings outcome policy modules location old memory address new
+    → MeansAt readers meanings outcome policy modules location old memory address new
 unfolding step
-step-means-by words meanings outcome policy laws unwinding outcome-is answers modules location old new memory address
+step-means-by readers meanings outcome policy laws unwinding outcome-is answers modules location old new memory address
     e =
-    step-means words meanings outcome policy laws
+    step-means readers meanings outcome policy laws
     (record { first = is_first_frame location; old = old; memory = memory; address = address; new = new })
     unwinding outcome-is answers modules (lookup_address location) e

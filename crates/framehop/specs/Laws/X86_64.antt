@@ -7,8 +7,8 @@ use Rattle.framehop_core.specs.X86_64.Registers.{Registers}
 use Rattle.framehop_core.specs.X86_64.Rules.{outcome}
 use Rattle.framehop_core.specs.declared.x86_64.unwind_rule.UnwindRuleX86_64.TheVariants.{UseFramePointer}
 use Rattle.framehop.specs.Policy.{Policy}
-use Rattle.framehop.specs.Unwinding.{RisesAsSaid, answer_by, takes_memory_by}
-use Rattle.framehop.specs.X86_64.{x86_64, x86_64_words, x86_64_meanings, x86_64_means}
+use Rattle.framehop.specs.Unwinding.{RisesAsSaid, answer_by, may_take_memory_by}
+use Rattle.framehop.specs.X86_64.{x86_64, x86_64_readers, x86_64_meanings, x86_64_means}
 use Rattle.framehop.specs.Fresh.{step}
 use Rattle.framehop.specs.Modules.{ModuleView}
 use Rattle.framehop.specs.Laws.Meaning.{Laws, step-means-by}
@@ -30,11 +30,11 @@ pub stack_pointer-is : (policy : Policy) → (x86_64 policy).stack_pointer ≡ (
 unfolding x86_64
 stack_pointer-is policy = refl
 
-pub answer-is : (policy : Policy) → (x86_64 policy).module_answer ≡ answer_by x86_64_words policy
+pub answer-is : (policy : Policy) → (x86_64 policy).module_answer ≡ answer_by x86_64_readers policy
 unfolding x86_64
 answer-is policy = refl
 
-pub memory-is : (policy : Policy) → (x86_64 policy).takes_memory ≡ takes_memory_by x86_64_words policy
+pub memory-is : (policy : Policy) → (x86_64 policy).may_take_memory ≡ may_take_memory_by x86_64_readers policy
 unfolding x86_64
 memory-is policy = refl
 
@@ -47,7 +47,7 @@ rises-as-said policy = record {
 }
 
 -- the readers' laws
-readers : Laws x86_64_words x86_64_meanings outcome
+readers : Laws x86_64_readers x86_64_meanings outcome
 readers = record {
   rule_means = rule-means;
   values_mean = values-mean;
@@ -60,7 +60,7 @@ pub step-means : (policy : Policy) (modules : List ModuleView) (location : Frame
     (memory : Memory) (address : ℕ) → step (x86_64 policy) modules location old memory ≡ answered address new
     → x86_64_means policy modules location old memory address new
 step-means policy modules location old new memory address answers =
-    step-means-by x86_64_words x86_64_meanings outcome policy readers (x86_64 policy) (outcome-is policy)
+    step-means-by x86_64_readers x86_64_meanings outcome policy readers (x86_64 policy) (outcome-is policy)
     (answer-is policy) modules location old new memory address answers
 
 -- registers of zeros

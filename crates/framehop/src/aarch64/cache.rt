@@ -17,8 +17,8 @@ pub struct CacheAarch64<P: AllocationPolicy = MayAllocateDuringUnwind>(
 );
 
 impl CacheAarch64<MayAllocateDuringUnwind> {
-    /// An empty cache for unwinding that may take memory. Refused where the memory for it is.
-    /// It changes no answer of any unwinder.
+    /// Returns an empty cache for unwinding that may allocate, or an error if an allocation fails.
+    /// An empty cache changes no answer of any unwinder.
     pub fn new(alloc: Global) -> Result<Self, AllocError>
         ensures made { IfOk result (λ cache. cache.0 ≡ empty_cache) }
         ensures sound { IfOk result (λ cache. (policy : Policy) (unwinder : UnwinderView) → IsSoundAarch64 policy unwinder cache.0) }
@@ -28,8 +28,8 @@ impl CacheAarch64<MayAllocateDuringUnwind> {
 }
 
 impl<P: AllocationPolicy> CacheAarch64<P> {
-    /// An empty cache of any policy. Refused where the memory for it is.
-    /// It changes no answer of any unwinder.
+    /// Returns an empty cache of any policy, or an error if an allocation fails.
+    /// An empty cache changes no answer of any unwinder.
     pub fn new_in(alloc: Global) -> Result<Self, AllocError>
         ensures made { IfOk result (λ cache. cache.0 ≡ empty_cache) }
         ensures sound { IfOk result (λ cache. (policy : Policy) (unwinder : UnwinderView) → IsSoundAarch64 policy unwinder cache.0) }

@@ -1,5 +1,6 @@
 //! The unwinder of aarch64.
-ghost use Rattle.std.specs.Prelude.{◌≡◌, ◌+◌, ◌-◌, ◌^◌, ◌<◌, [], MatchResult};
+ghost use Rattle.std.specs.Prelude.{◌≡◌};
+ghost use Rattle.framehop.specs.Modules.{IsMade};
 
 use crate::aarch64::cache::CacheAarch64;
 use crate::cache::{AllocationPolicy, MayAllocateDuringUnwind};
@@ -37,11 +38,7 @@ impl<D: SectionBytes + Drop, P: AllocationPolicy> UnwinderAarch64<D, P> {
     /// An unwinder without modules, of the next generation. It takes no memory, and is refused
     /// only at the counter's end.
     pub fn new(alloc: Global, generations: &mut Generations) -> Result<Self, ModuleListError>
-        ensures { MatchResult result
-            (λ made. (made ≡ record { modules = []; generation = generations.old })
-            × (generations.new ≡ generations.old + 1) × (generations.old < 2 ^ 64 - 1))
-            (λ error. (error ≡ ModuleListError.GenerationsExhausted)
-            × (generations.old ≡ 2 ^ 64 - 1) × (generations.new ≡ generations.old)) }
+        ensures { IsMade result generations.old generations.new }
     {
         Ok(UnwinderAarch64(UnwinderInternal::new(alloc, generations)?))
     }

@@ -1,6 +1,7 @@
 //! Unwinders with the caches that they share, and the commands over them.
 ghost use Rattle.std.specs.Prelude.{◌≡◌, ◌+◌, ◌≤◌, ℕ, [], replicate, IfOk, IfErr};
-ghost use Rattle.framehop.specs.CachedWorld.{CachedWorld, state_of};
+ghost use Rattle.framehop.specs.CachedWorld.{CachedWorld};
+ghost use Rattle.framehop.specs.SessionView.{state_of};
 ghost use Rattle.framehop.specs.Transparent.{IsTransparent, Serves};
 ghost use Rattle.framehop_cache.specs.Cache.{empty_cache};
 
@@ -50,10 +51,10 @@ impl<D: SectionBytes + Drop, A: Unwinding, P: AllocationPolicy> Session<D, A, P>
     ) -> Result<Reply<A::UnwindRegs>, SessionError>
         ensures drawn { generations.old ≤ generations.new }
         ensures drawn_at_most { generations.new ≤ generations.old + 1 }
-        ensures served { let old : CachedWorld A.UnwindRule = state_of self.old.unwinders.items self.old.caches.items generations.old in
+        ensures served { let old : CachedWorld A.UnwindRule = state_of self.old generations.old in
             let command : Command D A.UnwindRegs = Command.New in
             Serves (A.unwinding P.policy) old command result
-            (state_of self.new.unwinders.items self.new.caches.items generations.new) }
+            (state_of self.new generations.new) }
     {
         let number = self.unwinders.len();
         let Ok(unwinder) = UnwinderInternal::new(self.alloc, generations) else {
@@ -73,10 +74,10 @@ impl<D: SectionBytes + Drop, A: Unwinding, P: AllocationPolicy> Session<D, A, P>
     ) -> Result<Reply<A::UnwindRegs>, SessionError>
         ensures drawn { generations.old ≤ generations.new }
         ensures drawn_at_most { generations.new ≤ generations.old + 1 }
-        ensures served { let old : CachedWorld A.UnwindRule = state_of self.old.unwinders.items self.old.caches.items generations.old in
+        ensures served { let old : CachedWorld A.UnwindRule = state_of self.old generations.old in
             let command : Command D A.UnwindRegs = Command.Add unwinder «module» in
             Serves (A.unwinding P.policy) old command result
-            (state_of self.new.unwinders.items self.new.caches.items generations.new) }
+            (state_of self.new generations.new) }
     {
         if unwinder >= self.unwinders.len() {
             return Err(SessionError::NoSuchUnwinder);
@@ -92,10 +93,10 @@ impl<D: SectionBytes + Drop, A: Unwinding, P: AllocationPolicy> Session<D, A, P>
     }
 
     fn clone_unwinder(&mut self, unwinder: usize) -> Result<Reply<A::UnwindRegs>, SessionError>
-        ensures { (next : ℕ) → let old : CachedWorld A.UnwindRule = state_of self.old.unwinders.items self.old.caches.items next in
+        ensures { (next : ℕ) → let old : CachedWorld A.UnwindRule = state_of self.old next in
             let command : Command D A.UnwindRegs = Command.Clone unwinder in
             Serves (A.unwinding P.policy) old command result
-            (state_of self.new.unwinders.items self.new.caches.items next) }
+            (state_of self.new next) }
     {
         let number = self.unwinders.len();
         if unwinder >= number {
@@ -118,10 +119,10 @@ impl<D: SectionBytes + Drop, A: Unwinding, P: AllocationPolicy> Session<D, A, P>
     ) -> Result<Reply<A::UnwindRegs>, SessionError>
         ensures drawn { generations.old ≤ generations.new }
         ensures drawn_at_most { generations.new ≤ generations.old + 1 }
-        ensures served { let old : CachedWorld A.UnwindRule = state_of self.old.unwinders.items self.old.caches.items generations.old in
+        ensures served { let old : CachedWorld A.UnwindRule = state_of self.old generations.old in
             let command : Command D A.UnwindRegs = Command.Remove unwinder start in
             Serves (A.unwinding P.policy) old command result
-            (state_of self.new.unwinders.items self.new.caches.items generations.new) }
+            (state_of self.new generations.new) }
     {
         if unwinder >= self.unwinders.len() {
             return Err(SessionError::NoSuchUnwinder);
@@ -142,11 +143,11 @@ impl<D: SectionBytes + Drop, A: Unwinding, P: AllocationPolicy> Session<D, A, P>
         regs: A::UnwindRegs,
         memory: Memory,
     ) -> Result<Reply<A::UnwindRegs>, SessionError>
-        ensures { (next : ℕ) → let old : CachedWorld A.UnwindRule = state_of self.old.unwinders.items self.old.caches.items next in
+        ensures { (next : ℕ) → let old : CachedWorld A.UnwindRule = state_of self.old next in
             let command : Command D A.UnwindRegs = Command.Step unwinder cache address regs memory in
             IsTransparent (A.unwinding P.policy) old →
             Serves (A.unwinding P.policy) old command result
-            (state_of self.new.unwinders.items self.new.caches.items next) }
+            (state_of self.new next) }
     {
         if unwinder >= self.unwinders.len() {
             return Err(SessionError::NoSuchUnwinder);
@@ -161,7 +162,7 @@ impl<D: SectionBytes + Drop, A: Unwinding, P: AllocationPolicy> Session<D, A, P>
     }
 
     fn stats(&self, cache: usize) -> Result<Reply<A::UnwindRegs>, SessionError>
-        ensures { (next : ℕ) → let state : CachedWorld A.UnwindRule = state_of self.now.unwinders.items self.now.caches.items next in
+        ensures { (next : ℕ) → let state : CachedWorld A.UnwindRule = state_of self.now next in
             let command : Command D A.UnwindRegs = Command.Stats cache in
             Serves (A.unwinding P.policy) state command result state }
     {
@@ -180,11 +181,11 @@ impl<D: SectionBytes + Drop, A: Unwinding, P: AllocationPolicy> Session<D, A, P>
         memory: Memory,
         limit: u32,
     ) -> Result<Reply<A::UnwindRegs>, SessionError>
-        ensures { (next : ℕ) → let old : CachedWorld A.UnwindRule = state_of self.old.unwinders.items self.old.caches.items next in
+        ensures { (next : ℕ) → let old : CachedWorld A.UnwindRule = state_of self.old next in
             let command : Command D A.UnwindRegs = Command.Walk unwinder cache pc regs memory limit in
             IsTransparent (A.unwinding P.policy) old →
             Serves (A.unwinding P.policy) old command result
-            (state_of self.new.unwinders.items self.new.caches.items next) }
+            (state_of self.new next) }
     {
         if unwinder >= self.unwinders.len() {
             return Err(SessionError::NoSuchUnwinder);
@@ -206,10 +207,10 @@ impl<D: SectionBytes + Drop, A: Unwinding, P: AllocationPolicy> Session<D, A, P>
     ) -> Result<Reply<A::UnwindRegs>, SessionError>
         ensures drawn { generations.old ≤ generations.new }
         ensures drawn_at_most { generations.new ≤ generations.old + 1 }
-        ensures served { let old : CachedWorld A.UnwindRule = state_of self.old.unwinders.items self.old.caches.items generations.old in
+        ensures served { let old : CachedWorld A.UnwindRule = state_of self.old generations.old in
             IsTransparent (A.unwinding P.policy) old →
             Serves (A.unwinding P.policy) old command result
-            (state_of self.new.unwinders.items self.new.caches.items generations.new) }
+            (state_of self.new generations.new) }
     {
         match command {
             Command::New => self.make_unwinder(generations),

@@ -1,5 +1,6 @@
 //! The unwinder of x86_64.
-ghost use Rattle.std.specs.Prelude.{◌≡◌, ◌+◌, ◌-◌, ◌^◌, ◌<◌, [], MatchResult};
+ghost use Rattle.std.specs.Prelude.{◌≡◌};
+ghost use Rattle.framehop.specs.Modules.{IsMade};
 
 use crate::cache::{AllocationPolicy, MayAllocateDuringUnwind};
 use crate::unwinder::{Module, ModuleListError, RefusedModule, Unwinder, UnwinderInternal};
@@ -37,11 +38,7 @@ impl<D: SectionBytes + Drop, P: AllocationPolicy> UnwinderX86_64<D, P> {
     /// An unwinder without modules, of the next generation. It takes no memory, and is refused
     /// only at the counter's end.
     pub fn new(alloc: Global, generations: &mut Generations) -> Result<Self, ModuleListError>
-        ensures { MatchResult result
-            (λ made. (made ≡ record { modules = []; generation = generations.old })
-            × (generations.new ≡ generations.old + 1) × (generations.old < 2 ^ 64 - 1))
-            (λ error. (error ≡ ModuleListError.GenerationsExhausted)
-            × (generations.old ≡ 2 ^ 64 - 1) × (generations.new ≡ generations.old)) }
+        ensures { IsMade result generations.old generations.new }
     {
         Ok(UnwinderX86_64(UnwinderInternal::new(alloc, generations)?))
     }

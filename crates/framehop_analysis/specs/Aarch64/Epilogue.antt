@@ -119,16 +119,16 @@ pub data IsRestored (text : List ℕ) (pc : ℕ) : Type 0 where
 -- ---- the rule
 
 -- a register's place in words of 8 bytes
-abbrev pub IsPlace : Option ℤ → ℤ → Type 0
-IsPlace None y = ⊥
-IsPlace (Some place) y = IsUnitsOf8 place y
+abbrev pub IsPlaceInWords : Option ℤ → ℤ → Type 0
+IsPlaceInWords None y = ⊥
+IsPlaceInWords (Some place) y = IsUnitsOf8 place y
 
 -- The rule of the places. There is none where fp is restored and lr is not, or where an offset has no exact field.
 abbrev pub IsRuleOfPlaces : Places → UnwindRuleAarch64 → Type 0
 IsRuleOfPlaces p NoOp = (p.sp ≡ pos 0) × (p.fp ≡ None) × (p.lr ≡ None)
 IsRuleOfPlaces p (OffsetSp x) = IsUnitsOf16 p.sp x × (0 < x) × (p.fp ≡ None) × (p.lr ≡ None)
-IsRuleOfPlaces p (OffsetSpAndRestoreLr x z) = IsUnitsOf16 p.sp x × (p.fp ≡ None) × IsPlace p.lr z
-IsRuleOfPlaces p (OffsetSpAndRestoreFpAndLr x y z) = IsUnitsOf16 p.sp x × IsPlace p.fp y × IsPlace p.lr z
+IsRuleOfPlaces p (OffsetSpAndRestoreLr x z) = IsUnitsOf16 p.sp x × (p.fp ≡ None) × IsPlaceInWords p.lr z
+IsRuleOfPlaces p (OffsetSpAndRestoreFpAndLr x y z) = IsUnitsOf16 p.sp x × IsPlaceInWords p.fp y × IsPlaceInWords p.lr z
 IsRuleOfPlaces p _ = ⊥
 
 -- the rest of an epilogue, from an offset on where the places are these, and its rule

@@ -1,6 +1,7 @@
 -- Instruction words of aarch64: which word is which instruction, and its fields (Arm Architecture Reference Manual for
 -- A-profile, "A64 instruction set encoding", "Loads and stores", "Data processing -- immediate").
 use Rattle.std.specs.Prelude.{◌≡◌, ℕ, ◌+◌, ◌*◌, ◌/◌, ◌%◌, ◌^◌, ℤ, pos, ◌-ℤ◌, Bool, not, ◌&&◌, ◌||◌, ◌==◌, nat_lt, nat_le, if◌then◌else◌, bit_and, List, [], ◌∷◌, length, slice_index, Option, Some, None}
+use Rattle.framehop_core.specs.Bits.{bits_at}
 
 -- the little-endian word of 32 bits that a slice has at an offset, if it has all four bytes
 abbrev pub word_at : List ℕ → ℕ → Option ℕ
@@ -16,9 +17,6 @@ AreWordsAt bytes at [] = Unit {0}
 AreWordsAt bytes at (word ∷ words) = (word_at bytes at ≡ Some word) × AreWordsAt bytes (at + 4) words
 
 -- so many bits of a word, from a lowest one on
-abbrev pub bits_at : ℕ → ℕ → ℕ → ℕ
-bits_at word low count = word / 2 ^ low % 2 ^ count
-
 -- ---- register pairs: STP and LDP of 64-bit registers
 
 -- Rn, the base register, where 31 is sp

@@ -2,12 +2,8 @@
 use Rattle.std.proofs.Common.{◌≡◌, ◌⊎◌, inl, inr, ℕ, ◌<◌, ◌≤◌, Bool, true, false, nat_eq, Option, Some, None, ap, subst, ◌∙◌, refl, arith}
 use Rattle.std.proofs.lemmas.Bool.{cases_lt}
 use Rattle.std.proofs.lemmas.Bool.Decides.{nat_tests}
+use Rattle.std.proofs.lemmas.Option.{same_Some}
 use Rattle.framehop_analysis.specs.Answer.{IsOnly, Decided, FirstOf}
-
--- ---- values
-
-pub some-same : {A : Type 0} (x y : A) → Some x ≡ Some y → x ≡ y
-some-same x y e = cc
 
 -- two facts that the same values meet
 pub only-map : {A : Type 0} (P Q : A → Type 0) (found : Option A) → ((x : A) → P x → Q x) → ((x : A) → Q x → P x)
@@ -32,7 +28,7 @@ pub means-first : {A : Type 0} (P Q : A → Type 0) {P' Q' : A → Type 0} (foun
     → ((x : A) → P x → P' x) → ((x : A) → Q x → Q' x) → (x : A) → found ≡ Some x → P' x ⊎ Q' x
 means-first P Q None only first second x is = cc
 means-first {A} P Q {P'} {Q'} (Some y) only first second x is =
-    subst (λ x. P' x ⊎ Q' x) (some-same y x is) (of only.0) where
+    subst (λ x. P' x ⊎ Q' x) (same_Some y x is) (of only.0) where
       of : FirstOf P Q y → P' y ⊎ Q' y
       of (inl p) = inl (first y p)
       of (inr q) = inr (second y q.1)
@@ -83,7 +79,7 @@ eq-decidable m n =
 -- there is a value, and it is this one
 pub is-decidable : (found : Option ℕ) (value : ℕ) → Decidable (found ≡ Some value)
 is-decidable None value = inr (λ e. cc)
-is-decidable (Some x) value = decidable-map (λ e. ap Some e) (some-same x value) (eq-decidable x value)
+is-decidable (Some x) value = decidable-map (λ e. ap Some e) (same_Some x value) (eq-decidable x value)
 
 -- there is a value, and it passes a test
 abbrev pub Passes : Option ℕ → (ℕ → Bool) → Type 0
@@ -92,5 +88,5 @@ Passes found test = (value : ℕ) × (found ≡ Some value) × (test value ≡ t
 pub passes-decidable : (found : Option ℕ) (test : ℕ → Bool) → Decidable (Passes found test)
 passes-decidable None test = inr (λ passed. (let e = passed.1 in cc))
 passes-decidable (Some x) test =
-    decidable-map (λ e. (x, refl, e)) (λ passed. ap test (some-same x passed.0 passed.1) ∙ passed.2)
+    decidable-map (λ e. (x, refl, e)) (λ passed. ap test (same_Some x passed.0 passed.1) ∙ passed.2)
     (true-decidable (test x))

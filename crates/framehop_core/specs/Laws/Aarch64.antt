@@ -1,6 +1,7 @@
 -- aarch64: what a rule's step to the caller has found, and that sp rises. Lemmas: the law of `UnwindRule` cites the
 -- last one.
 use Rattle.std.proofs.Common.{◌≡◌, ◌≢◌, ℕ, ◌^◌, ◌<◌, ◌≤◌, ℤ, pos, Bool, true, false, not, ◌&&◌, ◌||◌, nat_eq, nat_le, Ok, refl, sym, ap, ◌∙◌, arith}
+use Rattle.std.proofs.lemmas.Bool.{or_parts}
 use Rattle.std.proofs.lemmas.Bool.Decides.{nat_tests}
 use Rattle.framehop_core.specs.Memory.{Memory}
 use Rattle.framehop_core.specs.Outcome.{Outcome, answered, address_at}
@@ -10,6 +11,7 @@ use Rattle.framehop_core.specs.declared.error.Error.TheVariants.{DidNotAdvance, 
 use Rattle.framehop_core.specs.declared.aarch64.unwind_rule.UnwindRuleAarch64.{UnwindRuleAarch64}
 use Rattle.framehop_core.specs.declared.aarch64.unwind_rule.UnwindRuleAarch64.TheVariants.{NoOp, NoOpIfFirstFrameOtherwiseFp, OffsetSp, OffsetSpIfFirstFrameOtherwiseStackEndsHere, OffsetSpAndRestoreLr, OffsetSpAndRestoreFpAndLr, UseFramePointer, UseFramepointerWithOffsets}
 use Rattle.framehop_core.specs.Runs.{Raises}
+use Rattle.framehop_core.specs.Laws.Basics.{pos-same}
 use Rattle.framehop_core.specs.Laws.Outcome.{after-answered, address_at-ok, root_unless, refused_unless, same-answered}
 
 -- a demand is met by the caller's sp and fp
@@ -17,10 +19,6 @@ abbrev pub Meets : Demand → Registers → ℕ → ℕ → Type 0
 Meets nothing_more r sp fp = Unit {0}
 Meets stack_pointer_rises r sp fp = r.sp < sp
 Meets frame_pointer_rises r sp fp = (fp ≢ 0) × (r.fp < fp) × (r.sp < sp)
-
-or-false : (a b : Bool) → (a || b) ≡ false → (a ≡ false) × (b ≡ false)
-or-false true b e = cc
-or-false false b e = (refl, e)
 
 pub demanded-answered : (demand : Demand) (r : Registers) (sp fp : ℕ) (next : Outcome Registers) (address : ℕ)
     (new : Registers) → demanded demand r sp fp next ≡ answered address new
@@ -33,7 +31,7 @@ demanded-answered frame_pointer_rises r sp fp next address new e =
     let zero = root_unless (nat_eq fp 0) _ address new e in
     let test =
     refused_unless (nat_le fp r.fp || nat_le sp r.sp) FramepointerUnwindingMovedBackwards next address new zero.1 in
-    let both = or-false (nat_le fp r.fp) (nat_le sp r.sp) test.0 in (
+    let both = or_parts (nat_le fp r.fp) (nat_le sp r.sp) test.0 in (
       (
         (let not_zero = zero.0 in λ is. grind (arith, nat_tests)),
         (let above = both.0 in grind (arith, nat_tests)),
@@ -102,9 +100,6 @@ caller-answered sp lr fp demand first r memory address new e =
     }
 
 -- ---- sp does not fall
-
-pos-same : (m n : ℕ) → pos m ≡ pos n → m ≡ n
-pos-same m n e = cc
 
 kept_or_raised : (sp : ℤ) (lr fp : Source) (demand : Demand) (first : Bool) (r : Registers) (memory : Memory)
     (address : ℕ) (new : Registers) → ((n : ℕ) (new_fp : ℕ) → sp ≡ pos n → Meets demand r n new_fp → r.sp ≤ n)

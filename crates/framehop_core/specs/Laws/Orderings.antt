@@ -22,7 +22,7 @@ front :
 front x xs zero tail = refl
 front x xs (suc digit) tail = refl
 
--- one more place: the element at the digit, then the places behind it
+-- one more place: the element at the digit, then the places after it
 pub exchanges-suc :
     {X : Type 0} (k n : ℕ) (x : X) (xs : List X)
     → exchanges (suc k) n (x ∷ xs)

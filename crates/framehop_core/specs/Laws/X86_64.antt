@@ -12,6 +12,7 @@ use Rattle.framehop_core.specs.declared.x86_64.unwindregs.Reg.{Reg}
 use Rattle.framehop_core.specs.declared.x86_64.unwind_rule.UnwindRuleX86_64.{UnwindRuleX86_64}
 use Rattle.framehop_core.specs.declared.x86_64.unwind_rule.UnwindRuleX86_64.TheVariants.{EndOfStack, JustReturn, JustReturnIfFirstFrameOtherwiseFp, OffsetSp, OffsetSpAndRestoreBp, UseFramePointer, UseFramePointerWithOffsets, OffsetSpAndPopRegisters}
 use Rattle.framehop_core.specs.Runs.{Raises}
+use Rattle.framehop_core.specs.Laws.Basics.{ok-same, pos-same}
 use Rattle.framehop_core.specs.Laws.Outcome.{after-answered, and_then-ok, address_at-ok, refused_unless, same-answered}
 
 -- a demand is met by the caller's rsp
@@ -123,12 +124,6 @@ pops-answered at registers r memory address new e =
     }
 
 -- ---- rsp does not fall, and rises from a frame just above its return address
-
-ok-same : (m n : ℕ) → ◌≡◌ {A = Result ℕ Error} (Ok m) (Ok n) → m ≡ n
-ok-same m n e = cc
-
-pos-same : (m n : ℕ) → pos m ≡ pos n → m ≡ n
-pos-same m n e = cc
 
 -- pops leave rsp above where they begin
 popped-above : (memory : Memory) (address : ℕ) (registers : List Reg) (r restored : Registers)

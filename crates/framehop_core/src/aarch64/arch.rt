@@ -7,7 +7,7 @@ use crate::arch::Arch;
 pub struct ArchAarch64;
 
 impl Arch for ArchAarch64 {
-    type UnwindRegs = UnwindRegsAarch64;
-
     type UnwindRule = UnwindRuleAarch64;
+
+    type UnwindRegs = UnwindRegsAarch64;
 }

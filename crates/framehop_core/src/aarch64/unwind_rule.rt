@@ -97,6 +97,18 @@ impl UnwindRule for UnwindRuleAarch64 {
 
     ghost raises = { raises };
 
+    fn rule_for_stub_functions() -> Self {
+        UnwindRuleAarch64::NoOp
+    }
+
+    fn rule_for_function_start() -> Self {
+        UnwindRuleAarch64::NoOp
+    }
+
+    fn fallback_rule() -> Self {
+        UnwindRuleAarch64::UseFramePointer
+    }
+
     // inlined, so that on a hit of the cache the rule stays in registers
     #[inline(always)]
     fn exec<F>(
@@ -168,18 +180,6 @@ impl UnwindRule for UnwindRuleAarch64 {
                 finish_at_frame_pointer(is_first_frame, regs, new_sp, new_lr, new_fp)
             }
         }
-    }
-
-    fn rule_for_stub_functions() -> Self {
-        UnwindRuleAarch64::NoOp
-    }
-
-    fn rule_for_function_start() -> Self {
-        UnwindRuleAarch64::NoOp
-    }
-
-    fn fallback_rule() -> Self {
-        UnwindRuleAarch64::UseFramePointer
     }
 
     fn executable(self) -> bool {

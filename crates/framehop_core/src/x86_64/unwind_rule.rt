@@ -181,6 +181,18 @@ impl UnwindRule for UnwindRuleX86_64 {
 
     ghost raises = { raises };
 
+    fn rule_for_stub_functions() -> Self {
+        UnwindRuleX86_64::JustReturn
+    }
+
+    fn rule_for_function_start() -> Self {
+        UnwindRuleX86_64::JustReturn
+    }
+
+    fn fallback_rule() -> Self {
+        UnwindRuleX86_64::UseFramePointer
+    }
+
     // inlined, so that on a hit of the cache the rule stays in registers
     #[inline(always)]
     fn exec<F>(
@@ -254,18 +266,6 @@ impl UnwindRule for UnwindRuleX86_64 {
                 exec_pops(regs, read_stack, first, registers.as_slice())
             }
         }
-    }
-
-    fn rule_for_stub_functions() -> Self {
-        UnwindRuleX86_64::JustReturn
-    }
-
-    fn rule_for_function_start() -> Self {
-        UnwindRuleX86_64::JustReturn
-    }
-
-    fn fallback_rule() -> Self {
-        UnwindRuleX86_64::UseFramePointer
     }
 
     fn executable(self) -> bool {

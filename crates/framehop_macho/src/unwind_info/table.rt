@@ -2,7 +2,7 @@
 ghost use Rattle.std.specs.Prelude.{◌≡◌, ◌+◌, ◌≤◌, Ok, Err, MatchResult, MatchOption, length};
 ghost use Rattle.framehop_cfi.specs.Bytes.{le2, le4};
 ghost use Rattle.framehop_macho.specs.Table.{part_of, index_starts, regular_starts, compressed_starts, row_of, IsRow, IsBefore};
-ghost use Rattle.framehop_macho.specs.UnwindInfo.{opcode_of};
+ghost use Rattle.framehop_macho.specs.UnwindInfo.{opcode_by_number};
 
 use super::error::CompactReadError;
 use framehop_cfi::place::{Starts, place};
@@ -128,7 +128,7 @@ impl<'a> Starts for CompressedEntries<'a> {
 /// Returns the opcode of a number: those of the first list come first, then those of the second.
 /// `BadEncodingIndex` where the number is beyond both.
 pub(crate) fn opcode_at(common: &[u8], own: &[u8], number: usize) -> Result<u32, CompactReadError>
-    ensures { result ≡ opcode_of common.now own.now number }
+    ensures { result ≡ opcode_by_number common.now own.now number }
 {
     let common_count = common.len() / 4;
     if number < common_count {

@@ -14,7 +14,6 @@ use Rattle.framehop_core.specs.X86_64.Rules.{nothing_more, kept, popped, outcome
 use Rattle.framehop_core.specs.Laws.Orderings.{IsArrangement-encoding}
 use Rattle.framehop_core.specs.Laws.RuleOfOperations.{IsPlain, IsOfPops, kinds, IsRuleOf-executable, rule_of_operations-is}
 use Rattle.framehop_core.specs.X86_64.RuleOfOperations.{rule_of, rule_of_operations}
-use Rattle.framehop_core.specs.declared.error.Error.{Error}
 use Rattle.framehop_core.specs.declared.x86_64.unwindregs.Reg.{Reg}
 use Rattle.framehop_core.specs.declared.x86_64.unwindregs.Reg.TheVariants.{RAX, RDX, RCX, RBX, RSI, RDI, RBP, RSP, R8, R9, R10, R11, R12, R13, R14, R15}
 use Rattle.framehop_core.specs.declared.x86_64.unwind_rule.OffsetOrPop.{OffsetOrPop}
@@ -24,10 +23,12 @@ use Rattle.framehop_core.specs.declared.x86_64.unwind_rule.UnwindRuleX86_64.TheV
 use Rattle.framehop_pe.specs.Resolve.{◌>>=◌, sum, popped_at, popped_word, undone, and_then as undone_then, resolved}
 use Rattle.framehop_pe.specs.EpilogRun.{with_sp, with_popped, stepped, stepped_then, ran}
 use Rattle.std.specs.declared.ops.ControlFlow.TheVariants.{Continue}
+use Rattle.std.proofs.lemmas.Bool.{and_parts}
 use Rattle.framehop_pe.specs.declared.unwind_info.epilog.FunctionEpilogInstruction.{FunctionEpilogInstruction}
 use Rattle.framehop_pe.specs.declared.unwind_info.epilog.FunctionEpilogInstruction.TheVariants.{AddSP, AddSPFromFP, Pop as PopOf}
 use Rattle.framehop_core.specs.declared.unwind_result.UnwindResult.{UnwindResult}
 use Rattle.framehop_core.specs.declared.unwind_result.UnwindResult.TheVariants.{ExecRule, Uncacheable}
+use Rattle.framehop_core.specs.Laws.Basics.{pos-same, ok-same}
 use Rattle.framehop_pe.specs.Answer.{TellsFound, Simulates, IfRule}
 use Rattle.framehop_pe.specs.Frame.{Way, by_epilog, by_codes, WayOrRefusal, offsets_and_pops, returned, along, way_at, rule_along, found_of, computed_of, found_at, computed_at}
 use Rattle.framehop_pe.specs.Sections.{Sections}
@@ -85,14 +86,10 @@ offset_no_pop : (b : Bool) (n : ℕ) (r : Reg) → cond b (OffsetBy8 n) Neither 
 offset_no_pop true n r e = cc
 offset_no_pop false n r e = cc
 
-and-left : (a b : Bool) → (a && b) ≡ true → a ≡ true
-and-left true b e = refl
-and-left false b e = e
-
 pub offset_of-exact : (bytes x : ℕ) → offset_of bytes ≡ OffsetBy8 x → bytes ≡ x * 8
 offset_of-exact bytes x e =
     let t = offset_test (nat_eq (bytes % 8) 0 && nat_lt (bytes / 8) (2 ^ 16)) (bytes / 8) x e in
-    let whole = and-left (nat_eq (bytes % 8) 0) (nat_lt (bytes / 8) (2 ^ 16)) t.0 in
+    let whole = (and_parts (nat_eq (bytes % 8) 0) (nat_lt (bytes / 8) (2 ^ 16)) t.0).0 in
     let no_rest : bytes % 8 ≡ 0 = grind (arith, nat_tests) in
     let n = t.1 in
     omega arith
@@ -122,9 +119,6 @@ sum-fits a b h = let e : nat_lt (a + b) (2 ^ 64) ≡ true = grind (arith, nat_te
 
 above_is : (a b c : ℕ) → above a b ≡ pos c → c ≡ a + b
 above_is a b c e = omega (arith, ints)
-
-pos-same : (m n : ℕ) → pos m ≡ pos n → m ≡ n
-pos-same m n e = cc
 
 -- the next address of pops
 pub next-address : (at next : ℕ) → address_at (above at 8) ≡ Ok next → (next ≡ at + 8) × (at + 8 < 2 ^ 64)
@@ -376,9 +370,6 @@ ran-sequence memory frame instructions x registers address r restored apart e fi
     (offset_or_pops (map of_instruction instructions) x registers e) fits pops word
 
 -- ---- a rule of an offset and registers
-
-ok-same : (m n : ℕ) → ◌≡◌ {A = Result ℕ Error} (Ok m) (Ok n) → m ≡ n
-ok-same m n e = cc
 
 not_among : (k : ℕ) → k < 8 → get_or eight k RSP ≡ RSP → ⊥
 not_among zero h e = cc

@@ -1,6 +1,6 @@
 use Rattle.std.proofs.Common.{◌≢◌, ◌+◌, Ok, Err, ap, sym, subst}
 use Rattle.framehop_dwarf.specs.Told.{no_memory}
-use Rattle.framehop.specs.CallFrames.{RowWords, fde_answer}
+use Rattle.framehop.specs.CallFrames.{RowReader, fde_answer}
 use Rattle.framehop.specs.Told.{TellsAnswer, TellsValues}
 use Rattle.framehop.specs.declared.modules.UnwinderError.TheVariants.{Dwarf}
 use Rattle.framehop.proofs.ToldLemmas.{fde-err-told, fde-err-values, fde-ok-values, err-same, rows-are}
@@ -12,8 +12,8 @@ returns-in-Ok-clause-answers g c = λ memory answers.
     let ran = c.in-Ok.ensures.answers memory answers in (
       ran.0,
       λ kept.
-          subst (λ (words : RowWords g.row.A-UnwindRule.Denot g.row.A-UnwindRegs.Denot). TellsValues (fde_answer words g.P.AllocationPolicy.policy c.args.unwinder.now.section (c.args.unwinder.now.base_svma + c.args.relative_address) c.args.is_first_frame c.args.fde_offset) c.args.regs.now memory (Ok c.in-Ok.found) c.unwind_frame_with_fde.new.regs)
-          (sym (rows-are _ _ g.met.A.Unwinding.words_are))
+          subst (λ (reader : RowReader g.row.A-UnwindRule.Denot g.row.A-UnwindRegs.Denot). TellsValues (fde_answer reader g.P.AllocationPolicy.policy c.args.unwinder.now.section (c.args.unwinder.now.base_svma + c.args.relative_address) c.args.is_first_frame c.args.fde_offset) c.args.regs.now memory (Ok c.in-Ok.found) c.unwind_frame_with_fde.new.regs)
+          (sym (rows-are _ _ g.met.A.Unwinding.readers_are))
           (fde-ok-values _ g.P.AllocationPolicy.policy c.args.unwinder.now.section (c.args.unwinder.now.base_svma + c.args.relative_address) c.args.is_first_frame c.args.fde_offset _ _ limits.1 limits.2 memory c.args.regs.now c.unwind_frame_with_fde.new.regs c.in-Ok.found (c.in-Ok.ensures.found (λ e. cc)) ran.1),
     )
 
@@ -21,8 +21,8 @@ pub returns-in-Err-clause-told : goal.returns-in-Err-clause-told
 returns-in-Err-clause-told g c = λ some.
     let limits = g.met.P.AllocationPolicy.is_policy in
     let kept : c.in-Err.error ≢ no_memory = λ e. some (ap (λ x. Err (Dwarf x)) e) in
-    subst (λ (words : RowWords g.row.A-UnwindRule.Denot g.row.A-UnwindRegs.Denot). TellsAnswer (fde_answer words g.P.AllocationPolicy.policy c.args.unwinder.now.section (c.args.unwinder.now.base_svma + c.args.relative_address) c.args.is_first_frame c.args.fde_offset) (Err (Dwarf c.in-Err.error)))
-    (sym (rows-are _ _ g.met.A.Unwinding.words_are))
+    subst (λ (reader : RowReader g.row.A-UnwindRule.Denot g.row.A-UnwindRegs.Denot). TellsAnswer (fde_answer reader g.P.AllocationPolicy.policy c.args.unwinder.now.section (c.args.unwinder.now.base_svma + c.args.relative_address) c.args.is_first_frame c.args.fde_offset) (Err (Dwarf c.in-Err.error)))
+    (sym (rows-are _ _ g.met.A.Unwinding.readers_are))
     (fde-err-told _ g.P.AllocationPolicy.policy c.args.unwinder.now.section (c.args.unwinder.now.base_svma + c.args.relative_address) c.args.is_first_frame c.args.fde_offset _ _ limits.1 limits.2 c.in-Err.error kept (c.in-Err.ensures.found (λ e. kept (err-same _ _ e))))
 
 pub returns-in-Err-clause-answers : goal.returns-in-Err-clause-answers
@@ -32,7 +32,7 @@ returns-in-Err-clause-answers g c = λ memory answers.
       ran.0,
       λ some.
           let kept : c.in-Err.error ≢ no_memory = λ e. some (ap (λ x. Err (Dwarf x)) e) in
-          subst (λ (words : RowWords g.row.A-UnwindRule.Denot g.row.A-UnwindRegs.Denot). TellsValues (fde_answer words g.P.AllocationPolicy.policy c.args.unwinder.now.section (c.args.unwinder.now.base_svma + c.args.relative_address) c.args.is_first_frame c.args.fde_offset) c.args.regs.now memory (Err (Dwarf c.in-Err.error)) c.unwind_frame_with_fde.new.regs)
-          (sym (rows-are _ _ g.met.A.Unwinding.words_are))
+          subst (λ (reader : RowReader g.row.A-UnwindRule.Denot g.row.A-UnwindRegs.Denot). TellsValues (fde_answer reader g.P.AllocationPolicy.policy c.args.unwinder.now.section (c.args.unwinder.now.base_svma + c.args.relative_address) c.args.is_first_frame c.args.fde_offset) c.args.regs.now memory (Err (Dwarf c.in-Err.error)) c.unwind_frame_with_fde.new.regs)
+          (sym (rows-are _ _ g.met.A.Unwinding.readers_are))
           (fde-err-values _ g.P.AllocationPolicy.policy c.args.unwinder.now.section (c.args.unwinder.now.base_svma + c.args.relative_address) c.args.is_first_frame c.args.fde_offset _ _ limits.1 limits.2 memory c.args.regs.now c.unwind_frame_with_fde.new.regs c.in-Err.error kept (c.in-Err.ensures.found (λ e. kept (err-same _ _ e))) ran.1),
     )

@@ -4,7 +4,7 @@ use Rattle.std.proofs.lemmas.Result.{err_from_is_err_and}
 use Rattle.std.specs.Vec.Iter.{into_iter_items}
 use Rattle.framehop.specs.CachedWorld.{CachedWorld, empty_cached_world, cached_replies, next_after_all, world_result}
 use Rattle.framehop.specs.declared.session.commands.SessionError.TheVariants.{OutOfMemory}
-use Rattle.framehop.specs.SessionView.{reply_view, result_view}
+use Rattle.framehop.specs.SessionView.{state_of, reply_view, result_view}
 use Rattle.framehop.specs.Transparent.{IsTransparent}
 use Rattle.framehop.proofs.CachedWorldLemmas.{transparent-start, transparent-after, CachedWorld-equal}
 use Rattle.framehop.proofs.RunLemmas.{Continues, Continues-start, Continues-served, refused-all, done-all}
@@ -17,7 +17,7 @@ pub loop-command-init : goal.loop-command-init
 loop-command-init g c =
     let start : CachedWorld g.row.A-UnwindRule.Denot = empty_cached_world c.args.cache_count c.args.generations.now in
     let made = c.in_ok-session.ensures.made in
-    let state : CachedWorld g.row.A-UnwindRule.Denot = record { unwinders = c.in_ok-session.session.unwinders.items; next = c.args.generations.now; caches = c.in_ok-session.session.caches.items } in
+    let state : CachedWorld g.row.A-UnwindRule.Denot = state_of c.in_ok-session.session c.args.generations.now in
     let same : state ≡ start = CachedWorld-equal state start made.0 refl made.1 in
     let given : into_iter_items c.into_iter-command-iterator.result ≡ c.args.commands.items = search rules in (
       subst (IsTransparent _) (sym same) (transparent-start (g.A.Unwinding.unwinding g.P.AllocationPolicy.policy) c.args.cache_count c.args.generations.now),
@@ -31,7 +31,7 @@ loop-command-init g c =
 refused-at : (g : _) (c : goal.After-drop-session-in_err-reply g) → c.from_residual-in_err-reply.result ≢ Err OutOfMemory → (result_view c.from_residual-in_err-reply.result ≡ cached_replies (g.A.Unwinding.unwinding g.P.AllocationPolicy.policy) (empty_cached_world c.args.cache_count c.args.generations.now) c.args.commands.items) × (c.serve.new.generations ≡ next_after_all (g.A.Unwinding.unwinding g.P.AllocationPolicy.policy) (empty_cached_world c.args.cache_count c.args.generations.now) c.args.commands.items)
 refused-at g c other =
     let old = c.loop-command.invariant in
-    let state : CachedWorld g.row.A-UnwindRule.Denot = record { unwinders = c.loop-command.session.unwinders.items; next = c.loop-command.generations; caches = c.loop-command.session.caches.items } in
+    let state : CachedWorld g.row.A-UnwindRule.Denot = state_of c.loop-command.session c.loop-command.generations in
     let taken : into_iter_items c.loop-command.command-iterator ≡ c.in-Some.command ∷ into_iter_items c.next.new.self = search rules in
     let here = subst (λ commands. Continues (g.A.Unwinding.unwinding g.P.AllocationPolicy.policy) state (empty_cached_world c.args.cache_count c.args.generations.now) (map reply_view c.loop-command.replies.items) commands c.args.commands.items) taken old.1 in
     let p = err_from_is_err_and c.from_residual-in_err-reply.result c.from_residual-in_err-reply.ensures.1 in
@@ -53,7 +53,7 @@ returns-in_err-reply-clause-drawn g c = λ other. (refused-at g c other).1
 pub loop-command-preserved : goal.loop-command-preserved
 loop-command-preserved g c =
     let old = c.loop-command.invariant in
-    let state : CachedWorld g.row.A-UnwindRule.Denot = record { unwinders = c.loop-command.session.unwinders.items; next = c.loop-command.generations; caches = c.loop-command.session.caches.items } in
+    let state : CachedWorld g.row.A-UnwindRule.Denot = state_of c.loop-command.session c.loop-command.generations in
     let taken : into_iter_items c.loop-command.command-iterator ≡ c.in-Some.command ∷ into_iter_items c.next.new.self = search rules in
     let served = c.in_ok-reply.ensures.served old.0 in
     let pushed : c.push.new.self.items ≡ c.loop-command.replies.items ++ c.in_ok-reply.reply ∷ [] = search rules in

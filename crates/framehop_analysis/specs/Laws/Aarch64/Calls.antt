@@ -1,35 +1,11 @@
 -- Authenticated calls of aarch64, and the words that an epilogue ends with.
-use Rattle.std.proofs.Common.{◌≡◌, ◌⊎◌, inl, inr, ℕ, zero, suc, ◌+◌, ◌-◌, ◌*◌, ◌/◌, ◌%◌, ◌^◌, ◌<◌, ◌≤◌, ℤ, Bool, true, false, ◌&&◌, ◌||◌, ◌==◌, nat_eq, List, [], ◌∷◌, ◌++◌, length, slice_index, Some, refl, sym, ap, ◌∙◌, subst, arith, bit_and}
-use Rattle.std.proofs.lemmas.Bool.Decides.{nat_tests}
-use Rattle.std.proofs.lemmas.Bool.{cases_lt}
+use Rattle.std.proofs.Common.{◌≡◌, ◌⊎◌, inl, inr, ℕ, zero, suc, ◌+◌, ◌-◌, ◌*◌, ◌/◌, ◌%◌, ◌^◌, ◌<◌, ◌≤◌, ℤ, true, false, ◌||◌, ◌==◌, List, [], ◌∷◌, ◌++◌, length, slice_index, Some, refl, sym, ap, ◌∙◌, subst, arith, bit_and}
+use Rattle.std.proofs.lemmas.Bool.{cases_lt, eqb-true, and_parts, false_from_ne_true, or_cases, or_right}
 use Rattle.std.proofs.lemmas.Nat.{and_le_l, and_shr, and_mod, and_mask, shr-shr}
-use Rattle.framehop_analysis.specs.Aarch64.Words.{word_at, AreWordsAt, bits_at, is_load, is_add_sp, is_return, is_b, is_br, is_braa, is_mov, is_branch}
-use Rattle.framehop_analysis.specs.Laws.Answer.{some-same}
+use Rattle.std.proofs.lemmas.Option.{same_Some}
+use Rattle.framehop_core.specs.Bits.{bits_at}
+use Rattle.framehop_analysis.specs.Aarch64.Words.{word_at, AreWordsAt, is_load, is_add_sp, is_return, is_b, is_br, is_braa, is_mov, is_branch}
 use Rattle.framehop_analysis.specs.Aarch64.Epilogue.{check_words, is_call_word, IsAuthenticatedCall, by_b, by_braa, IsEnd, returns, branches, calls, IsInsideCallAfter, is_restoring}
-
--- ---- tests
-
-pub eq-true : (m n : ℕ) → nat_eq m n ≡ true → m ≡ n
-eq-true m n e = grind (arith, nat_tests)
-
-pub and-left : (a b : Bool) → (a && b) ≡ true → a ≡ true
-and-left true b e = refl
-and-left false b e = cc
-
-pub or-cases : (a b : Bool) → (a || b) ≡ true → (a ≡ true) ⊎ (b ≡ true)
-or-cases true b e = inl refl
-or-cases false b e = inr e
-
-pub or-right : (a b : Bool) → b ≡ true → (a || b) ≡ true
-or-right true b e = refl
-or-right false b e = e
-
-pub or-left : (a b : Bool) → a ≡ true → (a || b) ≡ true
-or-left a b e = ap (λ t. t || b) e
-
-pub not-true : (a : Bool) → (a ≡ true → ⊥) → a ≡ false
-not-true true h = absurd (h refl)
-not-true false h = refl
 
 -- ---- no word is both
 
@@ -42,15 +18,15 @@ pair-high word value field value_is =
     let high : bit_and (word / 2 ^ 25) 0x5F ≡ 0x54 = ap (λ n. bit_and n 0x5F) (sym (shr-shr word 22 3)) ∙ moved in
     sym (and_mod (word / 2 ^ 25) 0x5F 7) ∙ ap (λ n. n % 2 ^ 7) high
 
-load-high : (word : ℕ) → is_load word ≡ true → bit_and (bits_at word 25 7) 0x5F ≡ 0x54
-load-high word e = pair-high word 0x2A1 (eq-true _ _ (and-left _ _ e)) refl
+pub load-high : (word : ℕ) → is_load word ≡ true → bit_and (bits_at word 25 7) 0x5F ≡ 0x54
+load-high word e = pair-high word 0x2A1 (eqb-true _ _ (and_parts _ _ e).0) refl
 
 two_of : (n : ℕ) → 10 ≤ n → n ≤ 11 → (n ≡ 10) ⊎ (n ≡ 11)
 two_of n low high = elim (cases_lt 10 n) [ inl above ↦ inr (omega arith) | inr below ↦ inl (omega arith) ]
 
 pub b-high : (word : ℕ) → is_b word ≡ true → (bits_at word 25 7 ≡ 10) ⊎ (bits_at word 25 7 ≡ 11)
 b-high word e =
-    let top : word / 2 ^ 26 ≡ 5 = eq-true _ _ e in
+    let top : word / 2 ^ 26 ≡ 5 = eqb-true _ _ e in
     let split = shr-shr word 25 1 in
     two_of (bits_at word 25 7) (omega arith) (omega arith)
 
@@ -58,27 +34,27 @@ high-not-restoring : (word high : ℕ) → bits_at word 25 7 ≡ high → (bit_a
     → is_restoring word ≡ false
 high-not-restoring word high is apart other =
     let no_load : is_load word ≡ false =
-    not-true (is_load word) (λ load. apart (ap (λ n. bit_and n 0x5F) (sym is) ∙ load-high word load)) in
-    let no_add : is_add_sp word ≡ false = not-true (is_add_sp word) (λ add.
-    let code : word / 2 ^ 23 % 2 ^ 9 ≡ 0x122 = eq-true _ _ (and-left _ _ (and-left _ _ add)) in
+    false_from_ne_true (is_load word) (λ load. apart (ap (λ n. bit_and n 0x5F) (sym is) ∙ load-high word load)) in
+    let no_add : is_add_sp word ≡ false = false_from_ne_true (is_add_sp word) (λ add.
+    let code : word / 2 ^ 23 % 2 ^ 9 ≡ 0x122 = eqb-true _ _ (and_parts _ _ (and_parts _ _ add).0).0 in
     let split = shr-shr word 23 2 in
     other (omega arith)) in
     cc
 
 pub branch-not-restoring : (word : ℕ) → is_branch word ≡ true → is_restoring word ≡ false
-branch-not-restoring word e = elim (or-cases (is_b word) (bits_at word 25 7 == 0x6B) e) [
+branch-not-restoring word e = elim (or_cases (is_b word) (bits_at word 25 7 == 0x6B) e) [
   | inl b ↦ elim (b-high word b) [
     | inl ten ↦ high-not-restoring word 10 ten (λ same. let t : 10 ≡ 84 = same in omega arith) (λ n. omega arith)
     | inr eleven ↦ high-not-restoring word 11 eleven (λ same. let t : 11 ≡ 84 = same in omega arith) (λ n. omega arith)
   ]
-  | inr register ↦ high-not-restoring word 107 (eq-true _ _ register) (λ same. let t : 75 ≡ 84 = same in omega arith)
+  | inr register ↦ high-not-restoring word 107 (eqb-true _ _ register) (λ same. let t : 75 ≡ 84 = same in omega arith)
       (λ n. omega arith)
 ]
 
 b-mov-apart : (word : ℕ) → is_b word ≡ true → is_mov word ≡ true → ⊥
 b-mov-apart word b mov =
-    let top : word / 2 ^ 26 ≡ 5 = eq-true _ _ b in
-    let field : bit_and (word / 2 ^ 23) 0x1C7 ≡ 0x185 = eq-true _ _ (and-left _ _ mov) in
+    let top : word / 2 ^ 26 ≡ 5 = eqb-true _ _ b in
+    let field : bit_and (word / 2 ^ 23) 0x1C7 ≡ 0x185 = eqb-true _ _ (and_parts _ _ mov).0 in
     let small = and_le_l (word / 2 ^ 23) 0x1C7 in
     omega (arith, shr-shr word 23 3)
 
@@ -88,9 +64,9 @@ pub b-branch : (word : ℕ) → is_b word ≡ true → is_branch word ≡ true
 b-branch word e = ap (λ t. t || (bits_at word 25 7 == 0x6B)) e
 
 pub return-branch : (word : ℕ) → is_return word ≡ true → is_branch word ≡ true
-return-branch word e = elim (or-cases (word == 0xD65F03C0) (word == 0xD65F0FFF) e) [
-  | inl ret ↦ ap is_branch (eq-true word 0xD65F03C0 ret)
-  | inr retab ↦ ap is_branch (eq-true word 0xD65F0FFF retab)
+return-branch word e = elim (or_cases (word == 0xD65F03C0) (word == 0xD65F0FFF) e) [
+  | inl ret ↦ ap is_branch (eqb-true word 0xD65F03C0 ret)
+  | inr retab ↦ ap is_branch (eqb-true word 0xD65F0FFF retab)
 ]
 
 high-branch : (word mask value : ℕ) → bit_and word mask ≡ value → mask / 2 ^ 25 ≡ 2 ^ 7 - 1 → value / 2 ^ 25 ≡ 0x6B
@@ -100,21 +76,21 @@ high-branch word mask value e mask_is value_is =
     sym (and_shr word mask 25) ∙ ap (λ n. n / 2 ^ 25) e ∙ value_is in
     let high : bits_at word 25 7 ≡ 0x6B =
     sym (and_mask (word / 2 ^ 25) 7) ∙ ap (bit_and (word / 2 ^ 25)) (sym mask_is) ∙ shifted in
-    or-right (is_b word) (bits_at word 25 7 == 0x6B) (ap (λ n. n == 0x6B) high)
+    or_right (is_b word) (bits_at word 25 7 == 0x6B) (ap (λ n. n == 0x6B) high)
 
 pub br-branch : (word : ℕ) → is_br word ≡ true → is_branch word ≡ true
-br-branch word e = high-branch word 0xFFFFFC1F 0xD61F0000 (eq-true _ _ e) refl refl
+br-branch word e = high-branch word 0xFFFFFC1F 0xD61F0000 (eqb-true _ _ e) refl refl
 
 pub braa-branch : (word : ℕ) → is_braa word ≡ true → is_branch word ≡ true
-braa-branch word e = high-branch word 0xFFFFFC00 0xD71F0800 (eq-true _ _ (and-left _ _ e)) refl refl
+braa-branch word e = high-branch word 0xFFFFFC00 0xD71F0800 (eqb-true _ _ (and_parts _ _ e).0) refl refl
 
 pub branch-high : (word : ℕ) → (is_return word || is_b word || is_br word || is_braa word) ≡ true
     → is_branch word ≡ true
-branch-high word e = elim (or-cases (is_return word || is_b word || is_br word) (is_braa word) e) [
+branch-high word e = elim (or_cases (is_return word || is_b word || is_br word) (is_braa word) e) [
   | inr braa ↦ braa-branch word braa
-  | inl three ↦ elim (or-cases (is_return word || is_b word) (is_br word) three) [
+  | inl three ↦ elim (or_cases (is_return word || is_b word) (is_br word) three) [
     | inr br ↦ br-branch word br
-    | inl two ↦ elim (or-cases (is_return word) (is_b word) two) [
+    | inl two ↦ elim (or_cases (is_return word) (is_b word) two) [
       | inl return ↦ return-branch word return
       | inr b ↦ b-branch word b
     ]
@@ -168,21 +144,21 @@ fifth-of bytes at w words rest stands e = (moved bytes at words (check_words ++ 
 pub call-same : (bytes : List ℕ) (at : ℕ) (xs ys : List ℕ) → AreWordsAt bytes at xs → IsAuthenticatedCall xs
     → AreWordsAt bytes at ys → IsAuthenticatedCall ys → xs ≡ ys
 call-same bytes at xs ys a (by_b b b_is e) c (by_b d d_is f) =
-    let same : b ≡ d = some-same b d (sym (fifth-of bytes at b xs [] a e) ∙ fifth-of bytes at d ys [] c f) in
+    let same : b ≡ d = same_Some b d (sym (fifth-of bytes at b xs [] a e) ∙ fifth-of bytes at d ys [] c f) in
     e ∙ ap (λ w. check_words ++ w ∷ []) same ∙ sym f
 call-same bytes at xs ys a (by_b b b_is e) c (by_braa mov braa mov_is braa_is f) =
-    let same : b ≡ mov = some-same b mov
+    let same : b ≡ mov = same_Some b mov
     (sym (fifth-of bytes at b xs [] a e) ∙ fifth-of bytes at mov ys (braa ∷ []) c f) in
     absurd (b-mov-apart mov (ap is_b (sym same) ∙ b_is) mov_is)
 call-same bytes at xs ys a (by_braa mov braa mov_is braa_is e) c (by_b d d_is f) =
-    let same : mov ≡ d = some-same mov d
+    let same : mov ≡ d = same_Some mov d
     (sym (fifth-of bytes at mov xs (braa ∷ []) a e) ∙ fifth-of bytes at d ys [] c f) in
     absurd (b-mov-apart mov (ap is_b same ∙ d_is) mov_is)
 call-same bytes at xs ys a (by_braa mov braa mov_is braa_is e) c (by_braa mov' braa' mov_is' braa_is' f) =
     let one = moved bytes at xs (check_words ++ mov ∷ braa ∷ []) e a in
     let two = moved bytes at ys (check_words ++ mov' ∷ braa' ∷ []) f c in
-    let same : mov ≡ mov' = some-same mov mov' (sym one.1.1.1.1.0 ∙ two.1.1.1.1.0) in
-    let later : braa ≡ braa' = some-same braa braa' (sym one.1.1.1.1.1.0 ∙ two.1.1.1.1.1.0) in
+    let same : mov ≡ mov' = same_Some mov mov' (sym one.1.1.1.1.0 ∙ two.1.1.1.1.0) in
+    let later : braa ≡ braa' = same_Some braa braa' (sym one.1.1.1.1.1.0 ∙ two.1.1.1.1.1.0) in
     e ∙ ap (λ w. check_words ++ w ∷ braa ∷ []) same ∙ ap (λ w. check_words ++ mov' ∷ w ∷ []) later ∙ sym f
 
 pub call-short : (words : List ℕ) → IsAuthenticatedCall words → length words ≤ 6
@@ -204,7 +180,7 @@ braa-places zero mov braa is later below = refl
 braa-places (suc zero) mov braa is later below = refl
 braa-places (suc (suc zero)) mov braa is later below = refl
 braa-places (suc (suc (suc zero))) mov braa is later below = refl
-braa-places (suc (suc (suc (suc zero)))) mov braa is later below = or-right (is_b mov) (is_mov mov) is
+braa-places (suc (suc (suc (suc zero)))) mov braa is later below = or_right (is_b mov) (is_mov mov) is
 braa-places (suc (suc (suc (suc (suc zero))))) mov braa is later below = later
 braa-places (suc (suc (suc (suc (suc (suc k)))))) mov braa is later below = absurd (omega arith)
 
@@ -221,7 +197,7 @@ pub call-word : (text : List ℕ) (pc k word : ℕ) → IsInsideCallAfter text p
     → is_call_word k word ≡ true
 call-word text pc k word i e =
     let nth = stand-nth text i.start k i.words i.stands i.inside in
-    let same : word ≡ slice_index i.words k = some-same _ _ (e ∙ ap (word_at text) i.place ∙ nth) in
+    let same : word ≡ slice_index i.words k = same_Some _ _ (e ∙ ap (word_at text) i.place ∙ nth) in
     ap (is_call_word k) same ∙ call-places k i.words i.call i.inside
 
 -- ---- ends
@@ -229,7 +205,7 @@ call-word text pc k word i e =
 first-of : (text : List ℕ) (at w word : ℕ) (words rest : List ℕ) → AreWordsAt text at words → words ≡ w ∷ rest
     → word_at text at ≡ Some word → word ≡ w
 first-of text at w word words rest stands e there =
-    some-same word w (sym there ∙ (moved text at words (w ∷ rest) e stands).0)
+    same_Some word w (sym there ∙ (moved text at words (w ∷ rest) e stands).0)
 
 call-not-restoring : (text : List ℕ) (at word : ℕ) (words : List ℕ) → IsAuthenticatedCall words
     → AreWordsAt text at words → word_at text at ≡ Some word → is_restoring word ≡ false

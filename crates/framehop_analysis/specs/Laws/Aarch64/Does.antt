@@ -2,6 +2,8 @@
 use Rattle.std.proofs.Common.{◌≡◌, inl, inr, ℕ, zero, suc, ◌+◌, ◌*◌, ◌^◌, ◌<◌, ℤ, pos, ◌+ℤ◌, Bool, true, false, cond, ◌==◌, ◌||◌, List, [], ◌∷◌, ◌++◌, length, Option, Some, None, Ok, refl, sym, ap, ◌∙◌, subst, arith}
 use Rattle.std.specs.Prelude.{option_map}
 use Rattle.std.proofs.lemmas.Int.{ints}
+use Rattle.std.proofs.lemmas.Bool.{or_cases, or_right, or_left}
+use Rattle.std.proofs.lemmas.Option.{same_Some}
 use Rattle.framehop_core.specs.Memory.{Memory}
 use Rattle.framehop_core.specs.Outcome.{answered, above, beside, address_at, word_at as memory_word_at, word_from}
 use Rattle.framehop_core.specs.Laws.Outcome.{and_then-ok, address_at-ok, word_at-ok}
@@ -10,13 +12,13 @@ use Rattle.framehop_core.specs.Aarch64.Rules.{outcome, nothing_more, Source, kep
 use Rattle.framehop_core.specs.Laws.Aarch64.{IsCaller, caller-answered}
 use Rattle.framehop_core.specs.declared.aarch64.unwind_rule.UnwindRuleAarch64.{UnwindRuleAarch64}
 use Rattle.framehop_core.specs.declared.aarch64.unwind_rule.UnwindRuleAarch64.TheVariants.{NoOp, NoOpIfFirstFrameOtherwiseFp, OffsetSp, OffsetSpIfFirstFrameOtherwiseStackEndsHere, OffsetSpAndRestoreLr, OffsetSpAndRestoreFpAndLr, UseFramePointer, UseFramepointerWithOffsets}
+use Rattle.framehop_core.specs.Laws.Basics.{ok-same}
 use Rattle.framehop_analysis.specs.Aarch64.Words.{AreWordsAt, is_load, is_add_sp, addressing, pair_offset, first_register, second_register, immediate, is_signing, is_other, is_return, is_b, is_br, is_braa, is_mov, is_check, is_branch}
 use Rattle.framehop_analysis.specs.Aarch64.Machine.{State, Step, Signs, RunOut, SameAddress, HasRegisters, offset_by, access_address}
-use Rattle.framehop_analysis.specs.Aarch64.Epilogue.{Places, at_pc, is_restoring, places_after, places_after_all, place_after_load, AllRestoring, IsAuthenticatedCall, by_b, by_braa, IsEnd, returns, branches, calls, IsRestored, inside_call, at_tail_call, IsPlace, IsRuleOfPlaces, IsEpilogueRule, restored, restores, DoesEpilogue}
+use Rattle.framehop_analysis.specs.Aarch64.Epilogue.{Places, at_pc, is_restoring, places_after, places_after_all, place_after_load, AllRestoring, IsAuthenticatedCall, by_b, by_braa, IsEnd, returns, branches, calls, IsRestored, inside_call, at_tail_call, IsPlaceInWords, IsRuleOfPlaces, IsEpilogueRule, restored, restores, DoesEpilogue}
 use Rattle.framehop_analysis.specs.Laws.Aarch64.Offsets.{offset_by-fits, offset_by-zero, offset_by-offset_by}
-use Rattle.framehop_analysis.specs.Laws.Answer.{some-same}
-use Rattle.framehop_analysis.specs.Laws.Aarch64.Calls.{branch-not-restoring, return-branch, b-branch, br-branch, braa-branch, or-left, or-right, or-cases}
-use Rattle.framehop_analysis.specs.Laws.Aarch64.Undoes.{stripped-again, ok-same, at-memory}
+use Rattle.framehop_analysis.specs.Laws.Aarch64.Calls.{branch-not-restoring, return-branch, b-branch, br-branch, braa-branch}
+use Rattle.framehop_analysis.specs.Laws.Aarch64.Undoes.{stripped-again, at-memory}
 
 -- ---- what restores
 
@@ -100,7 +102,7 @@ IsQuiet word (next ∷ words) = (is_quiet word ≡ true) × IsQuiet next words
 
 step-quiet : (mask word : ℕ) (s t : State) → is_quiet word ≡ true → Step mask word s t → Signs mask s t
 unfolding is_quiet
-step-quiet mask word s t quiet step = elim (or-cases (is_signing word) (is_other word) quiet) [
+step-quiet mask word s t quiet step = elim (or_cases (is_signing word) (is_other word) quiet) [
   | inl signing ↦ step.signs signing
   | inr other ↦ record {
     others = (let e = step.others other in e ∙ ap (λ l. record s { lr = l }) (sym (ap (λ u. u.lr) e)));
@@ -121,16 +123,16 @@ run-quiet : (mask : ℕ) (text : List ℕ) (count at word : ℕ) (words : List �
     → AreWordsAt text at (word ∷ words) → IsQuiet word words → RunOut mask text count at s t → Signs mask s t
 unfolding IsQuiet
 run-quiet mask text zero at word [] s t stands quiet (w, there, branch, step) =
-    let same : w ≡ word = some-same w word (sym there ∙ stands.0) in
+    let same : w ≡ word = same_Some w word (sym there ∙ stands.0) in
     step-quiet mask w s t (ap is_quiet same ∙ quiet.0) step
 run-quiet mask text zero at word (next ∷ words) s t stands quiet (w, there, branch, step) =
-    let same : w ≡ word = some-same w word (sym there ∙ stands.0) in
+    let same : w ≡ word = same_Some w word (sym there ∙ stands.0) in
     step-quiet mask w s t (ap is_quiet same ∙ quiet.0) step
 run-quiet mask text (suc count) at word [] s t stands quiet (w, there, none, u, step, rest) =
-    let same : w ≡ word = some-same w word (sym there ∙ stands.0) in
+    let same : w ≡ word = same_Some w word (sym there ∙ stands.0) in
     absurd (not-branch w (ap is_branch same ∙ quiet.1) none)
 run-quiet mask text (suc count) at word (next ∷ words) s t stands quiet (w, there, none, u, step, rest) =
-    let same : w ≡ word = some-same w word (sym there ∙ stands.0) in
+    let same : w ≡ word = same_Some w word (sym there ∙ stands.0) in
     signs-signs mask s u t (step-quiet mask w s u (ap is_quiet same ∙ quiet.0) step)
     (run-quiet mask text count (at + 4) next words u t stands.1 quiet.1 rest)
 
@@ -138,33 +140,33 @@ run-quiet mask text (suc count) at word (next ∷ words) s t stands quiet (w, th
 
 other-quiet : (word : ℕ) → is_other word ≡ true → is_quiet word ≡ true
 unfolding is_quiet
-other-quiet word e = or-right (is_signing word) (is_other word) e
+other-quiet word e = or_right (is_signing word) (is_other word) e
 
 return-other : (word : ℕ) → is_return word ≡ true → is_other word ≡ true
 return-other word e =
-    or-left _ (is_check word)
-    (or-left _ (is_mov word)
-    (or-left _ (is_braa word) (or-left _ (is_br word) (or-left (is_return word) (is_b word) e))))
+    or_left _ (is_check word)
+    (or_left _ (is_mov word)
+    (or_left _ (is_braa word) (or_left _ (is_br word) (or_left (is_return word) (is_b word) e))))
 
 b-other : (word : ℕ) → is_b word ≡ true → is_other word ≡ true
 b-other word e =
-    or-left _ (is_check word)
-    (or-left _ (is_mov word)
-    (or-left _ (is_braa word) (or-left _ (is_br word) (or-right (is_return word) (is_b word) e))))
+    or_left _ (is_check word)
+    (or_left _ (is_mov word)
+    (or_left _ (is_braa word) (or_left _ (is_br word) (or_right (is_return word) (is_b word) e))))
 
 br-other : (word : ℕ) → is_br word ≡ true → is_other word ≡ true
 br-other word e =
-    or-left _ (is_check word)
-    (or-left _ (is_mov word) (or-left _ (is_braa word) (or-right (is_return word || is_b word) (is_br word) e)))
+    or_left _ (is_check word)
+    (or_left _ (is_mov word) (or_left _ (is_braa word) (or_right (is_return word || is_b word) (is_br word) e)))
 
 braa-other : (word : ℕ) → is_braa word ≡ true → is_other word ≡ true
 braa-other word e =
-    or-left _ (is_check word)
-    (or-left _ (is_mov word) (or-right (is_return word || is_b word || is_br word) (is_braa word) e))
+    or_left _ (is_check word)
+    (or_left _ (is_mov word) (or_right (is_return word || is_b word || is_br word) (is_braa word) e))
 
 mov-other : (word : ℕ) → is_mov word ≡ true → is_other word ≡ true
 mov-other word e =
-    or-left _ (is_check word) (or-right (is_return word || is_b word || is_br word || is_braa word) (is_mov word) e)
+    or_left _ (is_check word) (or_right (is_return word || is_b word || is_br word || is_braa word) (is_mov word) e)
 
 -- a list of quiet instructions
 unfoldable pub IsQuietList : List ℕ → Type 0
@@ -231,7 +233,7 @@ restored-quiet text pc (inside_call (k, i)) =
     let Q : ℕ → Type 0 = λ n. AreWordsAt text n (found.0 ∷ found.1) in
     (found.0, found.1, subst Q (sym i.place) found.2, found.3)
 restored-quiet text pc (at_tail_call t) =
-    elim (or-cases (is_b t.branch) (is_br t.branch) t.branches) [
+    elim (or_cases (is_b t.branch) (is_br t.branch) t.branches) [
       | inl b ↦ (t.branch, [], (t.branch_is, tt), (other-quiet t.branch (b-other t.branch b), b-branch t.branch b))
       | inr br ↦ (t.branch, [], (t.branch_is, tt), (other-quiet t.branch (br-other t.branch br), br-branch t.branch br))
     ]
@@ -260,12 +262,12 @@ run-out mask text count at [] end start s t p stands restore ends r out =
     let P : List ℕ → Type 0 = AreWordsAt text at in
     signed mask start s t p r (run-quiet mask text count at q.0 q.1 s t (subst P q.2 stands) q.3 out)
 run-out mask text zero at (word ∷ restoring) end start s t p stands restore ends r (w, there, branch, step) =
-    let same : w ≡ word = some-same w word (sym there ∙ stands.0) in
+    let same : w ≡ word = same_Some w word (sym there ∙ stands.0) in
     let unlike : is_restoring word ≡ false = branch-not-restoring word (ap is_branch (sym same) ∙ branch) in
     absurd (let yes = restore.0 in cc)
 run-out mask text (suc count) at (word ∷ restoring) end start s t p stands restore ends r
     (w, there, none, u, step, rest) =
-    let same : w ≡ word = some-same w word (sym there ∙ stands.0) in
+    let same : w ≡ word = same_Some w word (sym there ∙ stands.0) in
     let P : ℕ → Type 0 = λ v. Step mask v s u in
     let next =
     step-restored mask word start s u p (is_load word) (is_add_sp word) refl refl restore.0 (subst P same step) r in
@@ -310,7 +312,7 @@ fp-kept r here out new_fp None e fp stands same = fp ∙ stands.fp ∙ ap Some s
 fp-kept r here out new_fp (Some place) e fp stands same = cc
 
 stored : (here : State) (r : Registers) (p : Option ℤ) (z : ℤ) (old : Option ℕ) (word : ℕ) → here.sp ≡ r.sp
-    → IsPlace p z → word_from here.memory (beside r.sp z) ≡ Ok word → value_at here p old ≡ Some word
+    → IsPlaceInWords p z → word_from here.memory (beside r.sp z) ≡ Ok word → value_at here p old ≡ Some word
 unfolding value_at
 stored here r None z old word sp is read = elim is [ ]
 stored here r (Some place) z old word sp is read =

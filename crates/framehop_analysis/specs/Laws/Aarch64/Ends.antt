@@ -1,10 +1,10 @@
 -- Epilogues on aarch64, read forwards word by word: the rest of an epilogue from one place to the next.
 use Rattle.std.proofs.Common.{◌≡◌, ◌↔◌, ℕ, ◌+◌, ◌-◌, ◌*◌, ◌<◌, ◌≤◌, ℤ, true, false, IsTrue, nat_lt, List, [], ◌∷◌, ◌++◌, length, Some, sym, ap, ◌∙◌, subst, arith}
 use Rattle.std.proofs.lemmas.Bool.Decides.{nat_tests}
+use Rattle.std.proofs.lemmas.Option.{same_Some}
 use Rattle.framehop_core.specs.declared.aarch64.unwind_rule.UnwindRuleAarch64.{UnwindRuleAarch64}
 use Rattle.framehop_analysis.specs.Aarch64.Words.{word_at, AreWordsAt}
 use Rattle.framehop_analysis.specs.Aarch64.Epilogue.{Places, is_restoring, places_after, places_after_all, AllRestoring, IsAuthenticatedCall, IsEnd, IsInsideCallAfter, IsRuleOfPlaces, IsRestOfEpilogue}
-use Rattle.framehop_analysis.specs.Laws.Answer.{some-same}
 use Rattle.framehop_analysis.specs.Laws.Aarch64.Calls.{call-same, call-short, end-not-restoring}
 
 -- what an epilogue ends with, at an offset where its instructions have moved sp by so many bytes
@@ -64,7 +64,7 @@ rest-forward text at word places there is rule rest =
       forward [] end stands restore ends made =
           let unlike : is_restoring word ≡ false = end-not-restoring text at word places.sp end ends stands there in cc
       forward (w ∷ restoring) end stands restore ends made =
-          let same : w ≡ word = some-same w word (sym stands.0 ∙ there) in
+          let same : w ≡ word = same_Some w word (sym stands.0 ∙ there) in
           let P : ℕ → Type 0 = λ v. IsRestOfEpilogue text (at + 4) (places_after places v) rule in
           subst P same (record {
             restoring = restoring;

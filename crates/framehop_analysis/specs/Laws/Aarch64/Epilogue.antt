@@ -7,7 +7,7 @@ use Rattle.framehop_core.specs.declared.aarch64.unwind_rule.UnwindRuleAarch64.Th
 use Rattle.framehop_analysis.specs.Answer.{Decided}
 use Rattle.framehop_analysis.specs.Aarch64.Words.{word_at, AreWordsAt, is_return, is_b, is_br, is_braa, is_mov}
 use Rattle.framehop_analysis.specs.Aarch64.Units.{IsUnitsOf16}
-use Rattle.framehop_analysis.specs.Aarch64.Epilogue.{Places, at_pc, is_restoring, places_after, check_words, IsAuthenticatedCall, by_b, by_braa, returns, branches, calls, moves_sp, IsInsideCallAfter, IsInsideCall, IsAtTailCall, IsRestored, inside_call, at_tail_call, IsPlace, IsRuleOfPlaces, IsRestOfEpilogue, IsEpilogueRule, restored, restores}
+use Rattle.framehop_analysis.specs.Aarch64.Epilogue.{Places, at_pc, is_restoring, places_after, check_words, IsAuthenticatedCall, by_b, by_braa, returns, branches, calls, moves_sp, IsInsideCallAfter, IsInsideCall, IsAtTailCall, IsRestored, inside_call, at_tail_call, IsPlaceInWords, IsRuleOfPlaces, IsRestOfEpilogue, IsEpilogueRule, restored, restores}
 use Rattle.framehop_analysis.specs.Laws.Answer.{only-map, Decidable, Passes, decidable-map, decidable-and, decidable-or, true-decidable, le-decidable, is-decidable, passes-decidable}
 use Rattle.framehop_analysis.specs.Laws.Aarch64.Units.{units_of_16-decided, units_of_8-decided}
 use Rattle.framehop_analysis.specs.Laws.Aarch64.Prologue.{none-decidable}
@@ -155,7 +155,7 @@ ends-decidable text at by =
 abbrev MadeOf : ℤ → Option ℤ → Option ℤ → UnwindRuleAarch64 → Type 0
 MadeOf sp fp lr rule = IsRuleOfPlaces (record { sp = sp; fp = fp; lr = lr }) rule
 
-place-decided : (place : Option ℤ) → Decided (IsPlace place)
+place-decided : (place : Option ℤ) → Decided (IsPlaceInWords place)
 place-decided None = (None, λ y is. is)
 place-decided (Some place) = units_of_8-decided place
 
@@ -186,7 +186,7 @@ offset-only sp n is only rule made = absurd made
 
 -- where lr is restored and fp is not
 lr-made : (sp place : ℤ) (rule : UnwindRuleAarch64) → MadeOf sp None (Some place) rule
-    → (x : ℕ) × (z : ℤ) × (rule ≡ OffsetSpAndRestoreLr x z) × IsUnitsOf16 sp x × IsPlace (Some place) z
+    → (x : ℕ) × (z : ℤ) × (rule ≡ OffsetSpAndRestoreLr x z) × IsUnitsOf16 sp x × IsPlaceInWords (Some place) z
 lr-made sp place NoOp made = (let e = made.2 in cc)
 lr-made sp place (OffsetSp x) made = (let e = made.3 in cc)
 lr-made sp place (OffsetSpAndRestoreLr x z) made = (x, z, refl, made.0, made.2)
@@ -196,15 +196,15 @@ lr-made sp place rule made = absurd made
 -- where fp is restored
 fp-made : (sp place : ℤ) (lr : Option ℤ) (rule : UnwindRuleAarch64) → MadeOf sp (Some place) lr rule
     → (x : ℕ) × (y z : ℤ) × (rule ≡ OffsetSpAndRestoreFpAndLr x y z) × IsUnitsOf16 sp x
-    × IsPlace (Some place) y × IsPlace lr z
+    × IsPlaceInWords (Some place) y × IsPlaceInWords lr z
 fp-made sp place lr NoOp made = (let e = made.1 in cc)
 fp-made sp place lr (OffsetSp x) made = (let e = made.2 in cc)
 fp-made sp place lr (OffsetSpAndRestoreLr x z) made = (let e = made.1 in cc)
 fp-made sp place lr (OffsetSpAndRestoreFpAndLr x y z) made = (x, y, z, refl, made.0, made.1, made.2)
 fp-made sp place lr rule made = absurd made
 
-made-decided : (sp : ℤ) (fp lr : Option ℤ) → Decided (IsUnitsOf16 sp) → Decided (IsPlace fp) → Decided (IsPlace lr)
-    → Decided (MadeOf sp fp lr)
+made-decided : (sp : ℤ) (fp lr : Option ℤ) → Decided (IsUnitsOf16 sp) → Decided (IsPlaceInWords fp)
+    → Decided (IsPlaceInWords lr) → Decided (MadeOf sp fp lr)
 made-decided sp fp lr (None, none) y z = (None, no-units sp fp lr none)
 made-decided sp None None (Some zero, is) y z =
     let e = is.0.0 in (Some NoOp, ((omega (arith, ints), refl, refl), zero-only sp is.1))

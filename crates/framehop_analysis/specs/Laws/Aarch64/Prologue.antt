@@ -1,13 +1,14 @@
 -- The rule of a prologue on aarch64, constructed with the proof that it is the only one.
 use Rattle.std.proofs.Common.{◌≡◌, ◌≢◌, inl, inr, ℕ, zero, suc, ◌+◌, ◌-◌, ◌*◌, ◌/◌, ℤ, pos, negsuc, true, List, [], ◌∷◌, length, Option, Some, None, refl, sym, ap, ◌∙◌, subst, arith}
 use Rattle.std.proofs.lemmas.Int.{ints}
+use Rattle.std.proofs.lemmas.Option.{same_Some}
 use Rattle.framehop_core.specs.declared.aarch64.unwind_rule.UnwindRuleAarch64.{UnwindRuleAarch64}
 use Rattle.framehop_core.specs.declared.aarch64.unwind_rule.UnwindRuleAarch64.TheVariants.{NoOp, OffsetSp}
 use Rattle.framehop_analysis.specs.Answer.{IsOnly, Decided}
 use Rattle.framehop_analysis.specs.Aarch64.Words.{word_at}
 use Rattle.framehop_analysis.specs.Aarch64.Units.{IsUnitsOf16}
 use Rattle.framehop_analysis.specs.Aarch64.Prologue.{is_run_word, lowered, IsRun, IsLongestRun, is_prologue_word, is_plain_store, IsRuleOfDepth, IsPrologueRule}
-use Rattle.framehop_analysis.specs.Laws.Answer.{only-map, some-same, Decidable, decidable-map, decidable-and, true-decidable, eq-decidable, passes-decidable}
+use Rattle.framehop_analysis.specs.Laws.Answer.{only-map, Decidable, decidable-map, decidable-and, true-decidable, eq-decidable, passes-decidable}
 use Rattle.framehop_analysis.specs.Laws.Aarch64.Units.{units_of_16-decided}
 use Rattle.framehop_analysis.specs.Laws.Aarch64.Runs.{longest-run, longest-same}
 
@@ -18,7 +19,7 @@ pub too_early : (before after run : List ℕ) (next : ℕ) → IsLongestRun befo
     → word_at after 0 ≡ Some next → is_plain_store next ≡ true → (rule : UnwindRuleAarch64)
     → IsPrologueRule before after rule → ⊥
 too_early before after run next longest unmoved next_is plain rule p =
-    let same : p.next ≡ next = some-same p.next next (sym p.next_is ∙ next_is) in
+    let same : p.next ≡ next = same_Some p.next next (sym p.next_is ∙ next_is) in
     p.expected.moved (ap is_plain_store same ∙ plain)
     (ap lowered (longest-same before p.run run p.longest longest) ∙ unmoved)
 

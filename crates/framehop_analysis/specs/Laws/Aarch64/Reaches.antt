@@ -1,36 +1,35 @@
 -- The machine of aarch64 goes through what has been read: a prologue's run, and an epilogue to its end.
 use Rattle.std.proofs.Common.{◌≡◌, ◌≢◌, inl, inr, ℕ, suc, ◌+◌, ◌*◌, ◌/◌, ◌%◌, ◌^◌, pos, ◌-ℤ◌, Bool, true, false, ◌||◌, ◌==◌, List, [], ◌∷◌, ◌++◌, refl, sym, ap, ◌∙◌, subst, arith, bit_and}
 use Rattle.std.proofs.lemmas.Nat.{and_assoc, and_shr, and_mod, shr-shr}
+use Rattle.std.proofs.lemmas.Bool.{eqb-true, and_parts, or_cases, or_left, or_right, false_from_ne_true}
 use Rattle.framehop_core.specs.declared.aarch64.unwind_rule.UnwindRuleAarch64.{UnwindRuleAarch64}
-use Rattle.framehop_analysis.specs.Aarch64.Words.{AreWordsAt, bits_at, is_store, is_load, is_sub_sp, is_add_sp, is_signing, is_pacibsp, is_autibsp, is_other, is_b, is_mov, is_check, is_branch, immediate}
+use Rattle.framehop_core.specs.Bits.{bits_at}
+use Rattle.framehop_analysis.specs.Aarch64.Words.{AreWordsAt, is_store, is_load, is_sub_sp, is_add_sp, is_signing, is_pacibsp, is_autibsp, is_other, is_b, is_mov, is_check, is_branch, immediate}
 use Rattle.framehop_analysis.specs.Aarch64.Machine.{State, Step, Run, RunOut, sp_after_access, after_load, with_sp_moved}
 use Rattle.framehop_analysis.specs.Aarch64.Prologue.{is_run_word, IsRun, IsPrologueRule, ReachesFrom}
 use Rattle.framehop_analysis.specs.Aarch64.Epilogue.{Places, at_pc, is_restoring, places_after, places_after_all, AllRestoring, IsEnd, IsEpilogueRule, restored, restores, EndsFrom}
-use Rattle.framehop_analysis.specs.Laws.Aarch64.Calls.{eq-true, and-left, or-left, or-right, or-cases, not-true, pair-high, b-high, branch-high, branch-not-restoring}
+use Rattle.framehop_analysis.specs.Laws.Aarch64.Calls.{pair-high, load-high, b-high, branch-high, branch-not-restoring}
 use Rattle.framehop_analysis.specs.Laws.Aarch64.Does.{is_quiet, IsQuiet, IsQuietList, end-quiet, restored-quiet}
 
 -- ---- words of different shapes
 
 sub-high : (word : ℕ) → is_sub_sp word ≡ true → bits_at word 25 7 ≡ 0x68
 sub-high word e =
-    let code : word / 2 ^ 23 % 2 ^ 9 ≡ 0x1A2 = eq-true _ _ (and-left _ _ (and-left _ _ e)) in
+    let code : word / 2 ^ 23 % 2 ^ 9 ≡ 0x1A2 = eqb-true _ _ (and_parts _ _ (and_parts _ _ e).0).0 in
     let split = shr-shr word 23 2 in omega arith
 
 add-high : (word : ℕ) → is_add_sp word ≡ true → bits_at word 25 7 ≡ 0x48
 add-high word e =
-    let code : word / 2 ^ 23 % 2 ^ 9 ≡ 0x122 = eq-true _ _ (and-left _ _ (and-left _ _ e)) in
+    let code : word / 2 ^ 23 % 2 ^ 9 ≡ 0x122 = eqb-true _ _ (and_parts _ _ (and_parts _ _ e).0).0 in
     let split = shr-shr word 23 2 in omega arith
 
 store-high : (word : ℕ) → is_store word ≡ true → bit_and (bits_at word 25 7) 0x5F ≡ 0x54
-store-high word e = pair-high word 0x2A0 (eq-true _ _ (and-left _ _ e)) refl
-
-load-high : (word : ℕ) → is_load word ≡ true → bit_and (bits_at word 25 7) 0x5F ≡ 0x54
-load-high word e = pair-high word 0x2A1 (eq-true _ _ (and-left _ _ e)) refl
+store-high word e = pair-high word 0x2A0 (eqb-true _ _ (and_parts _ _ e).0) refl
 
 store-load : (word : ℕ) → is_store word ≡ true → is_load word ≡ true → ⊥
 store-load word store load =
-    let a : bit_and (word / 2 ^ 22) 0x2F9 ≡ 0x2A0 = eq-true _ _ (and-left _ _ store) in
-    let b : bit_and (word / 2 ^ 22) 0x2F9 ≡ 0x2A1 = eq-true _ _ (and-left _ _ load) in omega arith
+    let a : bit_and (word / 2 ^ 22) 0x2F9 ≡ 0x2A0 = eqb-true _ _ (and_parts _ _ store).0 in
+    let b : bit_and (word / 2 ^ 22) 0x2F9 ≡ 0x2A1 = eqb-true _ _ (and_parts _ _ load).0 in omega arith
 
 -- the highest bits are none of those of a pair access, a `sub` or an `add`
 record IsApart (high : ℕ) : Type 0 where
@@ -47,7 +46,7 @@ apart-word word literal e a = apart-number word (bits_at literal 25 7) (ap (λ n
 mov-apart : (word : ℕ) → is_mov word ≡ true → IsApart (bits_at word 25 7)
 mov-apart word e =
     let high = bits_at word 25 7 in
-    let field : bit_and (word / 2 ^ 23) 0x1C7 ≡ 0x185 = eq-true _ _ (and-left _ _ e) in
+    let field : bit_and (word / 2 ^ 23) 0x1C7 ≡ 0x185 = eqb-true _ _ (and_parts _ _ e).0 in
     let shifted : bit_and (word / 2 ^ 25) 0x71 ≡ 0x61 =
     ap (λ n. bit_and n 0x71) (sym (shr-shr word 23 2)) ∙ sym (and_shr (word / 2 ^ 23) 0x1C7 2)
     ∙ ap (λ n. n / 2 ^ 2) field in
@@ -76,33 +75,33 @@ b-apart word b = elim (b-high word b) [
 ]
 
 branch-apart : (word : ℕ) → is_branch word ≡ true → IsApart (bits_at word 25 7)
-branch-apart word e = elim (or-cases (is_b word) (bits_at word 25 7 == 0x6B) e) [
+branch-apart word e = elim (or_cases (is_b word) (bits_at word 25 7 == 0x6B) e) [
   | inl b ↦ b-apart word b
-  | inr register ↦ apart-number word 107 (eq-true _ _ register) (numeral 107 refl refl refl)
+  | inr register ↦ apart-number word 107 (eqb-true _ _ register) (numeral 107 refl refl refl)
 ]
 
 check-apart : (word : ℕ) → is_check word ≡ true → IsApart (bits_at word 25 7)
-check-apart word e = elim (or-cases ((word == 0xCA1E07D0) || (word == 0xB6F00050)) (word == 0xD4388E20) e) [
-  | inl two ↦ elim (or-cases (word == 0xCA1E07D0) (word == 0xB6F00050) two) [
-    | inl eor ↦ apart-word word 0xCA1E07D0 (eq-true _ _ eor) (numeral _ refl refl refl)
-    | inr tbz ↦ apart-word word 0xB6F00050 (eq-true _ _ tbz) (numeral _ refl refl refl)
+check-apart word e = elim (or_cases ((word == 0xCA1E07D0) || (word == 0xB6F00050)) (word == 0xD4388E20) e) [
+  | inl two ↦ elim (or_cases (word == 0xCA1E07D0) (word == 0xB6F00050) two) [
+    | inl eor ↦ apart-word word 0xCA1E07D0 (eqb-true _ _ eor) (numeral _ refl refl refl)
+    | inr tbz ↦ apart-word word 0xB6F00050 (eqb-true _ _ tbz) (numeral _ refl refl refl)
   ]
-  | inr brk ↦ apart-word word 0xD4388E20 (eq-true _ _ brk) (numeral _ refl refl refl)
+  | inr brk ↦ apart-word word 0xD4388E20 (eqb-true _ _ brk) (numeral _ refl refl refl)
 ]
 
 other-apart : (word : ℕ) → is_other word ≡ true → IsApart (bits_at word 25 7)
-other-apart word e = elim (or-cases _ (is_check word) e) [
+other-apart word e = elim (or_cases _ (is_check word) e) [
   | inr check ↦ check-apart word check
-  | inl five ↦ elim (or-cases _ (is_mov word) five) [
+  | inl five ↦ elim (or_cases _ (is_mov word) five) [
     | inr mov ↦ mov-apart word mov
     | inl four ↦ branch-apart word (branch-high word four)
   ]
 ]
 
 signing-apart : (word : ℕ) → is_signing word ≡ true → IsApart (bits_at word 25 7)
-signing-apart word e = elim (or-cases (is_pacibsp word) (is_autibsp word) e) [
-  | inl pac ↦ apart-word word 0xD503237F (eq-true _ _ pac) (numeral _ refl refl refl)
-  | inr aut ↦ apart-word word 0xD50323FF (eq-true _ _ aut) (numeral _ refl refl refl)
+signing-apart word e = elim (or_cases (is_pacibsp word) (is_autibsp word) e) [
+  | inl pac ↦ apart-word word 0xD503237F (eqb-true _ _ pac) (numeral _ refl refl refl)
+  | inr aut ↦ apart-word word 0xD50323FF (eqb-true _ _ aut) (numeral _ refl refl refl)
 ]
 
 -- ---- steps
@@ -111,7 +110,7 @@ load-step : (mask word : ℕ) (s : State) → is_load word ≡ true → Step mas
 load-step mask word s load =
     let high = load-high word load in
     record {
-      known = or-left _ _ (or-left _ _ (or-left _ _ (or-left _ _ (or-right (is_store word) (is_load word) load))));
+      known = or_left _ _ (or_left _ _ (or_left _ _ (or_left _ _ (or_right (is_store word) (is_load word) load))));
       stores = λ store. absurd (store-load word store load);
       loads = λ l. refl;
       subs = λ sub. absurd (let t : 0x48 ≡ 0x54 = ap (λ n. bit_and n 0x5F) (sym (sub-high word sub)) ∙ high in
@@ -127,7 +126,7 @@ store-step : (mask word : ℕ) (s : State) → is_store word ≡ true
 store-step mask word s store =
     let high = store-high word store in
     record {
-      known = or-left _ _ (or-left _ _ (or-left _ _ (or-left _ _ (or-left (is_store word) (is_load word) store))));
+      known = or_left _ _ (or_left _ _ (or_left _ _ (or_left _ _ (or_left (is_store word) (is_load word) store))));
       stores = λ s. refl;
       loads = λ load. absurd (store-load word store load);
       subs = λ sub. absurd (let t : 0x48 ≡ 0x54 = ap (λ n. bit_and n 0x5F) (sym (sub-high word sub)) ∙ high in
@@ -143,7 +142,7 @@ sub-step : (mask word : ℕ) (s : State) → is_sub_sp word ≡ true
 sub-step mask word s sub =
     let high = sub-high word sub in
     record {
-      known = or-left _ _ (or-left _ _ (or-left _ _ (or-right _ (is_sub_sp word) sub)));
+      known = or_left _ _ (or_left _ _ (or_left _ _ (or_right _ (is_sub_sp word) sub)));
       stores = λ store. absurd (let t : 0x48 ≡ 0x54 = ap (λ n. bit_and n 0x5F) (sym high) ∙ store-high word store in
           omega arith);
       loads = λ load. absurd (let t : 0x48 ≡ 0x54 = ap (λ n. bit_and n 0x5F) (sym high) ∙ load-high word load in
@@ -159,7 +158,7 @@ add-step : (mask word : ℕ) (s : State) → is_add_sp word ≡ true
 add-step mask word s add =
     let high = add-high word add in
     record {
-      known = or-left _ _ (or-left _ _ (or-right _ (is_add_sp word) add));
+      known = or_left _ _ (or_left _ _ (or_right _ (is_add_sp word) add));
       stores = λ store. absurd (let t : 0x48 ≡ 0x54 = ap (λ n. bit_and n 0x5F) (sym high) ∙ store-high word store in
           omega arith);
       loads = λ load. absurd (let t : 0x48 ≡ 0x54 = ap (λ n. bit_and n 0x5F) (sym high) ∙ load-high word load in
@@ -172,13 +171,13 @@ add-step mask word s add =
 
 quiet-known : (word : ℕ) → (is_signing word || is_other word) ≡ true
     → (is_store word || is_load word || is_sub_sp word || is_add_sp word || is_signing word || is_other word) ≡ true
-quiet-known word e = elim (or-cases (is_signing word) (is_other word) e) [
-  | inl sign ↦ or-left _ _ (or-right _ (is_signing word) sign)
-  | inr other ↦ or-right _ (is_other word) other
+quiet-known word e = elim (or_cases (is_signing word) (is_other word) e) [
+  | inl sign ↦ or_left _ _ (or_right _ (is_signing word) sign)
+  | inr other ↦ or_right _ (is_other word) other
 ]
 
 quiet-apart : (word : ℕ) → (is_signing word || is_other word) ≡ true → IsApart (bits_at word 25 7)
-quiet-apart word e = elim (or-cases (is_signing word) (is_other word) e) [
+quiet-apart word e = elim (or_cases (is_signing word) (is_other word) e) [
   | inl sign ↦ signing-apart word sign
   | inr other ↦ other-apart word other
 ]
@@ -215,7 +214,7 @@ quiet-ending mask text at word (next ∷ words) s false branch_is stands quiet =
     (suc rest.0, rest.1, (word, stands.0, branch_is, s, quiet-step mask word s quiet.0, rest.2))
 
 restoring-step : (mask word : ℕ) (s : State) → is_restoring word ≡ true → (t : State) × Step mask word s t
-restoring-step mask word s e = elim (or-cases (is_load word) (is_add_sp word) e) [
+restoring-step mask word s e = elim (or_cases (is_load word) (is_add_sp word) e) [
   | inl load ↦ (after_load word s, load-step mask word s load)
   | inr add ↦ (with_sp_moved s (pos (immediate word)), add-step mask word s add)
 ]
@@ -231,7 +230,7 @@ restoring-ending mask text at [] end p s stands restore ends =
 restoring-ending mask text at (word ∷ restoring) end p s stands restore ends =
     let step = restoring-step mask word s restore.0 in
     let rest = restoring-ending mask text (at + 4) restoring end (places_after p word) step.0 stands.1 restore.1 ends in
-    let none : is_branch word ≡ false = not-true (is_branch word) (λ branch. let t =
+    let none : is_branch word ≡ false = false_from_ne_true (is_branch word) (λ branch. let t =
     branch-not-restoring word branch in let u = restore.0 in cc) in
     (suc rest.0, rest.1, (word, stands.0, none, step.0, step.1, rest.2))
 
@@ -246,12 +245,12 @@ ends-from text pc rule (restores not_restored rest) = λ mask here.
 
 run-step : (mask word : ℕ) (s : State) → is_run_word word ≡ true → (t : State) × Step mask word s t
 unfolding is_quiet
-run-step mask word s e = elim (or-cases (is_pacibsp word || is_store word) (is_sub_sp word) e) [
-  | inl first ↦ elim (or-cases (is_pacibsp word) (is_store word) first) [
+run-step mask word s e = elim (or_cases (is_pacibsp word || is_store word) (is_sub_sp word) e) [
+  | inl first ↦ elim (or_cases (is_pacibsp word) (is_store word) first) [
     | inl sign ↦ (
       s,
       quiet-step mask word s
-          (or-left (is_signing word) (is_other word) (or-left (is_pacibsp word) (is_autibsp word) sign)),
+          (or_left (is_signing word) (is_other word) (or_left (is_pacibsp word) (is_autibsp word) sign)),
     )
     | inr store ↦ (record s { sp = sp_after_access word s.sp }, store-step mask word s store)
   ]

@@ -2,8 +2,8 @@
 use Rattle.std.proofs.Common.{◌≡◌, ◌⊎◌, inl, inr, ℕ, zero, suc, ◌+◌, ◌-◌, ◌*◌, ◌/◌, ◌<◌, ◌≤◌, ℤ, pos, negsuc, ◌+ℤ◌, ◌*ℤ◌, ◌≤ℤ◌, true, List, [], ◌∷◌, length, Some, refl, sym, ap, ◌∙◌, arith}
 use Rattle.std.proofs.lemmas.Bool.{cases_lt}
 use Rattle.std.proofs.lemmas.Int.{ints}
+use Rattle.std.proofs.lemmas.Option.{same_Some}
 use Rattle.framehop_analysis.specs.Aarch64.Words.{word_at}
-use Rattle.framehop_analysis.specs.Laws.Answer.{some-same}
 use Rattle.framehop_analysis.specs.Aarch64.Prologue.{is_run_word, lowered_by, lowered, IsRun, IsLongestRun}
 
 -- what the walk backwards has read so far: a run that ends at the pc, and how far it lowers sp
@@ -58,7 +58,7 @@ runs-same bytes at [] [] a b e = refl
 runs-same bytes at [] (y ∷ ys) a b e = absurd (omega arith)
 runs-same bytes at (x ∷ xs) [] a b e = absurd (omega arith)
 runs-same bytes at (x ∷ xs) (y ∷ ys) a b e =
-    let here : x ≡ y = some-same x y (sym a.0 ∙ b.0) in
+    let here : x ≡ y = same_Some x y (sym a.0 ∙ b.0) in
     let rest : xs ≡ ys = runs-same bytes (at + 4) xs ys a.2 b.2 (omega arith) in
     cc
 

@@ -1,5 +1,5 @@
 -- The rule of a prologue on aarch64 undoes its run.
-use Rattle.std.proofs.Common.{◌≡◌, ℕ, ◌+◌, ◌*◌, ◌^◌, ◌<◌, ℤ, pos, ◌+ℤ◌, ◌-ℤ◌, Bool, true, false, cond, nat_eq, Result, Ok, not, ◌||◌, List, [], ◌∷◌, Option, Some, None, refl, sym, ap, ◌∙◌, subst, arith}
+use Rattle.std.proofs.Common.{◌≡◌, ℕ, ◌+◌, ◌*◌, ◌^◌, ◌<◌, ℤ, pos, ◌+ℤ◌, ◌-ℤ◌, Bool, true, false, cond, nat_eq, not, ◌||◌, List, [], ◌∷◌, Option, Some, None, refl, sym, ap, ◌∙◌, subst, arith}
 use Rattle.std.specs.Prelude.{option_map}
 use Rattle.std.proofs.lemmas.Int.{ints}
 use Rattle.std.proofs.lemmas.Nat.{and_assoc}
@@ -9,9 +9,9 @@ use Rattle.framehop_core.specs.Outcome.{answered, above}
 use Rattle.framehop_core.specs.Aarch64.Registers.{Registers, strip_ptr_auth}
 use Rattle.framehop_core.specs.Aarch64.Rules.{nothing_more, kept, outcome}
 use Rattle.framehop_core.specs.Laws.Aarch64.{IsCaller, caller-answered}
-use Rattle.framehop_core.specs.declared.error.Error.{Error}
 use Rattle.framehop_core.specs.declared.aarch64.unwind_rule.UnwindRuleAarch64.{UnwindRuleAarch64}
 use Rattle.framehop_core.specs.declared.aarch64.unwind_rule.UnwindRuleAarch64.TheVariants.{NoOp, NoOpIfFirstFrameOtherwiseFp, OffsetSp, OffsetSpIfFirstFrameOtherwiseStackEndsHere, OffsetSpAndRestoreLr, OffsetSpAndRestoreFpAndLr, UseFramePointer, UseFramepointerWithOffsets}
+use Rattle.framehop_core.specs.Laws.Basics.{ok-same}
 use Rattle.framehop_analysis.specs.Aarch64.Words.{is_store, is_sub_sp, is_pacibsp, addressing, is_indexed, pair_offset, immediate}
 use Rattle.framehop_analysis.specs.Aarch64.Machine.{State, Step, Run, SameAddress, HasRegisters, offset_by}
 use Rattle.framehop_analysis.specs.Aarch64.Prologue.{lowered_by, lowered, IsRun, IsRuleOfDepth, IsPrologueRule, UndoesPrologue}
@@ -107,9 +107,6 @@ entry-sp entry here n depth x fits here_is depth_is sum n_fits =
     ∙ ap (offset_by entry) cancels
     ∙ offset_by-zero entry fits in
     sym there ∙ back
-
-pub ok-same : (m n : ℕ) → ◌≡◌ {A = Result ℕ Error} (Ok m) (Ok n) → m ≡ n
-ok-same m n e = cc
 
 -- a rule that adds an offset to sp and keeps the other registers
 offset-undoes : (mask : ℕ) (depth : ℤ) (x : ℕ) (sp : ℤ) (r new : Registers) (entry here : State) (address : ℕ)

@@ -1,6 +1,7 @@
 -- The rule of an epilogue on x86_64 does what the machine does.
 use Rattle.std.proofs.Common.{◌≡◌, ℕ, zero, suc, ◌+◌, ◌*◌, ◌≤◌, ℤ, pos, Bool, true, false, cond, nat_eq, List, [], ◌∷◌, slice_get, Option, Some, None, Ok, refl, sym, ap, ◌∙◌, subst, arith}
 use Rattle.std.proofs.lemmas.Int.{ints}
+use Rattle.std.proofs.lemmas.Option.{same_Some}
 use Rattle.framehop_core.specs.Memory.{Memory}
 use Rattle.framehop_core.specs.Outcome.{answered, above, beside, word_from}
 use Rattle.framehop_core.specs.X86_64.Registers.{Registers}
@@ -8,12 +9,12 @@ use Rattle.framehop_core.specs.X86_64.Rules.{Source, nothing_more, kept, stored_
 use Rattle.framehop_core.specs.Laws.X86_64.{IsCaller, caller-answered}
 use Rattle.framehop_core.specs.declared.x86_64.unwind_rule.UnwindRuleX86_64.{UnwindRuleX86_64}
 use Rattle.framehop_core.specs.declared.x86_64.unwind_rule.UnwindRuleX86_64.TheVariants.{JustReturn, OffsetSp, OffsetSpAndRestoreBp}
+use Rattle.framehop_core.specs.Laws.Basics.{pos-same, ok-same}
 use Rattle.framehop_analysis.specs.X86_64.Machine.{State, HasRegisters, by_ret, by_jmp_rel8, by_jmp_rel32, by_jmp_rm64, Run, Returns}
 use Rattle.framehop_analysis.specs.X86_64.Epilogue.{ArePops, Popped, none_popped, after_pop, after_pops, IsEnd, IsRuleOfPopped, IsEpilogueRule, IsTakenForEnd, leaves, other, DoesEpilogue}
-use Rattle.framehop_analysis.specs.Laws.Answer.{some-same}
 use Rattle.framehop_analysis.specs.Laws.X86_64.Pops.{pop-low, end-high}
 use Rattle.framehop_analysis.specs.Laws.X86_64.Steps.{step-low, IsSamePop, step-pop}
-use Rattle.framehop_analysis.specs.Laws.X86_64.Undoes.{ok-same, pos-same, read-word, IsFound, found, at-memory}
+use Rattle.framehop_analysis.specs.Laws.X86_64.Undoes.{read-word, IsFound, found, at-memory}
 
 -- ---- ends
 
@@ -63,12 +64,12 @@ run-out text pc zero at end last n [] start s out p stand ends r (same, e) taken
 run-out text pc (suc count) at end last n [] start s out p stand ends r (next, u, step, rest) taken =
     let high = end-high text pc last n ends in
     let low = step-low text at next s u step in
-    let same = some-same low.0 high.0 (sym low.1 ∙ ap (slice_get text) stand ∙ high.1) in
+    let same = same_Some low.0 high.0 (sym low.1 ∙ ap (slice_get text) stand ∙ high.1) in
     let above = high.2 in let below = low.2 in absurd (omega arith)
 run-out text pc zero at end last n (is_bp ∷ pops) start s out p (size, pop, stand) ends r (here, e) taken =
     let high = taken-high text end taken in
     let low = pop-low text at size is_bp pop in
-    let same = some-same low.0 high.0 (sym low.1 ∙ ap (slice_get text) here ∙ high.1) in
+    let same = same_Some low.0 high.0 (sym low.1 ∙ ap (slice_get text) here ∙ high.1) in
     let above = high.2 in let below = low.2 in absurd (omega arith)
 run-out text pc (suc count) at end last n (is_bp ∷ pops) start s out p (size, pop, stand) ends r
     (next, u, step, rest) taken =
@@ -113,7 +114,7 @@ bp-stored : (r : Registers) (here : State) (found : Option ℕ) (before new_bp :
 unfolding bp_at
 bp-stored r here None before new_bp e stands read = cc
 bp-stored r here (Some n) before new_bp e stands read =
-    let same : n ≡ before = some-same n before e in
+    let same : n ≡ before = same_Some n before e in
     let at = stands.sp in
     read-word here.memory (beside r.rsp (pos before)) (here.sp + 8 * n) new_bp (omega (arith, ints)) read
 

@@ -1,12 +1,12 @@
 -- The rule of an epilogue on x86_64, constructed with the proof that it is the only one.
 use Rattle.std.proofs.Common.{◌≡◌, ◌⊎◌, inl, inr, ℕ, zero, suc, ◌+◌, ◌-◌, ◌^◌, ◌<◌, ◌≤◌, pos, Bool, false, ◌==◌, List, length, slice_get, Option, Some, None, refl, sym, ap, ◌∙◌, arith}
-use Rattle.std.proofs.lemmas.Option.{slice_get_within}
+use Rattle.std.proofs.lemmas.Option.{slice_get_within, same_Some}
 use Rattle.framehop_core.specs.declared.x86_64.unwind_rule.UnwindRuleX86_64.{UnwindRuleX86_64}
 use Rattle.framehop_core.specs.declared.x86_64.unwind_rule.UnwindRuleX86_64.TheVariants.{JustReturn, OffsetSp, OffsetSpAndRestoreBp}
 use Rattle.framehop_analysis.specs.Answer.{Decided}
 use Rattle.framehop_analysis.specs.X86_64.Bytes.{is_pop_opcode}
 use Rattle.framehop_analysis.specs.X86_64.Epilogue.{is_plain_pop, IsPopBytes, alone, after_40, after_41, Popped, none_popped, after_pop, is_jump, FollowsPop, IsEnd, returns, jumps, IsRuleOfPopped, IsEpilogueRule}
-use Rattle.framehop_analysis.specs.Laws.Answer.{Decidable, Passes, decidable-map, decidable-and, lt-decidable, le-decidable, is-decidable, passes-decidable, some-same}
+use Rattle.framehop_analysis.specs.Laws.Answer.{Decidable, Passes, decidable-map, decidable-and, lt-decidable, le-decidable, is-decidable, passes-decidable}
 use Rattle.framehop_analysis.specs.Laws.X86_64.Pops.{pop-low, NoPop, IsReadUpTo, read-none, read-more, no-end, only-end}
 
 -- ---- the end
@@ -63,7 +63,7 @@ restore-only n before JustReturn made = (let e : suc n ≡ 0 = made in absurd (o
 restore-only n before (OffsetSp x) made = (let e = made.3 in cc)
 restore-only n before (OffsetSpAndRestoreBp x y) made =
     let e = made.1 in let fits = made.2 in let few = made.6 in
-    let same : before ≡ made.3 = some-same before made.3 made.4 in (
+    let same : before ≡ made.3 = same_Some before made.3 made.4 in (
       ap (λ k. OffsetSpAndRestoreBp k y) e ∙ ap (OffsetSpAndRestoreBp (suc n + 1)) (made.5 ∙ ap pos (sym same)),
       omega arith,
       omega arith,

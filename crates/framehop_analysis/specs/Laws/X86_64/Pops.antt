@@ -1,34 +1,20 @@
 -- Pops on x86_64, read forwards from the pc.
-use Rattle.std.proofs.Common.{◌≡◌, ◌⊎◌, inl, inr, ◌↔◌, ℕ, ◌+◌, ◌/◌, ◌<◌, ◌≤◌, Bool, true, false, ◌&&◌, ◌||◌, ◌==◌, cond, IsTrue, nat_eq, List, [], ◌∷◌, slice_get, Option, Some, refl, sym, ap, ◌∙◌, subst, arith}
-use Rattle.std.proofs.lemmas.Bool.Decides.{nat_tests}
+use Rattle.std.proofs.Common.{◌≡◌, inl, inr, ◌↔◌, ℕ, ◌+◌, ◌/◌, ◌<◌, ◌≤◌, Bool, true, ◌||◌, ◌==◌, cond, IsTrue, List, [], ◌∷◌, slice_get, Option, Some, refl, sym, ap, ◌∙◌, subst, arith}
+use Rattle.std.proofs.lemmas.Bool.{eqb-true, and_parts, or_cases}
+use Rattle.std.proofs.lemmas.Option.{same_Some}
 use Rattle.framehop_core.specs.declared.x86_64.unwind_rule.UnwindRuleX86_64.{UnwindRuleX86_64}
 use Rattle.framehop_analysis.specs.Answer.{IsOnly}
 use Rattle.framehop_analysis.specs.X86_64.Bytes.{is_pop_opcode}
 use Rattle.framehop_analysis.specs.X86_64.Epilogue.{is_plain_pop, IsPopBytes, alone, after_40, after_41, ArePops, Popped, none_popped, after_pop, after_pops, is_jump, FollowsPop, IsEnd, returns, jumps, IsRuleOfPopped, IsRestOfEpilogue, IsEpilogueRule}
-use Rattle.framehop_analysis.specs.Laws.Answer.{only-map, some-same}
-
-pub eq-true : (m n : ℕ) → nat_eq m n ≡ true → m ≡ n
-eq-true m n e = grind (arith, nat_tests)
-
-pub and-left : (a b : Bool) → (a && b) ≡ true → a ≡ true
-and-left true b e = refl
-and-left false b e = cc
-
-pub and-right : (a b : Bool) → (a && b) ≡ true → b ≡ true
-and-right true b e = e
-and-right false b e = cc
-
-pub or-cases : (a b : Bool) → (a || b) ≡ true → (a ≡ true) ⊎ (b ≡ true)
-or-cases true b e = inl refl
-or-cases false b e = inr e
+use Rattle.framehop_analysis.specs.Laws.Answer.{only-map}
 
 -- ---- the first byte
 
 plain-code : (opcode : ℕ) → is_plain_pop opcode ≡ true → opcode / 8 ≡ 11
-plain-code opcode is = eq-true _ _ (and-left _ _ is)
+plain-code opcode is = eqb-true _ _ (and_parts _ _ is).0
 
 pop-code : (opcode : ℕ) → is_pop_opcode opcode ≡ true → opcode / 8 ≡ 11
-pop-code opcode is = eq-true _ _ is
+pop-code opcode is = eqb-true _ _ is
 
 -- a pop begins with a lower byte than an end
 pub pop-low : (text : List ℕ) (at size : ℕ) (is_bp : Bool) → IsPopBytes text at size is_bp
@@ -42,23 +28,23 @@ pop-low text at size is_bp (after_41 opcode first there is size_is bp_is) = (0x4
 pub pop-same : (text : List ℕ) (at m n : ℕ) (b c : Bool) → IsPopBytes text at m b → IsPopBytes text at n c
     → (m ≡ n) × (b ≡ c)
 pop-same text at m n b c (alone x first is m_is b_is) (alone y first' is' n_is c_is) =
-    let same = some-same x y (sym first ∙ first') in
+    let same = same_Some x y (sym first ∙ first') in
     (m_is ∙ sym n_is, b_is ∙ ap (λ byte. byte == 0x5D) same ∙ sym c_is)
 pop-same text at m n b c (alone x first is m_is b_is) (after_40 y first' there is' n_is c_is) =
-    let same = some-same x 0x40 (sym first ∙ first') in let code = plain-code x is in absurd (omega arith)
+    let same = same_Some x 0x40 (sym first ∙ first') in let code = plain-code x is in absurd (omega arith)
 pop-same text at m n b c (alone x first is m_is b_is) (after_41 y first' there is' n_is c_is) =
-    let same = some-same x 0x41 (sym first ∙ first') in let code = plain-code x is in absurd (omega arith)
+    let same = same_Some x 0x41 (sym first ∙ first') in let code = plain-code x is in absurd (omega arith)
 pop-same text at m n b c (after_40 x first there is m_is b_is) (alone y first' is' n_is c_is) =
-    let same = some-same y 0x40 (sym first' ∙ first) in let code = plain-code y is' in absurd (omega arith)
+    let same = same_Some y 0x40 (sym first' ∙ first) in let code = plain-code y is' in absurd (omega arith)
 pop-same text at m n b c (after_40 x first there is m_is b_is) (after_40 y first' there' is' n_is c_is) =
-    let same = some-same x y (sym there ∙ there') in
+    let same = same_Some x y (sym there ∙ there') in
     (m_is ∙ sym n_is, b_is ∙ ap (λ byte. byte == 0x5D) same ∙ sym c_is)
 pop-same text at m n b c (after_40 x first there is m_is b_is) (after_41 y first' there' is' n_is c_is) =
-    let same = some-same 0x40 0x41 (sym first ∙ first') in absurd (omega arith)
+    let same = same_Some 0x40 0x41 (sym first ∙ first') in absurd (omega arith)
 pop-same text at m n b c (after_41 x first there is m_is b_is) (alone y first' is' n_is c_is) =
-    let same = some-same y 0x41 (sym first' ∙ first) in let code = plain-code y is' in absurd (omega arith)
+    let same = same_Some y 0x41 (sym first' ∙ first) in let code = plain-code y is' in absurd (omega arith)
 pop-same text at m n b c (after_41 x first there is m_is b_is) (after_40 y first' there' is' n_is c_is) =
-    let same = some-same 0x41 0x40 (sym first ∙ first') in absurd (omega arith)
+    let same = same_Some 0x41 0x40 (sym first ∙ first') in absurd (omega arith)
 pop-same text at m n b c (after_41 x first there is m_is b_is) (after_41 y first' there' is' n_is c_is) =
     (m_is ∙ sym n_is, b_is ∙ sym c_is)
 
@@ -67,12 +53,12 @@ abbrev pub NoPop : List ℕ → ℕ → Type 0
 NoPop text at = (size : ℕ) (is_bp : Bool) → IsPopBytes text at size is_bp → ⊥
 
 pub jump-high : (opcode : ℕ) → is_jump opcode ≡ true → 96 ≤ opcode
-jump-high opcode e = elim (or-cases ((opcode == 0xEB) || (opcode == 0xE9)) (opcode == 0xFF) e) [
-  | inl first ↦ elim (or-cases (opcode == 0xEB) (opcode == 0xE9) first) [
-    | inl eb ↦ (let same : opcode ≡ 0xEB = eq-true _ _ eb in omega arith)
-    | inr e9 ↦ (let same : opcode ≡ 0xE9 = eq-true _ _ e9 in omega arith)
+jump-high opcode e = elim (or_cases ((opcode == 0xEB) || (opcode == 0xE9)) (opcode == 0xFF) e) [
+  | inl first ↦ elim (or_cases (opcode == 0xEB) (opcode == 0xE9) first) [
+    | inl eb ↦ (let same : opcode ≡ 0xEB = eqb-true _ _ eb in omega arith)
+    | inr e9 ↦ (let same : opcode ≡ 0xE9 = eqb-true _ _ e9 in omega arith)
   ]
-  | inr ff ↦ (let same : opcode ≡ 0xFF = eq-true _ _ ff in omega arith)
+  | inr ff ↦ (let same : opcode ≡ 0xFF = eqb-true _ _ ff in omega arith)
 ]
 
 -- an end begins with a higher byte
@@ -86,7 +72,7 @@ end-not-pop : (text : List ℕ) (pc at count size : ℕ) (is_bp : Bool) → IsEn
 end-not-pop text pc at count size is_bp ends pop =
     let high = end-high text pc at count ends in
     let low = pop-low text at size is_bp pop in
-    let same = some-same high.0 low.0 (sym high.1 ∙ low.1) in
+    let same = same_Some high.0 low.0 (sym high.1 ∙ low.1) in
     let above = high.2 in let below = low.2 in omega arith
 
 -- ---- the end
@@ -97,7 +83,7 @@ pub end-jump : (text : List ℕ) (pc at pops opcode : ℕ) (follows : Bool) → 
 end-jump text pc at pops opcode follows there no_return jump iff =
     (λ t. jumps opcode (sym there) jump (iff.0 t), λ e. from_end e) where
       from_end : IsEnd text pc at pops → IsTrue follows
-      from_end (returns here) = absurd (no_return (some-same opcode 0xC3 (there ∙ here)))
+      from_end (returns here) = absurd (no_return (same_Some opcode 0xC3 (there ∙ here)))
       from_end (jumps other here is follow) = iff.1 follow
 
 -- ---- the rest of an epilogue

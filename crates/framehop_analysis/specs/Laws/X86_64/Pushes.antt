@@ -1,17 +1,18 @@
 -- Pushes on x86_64, walked backwards from the pc.
 use Rattle.std.proofs.Common.{◌≡◌, ◌⊎◌, inl, inr, ℕ, zero, suc, ◌+◌, ◌-◌, ◌/◌, ◌<◌, ◌≤◌, true, false, List, slice_get, Option, Some, None, refl, sym, ap, ◌∙◌, subst, arith}
+use Rattle.std.proofs.lemmas.Bool.{eqb-true}
+use Rattle.std.proofs.lemmas.Option.{same_Some}
 use Rattle.framehop_core.specs.declared.x86_64.unwind_rule.UnwindRuleX86_64.{UnwindRuleX86_64}
 use Rattle.framehop_analysis.specs.Answer.{IsOnly}
 use Rattle.framehop_analysis.specs.X86_64.Bytes.{is_prefix, is_push}
 use Rattle.framehop_analysis.specs.X86_64.Prologue.{IsPushBytes, plain, prefixed, IsPrefixBefore, IsPushBefore, ArePushes, AreLongestPushes, IsNext, IsRuleOfPushes, IsPrologueRule}
-use Rattle.framehop_analysis.specs.Laws.Answer.{only-map, some-same}
-use Rattle.framehop_analysis.specs.Laws.X86_64.Pops.{eq-true}
+use Rattle.framehop_analysis.specs.Laws.Answer.{only-map}
 
 -- no byte is both
 push-prefix-apart : (byte : ℕ) → is_push byte ≡ true → is_prefix byte ≡ true → ⊥
 push-prefix-apart byte push prefix =
-    let a : byte / 8 ≡ 10 = eq-true _ _ push in
-    let b : byte / 2 ≡ 32 = eq-true _ _ prefix in
+    let a : byte / 8 ≡ 10 = eqb-true _ _ push in
+    let b : byte / 2 ≡ 32 = eqb-true _ _ prefix in
     omega arith
 
 -- a push ends with its opcode
@@ -104,7 +105,7 @@ walk-back text pc start count before w b = record {
     | inr past ↦
         let found = push-opcode text last' last push' in
         let at : last - 1 ≡ before = (let e = past.0 in omega arith) in
-        let same : found.0 ≡ past.1.0 = some-same found.0 past.1.0 (sym found.2 ∙ ap (slice_get text) at ∙ past.1.1) in
+        let same : found.0 ≡ past.1.0 = same_Some found.0 past.1.0 (sym found.2 ∙ ap (slice_get text) at ∙ past.1.1) in
         absurd (push-prefix-apart past.1.0 (ap is_push (sym same) ∙ found.3) past.1.2)
   ]
 
@@ -144,7 +145,7 @@ pub not-prefixed : (text : List ℕ) (start byte : ℕ) → Some byte ≡ slice_
     → IsPrefixBefore text (start - 1) → ⊥
 not-prefixed text start byte there none p =
     let at : start - 1 - 1 ≡ start - 2 = omega arith in
-    let same : byte ≡ p.0 = some-same byte p.0 (there ∙ ap (slice_get text) (sym at) ∙ p.2) in
+    let same : byte ≡ p.0 = same_Some byte p.0 (there ∙ ap (slice_get text) (sym at) ∙ p.2) in
     (let e = ap is_prefix same in let is = p.3 in cc)
 
 pub no-byte : (text : List ℕ) (start : ℕ) → None ≡ slice_get text (start - 2) → IsPrefixBefore text (start - 1) → ⊥

@@ -1,11 +1,11 @@
 -- The machine of x86_64 goes through what has been read: a prologue up to the pc, and an epilogue to its end.
 use Rattle.std.proofs.Common.{◌≡◌, ◌≢◌, ◌⊎◌, inl, inr, ℕ, zero, suc, ◌+◌, ◌-◌, ◌*◌, ◌/◌, ◌%◌, ◌≤◌, Bool, true, false, nat_eq, cond, ◌||◌, ◌==◌, List, [], ◌∷◌, slice_get, Option, Some, refl, sym, ap, ◌∙◌, subst, arith}
 use Rattle.std.proofs.lemmas.Bool.Decides.{nat_tests}
+use Rattle.std.proofs.lemmas.Bool.{eqb-true, and_parts, or_cases}
 use Rattle.framehop_core.specs.declared.x86_64.unwind_rule.UnwindRuleX86_64.{UnwindRuleX86_64}
 use Rattle.framehop_analysis.specs.X86_64.Machine.{State, short, long, Pushes, Pops, Step, by_push, by_pop, by_move, Run, by_ret, by_jmp_rel8, by_jmp_rel32}
 use Rattle.framehop_analysis.specs.X86_64.Prologue.{IsPushBytes, plain, prefixed, IsFrameSetUpBefore, ArePushes, AreLongestPushes, IsPrologueRule, framed, frameless, ReachesFrom}
 use Rattle.framehop_analysis.specs.X86_64.Epilogue.{IsPopBytes, alone, after_40, after_41, ArePops, is_jump, IsEnd, returns, jumps, IsEpilogueRule, IsTakenForEnd, leaves, other, EndsFrom}
-use Rattle.framehop_analysis.specs.Laws.X86_64.Pops.{eq-true, and-left, or-cases}
 use Rattle.framehop_analysis.specs.Laws.X86_64.Prologue.{frame-decidable}
 use Rattle.framehop_analysis.specs.Laws.X86_64.Pushes.{first-push}
 
@@ -21,7 +21,7 @@ written m n x y same = on (nat_eq m n) refl where
 unwritten : (m n : ℕ) (x y : Option ℕ) → m ≢ n → cond (nat_eq m n) x y ≡ y
 unwritten m n x y apart = on (nat_eq m n) refl where
   on : (test : Bool) → nat_eq m n ≡ test → cond test x y ≡ y
-  on true is = absurd (apart (eq-true m n is))
+  on true is = absurd (apart (eqb-true m n is))
   on false is = refl
 
 -- the state after a push that writes rbp
@@ -51,12 +51,12 @@ after-sp s = refl
 push-step : (text : List ℕ) (at next : ℕ) (s : State) → IsPushBytes text at next → 8 ≤ s.sp
     → Step text at next s (after_push s)
 push-step text at next s (plain o there is next_is) room =
-    let code : o / 8 ≡ 10 = eq-true _ _ is in
+    let code : o / 8 ≡ 10 = eqb-true _ _ is in
     let split : o ≡ 0x50 + o % 8 = omega arith in
     by_push (o % 8) (short (omega arith) (there ∙ ap Some split) next_is) (pushes (o % 8) s room)
 push-step text at next s (prefixed p o before is_pre there is next_is) room =
-    let code : o / 8 ≡ 10 = eq-true _ _ is in
-    let rex : p / 2 ≡ 32 = eq-true _ _ is_pre in
+    let code : o / 8 ≡ 10 = eqb-true _ _ is in
+    let rex : p / 2 ≡ 32 = eqb-true _ _ is_pre in
     let low : o ≡ 0x50 + o % 8 = omega arith in
     let high : p ≡ 0x40 + p % 2 = omega arith in
     let register = o % 8 + 8 * (p % 2) in
@@ -155,11 +155,11 @@ pops register s = record { sp = λ other. refl; bp = refl; memory = refl }
 pop-step : (text : List ℕ) (at size : ℕ) (is_bp : Bool) (s : State) → IsPopBytes text at size is_bp
     → (t : State) × Step text at (at + size) s t
 pop-step text at size is_bp s (alone o there is size_is bp_is) =
-    let code : o / 8 ≡ 11 = eq-true _ _ (and-left _ _ is) in
+    let code : o / 8 ≡ 11 = eqb-true _ _ (and_parts _ _ is).0 in
     let split : o ≡ 0x58 + o % 8 = omega arith in
     (_, by_pop (o % 8) (short (omega arith) (there ∙ ap Some split) (omega arith)) (pops (o % 8) s))
 pop-step text at size is_bp s (after_40 o first there is size_is bp_is) =
-    let code : o / 8 ≡ 11 = eq-true _ _ (and-left _ _ is) in
+    let code : o / 8 ≡ 11 = eqb-true _ _ (and_parts _ _ is).0 in
     let split : o ≡ 0x58 + o % 8 = omega arith in
     let register = o % 8 + 8 * 0 in (
       _,
@@ -167,7 +167,7 @@ pop-step text at size is_bp s (after_40 o first there is size_is bp_is) =
           (pops register s),
     )
 pop-step text at size is_bp s (after_41 o first there is size_is bp_is) =
-    let code : o / 8 ≡ 11 = eq-true _ _ is in
+    let code : o / 8 ≡ 11 = eqb-true _ _ is in
     let split : o ≡ 0x58 + o % 8 = omega arith in
     let register = o % 8 + 8 * 1 in (
       _,
@@ -178,12 +178,12 @@ pop-step text at size is_bp s (after_41 o first there is size_is bp_is) =
 -- an end that has been read is one that the machine leaves by, or another that begins with FF
 jump-taken : (text : List ℕ) (at opcode : ℕ) → slice_get text at ≡ Some opcode → is_jump opcode ≡ true
     → IsTakenForEnd text at
-jump-taken text at opcode there e = elim (or-cases ((opcode == 0xEB) || (opcode == 0xE9)) (opcode == 0xFF) e) [
-  | inl first ↦ elim (or-cases (opcode == 0xEB) (opcode == 0xE9) first) [
-    | inl eb ↦ leaves (by_jmp_rel8 (there ∙ ap Some (eq-true opcode 0xEB eb)))
-    | inr e9 ↦ leaves (by_jmp_rel32 (there ∙ ap Some (eq-true opcode 0xE9 e9)))
+jump-taken text at opcode there e = elim (or_cases ((opcode == 0xEB) || (opcode == 0xE9)) (opcode == 0xFF) e) [
+  | inl first ↦ elim (or_cases (opcode == 0xEB) (opcode == 0xE9) first) [
+    | inl eb ↦ leaves (by_jmp_rel8 (there ∙ ap Some (eqb-true opcode 0xEB eb)))
+    | inr e9 ↦ leaves (by_jmp_rel32 (there ∙ ap Some (eqb-true opcode 0xE9 e9)))
   ]
-  | inr ff ↦ other (there ∙ ap Some (eq-true opcode 0xFF ff))
+  | inr ff ↦ other (there ∙ ap Some (eqb-true opcode 0xFF ff))
 ]
 
 end-taken : (text : List ℕ) (pc at count : ℕ) → IsEnd text pc at count → IsTakenForEnd text at

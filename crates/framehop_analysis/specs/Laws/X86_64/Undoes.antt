@@ -1,18 +1,18 @@
 -- The rule of a prologue on x86_64 undoes its pushes.
-use Rattle.std.proofs.Common.{◌≡◌, inr, ℕ, zero, suc, ◌+◌, ◌-◌, ◌*◌, ◌≤◌, ℤ, pos, ◌-ℤ◌, Bool, true, false, cond, nat_eq, Some, Result, Ok, List, slice_get, refl, sym, ap, ◌∙◌, subst, arith}
+use Rattle.std.proofs.Common.{◌≡◌, inr, ℕ, zero, suc, ◌+◌, ◌-◌, ◌*◌, ◌≤◌, ℤ, pos, ◌-ℤ◌, Bool, true, false, cond, nat_eq, Some, Ok, List, slice_get, refl, sym, ap, ◌∙◌, subst, arith}
 use Rattle.std.proofs.lemmas.Int.{ints}
+use Rattle.std.proofs.lemmas.Option.{same_Some}
 use Rattle.framehop_core.specs.Memory.{Memory}
 use Rattle.framehop_core.specs.Outcome.{answered, above, address_at, word_at, word_from}
 use Rattle.framehop_core.specs.Laws.Outcome.{and_then-ok, address_at-ok, word_at-ok}
 use Rattle.framehop_core.specs.X86_64.Registers.{Registers}
 use Rattle.framehop_core.specs.X86_64.Rules.{Source, Demand, nothing_more, stack_pointer_rises, kept, stored_at, stack_end, outcome_of_line, frame_pointer_line, outcome}
 use Rattle.framehop_core.specs.Laws.X86_64.{IsCaller, caller-answered}
-use Rattle.framehop_core.specs.declared.error.Error.{Error}
 use Rattle.framehop_core.specs.declared.x86_64.unwind_rule.UnwindRuleX86_64.{UnwindRuleX86_64}
 use Rattle.framehop_core.specs.declared.x86_64.unwind_rule.UnwindRuleX86_64.TheVariants.{OffsetSp, UseFramePointer}
+use Rattle.framehop_core.specs.Laws.Basics.{pos-same, ok-same}
 use Rattle.framehop_analysis.specs.X86_64.Machine.{State, HasRegisters, Pushes, Moves, Run, Returns}
 use Rattle.framehop_analysis.specs.X86_64.Prologue.{IsFrameSetUpBefore, ArePushes, AreLongestPushes, IsRuleOfPushes, IsPrologueRule, framed, frameless, UndoesPrologue}
-use Rattle.framehop_analysis.specs.Laws.Answer.{some-same}
 use Rattle.framehop_analysis.specs.Laws.X86_64.Pushes.{first-push, pushes-below}
 use Rattle.framehop_analysis.specs.Laws.X86_64.Steps.{step-low, run-forward, step-push, step-push_rbp, step-move}
 
@@ -93,12 +93,6 @@ run-framed text count (suc (suc n)) start end entry here frame pushes (next, u, 
 
 -- ---- reads
 
-pub ok-same : (m n : ℕ) → ◌≡◌ {A = Result ℕ Error} (Ok m) (Ok n) → m ≡ n
-ok-same m n e = cc
-
-pub pos-same : (m n : ℕ) → pos m ≡ pos n → m ≡ n
-pos-same m n e = cc
-
 pub read-word : (memory : Memory) (z : ℤ) (n word : ℕ) → z ≡ pos n → word_from memory z ≡ Ok word → memory n ≡ Some word
 read-word memory z n word z_is e =
     let a = and_then-ok (address_at z) (word_at memory) word e in
@@ -147,7 +141,7 @@ frame-undoes count r new entry s here address frame p stands c =
     let f = found _ _ _ r new here.memory address c in
     let sum : r.rbp + 16 ≡ c.new_sp = pos-same _ c.new_sp c.sp_is in
     let bp : Some frame.pushed.sp ≡ Some r.rbp = sym frame.moves.bp ∙ sym p.bp ∙ stands.bp in
-    let bp_is : frame.pushed.sp ≡ r.rbp = some-same frame.pushed.sp r.rbp bp in
+    let bp_is : frame.pushed.sp ≡ r.rbp = same_Some frame.pushed.sp r.rbp bp in
     let s_sp : s.sp ≡ frame.pushed.sp = frame.moves.sp (λ e. absurd (omega arith)) in
     let low = frame.pushes.sp in
     let sp : entry.sp + 8 ≡ c.new_sp = omega arith in

@@ -27,24 +27,130 @@ const TBZ: u32 = 0xb6f00050;
 /// `brk #0xc471`
 const BRK: u32 = 0xd4388e20;
 
-/// Returns the unwind rule at a pc inside an epilogue, or `None` where the instructions from the
-/// pc on are not recognised as one.
-///
-/// `text_bytes` has the function's code, and `pc_offset` is the offset of the pc in it, in bytes.
-///
-/// There is also no rule where fp is restored and lr is not, or where an offset is not a multiple
-/// of the unit of the rule's field or too great for it.
-pub fn unwind_rule_from_detected_epilogue(
-    text_bytes: &[u8],
-    pc_offset: usize,
-) -> Option<UnwindRuleAarch64>
-    requires { pc_offset ≤ length text_bytes.now }
-    ensures exact { (rule : UnwindRuleAarch64)
-        → (result ≡ Some rule) ↔ IsEpilogueRule text_bytes.now pc_offset rule }
-    ensures simulation { IfSome result (DoesEpilogue text_bytes.now pc_offset) }
-    ensures ends { OnSome result (EndsFrom text_bytes.now pc_offset) }
+/// What the instructions of an epilogue have restored so far: offsets in bytes from sp at the pc.
+#[derive(Clone, Copy)]
+struct EpilogueDetectorAarch64 {
+    sp_offset: i128,
+    fp_offset_from_initial_sp: Option<i128>,
+    lr_offset_from_initial_sp: Option<i128>,
+}
+
+impl EpilogueDetectorAarch64 {
+    fn new() -> Self
+        ensures places { places_of result ≡ at_pc }
+        ensures start { result.sp_offset ≡ pos 0 }
+    {
+        Self {
+            sp_offset: 0,
+            fp_offset_from_initial_sp: None,
+            lr_offset_from_initial_sp: None,
+        }
+    }
+
+    /// Steps over an instruction that restores.
+    fn step_instruction(self, word: u32) -> Self
+        requires low { negsuc (2 ^ 100) ≤ℤ self.sp_offset }
+        requires high { self.sp_offset ≤ℤ pos (2 ^ 100) }
+        ensures places { places_of result ≡ places_after (places_of self) word }
+        ensures least { self.sp_offset ≤ℤ (result.sp_offset +ℤ pos 512) }
+        ensures most { result.sp_offset ≤ℤ (self.sp_offset +ℤ pos 16777216) }
+    {
+        if !is_load(word) {
+            return Self {
+                sp_offset: self.sp_offset + immediate(word),
+                ..self
+            };
+        }
+        let moved = self.sp_offset + pair_offset(word);
+        let place = place_of_load(word, self.sp_offset, moved);
+        Self {
+            sp_offset: sp_after_load(word, self.sp_offset, moved),
+            fp_offset_from_initial_sp: place_after_load(
+                word,
+                29,
+                place,
+                self.fp_offset_from_initial_sp,
+            ),
+            lr_offset_from_initial_sp: place_after_load(
+                word,
+                30,
+                place,
+                self.lr_offset_from_initial_sp,
+            ),
+        }
+    }
+
+    /// Returns the rule of what has been restored, or `None` where there is none.
+    fn rule(self) -> Option<UnwindRuleAarch64>
+        ensures { IsOnly (IsRuleOfPlaces (places_of self)) result }
+    {
+        let sp_offset_by_16 = units_of_16(self.sp_offset)?;
+        match (
+            self.fp_offset_from_initial_sp,
+            self.lr_offset_from_initial_sp,
+        ) {
+            (None, None) => {
+                if sp_offset_by_16 == 0 {
+                    Some(UnwindRuleAarch64::NoOp)
+                } else {
+                    Some(UnwindRuleAarch64::OffsetSp { sp_offset_by_16 })
+                }
+            }
+            (None, Some(lr_offset)) => Some(UnwindRuleAarch64::OffsetSpAndRestoreLr {
+                sp_offset_by_16,
+                lr_storage_offset_from_sp_by_8: units_of_8(lr_offset)?,
+            }),
+            (Some(_), None) => None,
+            (Some(fp_offset), Some(lr_offset)) => {
+                Some(UnwindRuleAarch64::OffsetSpAndRestoreFpAndLr {
+                    sp_offset_by_16,
+                    fp_storage_offset_from_sp_by_8: units_of_8(fp_offset)?,
+                    lr_storage_offset_from_sp_by_8: units_of_8(lr_offset)?,
+                })
+            }
+        }
+    }
+}
+
+/// Returns where a load of a pair begins: a post-indexed one at sp before it has moved.
+fn place_of_load(word: u32, sp_offset: i128, moved: i128) -> i128
+    requires low { sp_offset ≤ℤ (moved +ℤ pos 512) }
+    requires high { moved ≤ℤ (sp_offset +ℤ pos 504) }
+    ensures value { result ≡ (if addressing word == 1 then sp_offset else moved) }
+    ensures least { sp_offset ≤ℤ (result +ℤ pos 512) }
+    ensures most { result ≤ℤ (sp_offset +ℤ pos 504) }
 {
-    detect_epilogue(text_bytes, pc_offset)
+    if is_post_indexed(word) {
+        sp_offset
+    } else {
+        moved
+    }
+}
+
+/// Returns where sp is after a load of a pair: only a plain one leaves it.
+fn sp_after_load(word: u32, sp_offset: i128, moved: i128) -> i128
+    requires low { sp_offset ≤ℤ (moved +ℤ pos 512) }
+    requires high { moved ≤ℤ (sp_offset +ℤ pos 504) }
+    ensures value { result ≡ (if addressing word == 2 then sp_offset else moved) }
+    ensures least { sp_offset ≤ℤ (result +ℤ pos 512) }
+    ensures most { result ≤ℤ (sp_offset +ℤ pos 504) }
+{
+    if is_indexed(word) { moved } else { sp_offset }
+}
+
+/// Returns the place of a register after a load of a pair from `place`.
+fn place_after_load(word: u32, register: u32, place: i128, old: Option<i128>) -> Option<i128>
+    requires low { negsuc (2 ^ 101) ≤ℤ place }
+    requires high { place ≤ℤ pos (2 ^ 101) }
+    ensures { result ≡ place_after_load word register place old }
+{
+    if second_register(word) == register {
+        Some(place + 8)
+    } else if first_register(word) == register {
+        Some(place)
+    } else {
+        old
+    }
 }
 
 /// Finds the rule of an epilogue.
@@ -240,128 +346,22 @@ fn is_end(text_bytes: &[u8], at: usize, moved: i128) -> bool
     auth_tail_call_len(text_bytes, at).is_some()
 }
 
-/// What the instructions of an epilogue have restored so far: offsets in bytes from sp at the pc.
-#[derive(Clone, Copy)]
-struct EpilogueDetectorAarch64 {
-    sp_offset: i128,
-    fp_offset_from_initial_sp: Option<i128>,
-    lr_offset_from_initial_sp: Option<i128>,
-}
-
-impl EpilogueDetectorAarch64 {
-    fn new() -> Self
-        ensures places { places_of result ≡ at_pc }
-        ensures start { result.sp_offset ≡ pos 0 }
-    {
-        Self {
-            sp_offset: 0,
-            fp_offset_from_initial_sp: None,
-            lr_offset_from_initial_sp: None,
-        }
-    }
-
-    /// Steps over an instruction that restores.
-    fn step_instruction(self, word: u32) -> Self
-        requires low { negsuc (2 ^ 100) ≤ℤ self.sp_offset }
-        requires high { self.sp_offset ≤ℤ pos (2 ^ 100) }
-        ensures places { places_of result ≡ places_after (places_of self) word }
-        ensures least { self.sp_offset ≤ℤ (result.sp_offset +ℤ pos 512) }
-        ensures most { result.sp_offset ≤ℤ (self.sp_offset +ℤ pos 16777216) }
-    {
-        if !is_load(word) {
-            return Self {
-                sp_offset: self.sp_offset + immediate(word),
-                ..self
-            };
-        }
-        let moved = self.sp_offset + pair_offset(word);
-        let place = place_of_load(word, self.sp_offset, moved);
-        Self {
-            sp_offset: sp_after_load(word, self.sp_offset, moved),
-            fp_offset_from_initial_sp: place_after_load(
-                word,
-                29,
-                place,
-                self.fp_offset_from_initial_sp,
-            ),
-            lr_offset_from_initial_sp: place_after_load(
-                word,
-                30,
-                place,
-                self.lr_offset_from_initial_sp,
-            ),
-        }
-    }
-
-    /// Returns the rule of what has been restored, or `None` where there is none.
-    fn rule(self) -> Option<UnwindRuleAarch64>
-        ensures { IsOnly (IsRuleOfPlaces (places_of self)) result }
-    {
-        let sp_offset_by_16 = units_of_16(self.sp_offset)?;
-        match (
-            self.fp_offset_from_initial_sp,
-            self.lr_offset_from_initial_sp,
-        ) {
-            (None, None) => {
-                if sp_offset_by_16 == 0 {
-                    Some(UnwindRuleAarch64::NoOp)
-                } else {
-                    Some(UnwindRuleAarch64::OffsetSp { sp_offset_by_16 })
-                }
-            }
-            (None, Some(lr_offset)) => Some(UnwindRuleAarch64::OffsetSpAndRestoreLr {
-                sp_offset_by_16,
-                lr_storage_offset_from_sp_by_8: units_of_8(lr_offset)?,
-            }),
-            (Some(_), None) => None,
-            (Some(fp_offset), Some(lr_offset)) => {
-                Some(UnwindRuleAarch64::OffsetSpAndRestoreFpAndLr {
-                    sp_offset_by_16,
-                    fp_storage_offset_from_sp_by_8: units_of_8(fp_offset)?,
-                    lr_storage_offset_from_sp_by_8: units_of_8(lr_offset)?,
-                })
-            }
-        }
-    }
-}
-
-/// Returns where a load of a pair begins: a post-indexed one at sp before it has moved.
-fn place_of_load(word: u32, sp_offset: i128, moved: i128) -> i128
-    requires low { sp_offset ≤ℤ (moved +ℤ pos 512) }
-    requires high { moved ≤ℤ (sp_offset +ℤ pos 504) }
-    ensures value { result ≡ (if addressing word == 1 then sp_offset else moved) }
-    ensures least { sp_offset ≤ℤ (result +ℤ pos 512) }
-    ensures most { result ≤ℤ (sp_offset +ℤ pos 504) }
+/// Returns the unwind rule at a pc inside an epilogue, or `None` where the instructions from the
+/// pc on are not recognised as one.
+///
+/// `text_bytes` has the function's code, and `pc_offset` is the offset of the pc in it, in bytes.
+///
+/// There is also no rule where fp is restored and lr is not, or where an offset is not a multiple
+/// of the unit of the rule's field or too great for it.
+pub fn unwind_rule_from_detected_epilogue(
+    text_bytes: &[u8],
+    pc_offset: usize,
+) -> Option<UnwindRuleAarch64>
+    requires { pc_offset ≤ length text_bytes.now }
+    ensures exact { (rule : UnwindRuleAarch64)
+        → (result ≡ Some rule) ↔ IsEpilogueRule text_bytes.now pc_offset rule }
+    ensures simulation { IfSome result (DoesEpilogue text_bytes.now pc_offset) }
+    ensures ends { OnSome result (EndsFrom text_bytes.now pc_offset) }
 {
-    if is_post_indexed(word) {
-        sp_offset
-    } else {
-        moved
-    }
-}
-
-/// Returns where sp is after a load of a pair: only a plain one leaves it.
-fn sp_after_load(word: u32, sp_offset: i128, moved: i128) -> i128
-    requires low { sp_offset ≤ℤ (moved +ℤ pos 512) }
-    requires high { moved ≤ℤ (sp_offset +ℤ pos 504) }
-    ensures value { result ≡ (if addressing word == 2 then sp_offset else moved) }
-    ensures least { sp_offset ≤ℤ (result +ℤ pos 512) }
-    ensures most { result ≤ℤ (sp_offset +ℤ pos 504) }
-{
-    if is_indexed(word) { moved } else { sp_offset }
-}
-
-/// Returns the place of a register after a load of a pair from `place`.
-fn place_after_load(word: u32, register: u32, place: i128, old: Option<i128>) -> Option<i128>
-    requires low { negsuc (2 ^ 101) ≤ℤ place }
-    requires high { place ≤ℤ pos (2 ^ 101) }
-    ensures { result ≡ place_after_load word register place old }
-{
-    if second_register(word) == register {
-        Some(place + 8)
-    } else if first_register(word) == register {
-        Some(place)
-    } else {
-        old
-    }
+    detect_epilogue(text_bytes, pc_offset)
 }

@@ -16,26 +16,6 @@ use super::words::{
 };
 use framehop_core::aarch64::UnwindRuleAarch64;
 
-/// Returns the unwind rule at a pc inside a prologue, or `None` where the instructions around the
-/// pc are not recognised as one.
-///
-/// `slice_from_start` has the code up to the pc, from the start of the function or earlier, and
-/// `slice_to_end` the code from the pc on.
-///
-/// There is also no rule where the prologue has lowered sp by an amount that is not a multiple of
-/// 16 bytes or too great for the rule.
-pub fn unwind_rule_from_detected_prologue(
-    slice_from_start: &[u8],
-    slice_to_end: &[u8],
-) -> Option<UnwindRuleAarch64>
-    ensures exact { (rule : UnwindRuleAarch64)
-        → (result ≡ Some rule) ↔ IsPrologueRule slice_from_start.now slice_to_end.now rule }
-    ensures simulation { IfSome result (UndoesPrologue slice_from_start.now) }
-    ensures reaches { OnSome result (ReachesFrom slice_from_start.now) }
-{
-    detect_prologue(slice_from_start, slice_to_end)
-}
-
 /// Finds the rule of a prologue.
 fn detect_prologue(slice_from_start: &[u8], slice_to_end: &[u8]) -> Option<UnwindRuleAarch64>
     ensures { IsOnly (IsPrologueRule slice_from_start.now slice_to_end.now) result }
@@ -129,4 +109,24 @@ fn rule_of_sp_offset(sp_offset: i128) -> Option<UnwindRuleAarch64>
     } else {
         Some(UnwindRuleAarch64::OffsetSp { sp_offset_by_16 })
     }
+}
+
+/// Returns the unwind rule at a pc inside a prologue, or `None` where the instructions around the
+/// pc are not recognised as one.
+///
+/// `slice_from_start` has the code up to the pc, from the start of the function or earlier, and
+/// `slice_to_end` the code from the pc on.
+///
+/// There is also no rule where the prologue has lowered sp by an amount that is not a multiple of
+/// 16 bytes or too great for the rule.
+pub fn unwind_rule_from_detected_prologue(
+    slice_from_start: &[u8],
+    slice_to_end: &[u8],
+) -> Option<UnwindRuleAarch64>
+    ensures exact { (rule : UnwindRuleAarch64)
+        → (result ≡ Some rule) ↔ IsPrologueRule slice_from_start.now slice_to_end.now rule }
+    ensures simulation { IfSome result (UndoesPrologue slice_from_start.now) }
+    ensures reaches { OnSome result (ReachesFrom slice_from_start.now) }
+{
+    detect_prologue(slice_from_start, slice_to_end)
 }
