@@ -123,7 +123,7 @@ def docs_before(lines, number):
         number -= 1
     found = []
     while number >= 0 and lines[number].strip().startswith("///"):
-        found.insert(0, lines[number].strip()[3:].removeprefix(" "))
+        found.insert(0, re.sub(r"^\s*/// ?", "", lines[number]))
         number -= 1
     return found
 
