@@ -1,19 +1,19 @@
 #!/usr/bin/env bash
-# compare.sh ORACLE_BENCH [ELF]: measures this library beside the original crate, on equal inputs.
+# compare.sh [ELF]: measures this library beside the original crate, on equal inputs.
 #
-# ORACLE_BENCH is a program over the original crate, with the arguments `walk FILE N`, `index ELF N`
-# and `json ELF`; where an `oracle-walk` lies beside it, the whole program is measured too. ELF is
-# an x86_64 library with an `.eh_frame`, the C library where none is named.
+# The program over the original crate is built from bench/original by cargo, which fetches the crate; CARGO_ARGUMENTS
+# gives cargo further arguments, as `--offline --config FILE` with a source or a patch. ELF is an x86_64 library with an
+# `.eh_frame`, the C library where none is named.
 #
 # Both run in turn, five times each, and the least time of each counts. The table that is printed has
 # the time of a frame, of a cache, of an FDE or of the whole run, and in its last column the time here
 # by that of the original. In the environment, CPU=N has all runs on that processor, and ROUNDS=N
-# runs each N times. Needs python3 and readelf.
+# runs each N times. Needs cargo, python3 and readelf.
 set -eu
 top=$(cd "$(dirname "${BASH_SOURCE[0]}")/.." && pwd)
-theirs=${1:?usage: bench/compare.sh ORACLE_BENCH [ELF]}
-elf=${2:-$(ldd /bin/sh | sed -n 's/.*libc\.so\.6 => \([^ ]*\).*/\1/p')}
+elf=${1:-$(ldd /bin/sh | sed -n 's/.*libc\.so\.6 => \([^ ]*\).*/\1/p')}
 ours=$top/crates/framehop_bench/out/framehop_bench
+theirs=$top/out/original/release/framehop-original
 rounds=${ROUNDS:-5}
 pinned=(${CPU:+taskset -c "$CPU"})
 
@@ -30,11 +30,13 @@ build() {
 [ -x "$ours" ] || build framehop_bench
 walk=$top/crates/framehop_walk_cli/out/framehop_walk_cli
 [ -x "$walk" ] || build framehop_walk_cli
+read -ra cargo_arguments <<<"${CARGO_ARGUMENTS:-}"
+(cd "$top/bench/original" && cargo build --release --target-dir "$top/out/original" "${cargo_arguments[@]}") >&2
 
 make_inputs() {
     local maker=$top/bench/make_inputs.py arch
     for arch in x86_64 aarch64; do python3 "$maker" frame-pointers "$arch" >"$made/fp-$arch.json"; done
-    "$theirs" json "$elf" >"$made/sections.json"
+    python3 "$maker" sections "$elf" >"$made/sections.json"
     python3 "$maker" cold "$made/sections.json" "$elf" 300 >"$made/cold.json"
     python3 "$maker" offsets 300 >"$made/offsets.json"
     python3 "$maker" many 16000 >"$made/many.json"
@@ -58,24 +60,22 @@ measure_walks() {
     text=$("${pinned[@]}" "$theirs" walk "$made/$1.json" "$2")
     note "$1, warm cache" there 'warm cache' <<<"$text"
     note "$1, new cache each walk" there 'new cache' <<<"$text"
-    note "$1, making a cache" there 'making the cache' <<<"${text%, *}"
+    note "$1, making a cache" there 'making a cache' <<<"$text"
 }
 
 measure_index() {
     local text
     text=$("${pinned[@]}" "$ours" index "$made/sections.json" "$1" 2>&1 >/dev/null)
-    note 'index, its making' here 'try_new_eh_frame' <<<"$text"
     note 'index, Module::new' here 'Module::new' <<<"$text"
-    text=$("${pinned[@]}" "$theirs" index "$elf" "$1")
-    note 'index, its making' there 'try_new_eh_frame' <<<"$text"
+    text=$("${pinned[@]}" "$theirs" index "$made/sections.json" "$1")
     note 'index, Module::new' there 'Module::new' <<<"$text"
 }
 
-# measure_program SIDE PROGRAM: the whole program over the large input
+# measure_program SIDE PROGRAM..: the whole program over the large input
 measure_program() {
     local start end
     start=$(date +%s%N)
-    "${pinned[@]}" "$2" "$made/many.json" >"$made/$1.out"
+    "${pinned[@]}" "${@:2}" "$made/many.json" >"$made/$1.out"
     end=$(date +%s%N)
     echo "run: $((end - start)) ns/run" | note 'program over 30 MB' "$1" run:
 }
@@ -102,10 +102,9 @@ for ((round = 1; round <= rounds; round++)); do
     measure_walks offsets 20000
     measure_walks cold 1000
     measure_index 100
-    if [ -x "$(dirname "$theirs")/oracle-walk" ]; then
-        measure_program here "$walk"
-        measure_program there "$(dirname "$theirs")/oracle-walk"
-        cmp "$made/here.out" "$made/there.out"
-    fi
+    measure_program here "$walk"
+    measure_program there "$theirs" run
+    cmp "$made/here.out" "$made/there.out"
 done
+echo "The original: framehop $(sed -n '/^name = "framehop"$/{n;s/^version = "\(.*\)"/\1/p}' "$top/bench/original/Cargo.lock")"
 table

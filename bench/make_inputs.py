@@ -6,9 +6,11 @@
                                             and whose return addresses are scattered over 16 MB
     make_inputs.py offsets COUNT            a walk of COUNT frames of one function whose rows have the
                                             CFA rbp + 32 and rbp at CFA - 16
+    make_inputs.py sections ELF             a module with the file's .eh_frame, and where its
+                                            .text and .got are
     make_inputs.py cold SECTIONS ELF COUNT  a walk of COUNT frames, each of another row of the
-                                            file's .eh_frame; SECTIONS is what `oracle-bench json
-                                            ELF` prints, and `readelf -wF ELF` tells the rows
+                                            file's .eh_frame; SECTIONS is what `sections ELF`
+                                            prints, and `readelf -wF ELF` tells the rows
     make_inputs.py many WALKS               short walks by frame pointers, one after another
 
 They are written to standard output, and are the same in each run.
@@ -109,6 +111,24 @@ def many(walks):
     return session("x86_64", commands)
 
 
+def sections_of(elf):
+    """A session with one module: the sections of a 64-bit ELF file, as `readelf -SW` lists them."""
+    listed = subprocess.run(["readelf", "-SW", elf], capture_output=True, text=True, check=True).stdout
+    row = re.compile(r"\[ *[0-9]+\] (\S+) +\S+ +([0-9a-f]{16}) ([0-9a-f]+) ([0-9a-f]+) ")
+    with open(elf, "rb") as file:
+        contents = file.read()
+    found = []
+    for name, *numbers in row.findall(listed):
+        address, offset, size = (int(digits, 16) for digits in numbers)
+        if name in (".eh_frame", ".text", ".got"):
+            section = {"name": name, "svma": [f"{address:x}", f"{address + size:x}"]}
+            if name == ".eh_frame":
+                section["data"] = contents[offset : offset + size].hex()
+            found.append(section)
+    module = {"name": "elf", "start": "0", "end": "100000000", "base": "0", "base_svma": "0"}
+    return session("x86_64", [{"do": "add", "unwinder": 0, **module, "sections": found, "segments": []}])
+
+
 def rows_of(elf):
     """The rows of the file's .eh_frame whose return address lies below the CFA and whose CFA is
     rsp and an offset: the first address, the one after the last, and the offset."""
@@ -161,6 +181,8 @@ def main(arguments):
             made = scattered(int(count))
         case ["offsets", count]:
             made = with_offsets(int(count))
+        case ["sections", elf]:
+            made = sections_of(elf)
         case ["cold", sections, elf, count]:
             made = cold(sections, elf, int(count))
         case ["many", walks]:

@@ -41,7 +41,7 @@ interpret() {
 # Prints the output of the interpreted program, where there is one.
 reply_first() {
     if [ $# = 0 ]; then
-        say "standard input is left to the built program"
+        say "standard input is read by the built program only"
         return 1
     fi
     say "interpreted, not yet proved:"

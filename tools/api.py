@@ -1,0 +1,249 @@
+#!/usr/bin/env python3
+"""Writes a page for each library crate with its public items: what the doc comments say, the signature, and each
+clause of the contract with links to the definitions that it cites.
+
+    api.py [FOLDER]     writes CRATE.md for each library into FOLDER, docs/api where none is named
+
+The sources are read as text: a crate's modules from src/lib.rt on, through `pub mod`. An item is public where it
+and its modules are, and a method where its type or trait has it. A word of a clause is looked up in the `ghost use`
+lines of the item's file and block. Links lead from FOLDER to the lines of the sources.
+"""
+
+import os
+import re
+import sys
+from pathlib import Path
+
+TOP = Path(__file__).resolve().parent.parent
+LIBRARIES = [
+    "framehop",
+    "framehop_core",
+    "framehop_analysis",
+    "framehop_cache",
+    "framehop_cfi",
+    "framehop_dwarf",
+    "framehop_macho",
+    "framehop_pe",
+    "framehop_walk",
+]
+ITEM = re.compile(r"(\s*)pub (?:const )?(fn|struct|enum|trait|const|type) (\w+)")
+BLOCK = re.compile(r"(\s*)(?:pub )?(impl|trait)\b(.*)")
+METHOD = re.compile(r"(\s*)(pub )?(?:const )?fn (\w+)")
+CLAUSE = re.compile(r"\s*(requires|ensures) (\w*) ?\{")
+GHOST_USE = re.compile(r"ghost use Rattle\.([\w.-]+)\.\{([^}]*)\}")
+WORD = re.compile(r"[^\W\d][\w'-]*")
+
+
+class Definitions:
+    """The places of definitions in specs/, by crate and module."""
+
+    def __init__(self):
+        self.known = {}
+
+    def file_of(self, path):
+        """The file of a module path such as `framehop.specs.Outcome`, through `pub use` of the crate's Lib.antt."""
+        parts = path.split(".")
+        if len(parts) < 3 or parts[1] != "specs" or parts[2] == "declared":
+            return None
+        specs = TOP / "crates" / parts[0] / "specs"
+        file = specs.joinpath(*parts[2:]).with_suffix(".antt")
+        if file.is_file():
+            return file
+        lib = specs / "Lib.antt"
+        if not lib.is_file():
+            return None
+        passed_on = re.search(rf"^pub use Rattle\.([\w.]+\.{parts[2]})$", lib.read_text(), re.M)
+        if not passed_on or passed_on[1].split(".")[0] == parts[0]:
+            return None
+        return self.file_of(".".join([passed_on[1], *parts[3:]]))
+
+    def place(self, path, name):
+        """The file and line where a module defines a name, or none."""
+        if (path, name) not in self.known:
+            self.known[path, name] = self.look_up(path, name)
+        return self.known[path, name]
+
+    def look_up(self, path, name):
+        file = self.file_of(path)
+        if file is None:
+            return None
+        word = re.escape(name)
+        patterns = [
+            rf"(?:abbrev |pub |data |record |rec )*{word}(?:[\s:({{]|$)",
+            rf"\s+(?:pub )?{word} :",
+        ]
+        lines = file.read_text().split("\n")
+        for pattern in patterns:
+            for number, line in enumerate(lines, 1):
+                if re.match(pattern, line) and not line.startswith(("use", "--")):
+                    return file, number
+        return None
+
+
+def modules(file, path):
+    """The modules of a crate with public items: each with its file, its path, and the names of those items, or none
+    where the module is public. Of a private module those are public that the module around it passes on."""
+    yield file, path, None
+    text = file.read_text()
+    folder = file.parent if file.name == "lib.rt" else file.with_suffix("")
+    for name in re.findall(r"^pub mod (\w+);", text, re.M):
+        yield from modules(folder / f"{name}.rt", f"{path}::{name}")
+    for name in re.findall(r"^mod (\w+);", text, re.M):
+        passed_on = re.findall(rf"^pub use (?:self::)?{name}::([^;]+);", text, re.M)
+        names = {word for use in passed_on for word in re.findall(r"\w+", use)}
+        if names:
+            yield folder / f"{name}.rt", path, names
+
+
+def imports(lines):
+    """The module of each name that `ghost use` lines bring in."""
+    found = {}
+    for line in lines:
+        match = GHOST_USE.search(line)
+        for name in match[2].split(",") if match else []:
+            parts = name.split(" as ")
+            found[parts[-1].strip()] = (match[1], parts[0].strip())
+    return found
+
+
+def block_end(lines, start, indent):
+    """The line after the block that begins at a line, by its closing brace at the same indentation."""
+    for number in range(start, len(lines)):
+        if lines[number].startswith(f"{indent}}}"):
+            return number + 1
+        if number == start and re.search(r"[;}]\s*$", lines[number]) or lines[number].startswith(f"{indent});"):
+            return number + 1
+    return len(lines)
+
+
+def docs_before(lines, number):
+    """The doc comment of the item at a line, over its attributes."""
+    number -= 1
+    while number >= 0 and lines[number].strip().startswith(("#[", ")]")):
+        number -= 1
+    found = []
+    while number >= 0 and lines[number].strip().startswith("///"):
+        found.insert(0, re.sub(r"^\s*/// ?", "", lines[number]))
+        number -= 1
+    return found
+
+
+def signature_and_clauses(lines, start):
+    """The signature that begins at a line, and the clauses after it: keyword, name and text."""
+    signature, clauses, number = [], [], start
+    while number < len(lines):
+        line = lines[number]
+        match = CLAUSE.match(line)
+        if match:
+            text, depth = [], 0
+            while True:
+                text.append(lines[number])
+                depth += lines[number].count("{") - lines[number].count("}")
+                if depth <= 0:
+                    break
+                number += 1
+            body = "\n".join(text)
+            clauses.append((match[1], match[2], body[body.index("{") + 1 : body.rindex("}")].strip()))
+            if text[-1].rstrip().endswith(";"):
+                break
+        elif line.strip() == "{" or clauses:
+            break
+        else:
+            signature.append(re.sub(r"\s*[{;]\s*$", "", line))
+            if re.search(r"[{;]\s*$", line):
+                break
+        number += 1
+    return signature, clauses
+
+
+def body_of(lines, start):
+    """The fields or variants of a type: its lines without contracts, ghost members and attributes."""
+    indent = re.match(r"\s*", lines[start])[0]
+    end = block_end(lines, start, indent)
+    kept = [line for line in lines[start:end] if not line.strip().startswith(("#[", "ghost "))]
+    return [line[len(indent) :] for line in kept]
+
+
+def clause_text(clause, words, definitions, source, folder):
+    """A clause as Markdown: its text, and links to the definitions of its words."""
+    keyword, name, text = clause
+    links = []
+    for word in dict.fromkeys(WORD.findall(text)):
+        path, original = words.get(word, (None, None))
+        place = definitions.place(path, original) if path else None
+        if place:
+            links.append(f"[`{word}`]({os.path.relpath(place[0], folder)}#L{place[1]})")
+    text = re.sub(r"\n\s+", "\n  ", text)
+    head = f"{keyword} {name}".strip()
+    lines = ["", f"*{head}*" + (": " + ", ".join(links) if links else ""), "", "```", text, "```"]
+    return lines
+
+
+def item_page(lines, number, kind, title, words, definitions, source, folder):
+    link = f"{os.path.relpath(source, folder)}#L{number + 1}"
+    page = ["", f"### [`{title}`]({link})", ""]
+    page += docs_before(lines, number) or ["(no text)"]
+    if kind == "fn":
+        signature, clauses = signature_and_clauses(lines, number)
+        indent = len(signature[0]) - len(signature[0].lstrip())
+        page += ["", "```rust", *[line[indent:] for line in signature], "```"]
+        for clause in clauses:
+            page += clause_text(clause, words, definitions, source, folder)
+    elif kind in ("struct", "enum"):
+        page += ["", "```rust", *body_of(lines, number), "```"]
+    return page
+
+
+def owner_of(head):
+    """The type or trait that an `impl` or `trait` line is of, and whether all its functions are public."""
+    kind, rest = head
+    rest = re.sub(r"^<.*?>+(?= )", "", rest) if kind == "impl" else rest
+    by_trait = " for " in rest
+    name = re.match(r"\w+", rest.split(" for ")[-1].strip())
+    return (name[0] if name else rest.strip()), kind == "trait", by_trait
+
+
+def module_page(file, path, names, definitions, folder):
+    lines = file.read_text().split("\n")
+    outer, page, number = imports([line for line in lines if not line.startswith(" ")]), [], 0
+    while number < len(lines):
+        line = lines[number]
+        block = BLOCK.match(line)
+        item = ITEM.match(line)
+        if item and item[1] == "" and (names is None or item[3] in names):
+            page += item_page(lines, number, item[2], f"{path}::{item[3]}", outer, definitions, file, folder)
+        if block and block[1] == "" and not line.startswith("pub(crate)"):
+            owner, all_public, by_trait = owner_of((block[2], block[3].strip()))
+            end = block_end(lines, number, "")
+            inside = {**outer, **imports(lines[number:end])}
+            shown = not by_trait and (names is None or owner in names)
+            for at in range(number + 1, end if shown else 0):
+                method = METHOD.match(lines[at])
+                if method and method[1] == "    " and (method[2] or all_public):
+                    page += item_page(lines, at, "fn", f"{owner}::{method[3]}", inside, definitions, file, folder)
+            number = end - 1
+        number += 1
+    return page
+
+
+def crate_page(crate, definitions, folder):
+    source = TOP / "crates" / crate / "src"
+    page = [f"# `{crate}`", "", *re.findall(r"^//! ?(.*)", (source / "lib.rt").read_text(), re.M)]
+    for file, path, names in modules(source / "lib.rt", crate):
+        items = module_page(file, path, names, definitions, folder)
+        if items:
+            about = re.findall(r"^//! ?(.*)", file.read_text(), re.M) if file.name != "lib.rt" else []
+            page += ["", f"## `{path}`", "", *about, *items]
+    return "\n".join(page) + "\n"
+
+
+def main():
+    folder = Path(sys.argv[1] if len(sys.argv) > 1 else TOP / "docs" / "api").resolve()
+    folder.mkdir(parents=True, exist_ok=True)
+    definitions = Definitions()
+    for crate in LIBRARIES:
+        (folder / f"{crate}.md").write_text(crate_page(crate, definitions, folder))
+    print(f"{len(LIBRARIES)} pages in {folder}")
+
+
+main()

@@ -1,0 +1,139 @@
+#!/usr/bin/env python3
+"""Checks the documents against the sources, and prints a line for each fault; the status is 1 where there is one.
+
+- Each link of a document leads to a file of the repository, to a heading that is there, or to a line that is.
+- Each name in backticks of the pages of NAMED is in the sources, the scripts, the edits or a file's name.
+- The Rust of README.md is in the tests, line by line.
+- No line of a document has more than 100 words, tables and code excepted.
+- The pages of docs/api are those that tools/api.py makes.
+"""
+
+import filecmp
+import re
+import subprocess
+import sys
+import tempfile
+from pathlib import Path
+
+TOP = Path(__file__).resolve().parent.parent
+NAMED = ["DEFINITIONS.md", "PROVED.md", "CHANGING.md"]
+EXAMPLES = TOP / "crates/framehop_vectors/src/readme.rt"
+FENCE = re.compile(r"^```.*?^```", re.M | re.S)
+WORD = re.compile(r"[^\W\d][\w'-]*")
+# words of a name in backticks that are not names of this repository: Rust's, and values of arguments
+FOREIGN = set("Err None Some Ok Option Result Vec u8 u16 u32 u64 usize for true false null".split())
+
+
+def documents():
+    return [TOP / "README.md", *sorted(TOP.glob("docs/*.md")), *sorted(TOP.glob("docs/api/*.md"))]
+
+
+def without_code(text):
+    """The text with its code blocks as empty lines."""
+    return FENCE.sub(lambda block: "\n" * block[0].count("\n"), text)
+
+
+def anchors(text):
+    """The names by which a page's headings are linked to."""
+    headings = re.findall(r"^#+ (.*)", without_code(text), re.M)
+    plain = [re.sub(r"[`\[\]]|\(.*?\)", "", heading).lower() for heading in headings]
+    return {re.sub(r"[^\w\- ]", "", heading).replace(" ", "-") for heading in plain}
+
+
+def dead_links(page, text):
+    for target in re.findall(r"\]\(([^)\s]+)\)", without_code(text)):
+        if re.match(r"\w+://", target):
+            continue
+        path, _, fragment = target.partition("#")
+        file = (page.parent / path).resolve() if path else page
+        if not file.exists():
+            yield f"no file {target}"
+        elif re.fullmatch(r"L\d+", fragment):
+            if int(fragment[1:]) > file.read_text().count("\n"):
+                yield f"no line {target}"
+        elif fragment and fragment not in anchors(file.read_text()):
+            yield f"no heading {target}"
+
+
+def tracked():
+    """The files of the repository, those that are not yet committed too."""
+    command = ["git", "ls-files", "--cached", "--others", "--exclude-standard"]
+    names = subprocess.run(command, cwd=TOP, capture_output=True, text=True, check=True).stdout.split("\n")
+    return [name for name in names if name and (TOP / name).is_file()]
+
+
+def names_of_sources():
+    """All words of the sources, the scripts and the edits, and of the files' names."""
+    found = set()
+    for name in tracked():
+        found.update(re.split(r"[/.]", name))
+        if name.startswith("docs/") or name == "README.md":
+            continue
+        try:
+            text = (TOP / name).read_text()
+        except UnicodeDecodeError:
+            continue
+        found.update(WORD.findall(text))
+        found.update(part for word in WORD.findall(text) for part in word.split("-"))
+    return found
+
+
+def missing_names(text, known):
+    for span in re.findall(r"`([^`\n]+)`", without_code(text)):
+        for word in WORD.findall(span):
+            parts = {word, *word.split("-")}
+            if word not in known and not parts <= known and word not in FOREIGN:
+                yield f"`{span}`: no {word} in the sources"
+
+
+def long_lines(text):
+    for number, line in enumerate(without_code(text).split("\n"), 1):
+        words = len(line.split())
+        if words > 100 and not line.startswith("|"):
+            yield f"line {number} has {words} words"
+
+
+def untested_examples():
+    tests = {line.strip() for line in EXAMPLES.read_text().split("\n")}
+    tests.add(None)
+    imports = " ".join(line for line in tests if line)
+    for block in re.findall(r"^```rust\n(.*?)^```", (TOP / "README.md").read_text(), re.M | re.S):
+        for line in block.split("\n"):
+            if line.startswith("use "):
+                lost = [word for word in WORD.findall(line) if word not in imports]
+                if lost:
+                    yield f"the tests don't use {lost[0]}"
+            elif line.strip() and line.strip() not in tests:
+                yield f"not in the tests: {line.strip()}"
+
+
+def stale_api():
+    with tempfile.TemporaryDirectory(dir=TOP / "docs") as fresh:
+        subprocess.run([sys.executable, TOP / "tools/api.py", fresh], check=True, stdout=subprocess.DEVNULL)
+        for page in sorted(Path(fresh).glob("*.md")):
+            kept = TOP / "docs/api" / page.name
+            if not kept.exists() or not filecmp.cmp(kept, page, shallow=False):
+                yield f"{page.name} is not what tools/api.py makes"
+
+
+def faults():
+    known = names_of_sources()
+    for page in documents():
+        text, name = page.read_text(), str(page.relative_to(TOP))
+        checks = [dead_links(page, text)]
+        if page.parent.name != "api":
+            checks.append(long_lines(text))
+        if page.name in NAMED:
+            checks.append(missing_names(text, known))
+        yield from (f"{name}: {fault}" for check in checks for fault in check)
+    yield from (f"README.md: {fault}" for fault in untested_examples())
+    yield from (f"docs/api: {fault}" for fault in stale_api())
+
+
+def main():
+    found = list(faults())
+    print("\n".join(found) if found else f"{len(documents())} documents, no fault")
+    sys.exit(1 if found else 0)
+
+
+main()
