@@ -10,8 +10,8 @@ use Rattle.framehop_core.specs.declared.unwind_result.UnwindResult.TheVariants.{
 use Rattle.framehop.specs.Answer.{Fresh, by_rule, direct}
 use Rattle.framehop.specs.Modules.{ModuleView, covering}
 use Rattle.framehop.specs.Policy.{Policy}
-use Rattle.framehop.specs.Unwinding.{Unwinding, Words, answer_by, takes_memory_by}
-use Rattle.framehop.specs.Soundness.{TakesMemory}
+use Rattle.framehop.specs.Unwinding.{Unwinding, Words, answer_by, may_take_memory_by}
+use Rattle.framehop.specs.Soundness.{MayTakeMemory}
 use Rattle.framehop.specs.Fresh.{fresh, outcome_of}
 use Rattle.framehop.specs.Told.{out_of_memory, IsDirect, values_in, TellsAnswer, TellsValues, WritesWithAddress, RuleHas, TellsFresh, TellsFreshValues, WritesComputed, AnswerHas, no_memory, no_values, nothing, IsAnswerOf}
 use Rattle.framehop.specs.Laws.Meaning.{fresh-covered}
@@ -32,11 +32,11 @@ given-fresh unwinding words policy fallback answers default modules address firs
     ∙ ap (λ at. unwrap_or (answer_by words policy m at first) (by_rule unwinding.fallback)) (sym is)
     ∙ ap (λ rule. unwrap_or (answer_by words policy m relative first) (by_rule rule)) default)
 
-pub takes-memory : {R Regs : Type 0} (unwinding : Unwinding R Regs) (words : Words R Regs) (policy : Policy) → unwinding.takes_memory ≡ takes_memory_by words policy → (modules : List ModuleView) (address : ℕ) (first : Bool) (m : ModuleView) (relative : ℕ) → covering modules address ≡ Some m → relative ≡ address - m.base_avma → takes_memory_by words policy m relative first ≡ true → TakesMemory unwinding modules address first
-takes-memory unwinding words policy memory modules address first m relative covers is takes = record {
+pub may-take-memory : {R Regs : Type 0} (unwinding : Unwinding R Regs) (words : Words R Regs) (policy : Policy) → unwinding.may_take_memory ≡ may_take_memory_by words policy → (modules : List ModuleView) (address : ℕ) (first : Bool) (m : ModuleView) (relative : ℕ) → covering modules address ≡ Some m → relative ≡ address - m.base_avma → may_take_memory_by words policy m relative first ≡ true → MayTakeMemory unwinding modules address first
+may-take-memory unwinding words policy memory modules address first m relative covers is may = record {
   covered_by = m;
   covers = covers;
-  takes = ap (λ test. test m (address - m.base_avma) first) memory ∙ ap (λ at. takes_memory_by words policy m at first) (sym is) ∙ takes;
+  may = ap (λ test. test m (address - m.base_avma) first) memory ∙ ap (λ at. may_take_memory_by words policy m at first) (sym is) ∙ may;
 }
 
 error-is : {A : Type 0} (error : UnwinderError) → error ≢ out_of_memory → ◌≢◌ {A = Result A UnwinderError} (Err error) (Err out_of_memory)

@@ -16,7 +16,7 @@ use Rattle.framehop_cache.specs.Cache.{CacheView}
 use Rattle.framehop.specs.Modules.{ModuleView, UnwinderView}
 use Rattle.framehop.specs.Meaning.{Meanings, MeansAt}
 use Rattle.framehop.specs.Policy.{Policy}
-use Rattle.framehop.specs.Unwinding.{Unwinding, Words, answer_by, takes_memory_by}
+use Rattle.framehop.specs.Unwinding.{Unwinding, Words, answer_by, may_take_memory_by}
 use Rattle.framehop.specs.Soundness.{IsSound, cache_after}
 use Rattle.framehop.specs.Walk.{at_limit, walk_from, cache_after_walk}
 use Rattle.framehop.specs.Rise.{IsWalkWithinRise}
@@ -57,7 +57,7 @@ aarch64 policy = record {
   outcome = outcome;
   fallback = UseFramePointer;
   module_answer = answer_by aarch64_words policy;
-  takes_memory = takes_memory_by aarch64_words policy;
+  may_take_memory = may_take_memory_by aarch64_words policy;
   stack_pointer = λ r. r.sp;
   always_rises = true;
 }

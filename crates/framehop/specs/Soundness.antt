@@ -76,16 +76,16 @@ unfoldable pub cache_after_lookup : {R : Type 0} → UnwinderView → CacheView 
 cache_after_lookup unwinder cache location =
     record cache { stats = counted cache.stats (found ways cache.sets (key_of unwinder location)) }
 
--- reading what the covering module has for an address takes memory
-pub record TakesMemory {R Regs : Type 0} (unwinding : Unwinding R Regs) (modules : List ModuleView)
+-- reading what the covering module has for an address may take memory
+pub record MayTakeMemory {R Regs : Type 0} (unwinding : Unwinding R Regs) (modules : List ModuleView)
     (address : ℕ) (first : Bool) : Type 0 where
   pub covered_by : ModuleView
   pub covers : covering modules address ≡ Some covered_by
-  pub takes : unwinding.takes_memory covered_by (address - covered_by.base_avma) first ≡ true
+  pub may : unwinding.may_take_memory covered_by (address - covered_by.base_avma) first ≡ true
 
 -- A step at a location can run out of memory: its rule is not in the cache, and reading what the covering module has
--- for the address takes memory.
+-- for the address may take memory.
 pub record MayRunOut {R Regs : Type 0} (unwinding : Unwinding R Regs) (unwinder : UnwinderView) (cache : CacheView R)
     (location : FrameLocation) : Type 0 where
   pub missed : (rule : R) → found ways cache.sets (key_of unwinder location) ≢ hit rule
-  pub takes : TakesMemory unwinding unwinder.modules (lookup_address location) (is_first_frame location)
+  pub may : MayTakeMemory unwinding unwinder.modules (lookup_address location) (is_first_frame location)

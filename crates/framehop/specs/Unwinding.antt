@@ -1,26 +1,27 @@
 -- What an architecture makes of rules and modules: the one record by which steps, walks, caches and sessions are
 -- defined.
-use Rattle.std.specs.Prelude.{◌≡◌, ℕ, ◌<◌, ◌&&◌, Bool, true, false, Option, Some, None, is_some, Result}
+use Rattle.std.specs.Prelude.{◌≡◌, ℕ, ◌<◌, Bool, true, false, Option, Some, None, Result}
 use Rattle.framehop_core.specs.Memory.{Memory}
 use Rattle.framehop_core.specs.Outcome.{Outcome, answered}
 use Rattle.framehop_pe.specs.Sections.{Sections}
 use Rattle.framehop_pe.specs.declared.pe.PeUnwinderError.{PeUnwinderError}
 use Rattle.framehop_macho.specs.Unwinder.{Words as CompactWords, unwound}
 use Rattle.framehop.specs.Policy.{Policy}
-use Rattle.framehop.specs.Compact.{compact_answer, needs_fde}
+use Rattle.framehop.specs.Compact.{compact_answer, info_may_take_memory}
 use Rattle.framehop.specs.Answer.{Fresh, direct, fresh_of}
-use Rattle.framehop.specs.CallFrames.{RowWords, frames_answer, fde_offset_of}
+use Rattle.framehop.specs.CallFrames.{RowWords, frames_answer, fde_offset_of, fde_may_take_memory}
 use Rattle.framehop.specs.Modules.{ModuleView, UnwindData, no_unwind_data, call_frames, pe_sections, compact_info}
 
 -- `outcome`: what a rule does to a frame, a first one (`true`) or another. `fallback`: the rule where nothing is known.
 -- `module_answer`: what the unwind data of a module gives for a relative address in a frame of this kind, if anything.
--- `takes_memory`: whether finding that out for a relative address can take memory. `stack_pointer`: that of registers.
+-- `may_take_memory`: whether finding that out for a relative address may take memory. `stack_pointer`: that of
+-- registers.
 -- `always_rises`: whether each step that leaves a frame other than the first raises the stack pointer.
 pub record Unwinding (Rule Regs : Type 0) : Type 0 where
   pub outcome : Rule → Bool → Regs → Memory → Outcome Regs
   pub fallback : Rule
   pub module_answer : ModuleView → ℕ → Bool → Option (Fresh Rule Regs)
-  pub takes_memory : ModuleView → ℕ → Bool → Bool
+  pub may_take_memory : ModuleView → ℕ → Bool → Bool
   pub stack_pointer : Regs → ℕ
   pub always_rises : Bool
 
@@ -46,21 +47,23 @@ data_answer words policy (pe_sections sections) relative first = pe_answer words
 data_answer words policy (compact_info d) relative first =
     compact_answer words.compact words.rows policy d relative first
 
--- unwind data names an FDE for a relative address in a frame of this kind
-abbrev pub names_fde : {Rule Regs : Type 0} → Words Rule Regs → UnwindData → ℕ → Bool → Bool
-names_fde words no_unwind_data relative first = false
-names_fde words (call_frames frames) relative first = is_some (fde_offset_of frames relative)
-names_fde words (pe_sections sections) relative first = false
-names_fde words (compact_info d) relative first = needs_fde d.frames (unwound words.compact d.info relative first)
+-- finding that out may take memory: by the row of an FDE only
+abbrev pub data_may_take_memory : {Rule Regs : Type 0} → Words Rule Regs → Policy → UnwindData → ℕ → Bool → Bool
+data_may_take_memory words policy no_unwind_data relative first = false
+data_may_take_memory words policy (call_frames frames) relative first =
+    fde_may_take_memory policy frames relative (fde_offset_of frames relative)
+data_may_take_memory words policy (pe_sections sections) relative first = false
+data_may_take_memory words policy (compact_info d) relative first =
+    info_may_take_memory policy d.frames relative (unwound words.compact d.info relative first)
 
 -- what the unwind data of a module gives
 unfoldable pub answer_by : {Rule Regs : Type 0} → Words Rule Regs → Policy → ModuleView → ℕ → Bool
     → Option (Fresh Rule Regs)
 answer_by words policy m relative first = data_answer words policy m.unwind_data relative first
 
--- reading it takes memory only where the policy allows it and an FDE is named
-unfoldable pub takes_memory_by : {Rule Regs : Type 0} → Words Rule Regs → Policy → ModuleView → ℕ → Bool → Bool
-takes_memory_by words policy m relative first = policy.may_allocate && names_fde words m.unwind_data relative first
+-- whether reading it may take memory
+unfoldable pub may_take_memory_by : {Rule Regs : Type 0} → Words Rule Regs → Policy → ModuleView → ℕ → Bool → Bool
+may_take_memory_by words policy m relative first = data_may_take_memory words policy m.unwind_data relative first
 
 -- that is so where it is said: a rule's step, and computed values, raise the stack pointer
 pub record RisesAsSaid {Rule Regs : Type 0} (unwinding : Unwinding Rule Regs) : Type 0 where

@@ -15,7 +15,7 @@ use Rattle.framehop_cache.specs.Cache.{CacheView}
 use Rattle.framehop.specs.Modules.{ModuleView, UnwinderView}
 use Rattle.framehop.specs.Meaning.{Meanings, MeansAt}
 use Rattle.framehop.specs.Policy.{Policy}
-use Rattle.framehop.specs.Unwinding.{Unwinding, Words, answer_by, takes_memory_by}
+use Rattle.framehop.specs.Unwinding.{Unwinding, Words, answer_by, may_take_memory_by}
 use Rattle.framehop.specs.Soundness.{IsSound}
 
 -- what x86_64 makes of unwind data
@@ -49,7 +49,7 @@ x86_64 policy = record {
   outcome = outcome;
   fallback = UseFramePointer;
   module_answer = answer_by x86_64_words policy;
-  takes_memory = takes_memory_by x86_64_words policy;
+  may_take_memory = may_take_memory_by x86_64_words policy;
   stack_pointer = λ r. r.rsp;
   always_rises = false;
 }

@@ -5,7 +5,7 @@ ghost use Rattle.framehop.specs.Outcome.{Outcome, answered, answer_of, registers
 ghost use Rattle.framehop.specs.CodeAddress.{FrameLocation, location_of, is_first_frame};
 ghost use Rattle.framehop.specs.Iterator.{before};
 ghost use Rattle.framehop.specs.UnwindIterator.{unwinder_of, progress_in, regs_of, cache_of, read_stack_of};
-ghost use Rattle.framehop.specs.Unwinding.{Unwinding, Words, answer_by, takes_memory_by, RisesAsSaid};
+ghost use Rattle.framehop.specs.Unwinding.{Unwinding, Words, answer_by, may_take_memory_by, RisesAsSaid};
 ghost use Rattle.framehop.specs.Meaning.{Meanings, MeansAt};
 ghost use Rattle.framehop_cfi.specs.Row.{Row};
 ghost use Rattle.framehop_analysis.specs.Answer.{Does};
@@ -15,7 +15,7 @@ ghost use Rattle.framehop.specs.Policy.{Policy};
 ghost use Rattle.framehop.specs.Fresh.{fresh, outcome_of};
 ghost use Rattle.framehop_cache.specs.Cache.{found, counted, ways};
 ghost use Rattle.framehop_cache.specs.CacheResult.{result_of, HitRuns};
-ghost use Rattle.framehop.specs.Soundness.{key_of, AreApart, sets_after_miss, TakesMemory};
+ghost use Rattle.framehop.specs.Soundness.{key_of, AreApart, sets_after_miss, MayTakeMemory};
 ghost use Rattle.std.specs.List.Sorted.{IsPartitionPoint};
 ghost use Rattle.framehop.specs.Modules.{ModuleView, UnwinderView, AreInOrder, starting_by, starting_above, with_module, has_start, without_module, starts_by, covers, covering, greatest_end};
 
@@ -99,7 +99,7 @@ pub trait Unwinding: DwarfUnwinding + PeUnwinding + CompactUnwindInfoUnwinding {
     // what a module's unwind data gives is by its words
     ghost answer_is: { (policy : Policy) → (unwinding policy).module_answer ≡ answer_by words policy };
 
-    ghost memory_is: { (policy : Policy) → (unwinding policy).takes_memory ≡ takes_memory_by words policy };
+    ghost memory_is: { (policy : Policy) → (unwinding policy).may_take_memory ≡ may_take_memory_by words policy };
 
     // a step that answers an address does what the source of its rule means
     ghost step_means: { (policy : Policy) (modules : List ModuleView) (location : FrameLocation) (old new : Self.UnwindRegs) (memory : Memory) (address : ℕ)
@@ -580,7 +580,7 @@ impl<D: SectionBytes + Drop, A: Unwinding, P: AllocationPolicy> UnwinderInternal
         ensures callable { F.IsAlwaysCallable read_stack.new }
         ensures kept { cache.new ≡ cache.old }
         ensures refused { IfErr result (λ error. (error ≡ Error.OutOfMemory) × (regs.new ≡ regs.old)
-            × TakesMemory (A.unwinding P.policy) self.now.modules lookup_address is_first_frame) }
+            × MayTakeMemory (A.unwinding P.policy) self.now.modules lookup_address is_first_frame) }
         ensures written { IfOk result (λ answer. WritesComputed (A.step_advances is_first_frame) answer regs.old regs.new) }
         ensures executable { IfOk result (AnswerHas (λ rule. A.UnwindRule.executable rule ≡ true)) }
         ensures told { IfOk result (TellsFresh (fresh (A.unwinding P.policy) self.now.modules lookup_address is_first_frame)) }
@@ -620,7 +620,7 @@ impl<D: SectionBytes + Drop, A: Unwinding, P: AllocationPolicy> UnwinderInternal
             (λ answer. IfNone answer (regs.new ≡ regs.old))
             (λ _. regs.new ≡ regs.old) }
         ensures advances { IfOk result (λ answer. OnSome answer (A.step_advances is_first_frame regs.old regs.new)) }
-        ensures may_run_out { result ≡ Err Error.OutOfMemory → TakesMemory (A.unwinding P.policy) self.now.modules lookup_address is_first_frame }
+        ensures may_run_out { result ≡ Err Error.OutOfMemory → MayTakeMemory (A.unwinding P.policy) self.now.modules lookup_address is_first_frame }
         ensures stored { result ≢ Err Error.OutOfMemory → cache.new ≡ record cache.old {
           sets = sets_after_miss cache.old.sets handle (fresh (A.unwinding P.policy) self.now.modules lookup_address is_first_frame);
         } }

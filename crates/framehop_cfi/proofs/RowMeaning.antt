@@ -17,11 +17,11 @@ use Rattle.framehop_cfi.specs.Outcome.{Becomes}
 use Rattle.std.specs.Prelude.{OnOk, IfErr}
 use Rattle.framehop_cfi.proofs.Forward.{instruction-forward}
 
-bind_ok : {A B E : Type 0} (r : Result A E) (f : A → Result B E) (y : B) → (r >>= f) ≡ Ok y → (x : A) × (r ≡ Ok x) × (f x ≡ Ok y)
+pub bind_ok : {A B E : Type 0} (r : Result A E) (f : A → Result B E) (y : B) → (r >>= f) ≡ Ok y → (x : A) × (r ≡ Ok x) × (f x ≡ Ok y)
 bind_ok (Ok x) f y is = (x, refl, is)
 bind_ok (Err e) f y is = cc
 
-same : (x y : TableRows) → ◌≡◌ {A = Result TableRows ReadError} (Ok x) (Ok y) → x ≡ y
+pub same : (x y : TableRows) → ◌≡◌ {A = Result TableRows ReadError} (Ok x) (Ok y) → x ≡ y
 same x y is = cc
 
 module _ (limits : Option StorageLimits) (code : InstructionList) where

@@ -5,6 +5,7 @@ pub mod Direct
 pub mod Evaluation
 pub mod Index
 pub mod Laws
+pub mod MayTakeMemory
 pub mod Operation
 pub mod Refusal
 pub mod RowMeaning

@@ -9,7 +9,7 @@ use Rattle.framehop_dwarf.specs.Aarch64.{Ascends}
 use Rattle.framehop_dwarf.specs.Laws.DirectAarch64.{direct-means}
 use Rattle.framehop_pe.specs.Sections.{Sections}
 use Rattle.framehop.specs.Policy.{Policy}
-use Rattle.framehop.specs.Unwinding.{RisesAsSaid, answer_by, takes_memory_by}
+use Rattle.framehop.specs.Unwinding.{RisesAsSaid, answer_by, may_take_memory_by}
 use Rattle.framehop.specs.Laws.Values.{values-read}
 use Rattle.framehop.specs.Aarch64.{aarch64, aarch64_words, aarch64_meanings, aarch64_means}
 use Rattle.framehop.specs.Fresh.{step}
@@ -37,7 +37,7 @@ pub answer-is : (policy : Policy) → (aarch64 policy).module_answer ≡ answer_
 unfolding aarch64
 answer-is policy = refl
 
-pub memory-is : (policy : Policy) → (aarch64 policy).takes_memory ≡ takes_memory_by aarch64_words policy
+pub memory-is : (policy : Policy) → (aarch64 policy).may_take_memory ≡ may_take_memory_by aarch64_words policy
 unfolding aarch64
 memory-is policy = refl
 

@@ -7,7 +7,7 @@ use Rattle.framehop_core.specs.X86_64.Registers.{Registers}
 use Rattle.framehop_core.specs.X86_64.Rules.{outcome}
 use Rattle.framehop_core.specs.declared.x86_64.unwind_rule.UnwindRuleX86_64.TheVariants.{UseFramePointer}
 use Rattle.framehop.specs.Policy.{Policy}
-use Rattle.framehop.specs.Unwinding.{RisesAsSaid, answer_by, takes_memory_by}
+use Rattle.framehop.specs.Unwinding.{RisesAsSaid, answer_by, may_take_memory_by}
 use Rattle.framehop.specs.X86_64.{x86_64, x86_64_words, x86_64_meanings, x86_64_means}
 use Rattle.framehop.specs.Fresh.{step}
 use Rattle.framehop.specs.Modules.{ModuleView}
@@ -34,7 +34,7 @@ pub answer-is : (policy : Policy) → (x86_64 policy).module_answer ≡ answer_b
 unfolding x86_64
 answer-is policy = refl
 
-pub memory-is : (policy : Policy) → (x86_64 policy).takes_memory ≡ takes_memory_by x86_64_words policy
+pub memory-is : (policy : Policy) → (x86_64 policy).may_take_memory ≡ may_take_memory_by x86_64_words policy
 unfolding x86_64
 memory-is policy = refl
 

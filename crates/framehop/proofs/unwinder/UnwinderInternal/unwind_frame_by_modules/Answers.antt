@@ -1,7 +1,7 @@
 use Rattle.std.proofs.Common.{ap, sym, ◌∙◌, subst, IfOk}
 use Rattle.framehop.specs.Answer.{Fresh, by_rule}
 use Rattle.framehop.specs.Told.{TellsFresh, TellsFreshValues}
-use Rattle.framehop.proofs.AnswerLemmas.{fresh-uncovered, given-fresh, takes-memory, refused, tells, values}
+use Rattle.framehop.proofs.AnswerLemmas.{fresh-uncovered, given-fresh, may-take-memory, refused, tells, values}
 use Rattle.framehop.proofs.unwinder.UnwinderInternal.unwind_frame_by_modules.Goals as goal
 
 pub returns-in_default-clause-told : goal.returns-in_default-clause-told
@@ -14,7 +14,7 @@ pub returns-clause-refused : goal.returns-clause-refused
 returns-clause-refused g c =
     let policy = g.P.AllocationPolicy.policy in
     refused g.A.UnwindRule.UnwindRule.fallback _ c.unwind_frame.result c.frame_answer.result c.args.regs.now c.unwind_frame.new.regs c.frame_answer.ensures c.unwind_frame.ensures.written
-    (λ out. takes-memory (g.A.Unwinding.unwinding policy) _ policy (g.A.Unwinding.memory_is policy) c.args.self.now.modules c.args.lookup_address c.args.is_first_frame c.in-Some.module.now c.in-Some.relative_address c.in-Some.ensures.0 c.in-Some.ensures.1 (c.unwind_frame.ensures.memory out))
+    (λ out. may-take-memory (g.A.Unwinding.unwinding policy) _ policy (g.A.Unwinding.memory_is policy) c.args.self.now.modules c.args.lookup_address c.args.is_first_frame c.in-Some.module.now c.in-Some.relative_address c.in-Some.ensures.0 c.in-Some.ensures.1 (c.unwind_frame.ensures.memory out))
 
 pub returns-clause-told : goal.returns-clause-told
 returns-clause-told g c =

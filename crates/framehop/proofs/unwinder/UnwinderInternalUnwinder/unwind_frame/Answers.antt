@@ -2,7 +2,7 @@ use Rattle.std.proofs.Common.{not, ap, sym, ◌∙◌, subst, ⊎_elim}
 use Rattle.framehop.specs.Outcome.{answer_of, registers_after}
 use Rattle.framehop.specs.CodeAddress.{location_of, lookup_address}
 use Rattle.framehop_cache.specs.Cache.{CacheView}
-use Rattle.framehop.specs.Soundness.{Extends, TakesMemory}
+use Rattle.framehop.specs.Soundness.{Extends, MayTakeMemory}
 use Rattle.framehop.proofs.SoundnessLemmas.{cache_after-hit, cache_after-miss, cache_after_lookup-miss, missed, step-hit, step-at, fresh-at, Extends-after, Extends-same, IsSound-extended, out-or-not}
 use Rattle.framehop.proofs.MeaningLemmas.{answer-means}
 use Rattle.framehop.proofs.unwinder.UnwinderInternalUnwinder.unwind_frame.Goals as goal
@@ -26,8 +26,8 @@ returns-in-Hit-clause-answers g c = λ memory answers sound.
 pub returns-in-Miss-clause-may_run_out : goal.returns-in-Miss-clause-may_run_out
 returns-in-Miss-clause-may_run_out g c = λ out. record {
   missed = missed (g.A.Unwinding.unwinding g.P.AllocationPolicy.policy) c.args.self.now c.args.cache.now (location_of c.args.address) c.in-Miss.handle (sym c.lookup_rule.ensures.answer ∙ c.in-Miss.is);
-  takes = subst (λ first. TakesMemory (g.A.Unwinding.unwinding g.P.AllocationPolicy.policy) c.args.self.now.modules (lookup_address (location_of c.args.address)) first) (ap not c.is_return_address-is_first_frame.ensures)
-      (subst (λ address. TakesMemory (g.A.Unwinding.unwinding g.P.AllocationPolicy.policy) c.args.self.now.modules address (not c.is_return_address-is_first_frame.result)) c.address_for_lookup.ensures (c.unwind_uncached.ensures.may_run_out out));
+  may = subst (λ first. MayTakeMemory (g.A.Unwinding.unwinding g.P.AllocationPolicy.policy) c.args.self.now.modules (lookup_address (location_of c.args.address)) first) (ap not c.is_return_address-is_first_frame.ensures)
+      (subst (λ address. MayTakeMemory (g.A.Unwinding.unwinding g.P.AllocationPolicy.policy) c.args.self.now.modules address (not c.is_return_address-is_first_frame.result)) c.address_for_lookup.ensures (c.unwind_uncached.ensures.may_run_out out));
 }
 
 pub returns-in-Miss-clause-cached : goal.returns-in-Miss-clause-cached
