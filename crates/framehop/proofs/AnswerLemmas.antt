@@ -33,10 +33,10 @@ given-fresh unwinding readers policy fallback answers default modules address fi
     ∙ ap (λ rule. unwrap_or (answer_by readers policy m relative first) (by_rule rule)) default)
 
 pub may-take-memory : {R Regs : Type 0} (unwinding : Unwinding R Regs) (readers : Readers R Regs) (policy : Policy) → unwinding.may_take_memory ≡ may_take_memory_by readers policy → (modules : List ModuleView) (address : ℕ) (first : Bool) (m : ModuleView) (relative : ℕ) → covering modules address ≡ Some m → relative ≡ address - m.base_avma → may_take_memory_by readers policy m relative first ≡ true → MayTakeMemory unwinding modules address first
-may-take-memory unwinding readers policy memory modules address first m relative covers is takes = record {
+may-take-memory unwinding readers policy memory modules address first m relative covers is may = record {
   covered_by = m;
   covers = covers;
-  takes = ap (λ test. test m (address - m.base_avma) first) memory ∙ ap (λ at. may_take_memory_by readers policy m at first) (sym is) ∙ takes;
+  may = ap (λ test. test m (address - m.base_avma) first) memory ∙ ap (λ at. may_take_memory_by readers policy m at first) (sym is) ∙ may;
 }
 
 error-is : {A : Type 0} (error : UnwinderError) → error ≢ out_of_memory → ◌≢◌ {A = Result A UnwinderError} (Err error) (Err out_of_memory)

@@ -1,6 +1,6 @@
 -- The compact unwind info of a module, and what it gives (framehop 0.16.0, `ModuleUnwindDataInternal` and
 -- `CompactUnwindInfoUnwinder`).
-use Rattle.std.specs.Prelude.{ℕ, ◌+◌, Bool, false, Option, Some, None, option_and_then, is_some, Ok, Err}
+use Rattle.std.specs.Prelude.{ℕ, ◌+◌, Bool, false, Option, Some, None, option_and_then, Ok, Err}
 use Rattle.framehop_macho.specs.Answer.{Answer}
 use Rattle.framehop_macho.specs.Unwinder.{Module, CompactReader, unwound}
 use Rattle.framehop_macho.specs.declared.macho.CompactUnwindInfoUnwinderError.{CompactUnwindInfoUnwinderError}
@@ -10,7 +10,7 @@ use Rattle.framehop.specs.Policy.{Policy}
 use Rattle.framehop.specs.Answer.{Fresh, by_rule}
 use Rattle.framehop.specs.declared.modules.UnwinderError.{UnwinderError}
 use Rattle.framehop.specs.declared.modules.UnwinderError.TheVariants.{CompactUnwindInfo, Dwarf}
-use Rattle.framehop.specs.CallFrames.{CallFrames, RowReader, fde_answer}
+use Rattle.framehop.specs.CallFrames.{CallFrames, RowReader, fde_answer, fde_may_take_memory}
 
 -- why compact unwind info does not unwind a frame: what call frame information refuses is its refusal
 abbrev pub refusal_of : CompactUnwindInfoUnwinderError → UnwinderError
@@ -37,8 +37,14 @@ abbrev pub compact_answer : {Rule Regs : Type 0} → CompactReader Rule → RowR
 compact_answer reader rows policy d relative first =
     by_info rows policy d.frames relative first (unwound reader d.info relative first)
 
--- the info names an FDE
-abbrev pub needs_fde : {Rule : Type 0} → Option CallFrames → Answer Rule → Bool
-needs_fde frames (Ok (ExecRule rule)) = false
-needs_fde frames (Ok (NeedDwarf offset)) = is_some frames
-needs_fde frames (Err error) = false
+-- finding that out may take memory: by the FDE at an offset of `__eh_frame`, if it is there
+abbrev pub eh_frame_may_take_memory : Policy → Option CallFrames → ℕ → ℕ → Bool
+eh_frame_may_take_memory policy None relative offset = false
+eh_frame_may_take_memory policy (Some frames) relative offset = fde_may_take_memory policy frames relative (Some offset)
+
+-- the same by what the info gives
+abbrev pub info_may_take_memory : {Rule : Type 0} → Policy → Option CallFrames → ℕ → Answer Rule → Bool
+info_may_take_memory policy frames relative (Ok (ExecRule rule)) = false
+info_may_take_memory policy frames relative (Ok (NeedDwarf offset)) =
+    eh_frame_may_take_memory policy frames relative offset
+info_may_take_memory policy frames relative (Err error) = false

@@ -81,11 +81,11 @@ pub record MayTakeMemory {R Regs : Type 0} (unwinding : Unwinding R Regs) (modul
     (address : ℕ) (first : Bool) : Type 0 where
   pub covered_by : ModuleView
   pub covers : covering modules address ≡ Some covered_by
-  pub takes : unwinding.may_take_memory covered_by (address - covered_by.base_avma) first ≡ true
+  pub may : unwinding.may_take_memory covered_by (address - covered_by.base_avma) first ≡ true
 
 -- A step at a location can run out of memory: its rule is not in the cache, and reading what the covering module has
 -- for the address may take memory.
 pub record MayRunOut {R Regs : Type 0} (unwinding : Unwinding R Regs) (unwinder : UnwinderView) (cache : CacheView R)
     (location : FrameLocation) : Type 0 where
   pub missed : (rule : R) → found ways cache.sets (key_of unwinder location) ≢ hit rule
-  pub takes : MayTakeMemory unwinding unwinder.modules (lookup_address location) (is_first_frame location)
+  pub may : MayTakeMemory unwinding unwinder.modules (lookup_address location) (is_first_frame location)

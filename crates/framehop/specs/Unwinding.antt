@@ -1,15 +1,15 @@
 -- What an architecture makes of rules and modules: the one record by which steps, walks, caches and sessions are
 -- defined.
-use Rattle.std.specs.Prelude.{◌≡◌, ℕ, ◌<◌, ◌&&◌, Bool, true, false, Option, Some, None, is_some, Result}
+use Rattle.std.specs.Prelude.{◌≡◌, ℕ, ◌<◌, Bool, true, false, Option, Some, None, Result}
 use Rattle.framehop_core.specs.Memory.{Memory}
 use Rattle.framehop_core.specs.Outcome.{Outcome, answered}
 use Rattle.framehop_pe.specs.Sections.{Sections}
 use Rattle.framehop_pe.specs.declared.pe.PeUnwinderError.{PeUnwinderError}
 use Rattle.framehop_macho.specs.Unwinder.{CompactReader, unwound}
 use Rattle.framehop.specs.Policy.{Policy}
-use Rattle.framehop.specs.Compact.{compact_answer, needs_fde}
+use Rattle.framehop.specs.Compact.{compact_answer, info_may_take_memory}
 use Rattle.framehop.specs.Answer.{Fresh, direct, fresh_of}
-use Rattle.framehop.specs.CallFrames.{RowReader, frames_answer, fde_offset_of}
+use Rattle.framehop.specs.CallFrames.{RowReader, frames_answer, fde_offset_of, fde_may_take_memory}
 use Rattle.framehop.specs.Modules.{ModuleView, UnwindData, no_unwind_data, call_frames, pe_sections, compact_info}
 
 -- `outcome`: what a rule does to a frame, a first one (`true`) or another. `fallback`: the rule where nothing is known.
@@ -46,22 +46,24 @@ data_answer readers policy (pe_sections sections) relative first = pe_answer rea
 data_answer readers policy (compact_info d) relative first =
     compact_answer readers.compact readers.rows policy d relative first
 
--- unwind data names an FDE for a relative address in a frame of this kind
-abbrev pub names_fde : {Rule Regs : Type 0} → Readers Rule Regs → UnwindData → ℕ → Bool → Bool
-names_fde readers no_unwind_data relative first = false
-names_fde readers (call_frames frames) relative first = is_some (fde_offset_of frames relative)
-names_fde readers (pe_sections sections) relative first = false
-names_fde readers (compact_info d) relative first = needs_fde d.frames (unwound readers.compact d.info relative first)
+-- finding that out may take memory: by the row of an FDE only
+abbrev pub data_may_take_memory : {Rule Regs : Type 0} → Readers Rule Regs → Policy → UnwindData → ℕ → Bool → Bool
+data_may_take_memory readers policy no_unwind_data relative first = false
+data_may_take_memory readers policy (call_frames frames) relative first =
+    fde_may_take_memory policy frames relative (fde_offset_of frames relative)
+data_may_take_memory readers policy (pe_sections sections) relative first = false
+data_may_take_memory readers policy (compact_info d) relative first =
+    info_may_take_memory policy d.frames relative (unwound readers.compact d.info relative first)
 
 -- what the unwind data of a module gives
 unfoldable pub answer_by : {Rule Regs : Type 0} → Readers Rule Regs → Policy → ModuleView → ℕ → Bool
     → Option (Fresh Rule Regs)
 answer_by readers policy m relative first = data_answer readers policy m.unwind_data relative first
 
--- reading it takes memory only where the policy allows it and an FDE is named
+-- whether reading it may take memory
 unfoldable pub may_take_memory_by : {Rule Regs : Type 0} → Readers Rule Regs → Policy → ModuleView → ℕ → Bool → Bool
 may_take_memory_by readers policy m relative first =
-    policy.may_allocate && names_fde readers m.unwind_data relative first
+    data_may_take_memory readers policy m.unwind_data relative first
 
 -- that is so where it is said: a rule's step, and computed values, raise the stack pointer
 pub record RisesAsSaid {Rule Regs : Type 0} (unwinding : Unwinding Rule Regs) : Type 0 where

@@ -1,10 +1,11 @@
 //! Modules that are loaded in a process, and unwinding by their unwind data.
-ghost use Rattle.std.specs.Prelude.{◌≡◌, ◌≢◌, ◌+◌, ◌-◌, ◌<◌, true, IfOk, IfErr, SomeIff, IsTrue, is_some, option_map, ℕ, List, Ok, Err, None, string_bytes, Option};
+ghost use Rattle.std.specs.Prelude.{◌≡◌, ◌≢◌, ◌+◌, ◌-◌, ◌<◌, true, IfOk, IfErr, SomeIff, IsTrue, option_map, ℕ, List, Ok, Err, None, string_bytes, Option};
 ghost use Rattle.framehop.specs.Memory.{Memory, AnswersAs};
 ghost use Rattle.framehop.specs.Unwinding.{Unwinding, answer_by, may_take_memory_by};
-ghost use Rattle.framehop.specs.CallFrames.{frames_with_header, frames_answer, fde_answer, fde_offset_of};
+ghost use Rattle.framehop.specs.CallFrames.{frames_with_header, frames_answer, fde_answer, fde_offset_of, fde_may_take_memory};
+ghost use Rattle.framehop_dwarf.specs.MayTakeMemory.{may_take_memory};
 ghost use Rattle.framehop.specs.UnwindData.{unwind_data_of, placed_data};
-ghost use Rattle.framehop.specs.Compact.{by_info, compact_answer, needs_fde};
+ghost use Rattle.framehop.specs.Compact.{by_info, compact_answer, eh_frame_may_take_memory, info_may_take_memory};
 ghost use Rattle.framehop_macho.specs.Answer.{IfExecRule};
 ghost use Rattle.framehop_macho.specs.Unwinder.{unwound};
 ghost use Rattle.framehop_macho.specs.declared.macho.CuiUnwindResult.TheVariants.{NeedDwarf};
@@ -220,7 +221,8 @@ where
     ensures callable { F.IsAlwaysCallable read_stack.new }
     ensures written { WritesWithAddress (A.step_advances is_first_frame) result regs.old regs.new }
     ensures executable { RuleHas (λ rule. IsTrue (A.UnwindRule.executable rule)) result }
-    ensures memory { result ≡ Err out_of_memory → P.policy.may_allocate ≡ true }
+    ensures memory { result ≡ Err out_of_memory → may_take_memory
+        P.policy.rows P.policy.values unwinder.old.section (unwinder.old.base_svma + relative_address) fde_offset ≡ true }
     ensures told { result ≢ Err out_of_memory → TellsAnswer
         (fde_answer A.readers.rows P.policy unwinder.old.section (unwinder.old.base_svma + relative_address) is_first_frame fde_offset) result }
     ensures answers { (memory : Memory) → AnswersAs F.FnMut read_stack.old memory
@@ -261,8 +263,9 @@ where
     ensures callable { F.IsAlwaysCallable read_stack.new }
     ensures written { WritesWithAddress (A.step_advances is_first_frame) result regs.old regs.new }
     ensures executable { RuleHas (λ rule. IsTrue (A.UnwindRule.executable rule)) result }
-    ensures memory { result ≡ Err out_of_memory → (P.policy.may_allocate ≡ true)
-        × (is_some (fde_offset_of (frames_with_header eh_frame_hdr.now eh_frame.now base_addresses base_svma) relative_address) ≡ true) }
+    ensures memory { result ≡ Err out_of_memory → fde_may_take_memory
+        P.policy (frames_with_header eh_frame_hdr.now eh_frame.now base_addresses base_svma) relative_address
+        (fde_offset_of (frames_with_header eh_frame_hdr.now eh_frame.now base_addresses base_svma) relative_address) ≡ true }
     ensures told { result ≢ Err out_of_memory → TellsAnswer
         (frames_answer A.readers.rows P.policy (frames_with_header eh_frame_hdr.now eh_frame.now base_addresses base_svma) relative_address is_first_frame) result }
     ensures answers { (memory : Memory) → AnswersAs F.FnMut read_stack.old memory
@@ -317,7 +320,8 @@ impl<D: SectionBytes> IndexedFrames<D> {
         ensures callable { F.IsAlwaysCallable read_stack.new }
         ensures written { WritesWithAddress (A.step_advances is_first_frame) result regs.old regs.new }
         ensures executable { RuleHas (λ rule. IsTrue (A.UnwindRule.executable rule)) result }
-        ensures memory { result ≡ Err out_of_memory → (P.policy.may_allocate ≡ true) × (is_some (fde_offset_of self.now relative_address) ≡ true) }
+        ensures memory { result ≡ Err out_of_memory → fde_may_take_memory
+            P.policy self.now relative_address (fde_offset_of self.now relative_address) ≡ true }
         ensures told { result ≢ Err out_of_memory → TellsAnswer
             (frames_answer A.readers.rows P.policy self.now relative_address is_first_frame) result }
         ensures answers { (memory : Memory) → AnswersAs F.FnMut read_stack.old memory
@@ -388,7 +392,7 @@ impl<D: SectionBytes> CompactInfo<D> {
         ensures callable { F.IsAlwaysCallable read_stack.new }
         ensures written { WritesWithAddress (A.step_advances is_first_frame) result regs.old regs.new }
         ensures executable { RuleHas (λ rule. IsTrue (A.UnwindRule.executable rule)) result }
-        ensures memory { result ≡ Err out_of_memory → (P.policy.may_allocate ≡ true) × (is_some self.now.frames ≡ true) }
+        ensures memory { result ≡ Err out_of_memory → eh_frame_may_take_memory P.policy self.now.frames relative_address fde_offset ≡ true }
         ensures told { result ≢ Err out_of_memory → TellsAnswer
             (by_info A.readers.rows P.policy self.now.frames relative_address is_first_frame (Ok (NeedDwarf fde_offset))) result }
         ensures answers { (memory : Memory) → AnswersAs F.FnMut read_stack.old memory
@@ -434,8 +438,8 @@ impl<D: SectionBytes> CompactInfo<D> {
         ensures callable { F.IsAlwaysCallable read_stack.new }
         ensures written { WritesWithAddress (A.step_advances is_first_frame) result regs.old regs.new }
         ensures executable { RuleHas (λ rule. IsTrue (A.UnwindRule.executable rule)) result }
-        ensures memory { result ≡ Err out_of_memory → (P.policy.may_allocate ≡ true)
-            × (needs_fde self.now.frames (unwound A.readers.compact self.now.info relative_address is_first_frame) ≡ true) }
+        ensures memory { result ≡ Err out_of_memory → info_may_take_memory
+            P.policy self.now.frames relative_address (unwound A.readers.compact self.now.info relative_address is_first_frame) ≡ true }
         ensures told { result ≢ Err out_of_memory → TellsAnswer
             (compact_answer A.readers.compact
             A.readers.rows P.policy self.now relative_address is_first_frame) result }

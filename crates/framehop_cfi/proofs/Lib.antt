@@ -3,6 +3,7 @@ pub mod Rows
 pub mod Run
 pub mod Table
 pub mod Forward
+pub mod Room
 pub mod RowMeaning
 pub mod Spans
 pub mod Cut

@@ -18,7 +18,7 @@ use Rattle.std.specs.Prelude.{OnOk, IfErr}
 use Rattle.framehop_cfi.proofs.Forward.{instruction-forward}
 use Rattle.framehop_cfi.proofs.Spans.{bind_ok}
 
-same : (x y : TableRows) → ◌≡◌ {A = Result TableRows ReadError} (Ok x) (Ok y) → x ≡ y
+pub same : (x y : TableRows) → ◌≡◌ {A = Result TableRows ReadError} (Ok x) (Ok y) → x ≡ y
 same x y is = cc
 
 module _ (limits : Option StorageLimits) (code : InstructionList) where

@@ -20,6 +20,7 @@ pub mod Refusal
 pub mod Row
 pub mod RowAt
 pub mod RowMeaning
+pub mod RowRoom
 pub mod Section
 pub mod SectionTable
 pub mod EntryExtent

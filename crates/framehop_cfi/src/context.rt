@@ -1,9 +1,10 @@
 //! The row of an address: the instructions of a CIE and of an FDE, run up to it (DWARF 5 section 6.4.3).
-ghost use Rattle.std.specs.Prelude.{◌≡◌, ◌≢◌, ◌*◌, IfOk, IfErr, OnOk, OnErr, IsErrOf, None, Err, vec_len};
+ghost use Rattle.std.specs.Prelude.{◌≡◌, ◌≢◌, ◌*◌, ◌<◌, length, true, IfOk, IfErr, OnOk, OnErr, IsErrOf, None, Err, vec_len};
 ghost use Rattle.framehop_cfi.specs.TableRows.{TableRows, effect, setting, restoring, remembering, restoring_state};
 ghost use Rattle.framehop_cfi.specs.Outcome.{Becomes};
 ghost use Rattle.framehop_cfi.specs.Row.{Row};
 ghost use Rattle.framehop_cfi.specs.RowMeaning.{IsRowAt};
+ghost use Rattle.framehop_cfi.specs.RowRoom.{needs_room, list_needs_room, row_needs_room};
 ghost use Rattle.framehop_cfi.specs.RowAt.{location_after, risen, is_beyond, run_from, rows_at, row_at, start, begun, covers};
 
 use crate::bytes::front;
@@ -79,6 +80,7 @@ impl<S: UnwindContextStorage> UnwindContext<S> {
     fn execute(&mut self, instruction: CallFrameInstruction) -> Result<(), ReadError>
         ensures exact { Becomes result self.new (effect S.limits instruction self.old) }
         ensures memory { IsErrOf result ReadError.OutOfMemory → S.limits ≡ None }
+        ensures room { IsErrOf result ReadError.OutOfMemory → needs_room instruction ≡ true }
     {
         match instruction {
             CallFrameInstruction::Nop
@@ -273,6 +275,8 @@ impl<S: UnwindContextStorage> UnwindContext<S> {
     ) -> Result<(), ReadError>
         ensures exact { Becomes result self.new (run_from S.limits (record { cie = cie.now; bases = bases.now; bytes = bytes.now; address = address }) at start self.old) }
         ensures memory { IsErrOf result ReadError.OutOfMemory → S.limits ≡ None }
+        ensures room { IsErrOf result ReadError.OutOfMemory →
+            list_needs_room (record { cie = cie.now; bases = bases.now; bytes = bytes.now; address = address }) at start ≡ true }
     {
         let mut location = start;
         let mut next = at;
@@ -292,7 +296,9 @@ impl<S: UnwindContextStorage> UnwindContext<S> {
     /// Makes the row of an address, an SVMA: the effects of the instructions of the FDE's CIE, and of its own
     /// before the first move of the location beyond the address.
     ///
-    /// An address that the FDE does not cover is refused by `NoRow`. After a refusal the row is any.
+    /// An address that the FDE does not cover is refused by `NoRow`. After a refusal the row is any. `OutOfMemory` is
+    /// returned only where the storage has no limits and one of those instructions gives a register a rule or
+    /// remembers the row.
     pub fn row_for_address(
         &mut self,
         section: &UnwindSection,
@@ -304,12 +310,13 @@ impl<S: UnwindContextStorage> UnwindContext<S> {
             (row : Row) → IsRowAt S.limits section.now fde.now address row → ⊥) }
         ensures exact { Becomes result self.new.row (row_at S.limits section.now fde.now address) }
         ensures memory { IsErrOf result ReadError.OutOfMemory → S.limits ≡ None }
+        ensures room { IsErrOf result ReadError.OutOfMemory → row_needs_room section.now fde.now address ≡ true }
     {
         self.run_fde(section, fde, address)
     }
 
     /// Runs the instructions of the FDE's CIE, and then its own up to the address.
-    #[tactic(auto, unfolding(crate::specs::RowAt::rows_at))]
+    #[tactic(auto, unfolding(crate::specs::RowAt::rows_at, crate::specs::RowRoom::row_needs_room))]
     fn run_fde(
         &mut self,
         section: &UnwindSection,
@@ -318,6 +325,7 @@ impl<S: UnwindContextStorage> UnwindContext<S> {
     ) -> Result<(), ReadError>
         ensures exact { Becomes result self.new (rows_at S.limits section.now fde.now address) }
         ensures memory { IsErrOf result ReadError.OutOfMemory → S.limits ≡ None }
+        ensures room { IsErrOf result ReadError.OutOfMemory → row_needs_room section.now fde.now address ≡ true }
     {
         if !covers(fde, address) {
             return Err(ReadError::NoRow);
@@ -352,6 +360,7 @@ impl<S: UnwindContextStorage> UnwindContext<S> {
         ensures ok { OnOk result (self.new ≡ begun self.old) }
         ensures error { IfErr result (λ error. error ≡ ReadError.OutOfMemory) }
         ensures memory { OnErr result (S.limits ≡ None) }
+        ensures room { OnErr result (0 < length self.old.row.rules) }
     {
         self.initial.copy_from(&self.row)?;
         self.has_initial = true;

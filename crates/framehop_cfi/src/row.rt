@@ -114,6 +114,7 @@ impl<S: UnwindContextStorage> UnwindTableRow<S> {
         ensures ok { OnOk result (self.new ≡ other.now) }
         ensures memory { OnErr result (S.limits ≡ None) }
         ensures error { IfErr result (λ error. error ≡ ReadError.OutOfMemory) }
+        ensures room { OnErr result (0 < length other.now.rules) }
     {
         self.rules.clear();
         if self.rules.extend_from_slice(&other.rules).is_err() {

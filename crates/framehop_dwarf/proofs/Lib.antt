@@ -3,6 +3,7 @@ pub mod Entries
 pub mod Filled
 pub mod FoundRow
 pub mod Lengths
+pub mod MayTakeMemory
 pub mod Order
 pub mod Permuted
 pub mod Saturated

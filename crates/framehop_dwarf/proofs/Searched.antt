@@ -1,4 +1,5 @@
 -- A search that goes down the tree finds the pair of an address.
+use Rattle.std.specs.Option.{option_or}
 use Rattle.std.proofs.Common.{◌≡◌, ℕ, zero, suc, ◌+◌, ◌-◌, ◌*◌, ◌^◌, ◌<◌, ◌≤◌, true, List, [], ◌∷◌, ◌++◌, length, get_or, length-append, Option, Some, None, refl, ap, sym, subst, ◌∙◌, arith, inl, inr}
 use Rattle.std.specs.Prelude.{option_map, IfSome}
 use Rattle.std.proofs.lemmas.Bool.{lt-leb, le-leb, cases_lt}
@@ -54,25 +55,21 @@ near (x ∷ xs) p ys address a at =
     let le = not_after-starts x p before' in
     rw (le-leb x.0 address (omega arith), rest) (ap Some (later-last x (xs ++ (p ∷ ys)) address (Some (or_last (pair_for ys address) p)) a rest))
 
-abbrev pub or_else : Option ℕ → Option ℕ → Option ℕ
-or_else None found = found
-or_else (Some offset) found = Some offset
-
 -- what is known before each look: the pairs under the place and what was found answer the search
 pub record IsSearching (table : List (ℕ × ℕ)) (address place : ℕ) (found : Option ℕ) (count : ℕ) : Type 0 where
   pub levels : ℕ
   pub enough : length table ≤ place + levels
   pub ascending : IsAscending (in_order table levels place)
-  pub rest : or_else (fde_offset_for (in_order table levels place) address) found ≡ fde_offset_for (left_to_right table) address
+  pub rest : option_or (fde_offset_for (in_order table levels place) address) found ≡ fde_offset_for (left_to_right table) address
   pub counts : count + looked_at table address levels place ≡ looked_at table address (length table) 0
   pub low : 2 ^ count ≤ place + 1
   pub few : IsWithinDigits count (length table)
 
-or_none : (o : Option ℕ) → or_else o None ≡ o
+or_none : (o : Option ℕ) → option_or o None ≡ o
 or_none None = refl
 or_none (Some x) = refl
 
-last-offset : (o : Option (ℕ × ℕ)) (t : ℕ × ℕ) → or_else (option_map (λ (p : ℕ × ℕ). p.1) o) (Some t.1) ≡ Some (or_last o t).1
+last-offset : (o : Option (ℕ × ℕ)) (t : ℕ × ℕ) → option_or (option_map (λ (p : ℕ × ℕ). p.1) o) (Some t.1) ≡ Some (or_last o t).1
 last-offset None t = refl
 last-offset (Some q) t = refl
 
@@ -115,7 +112,7 @@ module _ (table : List (ℕ × ℕ)) (address place : ℕ) (found : Option ℕ) 
   to-greater s at = go s.levels s.enough s.ascending s.rest s.counts
     where
       go : (levels : ℕ) → length table ≤ place + levels → IsAscending (in_order table levels place)
-          → or_else (fde_offset_for (in_order table levels place) address) found ≡ fde_offset_for (left_to_right table) address
+          → option_or (fde_offset_for (in_order table levels place) address) found ≡ fde_offset_for (left_to_right table) address
           → count + looked_at table address levels place ≡ looked_at table address (length table) 0
           → IsSearching table address (2 * place + 2) (Some (get_or table place (0, 0)).1) (count + 1)
       go zero enough a rest counts = absurd (omega arith)
@@ -124,8 +121,8 @@ module _ (table : List (ℕ × ℕ)) (address place : ℕ) (found : Option ℕ) 
           let L = in_order table levels (2 * place + 1) in
           let R = in_order table levels (2 * place + 2) in
           let a' = subst IsAscending (opened table place here levels) a in
-          let rest' : or_else (fde_offset_for (L ++ (t ∷ R)) address) found ≡ fde_offset_for (left_to_right table) address = subst (λ xs. or_else (fde_offset_for xs address) found ≡ fde_offset_for (left_to_right table) address) (opened table place here levels) rest in
-          let e = ap (λ o. or_else (option_map (λ (p : ℕ × ℕ). p.1) o) found) (near L t R address a' at) in
+          let rest' : option_or (fde_offset_for (L ++ (t ∷ R)) address) found ≡ fde_offset_for (left_to_right table) address = subst (λ xs. option_or (fde_offset_for xs address) found ≡ fde_offset_for (left_to_right table) address) (opened table place here levels) rest in
+          let e = ap (λ o. option_or (option_map (λ (p : ℕ × ℕ). p.1) o) found) (near L t R address a' at) in
           let d = deeper (2 * place + 2) (omega arith) s.low in
           let looked : looked_at table address (suc levels) place ≡ suc (looked_at table address levels (2 * place + 2)) = rw (lt-leb (length table) place here, le-leb t.0 address at) refl in
           record {
@@ -144,7 +141,7 @@ module _ (table : List (ℕ × ℕ)) (address place : ℕ) (found : Option ℕ) 
   to-lesser s above = go s.levels s.enough s.ascending s.rest s.counts
     where
       go : (levels : ℕ) → length table ≤ place + levels → IsAscending (in_order table levels place)
-          → or_else (fde_offset_for (in_order table levels place) address) found ≡ fde_offset_for (left_to_right table) address
+          → option_or (fde_offset_for (in_order table levels place) address) found ≡ fde_offset_for (left_to_right table) address
           → count + looked_at table address levels place ≡ looked_at table address (length table) 0
           → IsSearching table address (2 * place + 1) found (count + 1)
       go zero enough a rest counts = absurd (omega arith)
@@ -153,10 +150,10 @@ module _ (table : List (ℕ × ℕ)) (address place : ℕ) (found : Option ℕ) 
           let L = in_order table levels (2 * place + 1) in
           let R = in_order table levels (2 * place + 2) in
           let a' = subst IsAscending (opened table place here levels) a in
-          let rest' : or_else (fde_offset_for (L ++ (t ∷ R)) address) found ≡ fde_offset_for (left_to_right table) address = subst (λ xs. or_else (fde_offset_for xs address) found ≡ fde_offset_for (left_to_right table) address) (opened table place here levels) rest in
+          let rest' : option_or (fde_offset_for (L ++ (t ∷ R)) address) found ≡ fde_offset_for (left_to_right table) address = subst (λ xs. option_or (fde_offset_for xs address) found ≡ fde_offset_for (left_to_right table) address) (opened table place here levels) rest in
           let a2 = ascending-right L (t ∷ R) a' in
           let all : AllAbove (t ∷ R) address = λ k below. let h = not_after-starts t (get_or (t ∷ R) k (0, 0)) (a2.ordered 0 k (omega arith) below) in omega arith in
-          let e = ap (λ o. or_else (option_map (λ (p : ℕ × ℕ). p.1) o) found) (far L (t ∷ R) address all) in
+          let e = ap (λ o. option_or (option_map (λ (p : ℕ × ℕ). p.1) o) found) (far L (t ∷ R) address all) in
           let d = deeper (2 * place + 1) (omega arith) s.low in
           let looked : looked_at table address (suc levels) place ≡ suc (looked_at table address levels (2 * place + 1)) = rw (lt-leb (length table) place here, lt-leb t.0 address above) refl in
           record {

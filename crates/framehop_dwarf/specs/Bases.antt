@@ -1,5 +1,6 @@
 -- The base addresses of a module, by the ranges of its sections.
 use Rattle.std.specs.Prelude.{ℕ, List, codes, Option, Some, None}
+use Rattle.std.specs.Option.{option_or}
 use Rattle.std.specs.declared.ops.Range.{Range}
 use Rattle.framehop_cfi.specs.SectionTable.{Entry, SectionTable, range_of}
 use Rattle.framehop_cfi.specs.Section.{Section, section_of}
@@ -20,14 +21,9 @@ base_addresses eh_frame eh_frame_hdr text got = record {
   got = start_of got;
 }
 
--- the first range, or else the second
-abbrev pub or_else : Option (Range ℕ) → Option (Range ℕ) → Option (Range ℕ)
-or_else None other = other
-or_else (Some range) other = Some range
-
 -- the range of the section of the first name, or else of the second
 abbrev pub range_under : {D : Type 0} → List (Entry D) → List ℕ → List ℕ → Option (Range ℕ)
-range_under sections first second = or_else (range_of first sections) (range_of second sections)
+range_under sections first second = option_or (range_of first sections) (range_of second sections)
 
 -- the base addresses of a module with these sections
 abbrev pub base_addresses_of : {D : Type 0} → List (Entry D) → BaseAddresses

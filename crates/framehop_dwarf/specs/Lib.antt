@@ -4,7 +4,7 @@ pub mod Bases
 pub mod Direct
 pub mod Evaluation
 pub mod Index
-pub mod Laws
+pub mod MayTakeMemory
 pub mod Operation
 pub mod Refusal
 pub mod RowMeaning
@@ -13,3 +13,5 @@ pub mod Tree
 pub mod Units
 pub mod Unwinder
 pub mod X86_64
+-- Lemmas that the traits' laws import: a reader of the contracts can pass them.
+pub mod Laws

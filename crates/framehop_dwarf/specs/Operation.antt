@@ -1,7 +1,8 @@
 -- The operations of DWARF expressions (DWARF 5 sections 2.5.1 and 7.7.1).
-use Rattle.std.specs.Prelude.{ℕ, ◌-◌, ◌+◌, ◌*◌, ◌/◌, ◌%◌, ◌^◌, Bool, true, false, not, List, Option, Some, None, Ok, Err, ℤ, int_div, int_lt, int_le, unsigned_abs, bit_xor, ◌==◌, ◌||◌, ◌&&◌, nat_le, nat_lt, bit_and, bit_or, if◌then◌else◌}
+use Rattle.std.specs.Prelude.{ℕ, ◌-◌, ◌+◌, ◌*◌, ◌/◌, ◌%◌, ◌^◌, Bool, true, false, not, List, [], ◌∷◌, Option, Some, None, Ok, Err, ℤ, int_div, int_lt, int_le, unsigned_abs, bit_xor, ◌==◌, ◌&&◌, nat_le, nat_lt, bit_and, bit_or, if◌then◌else◌}
 use Rattle.std.specs.Int.{int_shr, cast_signed, cast_unsigned, bit_not, w16, w64}
 use Rattle.framehop_cfi.specs.Bytes.{Parsed, ◌>>=◌, u8_at, u16_at, u32_at, u64_at}
+use Rattle.framehop_cfi.specs.ByCode.{by_code, by_test}
 use Rattle.framehop_cfi.specs.Leb128.{uleb_at, sleb_at}
 use Rattle.framehop_cfi.specs.Raw.{sign_extended}
 use Rattle.framehop_cfi.specs.Instruction.{mapped}
@@ -16,46 +17,51 @@ use Rattle.framehop_dwarf.specs.declared.operation.Operation.TheVariants.{Nop, C
 
 -- ---- reading
 
--- the number that an operation pushes, by its code from 08 to 11
+-- The number that an operation pushes, by its code: DW_OP_const1u 08, DW_OP_const1s 09, DW_OP_const2u 0A, DW_OP_const2s
+-- 0B, DW_OP_const4u 0C, DW_OP_const4s 0D, DW_OP_const8u 0E, DW_OP_const8s 0F, DW_OP_constu 10, DW_OP_consts 11.
 abbrev pub constant_at : ℕ → List ℕ → ℕ → Parsed ℕ
 constant_at code bytes at =
-    if code == 0x08 then u8_at bytes at
-    else (if code == 0x09 then mapped (sign_extended 8) (u8_at bytes at)
-    else (if code == 0x0A then u16_at bytes at
-    else (if code == 0x0B then mapped (sign_extended 16) (u16_at bytes at)
-    else (if code == 0x0C then u32_at bytes at
-    else (if code == 0x0D then mapped (sign_extended 32) (u32_at bytes at)
-    else (if (code == 0x0E) || (code == 0x0F) then u64_at bytes at
-    else (if code == 0x10 then uleb_at bytes at
-    else mapped (cast_unsigned w64) (sleb_at bytes at))))))))
+    by_code code (
+    (0x08, u8_at bytes at)
+    ∷ (0x09, mapped (sign_extended 8) (u8_at bytes at))
+    ∷ (0x0A, u16_at bytes at)
+    ∷ (0x0B, mapped (sign_extended 16) (u16_at bytes at))
+    ∷ (0x0C, u32_at bytes at)
+    ∷ (0x0D, mapped (sign_extended 32) (u32_at bytes at))
+    ∷ (0x0E, u64_at bytes at)
+    ∷ (0x0F, u64_at bytes at)
+    ∷ (0x10, uleb_at bytes at)
+    ∷ (0x11, mapped (cast_unsigned w64) (sleb_at bytes at))
+    ∷ []) (Err UnknownInstruction)
 
+-- The operation on the top value, by its code: DW_OP_abs 19, DW_OP_neg 1F, DW_OP_not 20.
 abbrev pub unary_of : ℕ → Option UnaryOperation
-unary_of code =
-    if code == 0x19 then Some Absolute
-    else (if code == 0x1F then Some Negate
-    else (if code == 0x20 then Some Not
-    else None))
+unary_of code = by_code code ((0x19, Some Absolute) ∷ (0x1F, Some Negate) ∷ (0x20, Some Not) ∷ []) None
 
+-- The operation on the second value and the top one, by its code: DW_OP_and 1A, DW_OP_div 1B, DW_OP_minus 1C,
+-- DW_OP_mod 1D, DW_OP_mul 1E, DW_OP_or 21, DW_OP_plus 22, DW_OP_shl 24, DW_OP_shr 25, DW_OP_shra 26, DW_OP_xor 27,
+-- DW_OP_eq 29, DW_OP_ge 2A, DW_OP_gt 2B, DW_OP_le 2C, DW_OP_lt 2D, DW_OP_ne 2E.
 abbrev pub binary_of : ℕ → Option BinaryOperation
 binary_of code =
-    if code == 0x1A then Some And
-    else (if code == 0x1B then Some Divide
-    else (if code == 0x1C then Some Minus
-    else (if code == 0x1D then Some Modulo
-    else (if code == 0x1E then Some Multiply
-    else (if code == 0x21 then Some Or
-    else (if code == 0x22 then Some Plus
-    else (if code == 0x24 then Some ShiftLeft
-    else (if code == 0x25 then Some ShiftRight
-    else (if code == 0x26 then Some ShiftRightArithmetic
-    else (if code == 0x27 then Some Xor
-    else (if code == 0x29 then Some Equal
-    else (if code == 0x2A then Some GreaterOrEqual
-    else (if code == 0x2B then Some Greater
-    else (if code == 0x2C then Some LessOrEqual
-    else (if code == 0x2D then Some Less
-    else (if code == 0x2E then Some NotEqual
-    else None))))))))))))))))
+    by_code code (
+    (0x1A, Some And)
+    ∷ (0x1B, Some Divide)
+    ∷ (0x1C, Some Minus)
+    ∷ (0x1D, Some Modulo)
+    ∷ (0x1E, Some Multiply)
+    ∷ (0x21, Some Or)
+    ∷ (0x22, Some Plus)
+    ∷ (0x24, Some ShiftLeft)
+    ∷ (0x25, Some ShiftRight)
+    ∷ (0x26, Some ShiftRightArithmetic)
+    ∷ (0x27, Some Xor)
+    ∷ (0x29, Some Equal)
+    ∷ (0x2A, Some GreaterOrEqual)
+    ∷ (0x2B, Some Greater)
+    ∷ (0x2C, Some LessOrEqual)
+    ∷ (0x2D, Some Less)
+    ∷ (0x2E, Some NotEqual)
+    ∷ []) None
 
 -- the operation of one of the two kinds
 abbrev pub either : Option UnaryOperation → Option BinaryOperation → Option Operation
@@ -63,16 +69,18 @@ either (Some unary) binary = Some (Unary unary)
 either None (Some binary) = Some (Binary binary)
 either None None = None
 
--- the operations without operands
+-- An operation without operands, by its code: DW_OP_dup 12, DW_OP_drop 13, DW_OP_over 14, DW_OP_swap 16, DW_OP_rot 17,
+-- DW_OP_nop 96, then those on one value and those on two.
 abbrev pub plain_of : ℕ → Option Operation
 plain_of code =
-    if code == 0x12 then Some (Pick 0)
-    else (if code == 0x13 then Some Discard
-    else (if code == 0x14 then Some (Pick 1)
-    else (if code == 0x16 then Some Swap
-    else (if code == 0x17 then Some Rot
-    else (if code == 0x96 then Some Nop
-    else either (unary_of code) (binary_of code))))))
+    by_code code (
+    (0x12, Some (Pick 0))
+    ∷ (0x13, Some Discard)
+    ∷ (0x14, Some (Pick 1))
+    ∷ (0x16, Some Swap)
+    ∷ (0x17, Some Rot)
+    ∷ (0x96, Some Nop)
+    ∷ []) (either (unary_of code) (binary_of code))
 
 abbrev pub plain_at : Option Operation → ℕ → Parsed Operation
 plain_at (Some operation) at = Ok (operation, at)
@@ -95,23 +103,27 @@ jump_at bytes at = do
   distance ← u16_at bytes at
   Ok (cast_signed w16 distance.0, distance.1)
 
--- an operation that has a code of its own
+-- An operation that has a code of its own: DW_OP_pick 15, DW_OP_plus_uconst 23, DW_OP_bra 28, DW_OP_skip 2F,
+-- DW_OP_bregx 92, then those without operands.
 abbrev pub coded_at : ℕ → List ℕ → ℕ → Parsed Operation
 coded_at code bytes at =
-    if code == 0x15 then mapped Pick (u8_at bytes at)
-    else (if code == 0x23 then mapped PlusConstant (uleb_at bytes at)
-    else (if code == 0x28 then mapped Branch (jump_at bytes at)
-    else (if code == 0x2F then mapped Skip (jump_at bytes at)
-    else (if code == 0x92 then register_offset_at bytes at
-    else plain_at (plain_of code) at))))
+    by_code code (
+    (0x15, mapped Pick (u8_at bytes at))
+    ∷ (0x23, mapped PlusConstant (uleb_at bytes at))
+    ∷ (0x28, mapped Branch (jump_at bytes at))
+    ∷ (0x2F, mapped Skip (jump_at bytes at))
+    ∷ (0x92, register_offset_at bytes at)
+    ∷ []) (plain_at (plain_of code) at)
 
--- the operation at an offset: from 30 on the numbers 0 to 31, from 70 on a register plus an offset
+-- The operation at an offset, by its code: DW_OP_lit0 to 31 30 to 4F, DW_OP_breg0 to 31 70 to 8F, a number that is
+-- pushed 08 to 11, then those that have a code of their own.
 abbrev pub ranged_at : ℕ → List ℕ → ℕ → Parsed Operation
 ranged_at code bytes at =
-    if nat_le 0x30 code && nat_lt code 0x50 then Ok (Constant (code - 0x30), at)
-    else (if nat_le 0x70 code && nat_lt code 0x90 then offset_at (record { 0 = code - 0x70 }) bytes at
-    else (if nat_le 0x08 code && nat_lt code 0x12 then mapped Constant (constant_at code bytes at)
-    else coded_at code bytes at))
+    by_test (
+    (nat_le 0x30 code && nat_lt code 0x50, Ok (Constant (code - 0x30), at))
+    ∷ (nat_le 0x70 code && nat_lt code 0x90, offset_at (record { 0 = code - 0x70 }) bytes at)
+    ∷ (nat_le 0x08 code && nat_lt code 0x12, mapped Constant (constant_at code bytes at))
+    ∷ []) (coded_at code bytes at)
 
 unfoldable pub operation_at : List ℕ → ℕ → Parsed Operation
 operation_at bytes at = do

@@ -1,5 +1,5 @@
 //! From a row of call frame information to a frame: what both architectures share.
-ghost use Rattle.std.specs.Prelude.{◌≡◌, ◌≢◌, ◌^◌, ℕ, Bool, IsTrue, List, Option, Result, Ok, Err, Some, None, IfOk, IfErr, OnErr, pos, negsuc, ◌+ℤ◌, ◌≤ℤ◌, option_and_then};
+ghost use Rattle.std.specs.Prelude.{◌≡◌, ◌≢◌, ◌^◌, ℕ, Bool, true, IsTrue, List, Option, Result, Ok, Err, Some, None, IfOk, IfErr, OnErr, pos, negsuc, ◌+ℤ◌, ◌≤ℤ◌, option_and_then};
 ghost use Rattle.framehop_core.specs.Memory.{Memory, AnswersAs};
 ghost use Rattle.framehop_core.specs.Outcome.{answered};
 ghost use Rattle.framehop_cfi.specs.Row.{Row};
@@ -7,6 +7,7 @@ ghost use Rattle.framehop_dwarf.specs.Told.{no_memory, NeedsNoStack, TellsFound,
 ghost use Rattle.framehop_cfi.specs.declared.dwarf_error.DwarfUnwinderError.{DwarfUnwinderError as DwarfRefusal};
 ghost use Rattle.framehop_dwarf.specs.Units.{units_of, signed_units_of};
 ghost use Rattle.framehop_dwarf.specs.Direct.{sum_of, cfa_of, register_of};
+ghost use Rattle.framehop_dwarf.specs.MayTakeMemory.{is_cfa_expression, is_some_expression, has_expression};
 
 use crate::evaluation::{DwarfUnwindRegs, EvaluationStorage, evaluate};
 pub use framehop_cfi::dwarf_error::DwarfUnwinderError;
@@ -47,7 +48,7 @@ pub trait DwarfUnwinding: Arch {
     /// # Errors
     ///
     /// The registers are unchanged. `UnwindInfoForAddressFailed` says that an allocation failed, where the
-    /// values of an expression have no limit.
+    /// row has an expression whose values have no limit.
     fn unwind_frame<S: UnwindContextStorage, E: EvaluationStorage, F>(
         alloc: Global,
         section: &[u8],
@@ -66,7 +67,7 @@ pub trait DwarfUnwinding: Arch {
         ensures unread_refused { IfErr result (λ error. NeedsNoStack error → read_stack.new ≡ read_stack.old) }
         ensures runnable { RuleHas (λ rule. IsTrue (Self.UnwindRule.executable rule)) result }
         ensures ascends { AdvancesWithAddress (ascends is_first_frame) result regs.old regs.new }
-        ensures memory { result ≡ Err no_memory → E.Stack.limit ≡ None }
+        ensures memory { result ≡ Err no_memory → (E.Stack.limit ≡ None) × (has_expression unwind_info.now ≡ true) }
         ensures means { (rule : Self.UnwindRule) (first : Bool) (old new : Self.UnwindRegs) (memory : Memory) (address : ℕ)
             → IsRule rule result → Self.UnwindRule.outcome rule first old memory ≡ answered address new
             → row_means section.now memory unwind_info.now first old address new }
@@ -106,7 +107,7 @@ fn offset_from(base: u64, offset: i64) -> Option<u64>
 ///
 /// # Errors
 ///
-/// `OutOfMemory` where an expression's values have no limit and an allocation fails; no other.
+/// `OutOfMemory` where the rule is an expression, its values have no limit and an allocation fails; no other.
 pub fn eval_cfa_rule<R: DwarfUnwindRegs, E: EvaluationStorage>(
     alloc: Global,
     section: &[u8],
@@ -115,6 +116,7 @@ pub fn eval_cfa_rule<R: DwarfUnwindRegs, E: EvaluationStorage>(
 ) -> Result<Option<u64>, ReadError>
     ensures exact { IfOk result (λ answer. answer ≡ cfa_of (record { bytes = section.now; columns = R.column regs.now; limit = E.Stack.limit }) rule.now) }
     ensures memory { OnErr result (E.Stack.limit ≡ None) }
+    ensures expression { OnErr result (is_cfa_expression rule.now ≡ true) }
     ensures error { IfErr result (λ error. error ≡ ReadError.OutOfMemory) }
 {
     match *rule {
@@ -165,7 +167,7 @@ fn read_word_at<F: FnMut(u64) -> Result<u64, ()>>(
 ///
 /// # Errors
 ///
-/// `OutOfMemory` where an expression's values have no limit and an allocation fails; no other.
+/// `OutOfMemory` where the rule is an expression, its values have no limit and an allocation fails; no other.
 pub fn eval_register_rule<R: DwarfUnwindRegs, E: EvaluationStorage, F>(
     alloc: Global,
     section: &[u8],
@@ -180,6 +182,7 @@ where
     requires { F.IsAlwaysCallable read_stack.old }
     ensures callable { F.IsAlwaysCallable read_stack.new }
     ensures memory { OnErr result (E.Stack.limit ≡ None) }
+    ensures expression { OnErr result (is_some_expression rule ≡ true) }
     ensures error { IfErr result (λ error. error ≡ ReadError.OutOfMemory) }
     ensures answers { (memory : Memory) → AnswersAs F.FnMut read_stack.old memory
         → AnswersAs F.FnMut read_stack.new memory

@@ -92,7 +92,7 @@ impl ValueStack for HeapStack {
     }
 }
 
-/// A stack of at most 64 values, which takes no memory.
+/// A stack of at most 64 values, with its room in itself.
 #[derive(Drop)]
 pub struct FixedStack(ArrayVec<u64, 64>);
 

@@ -1,4 +1,4 @@
-//! DWARF call frame information: an index of a section's FDEs.
+//! DWARF call frame information: from an address to its FDE, and from a row to a rule or to values.
 #![tactic(auto)]
 
 pub mod aarch64;

@@ -116,10 +116,11 @@ fn read_constant(code: u8, bytes: &[u8], at: usize) -> Result<(u64, usize), Read
         }
         0x0e | 0x0f => read_u64(bytes, at),
         0x10 => read_uleb128(bytes, at),
-        _ => {
+        0x11 => {
             let (number, next) = read_sleb128(bytes, at)?;
             Ok((number.cast_unsigned(), next))
         }
+        _ => Err(ReadError::UnknownInstruction),
     }
 }
 

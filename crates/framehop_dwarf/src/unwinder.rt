@@ -1,7 +1,9 @@
 //! What unwinds by the call frame information of a module.
-ghost use Rattle.std.specs.Prelude.{IfErr, ◌≡◌, ◌≢◌, ◌+◌, ◌⊎◌, ℕ, Bool, IsTrue, MatchOption, IfSome, Option, None, Err};
+ghost use Rattle.std.specs.Prelude.{IfErr, ◌≡◌, ◌≢◌, ◌+◌, ℕ, Bool, true, IsTrue, MatchOption, IfSome, Option, None, Err};
 ghost use Rattle.framehop_cfi.specs.Section.{section_of};
 ghost use Rattle.framehop_cfi.specs.Header.{IsOfRowFor};
+ghost use Rattle.framehop_cfi.specs.Entry.{fde_at};
+ghost use Rattle.framehop_dwarf.specs.MayTakeMemory.{needs_room_by, may_take_memory};
 ghost use Rattle.framehop_dwarf.specs.Unwinder.{header_bases, HasHeader, fde_offset_for, reading_of, IsReading, HasFound, found_by, direct_by, OfRow};
 ghost use Rattle.framehop_core.specs.Memory.{Memory, AnswersAs};
 ghost use Rattle.framehop_core.specs.Outcome.{answered};
@@ -99,7 +101,7 @@ fn find_row<S: UnwindContextStorage>(
     unwind_context: &mut UnwindContext<S>,
 ) -> Result<bool, DwarfUnwinderError>
     ensures found { HasFound result unwind_context.new.row (reading_of S.limits section.now (base_svma + rel_lookup_address) fde_offset) }
-    ensures memory { result ≡ Err no_memory → S.limits ≡ None }
+    ensures memory { result ≡ Err no_memory → (S.limits ≡ None) × (needs_room_by section.now (base_svma + rel_lookup_address) (fde_at section.now fde_offset) ≡ true) }
 {
     let fde = match section.fde_from_offset(fde_offset as usize) {
         Ok(fde) => fde,
@@ -128,7 +130,8 @@ impl<'a, A: DwarfUnwinding, S: UnwindContextStorage> DwarfUnwinder<'a, A, S> {
     /// # Errors
     ///
     /// The registers are unchanged. `FdeFromOffsetFailed` says that no FDE is at the offset, and
-    /// `UnwindInfoForAddressFailed` that an allocation failed, where the storage has no limits.
+    /// `UnwindInfoForAddressFailed` that an allocation failed. That may be only where the storage has no limits, and
+    /// an instruction before the address gives a register a rule or remembers the row, or the row has an expression.
     pub fn unwind_frame_with_fde<E: EvaluationStorage, F>(
         &mut self,
         alloc: Global,
@@ -151,7 +154,7 @@ impl<'a, A: DwarfUnwinding, S: UnwindContextStorage> DwarfUnwinder<'a, A, S> {
         ensures found { result ≢ Err no_memory → TellsFound (found_by A.translated A.uncovered (reading_of S.limits self.old.section (self.old.base_svma + rel_lookup_address) fde_offset)) result }
         ensures runnable { RuleHas (λ rule. IsTrue (A.UnwindRule.executable rule)) result }
         ensures ascends { AdvancesWithAddress (A.ascends is_first_frame) result regs.old regs.new }
-        ensures memory { result ≡ Err no_memory → (S.limits ≡ None) ⊎ (E.Stack.limit ≡ None) }
+        ensures memory { result ≡ Err no_memory → may_take_memory S.limits E.Stack.limit self.old.section (self.old.base_svma + rel_lookup_address) fde_offset ≡ true }
         ensures means { OfRow (λ row. (rule : A.UnwindRule) (first : Bool) (old new : A.UnwindRegs) (memory : Memory) (address : ℕ)
             → IsRule rule result → A.UnwindRule.outcome rule first old memory ≡ answered address new
             → A.row_means self.old.section.bytes memory row first old address new) (reading_of S.limits self.old.section (self.old.base_svma + rel_lookup_address) fde_offset) }
@@ -171,13 +174,8 @@ impl<'a, A: DwarfUnwinding, S: UnwindContextStorage> DwarfUnwinder<'a, A, S> {
         if !found {
             return Ok(UnwindResult::ExecRule(A::rule_if_uncovered_by_fde()));
         }
-        A::unwind_frame::<S, E, F>(
-            alloc,
-            self.section.bytes(),
-            self.unwind_context.row(),
-            regs,
-            is_first_frame,
-            read_stack,
-        )
+        let section = self.section.bytes();
+        let row = self.unwind_context.row();
+        A::unwind_frame::<S, E, F>(alloc, section, row, regs, is_first_frame, read_stack)
     }
 }

@@ -3,14 +3,12 @@ use Rattle.std.proofs.Common.{◌≡◌, ℕ, ◌^◌, true, Option, Some, ℤ, 
 use Rattle.std.specs.Prelude.{int_div}
 use Rattle.std.specs.Ordering.{int_eq}
 use Rattle.std.proofs.lemmas.Bool.{cases_Bool}
+use Rattle.std.proofs.lemmas.Option.{same_Some}
 use Rattle.std.proofs.lemmas.Bool.Decides.{Decides-int_eq}
 use Rattle.framehop_dwarf.specs.Units.{units_of, signed_units_of, fits_u16, fits_i16, is_exact}
 
 pub int_same : (a b : ℤ) → int_eq a b ≡ true → a ≡ b
 int_same a b e = grind (arith, Decides-int_eq)
-
-some_z : (a b : ℤ) → ◌≡◌ {A = Option ℤ} (Some a) (Some b) → a ≡ b
-some_z a b e = cc
 
 fits-u16 : (z : ℤ) (n : ℕ) → fits_u16 z ≡ Some n → z ≡ pos n
 fits-u16 (pos m) n is =
@@ -23,12 +21,12 @@ fits-u16 (negsuc m) n is = cc
 fits-i16 : (z w : ℤ) → fits_i16 z ≡ Some w → z ≡ w
 fits-i16 (pos m) w is =
     elim (cases_Bool (ltb m (2 ^ 15))) [
-      | inl small ↦ some_z (pos m) w (rw small at is)
+      | inl small ↦ same_Some (pos m) w (rw small at is)
       | inr large ↦ (let e = rw large at is in cc)
     ]
 fits-i16 (negsuc m) w is =
     elim (cases_Bool (ltb m (2 ^ 15))) [
-      | inl small ↦ some_z (negsuc m) w (rw small at is)
+      | inl small ↦ same_Some (negsuc m) w (rw small at is)
       | inr large ↦ (let e = rw large at is in cc)
     ]
 

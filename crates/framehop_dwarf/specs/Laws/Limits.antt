@@ -10,7 +10,7 @@ use Rattle.framehop_dwarf.specs.declared.operation.Operation.{Operation}
 use Rattle.framehop_dwarf.specs.declared.operation.Operation.TheVariants.{Nop, Constant, RegisterOffset, Pick, Discard, Swap, Rot, Unary, Binary, PlusConstant, Skip, Branch}
 use Rattle.framehop_dwarf.specs.Evaluation.{Evaluation, State, fits, pushed, stack_after, position_after, state_by, step, value_from, value_of, code_of, value_in}
 use Rattle.framehop_dwarf.specs.Laws.ValueMeaning.{bind_some}
-use Rattle.framehop_dwarf.specs.Laws.SimulationX86_64.{mapped-some}
+use Rattle.framehop_core.specs.Laws.Basics.{option_map-some}
 
 some-list : (xs ys : List ℕ) → ◌≡◌ {A = Option (List ℕ)} (Some xs) (Some ys) → xs ≡ ys
 some-list xs ys is = cc
@@ -83,7 +83,7 @@ module _ (limit : Option ℕ) where
       by-free stack (Err error) next is = cc
       by-free stack (Ok read) next is =
           let position = bind_some (position_after (length code) read.0 read.1 (slice_get stack 0)) _ next is in
-          let new = mapped-some _ (stack_after limit columns read.0 stack) next position.2 in
+          let new = option_map-some _ (stack_after limit columns read.0 stack) next position.2 in
           let same = stack-free read.0 stack new.0 new.1 in
           rw position.1 (rw same (let e = new.2 in cc))
 

@@ -2,12 +2,14 @@
 use Rattle.std.proofs.Common.{◌≡◌, ℕ, ◌*◌, Bool, true, false, Option, Some, None, Result, Ok, ℤ, pos, negsuc, ◌+ℤ◌, ◌*ℤ◌, ◌∙◌, ap, sym, subst, refl, arith, inl, inr, ◌==◌, ◌&&◌, List}
 use Rattle.std.specs.Ordering.{int_eq}
 use Rattle.std.proofs.lemmas.Int.{ints}
-use Rattle.std.proofs.lemmas.Bool.{cases_Bool}
+use Rattle.std.proofs.lemmas.Bool.{cases_Bool, and_parts, eqb-true}
+use Rattle.std.proofs.lemmas.Option.{same_Some}
 use Rattle.framehop_core.specs.Memory.{Memory}
 use Rattle.framehop_core.specs.Outcome.{answered, above, beside}
 use Rattle.framehop_core.specs.Aarch64.Registers.{Registers, strip_ptr_auth}
 use Rattle.framehop_core.specs.Aarch64.Rules.{Source, kept, stored_at, Demand, nothing_more, frame_pointer_rises, caller, value_from, outcome, outcome_of_line}
 use Rattle.framehop_core.specs.Laws.Aarch64.{caller-answered}
+use Rattle.framehop_core.specs.Laws.Basics.{ok-same, option_map-some}
 use Rattle.framehop_core.specs.declared.error.Error.{Error}
 use Rattle.framehop_core.specs.declared.aarch64.unwind_rule.UnwindRuleAarch64.{UnwindRuleAarch64}
 use Rattle.framehop_core.specs.declared.aarch64.unwind_rule.UnwindRuleAarch64.TheVariants.{OffsetSp, OffsetSpIfFirstFrameOtherwiseStackEndsHere, OffsetSpAndRestoreLr, OffsetSpAndRestoreFpAndLr, UseFramePointer, UseFramepointerWithOffsets}
@@ -22,13 +24,7 @@ use Rattle.framehop_dwarf.specs.RowMeaning.{IsCfa}
 use Rattle.framehop_dwarf.specs.Aarch64.{with_fp, with_fp_kept, with_lr, by_sp, by_fp, by_saved, beside_fp, translated_by, translated, scope_of, column_of, fp_column, lr_column, IsFramePointer, IsLinkRegister, RowMeans}
 use Rattle.framehop_dwarf.specs.Laws.Exact.{int_same, units-exact, signed_units-exact}
 use Rattle.framehop_dwarf.specs.Laws.ValueMeaning.{bind_some}
-use Rattle.framehop_dwarf.specs.Laws.SimulationX86_64.{word_from-stored, is-number, both, mapped-some}
-
-ok-same : (m n : ℕ) → ◌≡◌ {A = Result ℕ Error} (Ok m) (Ok n) → m ≡ n
-ok-same m n e = cc
-
-some-rule : (a b : UnwindRuleAarch64) → ◌≡◌ {A = Option UnwindRuleAarch64} (Some a) (Some b) → a ≡ b
-some-rule a b e = cc
+use Rattle.framehop_dwarf.specs.Laws.SimulationX86_64.{word_from-stored}
 
 module _ (bytes : List ℕ) (memory : Memory) (first : Bool) (old : Registers) (address : ℕ) (new : Registers) where
   -- what a line of the rules' table has found
@@ -122,9 +118,9 @@ module _ (bytes : List ℕ) (memory : Memory) (first : Bool) (old : Registers) (
 
   kept-fp : (told wanted : UnwindRuleAarch64) (fp_rule : Option RegisterRule) → with_fp_kept told fp_rule ≡ Some wanted
       → KeptFp fp_rule × (told ≡ wanted)
-  kept-fp told wanted None is = ((λ k. k), some-rule told wanted is)
-  kept-fp told wanted (Some rule.Undefined) is = ((λ k. k), some-rule told wanted is)
-  kept-fp told wanted (Some rule.SameValue) is = ((λ k. k), some-rule told wanted is)
+  kept-fp told wanted None is = ((λ k. k), same_Some told wanted is)
+  kept-fp told wanted (Some rule.Undefined) is = ((λ k. k), same_Some told wanted is)
+  kept-fp told wanted (Some rule.SameValue) is = ((λ k. k), same_Some told wanted is)
   kept-fp told wanted (Some (rule.Offset saved)) is = cc
   kept-fp told wanted (Some (rule.ValOffset saved)) is = cc
   kept-fp told wanted (Some (rule.Register other)) is = cc
@@ -215,15 +211,15 @@ module _ (bytes : List ℕ) (memory : Memory) (first : Bool) (old : Registers) (
       → Means (cfa.RegisterAndOffset register offset) fp_rule (Some (rule.Offset saved))
   by-with_fp register offset saved x z None told is exact exact_saved tells e =
       by-restore_lr register offset saved x z None is exact exact_saved (λ k. k)
-      (subst Answers (sym (some-rule (OffsetSpAndRestoreLr x z) told tells)) e)
+      (subst Answers (sym (same_Some (OffsetSpAndRestoreLr x z) told tells)) e)
   by-with_fp register offset saved x z (Some rule.Undefined) told is exact exact_saved tells e =
       by-restore_lr register offset saved x z (Some rule.Undefined) is exact exact_saved (λ k. k)
-      (subst Answers (sym (some-rule (OffsetSpAndRestoreLr x z) told tells)) e)
+      (subst Answers (sym (same_Some (OffsetSpAndRestoreLr x z) told tells)) e)
   by-with_fp register offset saved x z (Some rule.SameValue) told is exact exact_saved tells e =
       by-restore_lr register offset saved x z (Some rule.SameValue) is exact exact_saved (λ k. k)
-      (subst Answers (sym (some-rule (OffsetSpAndRestoreLr x z) told tells)) e)
+      (subst Answers (sym (same_Some (OffsetSpAndRestoreLr x z) told tells)) e)
   by-with_fp register offset saved x z (Some (rule.Offset saved_fp)) told is exact exact_saved tells e =
-      let y = mapped-some (λ w. OffsetSpAndRestoreFpAndLr x w z) (signed_units_of 8 (offset +ℤ saved_fp)) told tells in
+      let y = option_map-some (λ w. OffsetSpAndRestoreFpAndLr x w z) (signed_units_of 8 (offset +ℤ saved_fp)) told tells in
       by-restore_both register offset saved_fp saved x y.0 z is exact
       (signed_units-exact 8 (offset +ℤ saved_fp) y.0 y.1) exact_saved (subst Answers (sym y.2) e)
   by-with_fp register offset saved x z (Some (rule.ValOffset other)) told is exact exact_saved tells e = cc
@@ -262,9 +258,9 @@ module _ (bytes : List ℕ) (memory : Memory) (first : Bool) (old : Registers) (
   by-by_saved register offset fp lr told is tells e =
       elim (cases_Bool (int_eq offset (pos 16) && int_eq fp (negsuc 15) && int_eq lr (negsuc 7))) [
         | inl usual ↦
-            let outer = both (int_eq offset (pos 16) && int_eq fp (negsuc 15)) (int_eq lr (negsuc 7)) usual in
-            let inner = both (int_eq offset (pos 16)) (int_eq fp (negsuc 15)) outer.0 in
-            let same = some-rule UseFramePointer told (rw usual at tells) in
+            let outer = and_parts (int_eq offset (pos 16) && int_eq fp (negsuc 15)) (int_eq lr (negsuc 7)) usual in
+            let inner = and_parts (int_eq offset (pos 16)) (int_eq fp (negsuc 15)) outer.0 in
+            let same = same_Some UseFramePointer told (rw usual at tells) in
             let o = int_same offset (pos 16) inner.0 in
             let s = int_same fp (negsuc 15) inner.1 in
             let l = int_same lr (negsuc 7) outer.1 in
@@ -281,7 +277,7 @@ module _ (bytes : List ℕ) (memory : Memory) (first : Bool) (old : Registers) (
             let x = bind_some (units_of 8 offset) _ told f in
             let y = bind_some (signed_units_of 8 (offset +ℤ fp)) _ told x.2 in
             let z =
-            mapped-some (λ w. UseFramepointerWithOffsets x.0 y.0 w) (signed_units_of 8 (offset +ℤ lr)) told y.2 in
+            option_map-some (λ w. UseFramepointerWithOffsets x.0 y.0 w) (signed_units_of 8 (offset +ℤ lr)) told y.2 in
             by-beside_fp register offset fp lr x.0 y.0 z.0 is (units-exact 8 offset x.0 x.1)
             (signed_units-exact 8 (offset +ℤ fp) y.0 y.1) (signed_units-exact 8 (offset +ℤ lr) z.0 z.1)
             (subst Answers (sym z.2) e)
@@ -315,12 +311,12 @@ module _ (bytes : List ℕ) (memory : Memory) (first : Bool) (old : Registers) (
         | inl sp ↦
             let f : by_sp offset fp_rule lr_rule ≡ Some told = rw sp at tells in
             let x = bind_some (units_of 16 offset) (λ units. with_lr units offset fp_rule lr_rule) told f in
-            by-with_lr register offset x.0 fp_rule lr_rule told (is-number register.0 31 sp)
+            by-with_lr register offset x.0 fp_rule lr_rule told (eqb-true register.0 31 sp)
             (units-exact 16 offset x.0 x.1) x.2 e
         | inr other ↦
             let f = rw other at tells in
             elim (cases_Bool (register.0 == 29)) [
-              | inl fp ↦ by-by_fp register offset fp_rule lr_rule told (is-number register.0 29 fp) (rw fp at f) e
+              | inl fp ↦ by-by_fp register offset fp_rule lr_rule told (eqb-true register.0 29 fp) (rw fp at f) e
               | inr none ↦ (let g = rw none at f in cc)
             ]
       ]

@@ -3,10 +3,11 @@ use Rattle.std.proofs.Common.{◌≡◌, ℕ, ◌<◌, ◌*◌, Bool, true, fals
 use Rattle.std.specs.Prelude.{option_map, unwrap_or}
 use Rattle.std.specs.Ordering.{int_eq}
 use Rattle.std.proofs.lemmas.Int.{ints}
-use Rattle.std.proofs.lemmas.Bool.{cases_Bool}
-use Rattle.std.proofs.lemmas.Bool.Decides.{nat_tests}
+use Rattle.std.proofs.lemmas.Bool.{cases_Bool, and_parts, eqb-true}
+use Rattle.std.proofs.lemmas.Option.{same_Some}
 use Rattle.framehop_core.specs.Memory.{Memory}
 use Rattle.framehop_core.specs.Outcome.{answered, address_at, word_at, word_from, above, beside}
+use Rattle.framehop_core.specs.Laws.Basics.{ok-same, option_map-some}
 use Rattle.framehop_core.specs.Laws.Outcome.{and_then-ok, address_at-ok, word_at-ok}
 use Rattle.framehop_core.specs.X86_64.Registers.{Registers}
 use Rattle.framehop_core.specs.X86_64.Rules.{kept, stored_at, nothing_more, stack_pointer_rises, value_from, restored_at, frame_pointer_line, frame_pointer_line_with, outcome, outcome_of_line}
@@ -25,12 +26,6 @@ use Rattle.framehop_dwarf.specs.RowMeaning.{IsStored, IsCfa, IsColumn}
 use Rattle.framehop_dwarf.specs.X86_64.{with_bp, by_sp, by_bp, with_offsets, by_cfa, translated_by, translated, scope_of, column_of, bp_column, return_column, IsUnreadable, IsFramePointer, RowMeans}
 use Rattle.framehop_dwarf.specs.Laws.Exact.{int_same, units-exact, signed_units-exact}
 use Rattle.framehop_dwarf.specs.Laws.ValueMeaning.{bind_some}
-
-pos-same : (m n : ℕ) → pos m ≡ pos n → m ≡ n
-pos-same m n e = cc
-
-ok-same : (m n : ℕ) → ◌≡◌ {A = Result ℕ Error} (Ok m) (Ok n) → m ≡ n
-ok-same m n e = cc
 
 -- a word that is read stands at its address
 pub word_from-stored : (memory : Memory) (cfa : ℕ) (z offset : ℤ) (value : ℕ) → z ≡ pos cfa +ℤ offset
@@ -132,22 +127,6 @@ module _ (first : Bool) (memory : Memory) (old : Registers) (address : ℕ) (new
       ]
 
 -- ---- and so it does what the row means
-
-pub is-number : (m n : ℕ) → (m == n) ≡ true → m ≡ n
-is-number m n e = grind (arith, nat_tests)
-
-some-rule : (a b : UnwindRuleX86_64) → ◌≡◌ {A = Option UnwindRuleX86_64} (Some a) (Some b) → a ≡ b
-some-rule a b e = cc
-
-pub both : (a b : Bool) → (a && b) ≡ true → (a ≡ true) × (b ≡ true)
-both true true e = (refl, refl)
-both true false e = cc
-both false b e = cc
-
-pub mapped-some : {A B : Type 0} (f : A → B) (o : Option A) (y : B) → option_map f o ≡ Some y
-    → (x : A) × (o ≡ Some x) × (f x ≡ y)
-mapped-some f (Some x) y is = (x, refl, cc)
-mapped-some f None y is = cc
 
 module _ (bytes : List ℕ) (memory : Memory) (first : Bool) (old : Registers) (address : ℕ) (new : Registers) where
   -- what the rows' three rules mean
@@ -253,15 +232,15 @@ module _ (bytes : List ℕ) (memory : Memory) (first : Bool) (old : Registers) (
       → Means (cfa.RegisterAndOffset register offset) bp_rule (Some (rule.Offset (negsuc 7)))
   by-with_bp register offset x None told is exact tells e =
       by-offset_sp register offset x None is exact (λ kept. kept)
-      (subst Answers (sym (some-rule (OffsetSp x) told tells)) e)
+      (subst Answers (sym (same_Some (OffsetSp x) told tells)) e)
   by-with_bp register offset x (Some rule.Undefined) told is exact tells e =
       by-offset_sp register offset x (Some rule.Undefined) is exact (λ kept. kept)
-      (subst Answers (sym (some-rule (OffsetSp x) told tells)) e)
+      (subst Answers (sym (same_Some (OffsetSp x) told tells)) e)
   by-with_bp register offset x (Some rule.SameValue) told is exact tells e =
       by-offset_sp register offset x (Some rule.SameValue) is exact (λ kept. kept)
-      (subst Answers (sym (some-rule (OffsetSp x) told tells)) e)
+      (subst Answers (sym (same_Some (OffsetSp x) told tells)) e)
   by-with_bp register offset x (Some (rule.Offset saved)) told is exact tells e =
-      let y = mapped-some (OffsetSpAndRestoreBp x) (signed_units_of 8 (offset +ℤ saved)) told tells in
+      let y = option_map-some (OffsetSpAndRestoreBp x) (signed_units_of 8 (offset +ℤ saved)) told tells in
       by-restore_bp register offset saved x y.0 is exact (signed_units-exact 8 (offset +ℤ saved) y.0 y.1)
       (subst Answers (sym y.2) e)
   by-with_bp register offset x (Some (rule.ValOffset saved)) told is exact tells e = cc
@@ -278,8 +257,8 @@ module _ (bytes : List ℕ) (memory : Memory) (first : Bool) (old : Registers) (
   by-by_bp register offset (Some (rule.Offset saved)) told is tells e =
       elim (cases_Bool (int_eq offset (pos 16) && int_eq saved (negsuc 15))) [
         | inl usual ↦
-            let tests = both (int_eq offset (pos 16)) (int_eq saved (negsuc 15)) usual in
-            let same = some-rule UseFramePointer told (rw usual at tells) in
+            let tests = and_parts (int_eq offset (pos 16)) (int_eq saved (negsuc 15)) usual in
+            let same = same_Some UseFramePointer told (rw usual at tells) in
             let o = int_same offset (pos 16) tests.0 in
             let s = int_same saved (negsuc 15) tests.1 in
             subst
@@ -293,7 +272,7 @@ module _ (bytes : List ℕ) (memory : Memory) (first : Bool) (old : Registers) (
             let f : with_offsets offset saved ≡ Some told = rw unusual at tells in
             let x = bind_some (units_of 8 offset)
             (λ words. option_map (UseFramePointerWithOffsets words) (signed_units_of 8 (offset +ℤ saved))) told f in
-            let y = mapped-some (UseFramePointerWithOffsets x.0) (signed_units_of 8 (offset +ℤ saved)) told x.2 in
+            let y = option_map-some (UseFramePointerWithOffsets x.0) (signed_units_of 8 (offset +ℤ saved)) told x.2 in
             by-offsets register offset saved x.0 y.0 is (units-exact 8 offset x.0 x.1)
             (signed_units-exact 8 (offset +ℤ saved) y.0 y.1) (subst Answers (sym y.2) e)
       ]
@@ -310,17 +289,17 @@ module _ (bytes : List ℕ) (memory : Memory) (first : Bool) (old : Registers) (
         | inl sp ↦
             let f : by_sp offset bp_rule ≡ Some told = rw sp at tells in
             let x = bind_some (units_of 8 offset) (λ words. with_bp words offset bp_rule) told f in
-            by-with_bp register offset x.0 bp_rule told (is-number register.0 7 sp) (units-exact 8 offset x.0 x.1) x.2 e
+            by-with_bp register offset x.0 bp_rule told (eqb-true register.0 7 sp) (units-exact 8 offset x.0 x.1) x.2 e
         | inr other ↦
             let f = rw other at tells in
             elim (cases_Bool (register.0 == 6)) [
-              | inl bp ↦ by-by_bp register offset bp_rule told (is-number register.0 6 bp) (rw bp at f) e
+              | inl bp ↦ by-by_bp register offset bp_rule told (eqb-true register.0 6 bp) (rw bp at f) e
               | inr none ↦ (let g = rw none at f in cc)
             ]
       ]
 
   ends : (told : UnwindRuleX86_64) → ◌≡◌ {A = Option UnwindRuleX86_64} (Some EndOfStack) (Some told) → Answers told → ⊥
-  ends told same e = let f = subst Answers (sym (some-rule EndOfStack told same)) e in cc
+  ends told same e = let f = subst Answers (sym (same_Some EndOfStack told same)) e in cc
 
   by-translated : (cfa_rule : CfaRule) (bp_rule return_rule : Option RegisterRule) (told : UnwindRuleX86_64)
       → translated_by cfa_rule bp_rule return_rule ≡ Some told → Answers told → Means cfa_rule bp_rule return_rule

@@ -1,9 +1,10 @@
 //! From a row of call frame information to a frame on aarch64: the rule that most rows are translated
 //! to, and the values of the others.
-ghost use Rattle.std.specs.Prelude.{◌≡◌, ◌^◌, ◌<◌, None, IfErr, OnOk, OnErr, Ok, Err};
+ghost use Rattle.std.specs.Prelude.{◌≡◌, ◌^◌, ◌<◌, ◌||◌, true, None, IfErr, OnOk, OnErr, Ok, Err};
 ghost use Rattle.framehop_core.specs.Memory.{Memory, AnswersAs};
 ghost use Rattle.framehop_dwarf.specs.Aarch64.{translated_by, by_sp, by_fp, by_saved, beside_fp, with_fp, with_fp_kept, with_lr, or_kept, stepped, scope_of, direct_by, translated, direct_of, Ascends};
 ghost use Rattle.framehop_dwarf.specs.Told.{no_memory, NeedsNoStack, Has, IsOfValues};
+ghost use Rattle.framehop_dwarf.specs.MayTakeMemory.{is_cfa_expression, is_some_expression, has_expression};
 
 use crate::dwarf::{
     DwarfUnwinderError, DwarfUnwinding, eval_cfa_rule, eval_register_rule, units_of, words_of_sum,
@@ -38,6 +39,106 @@ impl DwarfUnwindRegs for UnwindRegsAarch64 {
             _ => None,
         }
     }
+}
+
+impl DwarfUnwinding for ArchAarch64 {
+    ghost use Rattle.framehop_dwarf.specs.Aarch64.{translated, direct_of, RowMeans, ColumnsMean, Ascends};
+    ghost use Rattle.framehop_dwarf.specs.Laws.Aarch64.{rule-means, values-mean};
+    ghost use Rattle.framehop_core.specs.declared.aarch64.unwind_rule.UnwindRuleAarch64.TheVariants.{NoOpIfFirstFrameOtherwiseFp};
+
+    ghost translated = { translated };
+
+    ghost direct = { direct_of };
+
+    ghost row_means = { RowMeans };
+
+    ghost columns_mean = { ColumnsMean };
+
+    ghost ascends = { Ascends };
+
+    ghost uncovered = { NoOpIfFirstFrameOtherwiseFp };
+
+    ghost rule_means = { rule-means };
+
+    ghost values_mean = { values-mean };
+
+    fn unwind_frame<S: UnwindContextStorage, E: EvaluationStorage, F>(
+        alloc: Global,
+        section: &[u8],
+        unwind_info: &UnwindTableRow<S>,
+        regs: &mut UnwindRegsAarch64,
+        is_first_frame: bool,
+        read_stack: &mut F,
+    ) -> Result<UnwindResult<UnwindRuleAarch64>, DwarfUnwinderError>
+    where
+        F: FnMut(u64) -> Result<u64, ()>,
+    {
+        if let Some(rule) = rule_of_row(unwind_info) {
+            return Ok(UnwindResult::ExecRule(rule));
+        }
+        let return_address = unwind_by_row::<S, E, F>(
+            alloc,
+            section,
+            unwind_info,
+            regs,
+            is_first_frame,
+            read_stack,
+        )?;
+        Ok(UnwindResult::Uncacheable(return_address))
+    }
+
+    fn rule_if_uncovered_by_fde() -> UnwindRuleAarch64 {
+        UnwindRuleAarch64::NoOpIfFirstFrameOtherwiseFp
+    }
+}
+
+/// Returns the rule that a row is translated to, if it is.
+#[tactic(auto, unfolding(crate::specs::Aarch64::translated))]
+fn rule_of_row<S: UnwindContextStorage>(
+    unwind_info: &UnwindTableRow<S>,
+) -> Option<UnwindRuleAarch64>
+    ensures { result ≡ translated unwind_info.now }
+{
+    let fp_rule = unwind_info.register(X29);
+    let lr_rule = unwind_info.register(X30);
+    translate_into_unwind_rule(*unwind_info.cfa(), fp_rule, lr_rule)
+}
+
+/// Computes the caller's registers by a row, and writes them. Returns the return address.
+#[tactic(auto, using(crate::proofs::MayTakeMemory::of_row), unfolding(crate::specs::Aarch64::direct_of))]
+fn unwind_by_row<S: UnwindContextStorage, E: EvaluationStorage, F>(
+    alloc: Global,
+    section: &[u8],
+    unwind_info: &UnwindTableRow<S>,
+    regs: &mut UnwindRegsAarch64,
+    is_first_frame: bool,
+    read_stack: &mut F,
+) -> Result<u64, DwarfUnwinderError>
+where
+    F: FnMut(u64) -> Result<u64, ()>,
+    requires { F.IsAlwaysCallable read_stack.old }
+    ensures callable { F.IsAlwaysCallable read_stack.new }
+    ensures kept { OnErr result (regs.new ≡ regs.old) }
+    ensures refused { IfErr result IsOfValues }
+    ensures unread { IfErr result (λ error. NeedsNoStack error → read_stack.new ≡ read_stack.old) }
+    ensures ascends { OnOk result (Ascends is_first_frame regs.old regs.new) }
+    ensures memory { result ≡ Err no_memory → (E.Stack.limit ≡ None) × (has_expression unwind_info.now ≡ true) }
+    ensures answers { (memory : Memory) → AnswersAs F.FnMut read_stack.old memory
+        → AnswersAs F.FnMut read_stack.new memory
+        × Has (direct_of section.now E.Stack.limit memory unwind_info.now is_first_frame regs.old) result regs.new }
+{
+    let fp_rule = unwind_info.register(X29);
+    let lr_rule = unwind_info.register(X30);
+    unwind_directly::<E, F>(
+        alloc,
+        section,
+        *unwind_info.cfa(),
+        fp_rule,
+        lr_rule,
+        regs,
+        is_first_frame,
+        read_stack,
+    )
 }
 
 /// Returns the rule of a row that saves lr so many words from sp.
@@ -249,7 +350,8 @@ where
     ensures refused { IfErr result IsOfValues }
     ensures unread { IfErr result (λ error. NeedsNoStack error → read_stack.new ≡ read_stack.old) }
     ensures ascends { OnOk result (Ascends is_first_frame regs.old regs.new) }
-    ensures memory { result ≡ Err no_memory → E.Stack.limit ≡ None }
+    ensures memory { result ≡ Err no_memory → (E.Stack.limit ≡ None)
+        × ((is_cfa_expression cfa_rule || is_some_expression fp_rule || is_some_expression lr_rule) ≡ true) }
     ensures answers { (memory : Memory) → AnswersAs F.FnMut read_stack.old memory
         → AnswersAs F.FnMut read_stack.new memory
         × Has (direct_by (scope_of section.now E.Stack.limit regs.old) memory cfa_rule fp_rule lr_rule is_first_frame regs.old) result regs.new }
@@ -282,104 +384,4 @@ where
         return Err(DwarfUnwinderError::CouldNotRecoverReturnAddress);
     };
     Ok(step_to(regs, cfa, new_fp, new_lr))
-}
-
-/// Returns the rule that a row is translated to, if it is.
-#[tactic(auto, unfolding(crate::specs::Aarch64::translated))]
-fn rule_of_row<S: UnwindContextStorage>(
-    unwind_info: &UnwindTableRow<S>,
-) -> Option<UnwindRuleAarch64>
-    ensures { result ≡ translated unwind_info.now }
-{
-    let fp_rule = unwind_info.register(X29);
-    let lr_rule = unwind_info.register(X30);
-    translate_into_unwind_rule(*unwind_info.cfa(), fp_rule, lr_rule)
-}
-
-/// Computes the caller's registers by a row, and writes them. Returns the return address.
-#[tactic(auto, unfolding(crate::specs::Aarch64::direct_of))]
-fn unwind_by_row<S: UnwindContextStorage, E: EvaluationStorage, F>(
-    alloc: Global,
-    section: &[u8],
-    unwind_info: &UnwindTableRow<S>,
-    regs: &mut UnwindRegsAarch64,
-    is_first_frame: bool,
-    read_stack: &mut F,
-) -> Result<u64, DwarfUnwinderError>
-where
-    F: FnMut(u64) -> Result<u64, ()>,
-    requires { F.IsAlwaysCallable read_stack.old }
-    ensures callable { F.IsAlwaysCallable read_stack.new }
-    ensures kept { OnErr result (regs.new ≡ regs.old) }
-    ensures refused { IfErr result IsOfValues }
-    ensures unread { IfErr result (λ error. NeedsNoStack error → read_stack.new ≡ read_stack.old) }
-    ensures ascends { OnOk result (Ascends is_first_frame regs.old regs.new) }
-    ensures memory { result ≡ Err no_memory → E.Stack.limit ≡ None }
-    ensures answers { (memory : Memory) → AnswersAs F.FnMut read_stack.old memory
-        → AnswersAs F.FnMut read_stack.new memory
-        × Has (direct_of section.now E.Stack.limit memory unwind_info.now is_first_frame regs.old) result regs.new }
-{
-    let fp_rule = unwind_info.register(X29);
-    let lr_rule = unwind_info.register(X30);
-    unwind_directly::<E, F>(
-        alloc,
-        section,
-        *unwind_info.cfa(),
-        fp_rule,
-        lr_rule,
-        regs,
-        is_first_frame,
-        read_stack,
-    )
-}
-
-impl DwarfUnwinding for ArchAarch64 {
-    ghost use Rattle.framehop_dwarf.specs.Aarch64.{translated, direct_of, RowMeans, ColumnsMean, Ascends};
-    ghost use Rattle.framehop_dwarf.specs.Laws.Aarch64.{rule-means, values-mean};
-    ghost use Rattle.framehop_core.specs.declared.aarch64.unwind_rule.UnwindRuleAarch64.TheVariants.{NoOpIfFirstFrameOtherwiseFp};
-
-    ghost translated = { translated };
-
-    ghost direct = { direct_of };
-
-    ghost row_means = { RowMeans };
-
-    ghost columns_mean = { ColumnsMean };
-
-    ghost ascends = { Ascends };
-
-    ghost uncovered = { NoOpIfFirstFrameOtherwiseFp };
-
-    ghost rule_means = { rule-means };
-
-    ghost values_mean = { values-mean };
-
-    fn unwind_frame<S: UnwindContextStorage, E: EvaluationStorage, F>(
-        alloc: Global,
-        section: &[u8],
-        unwind_info: &UnwindTableRow<S>,
-        regs: &mut UnwindRegsAarch64,
-        is_first_frame: bool,
-        read_stack: &mut F,
-    ) -> Result<UnwindResult<UnwindRuleAarch64>, DwarfUnwinderError>
-    where
-        F: FnMut(u64) -> Result<u64, ()>,
-    {
-        if let Some(rule) = rule_of_row(unwind_info) {
-            return Ok(UnwindResult::ExecRule(rule));
-        }
-        let return_address = unwind_by_row::<S, E, F>(
-            alloc,
-            section,
-            unwind_info,
-            regs,
-            is_first_frame,
-            read_stack,
-        )?;
-        Ok(UnwindResult::Uncacheable(return_address))
-    }
-
-    fn rule_if_uncovered_by_fde() -> UnwindRuleAarch64 {
-        UnwindRuleAarch64::NoOpIfFirstFrameOtherwiseFp
-    }
 }

@@ -1,10 +1,11 @@
 //! From a row of call frame information to a frame on x86_64: the rule that most rows are translated to,
 //! and the values of the others.
-ghost use Rattle.std.specs.Prelude.{◌≡◌, ◌≢◌, true, None, IfSome, IfErr, OnErr, Err};
+ghost use Rattle.std.specs.Prelude.{◌≡◌, ◌≢◌, ◌||◌, true, None, IfSome, IfErr, OnErr, Err};
 ghost use Rattle.framehop_core.specs.Memory.{Memory, AnswersAs};
 ghost use Rattle.framehop_core.specs.X86_64.Rules.{is_executable};
 ghost use Rattle.framehop_dwarf.specs.X86_64.{translated_by, by_cfa, by_sp, by_bp, with_bp, with_offsets, below, or_below, scope_of, stepped, direct_by, translated, direct_of};
 ghost use Rattle.framehop_dwarf.specs.Told.{no_memory, NeedsNoStack, Has, IsOfValues};
+ghost use Rattle.framehop_dwarf.specs.MayTakeMemory.{is_cfa_expression, is_some_expression, has_expression};
 
 use crate::dwarf::{
     DwarfUnwinderError, DwarfUnwinding, eval_cfa_rule, eval_register_rule, read_word, units_of,
@@ -40,6 +41,104 @@ impl DwarfUnwindRegs for UnwindRegsX86_64 {
             _ => None,
         }
     }
+}
+
+impl DwarfUnwinding for ArchX86_64 {
+    ghost use Rattle.framehop_dwarf.specs.X86_64.{translated, direct_of, RowMeans, ColumnsMean};
+    ghost use Rattle.framehop_dwarf.specs.Laws.X86_64.{rule-means, values-mean};
+    ghost use Rattle.framehop_core.specs.declared.x86_64.unwind_rule.UnwindRuleX86_64.TheVariants.{JustReturnIfFirstFrameOtherwiseFp};
+
+    ghost translated = { translated };
+
+    ghost direct = { direct_of };
+
+    ghost row_means = { RowMeans };
+
+    ghost columns_mean = { ColumnsMean };
+
+    ghost ascends = { λ first old new. Unit {0} };
+
+    ghost uncovered = { JustReturnIfFirstFrameOtherwiseFp };
+
+    ghost rule_means = { rule-means };
+
+    ghost values_mean = { values-mean };
+
+    fn unwind_frame<S: UnwindContextStorage, E: EvaluationStorage, F>(
+        alloc: Global,
+        section: &[u8],
+        unwind_info: &UnwindTableRow<S>,
+        regs: &mut UnwindRegsX86_64,
+        is_first_frame: bool,
+        read_stack: &mut F,
+    ) -> Result<UnwindResult<UnwindRuleX86_64>, DwarfUnwinderError>
+    where
+        F: FnMut(u64) -> Result<u64, ()>,
+    {
+        if let Some(rule) = rule_of_row(unwind_info) {
+            return Ok(UnwindResult::ExecRule(rule));
+        }
+        let return_address = unwind_by_row::<S, E, F>(
+            alloc,
+            section,
+            unwind_info,
+            regs,
+            is_first_frame,
+            read_stack,
+        )?;
+        Ok(UnwindResult::Uncacheable(return_address))
+    }
+
+    fn rule_if_uncovered_by_fde() -> UnwindRuleX86_64 {
+        UnwindRuleX86_64::JustReturnIfFirstFrameOtherwiseFp
+    }
+}
+
+/// Returns the rule that a row is translated to, if it is.
+#[tactic(auto, unfolding(crate::specs::X86_64::translated))]
+fn rule_of_row<S: UnwindContextStorage>(unwind_info: &UnwindTableRow<S>) -> Option<UnwindRuleX86_64>
+    ensures exact { result ≡ translated unwind_info.now }
+    ensures runnable { IfSome result (λ rule. is_executable rule ≡ true) }
+{
+    let bp_rule = unwind_info.register(RBP);
+    let ra_rule = unwind_info.register(RA);
+    translate_into_unwind_rule(*unwind_info.cfa(), bp_rule, ra_rule)
+}
+
+/// Computes the caller's registers by a row, and writes them. Returns the return address.
+#[tactic(auto, using(crate::proofs::MayTakeMemory::of_row), unfolding(crate::specs::X86_64::direct_of))]
+fn unwind_by_row<S: UnwindContextStorage, E: EvaluationStorage, F>(
+    alloc: Global,
+    section: &[u8],
+    unwind_info: &UnwindTableRow<S>,
+    regs: &mut UnwindRegsX86_64,
+    is_first_frame: bool,
+    read_stack: &mut F,
+) -> Result<u64, DwarfUnwinderError>
+where
+    F: FnMut(u64) -> Result<u64, ()>,
+    requires { F.IsAlwaysCallable read_stack.old }
+    ensures callable { F.IsAlwaysCallable read_stack.new }
+    ensures kept { OnErr result (regs.new ≡ regs.old) }
+    ensures refused { IfErr result IsOfValues }
+    ensures unread { IfErr result (λ error. NeedsNoStack error → read_stack.new ≡ read_stack.old) }
+    ensures memory { result ≡ Err no_memory → (E.Stack.limit ≡ None) × (has_expression unwind_info.now ≡ true) }
+    ensures answers { (memory : Memory) → AnswersAs F.FnMut read_stack.old memory
+        → AnswersAs F.FnMut read_stack.new memory
+        × Has (direct_of section.now E.Stack.limit memory unwind_info.now is_first_frame regs.old) result regs.new }
+{
+    let bp_rule = unwind_info.register(RBP);
+    let ra_rule = unwind_info.register(RA);
+    unwind_directly::<E, F>(
+        alloc,
+        section,
+        *unwind_info.cfa(),
+        bp_rule,
+        ra_rule,
+        regs,
+        is_first_frame,
+        read_stack,
+    )
 }
 
 /// Returns the rule of a row whose CFA is rsp plus a number of words.
@@ -215,7 +314,8 @@ where
     ensures kept { OnErr result (regs.new ≡ regs.old) }
     ensures refused { IfErr result IsOfValues }
     ensures unread { IfErr result (λ error. NeedsNoStack error → read_stack.new ≡ read_stack.old) }
-    ensures memory { result ≡ Err no_memory → E.Stack.limit ≡ None }
+    ensures memory { result ≡ Err no_memory → (E.Stack.limit ≡ None)
+        × ((is_cfa_expression cfa_rule || is_some_expression bp_rule || is_some_expression ra_rule) ≡ true) }
     ensures answers { (memory : Memory) → AnswersAs F.FnMut read_stack.old memory
         → AnswersAs F.FnMut read_stack.new memory
         × Has (direct_by (scope_of section.now E.Stack.limit regs.old) memory cfa_rule bp_rule ra_rule is_first_frame regs.old) result regs.new }
@@ -248,102 +348,4 @@ where
         saved_bp.unwrap_or(bp),
         return_address,
     )
-}
-
-/// Returns the rule that a row is translated to, if it is.
-#[tactic(auto, unfolding(crate::specs::X86_64::translated))]
-fn rule_of_row<S: UnwindContextStorage>(unwind_info: &UnwindTableRow<S>) -> Option<UnwindRuleX86_64>
-    ensures exact { result ≡ translated unwind_info.now }
-    ensures runnable { IfSome result (λ rule. is_executable rule ≡ true) }
-{
-    let bp_rule = unwind_info.register(RBP);
-    let ra_rule = unwind_info.register(RA);
-    translate_into_unwind_rule(*unwind_info.cfa(), bp_rule, ra_rule)
-}
-
-/// Computes the caller's registers by a row, and writes them. Returns the return address.
-#[tactic(auto, unfolding(crate::specs::X86_64::direct_of))]
-fn unwind_by_row<S: UnwindContextStorage, E: EvaluationStorage, F>(
-    alloc: Global,
-    section: &[u8],
-    unwind_info: &UnwindTableRow<S>,
-    regs: &mut UnwindRegsX86_64,
-    is_first_frame: bool,
-    read_stack: &mut F,
-) -> Result<u64, DwarfUnwinderError>
-where
-    F: FnMut(u64) -> Result<u64, ()>,
-    requires { F.IsAlwaysCallable read_stack.old }
-    ensures callable { F.IsAlwaysCallable read_stack.new }
-    ensures kept { OnErr result (regs.new ≡ regs.old) }
-    ensures refused { IfErr result IsOfValues }
-    ensures unread { IfErr result (λ error. NeedsNoStack error → read_stack.new ≡ read_stack.old) }
-    ensures memory { result ≡ Err no_memory → E.Stack.limit ≡ None }
-    ensures answers { (memory : Memory) → AnswersAs F.FnMut read_stack.old memory
-        → AnswersAs F.FnMut read_stack.new memory
-        × Has (direct_of section.now E.Stack.limit memory unwind_info.now is_first_frame regs.old) result regs.new }
-{
-    let bp_rule = unwind_info.register(RBP);
-    let ra_rule = unwind_info.register(RA);
-    unwind_directly::<E, F>(
-        alloc,
-        section,
-        *unwind_info.cfa(),
-        bp_rule,
-        ra_rule,
-        regs,
-        is_first_frame,
-        read_stack,
-    )
-}
-
-impl DwarfUnwinding for ArchX86_64 {
-    ghost use Rattle.framehop_dwarf.specs.X86_64.{translated, direct_of, RowMeans, ColumnsMean};
-    ghost use Rattle.framehop_dwarf.specs.Laws.X86_64.{rule-means, values-mean};
-    ghost use Rattle.framehop_core.specs.declared.x86_64.unwind_rule.UnwindRuleX86_64.TheVariants.{JustReturnIfFirstFrameOtherwiseFp};
-
-    ghost translated = { translated };
-
-    ghost direct = { direct_of };
-
-    ghost row_means = { RowMeans };
-
-    ghost columns_mean = { ColumnsMean };
-
-    ghost ascends = { λ first old new. Unit {0} };
-
-    ghost uncovered = { JustReturnIfFirstFrameOtherwiseFp };
-
-    ghost rule_means = { rule-means };
-
-    ghost values_mean = { values-mean };
-
-    fn unwind_frame<S: UnwindContextStorage, E: EvaluationStorage, F>(
-        alloc: Global,
-        section: &[u8],
-        unwind_info: &UnwindTableRow<S>,
-        regs: &mut UnwindRegsX86_64,
-        is_first_frame: bool,
-        read_stack: &mut F,
-    ) -> Result<UnwindResult<UnwindRuleX86_64>, DwarfUnwinderError>
-    where
-        F: FnMut(u64) -> Result<u64, ()>,
-    {
-        if let Some(rule) = rule_of_row(unwind_info) {
-            return Ok(UnwindResult::ExecRule(rule));
-        }
-        let return_address = unwind_by_row::<S, E, F>(
-            alloc,
-            section,
-            unwind_info,
-            regs,
-            is_first_frame,
-            read_stack,
-        )?;
-        Ok(UnwindResult::Uncacheable(return_address))
-    }
-
-    fn rule_if_uncovered_by_fde() -> UnwindRuleX86_64 {
-        UnwindRuleX86_64::JustReturnIfFirstFrameOtherwiseFp
-    }
 }

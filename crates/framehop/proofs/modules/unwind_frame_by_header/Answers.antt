@@ -5,7 +5,7 @@ use Rattle.framehop.proofs.modules.unwind_frame_by_header.Goals as goal
 pub returns-in-Some-clause-memory : goal.returns-in-Some-clause-memory
 returns-in-Some-clause-memory g c = λ out.
     let found = header-found c.args.eh_frame_hdr.now c.args.eh_frame.now c.args.base_addresses c.args.base_svma c.new-unwinder.result.eh_frame_hdr c.new-unwinder.result.base_svma c.args.relative_address _ _ c.new-unwinder.ensures.header c.new-unwinder.ensures.base c.get_fde_offset_for_relative_address.ensures.exact c.in-Some.is in
-    (c.unwind_frame_with_fde.ensures.memory out, rw found refl)
+    rw found (rw (c.new-unwinder.ensures.section, c.new-unwinder.ensures.base) at c.unwind_frame_with_fde.ensures.memory out)
 
 pub returns-in-Some-clause-told : goal.returns-in-Some-clause-told
 returns-in-Some-clause-told g c = λ some.

@@ -26,7 +26,7 @@ returns-in-Hit-clause-answers g c = λ memory answers sound.
 pub returns-in-Miss-clause-may_run_out : goal.returns-in-Miss-clause-may_run_out
 returns-in-Miss-clause-may_run_out g c = λ out. record {
   missed = missed (g.A.Unwinding.unwinding g.P.AllocationPolicy.policy) c.args.self.now c.args.cache.now (location_of c.args.address) c.in-Miss.handle (sym c.lookup_rule.ensures.answer ∙ c.in-Miss.is);
-  takes = subst (λ first. MayTakeMemory (g.A.Unwinding.unwinding g.P.AllocationPolicy.policy) c.args.self.now.modules (lookup_address (location_of c.args.address)) first) (ap not c.is_return_address-is_first_frame.ensures)
+  may = subst (λ first. MayTakeMemory (g.A.Unwinding.unwinding g.P.AllocationPolicy.policy) c.args.self.now.modules (lookup_address (location_of c.args.address)) first) (ap not c.is_return_address-is_first_frame.ensures)
       (subst (λ address. MayTakeMemory (g.A.Unwinding.unwinding g.P.AllocationPolicy.policy) c.args.self.now.modules address (not c.is_return_address-is_first_frame.result)) c.address_for_lookup.ensures (c.unwind_uncached.ensures.may_run_out out));
 }
 
