@@ -1,3 +1,4 @@
+pub mod Documents
 pub mod Hexadecimal
 pub mod Items
 pub mod Lines

@@ -1,4 +1,5 @@
 -- What the contracts of this crate cite: what is read, and what is printed.
+pub mod Answers
 pub mod Commands
 pub mod Fields
 pub mod Numbers

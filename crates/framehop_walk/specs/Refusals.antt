@@ -1,7 +1,7 @@
 -- Why a run is refused: the line that it prints after the program's name, and its exit status.
-use Rattle.std.specs.Prelude.{◌≡◌, ◌≢◌, ℕ, List, ◌++◌, codes, Result, Ok, Err}
+use Rattle.std.specs.Prelude.{◌≡◌, ◌≢◌, ℕ, List, ◌∷◌, [], ◌++◌, codes, Result, Ok, Err}
 use Rattle.framehop_walk.specs.declared.refusal.Refusal.{Refusal}
-use Rattle.framehop_walk.specs.declared.refusal.Refusal.TheVariants.{Usage, CannotReadInput, NotJson, BadNumber, BadField, NoSuchUnwinder, NoSuchCache, OutOfMemory, GenerationsExhausted}
+use Rattle.framehop_walk.specs.declared.refusal.Refusal.TheVariants.{Usage, CannotReadInput, CannotWriteOutput, NotJson, BadNumber, BadField, NoSuchUnwinder, NoSuchCache, OutOfMemory, GenerationsExhausted}
 use Rattle.std.specs.declared.io.ErrorKind.{ErrorKind}
 use Rattle.std.specs.declared.io.ErrorKind.TheVariants as kind
 use Rattle.framehop.specs.declared.session.SessionError.{SessionError}
@@ -14,6 +14,7 @@ bad_field name = codes "input refused: bad field " ++ name
 abbrev pub refusal_text : Refusal → List ℕ
 refusal_text Usage = codes "usage: framehop-walk [FILE]"
 refusal_text CannotReadInput = codes "cannot read input"
+refusal_text CannotWriteOutput = codes "cannot write output"
 refusal_text NotJson = codes "input refused: not JSON"
 refusal_text BadNumber = codes "input refused: bad number"
 refusal_text (BadField name) = bad_field name.now
@@ -21,6 +22,10 @@ refusal_text NoSuchUnwinder = codes "input refused: no such unwinder"
 refusal_text NoSuchCache = codes "input refused: no such cache"
 refusal_text OutOfMemory = codes "out of memory"
 refusal_text GenerationsExhausted = codes "generations exhausted"
+
+-- the line of a refusal
+unfoldable pub refusal_line : Refusal → List ℕ
+refusal_line refusal = (codes "framehop-walk: " ++ refusal_text refusal) ++ 10 ∷ []
 
 -- 2 where the machine was too small, else 1
 abbrev pub refusal_status : Refusal → ℕ

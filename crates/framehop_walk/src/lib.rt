@@ -3,6 +3,7 @@
 
 pub mod commands;
 pub mod fields;
+mod input;
 mod lookup;
 mod output;
 mod program;
@@ -11,6 +12,7 @@ pub mod registers;
 mod replies;
 pub mod sections;
 
+pub use input::Input;
 pub use output::Output;
 pub use program::{refuse, walk_program};
 pub use refusal::Refusal;

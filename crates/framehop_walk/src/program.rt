@@ -1,18 +1,19 @@
 //! The whole run of the program, over a reader and two writers.
-ghost use Rattle.std.specs.Prelude.{◌≡◌, ◌≢◌, ◌≤◌, ◌^◌, IfOk, IfErr, OnOk, IfSome, MatchResult, [], true, false, Some, None, Err, map, codes, string_bytes, IsUtf8};
+ghost use Rattle.std.specs.Prelude.{◌≡◌, ◌≢◌, ◌≤◌, ◌^◌, IfOk, IfErr, OnOk, OnErr, IfSome, MatchResult, [], true, false, Ok, Err, map, codes, string_bytes};
 ghost use Rattle.std.specs.Io.KnownBytes.{Keeps, Appends};
-ghost use Rattle.serde_json.specs.Read.{read};
 ghost use Rattle.serde_json.specs.View.{view, items_view};
 ghost use Rattle.framehop.specs.CachedWorld.{cached_replies, empty_cached_world};
 ghost use Rattle.framehop.specs.SessionView.{reply_view};
-ghost use Rattle.framehop_walk.specs.Refusals.{told, reading_of, refusal_status, refusal_text};
+ghost use Rattle.framehop_walk.specs.Refusals.{told, reading_of, refusal_status, refusal_text, refusal_line};
 ghost use Rattle.framehop_walk.specs.Fields.{each, field_below};
 ghost use Rattle.framehop_walk.specs.Program.{lines_of, printed, read_next, AreRead};
+ghost use Rattle.framehop_walk.specs.Answers.{architecture, policy_of, read_arch as arch_read, read_policy as policy_read, AnswersUnder, AnswersOn, AnswersValue, Answers, IsJson, IsNoJson, IsOfInput, IsOfRun, IsPrinted};
 ghost use Rattle.framehop_walk.specs.Numbers.{has_bad_number as has_bad};
 ghost use Rattle.framehop_walk.specs.Reading.{IsAccepted};
 
 use crate::commands::read_command;
 use crate::fields::{count, has_bad_number, list, text};
+use crate::input::Input;
 use crate::output::Output;
 use crate::refusal::Refusal;
 use crate::registers::Registers;
@@ -28,78 +29,121 @@ use std::alloc::{AllocError, Global};
 use std::io;
 use std::io::{Read, Write};
 
+/// The architecture that the input names.
+#[derive(Clone, Copy)]
+pub enum Arch {
+    Aarch64,
+    X86_64,
+}
+
+/// The allocation policy that the input names.
+#[derive(Clone, Copy)]
+pub enum PolicyName {
+    May,
+    Must,
+}
+
 /// Reads commands, carries them out and writes the replies to `out`, or one line that says why
-/// the run was refused to `err`. The answer is the exit status: 0, or that of the refusal, or 1
-/// where `out` could not be written. Nothing is written to `out` by a run that is refused.
+/// the run was refused to `err`. The answer is the exit status: 0, or that of the refusal. Nothing
+/// is written to `out` by a run that is refused, unless a write to it fails.
 pub fn walk_program<R: Read, W: Write, E: Write>(
     alloc: Global,
-    input: &mut R,
+    input: &mut Input<R>,
     out: &mut Output<W>,
-    err: &mut E,
+    err: &mut Output<E>,
 ) -> u8
-    ensures read { result ≡ 0 → IfSome (R.remaining input.old) IsAccepted }
+    ensures read { result ≡ 0 → IfSome (R.remaining input.old.reader) IsAccepted }
+    ensures printed { result ≡ 0 → IfSome (R.remaining input.old.reader)
+        (IsPrinted (W.contents out.old.writer) (W.contents out.new.writer)) }
+    ensures flushed { result ≡ 0 → out.new.is_flushed ≡ true }
+    ensures told { result ≢ 0 → (refusal : Refusal) × (result ≡ refusal_status refusal)
+        × (err.new.has_failed ≡ false
+        → Appends (E.contents err.old.writer) (E.contents err.new.writer) (refusal_line refusal))
+        × (refusal ≢ Refusal.OutOfMemory
+        → IsOfRun input.new.has_failed out.new.has_failed (R.remaining input.old.reader) refusal) }
     ensures refused { result ≢ 0 → out.new.has_failed ≡ false
         → Keeps (W.contents out.old.writer) (W.contents out.new.writer) }
     ensures noted { result ≡ 0 → out.new.has_failed ≡ out.old.has_failed }
     ensures status { result ≤ 2 }
 {
-    match replies_to_input(alloc, input) {
-        Ok(text) => match write_whole(out, text.as_bytes()) {
-            Ok(()) => 0,
-            Err(_) => 1,
-        },
+    match print_answer(alloc, input, out) {
+        Ok(()) => 0,
         Err(refusal) => refuse(err, refusal),
     }
 }
 
-/// Writes the line of a refusal, and returns its exit status. Where the line can't be written
-/// there is none.
-pub fn refuse<E: Write>(err: &mut E, refusal: Refusal) -> u8
-    ensures { result ≡ refusal_status refusal }
+/// Writes the line of a refusal, and returns its exit status.
+#[tactic(auto, unfolding(crate::specs::Refusals::refusal_line))]
+pub fn refuse<E: Write>(err: &mut Output<E>, refusal: Refusal) -> u8
+    ensures status { result ≡ refusal_status refusal }
+    ensures told { err.new.has_failed ≡ false
+        → Appends (E.contents err.old.writer) (E.contents err.new.writer) (refusal_line refusal) }
 {
-    let _ = writeln!(err, "framehop-walk: {refusal}");
+    if writeln!(err, "framehop-walk: {refusal}").is_err() {
+        err.has_failed = true;
+    }
     refusal.status()
+}
+
+/// Writes the replies to the input to `out`.
+fn print_answer<R: Read, W: Write>(
+    alloc: Global,
+    input: &mut Input<R>,
+    out: &mut Output<W>,
+) -> Result<(), Refusal>
+    ensures read { OnOk result (IfSome (R.remaining input.old.reader) IsAccepted) }
+    ensures printed { OnOk result (IfSome (R.remaining input.old.reader)
+        (IsPrinted (W.contents out.old.writer) (W.contents out.new.writer))) }
+    ensures flushed { OnOk result (out.new.is_flushed ≡ true) }
+    ensures noted { OnOk result (out.new.has_failed ≡ out.old.has_failed) }
+    ensures told { IfErr result (λ refusal. refusal ≢ Refusal.OutOfMemory
+        → IsOfRun input.new.has_failed out.new.has_failed (R.remaining input.old.reader) refusal) }
+    ensures refused { OnErr result (out.new.has_failed ≡ false
+        → Keeps (W.contents out.old.writer) (W.contents out.new.writer)) }
+{
+    let text = replies_to_input(alloc, input)?;
+    match write_whole(out, text.as_bytes()) {
+        Ok(()) => Ok(()),
+        Err(_) => Err(Refusal::CannotWriteOutput),
+    }
 }
 
 fn write_whole<W: Write>(out: &mut Output<W>, text: &[u8]) -> io::Result<()>
     ensures failed { IfErr result (λ _. out.new.has_failed ≡ true) }
     ensures noted { OnOk result (out.new.has_failed ≡ out.old.has_failed) }
     ensures written { OnOk result (Appends (W.contents out.old.writer) (W.contents out.new.writer) text.now) }
+    ensures flushed { OnOk result (out.new.is_flushed ≡ true) }
 {
     out.write_all(text)?;
     out.flush()
 }
 
 // all replies to the input, as text
-fn replies_to_input<R: Read>(alloc: Global, input: &mut R) -> Result<String, Refusal>
-    ensures { OnOk result (IfSome (R.remaining input.old) IsAccepted) }
+fn replies_to_input<R: Read>(alloc: Global, input: &mut Input<R>) -> Result<String, Refusal>
+    ensures read { OnOk result (IfSome (R.remaining input.old.reader) IsAccepted) }
+    ensures answers { IfOk result (λ text. IfSome (R.remaining input.old.reader)
+        (λ bytes. Answers bytes (Ok (string_bytes text)))) }
+    ensures refused { IfErr result (λ refusal. refusal ≢ Refusal.OutOfMemory
+        → IsOfInput input.new.has_failed (R.remaining input.old.reader) refusal) }
 {
     let value = read_value(alloc, input)?;
     replies_to_value(alloc, &value)
 }
 
-fn read_value<R: Read>(alloc: Global, input: &mut R) -> Result<Value, Refusal>
-    ensures { IfOk result (λ value.
-        IfSome (R.remaining input.old) (λ text. read text ≡ Some (view value))) }
+fn read_value<R: Read>(alloc: Global, input: &mut Input<R>) -> Result<Value, Refusal>
+    ensures reading { IfOk result (λ value.
+        IfSome (R.remaining input.old.reader) (λ bytes. IsJson bytes (view value))) }
+    ensures refused { IfErr result (λ refusal. refusal ≢ Refusal.OutOfMemory
+        → IsOfInput input.new.has_failed (R.remaining input.old.reader) refusal) }
 {
-    let bytes = read_bytes(alloc, input)?;
+    let bytes = input.read_all(alloc)?;
     parse(alloc, bytes.as_slice())
 }
 
-// all bytes of the input
-fn read_bytes<R: Read>(alloc: Global, input: &mut R) -> Result<Vec<u8>, Refusal>
-    ensures { IfOk result (λ bytes. IfSome (R.remaining input.old) (λ text. bytes.items ≡ text)) }
-{
-    let mut bytes = Vec::new(alloc);
-    match input.read_to_end(&mut bytes) {
-        Ok(_) => Ok(bytes),
-        Err(error) => Err(Refusal::from(error)),
-    }
-}
-
 fn parse(alloc: Global, text: &[u8]) -> Result<Value, Refusal>
-    ensures reading { IfOk result (λ value. read text.now ≡ Some (view value)) }
-    ensures refused { result ≡ Err Refusal.NotJson → IsUtf8 text.now → read text.now ≡ None }
+    ensures reading { IfOk result (λ value. IsJson text.now (view value)) }
+    ensures refused { IfErr result (λ refusal. refusal ≢ Refusal.OutOfMemory
+        → (refusal ≡ Refusal.NotJson) × IsNoJson text.now) }
 {
     match Value::from_slice(alloc, text) {
         Ok(value) => Ok(value),
@@ -112,22 +156,50 @@ fn parse(alloc: Global, text: &[u8]) -> Result<Value, Refusal>
 }
 
 fn replies_to_value(alloc: Global, value: &Value) -> Result<String, Refusal>
-    ensures { OnOk result (has_bad (view value.now) ≡ false) }
+    ensures whole { OnOk result (has_bad (view value.now) ≡ false) }
+    ensures answers { result ≢ Err Refusal.OutOfMemory
+        → AnswersValue (view value.now) (reading_of (λ text. string_bytes text) result) }
 {
     if has_bad_number(value) {
         return Err(Refusal::BadNumber);
     }
+    match read_arch(value)? {
+        Arch::Aarch64 => replies_on::<ArchAarch64>(alloc, value),
+        Arch::X86_64 => replies_on::<ArchX86_64>(alloc, value),
+    }
+}
+
+/// Reads the field `arch`.
+#[tactic(auto, unfolding(crate::specs::Answers::read_arch))]
+fn read_arch(value: &Value) -> Result<Arch, Refusal>
+    ensures { told result ≡ arch_read (view value.now) }
+{
     match text(value, "arch")? {
-        "aarch64" => replies_of::<ArchAarch64>(alloc, value),
-        "x86_64" => replies_of::<ArchX86_64>(alloc, value),
+        "aarch64" => Ok(Arch::Aarch64),
+        "x86_64" => Ok(Arch::X86_64),
         _ => Err(Refusal::BadField("arch")),
     }
 }
 
-fn replies_of<A: Registers>(alloc: Global, value: &Value) -> Result<String, Refusal> {
+fn replies_on<A: Registers>(alloc: Global, value: &Value) -> Result<String, Refusal>
+    ensures { result ≢ Err Refusal.OutOfMemory
+        → AnswersOn (architecture A.reading A.text A.unwinding) (view value.now)
+        (reading_of (λ text. string_bytes text) result) }
+{
+    match read_policy(value)? {
+        PolicyName::May => replies_under::<A, MayAllocateDuringUnwind>(alloc, value),
+        PolicyName::Must => replies_under::<A, MustNotAllocateDuringUnwind>(alloc, value),
+    }
+}
+
+/// Reads the field `policy`.
+#[tactic(auto, unfolding(crate::specs::Answers::read_policy))]
+fn read_policy(value: &Value) -> Result<PolicyName, Refusal>
+    ensures { reading_of policy_of result ≡ policy_read (view value.now) }
+{
     match text(value, "policy")? {
-        "may" => replies_under::<A, MayAllocateDuringUnwind>(alloc, value),
-        "must" => replies_under::<A, MustNotAllocateDuringUnwind>(alloc, value),
+        "may" => Ok(PolicyName::May),
+        "must" => Ok(PolicyName::Must),
         _ => Err(Refusal::BadField("policy")),
     }
 }
@@ -135,7 +207,11 @@ fn replies_of<A: Registers>(alloc: Global, value: &Value) -> Result<String, Refu
 fn replies_under<A: Registers, P: AllocationPolicy>(
     alloc: Global,
     value: &Value,
-) -> Result<String, Refusal> {
+) -> Result<String, Refusal>
+    ensures { result ≢ Err Refusal.OutOfMemory
+        → AnswersUnder (architecture A.reading A.text A.unwinding) P.policy (view value.now)
+        (reading_of (λ text. string_bytes text) result) }
+{
     let cache_count = read_caches(value)?;
     let (verbs, commands) = read_commands::<A>(alloc, list(value, "commands")?)?;
     run_commands::<A, P>(alloc, &verbs, commands, usize::from(cache_count))

@@ -18,6 +18,9 @@ pub enum Refusal {
     /// The file could not be opened, or a read failed.
     CannotReadInput,
 
+    /// A write to standard output failed, or its flush.
+    CannotWriteOutput,
+
     /// The input is no JSON text.
     NotJson,
 
@@ -48,6 +51,7 @@ impl fmt::Display for Refusal {
         match self {
             Refusal::Usage => write!(f, "usage: framehop-walk [FILE]"),
             Refusal::CannotReadInput => write!(f, "cannot read input"),
+            Refusal::CannotWriteOutput => write!(f, "cannot write output"),
             Refusal::NotJson => write!(f, "input refused: not JSON"),
             Refusal::BadNumber => write!(f, "input refused: bad number"),
             Refusal::BadField(name) => write!(f, "input refused: bad field {name}"),

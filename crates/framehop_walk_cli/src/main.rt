@@ -2,7 +2,7 @@
 //! argument names or from standard input, and prints the replies.
 #![tactic(auto)]
 
-use framehop_walk::{Output, Refusal, refuse, walk_program};
+use framehop_walk::{Input, Output, Refusal, refuse, walk_program};
 use std::io::Read;
 use std::process::ExitCode;
 use std::{env, fs, io};
@@ -13,25 +13,28 @@ fn main(rt: HostRuntime) -> ExitCode {
 
 /// The exit status of a run.
 fn run(rt: &HostRuntime) -> u8 {
+    let mut err = Output::new(rt.stderr());
     let mut arguments = match env::args(rt) {
         Ok(arguments) => arguments,
-        Err(error) => return refuse(&mut rt.stderr(), Refusal::from(error)),
+        Err(error) => return refuse(&mut err, Refusal::from(error)),
     };
     let _program = arguments.next();
     let file = arguments.next();
     if arguments.next().is_some() {
-        return refuse(&mut rt.stderr(), Refusal::Usage);
+        return refuse(&mut err, Refusal::Usage);
     }
     match file {
         Some(path) => match fs::open(rt, path.as_str()) {
-            Ok(mut file) => walk(rt, &mut file),
-            Err(error) => refuse(&mut rt.stderr(), Refusal::from(error)),
+            Ok(file) => walk(rt, file),
+            Err(error) => refuse(&mut err, Refusal::from(error)),
         },
-        None => walk(rt, &mut rt.stdin()),
+        None => walk(rt, rt.stdin()),
     }
 }
 
-fn walk<R: Read>(rt: &HostRuntime, input: &mut R) -> u8 {
+fn walk<R: Read + Drop>(rt: &HostRuntime, reader: R) -> u8 {
+    let mut input = Input::new(reader);
     let mut out = Output::new(io::writer(rt));
-    walk_program(rt.alloc(), input, &mut out, &mut rt.stderr())
+    let mut err = Output::new(rt.stderr());
+    walk_program(rt.alloc(), &mut input, &mut out, &mut err)
 }

@@ -5,10 +5,14 @@
 #[cfg(test)]
 mod compact;
 #[cfg(test)]
+mod large_sections;
+#[cfg(test)]
 mod module_data;
 #[cfg(test)]
 mod pe_sections;
 #[cfg(test)]
 mod program;
+#[cfg(test)]
+mod refusals;
 #[cfg(test)]
 mod replies;

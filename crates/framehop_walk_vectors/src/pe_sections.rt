@@ -1,5 +1,5 @@
 //! Sessions over modules that unwind by the unwind info of PE sections, by the program, under both policies.
-use framehop_walk::{Output, walk_program};
+use framehop_walk::{Input, Output, walk_program};
 use std::alloc::Global;
 use std::process::Abort;
 use std::test::Fail;
@@ -92,9 +92,9 @@ pub(crate) fn prints<R: Abort>(
 ) -> Result<(), Fail> {
     for policy in ["may", "must"] {
         let input = commands.replace(alloc, "POLICY", policy)?;
-        let mut reader = input.as_bytes();
+        let mut reader = Input::new(input.as_bytes());
         let mut out = Output::new(Vec::new(alloc));
-        let mut err = Vec::new(alloc);
+        let mut err = Output::new(Vec::new(alloc));
         assert_eq!(rt; walk_program(alloc, &mut reader, &mut out, &mut err), 0);
         assert_eq!(rt; out.writer.as_slice(), want.as_bytes());
     }

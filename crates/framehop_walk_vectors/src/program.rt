@@ -1,5 +1,5 @@
 //! The program: its input, its refusals and its output.
-use framehop_walk::{Output, Refusal, refuse, section_bytes, walk_program};
+use framehop_walk::{Input, Output, Refusal, refuse, section_bytes, walk_program};
 use hex::FromHexError;
 use std::alloc::Global;
 use std::io;
@@ -19,21 +19,22 @@ const FRAME_POINTER_WALK: &str = r#"{"arch":"aarch64","policy":"may","caches":1,
 
 /// What a run of the program answers and writes.
 #[derive(Drop)]
-struct Finished {
-    status: u8,
-    out: Vec<u8>,
-    err: Vec<u8>,
+pub struct Finished {
+    pub status: u8,
+    pub out: Vec<u8>,
+    pub err: Vec<u8>,
 }
 
-fn run(alloc: Global, input: &str) -> Finished {
-    let mut reader = input.as_bytes();
+/// Runs the program over a text.
+pub fn run(alloc: Global, input: &str) -> Finished {
+    let mut reader = Input::new(input.as_bytes());
     let mut out = Output::new(Vec::new(alloc));
-    let mut err = Vec::new(alloc);
+    let mut err = Output::new(Vec::new(alloc));
     let status = walk_program(alloc, &mut reader, &mut out, &mut err);
     Finished {
         status,
         out: out.writer,
-        err,
+        err: err.writer,
     }
 }
 
@@ -130,7 +131,7 @@ fn refuses_fields(rt: HostRuntime) -> Result<(), Fail> {
 }
 
 /// Whether the input is refused by this line alone.
-fn is_refused(alloc: Global, input: &str, line: &str) -> Result<bool, Fail> {
+pub fn is_refused(alloc: Global, input: &str, line: &str) -> Result<bool, Fail> {
     let run = run(alloc, input);
     let want = format!(in alloc; "framehop-walk: input refused: {line}\n")?;
     Ok(run.status == 1 && run.out.is_empty() && run.err.as_slice() == want.as_bytes())
@@ -317,79 +318,104 @@ fn stops_at_a_failed_read(rt: HostRuntime) -> Result<(), Fail> {
     let input = r#"{"arch":"aarch64","policy":"may","caches":0,"commands":[]}"#;
     let reads = input.len().div_ceil(7) + 1;
     for reads_left in 0..reads + 1 {
-        let mut reader = FailingReader {
+        let mut reader = Input::new(FailingReader {
             rest: input.as_bytes(),
             reads_left,
-        };
+        });
         let mut out = Output::new(Vec::new(rt.alloc()));
-        let mut err = Vec::new(rt.alloc());
+        let mut err = Output::new(Vec::new(rt.alloc()));
         let status = walk_program(rt.alloc(), &mut reader, &mut out, &mut err);
         assert!(rt; out.writer.is_empty());
+        assert_eq!(rt; reader.has_failed, reads_left < reads);
         if reads_left < reads {
             let want = "framehop-walk: cannot read input\n";
-            assert_eq!(rt; err.as_slice(), want.as_bytes());
+            assert_eq!(rt; err.writer.as_slice(), want.as_bytes());
             assert_eq!(rt; status, 1);
         } else {
-            assert!(rt; err.is_empty());
+            assert!(rt; err.writer.is_empty());
             assert_eq!(rt; status, 0);
         }
     }
     Ok(())
 }
 
-/// A writer that refuses every write.
+/// A writer that takes at most seven bytes a write, and fails after so many writes, and at a flush
+/// where it is told to.
 #[derive(Drop)]
-struct FailingWriter;
+struct FailingWriter {
+    written: Vec<u8>,
+    writes_left: usize,
+    flushes: bool,
+}
 
 impl Write for FailingWriter {
-    fn write(&mut self, _buf: &[u8]) -> io::Result<usize> {
-        Err(io::Error::from(io::ErrorKind::Other))
+    fn write(&mut self, buf: &[u8]) -> io::Result<usize> {
+        if self.writes_left == 0 {
+            return Err(io::Error::from(io::ErrorKind::Other));
+        }
+        self.writes_left -= 1;
+        let end = buf.len().min(7);
+        match self.written.extend_from_slice(&buf[..end]) {
+            Ok(()) => Ok(end),
+            Err(_) => Err(io::Error::from(io::ErrorKind::OutOfMemory)),
+        }
     }
 
     fn flush(&mut self) -> io::Result<()> {
-        Ok(())
+        if self.flushes {
+            Ok(())
+        } else {
+            Err(io::Error::from(io::ErrorKind::Other))
+        }
     }
 }
 
+/// Runs the program over `MODULE`, and a writer that fails after so many writes, or at its flush.
+fn run_over(alloc: Global, writes_left: usize, flushes: bool) -> Finished {
+    let mut reader = Input::new(MODULE.as_bytes());
+    let mut out = Output::new(FailingWriter {
+        written: Vec::new(alloc),
+        writes_left,
+        flushes,
+    });
+    let mut err = Output::new(Vec::new(alloc));
+    let status = walk_program(alloc, &mut reader, &mut out, &mut err);
+    Finished {
+        status,
+        out: out.writer.written,
+        err: err.writer,
+    }
+}
+
+/// The lines `new 0` and `add` are written by two writes and a flush.
 #[test]
 fn stops_at_a_failed_write(rt: HostRuntime) -> Result<(), Fail> {
-    let mut reader = MODULE.as_bytes();
-    let mut out = Output::new(FailingWriter);
-    let mut err = Vec::new(rt.alloc());
-    assert_eq!(rt;
-        walk_program(rt.alloc(), &mut reader, &mut out, &mut err),
-        1
-    );
-    assert!(rt; out.has_failed);
-    assert!(rt; err.is_empty());
+    let line = "framehop-walk: cannot write output\n";
+    for (writes_left, flushes, status, out, err) in [
+        (0, true, 1, "", line),
+        (1, true, 1, "new 0\na", line),
+        (2, false, 1, "new 0\nadd\n", line),
+        (2, true, 0, "new 0\nadd\n", ""),
+    ] {
+        let run = run_over(rt.alloc(), writes_left, flushes);
+        assert_eq!(rt; run.status, status);
+        assert_eq!(rt; run.out.as_slice(), out.as_bytes());
+        assert_eq!(rt; run.err.as_slice(), err.as_bytes());
+    }
     Ok(())
 }
 
-/// A writer whose writes succeed and whose flush fails.
-#[derive(Drop)]
-struct FailingFlush;
-
-impl Write for FailingFlush {
-    fn write(&mut self, buf: &[u8]) -> io::Result<usize> {
-        Ok(buf.len())
-    }
-
-    fn flush(&mut self) -> io::Result<()> {
-        Err(io::Error::from(io::ErrorKind::Other))
-    }
-}
-
+/// Where the line of a refusal can't be written, the status tells it all the same.
 #[test]
-fn stops_at_a_failed_flush(rt: HostRuntime) -> Result<(), Fail> {
-    let mut reader = MODULE.as_bytes();
-    let mut out = Output::new(FailingFlush);
-    let mut err = Vec::new(rt.alloc());
-    assert_eq!(rt;
-        walk_program(rt.alloc(), &mut reader, &mut out, &mut err),
-        1
-    );
-    assert!(rt; out.has_failed);
-    assert!(rt; err.is_empty());
+fn refuses_without_a_line(rt: HostRuntime) -> Result<(), Fail> {
+    let alloc = rt.alloc();
+    let mut err = Output::new(FailingWriter {
+        written: Vec::new(alloc),
+        writes_left: 0,
+        flushes: true,
+    });
+    assert_eq!(rt; refuse(&mut err, Refusal::NotJson), 1);
+    assert!(rt; err.has_failed);
     Ok(())
 }
 
@@ -429,6 +455,11 @@ fn prints_refusals(rt: HostRuntime) -> Result<(), Fail> {
             1,
             "framehop-walk: usage: framehop-walk [FILE]\n",
         ),
+        (
+            Refusal::CannotWriteOutput,
+            1,
+            "framehop-walk: cannot write output\n",
+        ),
         (Refusal::OutOfMemory, 2, "framehop-walk: out of memory\n"),
         (
             Refusal::GenerationsExhausted,
@@ -436,9 +467,9 @@ fn prints_refusals(rt: HostRuntime) -> Result<(), Fail> {
             "framehop-walk: generations exhausted\n",
         ),
     ] {
-        let mut err = Vec::new(rt.alloc());
+        let mut err = Output::new(Vec::new(rt.alloc()));
         assert_eq!(rt; refuse(&mut err, refusal), status);
-        assert_eq!(rt; err.as_slice(), line.as_bytes());
+        assert_eq!(rt; err.writer.as_slice(), line.as_bytes());
     }
     Ok(())
 }

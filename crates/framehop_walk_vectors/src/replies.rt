@@ -1,5 +1,5 @@
 //! The lines that the program prints for each command.
-use framehop_walk::{Output, walk_program};
+use framehop_walk::{Input, Output, walk_program};
 use std::alloc::Global;
 use std::test::Fail;
 
@@ -16,16 +16,16 @@ fn printed(alloc: Global, arch: &str, commands: &str) -> Result<String, Fail> {
     let input = format!(in alloc;
         "{{\"arch\":\"{arch}\",\"policy\":\"must\",\"caches\":2,\"commands\":[{commands}]}}"
     )?;
-    let mut reader = input.as_str().as_bytes();
+    let mut reader = Input::new(input.as_str().as_bytes());
     let mut out = Output::new(Vec::new(alloc));
-    let mut err = Vec::new(alloc);
+    let mut err = Output::new(Vec::new(alloc));
     let _status = walk_program(alloc, &mut reader, &mut out, &mut err);
     let mut text = String::new(alloc);
     write!(
         text,
         "{}{}",
         String::from_utf8_lossy(alloc, out.writer.as_slice())?,
-        String::from_utf8_lossy(alloc, err.as_slice())?
+        String::from_utf8_lossy(alloc, err.writer.as_slice())?
     )?;
     Ok(text)
 }
