@@ -18,6 +18,7 @@ pub mod UnwindIterator
 pub mod World
 pub mod CachedWorld
 pub mod SessionView
+pub mod StackBytes
 pub mod Transparent
 pub mod Rise
 pub mod Meant

@@ -24,6 +24,7 @@ use framehop_cache::generations::Generations;
 use framehop_cfi::section::SectionBytes;
 use std::alloc::Global;
 use walks::push_next_frame;
+pub use walks::{read_word, walk};
 use world::Session;
 
 /// Carries out a list of commands, over so many caches that all its unwinders share, and returns

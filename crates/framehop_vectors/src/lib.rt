@@ -24,6 +24,8 @@ mod sections;
 #[cfg(test)]
 mod sizes;
 #[cfg(test)]
+mod stack_bytes;
+#[cfg(test)]
 mod texts;
 #[cfg(test)]
 mod walk;

@@ -5,6 +5,8 @@ ghost use Rattle.framehop.specs.Iterator.{at_frame, next_of, Moves, frames_in, e
 ghost use Rattle.framehop.specs.UnwindIterator.{unwinder_of, progress_in, regs_of, cache_of, read_stack_of};
 ghost use Rattle.framehop.specs.SessionView.{end_of, walk_of};
 ghost use Rattle.framehop.specs.World.{memory_of};
+ghost use Rattle.framehop.specs.StackBytes.{memory_of_bytes};
+ghost use Rattle.framehop.specs.Meant.{IsWalkMeant};
 ghost use Rattle.framehop.specs.Walk.{walk_from, cache_after_walk};
 ghost use Rattle.framehop.specs.Soundness.{IsSound, AreApart, MayRunOut, cache_after};
 ghost use Rattle.framehop.specs.CachedWorld.{step_of};
@@ -15,9 +17,26 @@ ghost use Rattle.framehop.specs.Outcome.{Outcome, answer_of, registers_after};
 use crate::cache::{AllocationPolicy, Cache};
 use crate::session::commands::{Memory, SessionError, WalkEnd};
 use crate::unwinder::{UnwindIterator, Unwinder, UnwinderInternal, Unwinding};
+use framehop_cfi::bytes::read_u64;
 use framehop_cfi::section::SectionBytes;
 use framehop_core::{Error, FrameAddress};
 use std::alloc::Global;
+
+/// Reads the stack word at an address (AVMA), aligned or not, from a copy of the stack's bytes that
+/// begins at the address `base`. It is refused where one of its eight bytes is not among them.
+#[inline]
+#[tactic(auto, unfolding(framehop_cfi::specs::Bytes::u64_at))]
+pub fn read_word(base: u64, bytes: &[u8], address: u64) -> Result<u64, ()>
+    ensures { result ≡ reply (memory_of_bytes base bytes.now address) }
+{
+    let Some(offset) = address.checked_sub(base) else {
+        return Err(());
+    };
+    match read_u64(bytes, offset as usize) {
+        Ok((word, _)) => Ok(word),
+        Err(_) => Err(()),
+    }
+}
 
 /// Calls an iterator once: pushes the frame that it returns, or returns how the walk ended.
 pub(crate) fn push_next_frame<U: Unwinder, F: FnMut(u64) -> Result<u64, ()>>(
@@ -70,10 +89,13 @@ fn next_frames<U: Unwinder, F: FnMut(u64) -> Result<u64, ()>>(
     ensures same_unwinder { unwinder_of unwinding.new ≡ unwinder_of unwinding.old }
     ensures same_cache { (cache_of unwinding.new).ghost_name ≡ (cache_of unwinding.old).ghost_name }
     ensures same_callback { (read_stack_of unwinding.new).ghost_name ≡ (read_stack_of unwinding.old).ghost_name }
+    ensures stays_sound { (other : UnwinderView) → AreApart (U.unwinder_view (unwinder_of unwinding.old).now) other
+        → U.is_sound other (cache_of unwinding.old).now → U.is_sound other (cache_of unwinding.new).now }
     ensures refused { IfErr result (λ error. error ≡ SessionError.OutOfMemory) }
     ensures answers { (memory : StackMemory) → AnswersAs F.FnMut (read_stack_of unwinding.old).now memory
         → U.is_sound (U.unwinder_view (unwinder_of unwinding.old).now) (cache_of unwinding.old).now
-        → IfOk result (λ walk.
+        → AnswersAs F.FnMut (read_stack_of unwinding.new).now memory
+        × IfOk result (λ walk.
         let step : FrameLocation → U.UnwindRegs → Outcome U.UnwindRegs = λ location regs. U.step (unwinder_of unwinding.old).now location regs memory in
         (walk_of walk.0.items walk.1 (regs_of unwinding.new)
         ≡ walk_on step limit (progress_in unwinding.old) (regs_of unwinding.old))
@@ -87,6 +109,43 @@ fn next_frames<U: Unwinder, F: FnMut(u64) -> Result<u64, ()>>(
         }
     }
     Ok((frames, WalkEnd::Limit))
+}
+
+/// Walks a stack from an instruction pointer (AVMA) and initial registers on, by at most `limit`
+/// frames: returns the frames, how the walk ended, and the registers there. `read_stack` reads the
+/// stack word at an address (AVMA). It is refused only with `OutOfMemory`.
+///
+/// This is [`Unwinder::iter_frames`], called until it ends or the limit is reached.
+pub fn walk<U: Unwinder, F>(
+    alloc: Global,
+    unwinder: &U,
+    cache: &mut U::Cache,
+    pc: u64,
+    regs: U::UnwindRegs,
+    read_stack: &mut F,
+    limit: u32,
+) -> Result<(Vec<FrameAddress>, WalkEnd, U::UnwindRegs), SessionError>
+where
+    F: FnMut(u64) -> Result<u64, ()>,
+    requires { F.IsAlwaysCallable read_stack.old }
+    ensures callable { F.IsAlwaysCallable read_stack.new }
+    ensures stays_sound { (other : UnwinderView) → AreApart (U.unwinder_view unwinder.now) other
+        → U.is_sound other cache.old → U.is_sound other cache.new }
+    ensures refused { IfErr result (λ error. error ≡ SessionError.OutOfMemory) }
+    ensures answers { (memory : StackMemory) → AnswersAs F.FnMut read_stack.old memory
+        → U.is_sound (U.unwinder_view unwinder.now) cache.old
+        → AnswersAs F.FnMut read_stack.new memory
+        × IfOk result (λ walk.
+        let step : FrameLocation → U.UnwindRegs → Outcome U.UnwindRegs = λ location before. U.step unwinder.now location before memory in
+        (walk_of walk.0.items walk.1 walk.2 ≡ walk_from step limit pc regs)
+        × (cache.new ≡ cache_after_walk step (U.cache_after unwinder.now) limit pc regs cache.old)
+        × IsWalkMeant (λ location before address after. U.means unwinder.now location before memory address after)
+        regs (walk_from step limit pc regs)) }
+{
+    let mut unwinding = unwinder.iter_frames(pc, regs, cache, read_stack);
+    let (frames, end) = next_frames(alloc, &mut unwinding, limit)?;
+    let regs = *unwinding.regs();
+    Ok((frames, end, regs))
 }
 
 /// Walks a stack over its words: the frames, how the walk ended, and the registers there.

@@ -2,6 +2,8 @@ use Rattle.std.proofs.Common.{◌≡◌, ◌-◌, map}
 use Rattle.framehop.specs.Memory.{Memory, AnswersAs}
 use Rattle.framehop.specs.CodeAddress.{location_of}
 use Rattle.framehop.specs.Iterator.{progress_of}
+use Rattle.framehop.specs.Modules.{UnwinderView}
+use Rattle.framehop.specs.Soundness.{AreApart}
 use Rattle.framehop.proofs.WalkLemmas.{WalksOn}
 use Rattle.framehop.proofs.session.walks.next_frames.Given as goal
 
@@ -11,6 +13,8 @@ invariant-loop-call g l =
     × (l.unwinding.unwinder ≡ l.fn.unwinding.unwinder)
     × (l.unwinding.cache.ghost_name ≡ l.fn.unwinding.cache.ghost_name)
     × (l.unwinding.read_stack.ghost_name ≡ l.fn.unwinding.read_stack.ghost_name)
+    × ((other : UnwinderView) → AreApart (g.U.Unwinder.unwinder_view l.fn.unwinding.unwinder.now) other
+    → g.U.Unwinder.is_sound other l.fn.unwinding.cache.now → g.U.Unwinder.is_sound other l.unwinding.cache.now)
     × ((memory : Memory) → AnswersAs g.F.FnMut l.fn.unwinding.read_stack.now memory
     → g.U.Unwinder.is_sound (g.U.Unwinder.unwinder_view l.fn.unwinding.unwinder.now) l.fn.unwinding.cache.now
     → AnswersAs g.F.FnMut l.unwinding.read_stack.now memory

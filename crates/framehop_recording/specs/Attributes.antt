@@ -1,0 +1,43 @@
+-- The events of a recording: `perf_file_attr` of perf.data-file-format.txt, and in it `perf_event_attr` of perf_event.h.
+use Rattle.std.specs.Prelude.{ℕ, zero, suc, ◌+◌, ◌-◌, List, [], ◌∷◌, Bool, Result, Ok, Err, nat_lt, if◌then◌else◌}
+use Rattle.framehop_cfi.specs.Bytes.{◌>>=◌}
+use Rattle.framehop_recording.specs.Bytes.{u64_at, block_at, has_bit}
+use Rattle.framehop_recording.specs.declared.error.RecordingError.{RecordingError}
+use Rattle.framehop_recording.specs.declared.error.RecordingError.TheVariants.{Eof, ShortAttribute}
+use Rattle.framehop_recording.specs.declared.attributes.Attribute.{Attribute}
+
+-- an attribute by its values
+pub record AttributeView : Type 0 where
+  pub sample_type : ℕ
+  pub sample_id_all : Bool
+  pub sample_regs_user : ℕ
+  pub ids : List ℕ
+
+abbrev pub attribute_view : Attribute → AttributeView
+attribute_view a = record {
+  sample_type = a.sample_type;
+  sample_id_all = a.sample_id_all;
+  sample_regs_user = a.sample_regs_user;
+  ids = a.ids.now;
+}
+
+-- The entry of a size at an offset: `perf_event_attr`, of at least 96 bytes where it has user registers, then where the
+-- ids of the event are.
+unfoldable pub attribute_at : List ℕ → ℕ → ℕ → Result AttributeView RecordingError
+attribute_at file at size = if nat_lt size 112 then Err (ShortAttribute at) else (do
+  entry ← block_at file at size (Eof at)
+  sample_type ← u64_at entry.0 24 (Eof at)
+  flags ← u64_at entry.0 40 (Eof at)
+  registers ← u64_at entry.0 80 (Eof at)
+  ids_offset ← u64_at entry.0 (size - 16) (Eof at)
+  ids_size ← u64_at entry.0 (size - 8) (Eof at)
+  ids ← block_at file ids_offset.0 ids_size.0 (Eof ids_offset.0)
+  Ok (record { sample_type = sample_type.0; sample_id_all = has_bit flags.0 0x40000; sample_regs_user = registers.0; ids = ids.0 }))
+
+-- so many entries, one after another
+unfoldable pub attributes_from : ℕ → List ℕ → ℕ → ℕ → Result (List AttributeView) RecordingError
+attributes_from zero file at size = Ok []
+attributes_from (suc n) file at size = do
+  first ← attribute_at file at size
+  others ← attributes_from n file (at + size) size
+  Ok (first ∷ others)

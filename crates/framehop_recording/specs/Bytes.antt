@@ -1,0 +1,29 @@
+-- What is read at an offset of bytes, with the offset after it, or the refusal to give where the bytes end before it.
+use Rattle.std.specs.Prelude.{ℕ, ◌+◌, List, length, take, drop, Bool, not, bit_and, ◌==◌, Result, Ok, Err, nat_le, if◌then◌else◌}
+use Rattle.framehop_cfi.specs.Bytes.{le2, le4, le8}
+use Rattle.framehop_recording.specs.declared.error.RecordingError.{RecordingError}
+
+abbrev pub Reading : Type 0 → Type 0
+Reading A = Result (A × ℕ) RecordingError
+
+-- a value of so many bytes
+abbrev pub sized_at : {A : Type 0} → A → ℕ → List ℕ → ℕ → RecordingError → Reading A
+sized_at value size bytes at short = if nat_le (at + size) (length bytes) then Ok (value, at + size) else Err short
+
+-- little-endian numbers of two, four and eight bytes
+unfoldable pub u16_at : List ℕ → ℕ → RecordingError → Reading ℕ
+u16_at bytes at short = sized_at (le2 bytes at) 2 bytes at short
+
+unfoldable pub u32_at : List ℕ → ℕ → RecordingError → Reading ℕ
+u32_at bytes at short = sized_at (le4 bytes at) 4 bytes at short
+
+unfoldable pub u64_at : List ℕ → ℕ → RecordingError → Reading ℕ
+u64_at bytes at short = sized_at (le8 bytes at) 8 bytes at short
+
+-- so many bytes
+abbrev pub block_at : List ℕ → ℕ → ℕ → RecordingError → Reading (List ℕ)
+block_at bytes at size short = sized_at (take size (drop at bytes)) size bytes at short
+
+-- a number has the bits of a mask of one bit
+abbrev pub has_bit : ℕ → ℕ → Bool
+has_bit number mask = not (bit_and number mask == 0)

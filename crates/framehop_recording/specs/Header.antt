@@ -1,0 +1,38 @@
+-- The header of a recording: `perf_header` and `perf_file_section` of perf.data-file-format.txt.
+use Rattle.std.specs.Prelude.{ℕ, List, Result, Ok, Err, ◌==◌, nat_lt, if◌then◌else◌}
+use Rattle.framehop_cfi.specs.Bytes.{◌>>=◌}
+use Rattle.framehop_recording.specs.Bytes.{Reading, u64_at}
+use Rattle.framehop_recording.specs.declared.error.RecordingError.{RecordingError}
+use Rattle.framehop_recording.specs.declared.error.RecordingError.TheVariants.{Eof, NotARecording, BigEndian, Piped}
+use Rattle.framehop_recording.specs.declared.header.Header.{Header}
+use Rattle.framehop_recording.specs.declared.header.Section.{Section}
+
+-- a number of the file itself
+abbrev pub number_at : List ℕ → ℕ → Reading ℕ
+number_at file at = u64_at file at (Eof at)
+
+-- where a section lies: its offset and its size
+unfoldable pub section_at : List ℕ → ℕ → Reading Section
+section_at file at = do
+  offset ← number_at file at
+  size ← number_at file offset.1
+  Ok (record { offset = offset.0; size = size.0 }, size.1)
+
+-- the fields from `size` on
+unfoldable pub fields_at : List ℕ → Result Header RecordingError
+fields_at file = do
+  size ← number_at file 8
+  if nat_lt size.0 104 then Err (Piped 8) else (do
+    attribute_size ← number_at file 16
+    attributes ← section_at file 24
+    records ← section_at file 40
+    event_types ← section_at file 56
+    features ← number_at file 72
+    Ok (record { attribute_size = attribute_size.0; attributes = attributes.0; records = records.0; features = features.0 }))
+
+-- "PERFILE2", which reads backwards on a machine of the other byte order
+unfoldable pub header_at : List ℕ → Result Header RecordingError
+header_at file = do
+  magic ← number_at file 0
+  if magic.0 == 0x32454c4946524550 then fields_at file
+      else if magic.0 == 0x50455246494c4532 then Err (BigEndian 0) else Err (NotARecording 0)

@@ -1,0 +1,9 @@
+-- What the contracts of this crate cite: the parts of a recording, from its header to the registers of a sample.
+pub mod Bytes
+pub mod Header
+pub mod Attributes
+pub mod Records
+pub mod Mapping
+pub mod Tasks
+pub mod Sample
+pub mod Registers

@@ -1,0 +1,56 @@
+-- The mappings of files into processes: PERF_RECORD_MMAP (1) and PERF_RECORD_MMAP2 (10) of perf_event.h.
+use Rattle.std.specs.Prelude.{ℕ, List, [], ◌%◌, take, drop, Bool, not, Result, Ok, Err, ◌==◌, if◌then◌else◌}
+use Rattle.std.specs.List.{before_first}
+use Rattle.framehop_cfi.specs.Bytes.{◌>>=◌}
+use Rattle.framehop_recording.specs.Bytes.{u32_at, u64_at, block_at, has_bit}
+use Rattle.framehop_recording.specs.Records.{RecordView}
+use Rattle.framehop_recording.specs.declared.error.RecordingError.{RecordingError}
+use Rattle.framehop_recording.specs.declared.error.RecordingError.TheVariants.{OtherKind, ShortRecord}
+use Rattle.framehop_recording.specs.declared.mapping.Mapping.{Mapping}
+
+-- a mapping by its values
+pub record MappingView : Type 0 where
+  pub pid : ℕ
+  pub start : ℕ
+  pub size : ℕ
+  pub offset : ℕ
+  pub is_executable : Bool
+  pub build_id : List ℕ
+  pub name : List ℕ
+
+abbrev pub mapping_view : Mapping → MappingView
+mapping_view m = record {
+  pid = m.pid;
+  start = m.start;
+  size = m.size;
+  offset = m.offset;
+  is_executable = m.is_executable;
+  build_id = m.build_id.now;
+  name = m.name.now;
+}
+
+-- a text, up to its first 0
+abbrev pub text_of : List ℕ → List ℕ
+text_of bytes = before_first (λ byte. byte == 0) bytes
+
+-- The build id in the place of the device and inode, where PERF_RECORD_MISC_MMAP_BUILD_ID says so: its size, three
+-- reserved bytes, and at most 20 bytes.
+unfoldable pub build_id_at : RecordView → Result (List ℕ) RecordingError
+build_id_at r = if has_bit r.misc 0x4000 then (do
+  size ← u32_at r.body 32 (ShortRecord r.offset)
+  Ok (take (size.0 % 256) (take 20 (drop 36 r.body)))) else Ok []
+
+-- The fields, of which the name comes last; PERF_RECORD_MISC_MMAP_DATA says that no code is mapped.
+unfoldable pub mapping_fields : RecordView → ℕ → List ℕ → Result MappingView RecordingError
+mapping_fields r name_at build_id = do
+  pid ← u32_at r.body 0 (ShortRecord r.offset)
+  start ← u64_at r.body 8 (ShortRecord r.offset)
+  size ← u64_at r.body 16 (ShortRecord r.offset)
+  offset ← u64_at r.body 24 (ShortRecord r.offset)
+  fields ← block_at r.body 0 name_at (ShortRecord r.offset)
+  Ok (record { pid = pid.0; start = start.0; size = size.0; offset = offset.0; is_executable = not (has_bit r.misc 0x2000); build_id = build_id; name = text_of (drop name_at r.body) })
+
+unfoldable pub mapping_at : RecordView → Result MappingView RecordingError
+mapping_at r = if r.kind == 1 then mapping_fields r 32 [] else if r.kind == 10 then (do
+  build_id ← build_id_at r
+  mapping_fields r 64 build_id) else Err (OtherKind r.offset)

@@ -1,0 +1,82 @@
+-- The fields of PERF_RECORD_SAMPLE (9), in the order of perf_event.h.
+use Rattle.std.specs.Prelude.{ℕ, ◌*◌, List, Bool, not, bit_and, count_ones, Result, Ok, Err, ◌==◌, if◌then◌else◌}
+use Rattle.framehop_cfi.specs.Bytes.{◌>>=◌}
+use Rattle.framehop_recording.specs.Bytes.{Reading, u32_at, u64_at, block_at, has_bit}
+use Rattle.framehop_recording.specs.Attributes.{AttributeView}
+use Rattle.framehop_recording.specs.Records.{RecordView}
+use Rattle.framehop_recording.specs.declared.error.RecordingError.{RecordingError}
+use Rattle.framehop_recording.specs.declared.error.RecordingError.TheVariants.{OtherKind, ShortRecord, NoTime, NoUserStack, UnsupportedField, NoUserRegisters, Process32Bit, UnknownAbi}
+use Rattle.framehop_recording.specs.declared.sample.Sample.{Sample}
+use Rattle.framehop_recording.specs.declared.sample.UserStack.{UserStack}
+
+-- the registers and the stack of the user's side
+pub record UserView : Type 0 where
+  pub registers : List ℕ
+  pub stack : List ℕ
+
+abbrev pub user_view : UserStack → UserView
+user_view u = record { registers = u.registers.now; stack = u.stack.now }
+
+-- a sample by its values
+pub record SampleView : Type 0 where
+  pub ip : ℕ
+  pub pid : ℕ
+  pub tid : ℕ
+  pub time : ℕ
+  pub user : UserView
+
+abbrev pub sample_view : Sample → SampleView
+sample_view s = record { ip = s.ip; pid = s.pid; tid = s.tid; time = s.time; user = user_view s.user }
+
+-- a number that is there or not
+abbrev pub optional_at : Bool → List ℕ → ℕ → RecordingError → Reading ℕ
+optional_at present bytes at short = if present then u64_at bytes at short else Ok (0, at)
+
+-- the offset after a count and so many numbers, where they are there
+unfoldable pub after_chain : Bool → List ℕ → ℕ → RecordingError → Result ℕ RecordingError
+after_chain present bytes at short = if present then (do
+  count ← u64_at bytes at short
+  chain ← block_at bytes count.1 (8 * count.0) short
+  Ok chain.1) else Ok at
+
+-- The ABI and a register for each bit of the mask; then the size of the stack's copy, its bytes, and how many of them
+-- are of the stack. Where the size is 0, nothing follows it.
+unfoldable pub user_at : ℕ → ℕ → List ℕ → ℕ → Result UserView RecordingError
+user_at offset mask bytes at = do
+  abi ← u64_at bytes at (ShortRecord offset)
+  if abi.0 == 0 then Err (NoUserRegisters offset)
+      else if abi.0 == 1 then Err (Process32Bit offset)
+      else if not (abi.0 == 2) then Err (UnknownAbi offset)
+      else (do
+        registers ← block_at bytes abi.1 (8 * count_ones mask) (ShortRecord offset)
+        size ← u64_at bytes registers.1 (ShortRecord offset)
+        copied ← block_at bytes size.1 size.0 (ShortRecord offset)
+        filled ← optional_at (not (size.0 == 0)) bytes copied.1 (ShortRecord offset)
+        stack ← block_at copied.0 0 filled.0 (ShortRecord offset)
+        Ok (record { registers = registers.0; stack = stack.0 }))
+
+-- The fields of a sample whose type has an instruction pointer, a thread, a time, registers and a stack.
+unfoldable pub sample_fields : AttributeView → RecordView → Result SampleView RecordingError
+sample_fields a r = do
+  identifier ← optional_at (has_bit a.sample_type 0x10000) r.body 0 (ShortRecord r.offset)
+  ip ← u64_at r.body identifier.1 (ShortRecord r.offset)
+  pid ← u32_at r.body ip.1 (ShortRecord r.offset)
+  tid ← u32_at r.body pid.1 (ShortRecord r.offset)
+  time ← u64_at r.body tid.1 (ShortRecord r.offset)
+  address ← optional_at (has_bit a.sample_type 0x8) r.body time.1 (ShortRecord r.offset)
+  id ← optional_at (has_bit a.sample_type 0x40) r.body address.1 (ShortRecord r.offset)
+  stream ← optional_at (has_bit a.sample_type 0x200) r.body id.1 (ShortRecord r.offset)
+  cpu ← optional_at (has_bit a.sample_type 0x80) r.body stream.1 (ShortRecord r.offset)
+  period ← optional_at (has_bit a.sample_type 0x100) r.body cpu.1 (ShortRecord r.offset)
+  chain ← after_chain (has_bit a.sample_type 0x20) r.body period.1 (ShortRecord r.offset)
+  user ← user_at r.offset a.sample_regs_user r.body chain
+  Ok (record { ip = ip.0; pid = pid.0; tid = tid.0; time = time.0; user = user })
+
+-- A sample of an event. Fields after the stack are passed over.
+unfoldable pub sample_at : AttributeView → RecordView → Result SampleView RecordingError
+sample_at a r =
+    if not (r.kind == 9) then Err (OtherKind r.offset)
+    else if not (bit_and a.sample_type 0x7 == 0x7) then Err (NoTime r.offset)
+    else if not (bit_and a.sample_type 0x3000 == 0x3000) then Err (NoUserStack r.offset)
+    else if has_bit a.sample_type 0xc10 then Err (UnsupportedField r.offset)
+    else sample_fields a r

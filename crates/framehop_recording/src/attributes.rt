@@ -1,0 +1,64 @@
+//! The events of a recording, by their attributes.
+ghost use Rattle.std.specs.Prelude.{◌≡◌, Ok, Err, MatchResult};
+ghost use Rattle.framehop_recording.specs.Attributes.{attribute_at, attribute_view};
+
+use crate::bytes::{read_block, read_u64};
+use crate::error::RecordingError;
+
+/// The least size of an entry: an attribute with user registers and a user stack, and a section.
+const ENTRY_SIZE: u64 = 112;
+
+/// `sample_id_all` among the flags of an attribute.
+const SAMPLE_ID_ALL: u64 = 0x40000;
+
+/// An event that was recorded: `perf_event_attr`.
+#[derive(Clone, Copy, Drop)]
+pub struct Attribute<'a> {
+    /// Which fields its samples have, as bits.
+    pub sample_type: u64,
+    /// Whether records that are no samples end with thread, time and id.
+    pub sample_id_all: bool,
+    /// Which user registers its samples have, as bits.
+    pub sample_regs_user: u64,
+    /// The ids by which records name it, of eight bytes each.
+    pub ids: &'a [u8],
+}
+
+/// Reads the attribute whose entry lies at an offset of the file and has a size, in bytes.
+///
+/// # Errors
+///
+/// `ShortAttribute` where the entry has no user registers, and `Eof` where the file ends before the
+/// entry or its ids do.
+///
+/// Source: Linux, `perf.data-file-format.txt`, `perf_file_attr`; `include/uapi/linux/perf_event.h`,
+/// `perf_event_attr`.
+#[tactic(auto, unfolding(crate::specs::Attributes::attribute_at))]
+pub fn read_attribute<'a>(
+    file: &'a [u8],
+    at: u64,
+    size: u64,
+) -> Result<Attribute<'a>, RecordingError>
+    ensures exact { MatchResult result
+        (λ attribute. attribute_at file.entry.now at size ≡ Ok (attribute_view attribute))
+        (λ error. attribute_at file.entry.now at size ≡ Err error) }
+{
+    if size < ENTRY_SIZE {
+        return Err(RecordingError::ShortAttribute { offset: at });
+    }
+    let short = RecordingError::Eof { offset: at };
+    let (entry, _) = read_block(file, at, size, short)?;
+    let (sample_type, _) = read_u64(entry, 24, short)?;
+    let (flags, _) = read_u64(entry, 40, short)?;
+    let (sample_regs_user, _) = read_u64(entry, 80, short)?;
+    let (ids_offset, _) = read_u64(entry, (size - 16) as usize, short)?;
+    let (ids_size, _) = read_u64(entry, (size - 8) as usize, short)?;
+    let beyond = RecordingError::Eof { offset: ids_offset };
+    let (ids, _) = read_block(file, ids_offset, ids_size, beyond)?;
+    Ok(Attribute {
+        sample_type,
+        sample_id_all: flags & SAMPLE_ID_ALL != 0,
+        sample_regs_user,
+        ids,
+    })
+}

@@ -1,0 +1,87 @@
+//! Numbers and blocks at an offset of bytes.
+ghost use Rattle.std.specs.Prelude.{◌≡◌, ◌+◌, ◌≤◌, Ok, Err, IfOk, MatchResult, length, drop};
+ghost use Rattle.framehop_recording.specs.Bytes.{u16_at, u32_at, u64_at, block_at};
+
+use crate::error::RecordingError;
+use framehop_cfi::bytes;
+use framehop_cfi::bytes::front;
+
+/// Returns the bytes from an offset on, or none where there are fewer.
+#[inline]
+pub(crate) fn back(bytes: &[u8], start: usize) -> &[u8]
+    ensures { result.now ≡ drop start bytes.entry.now }
+{
+    if start > bytes.len() {
+        return &[];
+    }
+    &bytes[start..]
+}
+
+/// Reads a number of two bytes, or returns the refusal where the bytes end before it.
+#[inline]
+#[tactic(auto, unfolding(crate::specs::Bytes::u16_at, framehop_cfi::specs::Bytes::u16_at))]
+pub(crate) fn read_u16(
+    bytes: &[u8],
+    at: usize,
+    short: RecordingError,
+) -> Result<(u16, usize), RecordingError>
+    ensures { result ≡ u16_at bytes.now at short }
+{
+    match bytes::read_u16(bytes, at) {
+        Ok(read) => Ok(read),
+        Err(_) => Err(short),
+    }
+}
+
+/// Reads a number of four bytes, or returns the refusal where the bytes end before it.
+#[inline]
+#[tactic(auto, unfolding(crate::specs::Bytes::u32_at, framehop_cfi::specs::Bytes::u32_at))]
+pub(crate) fn read_u32(
+    bytes: &[u8],
+    at: usize,
+    short: RecordingError,
+) -> Result<(u32, usize), RecordingError>
+    ensures { result ≡ u32_at bytes.now at short }
+{
+    match bytes::read_u32(bytes, at) {
+        Ok(read) => Ok(read),
+        Err(_) => Err(short),
+    }
+}
+
+/// Reads a number of eight bytes, or returns the refusal where the bytes end before it.
+#[inline]
+#[tactic(auto, unfolding(crate::specs::Bytes::u64_at, framehop_cfi::specs::Bytes::u64_at))]
+pub(crate) fn read_u64(
+    bytes: &[u8],
+    at: usize,
+    short: RecordingError,
+) -> Result<(u64, usize), RecordingError>
+    ensures { result ≡ u64_at bytes.now at short }
+{
+    match bytes::read_u64(bytes, at) {
+        Ok(read) => Ok(read),
+        Err(_) => Err(short),
+    }
+}
+
+/// Returns so many bytes, or the refusal where the bytes end before them.
+#[inline]
+pub(crate) fn read_block<'a>(
+    bytes: &'a [u8],
+    at: u64,
+    size: u64,
+    short: RecordingError,
+) -> Result<(&'a [u8], usize), RecordingError>
+    ensures exact { MatchResult result
+        (λ read. block_at bytes.entry.now at size short ≡ Ok (read.0.now, read.1))
+        (λ error. block_at bytes.entry.now at size short ≡ Err error) }
+    ensures within { IfOk result (λ read. (read.1 ≡ at + size) × (read.1 ≤ length bytes.entry.now)) }
+{
+    let length = bytes.len() as u64;
+    if at > length || size > length - at {
+        return Err(short);
+    }
+    let end = (at + size) as usize;
+    Ok((front(back(bytes, at as usize), size as usize), end))
+}

@@ -1,0 +1,57 @@
+//! Why a recording can't be read.
+use thiserror::Error;
+
+/// Why a recording, or a record of it, can't be read. Each offset is in bytes from the start of the
+/// file.
+#[derive(Clone, Copy, Debug, PartialEq, Eq, Error)]
+pub enum RecordingError {
+    /// The file ends before what is to be read at the offset.
+    #[error("the file ends before what is to be read at offset {offset}")]
+    Eof { offset: u64 },
+    /// The file does not begin as a recording does.
+    #[error("not a recording of perf: offset {offset}")]
+    NotARecording { offset: u64 },
+    /// The recording is of a big-endian machine.
+    #[error("a big-endian recording: offset {offset}")]
+    BigEndian { offset: u64 },
+    /// The header is shorter than that of a file, as where `perf record` wrote to a pipe.
+    #[error("the header of a pipe: offset {offset}")]
+    Piped { offset: u64 },
+    /// The attribute of an event is too short to have user registers and a user stack.
+    #[error("an attribute without user registers: offset {offset}")]
+    ShortAttribute { offset: u64 },
+    /// The size of a record is less than that of what each record of its kind begins with.
+    #[error("a record of a wrong size at offset {offset}")]
+    BadRecordSize { offset: u64 },
+    /// The record at the offset has compressed records in it.
+    #[error("compressed records at offset {offset}")]
+    Compressed { offset: u64 },
+    /// The record at the offset is of another kind than the one that is to be read.
+    #[error("a record of another kind at offset {offset}")]
+    OtherKind { offset: u64 },
+    /// The record at the offset ends before its fields do.
+    #[error("the record at offset {offset} ends before its fields do")]
+    ShortRecord { offset: u64 },
+    /// The samples of the event have no instruction pointer, thread or time.
+    #[error("a sample without instruction pointer, thread or time at offset {offset}")]
+    NoTime { offset: u64 },
+    /// The samples of the event have no user registers or no user stack.
+    #[error("a sample without user registers and stack at offset {offset}")]
+    NoUserStack { offset: u64 },
+    /// The samples of the event have a field before the registers that is not read: counter values,
+    /// raw data or a branch stack.
+    #[error("a sample with counter values, raw data or branches at offset {offset}")]
+    UnsupportedField { offset: u64 },
+    /// The sample was taken where there were no user registers, as in a kernel thread.
+    #[error("a sample of no user process at offset {offset}")]
+    NoUserRegisters { offset: u64 },
+    /// The sample is of a 32-bit process.
+    #[error("a sample of a 32-bit process at offset {offset}")]
+    Process32Bit { offset: u64 },
+    /// The sample names an ABI of registers that is not known.
+    #[error("a sample with registers of an unknown ABI at offset {offset}")]
+    UnknownAbi { offset: u64 },
+    /// An allocation failed.
+    #[error("out of memory")]
+    OutOfMemory,
+}

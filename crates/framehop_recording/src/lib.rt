@@ -1,0 +1,13 @@
+//! Reads what `perf record --call-graph dwarf` writes: the file `perf.data` (Linux,
+//! `tools/perf/Documentation/perf.data-file-format.txt` and `include/uapi/linux/perf_event.h`).
+#![tactic(auto)]
+
+pub mod attributes;
+mod bytes;
+pub mod error;
+pub mod header;
+pub mod mapping;
+pub mod records;
+pub mod registers;
+pub mod sample;
+pub mod tasks;

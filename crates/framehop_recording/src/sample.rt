@@ -1,0 +1,191 @@
+//! Samples of user stacks.
+ghost use Rattle.std.specs.Prelude.{◌≡◌, Ok, Err, MatchResult};
+ghost use Rattle.framehop_recording.specs.Attributes.{attribute_view};
+ghost use Rattle.framehop_recording.specs.Records.{record_view};
+ghost use Rattle.framehop_recording.specs.Sample.{optional_at, after_chain, user_at, user_view, sample_fields, sample_at, sample_view};
+
+use crate::attributes::Attribute;
+use crate::bytes::{read_block, read_u32, read_u64};
+use crate::error::RecordingError;
+use crate::records::Record;
+
+/// PERF_RECORD_SAMPLE.
+const SAMPLE: u32 = 9;
+
+/// PERF_SAMPLE_IP, PERF_SAMPLE_TID and PERF_SAMPLE_TIME.
+const PLACE: u64 = 0x7;
+
+/// PERF_SAMPLE_REGS_USER and PERF_SAMPLE_STACK_USER.
+const USER_STACK: u64 = 0x3000;
+
+/// PERF_SAMPLE_READ, PERF_SAMPLE_RAW and PERF_SAMPLE_BRANCH_STACK.
+const UNSUPPORTED: u64 = 0xc10;
+
+/// PERF_SAMPLE_REGS_ABI_NONE, PERF_SAMPLE_REGS_ABI_32 and PERF_SAMPLE_REGS_ABI_64.
+const ABI_NONE: u64 = 0;
+
+const ABI_32: u64 = 1;
+
+const ABI_64: u64 = 2;
+
+/// The registers of a thread on the user's side, and the bytes of its stack from the stack pointer on.
+#[derive(Clone, Copy, Drop)]
+pub struct UserStack<'a> {
+    /// Eight bytes for each bit of the attribute's `sample_regs_user`.
+    pub registers: &'a [u8],
+    /// As many bytes as the kernel could copy.
+    pub stack: &'a [u8],
+}
+
+/// Where a thread was at a time.
+#[derive(Clone, Copy, Drop)]
+pub struct Sample<'a> {
+    /// The instruction pointer, of the kernel where the thread was in it.
+    pub ip: u64,
+    /// The process.
+    pub pid: u32,
+    /// The thread.
+    pub tid: u32,
+    /// In nanoseconds.
+    pub time: u64,
+    /// Its registers and its stack.
+    pub user: UserStack<'a>,
+}
+
+/// Reads a number that is there or not.
+#[inline]
+fn read_optional(
+    present: bool,
+    bytes: &[u8],
+    at: usize,
+    short: RecordingError,
+) -> Result<(u64, usize), RecordingError>
+    ensures { result ≡ optional_at present bytes.now at short }
+{
+    if present {
+        read_u64(bytes, at, short)
+    } else {
+        Ok((0, at))
+    }
+}
+
+/// Passes over a count and so many numbers, where they are there.
+#[tactic(auto, unfolding(crate::specs::Sample::after_chain))]
+fn skip_chain(
+    present: bool,
+    bytes: &[u8],
+    at: usize,
+    short: RecordingError,
+) -> Result<usize, RecordingError>
+    ensures { result ≡ after_chain present bytes.now at short }
+{
+    if !present {
+        return Ok(at);
+    }
+    let (count, next) = read_u64(bytes, at, short)?;
+    let Some(size) = count.checked_mul(8) else {
+        return Err(short);
+    };
+    let (_, end) = read_block(bytes, next as u64, size, short)?;
+    Ok(end)
+}
+
+/// Reads the registers and the stack at an offset of a record's bytes.
+#[tactic(auto, unfolding(crate::specs::Sample::user_at))]
+fn read_user<'a>(
+    offset: u64,
+    mask: u64,
+    bytes: &'a [u8],
+    at: usize,
+) -> Result<UserStack<'a>, RecordingError>
+    ensures exact { MatchResult result
+        (λ user. user_at offset mask bytes.entry.now at ≡ Ok (user_view user))
+        (λ error. user_at offset mask bytes.entry.now at ≡ Err error) }
+{
+    let short = RecordingError::ShortRecord { offset };
+    let (abi, at) = read_u64(bytes, at, short)?;
+    match abi {
+        ABI_NONE => return Err(RecordingError::NoUserRegisters { offset }),
+        ABI_32 => return Err(RecordingError::Process32Bit { offset }),
+        ABI_64 => {}
+        _ => return Err(RecordingError::UnknownAbi { offset }),
+    }
+    let registers_size = 8 * u64::from(mask.count_ones());
+    let (registers, at) = read_block(bytes, at as u64, registers_size, short)?;
+    let (size, at) = read_u64(bytes, at, short)?;
+    let (copied, at) = read_block(bytes, at as u64, size, short)?;
+    let (filled, _) = read_optional(size != 0, bytes, at, short)?;
+    let (stack, _) = read_block(copied, 0, filled, short)?;
+    Ok(UserStack { registers, stack })
+}
+
+/// Reads the fields of a sample whose event has an instruction pointer, a thread, a time, registers
+/// and a stack.
+#[tactic(auto, unfolding(crate::specs::Sample::sample_fields))]
+fn read_fields<'a>(
+    attribute: &Attribute<'_>,
+    record: Record<'a>,
+) -> Result<Sample<'a>, RecordingError>
+    ensures exact { MatchResult result
+        (λ sample. sample_fields (attribute_view attribute.now) (record_view «record».entry) ≡ Ok (sample_view sample))
+        (λ error. sample_fields (attribute_view attribute.now) (record_view «record».entry) ≡ Err error) }
+{
+    let short = RecordingError::ShortRecord {
+        offset: record.offset,
+    };
+    let bytes = record.body;
+    let kind = attribute.sample_type;
+    let (_, at) = read_optional(kind & 0x10000 != 0, bytes, 0, short)?;
+    let (ip, at) = read_u64(bytes, at, short)?;
+    let (pid, at) = read_u32(bytes, at, short)?;
+    let (tid, at) = read_u32(bytes, at, short)?;
+    let (time, at) = read_u64(bytes, at, short)?;
+    let (_, at) = read_optional(kind & 0x8 != 0, bytes, at, short)?;
+    let (_, at) = read_optional(kind & 0x40 != 0, bytes, at, short)?;
+    let (_, at) = read_optional(kind & 0x200 != 0, bytes, at, short)?;
+    let (_, at) = read_optional(kind & 0x80 != 0, bytes, at, short)?;
+    let (_, at) = read_optional(kind & 0x100 != 0, bytes, at, short)?;
+    let at = skip_chain(kind & 0x20 != 0, bytes, at, short)?;
+    let user = read_user(record.offset, attribute.sample_regs_user, bytes, at)?;
+    Ok(Sample {
+        ip,
+        pid,
+        tid,
+        time,
+        user,
+    })
+}
+
+/// Reads a sample of an event from its record.
+///
+/// # Errors
+///
+/// - `OtherKind` where the record is no PERF_RECORD_SAMPLE, and `ShortRecord`;
+/// - of the event: `NoTime`, `NoUserStack` and `UnsupportedField`;
+/// - of the sample: `NoUserRegisters`, `Process32Bit` and `UnknownAbi`.
+///
+/// Source: Linux, `include/uapi/linux/perf_event.h`, PERF_RECORD_SAMPLE.
+#[tactic(auto, unfolding(crate::specs::Sample::sample_at))]
+pub fn read_sample<'a>(
+    attribute: &Attribute<'_>,
+    record: Record<'a>,
+) -> Result<Sample<'a>, RecordingError>
+    ensures exact { MatchResult result
+        (λ sample. sample_at (attribute_view attribute.now) (record_view «record».entry) ≡ Ok (sample_view sample))
+        (λ error. sample_at (attribute_view attribute.now) (record_view «record».entry) ≡ Err error) }
+{
+    let offset = record.offset;
+    if record.kind != SAMPLE {
+        return Err(RecordingError::OtherKind { offset });
+    }
+    if attribute.sample_type & PLACE != PLACE {
+        return Err(RecordingError::NoTime { offset });
+    }
+    if attribute.sample_type & USER_STACK != USER_STACK {
+        return Err(RecordingError::NoUserStack { offset });
+    }
+    if attribute.sample_type & UNSUPPORTED != 0 {
+        return Err(RecordingError::UnsupportedField { offset });
+    }
+    read_fields(attribute, record)
+}
