@@ -1,6 +1,6 @@
 pub mod SoundnessLemmas
 pub mod ModuleLemmas
-mod WalkLemmas
+pub mod WalkLemmas
 mod CachedWorldLemmas
 mod WorldLemmas
 mod ToldLemmas

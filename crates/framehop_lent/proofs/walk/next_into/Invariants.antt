@@ -1,0 +1,24 @@
+use Rattle.std.proofs.Common.{◌≡◌, length, drop}
+use Rattle.framehop.specs.Memory.{Memory, AnswersAs}
+use Rattle.framehop.specs.Iterator.{progress_of}
+use Rattle.framehop.specs.Modules.{UnwinderView}
+use Rattle.framehop.specs.Soundness.{AreApart}
+use Rattle.framehop_lent.proofs.Writing.{WritesOn}
+use Rattle.framehop_lent.proofs.walk.next_into.Given as goal
+
+abbrev pub invariant-loop-i : goal.invariant-loop-i
+invariant-loop-i g l =
+    goal.F-IsAlwaysCallable g l.unwinding.read_stack.now
+    × (l.unwinding.unwinder ≡ l.fn.unwinding.unwinder)
+    × (l.unwinding.cache.ghost_name ≡ l.fn.unwinding.cache.ghost_name)
+    × (l.unwinding.read_stack.ghost_name ≡ l.fn.unwinding.read_stack.ghost_name)
+    × (length l.frames ≡ length l.fn.frames)
+    × (drop l.i l.frames ≡ drop l.i l.fn.frames)
+    × ((other : UnwinderView) → AreApart (g.U.Unwinder.unwinder_view l.fn.unwinding.unwinder.now) other
+    → g.U.Unwinder.is_sound other l.fn.unwinding.cache.now → g.U.Unwinder.is_sound other l.unwinding.cache.now)
+    × ((memory : Memory) → AnswersAs g.F.FnMut l.fn.unwinding.read_stack.now memory
+    → g.U.Unwinder.is_sound (g.U.Unwinder.unwinder_view l.fn.unwinding.unwinder.now) l.fn.unwinding.cache.now
+    → AnswersAs g.F.FnMut l.unwinding.read_stack.now memory
+    × WritesOn (λ location regs. g.U.Unwinder.step l.fn.unwinding.unwinder.now location regs memory) (g.U.Unwinder.cache_after l.fn.unwinding.unwinder.now)
+    l.frames l.i (length l.fn.frames) (progress_of l.unwinding.state) (progress_of l.fn.unwinding.state)
+    l.unwinding.regs l.fn.unwinding.regs l.unwinding.cache.now l.fn.unwinding.cache.now)

@@ -1,0 +1,17 @@
+use Rattle.std.proofs.Common.{ap, ◌∙◌, rules}
+use Rattle.framehop_core.proofs.Callback.{AnswersAs-unchanged}
+use Rattle.framehop_lent.specs.Window.{words_from}
+use Rattle.framehop_lent.proofs.walk.walk_into.Goals as goal
+
+pub returns-clause-answers : goal.returns-clause-answers
+returns-clause-answers g c = λ sound.
+    let made = c.iter_frames-unwinding.ensures in
+    let memory = words_from c.args.stack.now.base c.args.stack.now.words.now in
+    let answers = AnswersAs-unchanged _ memory _ (λ a r f' call. search rules) in
+    let walked = c.next_into-walked.ensures.answers memory answers (rw (made.unwinder, made.cache) sound) in
+    let walk = rw (made.unwinder, made.cache, made.progress, made.regs) at walked in (
+      walk.0,
+      λ fine.
+          let written = walk.1 fine in
+          (rw c.regs.ensures written.0, (let last = c.drop-unwinding.ensures.cache ∙ written.1 in search (rules, last))),
+    )

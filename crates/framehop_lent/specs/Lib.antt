@@ -1,0 +1,3 @@
+-- What the contracts of this crate cite: words that are lent, and walks that are written.
+pub mod Window
+pub mod Walk

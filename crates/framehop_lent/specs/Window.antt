@@ -1,0 +1,36 @@
+-- The memory of stack words that are lent.
+use Rattle.std.specs.Prelude.{ℕ, if◌then◌else◌, nat_le, ◌&&◌, ◌==◌, ◌-◌, ◌/◌, ◌%◌, List, [], ◌∷◌, length, slice_get, Option, Some, None, option_map}
+use Rattle.framehop.specs.Memory.{Memory}
+use Rattle.framehop_lent.specs.declared.window.Window.{Window}
+
+-- word i is at the address base + 8 * i
+abbrev pub words_from : ℕ → List ℕ → Memory
+words_from base words address =
+    if nat_le base address && ((address - base) % 8 == 0)
+    then slice_get words ((address - base) / 8)
+    else None
+
+-- what a window tells of an address: the word that it has there, or nothing; an empty window tells that there is no
+-- word at its base
+abbrev pub told_by : Window → ℕ → Option (Option ℕ)
+told_by window address =
+    if length window.words.now == 0
+    then (if address == window.base then Some None else None)
+    else option_map Some (words_from window.base window.words.now address)
+
+-- what the first window that tells of it tells
+abbrev pub told_first : Option (Option ℕ) → Option (Option ℕ) → Option (Option ℕ)
+told_first (Some word) others = Some word
+told_first None others = others
+
+abbrev pub told_in : List Window → ℕ → Option (Option ℕ)
+told_in [] address = None
+told_in (window ∷ windows) address = told_first (told_by window address) (told_in windows address)
+
+-- the memory of windows: no word where none of them tells of one
+abbrev pub word_told : Option (Option ℕ) → Option ℕ
+word_told (Some word) = word
+word_told None = None
+
+abbrev pub words_in : List Window → Memory
+words_in windows address = word_told (told_in windows address)

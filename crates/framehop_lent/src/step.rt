@@ -1,0 +1,66 @@
+//! One step over the words of windows.
+ghost use Rattle.std.specs.Prelude.{◌≡◌, ◌≢◌, Err, None, IfSome, IfNone, MatchResult};
+ghost use Rattle.framehop.specs.Memory.{AnswersAs, reply};
+ghost use Rattle.framehop.specs.CodeAddress.{location_of};
+ghost use Rattle.framehop.specs.Outcome.{answer_of, registers_after};
+ghost use Rattle.framehop.specs.Modules.{UnwinderView};
+ghost use Rattle.framehop.specs.Soundness.{AreApart};
+ghost use Rattle.framehop_lent.specs.Window.{told_in, words_in};
+
+use crate::window::{Window, told};
+use framehop::{Error, FrameAddress, Unwinder};
+
+/// The address (AVMA), if there is one and no window tells of it.
+fn untold(windows: &[Window<'_>], asked: Option<u64>) -> Option<u64>
+    ensures { IfSome result (λ address. told_in windows.now address ≡ None) }
+{
+    let address = asked?;
+    if told(windows, address).is_some() {
+        return None;
+    }
+    Some(address)
+}
+
+/// Unwinds a single frame over the words of windows: [`Unwinder::unwind_frame`] with a callback that
+/// reads them, which can't read what no window has.
+///
+/// `missing` is the first address (AVMA) of a word that was asked for and of which no window
+/// tells, if there is one. Who can read that word adds a window that has it, or an empty window
+/// where it can't be read, and calls again with the registers of before.
+pub fn step_over<U: Unwinder>(
+    unwinder: &U,
+    cache: &mut U::Cache,
+    address: FrameAddress,
+    regs: &mut U::UnwindRegs,
+    windows: &[Window<'_>],
+    missing: &mut Option<u64>,
+) -> Result<Option<u64>, Error>
+    ensures kept { MatchResult result
+        (λ answer. IfNone answer (regs.new ≡ regs.old))
+        (λ _. regs.new ≡ regs.old) }
+    ensures missing { IfSome missing.new (λ asked. told_in windows.now asked ≡ None) }
+    ensures may_run_out { result ≡ Err Error.OutOfMemory → U.may_run_out unwinder.now cache.old (location_of address) }
+    ensures cached { result ≢ Err Error.OutOfMemory → cache.new ≡ U.cache_after unwinder.now cache.old (location_of address) }
+    ensures not_cached { result ≡ Err Error.OutOfMemory → cache.new ≡ U.cache_after_lookup unwinder.now cache.old (location_of address) }
+    ensures stays_sound { (other : UnwinderView) → AreApart (U.unwinder_view unwinder.now) other
+        → U.is_sound other cache.old → U.is_sound other cache.new }
+    ensures answers { U.is_sound (U.unwinder_view unwinder.now) cache.old → result ≢ Err Error.OutOfMemory →
+        let stepping = U.step unwinder.now (location_of address) regs.old (words_in windows.now) in
+        (result ≡ answer_of stepping) × (regs.new ≡ registers_after regs.old stepping) }
+{
+    let mut first_missing: Option<u64> = None;
+    let mut read_stack = |address: u64| -> Result<u64, ()>
+        ensures { result ≡ reply (words_in windows.entry.now address) }
+    {
+        match told(windows, address) {
+            Some(word) => word,
+            None => {
+                first_missing = first_missing.or(Some(address));
+                Err(())
+            }
+        }
+    };
+    let answer = unwinder.unwind_frame(address, regs, cache, &mut read_stack);
+    *missing = untold(windows, first_missing);
+    answer
+}

@@ -1,0 +1,86 @@
+//! A walk into a list that a caller lends.
+ghost use Rattle.std.specs.Prelude.{◌≡◌, ◌≢◌, ◌≤◌, ◌-◌, map, length, take, drop};
+ghost use Rattle.framehop.specs.Memory.{Memory, AnswersAs, reply};
+ghost use Rattle.framehop.specs.CodeAddress.{FrameLocation};
+ghost use Rattle.framehop.specs.Outcome.{Outcome};
+ghost use Rattle.framehop.specs.Iterator.{walk_on, cache_on};
+ghost use Rattle.framehop.specs.UnwindIterator.{unwinder_of, progress_in, regs_of, cache_of, read_stack_of};
+ghost use Rattle.framehop.specs.Modules.{UnwinderView};
+ghost use Rattle.framehop.specs.Soundness.{AreApart};
+ghost use Rattle.framehop.specs.Walk.{walk_from, cache_after_walk};
+ghost use Rattle.framehop_lent.specs.Window.{words_from};
+ghost use Rattle.framehop_lent.specs.Walk.{IsWrittenWalk, BeginsWalk};
+
+use crate::window::{Window, word_at};
+use framehop::session::WalkEnd;
+use framehop::{Error, UnwindIterator, Unwinder};
+
+/// Writes the addresses of the next frames of an iterator: how many they are, and how the walk
+/// ended.
+fn next_into<U: Unwinder, F: FnMut(u64) -> Result<u64, ()>>(
+    unwinding: &mut UnwindIterator<'_, '_, '_, U, F>,
+    frames: &mut [u64],
+) -> (usize, WalkEnd)
+    requires { F.IsAlwaysCallable (read_stack_of unwinding.old).now }
+    ensures callable { F.IsAlwaysCallable (read_stack_of unwinding.new).now }
+    ensures same_unwinder { unwinder_of unwinding.new ≡ unwinder_of unwinding.old }
+    ensures same_cache { (cache_of unwinding.new).ghost_name ≡ (cache_of unwinding.old).ghost_name }
+    ensures same_callback { (read_stack_of unwinding.new).ghost_name ≡ (read_stack_of unwinding.old).ghost_name }
+    ensures stays_sound { (other : UnwinderView) → AreApart (U.unwinder_view (unwinder_of unwinding.old).now) other
+        → U.is_sound other (cache_of unwinding.old).now → U.is_sound other (cache_of unwinding.new).now }
+    ensures fits { result.0 ≤ length frames.old }
+    ensures others { drop result.0 frames.new ≡ drop result.0 frames.old }
+    ensures answers { (memory : Memory) → AnswersAs F.FnMut (read_stack_of unwinding.old).now memory
+        → U.is_sound (U.unwinder_view (unwinder_of unwinding.old).now) (cache_of unwinding.old).now
+        → let step : FrameLocation → U.UnwindRegs → Outcome U.UnwindRegs = λ location regs. U.step (unwinder_of unwinding.old).now location regs memory in
+        let limit = length frames.old in
+        let walk = walk_on step limit (progress_in unwinding.old) (regs_of unwinding.old) in
+        BeginsWalk walk result.0 frames.new
+        × (result.1 ≢ WalkEnd.Refused Error.OutOfMemory → IsWrittenWalk walk result.0 frames.new result.1 (regs_of unwinding.new)
+        × ((cache_of unwinding.new).now
+        ≡ cache_on step (U.cache_after (unwinder_of unwinding.old).now) limit (progress_in unwinding.old) (regs_of unwinding.old) (cache_of unwinding.old).now)) }
+{
+    for i in 0..frames.len() {
+        match unwinding.next() {
+            Ok(Some(frame)) => frames[i] = frame.address(),
+            Ok(None) => return (i, WalkEnd::Root),
+            Err(error) => return (i, WalkEnd::Refused(error)),
+        }
+    }
+    (frames.len(), WalkEnd::Limit)
+}
+
+/// Walks a stack over the words of a window, from an instruction pointer (AVMA) and initial
+/// registers on: writes the addresses (AVMAs) of its frames, the instruction pointer first, and
+/// returns how many they are, and how the walk ended. The registers are those at its end.
+///
+/// It writes at most as many as there is room for. Where memory runs out, the frames up to there
+/// are written.
+pub fn walk_into<U: Unwinder>(
+    unwinder: &U,
+    cache: &mut U::Cache,
+    pc: u64,
+    regs: &mut U::UnwindRegs,
+    stack: &Window<'_>,
+    frames: &mut [u64],
+) -> (usize, WalkEnd)
+    ensures stays_sound { (other : UnwinderView) → AreApart (U.unwinder_view unwinder.now) other
+        → U.is_sound other cache.old → U.is_sound other cache.new }
+    ensures fits { result.0 ≤ length frames.old }
+    ensures others { drop result.0 frames.new ≡ drop result.0 frames.old }
+    ensures answers { U.is_sound (U.unwinder_view unwinder.now) cache.old →
+        let step : FrameLocation → U.UnwindRegs → Outcome U.UnwindRegs = λ location regs. U.step unwinder.now location regs (words_from stack.now.base stack.now.words.now) in
+        let limit = length frames.old in
+        let walk = walk_from step limit pc regs.old in
+        BeginsWalk walk result.0 frames.new
+        × (result.1 ≢ WalkEnd.Refused Error.OutOfMemory → IsWrittenWalk walk result.0 frames.new result.1 regs.new
+        × (cache.new ≡ cache_after_walk step (U.cache_after unwinder.now) limit pc regs.old cache.old)) }
+{
+    let mut read_stack = |address: u64| -> Result<u64, ()>
+        ensures { result ≡ reply (words_from stack.entry.now.base stack.entry.now.words.now address) }
+    { word_at(stack.base, stack.words, address) };
+    let mut unwinding = unwinder.iter_frames(pc, *regs, cache, &mut read_stack);
+    let walked = next_into(&mut unwinding, frames);
+    *regs = *unwinding.regs();
+    walked
+}
