@@ -12,6 +12,8 @@ mod call_frames_aarch64;
 #[cfg(test)]
 mod commands;
 #[cfg(test)]
+mod lent_words;
+#[cfg(test)]
 mod library;
 #[cfg(test)]
 mod paths;
