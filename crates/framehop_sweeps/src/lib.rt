@@ -1,0 +1,26 @@
+//! Sweeps over sections, reads, registers and allocations. This crate has only tests.
+//!
+//! Each sweep takes a worked example, changes one thing of it in each way that there is, and says of all of them how
+//! many steps come to which end.
+#![tactic(auto)]
+
+#[cfg(test)]
+mod bytes;
+#[cfg(test)]
+mod memory;
+#[cfg(test)]
+mod reads;
+#[cfg(test)]
+mod reads_aarch64;
+#[cfg(test)]
+mod registers;
+#[cfg(test)]
+mod rows;
+#[cfg(test)]
+mod sections;
+#[cfg(test)]
+mod steps;
+#[cfg(test)]
+mod totals;
+#[cfg(test)]
+mod walks;

@@ -1,0 +1,92 @@
+//! Walks on aarch64 in which one read of the stack fails.
+use crate::steps::{Failing, STACK};
+use framehop::aarch64::{CacheAarch64, UnwindRegsAarch64, UnwinderAarch64};
+use framehop::{
+    Error, FrameAddress, Generations, ModuleListError, MustNotAllocateDuringUnwind, Unwinder,
+};
+use std::alloc::Global;
+use std::test::Fail;
+
+/// What an iterator gives.
+type Next = Result<Option<FrameAddress>, Error>;
+
+/// The first calls of a walk.
+#[derive(Clone, Copy)]
+pub(crate) struct Walk {
+    pub(crate) calls: [Next; 5],
+    pub(crate) hits: u64,
+    pub(crate) misses: u64,
+}
+
+/// Walks by frame pointers under the policy that must not allocate, where these reads fail, or makes only what the walk
+/// needs.
+pub(crate) fn first_calls(
+    alloc: Global,
+    failing: Failing,
+    is_walked: bool,
+) -> Result<Walk, ModuleListError> {
+    let mut generations = Generations::new();
+    let mut cache = CacheAarch64::<MustNotAllocateDuringUnwind>::new_in(alloc).map_err(
+        |_| ModuleListError::OutOfMemory,
+    )?;
+    let unwinder: UnwinderAarch64<Vec<u8>, MustNotAllocateDuringUnwind> = UnwinderAarch64::new(
+        alloc,
+        &mut generations,
+    )?;
+    let mut number = 0u32;
+    let mut read = |address: u64| -> Result<u64, ()> {
+        number = number.saturating_add(1);
+        if failing.fails(number) {
+            return Err(());
+        }
+        STACK.word(address)
+    };
+    let mut calls = [Ok(None); 5];
+    if is_walked {
+        let regs = UnwindRegsAarch64::new(0x100400, 0x10, 0x20);
+        let mut frames = unwinder.iter_frames(0x100400, regs, &mut cache, &mut read);
+        for call in &mut calls {
+            *call = frames.next();
+        }
+    }
+    let stats = cache.stats();
+    Ok(Walk {
+        calls,
+        hits: stats.hits(),
+        misses: stats.misses(),
+    })
+}
+
+/// A read that fails is the end of its call, and the next call tries the frame again by the rule that was stored.
+#[test]
+fn fails_at_each_read(rt: HostRuntime) -> Result<(), Fail> {
+    let frames = [
+        Ok(Some(FrameAddress::from_instruction_pointer(0x100400))),
+        Ok(FrameAddress::from_return_address(0x100200)),
+        Ok(FrameAddress::from_return_address(0x100100)),
+        Ok(None),
+    ];
+    let [start, second, third, root] = frames;
+    for (failing, address) in [
+        (1, 0x28),
+        (2, 0x20),
+        (3, 0x48),
+        (4, 0x40),
+        (5, 0x78),
+        (6, 0x70),
+    ] {
+        let refused = Err(Error::CouldNotReadStack(address));
+        let want = match failing {
+            1 | 2 => [start, refused, second, third, root],
+            3 | 4 => [start, second, refused, third, root],
+            _ => [start, second, third, refused, root],
+        };
+        let found = first_calls(rt.alloc(), Failing::Only(failing), true)?;
+        assert_eq!(rt; found.calls, want);
+        assert_eq!(rt; (found.hits, found.misses), (1, 3));
+    }
+    let found = first_calls(rt.alloc(), Failing::Only(7), true)?;
+    assert_eq!(rt; found.calls, [start, second, third, root, root]);
+    assert_eq!(rt; (found.hits, found.misses), (0, 3));
+    Ok(())
+}
