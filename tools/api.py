@@ -25,6 +25,8 @@ LIBRARIES = [
     "framehop_macho",
     "framehop_pe",
     "framehop_walk",
+    "framehop_lent",
+    "framehop_recording",
 ]
 ITEM = re.compile(r"(\s*)pub (?:const )?(fn|struct|enum|trait|const|type) (\w+)")
 BLOCK = re.compile(r"(\s*)(?:pub )?(impl|trait)\b(.*)")

@@ -24,16 +24,20 @@ PLACES = {
     "framehop_cache": (2, 1, "library"),
     "framehop_pe": (3, 1, "library"),
     "framehop_dwarf": (4, 1, "library"),
+    "framehop_recording": (5, 1, "library"),
     "framehop_macho": (1.5, 2, "library"),
     "framehop_dwarf_vectors": (4, 2, "tests"),
     "framehop_libc_rows": (5, 2, "tests"),
+    "framehop_recording_vectors": (6, 2, "tests"),
     "framehop": (2.5, 3, "library"),
     "framehop_format_vectors": (4, 3, "tests"),
+    "framehop_lent": (1.2, 4, "library"),
     "framehop_walk": (2.5, 4, "library"),
     "framehop_walk_cli": (1, 5, "program"),
     "framehop_bench": (2, 5, "program"),
     "framehop_vectors": (3, 5, "tests"),
     "framehop_walk_vectors": (4, 5, "tests"),
+    "framehop_sweeps": (5, 5, "tests"),
 }
 
 # where a line goes through a row between two crates

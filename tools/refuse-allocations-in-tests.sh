@@ -22,7 +22,7 @@ cd "$sweeps" || exit 1
 for ((number = 1; number <= 200; number++)); do
     log=$(rt try --test --fail-alloc "$number" 2>&1)
     grep -q '^tests: ' <<<"$log" || { echo "$log" >&2; exit 1; }
-    failed=$(sed -n 's/^test \(.*\) \.\.\. FAILED$/\1/p' <<<"$log")
+    failed=$(sed -n 's/^test \(memory::.*\) \.\.\. FAILED$/\1/p' <<<"$log")
     others=$(grep -v '^memory::requests_of_the_makers' <<<"$failed")
     [ -z "$others" ] || { echo "allocation $number: $others" >&2; exit 1; }
     grep -q '^memory::requests_of_the_makers$' <<<"$failed" && makers=$number
