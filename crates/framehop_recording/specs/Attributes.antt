@@ -1,5 +1,5 @@
 -- The events of a recording: `perf_file_attr` of perf.data-file-format.txt, and in it `perf_event_attr` of perf_event.h.
-use Rattle.std.specs.Prelude.{ℕ, zero, suc, ◌+◌, ◌-◌, List, [], ◌∷◌, Bool, Result, Ok, Err, nat_lt, if◌then◌else◌}
+use Rattle.std.specs.Prelude.{ℕ, ◌-◌, List, Bool, Result, Ok, Err, nat_lt, if◌then◌else◌}
 use Rattle.framehop_cfi.specs.Bytes.{◌>>=◌}
 use Rattle.framehop_recording.specs.Bytes.{u64_at, block_at, has_bit}
 use Rattle.framehop_recording.specs.declared.error.RecordingError.{RecordingError}
@@ -33,11 +33,3 @@ attribute_at file at size = if nat_lt size 112 then Err (ShortAttribute at) else
   ids_size ← u64_at entry.0 (size - 8) (Eof at)
   ids ← block_at file ids_offset.0 ids_size.0 (Eof ids_offset.0)
   Ok (record { sample_type = sample_type.0; sample_id_all = has_bit flags.0 0x40000; sample_regs_user = registers.0; ids = ids.0 }))
-
--- so many entries, one after another
-unfoldable pub attributes_from : ℕ → List ℕ → ℕ → ℕ → Result (List AttributeView) RecordingError
-attributes_from zero file at size = Ok []
-attributes_from (suc n) file at size = do
-  first ← attribute_at file at size
-  others ← attributes_from n file (at + size) size
-  Ok (first ∷ others)
