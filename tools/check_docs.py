@@ -56,9 +56,12 @@ def dead_links(page, text):
 
 
 def tracked():
-    """The files of the repository, those that are not yet committed too."""
-    command = ["git", "ls-files", "--cached", "--others", "--exclude-standard"]
-    names = subprocess.run(command, cwd=TOP, capture_output=True, text=True, check=True).stdout.split("\n")
+    """The files of the repository, those that are not yet committed too; without git all but what `rt` makes."""
+    if (TOP / ".git").exists():
+        command = ["git", "ls-files", "--cached", "--others", "--exclude-standard"]
+        names = subprocess.run(command, cwd=TOP, capture_output=True, text=True, check=True).stdout.split("\n")
+    else:
+        names = [str(file.relative_to(TOP)) for file in TOP.rglob("*") if "out" not in file.parts]
     return [name for name in names if name and (TOP / name).is_file()]
 
 
