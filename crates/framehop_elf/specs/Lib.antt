@@ -1,0 +1,4 @@
+-- What the contracts of this crate cite: the parts of an ELF file.
+pub mod Bytes
+pub mod Header
+pub mod SectionHeader
