@@ -2,3 +2,8 @@
 pub mod Bytes
 pub mod Header
 pub mod SectionHeader
+pub mod ProgramHeader
+pub mod Section
+pub mod Segment
+pub mod Note
+pub mod Symbol

@@ -20,10 +20,11 @@ pub enum ElfError {
     /// The file's version is not EV_CURRENT.
     #[error("an unknown version of ELF: offset {offset}")]
     UnknownVersion { offset: u64 },
-    /// The field at the offset gives the entries of a table another size than they have.
+    /// The entries of a table have another size than the format's. The offset is that of the field of
+    /// the ELF header, or of the symbol table.
     #[error("entries of an unknown size: offset {offset}")]
     BadEntrySize { offset: u64 },
-    /// The field at the offset names a section that is not in the table of sections.
+    /// The field of the ELF header at the offset asks for a section that is not there.
     #[error("no such section: offset {offset}")]
     NoSuchSection { offset: u64 },
     /// The section whose contents begin at the offset is compressed.

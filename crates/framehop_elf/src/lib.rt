@@ -5,4 +5,9 @@
 mod bytes;
 pub mod error;
 pub mod header;
+pub mod note;
+pub mod program_header;
+pub mod section;
 pub mod section_header;
+pub mod segment;
+pub mod symbol;
