@@ -7,3 +7,4 @@ pub mod Section
 pub mod Segment
 pub mod Note
 pub mod Symbol
+pub mod FileSection

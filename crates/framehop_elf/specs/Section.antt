@@ -14,6 +14,10 @@ use Rattle.framehop_elf.specs.declared.section_header.SectionHeader.{SectionHead
 abbrev pub string_of : List ℕ → ℕ → List ℕ
 string_of table at = before_first (λ byte. byte == 0) (drop at table)
 
+-- the size of a section in the file: that of SHT_NOBITS (8) is 0
+abbrev pub size_in_file : SectionHeader → ℕ
+size_in_file section = if section.sh_type == 8 then 0 else section.sh_size
+
 -- what a section holds: nothing in the file where it is SHT_NOBITS (8); SHF_COMPRESSED (0x800) is refused
 unfoldable pub contents_of : List ℕ → SectionHeader → Result (List ℕ) ElfError
 contents_of file section =

@@ -4,6 +4,7 @@
 
 mod bytes;
 pub mod error;
+pub mod file_section;
 pub mod header;
 pub mod note;
 pub mod program_header;

@@ -1,7 +1,7 @@
 //! What sections hold, and what they are called.
 ghost use Rattle.std.specs.Prelude.{◌≡◌, ◌==◌, Ok, Err, MatchResult};
 ghost use Rattle.std.specs.List.{before_first};
-ghost use Rattle.framehop_elf.specs.Section.{string_of, contents_of, names_index_of, section_names_of, section_called};
+ghost use Rattle.framehop_elf.specs.Section.{string_of, size_in_file, contents_of, names_index_of, section_names_of, section_called};
 
 use crate::bytes::{back, read_block};
 use crate::error::ElfError;
@@ -41,6 +41,17 @@ pub fn string_at(table: &[u8], at: u32) -> &[u8]
     ensures { result.now ≡ string_of table.entry.now at }
 {
     before_nul(back(table, u64::from(at)))
+}
+
+/// Returns the size of a section in the file.
+pub(crate) fn size_in_file(section: SectionHeader) -> u64
+    ensures { result ≡ size_in_file section }
+{
+    if section.sh_type == SHT_NOBITS {
+        0
+    } else {
+        section.sh_size
+    }
 }
 
 /// Returns what a section holds: no bytes where it is `SHT_NOBITS`.
