@@ -25,6 +25,7 @@ PLACES = {
     "framehop_pe": (3, 1, "library"),
     "framehop_dwarf": (4, 1, "library"),
     "framehop_recording": (5, 1, "library"),
+    "framehop_elf": (6.2, 1, "library"),
     "framehop_macho": (1.5, 2, "library"),
     "framehop_dwarf_vectors": (4, 2, "tests"),
     "framehop_libc_rows": (5, 2, "tests"),

@@ -1,0 +1,4 @@
+-- Lemmas of this crate.
+pub mod NoteLemmas
+pub mod SectionLemmas
+pub mod SymbolLemmas

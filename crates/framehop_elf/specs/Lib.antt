@@ -1,0 +1,10 @@
+-- What the contracts of this crate cite: the parts of an ELF file.
+pub mod Bytes
+pub mod Header
+pub mod SectionHeader
+pub mod ProgramHeader
+pub mod Section
+pub mod Segment
+pub mod Note
+pub mod Symbol
+pub mod FileSection

@@ -1,0 +1,137 @@
+//! What sections hold, and what they are called.
+ghost use Rattle.std.specs.Prelude.{◌≡◌, ◌==◌, Ok, Err, MatchResult};
+ghost use Rattle.std.specs.List.{before_first};
+ghost use Rattle.framehop_elf.specs.Section.{string_of, size_in_file, contents_of, names_index_of, section_names_of, section_called};
+
+use crate::bytes::{back, read_block};
+use crate::error::ElfError;
+use crate::header::FileHeader;
+use crate::section_header::{SectionHeader, read_first_section};
+use framehop_cfi::bytes::front;
+
+/// `SHT_NOBITS`: a section that takes no space in the file.
+const SHT_NOBITS: u32 = 8;
+
+/// `SHF_COMPRESSED`.
+const SHF_COMPRESSED: u64 = 0x800;
+
+/// `SHN_UNDEF`.
+const SHN_UNDEF: u32 = 0;
+
+/// `SHN_XINDEX`: the index does not fit the field.
+const SHN_XINDEX: u16 = 0xffff;
+
+/// Returns the bytes before the first 0, or all of them where there is none.
+fn before_nul(bytes: &[u8]) -> &[u8]
+    ensures { result.now ≡ before_first (λ byte. byte == 0) bytes.entry.now }
+{
+    for end in 0..bytes.len() {
+        if bytes[end] == 0 {
+            return front(bytes, end);
+        }
+    }
+    bytes
+}
+
+/// Returns the string that begins at an offset of a string table, in bytes: the bytes before the first
+/// 0, or all that are left where there is none.
+///
+/// Source: System V gABI, chapter 4, "String Table".
+pub fn string_at(table: &[u8], at: u32) -> &[u8]
+    ensures { result.now ≡ string_of table.entry.now at }
+{
+    before_nul(back(table, u64::from(at)))
+}
+
+/// Returns the size of a section in the file.
+pub(crate) fn size_in_file(section: SectionHeader) -> u64
+    ensures { result ≡ size_in_file section }
+{
+    if section.sh_type == SHT_NOBITS {
+        0
+    } else {
+        section.sh_size
+    }
+}
+
+/// Returns what a section holds: no bytes where it is `SHT_NOBITS`.
+///
+/// # Errors
+///
+/// `Compressed` where it has `SHF_COMPRESSED`, and `Eof` where the file ends before it does.
+///
+/// Source: System V gABI, chapter 4, "Sections".
+#[tactic(auto, unfolding(crate::specs::Section::contents_of))]
+pub fn read_contents<'a>(file: &'a [u8], section: SectionHeader) -> Result<&'a [u8], ElfError>
+    ensures { MatchResult result
+        (λ contents. contents_of file.entry.now section ≡ Ok contents.now)
+        (λ error. contents_of file.entry.now section ≡ Err error) }
+{
+    if section.sh_type == SHT_NOBITS {
+        return Ok(&[]);
+    }
+    if section.sh_flags & SHF_COMPRESSED != 0 {
+        return Err(ElfError::Compressed {
+            offset: section.sh_offset,
+        });
+    }
+    read_block(file, section.sh_offset, section.sh_size)
+}
+
+/// Returns the index of the section that has the names of sections.
+#[tactic(auto, unfolding(crate::specs::Section::names_index_of))]
+fn names_index(file: &[u8], header: FileHeader) -> Result<u32, ElfError>
+    ensures { result ≡ names_index_of file.now header }
+{
+    if header.e_shstrndx != SHN_XINDEX {
+        return Ok(u32::from(header.e_shstrndx));
+    }
+    let first = read_first_section(file, header)?;
+    Ok(first.sh_link)
+}
+
+/// Returns the string table that has the names of a file's sections, without bytes where there are no
+/// names.
+///
+/// # Errors
+///
+/// - `NoSuchSection` where the ELF header names a section that is not among these;
+/// - `Eof` and `Compressed` by its contents, and `Eof` where the file ends before the first section
+///   header, which has the index where `e_shstrndx` is `SHN_XINDEX`.
+///
+/// Source: System V gABI, chapter 4, "ELF Header", `e_shstrndx`.
+#[tactic(auto, unfolding(crate::specs::Section::section_names_of))]
+pub fn read_section_names<'a>(
+    file: &'a [u8],
+    header: FileHeader,
+    sections: &[SectionHeader],
+) -> Result<&'a [u8], ElfError>
+    ensures { MatchResult result
+        (λ names. section_names_of file.entry.now header sections.now ≡ Ok names.now)
+        (λ error. section_names_of file.entry.now header sections.now ≡ Err error) }
+{
+    let index = names_index(file, header)?;
+    if index == SHN_UNDEF {
+        return Ok(&[]);
+    }
+    match sections.get(index as usize) {
+        Some(section) => read_contents(file, *section),
+        None => Err(ElfError::NoSuchSection { offset: 62 }),
+    }
+}
+
+/// Returns the first section of a name, by the names of the file's sections.
+pub fn section_by_name(
+    sections: &[SectionHeader],
+    names: &[u8],
+    name: &[u8],
+) -> Option<SectionHeader>
+    ensures { result ≡ section_called sections.now names.now name.now }
+{
+    for section in sections {
+        if string_at(names, section.sh_name) == name {
+            return Some(*section);
+        }
+    }
+    None
+}

@@ -1,0 +1,178 @@
+//! Symbols of functions, by their addresses.
+ghost use Rattle.std.specs.Prelude.{◌≡◌, ◌≤◌, Ok, Err, MatchResult, IfOk, IfErr, IsPermutation, filter, map};
+ghost use Rattle.std.specs.List.Sorted.{IsNonDecreasingBy, IsStableByKey};
+ghost use Rattle.std.specs.Ordering.{nat_cmp};
+ghost use Rattle.framehop_elf.specs.Bytes.{IsErrorOf};
+ghost use Rattle.framehop_elf.specs.Symbol.{is_function, symbol_of, function_symbols_of, start_of, nearest_of, reaches, symbol_for};
+
+use crate::bytes::{u16_at, u32_at, u64_at};
+use crate::error::ElfError;
+use crate::section::read_contents;
+use crate::section_header::SectionHeader;
+use std::alloc::{AllocError, Global};
+use std::marker::Model;
+
+/// `STT_FUNC`.
+const STT_FUNC: u8 = 2;
+
+/// `STT_GNU_IFUNC`: a function that returns the address of the one that is to be called.
+const STT_GNU_IFUNC: u8 = 10;
+
+/// `SHN_UNDEF`: the symbol is not defined in the file.
+const SHN_UNDEF: u16 = 0;
+
+/// The size of a symbol, in bytes.
+const ENTRY_SIZE: usize = 24;
+
+/// The symbol of a function: `Elf64_Sym`.
+#[derive(Clone, Copy, Debug, PartialEq, Eq)]
+pub struct Symbol {
+    /// Where its name begins in the string table of the symbol table, in bytes.
+    pub st_name: u32,
+    /// Where the function begins (SVMA).
+    pub st_value: u64,
+    /// Its size in bytes, or 0 where it is not known.
+    pub st_size: u64,
+}
+
+/// Returns whether an entry is of a function that is defined in the file.
+fn is_function(entry: &[u8; ENTRY_SIZE]) -> bool
+    ensures { result ≡ is_function entry.now }
+{
+    let kind = entry[4] % 16;
+    (kind == STT_FUNC || kind == STT_GNU_IFUNC)
+        && u16_at(entry, 6) != SHN_UNDEF
+        && u64_at(entry, 8) != 0
+}
+
+/// Returns the symbol that has these bytes.
+fn read_symbol(entry: &[u8; ENTRY_SIZE]) -> Symbol
+    ensures { result ≡ symbol_of entry.now }
+{
+    Symbol {
+        st_name: u32_at(entry, 0),
+        st_value: u64_at(entry, 8),
+        st_size: u64_at(entry, 16),
+    }
+}
+
+/// Returns the symbols of the functions among these entries.
+fn functions(alloc: Global, entries: &[[u8; ENTRY_SIZE]]) -> Result<Vec<Symbol>, AllocError>
+    ensures { IfOk result (λ symbols. symbols.items ≡ map symbol_of (filter is_function entries.now)) }
+{
+    entries
+        .iter()
+        .filter(|entry| is_function(*entry))
+        .map(|entry| read_symbol(entry))
+        .collect(alloc)
+}
+
+/// Reads the functions among the symbols of a symbol table, a section of type `SHT_SYMTAB` or
+/// `SHT_DYNSYM`, in its order: symbols of type `STT_FUNC` or `STT_GNU_IFUNC` that are defined and whose
+/// value is not 0. Their names are in the section of index `sh_link`.
+///
+/// # Errors
+///
+/// - `BadEntrySize` where `sh_entsize` is not the size of `Elf64_Sym`, with the offset of the table;
+/// - `Eof` and `Compressed` by the contents of the section;
+/// - `OutOfMemory`.
+///
+/// Source: System V gABI, chapter 4, "Symbol Table".
+#[tactic(auto, unfolding(crate::specs::Symbol::function_symbols_of))]
+pub fn read_function_symbols(
+    alloc: Global,
+    file: &[u8],
+    table: SectionHeader,
+) -> Result<Vec<Symbol>, ElfError>
+    ensures { MatchResult result
+        (λ symbols. function_symbols_of file.now table ≡ Ok symbols.items)
+        (λ error. IsErrorOf (function_symbols_of file.now table) error) }
+{
+    if table.sh_entsize != ENTRY_SIZE as u64 {
+        return Err(ElfError::BadEntrySize {
+            offset: table.sh_offset,
+        });
+    }
+    let contents = read_contents(file, table)?;
+    let (entries, _) = contents.as_chunks::<ENTRY_SIZE>();
+    match functions(alloc, entries) {
+        Ok(symbols) => Ok(symbols),
+        Err(_) => Err(ElfError::OutOfMemory),
+    }
+}
+
+/// Returns the nearest symbol of sorted ones.
+fn nearest(symbols: &[Symbol], svma: u64) -> Option<Symbol>
+    requires { IsNonDecreasingBy start_of symbols.now }
+    ensures { result ≡ nearest_of symbols.now svma }
+{
+    let count = symbols.partition_point(|symbol| symbol.st_value <= svma);
+    if count == 0 {
+        return None;
+    }
+    Some(symbols[count - 1])
+}
+
+/// Returns whether a symbol reaches to an address at or after its start.
+fn reaches(symbol: Symbol, svma: u64) -> bool
+    ensures { result ≡ reaches svma symbol }
+{
+    let Some(end) = symbol.st_value.checked_add(symbol.st_size) else {
+        return true;
+    };
+    symbol.st_size == 0 || svma < end
+}
+
+/// Symbols of functions, to be searched by address. A contract sees the list of them.
+#[derive(Drop)]
+pub struct SymbolTable {
+    /// In the order of their starts.
+    symbols: Vec<Symbol>,
+}
+
+impl Model for SymbolTable {
+    ghost use Rattle.std.specs.Prelude.{List};
+    ghost use Rattle.std.specs.List.Sorted.{IsNonDecreasingBy};
+    ghost use Rattle.framehop_elf.specs.Symbol.{start_of};
+    ghost use Rattle.framehop_elf.specs.declared.symbol.Symbol.{Symbol};
+
+    ghost Value = { List Symbol };
+
+    ghost view = { λ table. table.symbols.items };
+
+    ghost invariant = { λ table. IsNonDecreasingBy start_of table.symbols.items };
+}
+
+impl SymbolTable {
+    /// Returns the table of these symbols, of which those that begin at one address keep their order.
+    ///
+    /// # Errors
+    ///
+    /// `OutOfMemory`.
+    pub fn new(symbols: Vec<Symbol>) -> Result<Self, ElfError>
+        ensures refused { IfErr result (λ error. error ≡ ElfError.OutOfMemory) }
+        ensures all { IfOk result (λ table. IsPermutation symbols.items table) }
+        ensures order { IfOk result (λ table. IsStableByKey start_of nat_cmp symbols.items table) }
+    {
+        let mut symbols = symbols;
+        match symbols.sort_by_key(|symbol| symbol.st_value) {
+            Ok(()) => Ok(SymbolTable { symbols }),
+            Err(_) => Err(ElfError::OutOfMemory),
+        }
+    }
+
+    /// Returns the symbol of the function that has an address (SVMA): the one with the greatest start at
+    /// or below it, if the address is before its end. A symbol without a size reaches to the next one. Of
+    /// symbols that begin at one address it is the last: in a symbol table a global one is after the
+    /// local ones.
+    pub fn symbol_for(&self, svma: u64) -> Option<Symbol>
+        ensures { result ≡ symbol_for self.now svma }
+    {
+        let symbol = nearest(self.symbols.as_slice(), svma)?;
+        if reaches(symbol, svma) {
+            Some(symbol)
+        } else {
+            None
+        }
+    }
+}
