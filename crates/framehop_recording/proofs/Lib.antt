@@ -1,2 +1,4 @@
 -- Lemmas of this crate.
 pub mod RunLemmas
+pub mod EachLemmas
+pub mod EventLemmas

@@ -25,7 +25,7 @@ one-more cut offset end b bytes one n e within is =
     ∙ ap (λ m. joined (one ∷ []) (run_in cut m (offset + 1) bytes)) (less-one n)
     ∙ ap (λ run. joined (one ∷ []) run) (run_in-skip cut n (offset + 1) end bytes (omega (arith, within)) (omega (arith, is)))
 
-append-one : {A : Type 0} (before : List A) (one : A) (others : List A) → before ++ (one ∷ others) ≡ (before ++ one ∷ []) ++ others
+pub append-one : {A : Type 0} (before : List A) (one : A) (others : List A) → before ++ (one ∷ others) ≡ (before ++ one ∷ []) ++ others
 append-one [] one others = refl
 append-one (x ∷ before) one others = ap (λ rest. x ∷ rest) (append-one before one others)
 
@@ -38,7 +38,7 @@ joined-more cut offset end (b ∷ bytes) rest before one (suc n) e within ends i
     ∙ ap (λ records. record { records = records; refusal = (run_in cut 0 end (drop n bytes)).refusal }) (append-one before one (run_in cut 0 end (drop n bytes)).records)
     ∙ ap (λ left. joined (before ++ one ∷ []) (run_in cut 0 end left)) (sym is)
 
-append-none : {A : Type 0} (before : List A) → before ++ [] ≡ before
+pub append-none : {A : Type 0} (before : List A) → before ++ [] ≡ before
 append-none [] = refl
 append-none (x ∷ before) = ap (λ rest. x ∷ rest) (append-none before)
 

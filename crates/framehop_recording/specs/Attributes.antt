@@ -1,10 +1,11 @@
 -- The events of a recording: `perf_file_attr` of perf.data-file-format.txt, and in it `perf_event_attr` of perf_event.h.
-use Rattle.std.specs.Prelude.{ℕ, ◌-◌, List, Bool, Result, Ok, Err, nat_lt, if◌then◌else◌}
+use Rattle.std.specs.Prelude.{ℕ, ◌-◌, ◌/◌, List, Bool, Result, Ok, Err, nat_lt, if◌then◌else◌}
 use Rattle.framehop_cfi.specs.Bytes.{◌>>=◌}
-use Rattle.framehop_recording.specs.Bytes.{u64_at, block_at, has_bit}
+use Rattle.framehop_recording.specs.Bytes.{u64_at, block_at, offsets, each_of, has_bit}
 use Rattle.framehop_recording.specs.declared.error.RecordingError.{RecordingError}
 use Rattle.framehop_recording.specs.declared.error.RecordingError.TheVariants.{Eof, ShortAttribute}
 use Rattle.framehop_recording.specs.declared.attributes.Attribute.{Attribute}
+use Rattle.framehop_recording.specs.declared.header.Header.{Header}
 
 -- an attribute by its values
 pub record AttributeView : Type 0 where
@@ -33,3 +34,10 @@ attribute_at file at size = if nat_lt size 112 then Err (ShortAttribute at) else
   ids_size ← u64_at entry.0 (size - 8) (Eof at)
   ids ← block_at file ids_offset.0 ids_size.0 (Eof ids_offset.0)
   Ok (record { sample_type = sample_type.0; sample_id_all = has_bit flags.0 0x40000; sample_regs_user = registers.0; ids = ids.0 }))
+
+-- the attributes of a recording: the whole entries of the header's section
+unfoldable pub attributes_of : List ℕ → Header → Result (List AttributeView) RecordingError
+attributes_of file header =
+    if nat_lt header.attribute_size 112 then Err (ShortAttribute header.attributes.offset)
+    else each_of (λ at. attribute_at file at header.attribute_size)
+    (offsets header.attributes.offset header.attribute_size (header.attributes.size / header.attribute_size))

@@ -3,7 +3,10 @@ pub mod Bytes
 pub mod Header
 pub mod Attributes
 pub mod Records
+pub mod Events
+pub mod Order
 pub mod Mapping
+pub mod BuildIds
 pub mod Tasks
 pub mod Sample
 pub mod Registers

@@ -1,6 +1,6 @@
 -- The records of a recording: each begins with `perf_event_header` of perf_event.h, its kind, its flags and its size,
 -- which counts these eight bytes.
-use Rattle.std.specs.Prelude.{ℕ, zero, suc, ◌+◌, ◌-◌, List, [], ◌∷◌, length, map, take, drop, Bool, Option, Some, None, Result, Ok, Err, nat_lt, ◌==◌, if◌then◌else◌}
+use Rattle.std.specs.Prelude.{ℕ, zero, suc, ◌+◌, ◌-◌, List, [], ◌∷◌, length, map, take, drop, Bool, ◌||◌, Option, Some, None, Result, Ok, Err, nat_lt, ◌==◌, if◌then◌else◌}
 use Rattle.framehop_cfi.specs.Bytes.{◌>>=◌}
 use Rattle.framehop_recording.specs.Bytes.{u16_at, u32_at, u64_at, block_at}
 use Rattle.framehop_recording.specs.declared.error.RecordingError.{RecordingError}
@@ -27,11 +27,11 @@ trailing_of offset kind whole = if kind == 71 then (do
   Ok trailing.0) else Ok 0
 
 -- The record of a kind and a size at the front of bytes, which are at an offset of the file, and how many bytes it
--- takes. That of kind 81, PERF_RECORD_COMPRESSED, is refused.
+-- takes. Those of the kinds 81 and 83, PERF_RECORD_COMPRESSED and PERF_RECORD_COMPRESSED2, are refused.
 unfoldable pub sized_record_at : ℕ → List ℕ → ℕ → ℕ → ℕ → Result (RecordView × ℕ) RecordingError
 sized_record_at offset bytes kind misc size = if nat_lt size 8 then Err (BadRecordSize offset) else (do
   whole ← block_at bytes 0 size (Eof offset)
-  if kind == 81 then Err (Compressed offset) else (do
+  if kind == 81 || kind == 83 then Err (Compressed offset) else (do
     trailing ← trailing_of offset kind whole.0
     rest ← block_at bytes size trailing (Eof offset)
     Ok (record { offset = offset; kind = kind; misc = misc; body = drop 8 whole.0 }, rest.1)))

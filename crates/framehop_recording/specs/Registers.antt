@@ -1,14 +1,9 @@
 -- The user registers of a sample: a value for each bit of a mask, in the order of the bits. Which register a bit is,
 -- `perf_event_x86_regs` and `perf_event_arm_regs` of perf_regs.h say.
-use Rattle.std.specs.Prelude.{ℕ, ◌+◌, ◌-◌, ◌*◌, List, length, Option, Some, None, unwrap_or, option_map, option_and_then, bit_and, count_ones, nat_le, if◌then◌else◌}
-use Rattle.framehop_cfi.specs.Bytes.{le8}
+use Rattle.std.specs.Prelude.{ℕ, ◌-◌, ◌*◌, List, Option, None, unwrap_or, option_map, option_and_then, bit_and, count_ones, if◌then◌else◌}
 use Rattle.framehop_core.specs.X86_64.Registers.{Registers as RegistersX86_64}
 use Rattle.framehop_core.specs.Aarch64.Registers.{Registers as RegistersAarch64, strip_ptr_auth}
-use Rattle.framehop_recording.specs.Bytes.{has_bit}
-
--- the word at an offset, if it is there
-abbrev pub word_at : List ℕ → ℕ → Option ℕ
-word_at values at = if nat_le (at + 8) (length values) then Some (le8 values at) else None
+use Rattle.framehop_recording.specs.Bytes.{word_at, has_bit}
 
 -- the value of the register of a bit: as many values are before it as the mask has lower bits
 abbrev pub register_of : ℕ → List ℕ → ℕ → Option ℕ

@@ -1,9 +1,12 @@
 //! The events of a recording, by their attributes.
-ghost use Rattle.std.specs.Prelude.{◌≡◌, Ok, Err, MatchResult};
-ghost use Rattle.framehop_recording.specs.Attributes.{attribute_at, attribute_view};
+ghost use Rattle.std.specs.Prelude.{◌≡◌, ◌+◌, ◌^◌, ◌<◌, ◌⊎◌, Ok, Err, IfOk, MatchResult, map};
+ghost use Rattle.framehop_recording.specs.Bytes.{offsets, each_of};
+ghost use Rattle.framehop_recording.specs.Attributes.{attribute_at, attributes_of, attribute_view};
 
 use crate::bytes::{read_block, read_u64};
 use crate::error::RecordingError;
+use crate::header::Header;
+use std::alloc::Global;
 
 /// The least size of an entry: an attribute with user registers and a user stack, and a section.
 const ENTRY_SIZE: u64 = 112;
@@ -42,6 +45,7 @@ pub fn read_attribute<'a>(
     ensures exact { MatchResult result
         (λ attribute. attribute_at file.entry.now at size ≡ Ok (attribute_view attribute))
         (λ error. attribute_at file.entry.now at size ≡ Err error) }
+    ensures within { IfOk result (λ _. at + size < 2 ^ 64) }
 {
     if size < ENTRY_SIZE {
         return Err(RecordingError::ShortAttribute { offset: at });
@@ -61,4 +65,58 @@ pub fn read_attribute<'a>(
         sample_regs_user,
         ids,
     })
+}
+
+/// Reads so many attributes, whose entries have a size, in bytes, and lie one after another from an
+/// offset of the file on.
+fn read_entries<'a>(
+    alloc: Global,
+    file: &'a [u8],
+    start: u64,
+    size: u64,
+    count: u64,
+) -> Result<Vec<Attribute<'a>>, RecordingError>
+    ensures exact { MatchResult result
+        (λ attributes. each_of (λ at. attribute_at file.entry.now at size) (offsets start size count) ≡ Ok (map attribute_view attributes.items))
+        (λ error. (error ≡ RecordingError.OutOfMemory)
+        ⊎ (each_of (λ at. attribute_at file.entry.now at size) (offsets start size count) ≡ Err error)) }
+{
+    let mut attributes = Vec::new(alloc);
+    let mut at = start;
+    let mut left = count;
+    while left > 0 {
+        let attribute = read_attribute(file, at, size)?;
+        if attributes.push(attribute).is_err() {
+            return Err(RecordingError::OutOfMemory);
+        }
+        at += size;
+        left -= 1;
+    }
+    Ok(attributes)
+}
+
+/// Reads the attributes of the events of a recording, in the order of the file.
+///
+/// # Errors
+///
+/// `OutOfMemory`; `ShortAttribute` where the header's entries have no user registers; and `Eof` where
+/// the file ends before an entry or its ids do.
+///
+/// Source: Linux, `perf.data-file-format.txt`, `perf_header` and `perf_file_attr`.
+#[tactic(auto, unfolding(crate::specs::Attributes::attributes_of))]
+pub fn read_attributes<'a>(
+    alloc: Global,
+    file: &'a [u8],
+    header: &Header,
+) -> Result<Vec<Attribute<'a>>, RecordingError>
+    ensures exact { MatchResult result
+        (λ attributes. attributes_of file.entry.now header.now ≡ Ok (map attribute_view attributes.items))
+        (λ error. (error ≡ RecordingError.OutOfMemory) ⊎ (attributes_of file.entry.now header.now ≡ Err error)) }
+{
+    let size = header.attribute_size;
+    let offset = header.attributes.offset;
+    if size < ENTRY_SIZE {
+        return Err(RecordingError::ShortAttribute { offset });
+    }
+    read_entries(alloc, file, offset, size, header.attributes.size / size)
 }

@@ -1,6 +1,6 @@
 //! Numbers and blocks at an offset of bytes.
-ghost use Rattle.std.specs.Prelude.{◌≡◌, ◌+◌, ◌≤◌, Ok, Err, IfOk, MatchResult, length, drop};
-ghost use Rattle.framehop_recording.specs.Bytes.{u16_at, u32_at, u64_at, block_at};
+ghost use Rattle.std.specs.Prelude.{◌≡◌, ◌+◌, ◌^◌, ◌<◌, ◌≤◌, Ok, Err, IfOk, MatchResult, length, drop};
+ghost use Rattle.framehop_recording.specs.Bytes.{u16_at, u32_at, u64_at, word_at, word_from_end, block_at};
 
 use crate::error::RecordingError;
 use framehop_cfi::bytes;
@@ -65,6 +65,30 @@ pub(crate) fn read_u64(
     }
 }
 
+/// Returns the number of eight bytes at an offset, if the bytes have it.
+#[inline]
+#[tactic(auto, unfolding(framehop_cfi::specs::Bytes::u64_at))]
+pub(crate) fn word(bytes: &[u8], at: usize) -> Option<u64>
+    ensures { result ≡ word_at bytes.now at }
+{
+    match bytes::read_u64(bytes, at) {
+        Ok((word, _)) => Some(word),
+        Err(_) => None,
+    }
+}
+
+/// Returns the number of eight bytes that is so many such numbers before the end, if the bytes have it.
+#[inline]
+pub(crate) fn word_from_end(bytes: &[u8], words: u32) -> Option<u64>
+    ensures { result ≡ word_from_end bytes.now words }
+{
+    let size = 8 * words as usize;
+    if size > bytes.len() {
+        return None;
+    }
+    word(bytes, bytes.len() - size)
+}
+
 /// Returns so many bytes, or the refusal where the bytes end before them.
 #[inline]
 pub(crate) fn read_block<'a>(
@@ -76,7 +100,7 @@ pub(crate) fn read_block<'a>(
     ensures exact { MatchResult result
         (λ read. block_at bytes.entry.now at size short ≡ Ok (read.0.now, read.1))
         (λ error. block_at bytes.entry.now at size short ≡ Err error) }
-    ensures within { IfOk result (λ read. (read.1 ≡ at + size) × (read.1 ≤ length bytes.entry.now)) }
+    ensures within { IfOk result (λ read. (read.1 ≡ at + size) × (read.1 ≤ length bytes.entry.now) × (read.1 < 2 ^ 64)) }
 {
     let length = bytes.len() as u64;
     if at > length || size > length - at {

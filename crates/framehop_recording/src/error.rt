@@ -20,6 +20,12 @@ pub enum RecordingError {
     /// The attribute of an event is too short to have user registers and a user stack.
     #[error("an attribute without user registers: offset {offset}")]
     ShortAttribute { offset: u64 },
+    /// There are several events, and not each has ids at the place where the first has them.
+    #[error("several events whose records can't be told apart: offset {offset}")]
+    MixedIds { offset: u64 },
+    /// The ids of the events take more bytes than the file has, so that some are shared.
+    #[error("events that share ids: offset {offset}")]
+    SharedIds { offset: u64 },
     /// The size of a record is less than that of what each record of its kind begins with.
     #[error("a record of a wrong size at offset {offset}")]
     BadRecordSize { offset: u64 },

@@ -46,7 +46,7 @@ fn read_number(file: &[u8], at: usize) -> Result<(u64, usize), RecordingError>
 
 /// Reads where a section lies.
 #[tactic(auto, unfolding(crate::specs::Header::section_at))]
-fn read_section(file: &[u8], at: usize) -> Result<(Section, usize), RecordingError>
+pub(crate) fn read_section(file: &[u8], at: usize) -> Result<(Section, usize), RecordingError>
     ensures { result ≡ section_at file.now at }
 {
     let (offset, at) = read_number(file, at)?;

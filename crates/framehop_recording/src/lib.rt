@@ -3,10 +3,13 @@
 #![tactic(auto)]
 
 pub mod attributes;
+pub mod build_ids;
 mod bytes;
 pub mod error;
+pub mod events;
 pub mod header;
 pub mod mapping;
+pub mod order;
 pub mod records;
 pub mod registers;
 pub mod sample;

@@ -14,6 +14,9 @@ const AUXTRACE: u32 = 71;
 /// PERF_RECORD_COMPRESSED.
 const COMPRESSED: u32 = 81;
 
+/// PERF_RECORD_COMPRESSED2.
+const ALIGNED_COMPRESSED: u32 = 83;
+
 /// A record: `perf_event_header`, and what is after it.
 #[derive(Clone, Copy, Drop)]
 pub struct Record<'a> {
@@ -68,7 +71,7 @@ fn read_sized_record<'a>(
     let eof = RecordingError::Eof { offset };
     let size = u64::from(size);
     let (whole, _) = read_block(bytes, 0, size, eof)?;
-    if kind == COMPRESSED {
+    if kind == COMPRESSED || kind == ALIGNED_COMPRESSED {
         return Err(RecordingError::Compressed { offset });
     }
     let trailing = trailing_size(offset, kind, whole)?;
@@ -152,7 +155,8 @@ fn read_run<'a>(
 /// ends before the record does, `BadRecordSize`, and `Compressed`.
 ///
 /// Source: Linux, `include/uapi/linux/perf_event.h`, `perf_event_header`;
-/// `perf.data-file-format.txt`, PERF_RECORD_AUXTRACE and PERF_RECORD_COMPRESSED.
+/// `perf.data-file-format.txt`, PERF_RECORD_AUXTRACE and PERF_RECORD_COMPRESSED;
+/// `tools/lib/perf/include/perf/event.h`, PERF_RECORD_COMPRESSED2.
 pub fn read_records<'a>(
     alloc: Global,
     file: &'a [u8],

@@ -2,12 +2,11 @@
 ghost use Rattle.std.specs.Prelude.{◌≡◌, ◌<◌};
 ghost use Rattle.framehop_recording.specs.Registers.{register_of, value_of, with_general, x86_64_registers, aarch64_registers};
 
-use framehop_cfi::bytes::read_u64;
+use crate::bytes::word;
 use framehop_core::aarch64::{PtrAuthMask, UnwindRegsAarch64};
 use framehop_core::x86_64::{Reg, UnwindRegsX86_64};
 
 /// Returns the register of a bit, if it was recorded.
-#[tactic(auto, unfolding(framehop_cfi::specs::Bytes::u64_at))]
 fn register(mask: u64, values: &[u8], bit: u64) -> Option<u64>
     requires { 0 < bit }
     ensures { result ≡ register_of mask values.now bit }
@@ -16,10 +15,7 @@ fn register(mask: u64, values: &[u8], bit: u64) -> Option<u64>
         return None;
     }
     let index = (mask & (bit - 1)).count_ones() as usize;
-    match read_u64(values, 8 * index) {
-        Ok((value, _)) => Some(value),
-        Err(_) => None,
-    }
+    word(values, 8 * index)
 }
 
 /// Returns the register of a bit, or 0 where it was not recorded.

@@ -10,7 +10,7 @@ use crate::error::RecordingError;
 use crate::records::Record;
 
 /// PERF_RECORD_SAMPLE.
-const SAMPLE: u32 = 9;
+pub(crate) const SAMPLE: u32 = 9;
 
 /// PERF_SAMPLE_IP, PERF_SAMPLE_TID and PERF_SAMPLE_TIME.
 const PLACE: u64 = 0x7;

@@ -1,0 +1,10 @@
+use Rattle.std.proofs.Common.{rules}
+use Rattle.std.proofs.lemmas.List.Sorted.{answers_always}
+use Rattle.framehop_recording.proofs.order.sort_by_time.Goals as goal
+
+pub returns-clause-ordered : goal.returns-clause-ordered
+returns-clause-ordered c = (
+  c.in-Ok.ensures.permutation,
+  c.in-Ok.ensures.sorted (λ r. r.time) (answers_always _ _ _ (λ f a r g h. search rules)),
+  c.in-Ok.ensures.stable (λ r. r.time) (answers_always _ _ _ (λ f a r g h. search rules)),
+)
