@@ -1,7 +1,10 @@
-//! Where a frame came from: the module that covers an address, what of its unwind data describes it, the rule or why
-//! there is none, and the caller.
+//! Where a frame came from, and why: unwind rules as text, and what kind of unwind data a module has.
 #![tactic(auto)]
 
+pub mod kind;
 pub mod rule_text;
+pub mod sections;
 
+pub use kind::UnwindDataKind;
 pub use rule_text::{DescribeRule, Described};
+pub use sections::{CallFrameSection, CompactSections, UnwindSections};
