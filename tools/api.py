@@ -28,6 +28,7 @@ LIBRARIES = [
     "framehop_lent",
     "framehop_recording",
     "framehop_elf",
+    "framehop_explain",
 ]
 ITEM = re.compile(r"(\s*)pub (?:const )?(fn|struct|enum|trait|const|type) (\w+)")
 BLOCK = re.compile(r"(\s*)(?:pub )?(impl|trait)\b(.*)")

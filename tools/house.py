@@ -32,6 +32,8 @@ PLACES = {
     "framehop_recording_vectors": (6, 2, "tests"),
     "framehop": (2.5, 3, "library"),
     "framehop_format_vectors": (4, 3, "tests"),
+    "framehop_explain": (6, 3, "library"),
+    "framehop_explain_vectors": (6, 4, "tests"),
     "framehop_lent": (1.2, 4, "library"),
     "framehop_walk": (2.5, 4, "library"),
     "framehop_walk_cli": (1, 5, "program"),

@@ -1,0 +1,132 @@
+//! What kind of unwind data a module has, and why an index of its FDEs was refused.
+ghost use Rattle.std.specs.Prelude.{◌≡◌, IfOk};
+ghost use Rattle.framehop_explain.specs.Kind.{kind_of, frames_kind};
+
+use crate::sections::{CallFrameSection, UnwindSections};
+use framehop_cfi::entry::UnwindSectionType;
+use framehop_cfi::read_error::ReadError;
+use framehop_dwarf::index::{DwarfCfiIndex, DwarfCfiIndexError};
+use std::alloc::{AllocError, Global};
+use std::fmt;
+
+/// What kind of unwind data a module has.
+#[derive(Clone, Copy, Debug, PartialEq, Eq)]
+pub enum UnwindDataKind {
+    /// None.
+    None,
+    /// None that can be used: an index of the FDEs of its call frame section was refused.
+    IndexRefused {
+        section_type: UnwindSectionType,
+        error: DwarfCfiIndexError,
+    },
+    /// `.eh_frame` with `.eh_frame_hdr`.
+    EhFrameWithHeader,
+    /// `.eh_frame` or `.debug_frame` with an index of its FDEs.
+    Indexed {
+        section_type: UnwindSectionType,
+    },
+    /// The unwind info of a PE module.
+    Pe,
+    /// Compact unwind info.
+    Compact {
+        /// Whether there is an `__eh_frame`, whose FDEs it can name.
+        has_eh_frame: bool,
+    },
+}
+
+impl CallFrameSection<'_> {
+    /// Returns what kind of unwind data the section is.
+    ///
+    /// # Errors
+    ///
+    /// An allocation failed.
+    fn kind(&self, alloc: Global) -> Result<UnwindDataKind, AllocError>
+        ensures { IfOk result (λ kind. kind ≡ frames_kind self.now self.now.eh_frame_hdr) }
+    {
+        if self.eh_frame_hdr.is_some() {
+            return Ok(UnwindDataKind::EhFrameWithHeader);
+        }
+        let section_type = self.section_type;
+        match DwarfCfiIndex::try_new(
+            alloc,
+            self.bytes,
+            section_type,
+            self.base_addresses,
+            self.base_svma,
+        ) {
+            Ok(_index) => Ok(UnwindDataKind::Indexed { section_type }),
+            Err(DwarfCfiIndexError::Gimli(ReadError::OutOfMemory)) => Err(AllocError),
+            Err(error) => Ok(UnwindDataKind::IndexRefused {
+                section_type,
+                error,
+            }),
+        }
+    }
+}
+
+impl<D> UnwindSections<'_, D> {
+    /// Returns what kind of unwind data a module with these sections has.
+    ///
+    /// # Errors
+    ///
+    /// An allocation failed.
+    pub fn kind(&self, alloc: Global) -> Result<UnwindDataKind, AllocError>
+        ensures { IfOk result (λ kind. kind ≡ kind_of self.now) }
+    {
+        match self {
+            UnwindSections::None => Ok(UnwindDataKind::None),
+            UnwindSections::CallFrames(section) => section.kind(alloc),
+            UnwindSections::Pe(_) => Ok(UnwindDataKind::Pe),
+            UnwindSections::Compact(compact) => {
+                Ok(UnwindDataKind::Compact {
+                    has_eh_frame: compact.eh_frame.is_some(),
+                })
+            }
+        }
+    }
+}
+
+/// Returns the name of a call frame section.
+fn section_name(section_type: UnwindSectionType) -> &'static str {
+    match section_type {
+        UnwindSectionType::EhFrame => ".eh_frame",
+        UnwindSectionType::DebugFrame => ".debug_frame",
+    }
+}
+
+/// Returns why an index was refused, in words.
+fn refusal_text(error: DwarfCfiIndexError) -> &'static str {
+    match error {
+        DwarfCfiIndexError::Gimli(ReadError::BadLength) => "an entry has a reserved length",
+        DwarfCfiIndexError::Gimli(ReadError::Eof) => "an entry reaches past the end of the section",
+        _ => "it can't be read",
+    }
+}
+
+impl fmt::Display for UnwindDataKind {
+    fn fmt<W: fmt::Write>(&self, f: &mut fmt::Formatter<W>) -> fmt::Result {
+        match *self {
+            UnwindDataKind::None => write!(f, "no unwind data"),
+            UnwindDataKind::IndexRefused {
+                section_type,
+                error,
+            } => write!(
+                f,
+                "no unwind data: {} is refused, since {}",
+                section_name(section_type),
+                refusal_text(error)
+            ),
+            UnwindDataKind::EhFrameWithHeader => write!(f, ".eh_frame with .eh_frame_hdr"),
+            UnwindDataKind::Indexed { section_type } => {
+                write!(f, "{} with an index", section_name(section_type))
+            }
+            UnwindDataKind::Pe => write!(f, "PE unwind info"),
+            UnwindDataKind::Compact { has_eh_frame: true } => {
+                write!(f, "compact unwind info with __eh_frame")
+            }
+            UnwindDataKind::Compact {
+                has_eh_frame: false,
+            } => { write!(f, "compact unwind info without __eh_frame") }
+        }
+    }
+}
