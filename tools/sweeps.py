@@ -1,8 +1,8 @@
 #!/usr/bin/env python3
 """Sweeps over unwind sections, for programs that read the input of framehop-walk.
 
-    tools/sweeps.py totals PROGRAM
-        what each sweep of crates/framehop_sweeps comes to by PROGRAM: the numbers that its tests ask for
+    tools/sweeps.py totals PROGRAM [SWEEP..]
+        what each sweep of crates/framehop_sweeps comes to by PROGRAM: the numbers that src/bytes.rt asks for
     tools/sweeps.py rules
         what the sweeps over rules come to, by the table of rules as it is written here
     tools/sweeps.py pairs ONE OTHER [--count N] [--seed N]
@@ -48,6 +48,15 @@ SWEEPS = [
     ("rdata", "pe", ["PDATA", "PUSHES_RBX", "TEXT"], 1, PE_FUNCTION),
     ("text", "pe", ["PDATA", "PUSHES_RBX", "TEXT"], 2, PE_FUNCTION),
 ]
+
+# By sweep: a place and its value in a variant that is refused here (docs/DIFFERENCES.md says why) and that a program with
+# the original's readers may read, and the place and value of a variant that every reader refuses, which stands for it.
+# Both have the same steps here: a count of the header that is relative to the text, and a header of version 0; a page
+# of kind 3 whose own opcodes do not lie in the bytes, and a page of kind 4.
+REFUSED_HERE = {
+    "header": {(2, 0x23): (0, 0), (2, 0x2B): (0, 0)},
+    "unwind_info": {(0x34, 3): (0x34, 4)},
+}
 
 
 def read_sections():
@@ -117,12 +126,13 @@ def run(program, commands, caches, policy="may"):
     return ended.stdout.splitlines()
 
 
-def variants(data):
-    """Each byte set to each other value, and then each shorter length."""
+def variants(data, refused_here):
+    """Each byte set to each other value, and then each shorter length; the variants of REFUSED_HERE by those for them."""
     for index, was in enumerate(data):
         for value in range(256):
             if value != was:
-                yield data[:index] + bytes([value]) + data[index + 1:]
+                place, other = refused_here.get((index, value), (index, value))
+                yield data[:place] + bytes([other]) + data[place + 1:]
     for length in reversed(range(len(data))):
         yield data[:length]
 
@@ -204,7 +214,7 @@ def totals(program, only):
 
         def modules():
             nonlocal count
-            for variant in variants(contents[place]):
+            for variant in variants(contents[place], REFUSED_HERE.get(name, {})):
                 count += 1
                 changed = contents[:place] + [variant] + contents[place + 1:]
                 yield lambda number, changed=changed: add(kind, changed, number)
