@@ -30,6 +30,7 @@ PLACES = {
     "framehop_dwarf_vectors": (4, 2, "tests"),
     "framehop_libc_rows": (5, 2, "tests"),
     "framehop_recording_vectors": (6, 2, "tests"),
+    "framehop_elf_vectors": (7, 2, "tests"),
     "framehop": (2.5, 3, "library"),
     "framehop_format_vectors": (4, 3, "tests"),
     "framehop_explain": (6, 3, "library"),

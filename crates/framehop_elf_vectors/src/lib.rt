@@ -1,0 +1,5 @@
+//! A worked example of ELF files, with the values that are to come out. This crate has only tests.
+#![tactic(auto)]
+
+#[cfg(test)]
+mod program;
