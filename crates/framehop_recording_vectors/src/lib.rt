@@ -4,4 +4,6 @@
 #[cfg(test)]
 mod aarch64;
 #[cfg(test)]
+mod two_events;
+#[cfg(test)]
 mod x86_64;
