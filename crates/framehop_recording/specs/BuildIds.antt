@@ -1,6 +1,6 @@
 -- The build ids of the files that were mapped: the section of HEADER_BUILD_ID (2) of perf.data-file-format.txt, and in
 -- it `perf_record_header_build_id` of perf's event.h.
-use Rattle.std.specs.Prelude.{ℕ, ◌+◌, ◌*◌, ◌%◌, List, [], take, drop, Bool, bit_and, count_ones, Option, Some, None, Result, Ok, Err, if◌then◌else◌}
+use Rattle.std.specs.Prelude.{ℕ, ◌+◌, ◌*◌, ◌%◌, List, [], take, drop, bit_and, count_ones, Option, Some, None, Result, Ok, Err, if◌then◌else◌}
 use Rattle.framehop_cfi.specs.Bytes.{◌>>=◌}
 use Rattle.framehop_recording.specs.Bytes.{u32_at, block_at, each_of, has_bit}
 use Rattle.framehop_recording.specs.Header.{section_at}

@@ -1,5 +1,5 @@
 -- Records in the order of their times. Those of several processors are not in order in the file.
-use Rattle.std.specs.Prelude.{ℕ, List, map, unwrap_or}
+use Rattle.std.specs.Prelude.{List, unwrap_or}
 use Rattle.std.specs.Ordering.{nat_cmp}
 use Rattle.std.specs.List.Sorted.{IsPermutation, IsSortedByKey, IsStableByKey}
 use Rattle.framehop_recording.specs.Attributes.{AttributeView}

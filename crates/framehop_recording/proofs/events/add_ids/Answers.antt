@@ -1,8 +1,7 @@
-use Rattle.std.proofs.Common.{◌≡◌, ◌==◌, ◌≤◌, ◌+◌, ◌-◌, ℕ, cond, length, Some, ap, sym, ◌∙◌, arith, rules}
+use Rattle.std.proofs.Common.{◌==◌, ◌≤◌, ◌+◌, cond, length, Some, ap, sym, ◌∙◌, arith}
 use Rattle.std.specs.Cmp.{unsigned_tied}
 use Rattle.std.specs.Ordering.{nat_cmp}
 use Rattle.std.specs.BTreeMap.{get}
-use Rattle.framehop_cfi.specs.Bytes.{le8}
 use Rattle.framehop_recording.proofs.EventLemmas.{word-there, id-entered}
 use Rattle.framehop_recording.proofs.events.add_ids.Goals as goal
 
