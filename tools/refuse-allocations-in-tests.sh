@@ -1,33 +1,38 @@
 #!/usr/bin/env bash
-# Lets one allocation after another fail in the tests of src/memory.rt. (tools/refuse-allocations.sh does so in the program.)
+# Lets one allocation after another fail in the built tests of framehop_sweeps' src/memory.rt:
+# refuse-allocations-in-tests.sh [TESTS]. TESTS is what `rt test` in that crate's folder builds.
+# (tools/refuse-allocations.sh does so in the program, in the same way.)
 #
-# A test that has had a failure tries again, and so passes. Two tests do not, and fail as long as the allocation is one of
-# their own: they make the same things, and one of them steps and walks besides. Both have equally many allocations, so
-# steps and walks make none.
-#
-# The tests run in a copy of the sources that lacks the other tests of this crate. Each run takes about half a minute.
+# A test that has had a failure tries again, and so passes. Two tests do not, and fail: they make the same things, and
+# one of them steps and walks besides. Both have equally many allocations, so steps and walks make none.
 set -u
-top=$(cd "$(dirname "$(realpath -- "${BASH_SOURCE[0]}")")/.." && pwd) || exit 1
+tools=$(dirname "$(realpath -- "${BASH_SOURCE[0]}")") || exit 2
+tests=$(realpath -- "${1:-$tools/../crates/framehop_sweeps/out/framehop_sweeps_tests}") || exit 2
 work=$(mktemp -d) || exit 1
 trap 'rm -rf "$work"' EXIT
-tar -C "$top" --exclude=out -cf - crates.txt HANDLES crates | tar -C "$work" -xf - || exit 1
-sweeps=$work/crates/framehop_sweeps
-rm "$sweeps"/src/{bytes,reads,reads_aarch64,registers,rows,totals}.rt
-printf '%s\n' '//! Allocations that fail.' '#![tactic(auto)]' '#[cfg(test)]' 'mod memory;' '#[cfg(test)]' 'mod sections;' \
-    '#[cfg(test)]' 'mod steps;' '#[cfg(test)]' 'mod walks;' >"$sweeps/src/lib.rt"
+cc -shared -fPIC -O1 -o "$work/failing.so" "$tools/failing_allocations.c" -ldl || exit 1
+ulimit -c 0
 
-makers=0
-steps=0
-cd "$sweeps" || exit 1
-for ((number = 1; number <= 200; number++)); do
-    log=$(rt try --test --fail-alloc "$number" 2>&1)
-    grep -q '^tests: ' <<<"$log" || { echo "$log" >&2; exit 1; }
-    failed=$(sed -n 's/^test \(memory::.*\) \.\.\. FAILED$/\1/p' <<<"$log")
-    others=$(grep -v '^memory::requests_of_the_makers' <<<"$failed")
-    [ -z "$others" ] || { echo "allocation $number: $others" >&2; exit 1; }
-    grep -q '^memory::requests_of_the_makers$' <<<"$failed" && makers=$number
-    grep -q '^memory::requests_of_the_makers_and_steps$' <<<"$failed" && steps=$number
-    [ -n "$failed" ] || break
+# Runs a test in which the allocation of this number fails, none for 0, and says whether it passes.
+passes() {
+    FAILING_ALLOCATION=$2 ALLOCATIONS=$work/count LD_PRELOAD=$work/failing.so "$tests" "$1" >"$work/out" 2>&1
+}
+
+total=0
+declare -A counts
+for test in $("$tests" --list | sed -n 's/^\(memory::.*\): test$/\1/p'); do
+    passes "$test" 0 || { echo "$test fails" >&2; exit 1; }
+    count=$(cat "$work/count")
+    for ((number = 1; number <= count; number++)); do
+        case $test in
+        *::requests_of_the_makers*) ! passes "$test" "$number" ;;
+        *) passes "$test" "$number" ;;
+        esac || { echo "$test: allocation $number" >&2; cat "$work/out" >&2; exit 1; }
+    done
+    echo "$test: $count allocations"
+    counts[$test]=$count
+    total=$((total + count))
 done
-echo "tests: allocations of the makers: $makers; with steps and walks: $steps"
-[ "$makers" -gt 0 ] && [ "$makers" = "$steps" ]
+echo "$total allocations, each refused in turn"
+[ "${counts[memory::requests_of_the_makers]:-0}" -gt 0 ] &&
+    [ "${counts[memory::requests_of_the_makers]}" = "${counts[memory::requests_of_the_makers_and_steps]}" ]

@@ -7,6 +7,8 @@
 #[cfg(test)]
 mod bytes;
 #[cfg(test)]
+mod cases;
+#[cfg(test)]
 mod memory;
 #[cfg(test)]
 mod reads;
@@ -14,8 +16,6 @@ mod reads;
 mod reads_aarch64;
 #[cfg(test)]
 mod registers;
-#[cfg(test)]
-mod rows;
 #[cfg(test)]
 mod sections;
 #[cfg(test)]

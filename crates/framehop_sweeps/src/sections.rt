@@ -4,7 +4,6 @@ ghost use Rattle.framehop_cfi.specs.ExplicitSections.{under};
 
 use framehop::section::ExplicitModuleSectionInfo;
 use framehop::{Module, ModuleListError, ModuleSectionInfo};
-use framehop_walk::section_bytes;
 use std::alloc::Global;
 use std::ops::Range;
 
@@ -13,7 +12,15 @@ use std::ops::Range;
 pub(crate) const ONE_FDE: &str = "1400000000000000017a5200017810011b0c070890010000\
      180000001c000000e0efffff2000000000410e108602430d0600000000000000";
 
-/// The same, and a second FDE for the same addresses.
+/// The same with a reserved length of its CIE.
+pub(crate) const RESERVED_LENGTH: &str = "f0ffffff00000000017a5200017810011b0c070890010000\
+     180000001c000000e0efffff2000000000410e108602430d0600000000000000";
+
+/// The same with the mark of a length of 64 bits.
+pub(crate) const LONG_LENGTH: &str = "ffffffff00000000017a5200017810011b0c070890010000\
+     180000001c000000e0efffff2000000000410e108602430d0600000000000000";
+
+/// The first, and a second FDE for the same addresses.
 pub(crate) const TWO_FDES: &str = "1400000000000000017a5200017810011b0c070890010000\
      180000001c000000e0efffff2000000000410e108602430d06000000\
      1800000038000000c4efffff2000000000410e108602430d0600000000000000";
@@ -84,46 +91,23 @@ pub(crate) const TEXT_WITH_FRAME_REGISTER: &str =
      9090909090909090909090909090909090909090909090909090909090\
      488d65205bc3";
 
-/// The kinds of unwind data, by the sections that a module has.
+/// The sections of a module, by the digits of their bytes.
 #[derive(Clone, Copy)]
-pub(crate) enum Format {
+pub(crate) enum Sections {
     /// `.eh_frame`
-    EhFrame,
+    EhFrame(&'static str),
 
     /// `.eh_frame` and `.eh_frame_hdr`
-    EhFrameHdr,
+    EhFrameHdr(&'static str, &'static str),
 
     /// `.debug_frame`
-    DebugFrame,
+    DebugFrame(&'static str),
 
     /// `__unwind_info`
-    UnwindInfo,
+    UnwindInfo(&'static str),
 
     /// `.pdata`, `.rdata` from 0x2000 to this address, and `.text`
-    Pe { rdata_end: u64 },
-}
-
-/// The sections of a module, by their bytes. What the format lacks is not looked at.
-#[derive(Clone, Copy)]
-pub(crate) struct Sections {
-    pub(crate) format: Format,
-    pub(crate) contents: [&'static str; 3],
-}
-
-/// A module that has only this section.
-pub(crate) const fn one(format: Format, contents: &'static str) -> Sections {
-    Sections {
-        format,
-        contents: [contents, "", ""],
-    }
-}
-
-/// A PE module with this info at 0x2000 and this text.
-pub(crate) const fn pe(rdata_end: u64, rdata: &'static str, text: &'static str) -> Sections {
-    Sections {
-        format: Format::Pe { rdata_end },
-        contents: [PDATA, rdata, text],
-    }
+    Pe(u64, &'static str, &'static str),
 }
 
 /// The sections of a PE module with the base 0.
@@ -183,120 +167,103 @@ impl ModuleSectionInfo<Vec<u8>> for PeSections {
     }
 }
 
-/// A module of 0x4000 bytes of addresses, with PE sections.
-fn pe_module(
-    alloc: Global,
-    start: u64,
-    info: PeSections,
-) -> Result<Module<Vec<u8>>, ModuleListError> {
-    let end = start.saturating_add(0x4000);
-    Module::new(alloc, String::new(alloc), start..end, start, info)
-}
-
-/// The same with other sections.
-fn explicit_module(
-    alloc: Global,
-    start: u64,
-    info: ExplicitModuleSectionInfo<Vec<u8>>,
-) -> Result<Module<Vec<u8>>, ModuleListError> {
-    let end = start.saturating_add(0x4000);
-    Module::new(alloc, String::new(alloc), start..end, start, info)
-}
-
-/// A module whose sections have these bytes.
-pub(crate) fn module_of(
-    alloc: Global,
-    start: u64,
-    format: Format,
-    first: Vec<u8>,
-    second: Vec<u8>,
-    third: Vec<u8>,
-) -> Result<Module<Vec<u8>>, ModuleListError> {
-    let mut info = ExplicitModuleSectionInfo::default();
-    match format {
-        Format::EhFrame => {
-            info.eh_frame_svma = Some(0x2000..0x2100);
-            info.eh_frame = Some(first);
-        }
-        Format::EhFrameHdr => {
-            info.eh_frame_svma = Some(0x2000..0x2100);
-            info.eh_frame = Some(first);
-            info.eh_frame_hdr_svma = Some(0x3000..0x3100);
-            info.eh_frame_hdr = Some(second);
-        }
-        Format::DebugFrame => info.debug_frame = Some(first),
-        Format::UnwindInfo => info.unwind_info = Some(first),
-        Format::Pe { rdata_end } => {
-            let info = PeSections {
-                pdata: Some(first),
-                rdata_end,
-                rdata: Some(second),
-                text: Some(third),
-            };
-            return pe_module(alloc, start, info);
+impl Sections {
+    /// The digits of the sections.
+    fn digits(&self) -> [&'static str; 3] {
+        match *self {
+            Sections::EhFrame(eh_frame) => [eh_frame, "", ""],
+            Sections::DebugFrame(debug_frame) => [debug_frame, "", ""],
+            Sections::UnwindInfo(unwind_info) => [unwind_info, "", ""],
+            Sections::EhFrameHdr(eh_frame, header) => [eh_frame, header, ""],
+            Sections::Pe(_, rdata, text) => [PDATA, rdata, text],
         }
     }
-    explicit_module(alloc, start, info)
-}
 
-impl Sections {
     /// The bytes of a section. Only memory can lack: the digits are right.
     pub(crate) fn bytes(&self, alloc: Global, place: usize) -> Result<Vec<u8>, ModuleListError> {
-        let digits = self.contents.get(place).copied().unwrap_or("");
-        section_bytes(alloc, digits).map_err(|_| ModuleListError::OutOfMemory)
+        let digits = self.digits().get(place).copied().unwrap_or("");
+        let Ok(bytes) = hex::decode(alloc, digits) else {
+            return Err(ModuleListError::OutOfMemory);
+        };
+        Ok(bytes)
     }
 
-    /// Where the module lies: one with `__unwind_info` at 0x100000, and any other at 0.
-    fn start(&self) -> u64 {
-        match self.format {
-            Format::UnwindInfo => 0x100000,
-            _ => 0,
-        }
+    /// The same, or these others.
+    fn bytes_or(
+        &self,
+        alloc: Global,
+        place: usize,
+        others: Option<&[u8]>,
+    ) -> Result<Vec<u8>, ModuleListError> {
+        let Some(others) = others else {
+            return self.bytes(alloc, place);
+        };
+        let Ok(bytes) = others.to_vec(alloc) else {
+            return Err(ModuleListError::OutOfMemory);
+        };
+        Ok(bytes)
     }
 
     /// A module with these sections.
     pub(crate) fn module(&self, alloc: Global) -> Result<Module<Vec<u8>>, ModuleListError> {
-        self.module_at(alloc, self.start())
-    }
-
-    /// The same with another start.
-    pub(crate) fn module_at(
-        &self,
-        alloc: Global,
-        start: u64,
-    ) -> Result<Module<Vec<u8>>, ModuleListError> {
         let first = self.bytes(alloc, 0)?;
         let second = self.bytes(alloc, 1)?;
         let third = self.bytes(alloc, 2)?;
-        module_of(alloc, start, self.format, first, second, third)
+        self.module_of(alloc, first, second, third)
     }
 
-    /// A module with other bytes of the section at this place.
+    /// The same with other bytes of the section at this place.
     pub(crate) fn module_with(
         &self,
         alloc: Global,
         place: usize,
-        bytes: &[u8],
+        others: &[u8],
     ) -> Result<Module<Vec<u8>>, ModuleListError> {
-        let first = self.other_bytes(alloc, 0, place, bytes)?;
-        let second = self.other_bytes(alloc, 1, place, bytes)?;
-        let third = self.other_bytes(alloc, 2, place, bytes)?;
-        module_of(alloc, self.start(), self.format, first, second, third)
+        let first = self.bytes_or(alloc, 0, (place == 0).then_some(others))?;
+        let second = self.bytes_or(alloc, 1, (place == 1).then_some(others))?;
+        let third = self.bytes_or(alloc, 2, (place == 2).then_some(others))?;
+        self.module_of(alloc, first, second, third)
     }
 
-    // the bytes of a section, or these others where it is the section at their place
-    fn other_bytes(
+    /// A module of 0x4000 bytes of addresses whose sections have these bytes: one with `__unwind_info` at 0x100000, and
+    /// any other at 0.
+    fn module_of(
         &self,
         alloc: Global,
-        place: usize,
-        others_place: usize,
-        others: &[u8],
-    ) -> Result<Vec<u8>, ModuleListError> {
-        if place == others_place {
-            return others
-                .to_vec(alloc)
-                .map_err(|_| ModuleListError::OutOfMemory);
+        first: Vec<u8>,
+        second: Vec<u8>,
+        third: Vec<u8>,
+    ) -> Result<Module<Vec<u8>>, ModuleListError> {
+        let name = String::new(alloc);
+        let mut range = 0..0x4000;
+        let mut info = ExplicitModuleSectionInfo::default();
+        match *self {
+            Sections::EhFrame(_) => {
+                info.eh_frame_svma = Some(0x2000..0x2100);
+                info.eh_frame = Some(first);
+            }
+            Sections::EhFrameHdr(_, _) => {
+                info.eh_frame_svma = Some(0x2000..0x2100);
+                info.eh_frame = Some(first);
+                info.eh_frame_hdr_svma = Some(0x3000..0x3100);
+                info.eh_frame_hdr = Some(second);
+            }
+            Sections::DebugFrame(_) => info.debug_frame = Some(first),
+            Sections::UnwindInfo(_) => {
+                range = 0x100000..0x104000;
+                info.unwind_info = Some(first);
+            }
+            Sections::Pe(rdata_end, _, _) => {
+                let info = PeSections {
+                    pdata: Some(first),
+                    rdata_end,
+                    rdata: Some(second),
+                    text: Some(third),
+                };
+                return Module::new(alloc, name, range, 0, info);
+            }
         }
-        self.bytes(alloc, place)
+        let base = range.start;
+        Module::new(alloc, name, range, base, info)
     }
 }

@@ -1,12 +1,11 @@
-//! Steps on x86_64 through one module, under both allocation policies.
+//! Steps through one module.
+use crate::totals::is_consistent;
 use framehop::x86_64::{CacheX86_64, UnwindRegsX86_64, UnwinderX86_64};
 use framehop::{
-    Error, FrameAddress, Generations, MayAllocateDuringUnwind, Module, ModuleListError,
-    MustNotAllocateDuringUnwind, Unwinder,
+    Error, FrameAddress, Generations, Module, ModuleListError, MustNotAllocateDuringUnwind,
+    Unwinder,
 };
-use std::alloc::{AllocError, Global};
-use std::process::Abort;
-use std::test::Fail;
+use std::alloc::Global;
 
 /// The words of a stack, from an address on.
 #[derive(Clone, Copy)]
@@ -22,6 +21,9 @@ pub(crate) const STACK: Stack = Stack {
         1, 2, 0x100300, 4, 0x40, 0x100200, 5, 6, 0x70, 0x100100, 7, 8, 9, 10, 0, 0,
     ],
 };
+
+/// The same in one place.
+pub(crate) static SWEPT_STACK: Stack = STACK;
 
 impl Stack {
     /// The word at an address.
@@ -53,21 +55,6 @@ impl Failing {
     }
 }
 
-/// What a step leaves.
-#[derive(Clone, Copy)]
-pub(crate) struct Answer {
-    pub(crate) result: Result<Option<u64>, Error>,
-    pub(crate) regs: UnwindRegsX86_64,
-}
-
-impl Answer {
-    /// Tests that another step left the same.
-    pub(crate) fn is<R: Abort>(&self, rt: &R, other: &Answer) {
-        assert_eq!(rt; self.result, other.result);
-        assert_eq!(rt; self.regs, other.regs);
-    }
-}
-
 /// A frame that is looked up at this address: a caller's, whose return address is one more, or a first one.
 pub(crate) fn frame_at(is_caller: bool, lookup: u64) -> FrameAddress {
     if is_caller && let Some(caller) = FrameAddress::from_return_address(lookup.saturating_add(1)) {
@@ -76,127 +63,116 @@ pub(crate) fn frame_at(is_caller: bool, lookup: u64) -> FrameAddress {
     FrameAddress::from_instruction_pointer(lookup)
 }
 
-/// Two caches, one for each policy.
+/// What a step gives where these reads fail, and the registers after it.
+pub(crate) fn step<U: Unwinder>(
+    unwinder: &U,
+    frame: FrameAddress,
+    mut regs: U::UnwindRegs,
+    cache: &mut U::Cache,
+    stack: &Stack,
+    failing: Failing,
+) -> (Result<Option<u64>, Error>, U::UnwindRegs) {
+    let mut number = 0u32;
+    let mut read = |address: u64| -> Result<u64, ()> {
+        number = number.saturating_add(1);
+        if failing.fails(number) {
+            return Err(());
+        }
+        stack.word(address)
+    };
+    let result = unwinder.unwind_frame(frame, &mut regs, cache, &mut read);
+    (result, regs)
+}
+
+/// What a step on x86_64 gives, and the registers after it.
+pub(crate) type Step = (Result<Option<u64>, Error>, UnwindRegsX86_64);
+
+/// Caches for both allocation policies.
 #[derive(Drop)]
 pub(crate) struct Caches {
-    pub(crate) may: CacheX86_64<MayAllocateDuringUnwind>,
+    pub(crate) may: CacheX86_64,
     pub(crate) must: CacheX86_64<MustNotAllocateDuringUnwind>,
 }
 
 impl Caches {
-    pub(crate) fn new(alloc: Global) -> Result<Self, AllocError> {
-        Ok(Caches {
-            may: CacheX86_64::new_in(alloc)?,
-            must: CacheX86_64::new_in(alloc)?,
-        })
+    pub(crate) fn new(alloc: Global) -> Result<Self, ModuleListError> {
+        let Ok(may) = CacheX86_64::new_in(alloc) else {
+            return Err(ModuleListError::OutOfMemory);
+        };
+        let Ok(must) = CacheX86_64::new_in(alloc) else {
+            return Err(ModuleListError::OutOfMemory);
+        };
+        Ok(Caches { may, must })
+    }
+
+    /// Whether both have been hit and missed so many times.
+    pub(crate) fn have_counts(&self, hits: u64, misses: u64) -> bool {
+        let may = self.may.stats();
+        let must = self.must.stats();
+        may.hits() == hits
+            && may.misses() == misses
+            && must.hits() == hits
+            && must.misses() == misses
     }
 }
 
-/// Two unwinders of one module, one for each policy.
+/// Unwinders with one module under both allocation policies.
 #[derive(Drop)]
 pub(crate) struct Unwinders {
-    may: UnwinderX86_64<Vec<u8>, MayAllocateDuringUnwind>,
-    must: UnwinderX86_64<Vec<u8>, MustNotAllocateDuringUnwind>,
-}
-
-/// An unwinder with one module, which may allocate.
-pub(crate) fn unwinder_that_may(
-    alloc: Global,
-    generations: &mut Generations,
-    module: Module<Vec<u8>>,
-) -> Result<UnwinderX86_64<Vec<u8>, MayAllocateDuringUnwind>, ModuleListError> {
-    let mut unwinder = UnwinderX86_64::new(alloc, generations)?;
-    match unwinder.add_module(module, generations) {
-        Ok(()) => Ok(unwinder),
-        Err(refused) => Err(refused.cause),
-    }
-}
-
-/// The same, which must not.
-pub(crate) fn unwinder_that_must_not(
-    alloc: Global,
-    generations: &mut Generations,
-    module: Module<Vec<u8>>,
-) -> Result<UnwinderX86_64<Vec<u8>, MustNotAllocateDuringUnwind>, ModuleListError> {
-    let mut unwinder = UnwinderX86_64::new(alloc, generations)?;
-    match unwinder.add_module(module, generations) {
-        Ok(()) => Ok(unwinder),
-        Err(refused) => Err(refused.cause),
-    }
-}
-
-/// A step that may allocate, where these reads fail.
-pub(crate) fn step_that_may(
-    unwinder: &UnwinderX86_64<Vec<u8>, MayAllocateDuringUnwind>,
-    frame: FrameAddress,
-    mut regs: UnwindRegsX86_64,
-    cache: &mut CacheX86_64<MayAllocateDuringUnwind>,
-    stack: &Stack,
-    failing: Failing,
-) -> Answer {
-    let mut number = 0u32;
-    let mut read = |address: u64| -> Result<u64, ()> {
-        number = number.saturating_add(1);
-        if failing.fails(number) {
-            return Err(());
-        }
-        stack.word(address)
-    };
-    let result = unwinder.unwind_frame(frame, &mut regs, cache, &mut read);
-    Answer { result, regs }
-}
-
-/// A step that must not.
-pub(crate) fn step_that_must_not(
-    unwinder: &UnwinderX86_64<Vec<u8>, MustNotAllocateDuringUnwind>,
-    frame: FrameAddress,
-    mut regs: UnwindRegsX86_64,
-    cache: &mut CacheX86_64<MustNotAllocateDuringUnwind>,
-    stack: &Stack,
-    failing: Failing,
-) -> Answer {
-    let mut number = 0u32;
-    let mut read = |address: u64| -> Result<u64, ()> {
-        number = number.saturating_add(1);
-        if failing.fails(number) {
-            return Err(());
-        }
-        stack.word(address)
-    };
-    let result = unwinder.unwind_frame(frame, &mut regs, cache, &mut read);
-    Answer { result, regs }
+    generations: Generations,
+    pub(crate) may: UnwinderX86_64<Vec<u8>>,
+    pub(crate) must: UnwinderX86_64<Vec<u8>, MustNotAllocateDuringUnwind>,
 }
 
 impl Unwinders {
-    pub(crate) fn new(
-        alloc: Global,
-        generations: &mut Generations,
-        module: Module<Vec<u8>>,
-    ) -> Result<Self, Fail> {
-        let copy = module.clone()?;
+    pub(crate) fn new(alloc: Global) -> Result<Self, ModuleListError> {
+        let mut generations = Generations::new();
+        let may = UnwinderX86_64::new(alloc, &mut generations)?;
+        let must = UnwinderX86_64::new(alloc, &mut generations)?;
         Ok(Unwinders {
-            may: unwinder_that_may(alloc, generations, module)?,
-            must: unwinder_that_must_not(alloc, generations, copy)?,
+            generations,
+            may,
+            must,
         })
     }
 
-    /// A step under each policy, where these reads fail. Tests that both leave the same, and that a step
-    /// that finds no caller keeps the registers.
-    pub(crate) fn step<R: Abort>(
+    /// Removes a module that starts at an address, if there is one.
+    fn remove(&mut self, start: u64) -> Result<(), ModuleListError> {
+        self.may.remove_module(start, &mut self.generations)?;
+        self.must.remove_module(start, &mut self.generations)
+    }
+
+    /// Puts a module of `sections::Sections` in the place of any other.
+    pub(crate) fn set_module(&mut self, module: Module<Vec<u8>>) -> Result<(), ModuleListError> {
+        self.remove(0)?;
+        self.remove(0x100000)?;
+        let Ok(copy) = module.clone() else {
+            return Err(ModuleListError::OutOfMemory);
+        };
+        if let Err(refused) = self.may.add_module(copy, &mut self.generations) {
+            return Err(refused.cause);
+        }
+        match self.must.add_module(module, &mut self.generations) {
+            Ok(()) => Ok(()),
+            Err(refused) => Err(refused.cause),
+        }
+    }
+
+    /// What a step gives where these reads fail: under both policies the same, and a refusal keeps the registers.
+    pub(crate) fn step(
         &self,
-        rt: &R,
         frame: FrameAddress,
         regs: UnwindRegsX86_64,
         caches: &mut Caches,
         stack: &Stack,
         failing: Failing,
-    ) -> Answer {
-        let answer = step_that_may(&self.may, frame, regs, &mut caches.may, stack, failing);
-        let other = step_that_must_not(&self.must, frame, regs, &mut caches.must, stack, failing);
-        answer.is(rt, &other);
-        if !matches!(answer.result, Ok(Some(_))) {
-            assert_eq!(rt; answer.regs, regs);
+    ) -> Option<Step> {
+        let may = step(&self.may, frame, regs, &mut caches.may, stack, failing);
+        let must = step(&self.must, frame, regs, &mut caches.must, stack, failing);
+        if may == must && is_consistent(may.0, &regs, &may.1) {
+            Some(may)
+        } else {
+            None
         }
-        answer
     }
 }

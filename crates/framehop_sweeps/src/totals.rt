@@ -1,10 +1,10 @@
 //! What a sweep comes to: how many steps have which end, and a digest of all that they give.
-use crate::steps::Answer;
 use framehop::Error;
 use framehop::x86_64::{Reg, UnwindRegsX86_64};
+use std::test::Fail;
 
 /// The registers in the order in which the program prints them.
-const REGISTERS: [Reg; 16] = [
+static REGISTERS: [Reg; 16] = [
     Reg::RAX,
     Reg::RDX,
     Reg::RCX,
@@ -23,16 +23,19 @@ const REGISTERS: [Reg; 16] = [
     Reg::R15,
 ];
 
+/// How many steps return an address, are at the root and are refused, and a digest of them.
+pub(crate) type Ends = ([u32; 3], u64);
+
 /// How many steps have which end.
 ///
 /// The digest is FNV-1a over 64-bit words: of each step a word that tells its end, the return address or the address
 /// that can't be read or 0, and the registers after the step.
-#[derive(Clone, Copy, Debug, PartialEq, Eq)]
+#[derive(Drop)]
 pub(crate) struct Totals {
-    pub(crate) answered: u32,
-    pub(crate) roots: u32,
-    pub(crate) refused: u32,
-    pub(crate) digest: u64,
+    answered: u32,
+    roots: u32,
+    refused: u32,
+    digest: u64,
 }
 
 impl Totals {
@@ -43,6 +46,11 @@ impl Totals {
             refused: 0,
             digest: 0xcbf29ce484222325,
         }
+    }
+
+    /// What all steps so far come to.
+    pub(crate) fn ends(&self) -> Ends {
+        ([self.answered, self.roots, self.refused], self.digest)
     }
 
     /// Adds a word to the digest.
@@ -74,8 +82,8 @@ impl Totals {
     /// Adds registers, in the order in which the program prints them.
     pub(crate) fn add_regs(&mut self, regs: &UnwindRegsX86_64) {
         self.add_word(regs.ip());
-        for register in REGISTERS {
-            self.add_word(regs.get(register));
+        for register in &REGISTERS {
+            self.add_word(regs.get(*register));
         }
     }
 
@@ -85,10 +93,25 @@ impl Totals {
             self.add_word(word);
         }
     }
+}
 
-    /// Adds a step.
-    pub(crate) fn add(&mut self, answer: &Answer) {
-        self.add_end(answer.result);
-        self.add_regs(&answer.regs);
+/// Whether the registers after a step have the return address, or are as before where there is none.
+pub(crate) fn is_consistent(
+    end: Result<Option<u64>, Error>,
+    before: &UnwindRegsX86_64,
+    after: &UnwindRegsX86_64,
+) -> bool {
+    match end {
+        Ok(Some(address)) => after.ip() == address,
+        Ok(None) | Err(_) => *after == *before,
+    }
+}
+
+/// Fails a test unless this holds.
+pub(crate) fn holds(is_held: bool, what: &'static str) -> Result<(), Fail> {
+    if is_held {
+        Ok(())
+    } else {
+        Err(Fail::from(what))
     }
 }

@@ -1,5 +1,6 @@
 //! Walks on aarch64 in which one read of the stack fails.
-use crate::steps::{Failing, STACK};
+use crate::steps::{Failing, SWEPT_STACK};
+use crate::totals::holds;
 use framehop::aarch64::{CacheAarch64, UnwindRegsAarch64, UnwinderAarch64};
 use framehop::{
     Error, FrameAddress, Generations, ModuleListError, MustNotAllocateDuringUnwind, Unwinder,
@@ -26,9 +27,9 @@ pub(crate) fn first_calls(
     is_walked: bool,
 ) -> Result<Walk, ModuleListError> {
     let mut generations = Generations::new();
-    let mut cache = CacheAarch64::<MustNotAllocateDuringUnwind>::new_in(alloc).map_err(
-        |_| ModuleListError::OutOfMemory,
-    )?;
+    let Ok(mut cache) = CacheAarch64::<MustNotAllocateDuringUnwind>::new_in(alloc) else {
+        return Err(ModuleListError::OutOfMemory);
+    };
     let unwinder: UnwinderAarch64<Vec<u8>, MustNotAllocateDuringUnwind> = UnwinderAarch64::new(
         alloc,
         &mut generations,
@@ -39,7 +40,7 @@ pub(crate) fn first_calls(
         if failing.fails(number) {
             return Err(());
         }
-        STACK.word(address)
+        SWEPT_STACK.word(address)
     };
     let mut calls = [Ok(None); 5];
     if is_walked {
@@ -82,11 +83,14 @@ fn fails_at_each_read(rt: HostRuntime) -> Result<(), Fail> {
             _ => [start, second, third, refused, root],
         };
         let found = first_calls(rt.alloc(), Failing::Only(failing), true)?;
-        assert_eq!(rt; found.calls, want);
-        assert_eq!(rt; (found.hits, found.misses), (1, 3));
+        holds(
+            found.calls == want && found.hits == 1 && found.misses == 3,
+            "the call after a refused one goes on",
+        )?;
     }
     let found = first_calls(rt.alloc(), Failing::Only(7), true)?;
-    assert_eq!(rt; found.calls, [start, second, third, root, root]);
-    assert_eq!(rt; (found.hits, found.misses), (0, 3));
-    Ok(())
+    holds(
+        found.calls == [start, second, third, root, root] && found.hits == 0 && found.misses == 3,
+        "a walk without a refused read ends at the root",
+    )
 }
