@@ -27,6 +27,7 @@ LIBRARIES = [
     "framehop_walk",
     "framehop_lent",
     "framehop_recording",
+    "framehop_processes",
 ]
 ITEM = re.compile(r"(\s*)pub (?:const )?(fn|struct|enum|trait|const|type) (\w+)")
 BLOCK = re.compile(r"(\s*)(?:pub )?(impl|trait)\b(.*)")

@@ -32,6 +32,7 @@ PLACES = {
     "framehop": (2.5, 3, "library"),
     "framehop_format_vectors": (4, 3, "tests"),
     "framehop_lent": (1.2, 4, "library"),
+    "framehop_processes": (4, 4, "library"),
     "framehop_walk": (2.5, 4, "library"),
     "framehop_walk_cli": (1, 5, "program"),
     "framehop_bench": (2, 5, "program"),
