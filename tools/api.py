@@ -29,6 +29,7 @@ LIBRARIES = [
     "framehop_recording",
     "framehop_elf",
     "framehop_explain",
+    "framehop_processes",
 ]
 ITEM = re.compile(r"(\s*)pub (?:const )?(fn|struct|enum|trait|const|type) (\w+)")
 BLOCK = re.compile(r"(\s*)(?:pub )?(impl|trait)\b(.*)")

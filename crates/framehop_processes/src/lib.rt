@@ -1,0 +1,16 @@
+//! The processes of a recording: which files are mapped in each, and an unwinder with their modules.
+#![tactic(auto)]
+
+mod around;
+pub mod error;
+pub mod maker;
+pub mod mapping;
+mod modules;
+pub mod process;
+pub mod unwinder;
+
+pub use error::ProcessesError;
+pub use maker::ModuleMaker;
+pub use mapping::Mapping;
+pub use process::Process;
+pub use unwinder::ProcessUnwinder;

@@ -1,0 +1,108 @@
+//! A process: its mappings, and the unwinder that has their modules.
+ghost use Rattle.std.specs.Prelude.{◌≡◌, ◌+◌, ◌-◌, ◌^◌, ◌≤◌, [], IfOk, IfErr, OnOk, OnErr, Err};
+ghost use Rattle.framehop_processes.specs.Mappings.{IsInOrder, with_mapping};
+ghost use Rattle.framehop_processes.specs.Process.{HasModules, IsDrawn};
+
+use crate::around::{joined, split_ending_by, split_starting_below};
+use crate::error::ProcessesError;
+use crate::maker::ModuleMaker;
+use crate::mapping::Mapping;
+use crate::modules::{add_module, remove_modules};
+use crate::unwinder::ProcessUnwinder;
+use framehop::generations::Generations;
+use std::alloc::{AllocError, Global};
+use std::marker::Model;
+
+/// A process: which files are mapped in it, and the unwinder that has their modules.
+#[derive(Drop)]
+pub struct Process<U: ProcessUnwinder> {
+    mappings: Vec<Mapping>,
+    unwinder: U,
+}
+
+impl<U: ProcessUnwinder> Model for Process<U> {
+    ghost use Rattle.framehop_processes.specs.Process.{ProcessView};
+    ghost use Rattle.framehop_processes.specs.Mappings.{IsInOrder};
+
+    ghost Value = { ProcessView };
+
+    ghost view = { λ p. record { mappings = p.mappings.items; unwinder = U.unwinder_view p.unwinder } };
+
+    ghost invariant = { λ p. IsInOrder 0 p.mappings.items };
+}
+
+impl<U: ProcessUnwinder> Clone for Process<U> {
+    ghost is_clone = { λ p copy. copy ≡ p };
+
+    fn clone(&self) -> Result<Self, AllocError> {
+        Ok(Process {
+            mappings: self.mappings.clone()?,
+            unwinder: self.unwinder.clone()?,
+        })
+    }
+}
+
+impl<U: ProcessUnwinder> Process<U> {
+    /// A process without mappings. Its unwinder has the next generation.
+    pub fn new(alloc: Global, generations: &mut Generations) -> Result<Self, ProcessesError>
+        ensures made { IfOk result (λ made.
+            (made ≡ record { mappings = []; unwinder = record { modules = []; generation = generations.old } })
+            × (generations.new ≡ generations.old + 1)) }
+        ensures exhausted { IfErr result (λ error.
+            (error ≡ ProcessesError.GenerationsExhausted)
+            × (generations.old ≡ 2 ^ 64 - 1)
+            × (generations.new ≡ generations.old)) }
+    {
+        let unwinder = U::without_modules(alloc, generations)?;
+        Ok(Process {
+            mappings: Vec::new(alloc),
+            unwinder,
+        })
+    }
+
+    /// Maps a part of a file into the process, in the place of the mappings that it overlaps: their
+    /// modules go, and the module of the new one, which the maker makes, is added. Where that is
+    /// refused, the process is as it was, though generations may have been drawn.
+    pub fn map<M: ModuleMaker<U>>(
+        &mut self,
+        alloc: Global,
+        maker: &M,
+        mapping: Mapping,
+        generations: &mut Generations,
+    ) -> Result<(), ProcessesError>
+    where
+        U::Module: Drop,
+        requires { HasModules (M.module_of maker.now) self.old }
+        ensures served { HasModules (M.module_of maker.now) self.new }
+        ensures mapped { OnOk result (self.new.mappings ≡ with_mapping mapping self.old.mappings) }
+        ensures drawn { OnOk result (IsDrawn generations.old self.new.unwinder.generation generations.new) }
+        ensures kept { OnErr result (self.new ≡ self.old) }
+        ensures exhausted { result ≡ Err ProcessesError.GenerationsExhausted → generations.new ≡ 2 ^ 64 - 1 }
+        ensures never_back { generations.old ≤ generations.new }
+    {
+        let made = maker.make_module(alloc, &mapping)?;
+        let (before, rest) = split_ending_by(self.mappings.as_slice(), mapping.start);
+        let (overlapped, after) = split_starting_below(rest, mapping.end);
+        let mut unwinder = self.unwinder.clone()?;
+        remove_modules(&mut unwinder, overlapped, generations)?;
+        add_module(&mut unwinder, made, generations)?;
+        let mappings = joined(alloc, before, mapping, after)?;
+        *self = Process { mappings, unwinder };
+        Ok(())
+    }
+
+    /// The mappings, in order of start.
+    pub fn mappings(&self) -> &[Mapping]
+        ensures value { result.now ≡ self.now.mappings }
+        ensures ordered { IsInOrder 0 self.now.mappings }
+    {
+        self.mappings.as_slice()
+    }
+
+    /// The unwinder, which has the modules of the mappings.
+    pub fn unwinder(&self) -> &U
+        ensures { U.unwinder_view result.now ≡ self.now.unwinder }
+    {
+        &self.unwinder
+    }
+}
