@@ -37,6 +37,7 @@ PLACES = {
     "framehop_explain_vectors": (6, 4, "tests"),
     "framehop_lent": (1.2, 4, "library"),
     "framehop_walk": (2.5, 4, "library"),
+    "framehop_c": (0, 5, "library"),
     "framehop_walk_cli": (1, 5, "program"),
     "framehop_bench": (2, 5, "program"),
     "framehop_vectors": (3, 5, "tests"),
