@@ -43,6 +43,22 @@ build -fsanitize=address,undefined "$here/walk.c" $archives -o "$work/walk-asan"
 diff "$work/frames" "$work/expected"
 echo "walk.c: no error under the address sanitizer"
 
+# each request for memory fails in turn: the call that made it returns -1
+build -fsanitize=address,undefined -fno-sanitize-recover=undefined -Wl,--wrap=malloc,--wrap=realloc \
+    "$here/walk.c" "$here/failing_malloc.c" $archives -o "$work/walk-failing"
+requests=$(ASAN_OPTIONS=detect_leaks=0 "$work/walk-failing" 2>&1 > "$work/frames" | sed -n 's/^requests //p')
+diff "$work/frames" "$work/expected"
+for request in $(seq "$requests"); do
+    status=0
+    ASAN_OPTIONS=detect_leaks=0:exitcode=9 UBSAN_OPTIONS=exitcode=9 FAIL_AT=$request \
+        "$work/walk-failing" > "$work/frames" 2> "$work/errors" || status=$?
+    if [ $status != 1 ] || ! grep -qE ': -1$' "$work/errors"; then
+        echo "walk.c: request $request fails, and the status is $status"
+        exit 1
+    fi
+done
+echo "walk.c: each of $requests requests for memory fails in turn"
+
 # a shared object, which Python loads
 set -- $archives
 first=$1
