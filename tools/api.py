@@ -26,12 +26,13 @@ LIBRARIES = [
     "framehop_pe",
     "framehop_walk",
     "framehop_lent",
+    "framehop_c",
     "framehop_recording",
     "framehop_elf",
     "framehop_explain",
     "framehop_processes",
 ]
-ITEM = re.compile(r"(\s*)pub (?:const )?(fn|struct|enum|trait|const|type) (\w+)")
+ITEM = re.compile(r"(\s*)pub (?:const |extern \"C\" )?(fn|struct|enum|trait|const|type) (\w+)")
 BLOCK = re.compile(r"(\s*)(?:pub )?(impl|trait)\b(.*)")
 METHOD = re.compile(r"(\s*)(pub )?(?:const )?fn (\w+)")
 CLAUSE = re.compile(r"\s*(requires|ensures) (\w*) ?\{")

@@ -39,6 +39,7 @@ PLACES = {
     "framehop_processes": (4, 4, "library"),
     "framehop_processes_vectors": (6, 5, "tests"),
     "framehop_walk": (2.5, 4, "library"),
+    "framehop_c": (0, 5, "library"),
     "framehop_walk_cli": (1, 5, "program"),
     "framehop_bench": (2, 5, "program"),
     "framehop_vectors": (3, 5, "tests"),

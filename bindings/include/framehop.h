@@ -1,0 +1,272 @@
+/* framehop for C: unwinds the stacks of x86_64 and aarch64 programs by the unwind data of their modules.
+ *
+ * Link libframehop_c.a and liblibc_c.a (malloc, realloc and free for it). The calls are proved from here on: if the
+ * caller sees to what stands below, what they write and return is what their contracts in crates/framehop_c say.
+ *
+ * What the caller sees to:
+ * - Each pointer is valid and not null, unless a length of 0 goes with it; the places that a call writes don't overlap.
+ * - A handle is what a call named ..._new or ..._clone has written with FRAMEHOP_OK; where a call takes two, they differ.
+ * - A handle is given to framehop_free once, and not used after that.
+ * - A handle stays on the thread that made it, and is in one call at a time.
+ * - The bytes of a section stay as they are until each unwinder that has its module is freed, clones too.
+ * - Unwinders that share a cache draw from one counter of generations.
+ *
+ * Units: an AVMA is an address in the memory of the process that is unwound; an SVMA is an address as it is stated in
+ * the file of a module. Ranges go from their start to below their end. Sizes are in bytes, lengths in elements.
+ */
+#ifndef FRAMEHOP_H
+#define FRAMEHOP_H
+
+#include <stdbool.h>
+#include <stddef.h>
+#include <stdint.h>
+
+#ifdef __cplusplus
+extern "C" {
+#endif
+
+/* What calls return: below 0 a refusal, else how the call ended. */
+enum {
+    FRAMEHOP_OK = 0,
+    FRAMEHOP_FRAMES_FULL = 1,             /* a walk has written as many frames as there is room for */
+    FRAMEHOP_END = 2,                     /* the root of the stack */
+    FRAMEHOP_OUT_OF_MEMORY = -1,          /* an allocation failed */
+    FRAMEHOP_GENERATIONS_EXHAUSTED = -2,  /* the counter has reached 2^64 - 1 */
+    FRAMEHOP_WRONG_HANDLE = -3,           /* an object of another kind, architecture or policy */
+    FRAMEHOP_COULD_NOT_READ_STACK = -10,  /* the stack word at `unreadable` can't be read */
+    FRAMEHOP_MOVED_BACKWARDS = -11,       /* the caller's frame or stack pointer is not above the callee's */
+    FRAMEHOP_DID_NOT_ADVANCE = -12,       /* the step would give the same frame again */
+    FRAMEHOP_INTEGER_OVERFLOW = -13,      /* a stack pointer or stack address does not fit 64 bits */
+    FRAMEHOP_RETURN_ADDRESS_IS_NULL = -14 /* a frame has the return address 0 */
+};
+
+/* A counter of generations, an unwinder or a cache. */
+typedef struct {
+    void *address;
+} framehop_handle;
+
+/* Bytes that are lent. */
+typedef struct {
+    const uint8_t *start;
+    size_t length;
+} framehop_bytes;
+
+/* Where a section or segment lies (SVMAs), if has_range, and its bytes, if has_bytes. */
+typedef struct {
+    uint64_t svma_start;
+    uint64_t svma_end;
+    framehop_bytes bytes;
+    bool has_range;
+    bool has_bytes;
+} framehop_section;
+
+/* The sections of a module, of an ELF, Mach-O or PE file; `{0}` where there is none. */
+typedef struct {
+    uint64_t base_svma;             /* the base as stated in the file: 0 for ELF, the vmaddr of __TEXT for Mach-O */
+    framehop_section text;          /* .text or __text */
+    framehop_section stubs;         /* __stubs: its range */
+    framehop_section stub_helper;   /* __stub_helper: its range */
+    framehop_section got;           /* .got or __got: its range */
+    framehop_section unwind_info;   /* __unwind_info: its bytes */
+    framehop_section eh_frame;      /* .eh_frame or __eh_frame */
+    framehop_section eh_frame_hdr;  /* .eh_frame_hdr */
+    framehop_section debug_frame;   /* .debug_frame: its bytes */
+    framehop_section text_segment;  /* the segment __TEXT */
+    framehop_section pdata;         /* .pdata: its bytes */
+    framehop_section rdata;         /* .rdata */
+    framehop_section xdata;         /* .xdata */
+} framehop_sections;
+
+typedef struct {
+    uint64_t ip, rax, rdx, rcx, rbx, rsi, rdi, rbp, rsp, r8, r9, r10, r11, r12, r13, r14, r15;
+} framehop_registers_x86_64;
+
+/* lr_mask has the bits of a pointer that are its address: UINT64_MAX where pointers carry no authentication code, and
+ * UINT64_MAX >> 24 on macOS arm64e. */
+typedef struct {
+    uint64_t lr_mask, lr, sp, fp;
+} framehop_registers_aarch64;
+
+/* Stack words that are lent: words[i] is at the AVMA base + 8 * i. A window without words tells a step that the word
+ * at its base can't be read. */
+typedef struct {
+    uint64_t base;
+    const uint64_t *words;
+    size_t word_count;
+} framehop_window;
+
+/* What a walk has written: how many frames, and the AVMA of the stack word that could not be read, or 0. */
+typedef struct {
+    size_t frame_count;
+    uint64_t unreadable;
+} framehop_walk;
+
+/* What a step returned: the return address (AVMA) or 0, the AVMA of the stack word that could not be read or 0, and
+ * the first AVMA of a word that was asked for and of which no window tells, if has_missing. */
+typedef struct {
+    uint64_t return_address;
+    uint64_t unreadable;
+    uint64_t missing;
+    bool has_missing;
+} framehop_step;
+
+/* How many lookups hit and missed. The counts stop at UINT64_MAX. */
+typedef struct {
+    uint64_t hit_count, miss_empty_slot_count, miss_wrong_modules_count, miss_wrong_address_count;
+} framehop_cache_stats;
+
+/* Makes a counter of generations. */
+int32_t framehop_generations_new(framehop_handle *place);
+
+/* Frees a counter, an unwinder or a cache. */
+void framehop_free(framehop_handle handle);
+
+/* The calls below come for each architecture.
+ *
+ * ..._new           an empty cache, or an unwinder without modules. With may_allocate unwinding may take memory, which
+ *                   is the usual choice; without, it takes none, and some DWARF unwind data is too large for it. An
+ *                   unwinder and a cache go together only if both have the same policy.
+ * ..._clone         the same modules and generation. Module data is shared, not copied.
+ * ..._add_module    a module that is loaded from avma_start to below avma_end, whose relative address 0 is base_avma.
+ *                   Where it is refused, nothing has changed.
+ * ..._remove_module removes the newest module of a start, and does nothing (FRAMEHOP_OK) where there is none.
+ * ..._max_known_code_address    the greatest end of a module, or 0.
+ * ..._walk          writes the addresses of the frames, pc first, then return addresses, at most frame_capacity; the
+ *                   registers become those at its end. FRAMEHOP_END at the root, FRAMEHOP_FRAMES_FULL, or a refusal
+ *                   after the frames that are written, which is common at the end of a stack.
+ * ..._unwind_frame  one frame. FRAMEHOP_OK with the return address and the caller's registers; FRAMEHOP_END at the root
+ *                   of the stack, and a refusal, leave the registers. If step.has_missing, even with FRAMEHOP_OK, the
+ *                   answer was found without a word that was asked for: to have the exact one, restore the registers,
+ *                   add a window that has that word, or one without words if it can't be read, and call again.
+ */
+
+int32_t framehop_cache_x86_64_new(bool may_allocate, framehop_handle *place);
+int32_t framehop_cache_x86_64_stats(framehop_handle *cache, framehop_cache_stats *stats);
+int32_t framehop_unwinder_x86_64_new(framehop_handle *generations, bool may_allocate, framehop_handle *place);
+int32_t framehop_unwinder_x86_64_clone(framehop_handle *unwinder, framehop_handle *place);
+int32_t framehop_unwinder_x86_64_add_module(framehop_handle *unwinder, framehop_handle *generations,
+    uint64_t avma_start, uint64_t avma_end, uint64_t base_avma, const framehop_sections *sections);
+int32_t framehop_unwinder_x86_64_remove_module(framehop_handle *unwinder, framehop_handle *generations,
+    uint64_t avma_start);
+int32_t framehop_unwinder_x86_64_max_known_code_address(framehop_handle *unwinder, uint64_t *address);
+int32_t framehop_unwinder_x86_64_walk(framehop_handle *unwinder, framehop_handle *cache, uint64_t pc,
+    framehop_registers_x86_64 *registers, const framehop_window *stack, uint64_t *frames, size_t frame_capacity,
+    framehop_walk *walk);
+int32_t framehop_unwinder_x86_64_unwind_frame(framehop_handle *unwinder, framehop_handle *cache, uint64_t address,
+    bool is_return_address, framehop_registers_x86_64 *registers, const framehop_window *windows, size_t window_count,
+    framehop_step *step);
+
+int32_t framehop_cache_aarch64_new(bool may_allocate, framehop_handle *place);
+int32_t framehop_cache_aarch64_stats(framehop_handle *cache, framehop_cache_stats *stats);
+int32_t framehop_unwinder_aarch64_new(framehop_handle *generations, bool may_allocate, framehop_handle *place);
+int32_t framehop_unwinder_aarch64_clone(framehop_handle *unwinder, framehop_handle *place);
+int32_t framehop_unwinder_aarch64_add_module(framehop_handle *unwinder, framehop_handle *generations,
+    uint64_t avma_start, uint64_t avma_end, uint64_t base_avma, const framehop_sections *sections);
+int32_t framehop_unwinder_aarch64_remove_module(framehop_handle *unwinder, framehop_handle *generations,
+    uint64_t avma_start);
+int32_t framehop_unwinder_aarch64_max_known_code_address(framehop_handle *unwinder, uint64_t *address);
+int32_t framehop_unwinder_aarch64_walk(framehop_handle *unwinder, framehop_handle *cache, uint64_t pc,
+    framehop_registers_aarch64 *registers, const framehop_window *stack, uint64_t *frames, size_t frame_capacity,
+    framehop_walk *walk);
+int32_t framehop_unwinder_aarch64_unwind_frame(framehop_handle *unwinder, framehop_handle *cache, uint64_t address,
+    bool is_return_address, framehop_registers_aarch64 *registers, const framehop_window *windows, size_t window_count,
+    framehop_step *step);
+
+/* Reads the stack word at an AVMA, or returns false where it can't be read. */
+typedef bool (*framehop_read_word)(void *data, uint64_t address, uint64_t *word);
+
+/* How many stack words a step may ask for, where a callback reads them. */
+#define FRAMEHOP_WORDS_A_FRAME 64
+
+/* Walks with a callback: the step above, again while it asks for a word of which no window tells. Each word is asked
+ * for once a frame. With more than 64 words to a frame the walk ends with FRAMEHOP_COULD_NOT_READ_STACK. */
+static inline int32_t framehop_unwinder_x86_64_walk_with(framehop_handle *unwinder, framehop_handle *cache, uint64_t pc,
+    framehop_registers_x86_64 *registers, framehop_read_word read, void *data, uint64_t *frames, size_t frame_capacity,
+    framehop_walk *walk)
+{
+    walk->frame_count = 0;
+    walk->unreadable = 0;
+    if (frame_capacity == 0)
+        return FRAMEHOP_FRAMES_FULL;
+    frames[walk->frame_count++] = pc;
+    while (walk->frame_count < frame_capacity) {
+        const framehop_registers_x86_64 before = *registers;
+        framehop_window windows[FRAMEHOP_WORDS_A_FRAME];
+        uint64_t words[FRAMEHOP_WORDS_A_FRAME];
+        framehop_step step;
+        size_t known = 0;
+        int32_t status;
+        for (;;) {
+            status = framehop_unwinder_x86_64_unwind_frame(unwinder, cache, frames[walk->frame_count - 1],
+                walk->frame_count > 1, registers, windows, known, &step);
+            if (!step.has_missing)
+                break;
+            *registers = before;
+            if (known == FRAMEHOP_WORDS_A_FRAME) {
+                walk->unreadable = step.missing;
+                return FRAMEHOP_COULD_NOT_READ_STACK;
+            }
+            windows[known].base = step.missing;
+            windows[known].words = &words[known];
+            windows[known].word_count = read(data, step.missing, &words[known]) ? 1 : 0;
+            known++;
+        }
+        if (status != FRAMEHOP_OK) {
+            walk->unreadable = step.unreadable;
+            return status;
+        }
+        if (step.return_address == 0)
+            return FRAMEHOP_RETURN_ADDRESS_IS_NULL;
+        frames[walk->frame_count++] = step.return_address;
+    }
+    return FRAMEHOP_FRAMES_FULL;
+}
+
+/* Walks with a callback: the step above, again while it asks for a word of which no window tells. Each word is asked
+ * for once a frame. With more than 64 words to a frame the walk ends with FRAMEHOP_COULD_NOT_READ_STACK. */
+static inline int32_t framehop_unwinder_aarch64_walk_with(framehop_handle *unwinder, framehop_handle *cache, uint64_t pc,
+    framehop_registers_aarch64 *registers, framehop_read_word read, void *data, uint64_t *frames, size_t frame_capacity,
+    framehop_walk *walk)
+{
+    walk->frame_count = 0;
+    walk->unreadable = 0;
+    if (frame_capacity == 0)
+        return FRAMEHOP_FRAMES_FULL;
+    frames[walk->frame_count++] = pc;
+    while (walk->frame_count < frame_capacity) {
+        const framehop_registers_aarch64 before = *registers;
+        framehop_window windows[FRAMEHOP_WORDS_A_FRAME];
+        uint64_t words[FRAMEHOP_WORDS_A_FRAME];
+        framehop_step step;
+        size_t known = 0;
+        int32_t status;
+        for (;;) {
+            status = framehop_unwinder_aarch64_unwind_frame(unwinder, cache, frames[walk->frame_count - 1],
+                walk->frame_count > 1, registers, windows, known, &step);
+            if (!step.has_missing)
+                break;
+            *registers = before;
+            if (known == FRAMEHOP_WORDS_A_FRAME) {
+                walk->unreadable = step.missing;
+                return FRAMEHOP_COULD_NOT_READ_STACK;
+            }
+            windows[known].base = step.missing;
+            windows[known].words = &words[known];
+            windows[known].word_count = read(data, step.missing, &words[known]) ? 1 : 0;
+            known++;
+        }
+        if (status != FRAMEHOP_OK) {
+            walk->unreadable = step.unreadable;
+            return status;
+        }
+        if (step.return_address == 0)
+            return FRAMEHOP_RETURN_ADDRESS_IS_NULL;
+        frames[walk->frame_count++] = step.return_address;
+    }
+    return FRAMEHOP_FRAMES_FULL;
+}
+
+#ifdef __cplusplus
+}
+#endif
+#endif

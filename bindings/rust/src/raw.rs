@@ -1,0 +1,179 @@
+//! The C interface, as `bindings/include/framehop.h` declares it.
+
+pub const OK: i32 = 0;
+pub const FRAMES_FULL: i32 = 1;
+pub const END: i32 = 2;
+pub const OUT_OF_MEMORY: i32 = -1;
+pub const GENERATIONS_EXHAUSTED: i32 = -2;
+pub const COULD_NOT_READ_STACK: i32 = -10;
+pub const MOVED_BACKWARDS: i32 = -11;
+pub const DID_NOT_ADVANCE: i32 = -12;
+pub const INTEGER_OVERFLOW: i32 = -13;
+pub const RETURN_ADDRESS_IS_NULL: i32 = -14;
+
+#[repr(C)]
+#[derive(Clone, Copy)]
+pub struct Handle {
+    pub address: *mut u8,
+}
+
+#[repr(C)]
+#[derive(Clone, Copy)]
+pub struct Bytes {
+    pub start: *const u8,
+    pub length: usize,
+}
+
+#[repr(C)]
+#[derive(Clone, Copy)]
+pub struct Section {
+    pub svma_start: u64,
+    pub svma_end: u64,
+    pub bytes: Bytes,
+    pub has_range: bool,
+    pub has_bytes: bool,
+}
+
+#[repr(C)]
+pub struct Sections {
+    pub base_svma: u64,
+    pub text: Section,
+    pub stubs: Section,
+    pub stub_helper: Section,
+    pub got: Section,
+    pub unwind_info: Section,
+    pub eh_frame: Section,
+    pub eh_frame_hdr: Section,
+    pub debug_frame: Section,
+    pub text_segment: Section,
+    pub pdata: Section,
+    pub rdata: Section,
+    pub xdata: Section,
+}
+
+#[repr(C)]
+#[derive(Clone, Copy, PartialEq, Eq, Default)]
+pub struct RegistersX86_64 {
+    pub ip: u64,
+    /// rax, rdx, rcx, rbx, rsi, rdi, rbp, rsp, r8 to r15.
+    pub general: [u64; 16],
+}
+
+#[repr(C)]
+#[derive(Clone, Copy, PartialEq, Eq)]
+pub struct RegistersAarch64 {
+    pub lr_mask: u64,
+    pub lr: u64,
+    pub sp: u64,
+    pub fp: u64,
+}
+
+#[repr(C)]
+pub struct Window {
+    pub base: u64,
+    pub words: *const u64,
+    pub word_count: usize,
+}
+
+#[repr(C)]
+#[derive(Default)]
+pub struct Walk {
+    pub frame_count: usize,
+    pub unreadable: u64,
+}
+
+#[repr(C)]
+#[derive(Default)]
+pub struct Step {
+    pub return_address: u64,
+    pub unreadable: u64,
+    pub missing: u64,
+    pub has_missing: bool,
+}
+
+/// How many lookups of a cache hit and missed. The counts stop at the largest `u64`.
+#[repr(C)]
+#[derive(Clone, Copy, Debug, Default, PartialEq, Eq)]
+pub struct CacheStats {
+    pub hit_count: u64,
+    pub miss_empty_slot_count: u64,
+    pub miss_wrong_modules_count: u64,
+    pub miss_wrong_address_count: u64,
+}
+
+unsafe extern "C" {
+    pub fn framehop_generations_new(place: *mut Handle) -> i32;
+    pub fn framehop_free(handle: Handle);
+}
+
+macro_rules! declare {
+    ($registers:ty, $cache_new:ident, $cache_stats:ident, $new:ident, $clone:ident, $add_module:ident,
+        $remove_module:ident, $max_known_code_address:ident, $walk:ident, $unwind_frame:ident) => {
+        unsafe extern "C" {
+            pub fn $cache_new(may_allocate: bool, place: *mut Handle) -> i32;
+            pub fn $cache_stats(cache: *mut Handle, stats: *mut CacheStats) -> i32;
+            pub fn $new(generations: *mut Handle, may_allocate: bool, place: *mut Handle) -> i32;
+            pub fn $clone(unwinder: *mut Handle, place: *mut Handle) -> i32;
+            pub fn $add_module(
+                unwinder: *mut Handle,
+                generations: *mut Handle,
+                avma_start: u64,
+                avma_end: u64,
+                base_avma: u64,
+                sections: *const Sections,
+            ) -> i32;
+            pub fn $remove_module(
+                unwinder: *mut Handle,
+                generations: *mut Handle,
+                avma_start: u64,
+            ) -> i32;
+            pub fn $max_known_code_address(unwinder: *mut Handle, address: *mut u64) -> i32;
+            pub fn $walk(
+                unwinder: *mut Handle,
+                cache: *mut Handle,
+                pc: u64,
+                registers: *mut $registers,
+                stack: *const Window,
+                frames: *mut u64,
+                frame_capacity: usize,
+                walk: *mut Walk,
+            ) -> i32;
+            pub fn $unwind_frame(
+                unwinder: *mut Handle,
+                cache: *mut Handle,
+                address: u64,
+                is_return_address: bool,
+                registers: *mut $registers,
+                windows: *const Window,
+                window_count: usize,
+                step: *mut Step,
+            ) -> i32;
+        }
+    };
+}
+
+declare!(
+    RegistersX86_64,
+    framehop_cache_x86_64_new,
+    framehop_cache_x86_64_stats,
+    framehop_unwinder_x86_64_new,
+    framehop_unwinder_x86_64_clone,
+    framehop_unwinder_x86_64_add_module,
+    framehop_unwinder_x86_64_remove_module,
+    framehop_unwinder_x86_64_max_known_code_address,
+    framehop_unwinder_x86_64_walk,
+    framehop_unwinder_x86_64_unwind_frame
+);
+
+declare!(
+    RegistersAarch64,
+    framehop_cache_aarch64_new,
+    framehop_cache_aarch64_stats,
+    framehop_unwinder_aarch64_new,
+    framehop_unwinder_aarch64_clone,
+    framehop_unwinder_aarch64_add_module,
+    framehop_unwinder_aarch64_remove_module,
+    framehop_unwinder_aarch64_max_known_code_address,
+    framehop_unwinder_aarch64_walk,
+    framehop_unwinder_aarch64_unwind_frame
+);

@@ -1,0 +1,97 @@
+//! Unwinding on x86_64.
+use crate::unwinder::{Unwinder, end_of, step_with, unwinder};
+use crate::{
+    AllocationPolicy, CacheStats, Error, FrameAddress, Generations, MayAllocateDuringUnwind, Module, ModuleListError,
+    Owned, raw,
+};
+use std::fmt;
+use std::marker::PhantomData;
+use std::ops::Deref;
+use std::rc::Rc;
+
+/// A general register.
+#[derive(Clone, Copy, Debug, PartialEq, Eq, PartialOrd, Ord, Hash)]
+pub enum Reg {
+    RAX,
+    RDX,
+    RCX,
+    RBX,
+    RSI,
+    RDI,
+    RBP,
+    RSP,
+    R8,
+    R9,
+    R10,
+    R11,
+    R12,
+    R13,
+    R14,
+    R15,
+}
+
+/// The registers that unwinding needs: rip and the sixteen general ones.
+#[derive(Clone, Copy, PartialEq, Eq)]
+pub struct UnwindRegsX86_64(pub(crate) raw::RegistersX86_64);
+
+impl UnwindRegsX86_64 {
+    pub fn new(ip: u64, sp: u64, bp: u64) -> Self {
+        let mut regs = UnwindRegsX86_64(raw::RegistersX86_64 { ip, ..Default::default() });
+        regs.set_sp(sp);
+        regs.set_bp(bp);
+        regs
+    }
+
+    pub fn get(&self, reg: Reg) -> u64 {
+        self.0.general[reg as usize]
+    }
+
+    pub fn set(&mut self, reg: Reg, value: u64) {
+        self.0.general[reg as usize] = value;
+    }
+
+    pub fn ip(&self) -> u64 {
+        self.0.ip
+    }
+
+    pub fn set_ip(&mut self, ip: u64) {
+        self.0.ip = ip;
+    }
+
+    pub fn sp(&self) -> u64 {
+        self.get(Reg::RSP)
+    }
+
+    pub fn set_sp(&mut self, sp: u64) {
+        self.set(Reg::RSP, sp);
+    }
+
+    pub fn bp(&self) -> u64 {
+        self.get(Reg::RBP)
+    }
+
+    pub fn set_bp(&mut self, bp: u64) {
+        self.set(Reg::RBP, bp);
+    }
+}
+
+impl fmt::Debug for UnwindRegsX86_64 {
+    fn fmt(&self, f: &mut fmt::Formatter<'_>) -> fmt::Result {
+        write!(f, "UnwindRegsX86_64 {{ ip: {:#x}, general: {:#x?} }}", self.0.ip, self.0.general)
+    }
+}
+
+unwinder!(
+    UnwinderX86_64,
+    CacheX86_64,
+    UnwindRegsX86_64,
+    framehop_cache_x86_64_new,
+    framehop_cache_x86_64_stats,
+    framehop_unwinder_x86_64_new,
+    framehop_unwinder_x86_64_clone,
+    framehop_unwinder_x86_64_add_module,
+    framehop_unwinder_x86_64_remove_module,
+    framehop_unwinder_x86_64_max_known_code_address,
+    framehop_unwinder_x86_64_walk,
+    framehop_unwinder_x86_64_unwind_frame
+);

@@ -1,0 +1,445 @@
+//! The calls for x86_64.
+ghost use Rattle.std.specs.Prelude.{◌≡◌, ◌≢◌, ◌≤◌, ◌<◌, ◌-◌, ◌^◌, ◌+◌, length, drop, true, false, [], None, Some, MatchOption, IfSome, ◌⊎◌, ◌↔◌};
+ghost use Rattle.framehop.specs.Modules.{greatest_end};
+ghost use Rattle.framehop.specs.Fresh.{step};
+ghost use Rattle.framehop.specs.Soundness.{MayRunOut, cache_after, cache_after_lookup};
+ghost use Rattle.framehop.specs.X86_64.{x86_64, IsSoundX86_64};
+ghost use Rattle.framehop_cache.specs.Cache.{empty_cache};
+ghost use Rattle.framehop_lent.specs.Window.{words_from, words_in, told_in};
+ghost use Rattle.framehop_lent.specs.Walk.{BeginsWalk};
+ghost use Rattle.framehop_c.specs.Status.{ok, out_of_memory, wrong_handle, generations_exhausted};
+ghost use Rattle.framehop_c.specs.Told.{IsToldWalk, IsToldStep, IsNullStep, IsStats, location_at, is_null_return, module_of};
+ghost use Rattle.framehop_c.specs.Objects.{generations_in, ForGenerations, policy_for, IsAddition, IsRemoval};
+ghost use Rattle.framehop_c.specs.X86_64.{registers_in, unwinder_in, cache_in, IsPaired, ForPair, ForUnwinder, StaysSound, walk_over};
+
+use crate::calls::{self, FramehopCacheStats, FramehopStep, FramehopWalk};
+use crate::handle::{Handle, HandlePlace, hand_out};
+use crate::object::Object;
+use crate::sections::FramehopSections;
+use crate::status::{
+    FRAMEHOP_OK, FRAMEHOP_OUT_OF_MEMORY, FRAMEHOP_WRONG_HANDLE, list_error_status,
+};
+use framehop::Unwinder;
+use framehop::x86_64::{CacheX86_64, Reg, UnwindRegsX86_64, UnwinderX86_64};
+use framehop_lent::Window;
+use std::alloc::Global;
+
+/// The registers of x86_64.
+#[repr(C)]
+pub struct FramehopRegistersX86_64 {
+    pub ip: u64,
+    pub rax: u64,
+    pub rdx: u64,
+    pub rcx: u64,
+    pub rbx: u64,
+    pub rsi: u64,
+    pub rdi: u64,
+    pub rbp: u64,
+    pub rsp: u64,
+    pub r8: u64,
+    pub r9: u64,
+    pub r10: u64,
+    pub r11: u64,
+    pub r12: u64,
+    pub r13: u64,
+    pub r14: u64,
+    pub r15: u64,
+}
+
+impl FramehopRegistersX86_64 {
+    /// The registers as the unwinder takes them.
+    fn load(&self) -> UnwindRegsX86_64
+        ensures { result ≡ registers_in self.now }
+    {
+        let mut regs = UnwindRegsX86_64::new(self.ip, self.rsp, self.rbp);
+        regs.set(Reg::RAX, self.rax);
+        regs.set(Reg::RDX, self.rdx);
+        regs.set(Reg::RCX, self.rcx);
+        regs.set(Reg::RBX, self.rbx);
+        regs.set(Reg::RSI, self.rsi);
+        regs.set(Reg::RDI, self.rdi);
+        regs.set(Reg::R8, self.r8);
+        regs.set(Reg::R9, self.r9);
+        regs.set(Reg::R10, self.r10);
+        regs.set(Reg::R11, self.r11);
+        regs.set(Reg::R12, self.r12);
+        regs.set(Reg::R13, self.r13);
+        regs.set(Reg::R14, self.r14);
+        regs.set(Reg::R15, self.r15);
+        regs
+    }
+
+    /// Writes the registers that a call has left.
+    fn store(&mut self, regs: &UnwindRegsX86_64)
+        ensures { registers_in self.new ≡ regs.now }
+    {
+        self.ip = regs.ip();
+        self.rax = regs.get(Reg::RAX);
+        self.rdx = regs.get(Reg::RDX);
+        self.rcx = regs.get(Reg::RCX);
+        self.rbx = regs.get(Reg::RBX);
+        self.rsi = regs.get(Reg::RSI);
+        self.rdi = regs.get(Reg::RDI);
+        self.rbp = regs.bp();
+        self.rsp = regs.sp();
+        self.r8 = regs.get(Reg::R8);
+        self.r9 = regs.get(Reg::R9);
+        self.r10 = regs.get(Reg::R10);
+        self.r11 = regs.get(Reg::R11);
+        self.r12 = regs.get(Reg::R12);
+        self.r13 = regs.get(Reg::R13);
+        self.r14 = regs.get(Reg::R14);
+        self.r15 = regs.get(Reg::R15);
+    }
+}
+
+/// Makes an empty cache.
+#[unsafe(no_mangle)]
+pub extern "C" fn framehop_cache_x86_64_new(
+    alloc: Global,
+    may_allocate: bool,
+    place: &mut HandlePlace,
+) -> i32
+    ensures made { result ≡ ok → cache_in place.new.object ≡ Some (policy_for may_allocate, empty_cache) }
+    ensures statuses { (result ≡ ok) ⊎ (result ≡ out_of_memory) }
+{
+    if may_allocate {
+        match CacheX86_64::new(alloc) {
+            Ok(cache) => hand_out(alloc, Object::CacheX86_64(cache), place),
+            Err(_) => FRAMEHOP_OUT_OF_MEMORY,
+        }
+    } else {
+        match CacheX86_64::new_in(alloc) {
+            Ok(cache) => hand_out(alloc, Object::LimitedCacheX86_64(cache), place),
+            Err(_) => FRAMEHOP_OUT_OF_MEMORY,
+        }
+    }
+}
+
+/// Writes the counts of a cache's lookups.
+#[unsafe(no_mangle)]
+pub extern "C" fn framehop_cache_x86_64_stats(
+    cache: &mut Handle,
+    stats: &mut FramehopCacheStats,
+) -> i32
+    ensures stats { MatchOption (cache_in cache.old.object) (result ≡ wrong_handle)
+        (λ cache. (result ≡ ok) × IsStats stats.new cache.1.stats) }
+    ensures kept { cache.new.object ≡ cache.old.object }
+{
+    let counts = match cache.object_mut() {
+        Object::CacheX86_64(cache) => cache.stats(),
+        Object::LimitedCacheX86_64(cache) => cache.stats(),
+        _ => return FRAMEHOP_WRONG_HANDLE,
+    };
+    stats.store(&counts);
+    FRAMEHOP_OK
+}
+
+/// Makes an unwinder without modules, of the next generation.
+#[unsafe(no_mangle)]
+pub extern "C" fn framehop_unwinder_x86_64_new(
+    alloc: Global,
+    generations: &mut Handle,
+    may_allocate: bool,
+    place: &mut HandlePlace,
+) -> i32
+    ensures made { ForGenerations generations.old.object generations.new.object (λ old new. result ≡ ok →
+        (unwinder_in place.new.object ≡ Some (policy_for may_allocate, record { modules = []; generation = old }))
+        × (new ≡ old + 1) × (old < 2 ^ 64 - 1)) }
+    ensures exhausted { IfSome (generations_in generations.old.object) (λ old. (old ≡ 2 ^ 64 - 1) ↔ (result ≡ generations_exhausted)) }
+    ensures wrong { MatchOption (generations_in generations.old.object) (result ≡ wrong_handle) (λ _. result ≢ wrong_handle) }
+{
+    let Object::Generations(generations) = generations.object_mut() else {
+        return FRAMEHOP_WRONG_HANDLE;
+    };
+    if may_allocate {
+        match UnwinderX86_64::new(alloc, generations) {
+            Ok(unwinder) => hand_out(alloc, Object::UnwinderX86_64(unwinder), place),
+            Err(error) => list_error_status(error),
+        }
+    } else {
+        match UnwinderX86_64::new(alloc, generations) {
+            Ok(unwinder) => hand_out(alloc, Object::LimitedUnwinderX86_64(unwinder), place),
+            Err(error) => list_error_status(error),
+        }
+    }
+}
+
+/// Makes a clone of an unwinder, of the same generation.
+#[unsafe(no_mangle)]
+pub extern "C" fn framehop_unwinder_x86_64_clone(
+    alloc: Global,
+    unwinder: &mut Handle,
+    place: &mut HandlePlace,
+) -> i32
+    ensures made { MatchOption (unwinder_in unwinder.old.object) (result ≡ wrong_handle) (λ unwinder.
+        ((result ≡ ok) × (unwinder_in place.new.object ≡ Some unwinder)) ⊎ (result ≡ out_of_memory)) }
+    ensures kept { unwinder.new.object ≡ unwinder.old.object }
+{
+    match unwinder.object_mut() {
+        Object::UnwinderX86_64(unwinder) => match unwinder.clone() {
+            Ok(copy) => hand_out(alloc, Object::UnwinderX86_64(copy), place),
+            Err(_) => FRAMEHOP_OUT_OF_MEMORY,
+        },
+        Object::LimitedUnwinderX86_64(unwinder) => match unwinder.clone() {
+            Ok(copy) => hand_out(alloc, Object::LimitedUnwinderX86_64(copy), place),
+            Err(_) => FRAMEHOP_OUT_OF_MEMORY,
+        },
+        _ => FRAMEHOP_WRONG_HANDLE,
+    }
+}
+
+/// Makes a module of its addresses (AVMAs) and sections, and adds it to an unwinder.
+#[unsafe(no_mangle)]
+pub extern "C" fn framehop_unwinder_x86_64_add_module(
+    alloc: Global,
+    unwinder: &mut Handle,
+    generations: &mut Handle,
+    avma_start: u64,
+    avma_end: u64,
+    base_avma: u64,
+    sections: &FramehopSections,
+) -> i32
+    ensures added { ForUnwinder unwinder.old.object unwinder.new.object (λ policy old new.
+        ForGenerations generations.old.object generations.new.object (λ before after.
+        IsAddition (module_of avma_start avma_end base_avma sections.now) result old new before after)) }
+    ensures wrong { MatchOption (generations_in generations.old.object) (result ≡ wrong_handle) (λ _.
+        MatchOption (unwinder_in unwinder.old.object) (result ≡ wrong_handle) (λ _. result ≢ wrong_handle)) }
+    ensures refused { result ≢ ok → (unwinder.new.object ≡ unwinder.old.object) × (generations.new.object ≡ generations.old.object) }
+{
+    let Object::Generations(generations) = generations.object_mut() else {
+        return FRAMEHOP_WRONG_HANDLE;
+    };
+    let avma = avma_start..avma_end;
+    match unwinder.object_mut() {
+        Object::UnwinderX86_64(unwinder) => {
+            calls::add_module(alloc, unwinder, generations, avma, base_avma, sections)
+        }
+        Object::LimitedUnwinderX86_64(unwinder) => {
+            calls::add_module(alloc, unwinder, generations, avma, base_avma, sections)
+        }
+        _ => FRAMEHOP_WRONG_HANDLE,
+    }
+}
+
+/// Removes the newest module of a start (AVMA), if there is one.
+#[unsafe(no_mangle)]
+pub extern "C" fn framehop_unwinder_x86_64_remove_module(
+    unwinder: &mut Handle,
+    generations: &mut Handle,
+    avma_start: u64,
+) -> i32
+    ensures removed { ForUnwinder unwinder.old.object unwinder.new.object (λ policy old new.
+        ForGenerations generations.old.object generations.new.object (λ before after.
+        IsRemoval avma_start result old new before after)) }
+    ensures wrong { MatchOption (generations_in generations.old.object) (result ≡ wrong_handle) (λ _.
+        MatchOption (unwinder_in unwinder.old.object) (result ≡ wrong_handle) (λ _. result ≢ wrong_handle)) }
+    ensures refused { result ≢ ok → (unwinder.new.object ≡ unwinder.old.object) × (generations.new.object ≡ generations.old.object) }
+{
+    let Object::Generations(generations) = generations.object_mut() else {
+        return FRAMEHOP_WRONG_HANDLE;
+    };
+    match unwinder.object_mut() {
+        Object::UnwinderX86_64(unwinder) => {
+            calls::remove_module(unwinder, generations, avma_start)
+        }
+        Object::LimitedUnwinderX86_64(unwinder) => {
+            calls::remove_module(unwinder, generations, avma_start)
+        }
+        _ => FRAMEHOP_WRONG_HANDLE,
+    }
+}
+
+/// Writes the greatest end of a module (AVMA), or 0 without modules.
+#[unsafe(no_mangle)]
+pub extern "C" fn framehop_unwinder_x86_64_max_known_code_address(
+    unwinder: &mut Handle,
+    address: &mut u64,
+) -> i32
+    ensures greatest { MatchOption (unwinder_in unwinder.old.object) (result ≡ wrong_handle)
+        (λ unwinder. (result ≡ ok) × (address.new ≡ greatest_end unwinder.1.modules)) }
+    ensures kept { unwinder.new.object ≡ unwinder.old.object }
+{
+    *address = match unwinder.object_mut() {
+        Object::UnwinderX86_64(unwinder) => unwinder.max_known_code_address(),
+        Object::LimitedUnwinderX86_64(unwinder) => unwinder.max_known_code_address(),
+        _ => return FRAMEHOP_WRONG_HANDLE,
+    };
+    FRAMEHOP_OK
+}
+
+/// Walks by an unwinder and a cache of one policy: [`calls::walk`].
+fn walk_by(
+    unwinder: &Object,
+    cache: &mut Object,
+    pc: u64,
+    regs: &mut UnwindRegsX86_64,
+    stack: &Window<'_>,
+    frames: &mut [u64],
+    told: &mut FramehopWalk,
+) -> i32
+    ensures wrong { IsPaired unwinder.now cache.old (result ≡ wrong_handle) }
+    ensures fits { told.new.frame_count ≤ length frames.old }
+    ensures others { drop told.new.frame_count frames.new ≡ drop told.new.frame_count frames.old }
+    ensures stays_sound { ForPair unwinder.now cache.old cache.new StaysSound }
+    ensures answers { ForPair unwinder.now cache.old cache.new (λ policy unwinder old new. IsSoundX86_64 policy unwinder old →
+        let whole = walk_over policy unwinder (words_from stack.now.base stack.now.words.now) (length frames.old) pc regs.old in
+        BeginsWalk whole told.new.frame_count frames.new
+        × (result ≢ out_of_memory → IsToldWalk whole result told.new frames.new regs.new)) }
+{
+    *told = FramehopWalk::nothing();
+    match unwinder {
+        Object::UnwinderX86_64(unwinder) => match cache {
+            Object::CacheX86_64(cache) => {
+                calls::walk(unwinder, cache, pc, regs, stack, frames, told)
+            }
+            _ => FRAMEHOP_WRONG_HANDLE,
+        },
+        Object::LimitedUnwinderX86_64(unwinder) => match cache {
+            Object::LimitedCacheX86_64(cache) => {
+                calls::walk(unwinder, cache, pc, regs, stack, frames, told)
+            }
+            _ => FRAMEHOP_WRONG_HANDLE,
+        },
+        _ => FRAMEHOP_WRONG_HANDLE,
+    }
+}
+
+/// Walks a stack over the words of a window, from an instruction pointer (AVMA) and initial
+/// registers on: writes the addresses (AVMAs) of its frames, and the registers at its end.
+#[unsafe(no_mangle)]
+pub extern "C" fn framehop_unwinder_x86_64_walk(
+    unwinder: &mut Handle,
+    cache: &mut Handle,
+    pc: u64,
+    registers: &mut FramehopRegistersX86_64,
+    stack: &Window<'_>,
+    frames: &mut [u64],
+    told: &mut FramehopWalk,
+) -> i32
+    ensures wrong { IsPaired unwinder.old.object cache.old.object (result ≡ wrong_handle) }
+    ensures kept { unwinder.new.object ≡ unwinder.old.object }
+    ensures fits { told.new.frame_count ≤ length frames.old }
+    ensures others { drop told.new.frame_count frames.new ≡ drop told.new.frame_count frames.old }
+    ensures stays_sound { ForPair unwinder.old.object cache.old.object cache.new.object StaysSound }
+    ensures answers { ForPair unwinder.old.object cache.old.object cache.new.object (λ policy unwinder old new. IsSoundX86_64 policy unwinder old →
+        let whole = walk_over policy unwinder (words_from stack.now.base stack.now.words.now) (length frames.old) pc (registers_in registers.old) in
+        BeginsWalk whole told.new.frame_count frames.new
+        × (result ≢ out_of_memory → IsToldWalk whole result told.new frames.new (registers_in registers.new))) }
+{
+    let mut regs = registers.load();
+    let status = walk_by(
+        unwinder.object_mut(),
+        cache.object_mut(),
+        pc,
+        &mut regs,
+        stack,
+        frames,
+        told,
+    );
+    registers.store(&regs);
+    status
+}
+
+/// Unwinds by an unwinder and a cache of one policy: [`calls::unwind_frame`].
+fn unwind_frame_by(
+    unwinder: &Object,
+    cache: &mut Object,
+    address: u64,
+    is_return_address: bool,
+    regs: &mut UnwindRegsX86_64,
+    windows: &[Window<'_>],
+    told: &mut FramehopStep,
+) -> i32
+    ensures wrong { IsPaired unwinder.now cache.old (result ≡ wrong_handle) }
+    ensures kept { result ≢ ok → regs.new ≡ regs.old }
+    ensures missing { told.new.has_missing ≡ true → told_in windows.now told.new.missing ≡ None }
+    ensures null { ForPair unwinder.now cache.old cache.new (λ policy unwinder old new.
+        is_null_return address is_return_address ≡ true → IsNullStep result told.new × (new ≡ old)) }
+    ensures may_run_out { ForPair unwinder.now cache.old cache.new (λ policy unwinder old new.
+        result ≡ out_of_memory → MayRunOut (x86_64 policy) unwinder old (location_at address is_return_address)) }
+    ensures cached { ForPair unwinder.now cache.old cache.new (λ policy unwinder old new.
+        is_null_return address is_return_address ≡ false → result ≢ out_of_memory
+        → new ≡ cache_after (x86_64 policy) unwinder old (location_at address is_return_address)) }
+    ensures not_cached { ForPair unwinder.now cache.old cache.new (λ policy unwinder old new.
+        result ≡ out_of_memory → new ≡ cache_after_lookup unwinder old (location_at address is_return_address)) }
+    ensures stays_sound { ForPair unwinder.now cache.old cache.new StaysSound }
+    ensures answers { ForPair unwinder.now cache.old cache.new (λ policy unwinder old new.
+        is_null_return address is_return_address ≡ false → IsSoundX86_64 policy unwinder old → result ≢ out_of_memory
+        → IsToldStep (step (x86_64 policy) unwinder.modules (location_at address is_return_address) regs.old (words_in windows.now))
+        result told.new regs.old regs.new) }
+{
+    *told = FramehopStep::nothing();
+    match unwinder {
+        Object::UnwinderX86_64(unwinder) => match cache {
+            Object::CacheX86_64(cache) => calls::unwind_frame(
+                unwinder,
+                cache,
+                address,
+                is_return_address,
+                regs,
+                windows,
+                told,
+            ),
+            _ => FRAMEHOP_WRONG_HANDLE,
+        },
+        Object::LimitedUnwinderX86_64(unwinder) => match cache {
+            Object::LimitedCacheX86_64(cache) => calls::unwind_frame(
+                unwinder,
+                cache,
+                address,
+                is_return_address,
+                regs,
+                windows,
+                told,
+            ),
+            _ => FRAMEHOP_WRONG_HANDLE,
+        },
+        _ => FRAMEHOP_WRONG_HANDLE,
+    }
+}
+
+/// Unwinds a single frame over the words of windows, and writes the caller's registers where it
+/// finds a return address.
+#[unsafe(no_mangle)]
+pub extern "C" fn framehop_unwinder_x86_64_unwind_frame(
+    unwinder: &mut Handle,
+    cache: &mut Handle,
+    address: u64,
+    is_return_address: bool,
+    registers: &mut FramehopRegistersX86_64,
+    windows: &[Window<'_>],
+    told: &mut FramehopStep,
+) -> i32
+    ensures wrong { IsPaired unwinder.old.object cache.old.object (result ≡ wrong_handle) }
+    ensures unwinder { unwinder.new.object ≡ unwinder.old.object }
+    ensures kept { result ≢ ok → registers_in registers.new ≡ registers_in registers.old }
+    ensures missing { told.new.has_missing ≡ true → told_in windows.now told.new.missing ≡ None }
+    ensures null { ForPair unwinder.old.object cache.old.object cache.new.object (λ policy unwinder old new.
+        is_null_return address is_return_address ≡ true → IsNullStep result told.new × (new ≡ old)) }
+    ensures may_run_out { ForPair unwinder.old.object cache.old.object cache.new.object (λ policy unwinder old new.
+        result ≡ out_of_memory → MayRunOut (x86_64 policy) unwinder old (location_at address is_return_address)) }
+    ensures cached { ForPair unwinder.old.object cache.old.object cache.new.object (λ policy unwinder old new.
+        is_null_return address is_return_address ≡ false → result ≢ out_of_memory
+        → new ≡ cache_after (x86_64 policy) unwinder old (location_at address is_return_address)) }
+    ensures not_cached { ForPair unwinder.old.object cache.old.object cache.new.object (λ policy unwinder old new.
+        result ≡ out_of_memory → new ≡ cache_after_lookup unwinder old (location_at address is_return_address)) }
+    ensures stays_sound { ForPair unwinder.old.object cache.old.object cache.new.object StaysSound }
+    ensures answers { ForPair unwinder.old.object cache.old.object cache.new.object (λ policy unwinder old new.
+        is_null_return address is_return_address ≡ false → IsSoundX86_64 policy unwinder old → result ≢ out_of_memory
+        → IsToldStep (step (x86_64 policy) unwinder.modules (location_at address is_return_address) (registers_in registers.old) (words_in windows.now))
+        result told.new (registers_in registers.old) (registers_in registers.new)) }
+{
+    let mut regs = registers.load();
+    let status = unwind_frame_by(
+        unwinder.object_mut(),
+        cache.object_mut(),
+        address,
+        is_return_address,
+        &mut regs,
+        windows,
+        told,
+    );
+    registers.store(&regs);
+    status
+}
