@@ -5,7 +5,8 @@
  *
  * What the caller sees to:
  * - Each pointer is valid and not null, unless a length of 0 goes with it; the places that a call writes don't overlap.
- * - A handle is what a call named ..._new or ..._clone has written with FRAMEHOP_OK; where a call takes two, they differ.
+ * - A handle is what a call named ..._new or ..._clone has written with FRAMEHOP_OK. Where a call takes two, they
+ *   differ.
  * - A handle is given to framehop_free once, and not used after that.
  * - A handle stays on the thread that made it, and is in one call at a time.
  * - The bytes of a section stay as they are until each unwinder that has its module is freed, clones too.
@@ -224,9 +225,9 @@ static inline int32_t framehop_unwinder_x86_64_walk_with(framehop_handle *unwind
 
 /* Walks with a callback: the step above, again while it asks for a word of which no window tells. Each word is asked
  * for once a frame. With more than 64 words to a frame the walk ends with FRAMEHOP_COULD_NOT_READ_STACK. */
-static inline int32_t framehop_unwinder_aarch64_walk_with(framehop_handle *unwinder, framehop_handle *cache, uint64_t pc,
-    framehop_registers_aarch64 *registers, framehop_read_word read, void *data, uint64_t *frames, size_t frame_capacity,
-    framehop_walk *walk)
+static inline int32_t framehop_unwinder_aarch64_walk_with(framehop_handle *unwinder, framehop_handle *cache,
+    uint64_t pc, framehop_registers_aarch64 *registers, framehop_read_word read, void *data, uint64_t *frames,
+    size_t frame_capacity, framehop_walk *walk)
 {
     walk->frame_count = 0;
     walk->unreadable = 0;

@@ -32,6 +32,12 @@ TYPES = {
     "Global": [],
 }
 
+# a struct of the sources: its name and its fields
+STRUCT = re.compile(r"#\[repr\(C\)\]\n(?:#\[derive[^\n]*\n)?pub struct (\w+)(?:<'a>)? \{(.*?)\n\}", re.S)
+
+# the structs whose names in C don't follow from theirs
+NAMES_IN_C = {"Window": "framehop_window", "HandlePlace": "framehop_handle", "Handle": "framehop_handle"}
+
 
 def snake(name):
     """FramehopRegistersX86_64 as framehop_registers_x86_64."""
@@ -75,10 +81,10 @@ def structs():
     found = {}
     lent = TOP / "crates/framehop_lent/src/window.rt"
     for source in SOURCES + [lent]:
-        for name, body in re.findall(r"#\[repr\(C\)\]\n(?:#\[derive[^\n]*\n)?pub struct (\w+)(?:<'a>)? \{(.*?)\n\}", source.read_text(), re.S):
+        for name, body in STRUCT.findall(source.read_text()):
             body = re.sub(r"///[^\n]*|//[^\n]*|pub ghost[^\n]*", "", body)
             fields = [re.sub(r"^pub ", "", part).split(":", 1) for part in parts_of(body)]
-            name = {"Window": "framehop_window", "HandlePlace": "framehop_handle", "Handle": "framehop_handle"}.get(name, snake(name))
+            name = NAMES_IN_C.get(name, snake(name))
             found[name] = [(field.strip(), kind) for field, text in fields for kind in in_c(text)]
     return found
 
@@ -129,8 +135,9 @@ def main():
             wrong.append(f"{name}: not in the header")
         elif [kind for _, kind in found[name]] != kinds:
             wrong.append(f"{name}: {kinds} in the sources, {found[name]} in the header")
-        elif not name == "framehop_window" and [field for field, _ in found[name]] != [field for field, kind in fields if field != "alloc"]:
-            wrong.append(f"{name}: the fields {[field for field, _ in fields]} in the sources, {found[name]} in the header")
+        names = [field for field, _ in fields if field != "alloc"]
+        if name != "framehop_window" and [field for field, _ in found.get(name, [])] != names:
+            wrong.append(f"{name}: the fields {names} in the sources, {found.get(name)} in the header")
     if numbers() != values:
         wrong.append(f"the numbers: {numbers()} in the sources, {values} in the header")
     print("\n".join(wrong) or f"{len(here)} functions, {len(structs())} structs and {len(values)} numbers agree")

@@ -27,7 +27,8 @@ for section in add["sections"]:
         print(f"static const uint8_t {name}[] = {{{', '.join(map(str, data))}}};")
     place = f"{{{name}, sizeof {name}}}" if data else "{0, 0}"
     flags = f"{str('svma' in section).lower()}, {str(bool(data)).lower()}"
-    lines.append(f"    sections.{name} = (framehop_section){{{hexadecimal(start)}, {hexadecimal(end)}, {place}, {flags}}};")
+    lies = f"{hexadecimal(start)}, {hexadecimal(end)}"
+    lines.append(f"    sections.{name} = (framehop_section){{{lies}, {place}, {flags}}};")
 print("#define SECTIONS(sections) do { \\")
 print(" \\\n".join(lines) + " \\")
 print("} while (0)")

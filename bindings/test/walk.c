@@ -54,7 +54,8 @@ static int walk(bool may_allocate, uint64_t *frames, size_t *count)
     CHECK(framehop_generations_new(&generations));
     CHECK(framehop_cache_x86_64_new(may_allocate, &cache));
     CHECK(framehop_unwinder_x86_64_new(&generations, may_allocate, &unwinder));
-    CHECK(framehop_unwinder_x86_64_add_module(&unwinder, &generations, MODULE_START, MODULE_END, MODULE_BASE, &sections));
+    CHECK(framehop_unwinder_x86_64_add_module(&unwinder, &generations, MODULE_START, MODULE_END, MODULE_BASE,
+        &sections));
     CHECK(framehop_unwinder_x86_64_max_known_code_address(&unwinder, &greatest));
     if (greatest != MODULE_END)
         return failed("the greatest address", 0);
@@ -74,15 +75,18 @@ static int walk(bool may_allocate, uint64_t *frames, size_t *count)
     registers.ip = PC;
     registers.rsp = SP;
     registers.rbp = BP;
-    status = framehop_unwinder_x86_64_walk_with(&clone, &cache, PC, &registers, read_word, &stack, again, CAPACITY, &told);
+    status = framehop_unwinder_x86_64_walk_with(&clone, &cache, PC, &registers, read_word, &stack, again, CAPACITY,
+        &told);
     if (status != FRAMEHOP_END || told.frame_count != *count || memcmp(again, frames, *count * sizeof *frames))
         return failed("the walk by a callback", status);
     CHECK(framehop_cache_x86_64_stats(&cache, &stats));
-    if (stats.hit_count + stats.miss_empty_slot_count + stats.miss_wrong_modules_count + stats.miss_wrong_address_count < 2 * *count - 2)
+    if (stats.hit_count + stats.miss_empty_slot_count + stats.miss_wrong_modules_count
+            + stats.miss_wrong_address_count < 2 * *count - 2)
         return failed("the counts of the cache", 0);
 
     /* what is of another kind, architecture or policy */
-    if (framehop_unwinder_x86_64_walk(&unwinder, &generations, PC, &registers, &window, again, CAPACITY, &told) != FRAMEHOP_WRONG_HANDLE
+    if (framehop_unwinder_x86_64_walk(&unwinder, &generations, PC, &registers, &window, again, CAPACITY, &told)
+            != FRAMEHOP_WRONG_HANDLE
         || framehop_unwinder_aarch64_new(&cache, may_allocate, &clone) != FRAMEHOP_WRONG_HANDLE
         || framehop_cache_aarch64_stats(&cache, &stats) != FRAMEHOP_WRONG_HANDLE)
         return failed("a wrong handle", 0);

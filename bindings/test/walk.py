@@ -22,7 +22,9 @@ class Section(Structure):
     ]
 
 
-NAMES = "text stubs stub_helper got unwind_info eh_frame eh_frame_hdr debug_frame text_segment pdata rdata xdata".split()
+NAMES = (
+    "text stubs stub_helper got unwind_info eh_frame eh_frame_hdr debug_frame text_segment pdata rdata xdata"
+).split()
 
 
 class Sections(Structure):

@@ -2,11 +2,10 @@
 use crate::unwinder::{Unwinder, end_of, step_with, unwinder};
 use crate::{
     AllocationPolicy, CacheStats, Error, FrameAddress, Generations, MayAllocateDuringUnwind, Module, ModuleListError,
-    Owned, raw,
+    Owned, SectionData, raw,
 };
 use std::fmt;
 use std::marker::PhantomData;
-use std::ops::Deref;
 use std::rc::Rc;
 
 /// The bits of a pointer that are its address.

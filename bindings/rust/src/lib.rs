@@ -15,7 +15,7 @@ mod raw;
 mod unwinder;
 pub mod x86_64;
 
-pub use module::{ExplicitModuleSectionInfo, Module, ModuleSectionInfo};
+pub use module::{ExplicitModuleSectionInfo, Module, ModuleSectionInfo, SectionData};
 pub use raw::CacheStats;
 pub use unwinder::{UnwindIterator, Unwinder};
 

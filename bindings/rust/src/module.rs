@@ -1,6 +1,24 @@
 //! Modules and their sections.
 use crate::raw;
 use std::ops::{Deref, Range};
+use std::rc::Rc;
+use std::sync::Arc;
+
+mod sealed {
+    pub trait Data {}
+}
+
+/// What holds the bytes of a section, and lends the same bytes each time. Other types lend a slice, `&[u8]`.
+pub trait SectionData: Deref<Target = [u8]> + sealed::Data {}
+
+macro_rules! section_data {
+    ($($data:ty),*) => {$(
+        impl sealed::Data for $data {}
+        impl SectionData for $data {}
+    )*};
+}
+
+section_data!(&[u8], Vec<u8>, Box<[u8]>, Rc<[u8]>, Arc<[u8]>);
 
 /// How a module lends the bytes of its sections, and tells where they lie (SVMAs).
 pub trait ModuleSectionInfo<D> {
@@ -118,7 +136,7 @@ struct Section<D> {
     data: Option<D>,
 }
 
-impl<D: Deref<Target = [u8]>> Section<D> {
+impl<D: SectionData> Section<D> {
     /// The section under the first of these names that has data, with the range of the first that has one.
     fn of<I: ModuleSectionInfo<D>>(info: &mut I, names: &[&[u8]]) -> Self {
         Section {
@@ -141,7 +159,7 @@ impl<D: Deref<Target = [u8]>> Section<D> {
 }
 
 /// A module that is loaded in a process, with the data of its sections.
-pub struct Module<D: Deref<Target = [u8]>> {
+pub struct Module<D: SectionData> {
     name: String,
     avma_range: Range<u64>,
     base_avma: u64,
@@ -160,7 +178,7 @@ pub struct Module<D: Deref<Target = [u8]>> {
     xdata: Section<D>,
 }
 
-impl<D: Deref<Target = [u8]>> Module<D> {
+impl<D: SectionData> Module<D> {
     /// A module that is loaded at the addresses (AVMAs) of a range, whose relative address 0 is `base_avma`.
     pub fn new(
         name: String,

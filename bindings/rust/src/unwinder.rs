@@ -203,7 +203,7 @@ macro_rules! unwinder {
         }
 
         /// An unwinder. It keeps its modules, whose bytes stay where they are as long as it or a clone has them.
-        pub struct $unwinder<D: Deref<Target = [u8]>, P: AllocationPolicy = MayAllocateDuringUnwind> {
+        pub struct $unwinder<D: SectionData, P: AllocationPolicy = MayAllocateDuringUnwind> {
             // freed before the modules
             unwinder: Owned,
             generations: Generations,
@@ -211,7 +211,7 @@ macro_rules! unwinder {
             policy: PhantomData<P>,
         }
 
-        impl<D: Deref<Target = [u8]>, P: AllocationPolicy> $unwinder<D, P> {
+        impl<D: SectionData, P: AllocationPolicy> $unwinder<D, P> {
             /// An unwinder without modules.
             ///
             /// # Panics
@@ -237,13 +237,13 @@ macro_rules! unwinder {
             }
         }
 
-        impl<D: Deref<Target = [u8]>, P: AllocationPolicy> Clone for $unwinder<D, P> {
+        impl<D: SectionData, P: AllocationPolicy> Clone for $unwinder<D, P> {
             fn clone(&self) -> Self {
                 self.try_clone().expect("out of memory")
             }
         }
 
-        impl<D: Deref<Target = [u8]>, P: AllocationPolicy> Unwinder for $unwinder<D, P> {
+        impl<D: SectionData, P: AllocationPolicy> Unwinder for $unwinder<D, P> {
             type UnwindRegs = $regs;
             type Cache = $cache<P>;
             type Module = Module<D>;

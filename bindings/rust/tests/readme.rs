@@ -6,7 +6,8 @@ use framehop_rattle::{
     MustNotAllocateDuringUnwind, Unwinder,
 };
 
-const STACK: [u64; 16] = [1, 2, 3, 4, 0x40, 0x1003fc000 + 0x100dc4, 5, 6, 0x70, 0x1003fc000 + 0x12ca28, 7, 8, 9, 10, 0, 0];
+const STACK: [u64; 16] =
+    [1, 2, 3, 4, 0x40, 0x1003fc000 + 0x100dc4, 5, 6, 0x70, 0x1003fc000 + 0x12ca28, 7, 8, 9, 10, 0, 0];
 
 /// The example of framehop's README.
 #[test]
