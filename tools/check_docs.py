@@ -56,12 +56,12 @@ def dead_links(page, text):
 
 
 def tracked():
-    """The files of the repository, those that are not yet committed too; without git all but what `rt` makes."""
-    if (TOP / ".git").exists():
-        command = ["git", "ls-files", "--cached", "--others", "--exclude-standard"]
-        names = subprocess.run(command, cwd=TOP, capture_output=True, text=True, check=True).stdout.split("\n")
-    else:
-        names = [str(file.relative_to(TOP)) for file in TOP.rglob("*") if "out" not in file.parts]
+    """The files of the repository, also those not yet committed; where git can't say, all but what `rt` makes."""
+    command = ["git", "ls-files", "--cached", "--others", "--exclude-standard"]
+    listed = subprocess.run(command, cwd=TOP, capture_output=True, text=True)
+    names = listed.stdout.split("\n")
+    if listed.returncode:
+        names = [str(file.relative_to(TOP)) for file in TOP.rglob("*") if not {"out", ".git"} & {*file.parts}]
     return [name for name in names if name and (TOP / name).is_file()]
 
 
