@@ -16,6 +16,10 @@ use Rattle.framehop.specs.declared.session.commands.Command.{Command}
 use Rattle.framehop.specs.declared.session.commands.Command.TheVariants.{New, Clone, Add, Remove, Step as StepCommand, Walk as WalkCommand, Stats}
 use Rattle.framehop.proofs.CachedWorldLemmas.{modules-at}
 
+-- two facts as one
+pub both : {A B : Type 0} → A → B → A × B
+both a b = (a, b)
+
 -- what holds of a step that answers an address, holds of a call that answers as the step does
 pub answer-means : {Regs : Type 0} (result : Result (Option ℕ) Error) (outcome : Outcome Regs) (old new : Regs) (Means : ℕ → Type 0) → (result ≢ Err NoMemory → (result ≡ answer_of outcome) × (new ≡ registers_after old outcome)) → ((address : ℕ) → outcome ≡ answered address new → Means address) → IfOk result (λ answer. IfSome answer Means)
 answer-means (Err error) outcome old new Means told means = tt

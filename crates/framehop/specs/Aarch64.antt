@@ -1,7 +1,7 @@
 -- Unwinding on aarch64, and a walk to its end, in the words of contracts.
 use Rattle.std.specs.Prelude.{◌≡◌, ◌≢◌, ℕ, ◌+◌, ◌^◌, ◌≤◌, true, List, take, drop, ◌⊎◌, Err}
 use Rattle.framehop_core.specs.Memory.{Memory}
-use Rattle.framehop_core.specs.Outcome.{Outcome, registers_after}
+use Rattle.framehop_core.specs.Outcome.{Outcome, answered, registers_after}
 use Rattle.framehop_core.specs.CodeAddress.{FrameLocation, at_instruction_pointer}
 use Rattle.framehop_core.specs.Aarch64.Registers.{Registers}
 use Rattle.framehop_core.specs.Aarch64.Rules.{outcome}
@@ -77,7 +77,7 @@ aarch64_cache_after policy unwinder cache location =
     record { 0 = cache_after (aarch64 policy) unwinder cache.0 location }
 
 -- A walk to its end: the walk of some limit that it does not reach, and the cache that it leaves. Each step after the
--- first raises sp, so it has at most two frames more than sp has risen since then; and each step means its source.
+-- first raises sp, so it has at most two frames more than sp has risen since then; and each step of it means its source.
 pub record IsWalkToEnd {P Rows Values Stack : Type 0} (policy : Policy) (unwinder : UnwinderView) (memory : Memory)
     (pc : ℕ) (regs : Registers) (reply : CachedReply Registers)
     (old new : CacheAarch64 P Rows Values Stack) : Type 0 where
@@ -90,7 +90,8 @@ pub record IsWalkToEnd {P Rows Values Stack : Type 0} (policy : Policy) (unwinde
       (registers_after regs (aarch64_step policy unwinder memory (at_instruction_pointer pc) regs))
       (walk_from (aarch64_step policy unwinder memory) limit pc regs)
   pub means : IsWalkMeant
-      (λ location before address after. aarch64_means policy unwinder.modules location before memory address after)
+      (λ location before address after. (aarch64_step policy unwinder memory location before ≡ answered address after)
+      × aarch64_means policy unwinder.modules location before memory address after)
       regs (walk_from (aarch64_step policy unwinder memory) limit pc regs)
   pub cached : new ≡ cache_after_walk (aarch64_step policy unwinder memory)
       (aarch64_cache_after policy unwinder) limit pc regs old

@@ -104,7 +104,7 @@ module _ {Rule Regs : Type 0} (readers : Readers Rule Regs) (meanings : Meanings
 
   -- by the unwind data of a module, at a relative address
   abbrev pub MeansData : UnwindData → ℕ → Type 0
-  MeansData no_unwind_data relative = Unit {0}
+  MeansData (no_unwind_data refusal) relative = Unit {0}
   MeansData (call_frames frames) relative = MeansFrames frames relative
   MeansData (pe_sections sections) relative = MeansPe sections relative
   MeansData (compact_info d) relative = MeansCompact d relative

@@ -37,7 +37,7 @@ ask_either first second table =
 -- a call frame section without a header has an index of its FDEs, or else is of no use
 abbrev pub indexed : Result (List (ℕ × ℕ)) DwarfCfiIndexError → CallFrames → UnwindData
 indexed (Ok pairs) frames = call_frames frames
-indexed (Err error) frames = no_unwind_data
+indexed (Err error) frames = no_unwind_data (Some (record { section_type = frames.section.kind; error = error }))
 
 abbrev pub with_index : Section → ℕ → UnwindData
 with_index section base_svma =
@@ -71,7 +71,7 @@ module _ {D : Type 0} (contents : D → List ℕ) where
   abbrev pub debug_frame_data : Option D → SectionTable D → UnwindData
   debug_frame_data (Some debug_frame) table =
       with_index (section_in DebugFrame table (contents debug_frame)) table.base_svma
-  debug_frame_data None table = no_unwind_data
+  debug_frame_data None table = no_unwind_data None
 
   -- `.eh_frame`, else `.debug_frame`
   abbrev pub by_eh_frame : Option D → SectionTable D → UnwindData

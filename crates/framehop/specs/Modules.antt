@@ -4,13 +4,14 @@ use Rattle.std.specs.List.{list_any}
 use Rattle.framehop_pe.specs.Sections.{Sections}
 use Rattle.framehop.specs.CallFrames.{CallFrames}
 use Rattle.framehop.specs.Compact.{CompactData}
+use Rattle.framehop.specs.declared.unwind_data.IndexRefusal.{IndexRefusal}
 use Rattle.framehop.specs.declared.modules.ModuleListError.{ModuleListError}
 use Rattle.framehop.specs.declared.modules.ModuleListError.TheVariants.{GenerationsExhausted}
 use Rattle.std.specs.List.Sorted.{IsNonDecreasingBy}
 
--- what unwind data a module has
+-- what unwind data a module has: none, or an index that was refused; or this
 pub data UnwindData : Type 0 where
-  no_unwind_data : UnwindData
+  no_unwind_data : Option IndexRefusal → UnwindData
   call_frames : CallFrames → UnwindData
   pe_sections : Sections → UnwindData
   compact_info : CompactData → UnwindData

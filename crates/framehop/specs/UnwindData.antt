@@ -23,4 +23,4 @@ unwind_data_of contents (PeUnwindInfo pdata rdata xdata text) =
       text = option_map (placed_data contents) text;
     })
 unwind_data_of contents (CompactUnwindInfoAndEhFrame compact) = compact_info compact
-unwind_data_of contents NoUnwindData = no_unwind_data
+unwind_data_of contents (NoUnwindData refusal) = no_unwind_data refusal

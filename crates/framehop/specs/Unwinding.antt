@@ -40,7 +40,7 @@ pe_answer readers sections relative first =
 -- what unwind data gives for a relative address in a frame of this kind, if anything
 abbrev pub data_answer : {Rule Regs : Type 0} → Readers Rule Regs → Policy → UnwindData → ℕ → Bool
     → Option (Fresh Rule Regs)
-data_answer readers policy no_unwind_data relative first = None
+data_answer readers policy (no_unwind_data refusal) relative first = None
 data_answer readers policy (call_frames frames) relative first = frames_answer readers.rows policy frames relative first
 data_answer readers policy (pe_sections sections) relative first = pe_answer readers sections relative first
 data_answer readers policy (compact_info d) relative first =
@@ -48,7 +48,7 @@ data_answer readers policy (compact_info d) relative first =
 
 -- finding that out may take memory: by the row of an FDE only
 abbrev pub data_may_take_memory : {Rule Regs : Type 0} → Readers Rule Regs → Policy → UnwindData → ℕ → Bool → Bool
-data_may_take_memory readers policy no_unwind_data relative first = false
+data_may_take_memory readers policy (no_unwind_data refusal) relative first = false
 data_may_take_memory readers policy (call_frames frames) relative first =
     fde_may_take_memory policy frames relative (fde_offset_of frames relative)
 data_may_take_memory readers policy (pe_sections sections) relative first = false

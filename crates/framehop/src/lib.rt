@@ -8,7 +8,7 @@ pub mod dwarf;
 pub mod iterator;
 pub mod modules;
 pub mod session;
-mod unwind_data;
+pub mod unwind_data;
 pub mod unwinder;
 pub mod x86_64;
 

@@ -164,6 +164,26 @@ impl<D: SectionBytes + Drop> Module<D> {
         })
     }
 
+    /// The same module at other addresses (AVMAs), from `avma_range.start` to below `avma_range.end`,
+    /// with its relative address 0 at `base_avma`. It shares the unwind data, and no index is made
+    /// anew.
+    pub fn placed_at(&self, avma_range: Range<u64>, base_avma: u64) -> Result<Self, AllocError>
+        ensures { IfOk result (λ made. made ≡ record {
+          name = self.now.name;
+          start = avma_range.start;
+          end = avma_range.end;
+          base_avma = base_avma;
+          unwind_data = self.now.unwind_data;
+        }) }
+    {
+        Ok(Module {
+            name: self.name.clone()?,
+            avma_range,
+            base_avma,
+            unwind_data: self.unwind_data.clone()?,
+        })
+    }
+
     /// The module's addresses (AVMAs).
     pub fn avma_range(&self) -> Range<u64>
         ensures start { result.start ≡ self.now.start }
@@ -184,6 +204,13 @@ impl<D: SectionBytes + Drop> Module<D> {
         ensures { result.now ≡ self.now.name }
     {
         self.name.as_str()
+    }
+
+    /// The module's unwind data.
+    pub fn unwind_data(&self) -> &ModuleUnwindDataInternal<D>
+        ensures { unwind_data_of D.contents result.now ≡ self.now.unwind_data }
+    {
+        &*self.unwind_data
     }
 
     // whether the module starts at or below the address
@@ -297,8 +324,8 @@ where
 }
 
 impl<D: SectionBytes> IndexedFrames<D> {
-    // the offset of the FDE for a relative address, if there is one
-    fn fde_offset(&self, relative_address: u32) -> Option<u32>
+    /// The offset of the FDE for a relative address, if there is one.
+    pub fn fde_offset(&self, relative_address: u32) -> Option<u32>
         ensures { result ≡ fde_offset_of self.now relative_address }
     {
         self.index.fde_offset_for_relative_address(relative_address)
@@ -353,8 +380,8 @@ impl<D: SectionBytes> IndexedFrames<D> {
 }
 
 impl<D: SectionBytes> CompactInfo<D> {
-    // what the info gives: a rule, or the offset of an FDE
-    fn unwind_frame_by_info<A: Unwinding>(
+    /// What the info gives: a rule, or the offset of an FDE.
+    pub fn unwind_frame_by_info<A: Unwinding>(
         &self,
         relative_address: u32,
         is_first_frame: bool,
@@ -500,8 +527,8 @@ where
     }
 }
 
-// the data of a section that a module may not have, lent
-fn lent<D>(section: &Option<DataAtRvaRange<D>>) -> Option<&DataAtRvaRange<D>>
+/// The data of a section that a module may not have, lent.
+pub fn lent<D>(section: &Option<DataAtRvaRange<D>>) -> Option<&DataAtRvaRange<D>>
     ensures { (contents : D → List ℕ) → placed_of contents result ≡ option_map (placed_data contents) section.now }
 {
     match section {
@@ -595,7 +622,7 @@ impl<D: SectionBytes> Module<D> {
                 regs,
                 read_stack,
             ),
-            ModuleUnwindDataInternal::None => Err(UnwinderError::NoModuleUnwindData),
+            ModuleUnwindDataInternal::None(_) => Err(UnwinderError::NoModuleUnwindData),
         }
     }
 }

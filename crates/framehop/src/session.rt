@@ -6,6 +6,7 @@ ghost use Rattle.framehop.specs.World.{empty_world, world_replies};
 ghost use Rattle.framehop.specs.Soundness.{AreApart};
 ghost use Rattle.framehop.specs.CachedWorld.{empty_cached_world, cached_replies, next_after_all, world_result, EachReply};
 ghost use Rattle.framehop.specs.Fresh.{step};
+ghost use Rattle.framehop.specs.Outcome.{answered};
 ghost use Rattle.framehop.specs.Rise.{IsReplyWithinRise};
 ghost use Rattle.framehop.specs.Meaning.{MeansAt};
 ghost use Rattle.framehop.specs.Meant.{IsReplyMeant};
@@ -49,7 +50,8 @@ pub fn run<D: SectionBytes + Drop, A: Unwinding, P: AllocationPolicy>(
     ensures drawn_at_most { generations.new ≤ generations.old + length commands.items }
     ensures bounded { IfOk result (λ replies. EachReply (IsReplyWithinRise (A.unwinding P.policy))
         (empty_world generations.old) commands.items (map reply_view replies.items)) }
-    ensures means { IfOk result (λ replies. EachReply (IsReplyMeant (MeansAt A.readers A.meanings A.UnwindRule.outcome P.policy))
+    ensures means { IfOk result (λ replies. EachReply (IsReplyMeant (λ modules location old memory address new. (step (A.unwinding P.policy) modules location old memory ≡ answered address new)
+        × MeansAt A.readers A.meanings A.UnwindRule.outcome P.policy modules location old memory address new))
         (empty_world generations.old) commands.items (map reply_view replies.items)) }
 {
     let mut session: Session<D, A, P> = Session::new(alloc, cache_count)?;

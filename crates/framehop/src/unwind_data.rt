@@ -23,7 +23,7 @@ use std::ops::Range;
 
 /// What unwind data a module has. Clones of a module share it.
 #[derive(Drop)]
-pub(crate) enum ModuleUnwindDataInternal<D: SectionBytes> {
+pub enum ModuleUnwindDataInternal<D: SectionBytes> {
     /// `__unwind_info`, `__eh_frame`, the code and the stubs.
     CompactUnwindInfoAndEhFrame(CompactInfo<D>),
     /// `.eh_frame`, and its table of FDEs.
@@ -43,22 +43,29 @@ pub(crate) enum ModuleUnwindDataInternal<D: SectionBytes> {
         xdata: Option<DataAtRvaRange<D>>,
         text: Option<DataAtRvaRange<D>>,
     },
-    /// None that can be read.
-    None,
+    /// None that can be used, or an index of the FDEs that was refused.
+    None(Option<IndexRefusal>),
+}
+
+/// A call frame section whose index was refused, and why.
+#[derive(Clone, Copy, Debug, PartialEq, Eq)]
+pub struct IndexRefusal {
+    pub section_type: UnwindSectionType,
+    pub error: DwarfCfiIndexError,
 }
 
 /// The compact unwind info of a module, with what it needs.
 #[derive(Drop)]
-pub(crate) struct CompactInfo<D: SectionBytes> {
-    pub(crate) unwind_info: D,
-    pub(crate) eh_frame: Option<D>,
-    pub(crate) text: Option<TextByteData<D>>,
+pub struct CompactInfo<D: SectionBytes> {
+    pub unwind_info: D,
+    pub eh_frame: Option<D>,
+    pub text: Option<TextByteData<D>>,
     /// Where `__stubs` and `__stub_helper` lie, as relative addresses.
-    pub(crate) stubs: (u32, u32),
-    pub(crate) stub_helper: (u32, u32),
-    pub(crate) base_addresses: BaseAddresses,
+    pub stubs: (u32, u32),
+    pub stub_helper: (u32, u32),
+    pub base_addresses: BaseAddresses,
     /// The module's base, an SVMA.
-    pub(crate) base_svma: u64,
+    pub base_svma: u64,
 }
 
 impl<D: SectionBytes> Model for CompactInfo<D> {
@@ -82,20 +89,20 @@ impl<D: SectionBytes> Model for CompactInfo<D> {
 
 /// The code of a module, and the relative address where it begins.
 #[derive(Drop)]
-pub(crate) struct TextByteData<D> {
-    pub(crate) bytes: D,
-    pub(crate) offset_from_base: u32,
+pub struct TextByteData<D> {
+    pub bytes: D,
+    pub offset_from_base: u32,
 }
 
 /// A call frame section, and an index of its FDEs.
 #[derive(Drop)]
-pub(crate) struct IndexedFrames<D: SectionBytes> {
-    pub(crate) index: DwarfCfiIndex,
-    pub(crate) section_data: D,
-    pub(crate) section_type: UnwindSectionType,
-    pub(crate) base_addresses: BaseAddresses,
+pub struct IndexedFrames<D: SectionBytes> {
+    pub index: DwarfCfiIndex,
+    pub section_data: D,
+    pub section_type: UnwindSectionType,
+    pub base_addresses: BaseAddresses,
     /// The module's base, an SVMA.
-    pub(crate) base_svma: u64,
+    pub base_svma: u64,
 }
 
 impl<D: SectionBytes> Model for IndexedFrames<D> {
@@ -184,7 +191,7 @@ impl<D: SectionBytes + Drop> ModuleUnwindDataInternal<D> {
                     section_info,
                 )
             }
-            None => Ok(ModuleUnwindDataInternal::None),
+            None => Ok(ModuleUnwindDataInternal::None(None)),
         }
     }
 
@@ -239,7 +246,10 @@ impl<D: SectionBytes + Drop> ModuleUnwindDataInternal<D> {
                 if error == DwarfCfiIndexError::Gimli(ReadError::OutOfMemory) {
                     return Err(ModuleListError::OutOfMemory);
                 }
-                Ok(ModuleUnwindDataInternal::None)
+                Ok(ModuleUnwindDataInternal::None(Some(IndexRefusal {
+                    section_type,
+                    error,
+                })))
             }
         }
     }

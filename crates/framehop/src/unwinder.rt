@@ -495,6 +495,13 @@ impl<D: SectionBytes + Drop, A: Unwinding, P: AllocationPolicy> UnwinderInternal
         })
     }
 
+    /// The modules, in the order of their starts.
+    pub fn modules(&self) -> &[Module<D>]
+        ensures { result.now ≡ self.now.modules }
+    {
+        self.modules.as_slice()
+    }
+
     // the place after the modules that start at or below the address
     fn place_after(&self, address: u64) -> usize
         ensures within { result ≤ length self.now.modules }
@@ -530,8 +537,8 @@ impl<D: SectionBytes + Drop, A: Unwinding, P: AllocationPolicy> UnwinderInternal
         }
     }
 
-    // the covering module of an address, and the relative address
-    fn find_module_for_address(&self, address: u64) -> Option<(&Module<D>, u32)>
+    /// The covering module of an address (AVMA), and the relative address.
+    pub fn find_module_for_address(&self, address: u64) -> Option<(&Module<D>, u32)>
         ensures { MatchOption result (covering self.now.modules address ≡ None)
             (λ found. (covering self.now.modules address ≡ Some found.0.now)
             × (found.1 ≡ address - found.0.now.base_avma)) }

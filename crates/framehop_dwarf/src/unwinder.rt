@@ -93,7 +93,7 @@ impl<'a, A, S: UnwindContextStorage> DwarfUnwinder<'a, A, S> {
 /// Makes the row of an address, by the FDE at an offset: whether there is one. Without an FDE it is an
 /// error.
 #[tactic(auto, unfolding(crate::specs::Unwinder::reading_of))]
-fn find_row<S: UnwindContextStorage>(
+pub fn find_row<S: UnwindContextStorage>(
     section: &UnwindSection,
     base_svma: u64,
     rel_lookup_address: u32,

@@ -301,7 +301,7 @@ impl<'a, A: CompactUnwindInfoUnwinding> CompactUnwindInfoUnwinder<'a, A> {
 
 /// Returns the function of an address (relative) in the bytes of `__unwind_info`.
 #[tactic(auto, unfolding(crate::specs::UnwindInfo::function_of))]
-fn find_function(bytes: &[u8], address: u32) -> Result<Option<Function>, CompactReadError>
+pub fn find_function(bytes: &[u8], address: u32) -> Result<Option<Function>, CompactReadError>
     ensures exact { result ≡ function_of bytes.now address }
     ensures covers { IfOk result (λ found. IfSome found (Covers address)) }
     ensures outside { result ≡ Ok None → HasNoFunction bytes.now address }
@@ -334,7 +334,7 @@ fn unwind_frame_of_function<A: CompactUnwindInfoUnwinding>(
 }
 
 /// Returns the code of a function, if all of it is there.
-fn code_of_function(text_bytes: Option<TextBytes<'_>>, function: Function) -> Option<&[u8]>
+pub fn code_of_function(text_bytes: Option<TextBytes<'_>>, function: Function) -> Option<&[u8]>
     ensures code { option_copied result ≡ code_of (option_map text_of text_bytes.entry) function }
     ensures whole { IfSome result (λ code. length code.now ≡ function.end_address - function.start_address) }
 {
@@ -342,7 +342,7 @@ fn code_of_function(text_bytes: Option<TextBytes<'_>>, function: Function) -> Op
 }
 
 /// Whether an address lies in a range, whose second address is the one after its end.
-fn is_in(range: (u32, u32), address: u32) -> bool
+pub fn is_in(range: (u32, u32), address: u32) -> bool
     ensures { result ≡ is_in range address }
 {
     range.0 <= address && address < range.1

@@ -1,5 +1,5 @@
 -- The module that the tests make of a mapping: without a name, and without unwind data.
-use Rattle.std.specs.Prelude.{[]}
+use Rattle.std.specs.Prelude.{[], None}
 use Rattle.framehop.specs.Modules.{ModuleView, no_unwind_data}
 use Rattle.framehop_processes.specs.declared.mapping.Mapping.{Mapping}
 
@@ -9,5 +9,5 @@ bare mapping = record {
   start = mapping.start;
   end = mapping.end;
   base_avma = mapping.start;
-  unwind_data = no_unwind_data;
+  unwind_data = no_unwind_data None;
 }

@@ -197,7 +197,7 @@ module _ {Rule Regs : Type 0} (readers : Readers Rule Regs) (meanings : Meanings
 
   data-means : (known : UnwindData) (relative : ℕ) → Answers (data_answer readers policy known relative s.first)
       → MeansData readers meanings outcome policy s known relative
-  data-means no_unwind_data relative e = tt
+  data-means (no_unwind_data refusal) relative e = tt
   data-means (call_frames frames) relative e = frames-mean frames relative (fde_offset_of frames relative) e
   data-means (pe_sections sections) relative e = pe-means sections relative (readers.pe_found sections relative s.first)
       refl e

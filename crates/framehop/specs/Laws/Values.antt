@@ -86,7 +86,7 @@ module _ {Rule Regs : Type 0} where
       → data_answer readers policy known relative first ≡ Some (direct compute)
       → (old : Regs) (memory : Memory) (values : ℕ × Regs) → compute old memory ≡ Some values
       → AreOfRow readers.rows policy first old memory values
-  of-data readers none policy no_unwind_data relative first compute e old memory values is = cc
+  of-data readers none policy (no_unwind_data refusal) relative first compute e old memory values is = cc
   of-data readers none policy (pe_sections sections) relative first compute e old memory values is =
       absurd (pe-none (readers.pe_found sections relative first) _ compute (none sections relative first) e)
   of-data readers none policy (compact_info d) relative first compute e old memory values is =

@@ -12,7 +12,7 @@ ghost use Rattle.framehop.specs.Soundness.{IsSound, AreApart, MayRunOut, cache_a
 ghost use Rattle.framehop.specs.CachedWorld.{step_of};
 ghost use Rattle.framehop.specs.Modules.{UnwinderView};
 ghost use Rattle.framehop.specs.CodeAddress.{FrameLocation, location_of};
-ghost use Rattle.framehop.specs.Outcome.{Outcome, answer_of, registers_after};
+ghost use Rattle.framehop.specs.Outcome.{Outcome, answered, answer_of, registers_after};
 
 use crate::cache::{AllocationPolicy, Cache};
 use crate::session::commands::{Memory, SessionError, WalkEnd};
@@ -139,7 +139,8 @@ where
         let step : FrameLocation → U.UnwindRegs → Outcome U.UnwindRegs = λ location before. U.step unwinder.now location before memory in
         (walk_of walk.0.items walk.1 walk.2 ≡ walk_from step limit pc regs)
         × (cache.new ≡ cache_after_walk step (U.cache_after unwinder.now) limit pc regs cache.old)
-        × IsWalkMeant (λ location before address after. U.means unwinder.now location before memory address after)
+        × IsWalkMeant (λ location before address after. (step location before ≡ answered address after)
+            × U.means unwinder.now location before memory address after)
         regs (walk_from step limit pc regs)) }
 {
     let mut unwinding = unwinder.iter_frames(pc, regs, cache, read_stack);

@@ -220,7 +220,7 @@ fn code_at<'a, D: SectionBytes>(
 
 /// Reads what is left of an epilog at an address in a function.
 #[tactic(auto, unfolding(crate::specs::Frame::epilog_at))]
-fn epilog_at<'a, D: SectionBytes>(
+pub fn epilog_at<'a, D: SectionBytes>(
     sections: &PeSections<'a, D>,
     function: RuntimeFunction,
     frame_register: Option<Reg>,
@@ -236,7 +236,7 @@ fn epilog_at<'a, D: SectionBytes>(
 }
 
 /// Returns the frame register of unwind info.
-fn frame_register(info: &UnwindInfo<'_>) -> Option<Reg>
+pub fn frame_register(info: &UnwindInfo<'_>) -> Option<Reg>
     ensures { result ≡ frame_register (shown info.now) }
 {
     match info.frame_register {

@@ -9,7 +9,7 @@ use Rattle.framehop.specs.Transparent.{IsTransparent}
 use Rattle.framehop.proofs.CachedWorldLemmas.{transparent-start, transparent-after, CachedWorld-equal}
 use Rattle.framehop.proofs.RunLemmas.{Continues, Continues-start, Continues-served, refused-all, done-all}
 use Rattle.framehop.proofs.WorldLemmas.{world-replies-start}
-use Rattle.framehop.proofs.MeaningLemmas.{reply-meant}
+use Rattle.framehop.proofs.MeaningLemmas.{reply-meant, both}
 use Rattle.framehop.proofs.RiseLemmas.{raises-as, reply-rise, each-reply}
 use Rattle.framehop.proofs.session.run.Goals as goal
 
@@ -91,7 +91,7 @@ pub returns-clause-means : goal.returns-clause-means
 returns-clause-means g c =
     let policy = g.P.AllocationPolicy.policy in
     let unwinding = g.A.Unwinding.unwinding policy in
-    each-reply unwinding _ (reply-meant unwinding _ (g.met.A.Unwinding.step_means policy))
+    each-reply unwinding _ (reply-meant unwinding _ (λ modules location old new memory address e. both e (g.met.A.Unwinding.step_means policy modules location old new memory address e)))
     (empty_cached_world c.args.cache_count c.args.generations.now) c.args.commands.items (map reply_view c.loop-command.replies.items) (sym (returns-clause-counted g c (λ e. cc)))
 
 pub returns-in_err-reply-clause-drawn_at_most : goal.returns-in_err-reply-clause-drawn_at_most

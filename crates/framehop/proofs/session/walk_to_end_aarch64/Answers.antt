@@ -51,7 +51,7 @@ returns-in-Some-clause-answers g c = λ memory h sound.
         reply_is = ap (λ w. of_world (walked w)) (ap (walk_of n.frames.items c.in-Some.end) c.regs-regs.ensures ∙ walk.0);
         all_rise = always_rises-is g.P.AllocationPolicy.policy;
         within = walk-within g.P.AllocationPolicy.policy c.args.unwinder.now memory (length l.frames.items + 1) c.args.pc c.args.regs;
-        means = walk-meant (aarch64_step g.P.AllocationPolicy.policy c.args.unwinder.now memory) _ (λ location old new address e. step-means g.P.AllocationPolicy.policy c.args.unwinder.now.modules location old new memory address e) (length l.frames.items + 1) c.args.pc c.args.regs;
+        means = walk-meant (aarch64_step g.P.AllocationPolicy.policy c.args.unwinder.now memory) _ (λ location old new address e. (e, step-means g.P.AllocationPolicy.policy c.args.unwinder.now.modules location old new memory address e)) (length l.frames.items + 1) c.args.pc c.args.regs;
         cached = (let last = c.drop-unwinding-in-Some.ensures.cache ∙ walk.1 in search (rules, last));
       },
     )

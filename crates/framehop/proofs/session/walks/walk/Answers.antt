@@ -12,6 +12,6 @@ returns-clause-answers g c = λ memory h sound.
       (
         ap (walk_of c.in_ok-frames.frames.items c.in_ok-frames.end) c.regs-regs.ensures ∙ walk.0,
         (let last = c.drop-unwinding-2.ensures.cache ∙ walk.1 in search (rules, last)),
-        walk-meant _ _ (λ location old new address e. g.met.U.Unwinder.step_means c.args.unwinder.now location old new memory address e) c.args.limit c.args.pc c.args.regs,
+        walk-meant _ _ (λ location old new address e. (e, g.met.U.Unwinder.step_means c.args.unwinder.now location old new memory address e)) c.args.limit c.args.pc c.args.regs,
       ),
     )

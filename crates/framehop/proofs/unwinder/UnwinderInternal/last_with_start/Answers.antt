@@ -1,4 +1,4 @@
-use Rattle.std.proofs.Common.{◌≡◌, ◌+◌, ◌<◌, [], length, sym, ◌∙◌, arith}
+use Rattle.std.proofs.Common.{◌≡◌, ◌+◌, ◌<◌, [], None, length, sym, ◌∙◌, arith}
 use Rattle.framehop.specs.Modules.{ModuleView, no_unwind_data}
 use Rattle.framehop.proofs.ModuleLemmas.{no-start, start-at, start-nowhere}
 use Rattle.framehop.proofs.unwinder.UnwinderInternal.last_with_start.Goals as goal
@@ -12,7 +12,7 @@ returns-then-module_start-start g c =
     let modules = c.args.self.now.modules in
     let last : c.in_ok-index.index + 1 ≡ c.place_after.result = omega (arith, c.in_ok-index.ensures) in
     let within : c.in_ok-index.index < length modules = omega (arith, c.place_after.ensures.within) in
-    let unread : ModuleView = record { name = []; start = 0; end = 0; base_avma = 0; unwind_data = no_unwind_data } in
+    let unread : ModuleView = record { name = []; start = 0; end = 0; base_avma = 0; unwind_data = no_unwind_data None } in
     let found = start-at c.args.start modules c.place_after.result c.place_after.ensures.point c.in_ok-index.index unread last within (sym (c.module_start.ensures.start unread) ∙ c.if-module_start-start.true) in
     (within, found.0, found.1)
 
