@@ -38,5 +38,8 @@ fn finds_the_base_of_each_mapping(rt: HostRuntime) {
     let base = base_avma(&segments, 0x1000, 0x1000, 0x1000, 0x5403000);
     assert_eq!(rt; base, Some(0x5000000));
     // after both
-    assert_eq!(rt; base_avma(&segments, 0x1000, 0x2000, 0x1000, 0x404000), None);
+    assert_eq!(rt;
+        base_avma(&segments, 0x1000, 0x2000, 0x1000, 0x404000),
+        None
+    );
 }
