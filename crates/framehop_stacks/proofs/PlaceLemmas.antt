@@ -13,21 +13,27 @@ starts-from : (from : ℕ) (ms : List Mapping) → IsInOrder from ms → (k : �
 starts-from from [] order k d within = absurd (omega (arith, within))
 starts-from from (m ∷ ms) order zero d within = order.0
 starts-from from (m ∷ ms) order (suc k) d within =
-    let rest = starts-from m.end ms order.1 k d (omega (arith, within)) in
-    let own = m.is_not_empty in
+    let rest = starts-from m.end ms order.2 k d (omega (arith, within)) in
+    let own = order.1 in
     let first = order.0 in
     omega (arith, rest, own, first)
+
+not-empty : (from : ℕ) (ms : List Mapping) → IsInOrder from ms → (k : ℕ) (d : Mapping) → k < length ms
+    → (slice_index_or ms k d).start < (slice_index_or ms k d).end
+not-empty from [] order k d within = absurd (omega (arith, within))
+not-empty from (m ∷ ms) order zero d within = order.1
+not-empty from (m ∷ ms) order (suc k) d within = not-empty m.end ms order.2 k d (omega (arith, within))
 
 pub ends-rise : (from : ℕ) (ms : List Mapping) → IsInOrder from ms → IsNonDecreasingBy (λ m. m.end) ms
 ends-rise from [] order i j d low within = absurd (omega (arith, within))
 ends-rise from (m ∷ ms) order zero zero d low within = omega arith
 ends-rise from (m ∷ ms) order zero (suc j) d low within =
-    let above = starts-from m.end ms order.1 j d (omega (arith, within)) in
-    let own = (slice_index_or ms j d).is_not_empty in
+    let above = starts-from m.end ms order.2 j d (omega (arith, within)) in
+    let own = not-empty m.end ms order.2 j d (omega (arith, within)) in
     omega (arith, above, own)
 ends-rise from (m ∷ ms) order (suc i) zero d low within = absurd (omega (arith, low))
 ends-rise from (m ∷ ms) order (suc i) (suc j) d low within =
-    ends-rise m.end ms order.1 i j d (omega (arith, low)) (omega (arith, within))
+    ends-rise m.end ms order.2 i j d (omega (arith, low)) (omega (arith, within))
 
 and-false : (b : Bool) → (b && false) ≡ false
 and-false true = refl
@@ -44,8 +50,8 @@ module _ (address : ℕ) where
   none-above from [] over order = refl
   none-above from (m ∷ ms) over order =
       let first = order.0 in
-      let own = m.is_not_empty in
-      rw (above m (omega (arith, over, first))) (none-above m.end ms (omega (arith, over, first, own)) order.1)
+      let own = order.1 in
+      rw (above m (omega (arith, over, first))) (none-above m.end ms (omega (arith, over, first, own)) order.2)
 
   at-head-by : (m : Mapping) (ms : List Mapping) → IsInOrder m.end ms → address < m.end
       → (b : Bool) → nat_le m.start address ≡ b → find (has_address address) (m ∷ ms) ≡ cond b (Some m) None
@@ -63,8 +69,8 @@ module _ (address : ℕ) where
       → find (has_address address) ms ≡ starting_by address (slice_get ms i)
   found-at from [] zero order before after = refl
   found-at from [] (suc i) order before after = refl
-  found-at from (m ∷ ms) zero order before after = at-head m ms order.1 (after 0 m (omega arith) (omega arith))
+  found-at from (m ∷ ms) zero order before after = at-head m ms order.2 (after 0 m (omega arith) (omega arith))
   found-at from (m ∷ ms) (suc i) order before after =
       rw (passed m (before 0 m (omega arith) (omega arith)))
-      (found-at m.end ms i order.1 (λ k d h w. before (suc k) d (omega arith) (omega arith))
+      (found-at m.end ms i order.2 (λ k d h w. before (suc k) d (omega arith) (omega arith))
       (λ k d h w. after (suc k) d (omega arith) (omega arith)))

@@ -1,7 +1,7 @@
 -- Stacks as text: folded stacks, as flame graph tools read them (Brendan Gregg's FlameGraph, `stackcollapse-perf.pl`), and
 -- blocks of a line for each frame.
-use Rattle.std.specs.Prelude.{ℕ, false, List, [], ◌∷◌, ◌++◌, codes, map, reverse, ◌==◌, if◌then◌else◌}
-use Rattle.std.specs.Fmt.{digits}
+use Rattle.std.specs.Prelude.{ℕ, false, List, [], ◌∷◌, ◌++◌, codes, map, reverse, Option, Some, None, ◌==◌, if◌then◌else◌}
+use Rattle.std.specs.Fmt.{decimal, digits}
 use Rattle.std.specs.List.{after_last, flat_map}
 use Rattle.framehop_core.specs.CodeAddress.{FrameLocation, address_of, lookup_address}
 use Rattle.framehop_core.specs.declared.error.Error.{Error}
@@ -47,10 +47,14 @@ end_name at_root = codes "root"
 end_name at_limit = codes "limit"
 end_name (at_refusal error) = refusal_name error
 
+-- a mark between frames
+abbrev pub mark : List ℕ → List ℕ
+mark name = codes ";[" ++ name ++ codes "]"
+
 -- a stack that does not reach its root has the name of its end at its outer end
 abbrev pub mark_of : End → List ℕ
 mark_of at_root = []
-mark_of end = codes ";[" ++ end_name end ++ codes "]"
+mark_of end = mark (end_name end)
 
 -- the labels of frames, of which the innermost comes first, each after a `;` from the outermost on
 abbrev pub frames_text : {Frame : Type 0} → (Frame → List ℕ) → List Frame → List ℕ
@@ -64,6 +68,10 @@ frame_label files mappings location = label_of (place_at files mappings (lookup_
 unfoldable pub line_of : List ℕ → End → (FrameLocation → List ℕ) → List FrameLocation → List ℕ
 line_of name end label frames = plain name ++ mark_of end ++ frames_text label frames
 
+-- the line of a sample that has no stack: the name of its thread, and why
+unfoldable pub refused_line : List ℕ → List ℕ → List ℕ
+refused_line name why = plain name ++ mark why
+
 -- a place in a block: its function and the file, or its file and the address in it
 unfoldable pub described : PlaceView → List ℕ
 described (in_function file name offset) =
@@ -76,6 +84,18 @@ abbrev pub frame_line : Files → List Mapping → FrameLocation → List ℕ
 frame_line files mappings location =
     hexadecimal (address_of location) ++ 32 ∷ described (place_at files mappings (lookup_address location)) ++ 10 ∷ []
 
--- the lines of a block after its head: the frames from the innermost on, and the end of the walk, with a blank line
+-- the last line of a block, and a blank line
+abbrev pub last_line : List ℕ → List ℕ
+last_line end = codes "[" ++ end ++ codes "]\n\n"
+
+-- the lines of a block after its head: the frames from the innermost on, and the end of the walk
 abbrev pub block_of : End → (FrameLocation → List ℕ) → List FrameLocation → List ℕ
-block_of end line frames = flat_map line frames ++ codes "[" ++ end_name end ++ codes "]\n\n"
+block_of end line frames = flat_map line frames ++ last_line (end_name end)
+
+-- the head of a block: the name of the thread, its process and itself, and the time in nanoseconds, if there is one
+abbrev pub time_text : Option ℕ → List ℕ
+time_text (Some time) = 32 ∷ decimal time ++ codes ":\n"
+time_text None = codes ":\n"
+
+unfoldable pub head_of : List ℕ → ℕ → ℕ → Option ℕ → List ℕ
+head_of name pid tid time = plain name ++ 32 ∷ decimal pid ++ 47 ∷ decimal tid ++ time_text time

@@ -1,8 +1,7 @@
 -- Where an address is: in which function of which file.
-use Rattle.std.specs.Prelude.{ℕ, ◌+◌, ◌-◌, ◌^◌, min, List, [], ◌∷◌, ◌&&◌, nat_le, nat_lt, Bool, if◌then◌else◌, Option, Some, None, slice_get}
+use Rattle.std.specs.Prelude.{ℕ, ◌-◌, List, [], ◌∷◌, ◌&&◌, nat_le, nat_lt, Bool, true, false, if◌then◌else◌, Option, Some, None, slice_get}
 use Rattle.std.specs.List.{find}
 use Rattle.framehop_elf.specs.Section.{string_of}
-use Rattle.framehop_elf.specs.Segment.{base_of}
 use Rattle.framehop_elf.specs.Symbol.{symbol_for}
 use Rattle.framehop_elf.specs.declared.symbol.Symbol.{Symbol}
 use Rattle.framehop_processes.specs.declared.mapping.Mapping.{Mapping}
@@ -51,27 +50,19 @@ abbrev pub starting_by : ℕ → Option Mapping → Option Mapping
 starting_by address (Some mapping) = if nat_le mapping.start address then Some mapping else None
 starting_by address None = None
 
--- the offset in the file of an address of a mapping
-abbrev pub offset_in : Mapping → ℕ → ℕ
-offset_in mapping address = min (address - mapping.start + mapping.offset) (2 ^ 64 - 1)
-
 abbrev pub place_named : List ℕ → ℕ → Option (List ℕ × ℕ) → PlaceView
 place_named file svma (Some function) = in_function file function.0 function.1
 place_named file svma None = in_file file svma
 
--- in a file whose base is known by its address (SVMA), else by its offset
-abbrev pub place_based : List ℕ → ElfFile → Mapping → ℕ → Option ℕ → PlaceView
-place_based file elf mapping address (Some base) =
-    place_named file (address - base) (function_at elf.symbols.items (address - base))
-place_based file elf mapping address None = in_file file (offset_in mapping address)
+abbrev pub place_in_elf : Bool → List ℕ → Option ElfFile → ℕ → PlaceView
+place_in_elf true file (Some elf) svma = place_named file svma (function_at elf.symbols.items svma)
+place_in_elf true file None svma = in_file file svma
+place_in_elf false file elf svma = in_file file svma
 
-abbrev pub place_in_elf : List ℕ → Option ElfFile → Mapping → ℕ → PlaceView
-place_in_elf file (Some elf) mapping address =
-    place_based file elf mapping address (base_of elf.segments.items 4096 mapping.offset mapping.start)
-place_in_elf file None mapping address = in_file file (offset_in mapping address)
-
+-- by the names of the file, where the mapping has its sections
 abbrev pub place_in_file : Option RecordedFile → Mapping → ℕ → PlaceView
-place_in_file (Some file) mapping address = place_in_elf file.name.items file.elf mapping address
+place_in_file (Some file) mapping address =
+    place_in_elf mapping.has_sections file.name.items file.elf (address - mapping.base_avma)
 place_in_file None mapping address = unmapped
 
 abbrev pub place_mapped : Files → Option Mapping → ℕ → PlaceView

@@ -8,7 +8,7 @@ use Rattle.framehop_processes.specs.Mappings.{with_mapping}
 use Rattle.framehop_processes.specs.Process.{ProcessView, HasModules}
 use Rattle.framehop_processes.specs.declared.mapping.Mapping.{Mapping}
 use Rattle.framehop_stacks.specs.declared.changes.Change.{Change}
-use Rattle.framehop_stacks.specs.declared.changes.Change.TheVariants.{Map, Exec, Fork}
+use Rattle.framehop_stacks.specs.declared.changes.Change.TheVariants.{Map, Begin, Fork}
 
 -- the mappings of each process, by its number
 abbrev pub Mapped : Type 0
@@ -24,7 +24,7 @@ with_process pid mappings mapped number = if number == pid then Some mappings el
 -- the mappings after a change: a process that is not known has none
 abbrev pub after : Change → Mapped → Mapped
 after (Map pid mapping) mapped = with_process pid (with_mapping mapping (unwrap_or (mapped pid) [])) mapped
-after (Exec pid) mapped = with_process pid [] mapped
+after (Begin pid) mapped = with_process pid [] mapped
 after (Fork pid parent) mapped = with_process pid (unwrap_or (mapped parent) []) mapped
 
 -- What holds of a process whose unwinder shares a cache with those of others, under a counter of generations: its unwinder

@@ -4,7 +4,7 @@ use Rattle.framehop_recording.specs.declared.error.RecordingError.TheVariants as
 use Rattle.framehop_processes.specs.declared.error.ProcessesError.{ProcessesError}
 use Rattle.framehop_processes.specs.declared.error.ProcessesError.TheVariants as processes
 use Rattle.framehop_stacks.specs.declared.error.StacksError.{StacksError}
-use Rattle.framehop_stacks.specs.declared.error.StacksError.TheVariants.{Recording, OutOfMemory, GenerationsExhausted}
+use Rattle.framehop_stacks.specs.declared.error.StacksError.TheVariants.{Recording, OutOfMemory, GenerationsExhausted, EmptyMapping}
 
 abbrev pub of_recording : RecordingError → StacksError
 of_recording recording.OutOfMemory = OutOfMemory
@@ -13,3 +13,4 @@ of_recording refusal = Recording refusal
 abbrev pub of_processes : ProcessesError → StacksError
 of_processes processes.OutOfMemory = OutOfMemory
 of_processes processes.GenerationsExhausted = GenerationsExhausted
+of_processes processes.EmptyMapping = EmptyMapping

@@ -1,6 +1,9 @@
 -- The records of a recording one after another.
-use Rattle.std.specs.Prelude.{◌≡◌, ℕ, ◌+◌, ◌-◌, ◌^◌, ◌<◌, Bool, ◌==◌, if◌then◌else◌}
+use Rattle.std.specs.Prelude.{◌≡◌, ℕ, ◌+◌, ◌-◌, ◌^◌, ◌<◌, Bool, ◌==◌, if◌then◌else◌, List, codes}
+use Rattle.framehop_recording.specs.Numbers.{PERF_RECORD_SAMPLE}
 use Rattle.framehop_recording.specs.declared.order.TimedRecord.{TimedRecord}
+use Rattle.framehop_recording.specs.declared.error.RecordingError.{RecordingError}
+use Rattle.framehop_recording.specs.declared.error.RecordingError.TheVariants.{NoThread, NoUserStack, NoUserRegisters, Process32Bit, UnknownAbi, UnsupportedField, ShortRecord}
 use Rattle.framehop_stacks.specs.Tally.{total_of}
 use Rattle.framehop_stacks.specs.declared.counts.Counts.{Counts}
 
@@ -22,9 +25,20 @@ MayCount frames counts = (samples : ℕ) × AreCounted frames samples counts × 
 abbrev pub CountsMore : Bool → ℕ → Counts → Counts → Type 0
 CountsMore frames more old new = (samples : ℕ) → AreCounted frames samples old → AreCounted frames (samples + more) new
 
--- PERF_RECORD_SAMPLE (9)
+-- a record of a sample
 abbrev pub is_sample : TimedRecord → Bool
-is_sample timed = timed.«record».kind == 9
+is_sample timed = timed.«record».kind == PERF_RECORD_SAMPLE
 
 abbrev pub samples_in_kind : ℕ → ℕ
-samples_in_kind kind = if kind == 9 then 1 else 0
+samples_in_kind kind = if kind == PERF_RECORD_SAMPLE then 1 else 0
+
+-- what is said of a sample that can't be unwound
+abbrev pub sample_refusal : RecordingError → List ℕ
+sample_refusal (NoThread offset) = codes "no-thread"
+sample_refusal (NoUserStack offset) = codes "no-user-stack"
+sample_refusal (NoUserRegisters offset) = codes "no-user-registers"
+sample_refusal (Process32Bit offset) = codes "32-bit-process"
+sample_refusal (UnknownAbi offset) = codes "unknown-abi"
+sample_refusal (UnsupportedField offset) = codes "unsupported-field"
+sample_refusal (ShortRecord offset) = codes "short-record"
+sample_refusal refusal = codes "unreadable"

@@ -1,27 +1,16 @@
 //! What the records of a recording change in its processes.
-ghost use Rattle.std.specs.Prelude.{◌≡◌, Ok, Err, MatchResult, option_map, option_and_then};
-ghost use Rattle.framehop_recording.specs.Mapping.{mapping_at, mapping_view};
+ghost use Rattle.std.specs.Prelude.{◌≡◌};
+ghost use Rattle.framehop_recording.specs.Mapping.{mapping_view};
 ghost use Rattle.framehop_recording.specs.Records.{record_view};
-ghost use Rattle.framehop_stacks.specs.Changes.{change_view, number_in, is_of_code, maps_file, change_in};
+ghost use Rattle.framehop_stacks.specs.Changes.{elf_in, is_of_code, base_in, mapping_based, maps_file, forks_process, change_in};
 
 use crate::files::Files;
 use framehop_processes::Mapping;
 use framehop_recording::error::RecordingError;
-use framehop_recording::mapping::read_mapping;
+use framehop_recording::kind::{COMM, FORK, MMAP, MMAP2};
+use framehop_recording::mapping::{Mapping as RecordedMapping, read_mapping};
 use framehop_recording::records::Record;
-use framehop_recording::tasks::{read_command, read_task};
-
-/// PERF_RECORD_MMAP.
-const MMAP: u32 = 1;
-
-/// PERF_RECORD_COMM.
-const COMM: u32 = 3;
-
-/// PERF_RECORD_FORK.
-const FORK: u32 = 7;
-
-/// PERF_RECORD_MMAP2.
-const MMAP2: u32 = 10;
+use framehop_recording::tasks::{Task, read_command, read_task};
 
 /// The process of the kernel's mappings.
 const KERNEL: u32 = u32::MAX;
@@ -31,16 +20,14 @@ const KERNEL: u32 = u32::MAX;
 pub enum Change {
     /// A process maps a file.
     Map { pid: u32, mapping: Mapping },
-    /// A process begins to run another program.
-    Exec { pid: u32 },
+    /// A process begins without mappings, as one that runs another program does.
+    Begin { pid: u32 },
     /// A process begins as a copy of another.
     Fork { pid: u32, parent: u32 },
 }
 
 /// Returns the mapping of a record, if it is one of a process's code.
-pub fn code_mapping<'a>(
-    record: Record<'a>,
-) -> Result<Option<framehop_recording::mapping::Mapping<'a>>, RecordingError> {
+pub fn code_mapping<'a>(record: Record<'a>) -> Result<Option<RecordedMapping<'a>>, RecordingError> {
     if record.kind != MMAP && record.kind != MMAP2 {
         return Ok(None);
     }
@@ -53,24 +40,61 @@ pub fn code_mapping<'a>(
 }
 
 /// Returns whether a mapping is one of a process's code.
-fn is_of_code(mapping: &framehop_recording::mapping::Mapping<'_>) -> bool
+fn is_of_code(mapping: &RecordedMapping<'_>) -> bool
     ensures { result ≡ is_of_code (mapping_view mapping.now) }
 {
     mapping.is_executable && mapping.pid != KERNEL
 }
 
+/// Returns where the stated address 0 of a mapped file is (AVMA), if it is known.
+fn base_of(files: &Files, mapping: &RecordedMapping<'_>, file: u32) -> Option<u64>
+    ensures { result ≡ base_in (elf_in files.now file) (mapping_view mapping.now) }
+{
+    let elf = files.elf(file)?;
+    elf.base(mapping.offset, mapping.size, mapping.start)
+}
+
+/// Returns the mapping of a file that has a number.
+fn mapping_of(mapping: &RecordedMapping<'_>, file: u32, base: Option<u64>) -> Mapping
+    ensures { result ≡ mapping_based (mapping_view mapping.now) file base }
+{
+    let start = mapping.start;
+    let end = start.saturating_add(mapping.size);
+    match base {
+        Some(base_avma) => Mapping {
+            start,
+            end,
+            base_avma,
+            file,
+            has_sections: true,
+        },
+        None => Mapping {
+            start,
+            end,
+            base_avma: start.saturating_sub(mapping.offset),
+            file,
+            has_sections: false,
+        },
+    }
+}
+
 /// Returns what a mapping changes.
-fn map_change(files: &Files, mapping: framehop_recording::mapping::Mapping<'_>) -> Option<Change>
-    ensures { option_map change_view result ≡ maps_file (number_in files.now) (mapping_view mapping.entry) }
+fn map_change(files: &Files, mapping: RecordedMapping<'_>) -> Option<Change>
+    ensures { result ≡ maps_file files.now (mapping_view mapping.entry) }
 {
     if !is_of_code(&mapping) {
         return None;
     }
     let file = files.number_of(mapping.name)?;
-    let end = mapping.start.saturating_add(mapping.size);
-    let pid = mapping.pid;
-    let mapping = Mapping::new(mapping.start, end, mapping.offset, file)?;
-    Some(Change::Map { pid, mapping })
+    let base = base_of(files, &mapping, file);
+    let made = mapping_of(&mapping, file, base);
+    if made.end <= made.start {
+        return None;
+    }
+    Some(Change::Map {
+        pid: mapping.pid,
+        mapping: made,
+    })
 }
 
 /// Returns what a record changes in the processes, if it changes anything.
@@ -80,9 +104,7 @@ fn map_change(files: &Files, mapping: framehop_recording::mapping::Mapping<'_>) 
 /// Those of [`read_mapping`], [`read_command`] and [`read_task`].
 #[tactic(auto, unfolding(crate::specs::Changes::change_in))]
 pub fn change_of(files: &Files, record: Record<'_>) -> Result<Option<Change>, RecordingError>
-    ensures exact { MatchResult result
-        (λ change. change_in (number_in files.now) (record_view «record».entry) ≡ Ok (option_map change_view change))
-        (λ error. change_in (number_in files.now) (record_view «record».entry) ≡ Err error) }
+    ensures exact { result ≡ change_in files.now (record_view «record».entry) }
 {
     match record.kind {
         MMAP | MMAP2 => {
@@ -92,21 +114,32 @@ pub fn change_of(files: &Files, record: Record<'_>) -> Result<Option<Change>, Re
         COMM => {
             let command = read_command(record)?;
             if command.is_exec {
-                Ok(Some(Change::Exec { pid: command.pid }))
+                Ok(Some(Change::Begin { pid: command.pid }))
             } else {
                 Ok(None)
             }
         }
         FORK => {
             let task = read_task(record)?;
-            if task.pid == task.parent_pid {
-                return Ok(None);
-            }
-            Ok(Some(Change::Fork {
-                pid: task.pid,
-                parent: task.parent_pid,
-            }))
+            Ok(fork_change(task))
         }
         _ => Ok(None),
+    }
+}
+
+/// Returns what a thread that begins changes.
+fn fork_change(task: Task) -> Option<Change>
+    ensures { result ≡ forks_process task }
+{
+    let pid = task.pid;
+    if pid == task.parent_pid {
+        None
+    } else if task.is_made_up {
+        Some(Change::Begin { pid })
+    } else {
+        Some(Change::Fork {
+            pid,
+            parent: task.parent_pid,
+        })
     }
 }

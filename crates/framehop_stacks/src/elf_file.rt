@@ -14,7 +14,7 @@ use framehop_elf::section::{read_contents, read_section_names, section_by_name, 
 use framehop_elf::section_header::{SectionHeader, read_section_headers};
 use framehop_elf::segment::{base_avma, read_segment};
 use framehop_elf::symbol::{SymbolTable, read_function_symbols};
-use std::alloc::Global;
+use std::alloc::{AllocError, Global};
 use std::ops::Range;
 use thiserror::Error;
 
@@ -51,6 +51,8 @@ pub struct ElfFile {
     symbols: Vec<Symbols>,
     /// At no address. The modules of mappings share its unwind data.
     module: Module<Vec<u8>>,
+    /// No bytes where it has none.
+    build_id: Vec<u8>,
 }
 
 /// Why a file gives no unwind data and no names.
@@ -70,6 +72,12 @@ pub enum FileProblem {
 impl From<ElfError> for FileProblem {
     fn from(value: ElfError) -> Self {
         FileProblem::Elf(value)
+    }
+}
+
+impl From<AllocError> for FileProblem {
+    fn from(_value: AllocError) -> Self {
+        FileProblem::Elf(ElfError::OutOfMemory)
     }
 }
 
@@ -156,7 +164,7 @@ fn read_symbols(
     let Some(names) = data_of(alloc, file, Some(*strings))? else {
         return Ok(None);
     };
-    match read_function_symbols(alloc, file, section) {
+    match read_function_symbols(alloc, file, sections, section) {
         Ok(symbols) => Ok(Some(Symbols {
             table: SymbolTable::new(symbols)?,
             names,
@@ -199,7 +207,8 @@ impl ElfFile {
     pub fn new(alloc: Global, bytes: &[u8], wanted: &[u8]) -> Result<Self, FileProblem> {
         let header = read_file_header(bytes)?;
         let segments = read_program_headers(alloc, bytes, header)?;
-        if !wanted.is_empty() && build_id(bytes, segments.as_slice()) != Some(wanted) {
+        let found = build_id(bytes, segments.as_slice()).unwrap_or(&[]);
+        if !wanted.is_empty() && found != wanted {
             return Err(FileProblem::OtherBuildId);
         }
         let sections = read_section_headers(alloc, bytes, header)?;
@@ -211,14 +220,45 @@ impl ElfFile {
             segments,
             symbols,
             module,
+            build_id: Vec::from_slice(alloc, found)?,
         })
     }
 
-    /// Returns the base (AVMA) of the file where a mapping begins at an offset of it and at an AVMA.
-    pub fn base(&self, offset: u64, avma: u64) -> Option<u64>
-        ensures { result ≡ base_of self.now.segments.items 4096 offset avma }
+    /// Takes the functions of the file's debug file, which are asked before its own.
+    ///
+    /// # Errors
+    ///
+    /// `OtherBuildId`, and the refusals of the debug file's headers and of its section names.
+    pub fn add_debug_names(&mut self, alloc: Global, bytes: &[u8]) -> Result<(), FileProblem> {
+        let header = read_file_header(bytes)?;
+        let segments = read_program_headers(alloc, bytes, header)?;
+        if let Some(found) = build_id(bytes, segments.as_slice()) {
+            if found != self.build_id.as_slice() {
+                return Err(FileProblem::OtherBuildId);
+            }
+        }
+        let sections = read_section_headers(alloc, bytes, header)?;
+        let names = read_section_names(bytes, header, sections.as_slice())?;
+        let symtab = section_by_name(sections.as_slice(), names, b".symtab");
+        if let Some(symbols) = read_symbols(alloc, bytes, sections.as_slice(), symtab)? {
+            if self.symbols.insert(0, symbols).is_err() {
+                return Err(FileProblem::Elf(ElfError::OutOfMemory));
+            }
+        }
+        Ok(())
+    }
+
+    /// Returns the build id of the file, or no bytes.
+    pub fn build_id(&self) -> &[u8] {
+        self.build_id.as_slice()
+    }
+
+    /// Returns where the stated address 0 of the file is (AVMA), if `size` bytes of it from an offset on are
+    /// mapped at an AVMA.
+    pub fn base(&self, offset: u64, size: u64, avma: u64) -> Option<u64>
+        ensures { result ≡ base_of self.now.segments.items 4096 offset size avma }
     {
-        base_avma(self.segments.as_slice(), PAGE_SIZE, offset, avma)
+        base_avma(self.segments.as_slice(), PAGE_SIZE, offset, size, avma)
     }
 
     /// Returns a module of the file that lies at no address.
@@ -229,7 +269,7 @@ impl ElfFile {
     }
 
     /// Returns the name of the function that has an address (SVMA), and how far the address is from its
-    /// start: by `.symtab`, and where that has none by `.dynsym`.
+    /// start: by the debug file, then by `.symtab`, and where these have none by `.dynsym`.
     pub fn function_at(&self, svma: u64) -> Option<(&[u8], u64)>
         ensures { option_map (λ found. (found.0.now, found.1)) result ≡ function_at self.now.symbols.items svma }
     {

@@ -21,6 +21,9 @@ pub enum StacksError {
     /// The counter of generations is at its end.
     #[error("no generation is left")]
     GenerationsExhausted,
+    /// A mapping has no address: the records that are read give none.
+    #[error("a mapping without an address")]
+    EmptyMapping,
     /// A write failed.
     #[error("cannot write output")]
     CannotWrite,
@@ -48,6 +51,7 @@ impl From<ProcessesError> for StacksError {
         match value {
             ProcessesError::OutOfMemory => StacksError::OutOfMemory,
             ProcessesError::GenerationsExhausted => StacksError::GenerationsExhausted,
+            ProcessesError::EmptyMapping => StacksError::EmptyMapping,
         }
     }
 }

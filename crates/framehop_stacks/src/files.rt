@@ -1,7 +1,7 @@
 //! The files of a recording by their numbers, and the modules of their mappings.
-ghost use Rattle.std.specs.Prelude.{◌≡◌, IfOk, option_map, slice_get};
-ghost use Rattle.framehop_stacks.specs.Changes.{number_in};
-ghost use Rattle.framehop_stacks.specs.Files.{module_at, placing_elf, placed_at};
+ghost use Rattle.std.specs.Prelude.{◌≡◌, IfOk, option_map, option_copied, slice_get};
+ghost use Rattle.framehop_stacks.specs.Changes.{number_in, elf_in};
+ghost use Rattle.framehop_stacks.specs.Files.{module_at, placed_at};
 
 use crate::elf_file::{ElfFile, FileProblem};
 use crate::error::StacksError;
@@ -18,6 +18,9 @@ use std::collections::BTreeMap;
 pub trait FileSource {
     /// Returns the bytes of a file, if it is there and can be read.
     fn read_file(&mut self, name: &[u8]) -> Option<Vec<u8>>;
+
+    /// Returns the bytes of the debug file of a build id, if it is there and can be read.
+    fn read_debug_file(&mut self, build_id: &[u8]) -> Option<Vec<u8>>;
 }
 
 /// A file of a recording.
@@ -57,6 +60,24 @@ fn read_elf<S: FileSource>(
     }
 }
 
+/// Reads the names of a file's functions in its debug file. One that can't be read counts as absent.
+fn add_debug_names<S: FileSource>(
+    alloc: Global,
+    source: &mut S,
+    elf: &mut ElfFile,
+) -> Result<(), StacksError> {
+    if elf.build_id().is_empty() {
+        return Ok(());
+    }
+    let Some(bytes) = source.read_debug_file(elf.build_id()) else {
+        return Ok(());
+    };
+    match elf.add_debug_names(alloc, bytes.as_slice()) {
+        Err(FileProblem::Elf(ElfError::OutOfMemory)) => Err(StacksError::OutOfMemory),
+        _ => Ok(()),
+    }
+}
+
 /// Reads a file of a recording, if its name is a path.
 fn load<S: FileSource>(
     alloc: Global,
@@ -71,7 +92,10 @@ fn load<S: FileSource>(
     };
     if is_path(name) {
         match read_elf(alloc, source, name, build_id) {
-            Ok(elf) => file.elf = Some(elf),
+            Ok(mut elf) => {
+                add_debug_names(alloc, source, &mut elf)?;
+                file.elf = Some(elf);
+            }
             Err(FileProblem::Elf(ElfError::OutOfMemory)) => return Err(StacksError::OutOfMemory),
             Err(problem) => file.problem = Some(problem),
         }
@@ -135,47 +159,36 @@ impl Files {
         self.list.as_slice()
     }
 
-    /// Returns the module of a mapping. It has no unwind data where nothing was read of the file, or where
-    /// the file has no executable segment at the mapping's offset.
+    /// Returns what was read of the file of a number.
+    pub fn elf(&self, number: u32) -> Option<&ElfFile>
+        ensures { option_copied result ≡ elf_in self.now number }
+    {
+        match self.get(number) {
+            Some(file) => file.elf.as_ref(),
+            None => None,
+        }
+    }
+
+    /// Returns the module of a mapping. It has no unwind data where the mapping is without sections, or
+    /// where nothing was read of the file.
     fn module_at(&self, mapping: &Mapping) -> Result<Module<Vec<u8>>, AllocError>
         ensures { IfOk result (λ made. made ≡ module_at self.now mapping.now) }
     {
         if !mapping.has_sections {
-            return placed_at(&self.bare, mapping.start, mapping);
+            return placed_at(&self.bare, mapping);
         }
-        match self.get(mapping.file) {
-            Some(file) => module_of_elf(&self.bare, &file.elf, mapping),
-            None => placed_at(&self.bare, mapping.start, mapping),
+        match self.elf(mapping.file) {
+            Some(elf) => placed_at(elf.module(), mapping),
+            None => placed_at(&self.bare, mapping),
         }
     }
 }
 
 /// Returns a module at the addresses of a mapping.
-fn placed_at(
-    module: &Module<Vec<u8>>,
-    base: u64,
-    mapping: &Mapping,
-) -> Result<Module<Vec<u8>>, AllocError>
-    ensures { IfOk result (λ made. made ≡ placed_at (record { loaded = «module».now; base = base }) mapping.now) }
+fn placed_at(loaded: &Module<Vec<u8>>, mapping: &Mapping) -> Result<Module<Vec<u8>>, AllocError>
+    ensures { IfOk result (λ made. made ≡ placed_at loaded.now mapping.now) }
 {
-    module.placed_at(mapping.start..mapping.end, base)
-}
-
-/// Returns the module of a mapping of a file.
-fn module_of_elf(
-    bare: &Module<Vec<u8>>,
-    elf: &Option<ElfFile>,
-    mapping: &Mapping,
-) -> Result<Module<Vec<u8>>, AllocError>
-    ensures { IfOk result (λ made. made ≡ placed_at (placing_elf bare.now elf.now mapping.now) mapping.now) }
-{
-    let Some(elf) = elf else {
-        return placed_at(bare, mapping.start, mapping);
-    };
-    match elf.base(mapping.offset, mapping.start) {
-        Some(base) => placed_at(elf.module(), base, mapping),
-        None => placed_at(bare, mapping.start, mapping),
-    }
+    loaded.placed_at(mapping.start..mapping.end, mapping.base_avma)
 }
 
 /// Makes the modules of mappings, by the files of a recording.

@@ -1,11 +1,11 @@
 //! Stacks as text.
-ghost use Rattle.std.specs.Prelude.{◌≡◌, ◌++◌, ◌∷◌, [], map, OnOk, IfOk, codes};
+ghost use Rattle.std.specs.Prelude.{◌≡◌, ◌++◌, ◌∷◌, [], map, OnOk, IfOk, codes, string_bytes};
 ghost use Rattle.std.specs.List.{flat_map};
 ghost use Rattle.framehop_core.specs.CodeAddress.{location_of};
 ghost use Rattle.framehop.specs.SessionView.{end_of};
 ghost use Rattle.framehop_processes.specs.Mappings.{IsInOrder};
 ghost use Rattle.framehop_stacks.specs.Place.{place_view};
-ghost use Rattle.framehop_stacks.specs.Line.{plain_byte, plain, base_name, hexadecimal, label_of, refusal_name, end_name, mark_of, frames_text, frame_label, line_of, described, frame_line, block_of};
+ghost use Rattle.framehop_stacks.specs.Line.{plain_byte, plain, base_name, hexadecimal, label_of, refusal_name, end_name, mark, mark_of, frames_text, frame_label, line_of, refused_line, described, frame_line, last_line, block_of, time_text, head_of};
 
 use crate::error::StacksError;
 use crate::files::Files;
@@ -134,17 +134,25 @@ fn push_frames(
     Ok(())
 }
 
-/// Appends the mark of a walk that did not reach the root.
-fn push_mark(line: &mut Vec<u8>, end: WalkEnd) -> Result<(), StacksError>
-    ensures { OnOk result (line.new.items ≡ line.old.items ++ mark_of (end_of end)) }
+/// Appends a mark after a `;`.
+fn push_mark(line: &mut Vec<u8>, name: &str) -> Result<(), StacksError>
+    ensures { OnOk result (line.new.items ≡ line.old.items ++ mark name.now) }
 {
-    if let WalkEnd::Root = end {
-        return Ok(());
-    }
     line.extend_from_slice(b";[")?;
-    line.extend_from_slice(end_name(end).as_bytes())?;
+    line.extend_from_slice(name.as_bytes())?;
     line.extend_from_slice(b"]")?;
     Ok(())
+}
+
+/// Appends the mark of a walk that did not reach the root.
+fn push_end(line: &mut Vec<u8>, end: WalkEnd) -> Result<(), StacksError>
+    ensures { OnOk result (line.new.items ≡ line.old.items ++ mark_of (end_of end)) }
+{
+    match end {
+        WalkEnd::Root => Ok(()),
+        WalkEnd::Limit => push_mark(line, "limit"),
+        WalkEnd::Refused(error) => push_mark(line, refusal_name(error)),
+    }
 }
 
 /// Returns the line of a stack without its count, by the name of its thread and by its process's mappings
@@ -163,8 +171,19 @@ pub fn folded_line(
 {
     let mut line = Vec::new(alloc);
     push_name(&mut line, name)?;
-    push_mark(&mut line, stack.end)?;
+    push_end(&mut line, stack.end)?;
     push_frames(alloc, &mut line, files, mappings, &stack.frames)?;
+    Ok(line)
+}
+
+/// Returns the line of a sample that has no stack, without its count, by the name of its thread.
+#[tactic(auto, unfolding(crate::specs::Line::refused_line))]
+pub fn refused_line(alloc: Global, name: &[u8], why: &str) -> Result<Vec<u8>, StacksError>
+    ensures { IfOk result (λ line. line.items ≡ refused_line name.now why.now) }
+{
+    let mut line = Vec::new(alloc);
+    push_name(&mut line, name)?;
+    push_mark(&mut line, why)?;
     Ok(line)
 }
 
@@ -230,6 +249,16 @@ fn push_frame_lines(
     Ok(())
 }
 
+/// Appends the last line of a block, and a blank line.
+fn push_last_line(block: &mut Vec<u8>, end: &str) -> Result<(), StacksError>
+    ensures { OnOk result (block.new.items ≡ block.old.items ++ last_line end.now) }
+{
+    block.extend_from_slice(b"[")?;
+    block.extend_from_slice(end.as_bytes())?;
+    block.extend_from_slice(b"]\n\n")?;
+    Ok(())
+}
+
 /// Returns the lines of a stack's frames and of its end, by its process's mappings in order.
 pub fn frames_block(
     alloc: Global,
@@ -243,8 +272,45 @@ pub fn frames_block(
 {
     let mut block = Vec::new(alloc);
     push_frame_lines(alloc, &mut block, files, mappings, &stack.frames)?;
-    block.extend_from_slice(b"[")?;
-    block.extend_from_slice(end_name(stack.end).as_bytes())?;
-    block.extend_from_slice(b"]\n\n")?;
+    push_last_line(&mut block, end_name(stack.end))?;
     Ok(block)
+}
+
+/// Returns the last line of the block of a sample that has no stack.
+pub fn refused_block(alloc: Global, why: &str) -> Result<Vec<u8>, StacksError>
+    ensures { IfOk result (λ block. block.items ≡ last_line why.now) }
+{
+    let mut block = Vec::new(alloc);
+    push_last_line(&mut block, why)?;
+    Ok(block)
+}
+
+/// Returns the time of a sample with which the head of its block ends.
+fn time_text(alloc: Global, time: Option<u64>) -> Result<String, StacksError>
+    ensures { IfOk result (λ text. string_bytes text ≡ time_text time) }
+{
+    match time {
+        Some(time) => Ok(format!(in alloc; " {time}:\n")?),
+        None => Ok(format!(in alloc; ":\n")?),
+    }
+}
+
+/// Returns the head of a sample's block, by the name of its thread.
+#[tactic(auto, unfolding(crate::specs::Line::head_of))]
+pub fn block_head(
+    alloc: Global,
+    name: &[u8],
+    pid: u32,
+    tid: u32,
+    time: Option<u64>,
+) -> Result<Vec<u8>, StacksError>
+    ensures { IfOk result (λ head. head.items ≡ head_of name.now pid tid time) }
+{
+    let mut head = Vec::new(alloc);
+    push_name(&mut head, name)?;
+    let numbers = format!(in alloc; " {pid}/{tid}")?;
+    head.extend_from_slice(numbers.as_bytes())?;
+    let time = time_text(alloc, time)?;
+    head.extend_from_slice(time.as_bytes())?;
+    Ok(head)
 }

@@ -1,19 +1,14 @@
 //! The names of threads at a time.
-ghost use Rattle.std.specs.Prelude.{◌≡◌, ℕ, [], OnOk};
+ghost use Rattle.std.specs.Prelude.{◌≡◌, ℕ, codes, OnOk};
 ghost use Rattle.framehop_recording.specs.Records.{record_view};
 ghost use Rattle.framehop_stacks.specs.Names.{named_in, with_name, named_after};
 
 use crate::error::StacksError;
+use framehop_recording::kind::{COMM, FORK};
 use framehop_recording::records::Record;
 use framehop_recording::tasks::{read_command, read_task};
 use std::alloc::Global;
 use std::collections::BTreeMap;
-
-/// PERF_RECORD_COMM.
-const COMM: u32 = 3;
-
-/// PERF_RECORD_FORK.
-const FORK: u32 = 7;
 
 /// The names of threads at a time.
 #[derive(Drop)]
@@ -24,20 +19,20 @@ pub struct Names {
 impl Names {
     /// Returns no names.
     pub fn new(alloc: Global) -> Self
-        ensures { (tid : ℕ) → named_in result tid ≡ [] }
+        ensures { (tid : ℕ) → named_in result tid ≡ codes "[unknown]" }
     {
         Names {
             by_tid: BTreeMap::new(alloc),
         }
     }
 
-    /// Returns the name of a thread, or no bytes where it is not known.
+    /// Returns the name of a thread: `[unknown]` where it is not known.
     pub fn get(&self, tid: u32) -> &[u8]
         ensures { result.now ≡ named_in self.now tid }
     {
         match self.by_tid.get(&tid) {
             Some(name) => name.as_slice(),
-            None => &[],
+            None => b"[unknown]",
         }
     }
 

@@ -1,8 +1,8 @@
 //! Where an address is: in which function of which file.
-ghost use Rattle.std.specs.Prelude.{◌≡◌, Some, slice_get};
+ghost use Rattle.std.specs.Prelude.{◌≡◌, true, Some, slice_get};
 ghost use Rattle.std.specs.List.{find};
 ghost use Rattle.framehop_processes.specs.Mappings.{IsInOrder};
-ghost use Rattle.framehop_stacks.specs.Place.{place_view, starting_by, has_address, offset_in, place_at, place_in_elf, place_in_file, place_based};
+ghost use Rattle.framehop_stacks.specs.Place.{place_view, starting_by, has_address, place_at, place_in_elf, place_in_file};
 
 use crate::elf_file::ElfFile;
 use crate::files::{Files, RecordedFile};
@@ -24,7 +24,7 @@ pub enum Place<'a> {
     File {
         /// The name of the file, as the recording has it.
         file: &'a [u8],
-        /// The address in the file (SVMA), or the offset in it where it is no ELF file that could be read.
+        /// The address in the file (SVMA), or the offset in it where no ELF file could be read.
         address: u64,
     },
     /// In no mapping.
@@ -50,26 +50,10 @@ fn mapping_at(mappings: &[Mapping], address: u64) -> Option<Mapping>
     mapping_from(mappings, place, address)
 }
 
-/// Returns the offset in the file of an address (AVMA) of a mapping.
-fn offset_in(mapping: Mapping, address: u64) -> u64
-    ensures { result ≡ offset_in mapping address }
+/// Returns where an address (SVMA) of an ELF file is.
+fn place_in_elf<'a>(file: &'a [u8], elf: &'a ElfFile, svma: u64) -> Place<'a>
+    ensures { place_view result ≡ place_in_elf true file.entry.now (Some elf.entry.now) svma }
 {
-    address
-        .saturating_sub(mapping.start)
-        .saturating_add(mapping.offset)
-}
-
-/// Returns where an address (AVMA) of a mapping is, in an ELF file whose base (AVMA) is known.
-fn place_in_elf<'a>(file: &'a [u8], elf: &'a ElfFile, mapping: Mapping, address: u64) -> Place<'a>
-    ensures { place_view result ≡ place_in_elf file.entry.now (Some elf.entry.now) mapping address }
-{
-    let Some(base) = elf.base(mapping.offset, mapping.start) else {
-        return Place::File {
-            file,
-            address: offset_in(mapping, address),
-        };
-    };
-    let svma = address.saturating_sub(base);
     match elf.function_at(svma) {
         Some((name, offset)) => Place::Function { file, name, offset },
         None => Place::File {
@@ -84,12 +68,15 @@ fn place_in_file<'a>(file: &'a RecordedFile, mapping: Mapping, address: u64) -> 
     ensures { place_view result ≡ place_in_file (Some file.entry.now) mapping address }
 {
     let name = file.name.as_slice();
-    match &file.elf {
-        Some(elf) => place_in_elf(name, elf, mapping, address),
-        None => Place::File {
-            file: name,
-            address: offset_in(mapping, address),
-        },
+    let svma = address.saturating_sub(mapping.base_avma);
+    if mapping.has_sections {
+        if let Some(elf) = &file.elf {
+            return place_in_elf(name, elf, svma);
+        }
+    }
+    Place::File {
+        file: name,
+        address: svma,
     }
 }
 

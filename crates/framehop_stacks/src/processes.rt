@@ -1,5 +1,5 @@
 //! The processes of a recording at a time.
-ghost use Rattle.std.specs.Prelude.{◌≡◌, ℕ, IfOk, ◌==◌, if◌then◌else◌, [], Some, None, IfSome, OnOk, option_map, option_copied, unwrap_or};
+ghost use Rattle.std.specs.Prelude.{◌≡◌, ℕ, IfOk, ◌==◌, if◌then◌else◌, [], Some, None, IsSome, IfSome, OnOk, option_map, option_copied, unwrap_or};
 ghost use Rattle.std.specs.BTreeMap.{get};
 ghost use Rattle.std.specs.Ordering.{nat_cmp};
 ghost use Rattle.framehop.specs.Modules.{ModuleView, UnwinderView};
@@ -49,6 +49,17 @@ impl<U: ProcessUnwinder> Processes<U> {
         ensures { option_copied result ≡ get nat_cmp self.now.by_pid pid }
     {
         self.by_pid.get(&pid)
+    }
+
+    /// Returns the process of a number that is known.
+    pub fn known(&self, pid: u32) -> &Process<U>
+        requires { IsSome (get nat_cmp self.now.by_pid pid) }
+        ensures { get nat_cmp self.now.by_pid pid ≡ Some result.now }
+    {
+        match self.by_pid.get(&pid) {
+            Some(process) => process,
+            None => unreachable!(),
+        }
     }
 
     /// Stores a process, in the place of the one that has its number.
@@ -109,6 +120,9 @@ impl<U: ProcessUnwinder> Processes<U> {
 
     /// Makes a process known: one that is not known begins without mappings.
     pub fn meet(&mut self, alloc: Global, pid: u32) -> Result<(), StacksError>
+        ensures known { OnOk result (IsSome (get nat_cmp self.new.by_pid pid)) }
+        ensures kept { OnOk result ((number : ℕ) → unwrap_or (mapped_in self.new.by_pid number) []
+            ≡ unwrap_or (mapped_in self.old.by_pid number) []) }
         ensures served { OnOk result ((module_of : Mapping → ModuleView) (cache : U.Cache)
             → IsServed module_of (λ view. U.is_sound view cache) self.old.by_pid self.old.generations
             → IsServed module_of (λ view. U.is_sound view cache) self.new.by_pid self.new.generations) }
@@ -196,7 +210,7 @@ impl<U: ProcessUnwinder> Processes<U> {
     {
         match change {
             Change::Map { pid, mapping } => self.map(alloc, maker, pid, mapping)?,
-            Change::Exec { pid } => self.begin(alloc, pid)?,
+            Change::Begin { pid } => self.begin(alloc, pid)?,
             Change::Fork { pid, parent } => self.fork(alloc, pid, parent)?,
         }
         Ok(())

@@ -80,11 +80,15 @@ pub fn read_files<S: FileSource>(
 }
 
 /// Returns the sample of a record with the mask of its registers.
+///
+/// # Errors
+///
+/// `NoThread` also where the record is of no event that is known, and those of [`read_sample`].
 pub fn sample_of<'a>(
     events: &Events<'_>,
     record: Record<'a>,
 ) -> Result<(Sample<'a>, u64), RecordingError> {
-    let unknown = RecordingError::NoUserStack {
+    let unknown = RecordingError::NoThread {
         offset: record.offset,
     };
     let Some(event) = events.event_of(record) else {

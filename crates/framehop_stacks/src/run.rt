@@ -1,16 +1,22 @@
 //! The records of a recording one after another: its processes, and the stacks of its samples.
-ghost use Rattle.std.specs.Prelude.{◌≡◌, ◌+◌, ◌-◌, ◌<◌, ◌^◌, IfOk, OnOk, Bool, count_by};
+ghost use Rattle.std.specs.Prelude.{◌≡◌, IfOk, OnOk, IsSome, Bool, false, map, count_by};
+ghost use Rattle.std.specs.BTreeMap.{get};
+ghost use Rattle.std.specs.Ordering.{nat_cmp};
+ghost use Rattle.framehop_core.specs.CodeAddress.{location_of};
 ghost use Rattle.framehop.specs.Modules.{ModuleView};
+ghost use Rattle.framehop.specs.SessionView.{end_of};
 ghost use Rattle.framehop_processes.specs.Mappings.{IsInOrder};
 ghost use Rattle.framehop_processes.specs.declared.mapping.Mapping.{Mapping};
+ghost use Rattle.framehop_stacks.specs.Counts.{CountsOneMore};
+ghost use Rattle.framehop_stacks.specs.Line.{frame_label, line_of, refused_line};
 ghost use Rattle.framehop_stacks.specs.Processes.{IsServed};
-ghost use Rattle.framehop_stacks.specs.Run.{AreCounted, MayCount, CountsMore, is_sample, samples_in_kind};
+ghost use Rattle.framehop_stacks.specs.Run.{AreCounted, MayCount, CountsMore, is_sample, samples_in_kind, sample_refusal};
 
 use crate::changes::change_of;
 use crate::counts::Counts;
 use crate::error::StacksError;
 use crate::files::Files;
-use crate::line::{end_name, folded_line, frames_block};
+use crate::line::{block_head, end_name, folded_line, frames_block, refused_block, refused_line};
 use crate::machine::Sampled;
 use crate::names::Names;
 use crate::processes::Processes;
@@ -19,17 +25,12 @@ use crate::stack::{Stack, walk_sample};
 use framehop_processes::{Mapping, ModuleMaker};
 use framehop_recording::error::RecordingError;
 use framehop_recording::events::Events;
+use framehop_recording::kind::{LOST, SAMPLE};
 use framehop_recording::records::Record;
-use framehop_recording::sample::Sample;
+use framehop_recording::sample::{Sample, UserStack};
 use framehop_recording::tasks::read_lost;
 use std::alloc::Global;
 use std::io::Write;
-
-/// PERF_RECORD_LOST.
-const LOST: u32 = 2;
-
-/// PERF_RECORD_SAMPLE.
-const SAMPLE: u32 = 9;
 
 /// What is asked for.
 #[derive(Clone, Copy, Debug)]
@@ -53,59 +54,45 @@ where
     pub counts: Counts,
 }
 
-/// Returns what a sample is called that can't be unwound, where others can.
-fn refusal_name(error: RecordingError) -> Option<&'static str> {
+/// Returns what is said of a sample that can't be unwound.
+fn refusal_name(error: RecordingError) -> &'static str
+    ensures { result.now ≡ sample_refusal error }
+{
     match error {
-        RecordingError::NoUserRegisters { .. } => Some("no-user-registers"),
-        RecordingError::Process32Bit { .. } => Some("32-bit-process"),
-        RecordingError::NoUserStack { .. } => Some("no-user-stack"),
-        RecordingError::NoTime { .. } => Some("no-time"),
-        RecordingError::UnsupportedField { .. } => Some("unsupported-field"),
-        _ => None,
+        RecordingError::NoThread { .. } => "no-thread",
+        RecordingError::NoUserStack { .. } => "no-user-stack",
+        RecordingError::NoUserRegisters { .. } => "no-user-registers",
+        RecordingError::Process32Bit { .. } => "32-bit-process",
+        RecordingError::UnknownAbi { .. } => "unknown-abi",
+        RecordingError::UnsupportedField { .. } => "unsupported-field",
+        RecordingError::ShortRecord { .. } => "short-record",
+        _ => "unreadable",
     }
 }
 
-/// Writes the block of a sample's stack, by its process's mappings in order.
-fn write_block<W: Write>(
-    alloc: Global,
-    files: &Files,
-    mappings: &[Mapping],
-    name: &[u8],
-    sample: Sample<'_>,
-    stack: &Stack,
-    out: &mut W,
-) -> Result<(), StacksError>
-    requires { IsInOrder 0 mappings.now }
-{
-    let pid = sample.pid;
-    let tid = sample.tid;
-    let time = sample.time;
-    out.write_all(name)?;
-    writeln!(out, " {pid}/{tid} {time}:")?;
-    let block = frames_block(alloc, files, mappings, stack)?;
-    out.write_all(block.as_slice())?;
-    Ok(())
-}
-
-/// Counts or writes the stack of a sample, by its process's mappings in order.
+/// Counts or writes the stack of a sample, by its process's mappings in order. `head` is that of its block.
 fn take_stack<W: Write>(
     alloc: Global,
     counts: &mut Counts,
     files: &Files,
     mappings: &[Mapping],
     name: &[u8],
-    sample: Sample<'_>,
+    head: &[u8],
     stack: &Stack,
     options: Options,
     out: &mut W,
 ) -> Result<(), StacksError>
     requires ordered { IsInOrder 0 mappings.now }
     requires room { MayCount options.frames counts.old }
-    ensures { OnOk result (CountsMore options.frames 1 counts.old counts.new) }
+    ensures counted { OnOk result (CountsMore options.frames 1 counts.old counts.new) }
+    ensures line { OnOk result (options.frames ≡ false → CountsOneMore counts.old.lines counts.new.lines
+        (line_of name.now (end_of stack.now.end) (frame_label files.now mappings.now) (map location_of stack.now.frames.items))) }
 {
     counts.add_sample(alloc, end_name(stack.end).as_bytes())?;
     if options.frames {
-        write_block(alloc, files, mappings, name, sample, stack, out)?;
+        let block = frames_block(alloc, files, mappings, stack)?;
+        out.write_all(head)?;
+        out.write_all(block.as_slice())?;
     } else {
         let line = folded_line(alloc, files, mappings, name, stack)?;
         counts.add_line(line)?;
@@ -113,36 +100,31 @@ fn take_stack<W: Write>(
     Ok(())
 }
 
-/// Counts or writes a sample that has no stack.
+/// Counts or writes a sample that has no stack. `head` is that of its block.
 fn take_refused<W: Write>(
     alloc: Global,
     counts: &mut Counts,
     name: &[u8],
+    head: &[u8],
     why: &str,
     options: Options,
     out: &mut W,
 ) -> Result<(), StacksError>
     requires { MayCount options.frames counts.old }
-    ensures { OnOk result (CountsMore options.frames 1 counts.old counts.new) }
+    ensures counted { OnOk result (CountsMore options.frames 1 counts.old counts.new) }
+    ensures line { OnOk result (options.frames ≡ false
+        → CountsOneMore counts.old.lines counts.new.lines (refused_line name.now why.now)) }
 {
     counts.add_sample(alloc, why.as_bytes())?;
     if options.frames {
-        out.write_all(name)?;
-        writeln!(out, ":\n[{why}]\n")?;
+        let block = refused_block(alloc, why)?;
+        out.write_all(head)?;
+        out.write_all(block.as_slice())?;
     } else {
         let line = refused_line(alloc, name, why)?;
         counts.add_line(line)?;
     }
     Ok(())
-}
-
-/// Returns the line of a sample that has no stack, without its count.
-fn refused_line(alloc: Global, name: &[u8], why: &str) -> Result<Vec<u8>, StacksError> {
-    let mut line = Vec::from_slice(alloc, name)?;
-    line.extend_from_slice(b"[")?;
-    line.extend_from_slice(why.as_bytes())?;
-    line.extend_from_slice(b"]")?;
-    Ok(line)
 }
 
 impl<U: Sampled> Run<U>
@@ -169,7 +151,57 @@ where
         &self.cache
     }
 
-    /// Unwinds a sample.
+    /// Unwinds the stack of a sample, whose process is known.
+    fn take_user<W: Write>(
+        &mut self,
+        alloc: Global,
+        files: &Files,
+        sample: Sample<'_>,
+        mask: u64,
+        user: UserStack<'_>,
+        head: &[u8],
+        options: Options,
+        out: &mut W,
+    ) -> Result<(), StacksError>
+        requires known { IsSome (get nat_cmp self.old.processes.by_pid sample.pid) }
+        requires room { MayCount options.frames self.old.counts }
+        ensures served { OnOk result ((module_of : Mapping → ModuleView)
+            → IsServed module_of (λ view. U.is_sound view self.old.cache) self.old.processes.by_pid self.old.processes.generations
+            → IsServed module_of (λ view. U.is_sound view self.new.cache) self.new.processes.by_pid self.new.processes.generations) }
+        ensures counted { OnOk result (CountsMore options.frames 1 self.old.counts self.new.counts) }
+    {
+        let unwinder = self.processes.known(sample.pid).unwinder();
+        let walked = walk_sample(alloc, unwinder, &mut self.cache, mask, user, options.limit)?;
+        let name = self.names.get(sample.tid);
+        match walked {
+            Some(stack) => {
+                let mappings = self.processes.mappings(sample.pid);
+                take_stack(
+                    alloc,
+                    &mut self.counts,
+                    files,
+                    mappings,
+                    name,
+                    head,
+                    &stack,
+                    options,
+                    out,
+                )?;
+            }
+            None => take_refused(
+                alloc,
+                &mut self.counts,
+                name,
+                head,
+                "no-registers",
+                options,
+                out,
+            )?,
+        }
+        Ok(())
+    }
+
+    /// Unwinds a sample, or counts why that can't be done.
     fn take_sample<W: Write>(
         &mut self,
         alloc: Global,
@@ -185,37 +217,35 @@ where
             → IsServed module_of (λ view. U.is_sound view self.new.cache) self.new.processes.by_pid self.new.processes.generations) }
         ensures counted { OnOk result (CountsMore options.frames 1 self.old.counts self.new.counts) }
     {
-        self.processes.meet(alloc, sample.pid)?;
-        let Some(process) = self.processes.get(sample.pid) else {
-            return Err(StacksError::OutOfMemory);
-        };
-        let unwinder = process.unwinder();
-        let walked = walk_sample(
-            alloc,
-            unwinder,
-            &mut self.cache,
-            mask,
-            sample.user,
-            options.limit,
-        )?;
         let name = self.names.get(sample.tid);
-        match walked {
-            Some(stack) => {
-                let mappings = self.processes.mappings(sample.pid);
-                take_stack(
+        let head = block_head(alloc, name, sample.pid, sample.tid, sample.time)?;
+        let user = match sample.user {
+            Ok(user) => user,
+            Err(error) => {
+                let why = refusal_name(error);
+                take_refused(
                     alloc,
                     &mut self.counts,
-                    files,
-                    mappings,
                     name,
-                    sample,
-                    &stack,
+                    head.as_slice(),
+                    why,
                     options,
                     out,
                 )?;
+                return Ok(());
             }
-            None => take_refused(alloc, &mut self.counts, name, "no-registers", options, out)?,
-        }
+        };
+        self.processes.meet(alloc, sample.pid)?;
+        self.take_user(
+            alloc,
+            files,
+            sample,
+            mask,
+            user,
+            head.as_slice(),
+            options,
+            out,
+        )?;
         Ok(())
     }
 
@@ -238,10 +268,16 @@ where
         match sample_of(events, record) {
             Ok((sample, mask)) => self.take_sample(alloc, files, sample, mask, options, out)?,
             Err(error) => {
-                let Some(why) = refusal_name(error) else {
-                    return Err(StacksError::from(error));
-                };
-                take_refused(alloc, &mut self.counts, &[], why, options, out)?;
+                let why = refusal_name(error);
+                take_refused(
+                    alloc,
+                    &mut self.counts,
+                    b"[unknown]",
+                    b"[unknown]:\n",
+                    why,
+                    options,
+                    out,
+                )?;
             }
         }
         Ok(())
@@ -262,8 +298,7 @@ where
     ///
     /// # Errors
     ///
-    /// - `Recording` where the record is too short for its kind, or a sample's registers have no layout that is
-    ///   known;
+    /// - `Recording` where the record is no sample and is too short for its kind;
     /// - `OutOfMemory`, `GenerationsExhausted` and `CannotWrite`.
     fn take_record<M: ModuleMaker<U>, W: Write>(
         &mut self,
