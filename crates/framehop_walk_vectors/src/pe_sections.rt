@@ -96,7 +96,7 @@ pub(crate) fn prints<R: Abort>(
         let mut out = Output::new(Vec::new(alloc));
         let mut err = Output::new(Vec::new(alloc));
         assert_eq!(rt; walk_program(alloc, &mut reader, &mut out, &mut err), 0);
-        assert_eq!(rt; out.writer.as_slice(), want.as_bytes());
+        assert_eq!(rt; out.into_inner().as_slice(), want.as_bytes());
     }
     Ok(())
 }

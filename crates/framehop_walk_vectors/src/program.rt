@@ -33,8 +33,8 @@ pub fn run(alloc: Global, input: &str) -> Finished {
     let status = walk_program(alloc, &mut reader, &mut out, &mut err);
     Finished {
         status,
-        out: out.writer,
-        err: err.writer,
+        out: out.into_inner(),
+        err: err.into_inner(),
     }
 }
 
@@ -325,14 +325,15 @@ fn stops_at_a_failed_read(rt: HostRuntime) -> Result<(), Fail> {
         let mut out = Output::new(Vec::new(rt.alloc()));
         let mut err = Output::new(Vec::new(rt.alloc()));
         let status = walk_program(rt.alloc(), &mut reader, &mut out, &mut err);
-        assert!(rt; out.writer.is_empty());
-        assert_eq!(rt; reader.has_failed, reads_left < reads);
+        assert!(rt; out.into_inner().is_empty());
+        assert_eq!(rt; reader.has_failed(), reads_left < reads);
+        let line = err.into_inner();
         if reads_left < reads {
             let want = "framehop-walk: cannot read input\n";
-            assert_eq!(rt; err.writer.as_slice(), want.as_bytes());
+            assert_eq!(rt; line.as_slice(), want.as_bytes());
             assert_eq!(rt; status, 1);
         } else {
-            assert!(rt; err.writer.is_empty());
+            assert!(rt; line.is_empty());
             assert_eq!(rt; status, 0);
         }
     }
@@ -382,8 +383,8 @@ fn run_over(alloc: Global, writes_left: usize, flushes: bool) -> Finished {
     let status = walk_program(alloc, &mut reader, &mut out, &mut err);
     Finished {
         status,
-        out: out.writer.written,
-        err: err.writer,
+        out: out.into_inner().written,
+        err: err.into_inner(),
     }
 }
 
@@ -415,7 +416,7 @@ fn refuses_without_a_line(rt: HostRuntime) -> Result<(), Fail> {
         flushes: true,
     });
     assert_eq!(rt; refuse(&mut err, Refusal::NotJson), 1);
-    assert!(rt; err.has_failed);
+    assert!(rt; err.has_failed());
     Ok(())
 }
 
@@ -469,7 +470,7 @@ fn prints_refusals(rt: HostRuntime) -> Result<(), Fail> {
     ] {
         let mut err = Output::new(Vec::new(rt.alloc()));
         assert_eq!(rt; refuse(&mut err, refusal), status);
-        assert_eq!(rt; err.writer.as_slice(), line.as_bytes());
+        assert_eq!(rt; err.into_inner().as_slice(), line.as_bytes());
     }
     Ok(())
 }

@@ -171,6 +171,6 @@ fn refuses_other_bytes(rt: HostRuntime) -> Result<(), Fail> {
     let status = walk_program(rt.alloc(), &mut input, &mut out, &mut err);
     let line = "framehop-walk: input refused: not JSON\n";
     assert_eq!(rt; status, 1);
-    assert_eq!(rt; err.writer.as_slice(), line.as_bytes());
+    assert_eq!(rt; err.into_inner().as_slice(), line.as_bytes());
     Ok(())
 }

@@ -24,8 +24,8 @@ fn printed(alloc: Global, arch: &str, commands: &str) -> Result<String, Fail> {
     write!(
         text,
         "{}{}",
-        String::from_utf8_lossy(alloc, out.writer.as_slice())?,
-        String::from_utf8_lossy(alloc, err.writer.as_slice())?
+        String::from_utf8_lossy(alloc, out.into_inner().as_slice())?,
+        String::from_utf8_lossy(alloc, err.into_inner().as_slice())?
     )?;
     Ok(text)
 }
