@@ -1,4 +1,5 @@
 -- What the contracts of this crate cite: the parts of an ELF file.
+pub mod Numbers
 pub mod Bytes
 pub mod Header
 pub mod SectionHeader

@@ -2,6 +2,7 @@
 use Rattle.std.specs.Prelude.{ℕ, ◌*◌, List, [], ◌∷◌, ◌/◌, length, Bool, true, not, bit_and, count_ones, ◌==◌, ◌&&◌, ◌||◌, Option, Some, None, option_and_then, slice_get, sum_by, Result, Ok, Err, nat_lt, if◌then◌else◌}
 use Rattle.std.specs.List.{list_any, list_all, position_from}
 use Rattle.framehop_cfi.specs.Bytes.{◌>>=◌, le8}
+use Rattle.framehop_recording.specs.Numbers.{PERF_RECORD_SAMPLE, PERF_RECORD_USER_TYPE_START, NO_TIME}
 use Rattle.framehop_recording.specs.Bytes.{word_at, word_from_end, offsets, has_bit}
 use Rattle.framehop_recording.specs.Attributes.{AttributeView, attributes_of}
 use Rattle.framehop_recording.specs.Records.{RecordView}
@@ -14,14 +15,18 @@ use Rattle.framehop_recording.specs.declared.header.Header.{Header}
 -- mask, of which this one is the first.
 unfoldable pub field_of : AttributeView → RecordView → ℕ → ℕ → Option ℕ
 field_of a r before from =
-    if r.kind == 9 then word_at r.body (8 * count_ones (bit_and a.sample_type before))
-    else if a.sample_id_all && nat_lt r.kind 64 then word_from_end r.body (count_ones (bit_and a.sample_type from))
+    if r.kind == PERF_RECORD_SAMPLE then word_at r.body (8 * count_ones (bit_and a.sample_type before))
+    else if a.sample_id_all && nat_lt r.kind PERF_RECORD_USER_TYPE_START then word_from_end r.body (count_ones (bit_and a.sample_type from))
     else None
+
+-- a time, unless it says that there is none
+abbrev pub known_time : ℕ → Option ℕ
+known_time time = if time == NO_TIME then None else Some time
 
 -- PERF_SAMPLE_TIME (0x4). Before it are PERF_SAMPLE_IDENTIFIER (0x10000), IP (0x1) and TID (0x2); from it on are ID
 -- (0x40), STREAM_ID (0x200), CPU (0x80) and IDENTIFIER.
 unfoldable pub time_field : AttributeView → RecordView → Option ℕ
-time_field a r = if has_bit a.sample_type 0x4 then field_of a r 0x10003 0x102c4 else None
+time_field a r = if has_bit a.sample_type 0x4 then option_and_then known_time (field_of a r 0x10003 0x102c4) else None
 
 -- The id of the event: PERF_SAMPLE_IDENTIFIER, which is the first field of a sample and the last of another record, or
 -- else PERF_SAMPLE_ID. Before that are IP, TID, TIME and ADDR (0x8); from it on are STREAM_ID and CPU.

@@ -8,19 +8,16 @@ ghost use Rattle.framehop_cfi.specs.Bytes.{le8};
 ghost use Rattle.framehop_recording.specs.Bytes.{offsets};
 ghost use Rattle.framehop_recording.specs.Attributes.{attribute_view};
 ghost use Rattle.framehop_recording.specs.Records.{record_view};
-ghost use Rattle.framehop_recording.specs.Events.{field_of, time_field, id_field, id_fields, is_like, are_told_apart, ids_size, event_with, event_of, time_of, events_of};
+ghost use Rattle.framehop_recording.specs.Events.{field_of, known_time, time_field, id_field, id_fields, is_like, are_told_apart, ids_size, event_with, event_of, time_of, events_of};
 
 use crate::attributes::{Attribute, read_attributes};
 use crate::bytes::{word, word_from_end};
 use crate::error::RecordingError;
 use crate::header::Header;
+use crate::kind::{SAMPLE, USER_TYPE_START};
 use crate::records::Record;
-use crate::sample::SAMPLE;
 use std::alloc::Global;
 use std::collections::BTreeMap;
-
-/// PERF_RECORD_USER_TYPE_START: records of this kind and above are perf's own.
-const USER_TYPE_START: u32 = 64;
 
 /// PERF_SAMPLE_TIME.
 const TIME: u64 = 0x4;
@@ -72,6 +69,16 @@ fn field(attribute: &Attribute<'_>, record: Record<'_>, before: u64, from: u64) 
     word_from_end(record.body, (attribute.sample_type & from).count_ones())
 }
 
+/// A time that says that there is none.
+const NO_TIME: u64 = u64::MAX;
+
+/// Returns a time, unless it says that there is none.
+pub(crate) fn known_time(time: u64) -> Option<u64>
+    ensures { result ≡ known_time time }
+{
+    if time == NO_TIME { None } else { Some(time) }
+}
+
 /// Returns when a record of an event was made.
 #[tactic(auto, unfolding(crate::specs::Events::time_field))]
 fn time_field(attribute: &Attribute<'_>, record: Record<'_>) -> Option<u64>
@@ -80,7 +87,7 @@ fn time_field(attribute: &Attribute<'_>, record: Record<'_>) -> Option<u64>
     if attribute.sample_type & TIME == 0 {
         return None;
     }
-    field(attribute, record, BEFORE_TIME, FROM_TIME)
+    known_time(field(attribute, record, BEFORE_TIME, FROM_TIME)?)
 }
 
 /// Returns the id of the event that made a record, which has it where this event has it.
@@ -242,7 +249,7 @@ impl Events<'_> {
     }
 
     /// Returns when a record was made, in nanoseconds, if it says so: of a record that is no sample,
-    /// the time at its end.
+    /// the time at its end. The time `u64::MAX` says that there is none.
     #[tactic(auto, unfolding(crate::specs::Events::time_of))]
     pub fn time_of(&self, record: Record<'_>) -> Option<u64>
         ensures { result ≡ time_of (map attribute_view self.now.attributes.items) (record_view «record».entry) }
