@@ -19,6 +19,8 @@ fn holds_a_hundred_modules(rt: HostRuntime) -> Result<(), Fail> {
         assert!(rt; unwinder.add_module(added, &mut generations).is_ok());
         assert_eq!(rt; unwinder.max_known_code_address(), 0x101000);
     }
+    let copy = unwinder.clone()?;
+    assert_eq!(rt; copy.max_known_code_address(), 0x101000);
     for number in 0..100u64 {
         assert_eq!(rt;
             unwinder.max_known_code_address(),

@@ -7,7 +7,7 @@ use std::test::Fail;
 const CIE: &str = "10000000ffffffff01000178100c071890010000";
 
 /// How many FDEs the large section has. Each is of 16 bytes of code, from 0x1000 on.
-const FDES: u64 = 70_000;
+const FDES: u64 = 100_001;
 
 /// Writes a number of 64 bits in hexadecimal, its lowest byte first.
 fn push_number(section: &mut String, number: u64) -> Result<(), Fail> {

@@ -448,6 +448,28 @@ fn prints_ten_thousand_frames(rt: HostRuntime) -> Result<(), Fail> {
     Ok(())
 }
 
+/// Two thousand unwinders are made, each with the next number.
+#[test]
+fn carries_out_two_thousand_commands(rt: HostRuntime) -> Result<(), Fail> {
+    let alloc = rt.alloc();
+    let mut commands = String::new(alloc);
+    let mut replies = String::new(alloc);
+    let mut comma = "";
+    for number in 0..2000u32 {
+        write!(commands, "{comma}{{\"do\":\"new\"}}")?;
+        write!(replies, "new {number}\n")?;
+        comma = ",";
+    }
+    let input = format!(in alloc;
+        "{{\"arch\":\"x86_64\",\"policy\":\"may\",\"caches\":0,\"commands\":[{commands}]}}"
+    )?;
+    let run = run(alloc, input.as_str());
+    assert_eq!(rt; run.status, 0);
+    assert!(rt; run.out.as_slice() == replies.as_str().as_bytes());
+    assert!(rt; run.err.is_empty());
+    Ok(())
+}
+
 #[test]
 fn prints_refusals(rt: HostRuntime) -> Result<(), Fail> {
     for (refusal, status, line) in [
