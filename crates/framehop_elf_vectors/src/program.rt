@@ -144,8 +144,8 @@ fn reads_the_build_id(rt: HostRuntime) -> Result<(), Fail> {
 #[test]
 fn reads_what_an_unwinder_needs(rt: HostRuntime) -> Result<(), Fail> {
     let alloc = rt.alloc();
-    // the second has SHF_COMPRESSED for .eh_frame
-    for (bytes, size) in [((0, 0x7f), Some(0x54)), ((897, 8), None)] {
+    // then .eh_frame has SHF_COMPRESSED, and then it is SHT_NOBITS
+    for (bytes, size) in [((0, 0x7f), Some(0x54)), ((897, 8), None), ((892, 8), None)] {
         let program = changed(alloc, &[bytes])?;
         let file = program.as_slice();
         let header = read_file_header(file)?;
@@ -180,8 +180,9 @@ const NAMES: [(u64, Option<&str>); 8] = [
 #[test]
 fn finds_functions(rt: HostRuntime) -> Result<(), Fail> {
     let alloc = rt.alloc();
-    // also where `_start` has no size: it ends with `.text`, at the same address
-    let changes: [&[(usize, u8)]; 3] = [&[], &[(480, 0)], &IN_FIRST_SECTION];
+    // also where `_start` has no size: it ends with `.text`, at the same address; and where `outer` is
+    // of type STT_GNU_IFUNC
+    let changes: [&[(usize, u8)]; 4] = [&[], &[(480, 0)], &[(516, 0x1a)], &IN_FIRST_SECTION];
     for bytes in changes {
         let program = changed(alloc, bytes)?;
         let file = program.as_slice();
