@@ -12,7 +12,7 @@
 set -eu
 top=$(cd "$(dirname "${BASH_SOURCE[0]}")/.." && pwd)
 elf=${1:-$(ldd /bin/sh | sed -n 's/.*libc\.so\.6 => \([^ ]*\).*/\1/p')}
-ours=$top/crates/framehop_bench/out/framehop_bench
+ours=$top/out/framehop_bench
 theirs=$top/out/original/release/framehop-original
 rounds=${ROUNDS:-5}
 pinned=(${CPU:+taskset -c "$CPU"})
@@ -22,14 +22,10 @@ trap 'rm -rf "$made"' EXIT
 times=$made/times
 
 # builds our two programs where they are not there; their libraries must be proved before
-build() {
-    local input=$top/crates/$1/stdin
-    [ -f "$input" ] || input=/dev/null
-    (cd "$top/crates/$1" && rt run <"$input") >"$made/$1.log" 2>&1 || { cat "$made/$1.log" >&2; exit 1; }
-}
-[ -x "$ours" ] || build framehop_bench
 walk=$top/crates/framehop_walk_cli/out/framehop_walk_cli
-[ -x "$walk" ] || build framehop_walk_cli
+log=$made/build.log
+[ -x "$ours" ] || "$top/bench/crate.sh" framehop_bench run >"$log" 2>&1 || { cat "$log" >&2; exit 1; }
+[ -x "$walk" ] || (cd "$top/crates/framehop_walk_cli" && rt run <stdin) >"$log" 2>&1 || { cat "$log" >&2; exit 1; }
 read -ra cargo_arguments <<<"${CARGO_ARGUMENTS:-}"
 (cd "$top/bench/original" && cargo build --release --target-dir "$top/out/original" "${cargo_arguments[@]}") >&2
 

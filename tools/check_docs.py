@@ -6,6 +6,7 @@
 - The Rust of README.md is in the tests, line by line.
 - No line of a document has more than 100 words, tables and code excepted.
 - The pages of docs/api are those that tools/api.py makes.
+- Each edit of edits/CRATE can be applied, and each promise of DEFINITIONS.md has one that the gate tries.
 """
 
 import filecmp
@@ -21,6 +22,8 @@ EXAMPLES = TOP / "crates/framehop_vectors/src/readme.rt"
 FENCE = re.compile(r"^```.*?^```", re.M | re.S)
 WORD = re.compile(r"[^\W\d][\w'-]*")
 # words of a name in backticks that are not names of this repository: Rust's, and values of arguments
+# the lines of an edit that are no text: edits/try says what they are for
+EDIT_KEYS = {"fn", "gate", "alone", "harmless"}
 FOREIGN = set("Err None Some Ok Option Result Vec u8 u16 u32 u64 usize for true false null".split())
 
 
@@ -119,6 +122,41 @@ def stale_api():
                 yield f"{page.name} is not what tools/api.py makes"
 
 
+def edit_faults(text, crate):
+    """Why an edit can't be applied to a crate, if so: each old text is in its file once."""
+    texts, path, old = {}, None, None
+    for line in text.rstrip("\n").split("\n"):
+        key, _, value = line.partition(":")
+        value = value.removeprefix(" ")
+        if key == "file":
+            path = crate / value
+            if not path.is_file():
+                yield f"no file {value}"
+                return
+            texts.setdefault(path, path.read_text())
+        elif key == "old":
+            old = value
+            if texts[path].count(old) != 1:
+                yield f"is in the file {texts[path].count(old)} times: {old}"
+        elif key == "new":
+            texts[path] = texts[path].replace(old, value)
+        elif key not in EDIT_KEYS:
+            yield f"a line that nothing reads: {line}"
+
+
+def wrong_edits():
+    """Edits that can't be applied, and promises without one that the gate tries."""
+    promises = set(re.findall(r"^\| \*(.*?)\*", (TOP / "docs/DEFINITIONS.md").read_text(), re.M))
+    tried = set()
+    for file in sorted(TOP.glob("edits/*/*.edit")):
+        text, name = file.read_text(), file.relative_to(TOP)
+        yield from (f"{name}: {fault}" for fault in edit_faults(text, TOP / "crates" / file.parent.name))
+        of = re.findall(r"^gate: (.*)$", text, re.M)
+        yield from (f"{name}: no promise {promise}" for promise in of if promise not in promises)
+        tried.update(of)
+    yield from (f"docs/DEFINITIONS.md: the gate tries no edit of {promise}" for promise in sorted(promises - tried))
+
+
 def faults():
     known = names_of_sources()
     for page in documents():
@@ -131,6 +169,7 @@ def faults():
         yield from (f"{name}: {fault}" for check in checks for fault in check)
     yield from (f"README.md: {fault}" for fault in untested_examples())
     yield from (f"docs/api: {fault}" for fault in stale_api())
+    yield from wrong_edits()
 
 
 def main():
