@@ -31,6 +31,7 @@ LIBRARIES = [
     "framehop_elf",
     "framehop_explain",
     "framehop_processes",
+    "framehop_stacks",
 ]
 ITEM = re.compile(r"(\s*)pub (?:const |extern \"C\" )?(fn|struct|enum|trait|const|type) (\w+)")
 BLOCK = re.compile(r"(\s*)(?:pub )?(impl|trait)\b(.*)")

@@ -37,6 +37,8 @@ PLACES = {
     "framehop_lent": (1.2, 4, "library"),
     "framehop_processes": (4, 4, "library"),
     "framehop_processes_vectors": (6, 5, "tests"),
+    "framehop_stacks": (7, 5, "library"),
+    "framehop_stacks_cli": (7, 6, "program"),
     "framehop_walk": (2.5, 4, "library"),
     "framehop_c": (0, 5, "library"),
     "framehop_walk_cli": (1, 5, "program"),

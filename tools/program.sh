@@ -1,4 +1,5 @@
-# The first run of a program of this repository. A program's script sets `name` and `program` (its crate), and reads this file.
+# The first run of a program of this repository. A program's script sets `name` and `program` (its crate), and reads this file. A program
+# that needs arguments has in `build_arguments` those with which it is run once when it is built.
 #
 # A built program that is newer than all sources is started. Otherwise
 # 1. the program is interpreted by `rt try`, not yet proved, and its output is printed at once;
@@ -10,6 +11,7 @@
 set -u
 top=$(cd "$(dirname "$(realpath -- "${BASH_SOURCE[0]}")")/.." && pwd) || exit 1
 built=$top/out/$name
+build_arguments=(${build_arguments+"${build_arguments[@]}"})
 work=
 
 say() { echo "$name: $*" >&2; }
@@ -187,7 +189,9 @@ build() {
     say "proving and building the program, once"
     prove_libraries || return 1
     say "building $program"
-    if ! (cd "$top/crates/$program" && rt run <stdin) >"$top/out/$program.log" 2>&1; then
+    local input=$top/crates/$program/stdin
+    [ -f "$input" ] || input=/dev/null
+    if ! (cd "$top/crates/$program" && rt run "${build_arguments[@]}" <"$input") >"$top/out/$program.log" 2>&1; then
         failed "$program"
         return 1
     fi

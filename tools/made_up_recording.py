@@ -1,0 +1,102 @@
+#!/usr/bin/env python3
+"""made_up_recording.py FILE: writes a recording of aarch64 that no machine made, of which each stack is known by hand.
+
+Its processes have frame pointers only. It has a signed return address, a stack that was cut off, a sample without registers, a
+new process, one that runs another program, a mapping over the middle of another, lost records, and records that are not in the
+order of their times. Layout: Linux, include/uapi/linux/perf_event.h, and tools/perf/Documentation/perf.data-file-format.txt.
+"""
+
+import struct
+import sys
+
+PERF_RECORD_LOST, PERF_RECORD_COMM, PERF_RECORD_FORK, PERF_RECORD_SAMPLE, PERF_RECORD_MMAP2 = 2, 3, 7, 9, 10
+IN_USER_SPACE, EXEC = 2, 0x2000
+IP_TID_TIME_REGS_STACK = 0x3007
+AARCH64_REGISTERS = 0x1_FFFF_FFFF
+SAMPLE_ID_ALL = 1 << 18
+STACK = 0x7000_0000
+
+
+def padded(text):
+    text = text.encode() + b"\0"
+    return text + bytes(-len(text) % 8)
+
+
+def record(kind, misc, body):
+    return struct.pack("<IHH", kind, misc, 8 + len(body)) + body
+
+
+def identified(kind, misc, body, pid, time):
+    return record(kind, misc, body + struct.pack("<IIQ", pid, pid, time))
+
+
+def comm(pid, name, time, misc=0):
+    return identified(PERF_RECORD_COMM, misc, struct.pack("<II", pid, pid) + padded(name), pid, time)
+
+
+def fork(pid, parent, time):
+    return identified(PERF_RECORD_FORK, 0, struct.pack("<IIIIQ", pid, parent, pid, parent, time), pid, time)
+
+
+def mapping(pid, start, size, offset, name, time):
+    body = struct.pack("<IIQQQ", pid, pid, start, size, offset) + bytes(24) + struct.pack("<II", 5, 2) + padded(name)
+    return identified(PERF_RECORD_MMAP2, IN_USER_SPACE, body, pid, time)
+
+
+def lost(count, pid, time):
+    return identified(PERF_RECORD_LOST, 0, struct.pack("<QQ", 0, count), pid, time)
+
+
+def sample(pid, time, pc, links):
+    """A sample whose frame records, pairs of the caller's frame pointer and a return address, begin at the stack pointer."""
+    stack = b"".join(struct.pack("<QQ", *link) for link in links)
+    registers = [0] * 33
+    registers[29], registers[31], registers[32] = STACK, STACK, pc
+    body = struct.pack("<QIIQQ", pc, pid, pid, time, 2) + struct.pack("<33Q", *registers)
+    return record(PERF_RECORD_SAMPLE, IN_USER_SPACE, body + struct.pack("<Q", len(stack)) + stack + struct.pack("<Q", len(stack)))
+
+
+def sample_without_registers(pid, time):
+    return record(PERF_RECORD_SAMPLE, IN_USER_SPACE, struct.pack("<QIIQQQ", 0, pid, pid, time, 0, 0))
+
+
+def records():
+    outer = (0, 0x10300)
+    whole = [(STACK + 16, 0x10204), outer]
+    signed = [(STACK + 16, 0x0042_0000_0001_0204), outer]
+    cut_off = [(STACK + 0x1000, 0x10204)]
+    return [
+        comm(100, "app", 1),
+        mapping(100, 0x10000, 0x3000, 0x1000, "/srv/app", 2),
+        sample(100, 10, 0x10124, whole),
+        # the third page is mapped anew, by another file
+        sample(100, 30, 0x12008, whole),
+        mapping(100, 0x11000, 0x1000, 0, "/srv/plug;in", 20),
+        sample(100, 21, 0x11008, whole),
+        sample(100, 11, 0x10124, signed),
+        sample(100, 12, 0x10124, cut_off),
+        sample_without_registers(100, 13),
+        fork(200, 100, 40),
+        sample(200, 41, 0x10124, whole),
+        comm(200, "other", 50, EXEC),
+        mapping(200, 0x10000, 0x1000, 0, "/srv/other", 52),
+        # the third page is no longer mapped
+        sample(200, 53, 0x12008, whole),
+        lost(5, 100, 60),
+    ]
+
+
+def recording():
+    attributes_at = 104
+    attribute = struct.pack("<IIQQQQQ", 1, 128, 0, 1000, IP_TID_TIME_REGS_STACK, 0, SAMPLE_ID_ALL)
+    attribute += bytes(32) + struct.pack("<QI", AARCH64_REGISTERS, 1024) + bytes(36)
+    assert len(attribute) == 128
+    records_at = attributes_at + len(attribute) + 16
+    body = b"".join(records())
+    header = b"PERFILE2" + struct.pack("<QQ", 104, 144)
+    header += struct.pack("<QQQQQQ", attributes_at, 144, records_at, len(body), 0, 0) + bytes(32)
+    return header + attribute + struct.pack("<QQ", records_at, 0) + body
+
+
+with open(sys.argv[1], "wb") as file:
+    file.write(recording())
