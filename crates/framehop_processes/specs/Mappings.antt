@@ -1,5 +1,5 @@
 -- The mappings of a process, in order of start.
-use Rattle.std.specs.Prelude.{ℕ, ◌+◌, ◌<◌, ◌≤◌, nat_le, nat_lt, List, [], ◌∷◌, ◌++◌, length, map, filter, min, max, ◌&&◌}
+use Rattle.std.specs.Prelude.{ℕ, ◌+◌, ◌<◌, ◌≤◌, Bool, Option, option_map, find, nat_le, nat_lt, List, [], ◌∷◌, ◌++◌, length, map, filter, min, max, ◌&&◌}
 use Rattle.framehop_processes.specs.declared.mapping.Mapping.{Mapping}
 
 -- each has an address, and starts at or after the end of the one before it, the first at or after an address
@@ -26,6 +26,18 @@ above address mappings = map (part_above address) (filter (λ m. nat_lt address 
 -- MAP_FIXED: the overlapped part of existing mappings is discarded; munmap(2): what is left of a mapping is mapped still).
 abbrev pub with_mapping : Mapping → List Mapping → List Mapping
 with_mapping new mappings = below new.start mappings ++ new ∷ above new.end mappings
+
+-- a mapping has an address
+abbrev pub covers : ℕ → Mapping → Bool
+covers address m = nat_le m.start address && nat_lt address m.end
+
+-- what is mapped: which file, at which base, and whether with its sections
+abbrev pub content : Mapping → ℕ × ℕ × Bool
+content m = (m.file, m.base_avma, m.has_sections)
+
+-- what is mapped at an address
+abbrev pub mapped_at : ℕ → List Mapping → Option (ℕ × ℕ × Bool)
+mapped_at address mappings = option_map content (find (covers address) mappings)
 
 -- those that end at or below an address, and those that start at or above one
 abbrev pub ending_by : ℕ → List Mapping → List Mapping

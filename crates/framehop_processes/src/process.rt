@@ -1,6 +1,6 @@
 //! A process: its mappings, and the unwinder that has their modules.
-ghost use Rattle.std.specs.Prelude.{◌≡◌, ◌+◌, ◌-◌, ◌^◌, ◌<◌, ◌≤◌, [], IfOk, IfErr, OnOk, OnErr, Err};
-ghost use Rattle.framehop_processes.specs.Mappings.{IsInOrder, with_mapping, changed_modules};
+ghost use Rattle.std.specs.Prelude.{ℕ, ◌≡◌, ◌+◌, ◌-◌, ◌^◌, ◌<◌, ◌≤◌, [], Some, IfOk, IfErr, OnOk, OnErr, Err, if◌then◌else◌};
+ghost use Rattle.framehop_processes.specs.Mappings.{IsInOrder, with_mapping, covers, content, mapped_at, changed_modules};
 ghost use Rattle.framehop_processes.specs.Process.{HasModules, IsDrawn};
 
 use crate::around::{joined, split_ending_by, split_starting_below, with_mapping};
@@ -87,6 +87,8 @@ impl<U: ProcessUnwinder> Process<U> {
         requires { HasModules (M.module_of maker.now) self.old }
         ensures served { HasModules (M.module_of maker.now) self.new }
         ensures mapped { OnOk result (self.new.mappings ≡ with_mapping mapping self.old.mappings) }
+        ensures by_address { OnOk result ((address : ℕ) → mapped_at address self.new.mappings
+            ≡ (if covers address mapping then Some (content mapping) else mapped_at address self.old.mappings)) }
         ensures drawn { OnOk result (IsDrawn generations.old self.new.unwinder.generation generations.new) }
         ensures counted { OnOk result ((generations.new ≡ generations.old + changed_modules mapping self.old.mappings)
             × (self.new.unwinder.generation + 1 ≡ generations.new)) }

@@ -1,6 +1,7 @@
 -- The events of a recording: `perf_file_attr` of perf.data-file-format.txt, and in it `perf_event_attr` of perf_event.h.
 use Rattle.std.specs.Prelude.{ℕ, ◌+◌, ◌-◌, ◌/◌, List, Bool, not, Result, Ok, Err, nat_lt, ◌==◌, if◌then◌else◌}
 use Rattle.framehop_cfi.specs.Bytes.{◌>>=◌}
+use Rattle.framehop_recording.specs.Fields.{ATTR_SIZE, ATTR_SAMPLE_TYPE, ATTR_FLAGS, ATTR_SAMPLE_REGS_USER}
 use Rattle.framehop_recording.specs.Bytes.{u32_at, u64_at, block_at, offsets, each_of, has_bit}
 use Rattle.framehop_recording.specs.Numbers.{SAMPLE_ID_ALL}
 use Rattle.framehop_recording.specs.declared.error.RecordingError.{RecordingError}
@@ -26,9 +27,9 @@ attribute_view a = record {
 -- The fields of an entry of a size, whose bytes are given. Where the event's ids are is said after the attribute.
 unfoldable pub attribute_in : List ℕ → ℕ → ℕ → List ℕ → Result AttributeView RecordingError
 attribute_in file at size entry = do
-  sample_type ← u64_at entry 24 (Eof at)
-  flags ← u64_at entry 40 (Eof at)
-  registers ← u64_at entry 80 (Eof at)
+  sample_type ← u64_at entry ATTR_SAMPLE_TYPE (Eof at)
+  flags ← u64_at entry ATTR_FLAGS (Eof at)
+  registers ← u64_at entry ATTR_SAMPLE_REGS_USER (Eof at)
   ids_offset ← u64_at entry (size - 16) (Eof at)
   ids_size ← u64_at entry (size - 8) (Eof at)
   ids ← block_at file ids_offset.0 ids_size.0 (Eof ids_offset.0)
@@ -39,7 +40,7 @@ attribute_in file at size entry = do
 unfoldable pub attribute_at : List ℕ → ℕ → ℕ → Result AttributeView RecordingError
 attribute_at file at size = if nat_lt size 112 then Err (ShortAttribute at) else (do
   entry ← block_at file at size (Eof at)
-  own_size ← u32_at entry.0 4 (Eof at)
+  own_size ← u32_at entry.0 ATTR_SIZE (Eof at)
   if not (own_size.0 + 16 == size) then Err (BadAttributeSize at) else attribute_in file at size entry.0)
 
 -- the attributes of a recording: the whole entries of the header's section

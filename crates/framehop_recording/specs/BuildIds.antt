@@ -3,6 +3,7 @@
 use Rattle.std.specs.Prelude.{ℕ, ◌+◌, ◌-◌, ◌*◌, ◌^◌, ◌%◌, List, [], take, drop, bit_and, count_ones, Option, Some, None, Result, Ok, Err, if◌then◌else◌}
 use Rattle.framehop_cfi.specs.Bytes.{◌>>=◌}
 use Rattle.framehop_recording.specs.Numbers.{HEADER_BUILD_ID, PERF_RECORD_MISC_BUILD_ID_SIZE}
+use Rattle.framehop_recording.specs.Fields.{BUILD_ID_PID, BUILD_ID_BUILD_ID, BUILD_ID_SIZE, BUILD_ID_FILENAME}
 use Rattle.framehop_recording.specs.Bytes.{u32_at, block_at, each_of, has_bit}
 use Rattle.framehop_recording.specs.Header.{section_at}
 use Rattle.framehop_recording.specs.Records.{RecordView, run_of}
@@ -34,9 +35,9 @@ build_ids_section file header = if has_bit header.features (2 ^ HEADER_BUILD_ID)
 -- PERF_RECORD_MISC_BUILD_ID_SIZE does not say that the number is there, all 20 are.
 unfoldable pub file_build_id_at : RecordView → Result FileBuildIdView RecordingError
 file_build_id_at r = do
-  pid ← u32_at r.body 0 (ShortRecord r.offset)
-  size ← u32_at r.body 24 (ShortRecord r.offset)
-  Ok (record { pid = pid.0; build_id = take (if has_bit r.misc PERF_RECORD_MISC_BUILD_ID_SIZE then size.0 % 256 else 20) (take 20 (drop 4 r.body)); name = text_of (drop 28 r.body) })
+  pid ← u32_at r.body BUILD_ID_PID (ShortRecord r.offset)
+  size ← u32_at r.body BUILD_ID_SIZE (ShortRecord r.offset)
+  Ok (record { pid = pid.0; build_id = take (if has_bit r.misc PERF_RECORD_MISC_BUILD_ID_SIZE then size.0 % 256 else 20) (take 20 (drop BUILD_ID_BUILD_ID r.body)); name = text_of (drop BUILD_ID_FILENAME r.body) })
 
 -- those of a run, which no refusal may end
 abbrev pub build_ids_in : List RecordView → Option RecordingError → Result (List FileBuildIdView) RecordingError

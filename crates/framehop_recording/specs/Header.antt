@@ -1,6 +1,7 @@
 -- The header of a recording: `perf_header` and `perf_file_section` of perf.data-file-format.txt.
 use Rattle.std.specs.Prelude.{ℕ, List, Result, Ok, Err, ◌==◌, if◌then◌else◌}
 use Rattle.framehop_cfi.specs.Bytes.{◌>>=◌}
+use Rattle.framehop_recording.specs.Fields.{HEADER_MAGIC, HEADER_SIZE, HEADER_ATTR_SIZE, HEADER_ATTRS, HEADER_DATA, HEADER_EVENT_TYPES, HEADER_ADDS_FEATURES}
 use Rattle.framehop_recording.specs.Bytes.{Reading, u64_at}
 use Rattle.framehop_recording.specs.declared.error.RecordingError.{RecordingError}
 use Rattle.framehop_recording.specs.declared.error.RecordingError.TheVariants.{Eof, NotARecording, BigEndian, Piped, BadHeaderSize, Unfinished}
@@ -22,26 +23,26 @@ section_at file at = do
 -- `perf record` writes to a pipe has 16 bytes.
 unfoldable pub features_at : List ℕ → ℕ → Result ℕ RecordingError
 features_at file size =
-    if size == 16 then Err (Piped 8)
+    if size == 16 then Err (Piped HEADER_SIZE)
     else if size == 72 then Ok 0
     else if size == 104 then (do
-      features ← number_at file 72
-      Ok features.0) else Err (BadHeaderSize 8)
+      features ← number_at file HEADER_ADDS_FEATURES
+      Ok features.0) else Err (BadHeaderSize HEADER_SIZE)
 
 -- The fields from `size` on. The size of the records is written last: where `perf record` was ended before, it is 0.
 unfoldable pub fields_at : List ℕ → Result Header RecordingError
 fields_at file = do
-  size ← number_at file 8
+  size ← number_at file HEADER_SIZE
   features ← features_at file size.0
-  attribute_size ← number_at file 16
-  attributes ← section_at file 24
-  records ← section_at file 40
-  event_types ← section_at file 56
+  attribute_size ← number_at file HEADER_ATTR_SIZE
+  attributes ← section_at file HEADER_ATTRS
+  records ← section_at file HEADER_DATA
+  event_types ← section_at file HEADER_EVENT_TYPES
   if records.0.size == 0 then Err (Unfinished 48) else Ok (record { attribute_size = attribute_size.0; attributes = attributes.0; records = records.0; features = features })
 
 -- "PERFILE2", which reads backwards on a machine of the other byte order
 unfoldable pub header_at : List ℕ → Result Header RecordingError
 header_at file = do
-  magic ← number_at file 0
+  magic ← number_at file HEADER_MAGIC
   if magic.0 == 0x32454c4946524550 then fields_at file
       else if magic.0 == 0x50455246494c4532 then Err (BigEndian 0) else Err (NotARecording 0)

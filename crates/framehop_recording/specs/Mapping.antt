@@ -3,6 +3,7 @@ use Rattle.std.specs.Prelude.{ℕ, List, [], ◌%◌, take, drop, Bool, not, Res
 use Rattle.std.specs.List.{before_first}
 use Rattle.framehop_cfi.specs.Bytes.{◌>>=◌}
 use Rattle.framehop_recording.specs.Numbers.{PERF_RECORD_MMAP, PERF_RECORD_MMAP2, PERF_RECORD_MISC_MMAP_DATA, PERF_RECORD_MISC_MMAP_BUILD_ID}
+use Rattle.framehop_recording.specs.Fields.{MMAP_PID, MMAP_ADDR, MMAP_LEN, MMAP_PGOFF, MMAP_FILENAME, MMAP2_BUILD_ID_SIZE, MMAP2_BUILD_ID, MMAP2_FILENAME}
 use Rattle.framehop_recording.specs.Bytes.{u32_at, u64_at, block_at, has_bit}
 use Rattle.framehop_recording.specs.Records.{RecordView}
 use Rattle.framehop_recording.specs.declared.error.RecordingError.{RecordingError}
@@ -38,20 +39,20 @@ text_of bytes = before_first (λ byte. byte == 0) bytes
 -- reserved bytes, and at most 20 bytes.
 unfoldable pub build_id_at : RecordView → Result (List ℕ) RecordingError
 build_id_at r = if has_bit r.misc PERF_RECORD_MISC_MMAP_BUILD_ID then (do
-  size ← u32_at r.body 32 (ShortRecord r.offset)
-  Ok (take (size.0 % 256) (take 20 (drop 36 r.body)))) else Ok []
+  size ← u32_at r.body MMAP2_BUILD_ID_SIZE (ShortRecord r.offset)
+  Ok (take (size.0 % 256) (take 20 (drop MMAP2_BUILD_ID r.body)))) else Ok []
 
 -- The fields, of which the name comes last; PERF_RECORD_MISC_MMAP_DATA says that no code is mapped.
 unfoldable pub mapping_fields : RecordView → ℕ → List ℕ → Result MappingView RecordingError
 mapping_fields r name_at build_id = do
-  pid ← u32_at r.body 0 (ShortRecord r.offset)
-  start ← u64_at r.body 8 (ShortRecord r.offset)
-  size ← u64_at r.body 16 (ShortRecord r.offset)
-  offset ← u64_at r.body 24 (ShortRecord r.offset)
+  pid ← u32_at r.body MMAP_PID (ShortRecord r.offset)
+  start ← u64_at r.body MMAP_ADDR (ShortRecord r.offset)
+  size ← u64_at r.body MMAP_LEN (ShortRecord r.offset)
+  offset ← u64_at r.body MMAP_PGOFF (ShortRecord r.offset)
   fields ← block_at r.body 0 name_at (ShortRecord r.offset)
   Ok (record { pid = pid.0; start = start.0; size = size.0; offset = offset.0; is_executable = not (has_bit r.misc PERF_RECORD_MISC_MMAP_DATA); build_id = build_id; name = text_of (drop name_at r.body) })
 
 unfoldable pub mapping_at : RecordView → Result MappingView RecordingError
-mapping_at r = if r.kind == PERF_RECORD_MMAP then mapping_fields r 32 [] else if r.kind == PERF_RECORD_MMAP2 then (do
+mapping_at r = if r.kind == PERF_RECORD_MMAP then mapping_fields r MMAP_FILENAME [] else if r.kind == PERF_RECORD_MMAP2 then (do
   build_id ← build_id_at r
-  mapping_fields r 64 build_id) else Err (OtherKind r.offset)
+  mapping_fields r MMAP2_FILENAME build_id) else Err (OtherKind r.offset)

@@ -3,9 +3,10 @@ use Rattle.std.proofs.lemmas.List.{length-append}
 use Rattle.std.proofs.lemmas.Result.{err_from_is_err_and}
 use Rattle.framehop.specs.Modules.{ModuleView, UnwinderView}
 use Rattle.framehop_processes.specs.declared.mapping.Mapping.{Mapping}
-use Rattle.framehop_processes.specs.Mappings.{IsInOrder, below, above, with_mapping, overlapped, changed_modules}
+use Rattle.framehop_processes.specs.Mappings.{IsInOrder, below, above, with_mapping, mapped_at, overlapped, changed_modules}
 use Rattle.framehop_processes.specs.Process.{ProcessView, StartsAt}
 use Rattle.framehop_processes.proofs.MappingLemmas.{with_mapping-order, whole-parts, mapped-parts, overlapped-middle}
+use Rattle.framehop_processes.proofs.AddressLemmas.{mapped-by_address}
 use Rattle.framehop_processes.proofs.process.Process.map.Goals as goal
 
 -- how many modules change, by the mappings that are overlapped
@@ -48,6 +49,21 @@ returns-clause-mapped g c =
     ∙ ap (λ (middle : List Mapping). c.split_ending_by.result.0.now ++ (middle ++ c.split_starting_below.result.1.now)) changed
     ∙ mapped-parts new c.if-mapping.false ms c.split_ending_by.result.0.now c.split_ending_by.result.1.now c.split_starting_below.result.0.now c.split_starting_below.result.1.now first.whole first.before last.whole last.after order
     ∙ ap (with_mapping new) same
+
+pub returns-clause-by_address : goal.returns-clause-by_address
+returns-clause-by_address g c address =
+    let new = c.args.mapping in
+    let ms = c.as_slice.result.now in
+    let first = c.split_ending_by.ensures in
+    let last = c.split_starting_below.ensures in
+    let order = subst (λ (l : List Mapping). IsInOrder 0 l) (sym c.as_slice.ensures.value) c.self.invariant in
+    let same = c.as_slice.ensures.value ∙ ap (λ (p : ProcessView). p.mappings) c.self.view_is in
+    let changed = c.as_slice-2.ensures.value ∙ c.in_ok-changed.ensures in
+    let all = c.in_ok-mappings.ensures
+    ∙ ap (λ (middle : List Mapping). c.split_ending_by.result.0.now ++ (middle ++ c.split_starting_below.result.1.now)) changed
+    ∙ mapped-parts new c.if-mapping.false ms c.split_ending_by.result.0.now c.split_ending_by.result.1.now c.split_starting_below.result.0.now c.split_starting_below.result.1.now first.whole first.before last.whole last.after order
+    ∙ ap (with_mapping new) same in
+    ap (mapped_at address) all ∙ mapped-by_address address new c.args.self.now.mappings c.if-mapping.false
 
 pub returns-clause-served : goal.returns-clause-served
 returns-clause-served g c =
