@@ -140,7 +140,7 @@ where
         (walk_of walk.0.items walk.1 walk.2 ≡ walk_from step limit pc regs)
         × (cache.new ≡ cache_after_walk step (U.cache_after unwinder.now) limit pc regs cache.old)
         × IsWalkMeant (λ location before address after. (step location before ≡ answered address after)
-            × U.means unwinder.now location before memory address after)
+        × U.means unwinder.now location before memory address after)
         regs (walk_from step limit pc regs)) }
 {
     let mut unwinding = unwinder.iter_frames(pc, regs, cache, read_stack);
