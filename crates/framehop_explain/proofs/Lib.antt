@@ -1,0 +1,2 @@
+pub mod FramesLemmas
+pub mod ToldLemmas
