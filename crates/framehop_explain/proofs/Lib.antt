@@ -1,2 +1,4 @@
+pub mod CodeLemmas
+pub mod DecidedLemmas
 pub mod FramesLemmas
 pub mod ToldLemmas

@@ -1,6 +1,10 @@
 -- What the contracts of this crate cite: kinds of unwind data, sources of frames, and what is told.
+pub mod Analysed
+pub mod CompactSource
+pub mod Decided
 pub mod Explain
 pub mod Kind
+pub mod Laws
 pub mod PeSource
 pub mod Source
 pub mod Told

@@ -7,6 +7,7 @@ ghost use Rattle.framehop_pe.specs.Sections.{sections_of};
 ghost use Rattle.framehop.specs.Fresh.{step};
 ghost use Rattle.framehop.specs.Modules.{covering, pe_sections};
 ghost use Rattle.framehop.specs.UnwindData.{placed_data};
+ghost use Rattle.framehop_explain.specs.Decided.{IsDecidedBy};
 ghost use Rattle.framehop_explain.specs.Explain.{IsSource, IsTold};
 
 use crate::compact::explain_compact;
@@ -92,7 +93,11 @@ where
     requires { F.IsAlwaysCallable read_stack.old }
     ensures callable { F.IsAlwaysCallable read_stack.new }
     ensures source { IfOk result (λ found.
-        IsSource P.GimliUnwindContextStorage.limits A.pe_source module.now.unwind_data relative_address is_first_frame found.0) }
+        IsSource (record {
+          pe = A.pe_source;
+          code = record { by_code = A.by_code; prologue = A.prologue_rule; epilogue = A.epilogue_rule };
+          compact = A.readers.compact;
+        }) P.GimliUnwindContextStorage.limits module.now.unwind_data relative_address is_first_frame found.0) }
     ensures answers { (memory : Memory) → AnswersAs F.FnMut read_stack.old memory
         → AnswersAs F.FnMut read_stack.new memory
         × IfOk result (λ found. IsTold (record {
@@ -101,6 +106,7 @@ where
           direct = λ bytes row. A.direct bytes P.GimliEvaluationStorage.Stack.limit memory row is_first_frame regs;
           found = A.found;
           computed = λ sections relative first. A.computed sections relative first memory regs;
+          compact = A.readers.compact;
         }) P.GimliUnwindContextStorage.limits module.now.unwind_data relative_address is_first_frame found.1) }
 {
     match module.unwind_data() {
@@ -185,7 +191,11 @@ where
         (covering unwinder.entry.now.modules address ≡ None)
         (λ found. (covering unwinder.entry.now.modules address ≡ Some found.«module».now)
         × (found.relative_address ≡ address - found.«module».now.base_avma)
-        × IsSource P.GimliUnwindContextStorage.limits A.pe_source found.«module».now.unwind_data found.relative_address is_first_frame found.source)) }
+        × IsSource (record {
+          pe = A.pe_source;
+          code = record { by_code = A.by_code; prologue = A.prologue_rule; epilogue = A.epilogue_rule };
+          compact = A.readers.compact;
+        }) P.GimliUnwindContextStorage.limits found.«module».now.unwind_data found.relative_address is_first_frame found.source)) }
     ensures answers { (memory : Memory) → AnswersAs F.FnMut read_stack.old memory
         → AnswersAs F.FnMut read_stack.new memory
         × IfOk result (λ finding. IfSome finding (λ found. IsTold (record {
@@ -194,6 +204,7 @@ where
           direct = λ bytes row. A.direct bytes P.GimliEvaluationStorage.Stack.limit memory row is_first_frame regs;
           found = A.found;
           computed = λ sections relative first. A.computed sections relative first memory regs;
+          compact = A.readers.compact;
         }) P.GimliUnwindContextStorage.limits found.«module».now.unwind_data found.relative_address is_first_frame found.told)) }
 {
     let Some((module, relative_address)) = unwinder.find_module_for_address(address) else {
@@ -237,7 +248,11 @@ where
         (covering unwinder.entry.now.modules (lookup_address (location_of address)) ≡ None)
         (λ found. (covering unwinder.entry.now.modules (lookup_address (location_of address)) ≡ Some found.«module».now)
         × (found.relative_address ≡ lookup_address (location_of address) - found.«module».now.base_avma)
-        × IsSource P.GimliUnwindContextStorage.limits A.pe_source found.«module».now.unwind_data found.relative_address (is_first_frame (location_of address)) found.source)) }
+        × IsSource (record {
+          pe = A.pe_source;
+          code = record { by_code = A.by_code; prologue = A.prologue_rule; epilogue = A.epilogue_rule };
+          compact = A.readers.compact;
+        }) P.GimliUnwindContextStorage.limits found.«module».now.unwind_data found.relative_address (is_first_frame (location_of address)) found.source)) }
     ensures answers { (memory : Memory) → AnswersAs F.FnMut read_stack.old memory
         → AnswersAs F.FnMut read_stack.new memory
         × IfOk result (λ explanation. IfSome explanation.finding (λ found. IsTold (record {
@@ -246,11 +261,15 @@ where
           direct = λ bytes row. A.direct bytes P.GimliEvaluationStorage.Stack.limit memory row (is_first_frame (location_of address)) regs;
           found = A.found;
           computed = λ sections relative first. A.computed sections relative first memory regs;
+          compact = A.readers.compact;
         }) P.GimliUnwindContextStorage.limits found.«module».now.unwind_data found.relative_address (is_first_frame (location_of address)) found.told)) }
     ensures outcome { (memory : Memory) → AnswersAs F.FnMut read_stack.old memory
         → IfOk result (λ explanation.
         (explanation.outcome ≡ answer_of (step (A.unwinding P.policy) unwinder.entry.now.modules (location_of address) regs memory))
         × (explanation.regs ≡ registers_after regs (step (A.unwinding P.policy) unwinder.entry.now.modules (location_of address) regs memory))) }
+    ensures decided { (memory : Memory) → AnswersAs F.FnMut read_stack.old memory
+        → IfOk result (λ explanation. IsDecidedBy A.UnwindRule.outcome A.UnwindRule.fallback (is_first_frame (location_of address)) regs memory
+        (option_map (λ found. found.told) explanation.finding) explanation.outcome explanation.regs) }
 {
     let mut cache: Cache<A::UnwindRule, P> = Cache::new(alloc)?;
     let finding = explain_address(

@@ -1,10 +1,11 @@
 //! Where PE unwind info tells how to unwind from an address, and what.
-ghost use Rattle.std.specs.Prelude.{◌≡◌, ℕ, Bool};
+ghost use Rattle.std.specs.Prelude.{◌≡◌, ℕ, Bool, List, None, if◌then◌else◌};
 ghost use Rattle.framehop_core.specs.Memory.{Memory, AnswersAs};
 ghost use Rattle.framehop_pe.specs.Sections.{Sections, sections_of};
 ghost use Rattle.framehop_explain.specs.Told.{told_by, pe_reason};
 ghost use Rattle.framehop_explain.specs.PeSource.{function_source};
 ghost use Rattle.framehop_explain.specs.declared.source.PeSource.{PeSource as PeSourceOf};
+ghost use Rattle.framehop_macho.specs.declared.unwind_info.info.Function.{Function};
 
 use crate::source::PeSource;
 use crate::told::{Told, told_by_pe};
@@ -29,8 +30,17 @@ pub trait Sources: Unwinding {
     ) -> PeSource
         ensures { result ≡ pe_source (sections_of D.contents sections.entry) address is_first_frame };
 
-    /// Whether the code of a function with this opcode is looked at in a first frame.
-    fn is_analysed(opcode: u32) -> bool;
+    // whether the code of a function with this opcode of compact unwind info is looked at
+    ghost is_analysed: { ℕ → Bool };
+
+    /// Whether the code of a function with this opcode of compact unwind info is looked at, in a
+    /// first frame.
+    fn is_analysed(opcode: u32) -> bool
+        ensures { result ≡ is_analysed opcode };
+
+    // then the code gives what its analysis finds, else nothing
+    ghost by_code_is: { (function : Function) (code : List ℕ) (offset : ℕ)
+        → Self.by_code function code offset ≡ (if is_analysed function.opcode then Self.analysed code offset else None) };
 }
 
 /// Returns where the unwind info of a function tells it.
@@ -57,9 +67,15 @@ fn function_source<D: SectionBytes>(
 }
 
 impl Sources for ArchX86_64 {
+    ghost use Rattle.std.specs.Prelude.{true};
+    ghost use Rattle.std.proofs.Common.{refl};
     ghost use Rattle.framehop_explain.specs.PeSource.{source_at};
 
     ghost pe_source = { source_at };
+
+    ghost is_analysed = { λ opcode. true };
+
+    ghost by_code_is = { λ function code offset. refl };
 
     fn pe_source<D: SectionBytes>(
         sections: PeSections<'_, D>,
@@ -82,8 +98,14 @@ impl Sources for ArchX86_64 {
 
 impl Sources for ArchAarch64 {
     ghost use Rattle.framehop_explain.specs.declared.source.PeSource.TheVariants.{Unsupported};
+    ghost use Rattle.framehop_explain.specs.Analysed.{is_analysed};
+    ghost use Rattle.framehop_explain.specs.Laws.{by_code-is};
 
     ghost pe_source = { λ sections address first. Unsupported };
+
+    ghost is_analysed = { is_analysed };
+
+    ghost by_code_is = { by_code-is };
 
     fn pe_source<D: SectionBytes>(
         _sections: PeSections<'_, D>,
@@ -93,8 +115,9 @@ impl Sources for ArchAarch64 {
         PeSource::Unsupported
     }
 
+    #[tactic(auto, unfolding(crate::specs::Analysed::is_analysed))]
     fn is_analysed(opcode: u32) -> bool {
-        opcode >> 24 & 0xf != 0
+        (opcode >> 24) & 0xf != 0
     }
 }
 
