@@ -8,3 +8,4 @@ pub mod Laws
 pub mod PeSource
 pub mod Source
 pub mod Told
+pub mod Uncovered
