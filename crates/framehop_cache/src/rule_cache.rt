@@ -343,14 +343,15 @@ pub struct CacheStats {
     /// How many lookups hit.
     pub hit_count: u64,
 
-    /// How many lookups missed at a set with an empty slot.
+    /// How many lookups missed at a set that had room: none or one of its two entries.
     pub miss_empty_slot_count: u64,
 
-    /// How many lookups missed at a slot whose generation was another than the unwinder's: its
-    /// modules have changed since, or several unwinders share the cache and its slots.
+    /// How many lookups missed at a full set without an entry of the unwinder's generation: its
+    /// modules have changed since, or several unwinders share the cache.
     pub miss_wrong_modules_count: u64,
 
-    /// How many lookups missed at a slot that held another address or another kind of frame.
+    /// How many lookups missed at a full set with an entry of the unwinder's generation, for another
+    /// address or kind of frame.
     pub miss_wrong_address_count: u64,
 }
 

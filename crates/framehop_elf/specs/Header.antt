@@ -1,6 +1,7 @@
 -- The ELF header (gABI, chapter 4, "ELF Header").
 use Rattle.std.specs.Prelude.{ℕ, List, slice_index, not, Result, Ok, Err, ◌==◌, if◌then◌else◌}
 use Rattle.framehop_cfi.specs.Bytes.{◌>>=◌, le2, le4, le8}
+use Rattle.framehop_elf.specs.Numbers.{ELFMAG, ELFCLASS64, ELFDATA2LSB, EV_CURRENT}
 use Rattle.framehop_elf.specs.Bytes.{block_at}
 use Rattle.framehop_elf.specs.declared.error.ElfError.{ElfError}
 use Rattle.framehop_elf.specs.declared.error.ElfError.TheVariants.{NotElf, NotClass64, NotLittleEndian, UnknownVersion}
@@ -21,13 +22,13 @@ fields_of entry = record {
   e_shstrndx = le2 entry 62;
 }
 
--- e_ident: the magic number, ELFCLASS64 (2), ELFDATA2LSB (1), EV_CURRENT (1)
+-- e_ident: the magic number, the class, the encoding and the version
 abbrev pub identified : List ℕ → Result FileHeader ElfError
 identified entry =
-    if not (le4 entry 0 == 0x464c457f) then Err (NotElf 0)
-    else if not (slice_index entry 4 == 2) then Err (NotClass64 4)
-    else if not (slice_index entry 5 == 1) then Err (NotLittleEndian 5)
-    else if not (slice_index entry 6 == 1) then Err (UnknownVersion 6)
+    if not (le4 entry 0 == ELFMAG) then Err (NotElf 0)
+    else if not (slice_index entry 4 == ELFCLASS64) then Err (NotClass64 4)
+    else if not (slice_index entry 5 == ELFDATA2LSB) then Err (NotLittleEndian 5)
+    else if not (slice_index entry 6 == EV_CURRENT) then Err (UnknownVersion 6)
     else Ok (fields_of entry)
 
 -- the header of a file

@@ -1,4 +1,5 @@
 -- What the contracts of this crate cite: the parts of an ELF file.
+pub mod Numbers
 pub mod Bytes
 pub mod Header
 pub mod SectionHeader
@@ -6,5 +7,7 @@ pub mod ProgramHeader
 pub mod Section
 pub mod Segment
 pub mod Note
+pub mod BuildId
 pub mod Symbol
 pub mod FileSection
+pub mod UnwindSections

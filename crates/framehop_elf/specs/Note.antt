@@ -4,6 +4,7 @@ use Rattle.std.specs.Prelude.{ℕ, zero, suc, ◌+◌, ◌-◌, ◌*◌, ◌/◌
 use Rattle.std.specs.List.{find}
 use Rattle.std.specs.Cmp.Lexicographic.{pointwise}
 use Rattle.framehop_cfi.specs.Bytes.{le4}
+use Rattle.framehop_elf.specs.Numbers.{NT_GNU_BUILD_ID}
 use Rattle.framehop_elf.specs.declared.note.Note.{Note}
 
 -- a note by its values
@@ -51,9 +52,9 @@ notes_in skipped [] = []
 notes_in (suc skipped) (byte ∷ bytes) = notes_in skipped bytes
 notes_in zero (byte ∷ bytes) = notes_after (note_at (byte ∷ bytes)) (λ size. notes_in (size - 1) bytes)
 
--- NT_GNU_BUILD_ID (3) of "GNU"
+-- NT_GNU_BUILD_ID of "GNU"
 abbrev pub is_build_id : NoteView → Bool
-is_build_id note = (note.n_type == 3) && pointwise nat_eq note.name (71 ∷ 78 ∷ 85 ∷ 0 ∷ [])
+is_build_id note = (note.n_type == NT_GNU_BUILD_ID) && pointwise nat_eq note.name (71 ∷ 78 ∷ 85 ∷ 0 ∷ [])
 
 -- the build id in notes
 abbrev pub build_id_of : List ℕ → Option (List ℕ)

@@ -1,6 +1,7 @@
 -- Program headers (gABI, chapter 5, "Program Header").
 use Rattle.std.specs.Prelude.{ℕ, List, map, Result, Ok, Err, not, ◌&&◌, ◌==◌, if◌then◌else◌}
 use Rattle.framehop_cfi.specs.Bytes.{◌>>=◌, le4, le8}
+use Rattle.framehop_elf.specs.Numbers.{PN_XNUM}
 use Rattle.framehop_elf.specs.Bytes.{table_at}
 use Rattle.framehop_elf.specs.SectionHeader.{first_section_of}
 use Rattle.framehop_elf.specs.declared.error.ElfError.{ElfError}
@@ -25,7 +26,7 @@ program_header_of entry = record {
 unfoldable pub segment_count_of : List ℕ → FileHeader → Result ℕ ElfError
 segment_count_of file header =
     if header.e_phoff == 0 then Ok 0
-    else if not (header.e_phnum == 0xffff) then Ok header.e_phnum
+    else if not (header.e_phnum == PN_XNUM) then Ok header.e_phnum
     else (do
       first ← first_section_of file header
       Ok first.sh_info)

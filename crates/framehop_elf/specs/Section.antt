@@ -3,6 +3,7 @@ use Rattle.std.specs.Prelude.{ℕ, List, [], drop, Option, Some, None, bit_and, 
 use Rattle.std.specs.List.{before_first, find, slice_get}
 use Rattle.std.specs.Cmp.Lexicographic.{pointwise}
 use Rattle.framehop_cfi.specs.Bytes.{◌>>=◌}
+use Rattle.framehop_elf.specs.Numbers.{SHN_UNDEF, SHN_XINDEX, SHT_NOBITS, SHF_COMPRESSED}
 use Rattle.framehop_elf.specs.Bytes.{block_at}
 use Rattle.framehop_elf.specs.SectionHeader.{first_section_of}
 use Rattle.framehop_elf.specs.declared.error.ElfError.{ElfError}
@@ -14,21 +15,21 @@ use Rattle.framehop_elf.specs.declared.section_header.SectionHeader.{SectionHead
 abbrev pub string_of : List ℕ → ℕ → List ℕ
 string_of table at = before_first (λ byte. byte == 0) (drop at table)
 
--- the size of a section in the file: that of SHT_NOBITS (8) is 0
+-- the size of a section in the file: that of SHT_NOBITS is 0
 abbrev pub size_in_file : SectionHeader → ℕ
-size_in_file section = if section.sh_type == 8 then 0 else section.sh_size
+size_in_file section = if section.sh_type == SHT_NOBITS then 0 else section.sh_size
 
--- what a section holds: nothing in the file where it is SHT_NOBITS (8); SHF_COMPRESSED (0x800) is refused
+-- what a section holds: nothing in the file where it is SHT_NOBITS; SHF_COMPRESSED is refused
 unfoldable pub contents_of : List ℕ → SectionHeader → Result (List ℕ) ElfError
 contents_of file section =
-    if section.sh_type == 8 then Ok []
-    else if not (bit_and section.sh_flags 0x800 == 0) then Err (Compressed section.sh_offset)
+    if section.sh_type == SHT_NOBITS then Ok []
+    else if not (bit_and section.sh_flags SHF_COMPRESSED == 0) then Err (Compressed section.sh_offset)
     else block_at file section.sh_offset section.sh_size
 
 -- the index of the section of names: e_shstrndx, or sh_link of the first section where that is SHN_XINDEX
 unfoldable pub names_index_of : List ℕ → FileHeader → Result ℕ ElfError
 names_index_of file header =
-    if not (header.e_shstrndx == 0xffff) then Ok header.e_shstrndx
+    if not (header.e_shstrndx == SHN_XINDEX) then Ok header.e_shstrndx
     else (do
       first ← first_section_of file header
       Ok first.sh_link)
@@ -42,7 +43,7 @@ names_in file None = Err (NoSuchSection 62)
 unfoldable pub section_names_of : List ℕ → FileHeader → List SectionHeader → Result (List ℕ) ElfError
 section_names_of file header sections = do
   index ← names_index_of file header
-  if index == 0 then Ok [] else names_in file (slice_get sections index)
+  if index == SHN_UNDEF then Ok [] else names_in file (slice_get sections index)
 
 -- the first section of a name
 abbrev pub section_called : List SectionHeader → List ℕ → List ℕ → Option SectionHeader

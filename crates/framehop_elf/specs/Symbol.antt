@@ -1,33 +1,45 @@
 -- Symbols of functions (gABI, chapter 4, "Symbol Table").
-use Rattle.std.specs.Prelude.{ℕ, ◌+◌, ◌/◌, ◌%◌, List, [], ◌∷◌, length, map, filter, Bool, not, Option, Some, None, option_and_then, Result, Ok, Err, slice_index, nat_le, nat_lt, ◌&&◌, ◌||◌, ◌==◌, if◌then◌else◌}
+use Rattle.std.specs.Prelude.{ℕ, ◌+◌, ◌-◌, ◌/◌, ◌%◌, List, [], ◌∷◌, length, map, filter, Bool, not, Option, Some, None, option_map, option_and_then, unwrap_or, slice_get, Result, Ok, Err, slice_index, nat_le, nat_lt, ◌&&◌, ◌||◌, ◌==◌, if◌then◌else◌}
 use Rattle.std.specs.Simd.{first_chunks}
 use Rattle.framehop_cfi.specs.Bytes.{◌>>=◌, le2, le4, le8}
+use Rattle.framehop_elf.specs.Numbers.{SHN_UNDEF, STT_FUNC, STT_GNU_IFUNC}
 use Rattle.framehop_elf.specs.Section.{contents_of}
 use Rattle.framehop_elf.specs.declared.error.ElfError.{ElfError}
-use Rattle.framehop_elf.specs.declared.error.ElfError.TheVariants.{BadEntrySize}
+use Rattle.framehop_elf.specs.declared.error.ElfError.TheVariants.{BadEntrySize, NoSuchSection}
 use Rattle.framehop_elf.specs.declared.section_header.SectionHeader.{SectionHeader}
 use Rattle.framehop_elf.specs.declared.symbol.Symbol.{Symbol}
 
--- The entry of a function: its type is STT_FUNC (2) or STT_GNU_IFUNC (10), its section is not SHN_UNDEF (0), and its value
--- is not 0.
+-- The entry of a function: its type is STT_FUNC or STT_GNU_IFUNC, its section is not SHN_UNDEF, and its value is not 0.
 abbrev pub is_function : List ℕ → Bool
 is_function entry =
-    ((slice_index entry 4 % 16 == 2) || (slice_index entry 4 % 16 == 10))
-    && not (le2 entry 6 == 0) && not (le8 entry 8 == 0)
+    ((slice_index entry 4 % 16 == STT_FUNC) || (slice_index entry 4 % 16 == STT_GNU_IFUNC))
+    && not (le2 entry 6 == SHN_UNDEF) && not (le8 entry 8 == 0)
+
+-- how many bytes of a section there are from an address on, none where the address is below the section
+abbrev pub size_from : ℕ → SectionHeader → ℕ
+size_from address section =
+    if nat_le section.sh_addr address then section.sh_size - (address - section.sh_addr) else 0
+
+-- Of an entry, the most bytes that its symbol has: its st_size, or, where that is 0, those to the end of the section
+-- of index st_shndx.
+abbrev pub size_of : List SectionHeader → List ℕ → ℕ
+size_of sections entry =
+    if not (le8 entry 16 == 0) then le8 entry 16
+    else unwrap_or (option_map (size_from (le8 entry 8)) (slice_get sections (le2 entry 6))) 0
 
 -- Elf64_Sym
-abbrev pub symbol_of : List ℕ → Symbol
-symbol_of entry = record { st_name = le4 entry 0; st_value = le8 entry 8; st_size = le8 entry 16 }
+abbrev pub symbol_of : List SectionHeader → List ℕ → Symbol
+symbol_of sections entry = record { st_name = le4 entry 0; st_value = le8 entry 8; size = size_of sections entry }
 
 -- the functions in a table's contents, whose entries have 24 bytes
-abbrev pub functions_in : List ℕ → List Symbol
-functions_in contents = map symbol_of (filter is_function (first_chunks 24 (length contents / 24) contents))
+abbrev pub functions_in : List SectionHeader → List ℕ → List Symbol
+functions_in sections contents = map (symbol_of sections) (filter is_function (first_chunks 24 (length contents / 24) contents))
 
--- the functions of a symbol table of the file
-unfoldable pub function_symbols_of : List ℕ → SectionHeader → Result (List Symbol) ElfError
-function_symbols_of file table = if not (table.sh_entsize == 24) then Err (BadEntrySize table.sh_offset) else (do
+-- the functions of a symbol table of the file, which has these sections
+unfoldable pub function_symbols_of : List ℕ → List SectionHeader → SectionHeader → Result (List Symbol) ElfError
+function_symbols_of file sections table = if not (table.sh_entsize == 24) then Err (BadEntrySize table.sh_offset) else (do
   contents ← contents_of file table
-  Ok (functions_in contents))
+  Ok (functions_in sections contents))
 
 -- where a symbol begins
 abbrev pub start_of : Symbol → ℕ
@@ -44,12 +56,21 @@ nearest_of [] address = None
 nearest_of (symbol ∷ symbols) address =
     if nat_le (start_of symbol) address then later_of symbol (nearest_of symbols address) else nearest_of symbols address
 
--- an address at or after a symbol's start is in it: before its end, or the symbol has no size
+-- an address at or after a symbol's start is in it: before its end
 abbrev pub reaches : ℕ → Symbol → Bool
-reaches address symbol = (symbol.st_size == 0) || nat_lt address (symbol.st_value + symbol.st_size)
+reaches address symbol = nat_lt address (symbol.st_value + symbol.size)
 
 -- The symbol of the function that has an address: the nearest, if it reaches to the address. One without a size reaches to
--- the next symbol. A symbol in another one hides it, also after its end.
+-- the next symbol, or to the end of its section. A symbol in another one hides it, also after its end.
 abbrev pub symbol_for : List Symbol → ℕ → Option Symbol
 symbol_for symbols address =
     option_and_then (λ symbol. if reaches address symbol then Some symbol else None) (nearest_of symbols address)
+
+-- what a section holds that a symbol table names
+abbrev pub names_in_section : List ℕ → SectionHeader → Option SectionHeader → Result (List ℕ) ElfError
+names_in_section file table (Some section) = contents_of file section
+names_in_section file table None = Err (NoSuchSection table.sh_offset)
+
+-- the string table that has the names of a symbol table: the section of index sh_link
+abbrev pub symbol_names_of : List ℕ → List SectionHeader → SectionHeader → Result (List ℕ) ElfError
+symbol_names_of file sections table = names_in_section file table (slice_get sections table.sh_link)

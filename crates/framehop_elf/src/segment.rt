@@ -1,7 +1,7 @@
 //! Where the bytes of a file are in memory.
 ghost use Rattle.std.specs.Prelude.{◌≡◌, Ok, Err, MatchResult, find};
 ghost use Rattle.framehop_elf.specs.Bytes.{block_at};
-ghost use Rattle.framehop_elf.specs.Segment.{is_loaded_from, svma_in, svma_of, base_of};
+ghost use Rattle.framehop_elf.specs.Segment.{is_code, fits, is_loaded_from, segment_of, svma_in, svma_of, base_of};
 
 use crate::bytes::read_block;
 use crate::error::ElfError;
@@ -28,13 +28,35 @@ pub fn read_segment<'a>(file: &'a [u8], segment: ProgramHeader) -> Result<&'a [u
     read_block(file, segment.p_offset, segment.p_filesz)
 }
 
-/// Returns whether a segment is loaded to be executed, begins before the end of the page at an offset,
-/// and ends after the offset.
+/// Returns whether a segment is loaded to be executed.
+fn is_code(segment: ProgramHeader) -> bool
+    ensures { result ≡ is_code segment }
+{
+    segment.p_type == PT_LOAD && segment.p_flags & PF_X != 0
+}
+
+/// Returns whether the pages of a segment that is loaded to be executed are those at an offset, of a size.
+fn is_whole(segment: ProgramHeader, page_size: u64, offset: u64, size: u64) -> bool
+    ensures { result ≡ fits page_size offset size segment }
+{
+    let page_size = u128::from(page_size);
+    let start = u128::from(segment.p_offset);
+    let end = start + u128::from(segment.p_filesz);
+    let mapped_start = u128::from(offset);
+    let mapped_end = mapped_start + u128::from(size);
+    is_code(segment)
+        && mapped_start <= start
+        && start < mapped_start + page_size
+        && end <= mapped_end
+        && mapped_end < end + page_size
+}
+
+/// Returns whether a segment that is loaded to be executed begins before the end of the page at an
+/// offset, and ends after the offset.
 fn is_loaded(segment: ProgramHeader, page_size: u64, offset: u64) -> bool
     ensures { result ≡ is_loaded_from page_size offset segment }
 {
-    segment.p_type == PT_LOAD
-        && segment.p_flags & PF_X != 0
+    is_code(segment)
         && (segment.p_offset < offset || segment.p_offset - offset < page_size)
         && (offset < segment.p_offset || offset - segment.p_offset < segment.p_filesz)
 }
@@ -50,7 +72,24 @@ fn svma_in_segment(segment: ProgramHeader, offset: u64) -> Option<u64>
     }
 }
 
-/// Returns the segment that an executable mapping from an offset of the file on is of.
+/// Returns the first segment whose pages are those of an executable mapping, if there is one.
+fn whole_segment(
+    segments: &[ProgramHeader],
+    page_size: u64,
+    offset: u64,
+    size: u64,
+) -> Option<ProgramHeader>
+    ensures { result ≡ find (fits page_size offset size) segments.now }
+{
+    for segment in segments {
+        if is_whole(*segment, page_size, offset, size) {
+            return Some(*segment);
+        }
+    }
+    None
+}
+
+/// Returns the first segment of which an executable mapping from an offset on is a part.
 fn segment_of_file_offset(
     segments: &[ProgramHeader],
     page_size: u64,
@@ -66,26 +105,54 @@ fn segment_of_file_offset(
     None
 }
 
-/// Returns the stated address (SVMA) of an offset of the file at which an executable mapping begins, or
-/// `None` where no segment has it. Offsets and the size of a page are in bytes.
+/// Returns the segment of an executable mapping.
+fn segment_of(
+    segments: &[ProgramHeader],
+    page_size: u64,
+    offset: u64,
+    size: u64,
+) -> Option<ProgramHeader>
+    ensures { result ≡ segment_of segments.now page_size offset size }
+{
+    match whole_segment(segments, page_size, offset, size) {
+        Some(segment) => Some(segment),
+        None => segment_of_file_offset(segments, page_size, offset),
+    }
+}
+
+/// Returns the stated address (SVMA) of the offset of the file at which an executable mapping of a size
+/// begins, or `None` where no segment has it. Offsets, the size and that of a page are in bytes.
 ///
-/// The segment is the first that is loaded to be executed, begins before the end of the page at the
-/// offset, and ends after the offset: as whole pages are mapped, a mapping may begin before its segment.
+/// As whole pages are mapped, a mapping may begin before its segment, and a page of the file may be in
+/// two mappings. The segment is the first that is loaded to be executed and whose pages are the mapping.
+/// Where there is none, as where a part of a mapping is mapped anew, it is the first that is loaded to be
+/// executed, begins before the end of the page at the offset, and ends after the offset.
 ///
 /// Source: System V gABI, chapter 5, "Program Loading".
-pub fn svma_of_file_offset(segments: &[ProgramHeader], page_size: u64, offset: u64) -> Option<u64>
-    ensures { result ≡ svma_of segments.now page_size offset }
+pub fn svma_of_file_offset(
+    segments: &[ProgramHeader],
+    page_size: u64,
+    offset: u64,
+    size: u64,
+) -> Option<u64>
+    ensures { result ≡ svma_of segments.now page_size offset size }
 {
-    let segment = segment_of_file_offset(segments, page_size, offset)?;
+    let segment = segment_of(segments, page_size, offset, size)?;
     svma_in_segment(segment, offset)
 }
 
 /// Returns the base of a module's relative addresses, an AVMA, where an executable mapping of its file
-/// begins at an AVMA and at an offset of the file: where the SVMA 0 is, as the base SVMA of an ELF file
-/// is 0. `None` where no segment has the offset, or the base would be below 0.
-pub fn base_avma(segments: &[ProgramHeader], page_size: u64, offset: u64, avma: u64) -> Option<u64>
-    ensures { result ≡ base_of segments.now page_size offset avma }
+/// of a size begins at an AVMA and at an offset of the file: where the SVMA 0 is, as the base SVMA of an
+/// ELF file is 0. `None` where no segment has the mapping, or the base would be below 0.
+pub fn base_avma(
+    segments: &[ProgramHeader],
+    page_size: u64,
+    offset: u64,
+    size: u64,
+    avma: u64,
+) -> Option<u64>
+    ensures { result ≡ base_of segments.now page_size offset size avma }
 {
-    let svma = svma_of_file_offset(segments, page_size, offset)?;
+    let svma = svma_of_file_offset(segments, page_size, offset, size)?;
     avma.checked_sub(svma)
 }

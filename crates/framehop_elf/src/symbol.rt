@@ -3,7 +3,7 @@ ghost use Rattle.std.specs.Prelude.{◌≡◌, ◌≤◌, Ok, Err, MatchResult, 
 ghost use Rattle.std.specs.List.Sorted.{IsNonDecreasingBy, IsStableByKey};
 ghost use Rattle.std.specs.Ordering.{nat_cmp};
 ghost use Rattle.framehop_elf.specs.Bytes.{IsErrorOf};
-ghost use Rattle.framehop_elf.specs.Symbol.{is_function, symbol_of, function_symbols_of, start_of, nearest_of, reaches, symbol_for};
+ghost use Rattle.framehop_elf.specs.Symbol.{is_function, size_from, size_of, symbol_of, function_symbols_of, start_of, nearest_of, reaches, symbol_for, symbol_names_of};
 
 use crate::bytes::{u16_at, u32_at, u64_at};
 use crate::error::ElfError;
@@ -31,8 +31,8 @@ pub struct Symbol {
     pub st_name: u32,
     /// Where the function begins (SVMA).
     pub st_value: u64,
-    /// Its size in bytes, or 0 where it is not known.
-    pub st_size: u64,
+    /// How many bytes it has at most: its `st_size`, or, where that is 0, those to the end of its section.
+    pub size: u64,
 }
 
 /// Returns whether an entry is of a function that is defined in the file.
@@ -45,31 +45,60 @@ fn is_function(entry: &[u8; ENTRY_SIZE]) -> bool
         && u64_at(entry, 8) != 0
 }
 
+/// Returns how many bytes of a section there are from an address (SVMA) on.
+fn size_from(address: u64, section: SectionHeader) -> u64
+    ensures { result ≡ size_from address section }
+{
+    if address < section.sh_addr {
+        return 0;
+    }
+    section.sh_size.saturating_sub(address - section.sh_addr)
+}
+
+/// Returns how many bytes the symbol of an entry has at most.
+fn size_of(sections: &[SectionHeader], entry: &[u8; ENTRY_SIZE]) -> u64
+    ensures { result ≡ size_of sections.now entry.now }
+{
+    let st_size = u64_at(entry, 16);
+    if st_size != 0 {
+        return st_size;
+    }
+    match sections.get(usize::from(u16_at(entry, 6))) {
+        Some(section) => size_from(u64_at(entry, 8), *section),
+        None => 0,
+    }
+}
+
 /// Returns the symbol that has these bytes.
-fn read_symbol(entry: &[u8; ENTRY_SIZE]) -> Symbol
-    ensures { result ≡ symbol_of entry.now }
+fn read_symbol(sections: &[SectionHeader], entry: &[u8; ENTRY_SIZE]) -> Symbol
+    ensures { result ≡ symbol_of sections.now entry.now }
 {
     Symbol {
         st_name: u32_at(entry, 0),
         st_value: u64_at(entry, 8),
-        st_size: u64_at(entry, 16),
+        size: size_of(sections, entry),
     }
 }
 
 /// Returns the symbols of the functions among these entries.
-fn functions(alloc: Global, entries: &[[u8; ENTRY_SIZE]]) -> Result<Vec<Symbol>, AllocError>
-    ensures { IfOk result (λ symbols. symbols.items ≡ map symbol_of (filter is_function entries.now)) }
+fn functions(
+    alloc: Global,
+    sections: &[SectionHeader],
+    entries: &[[u8; ENTRY_SIZE]],
+) -> Result<Vec<Symbol>, AllocError>
+    ensures { IfOk result (λ symbols. symbols.items ≡ map (symbol_of sections.now) (filter is_function entries.now)) }
 {
     entries
         .iter()
         .filter(|entry| is_function(*entry))
-        .map(|entry| read_symbol(entry))
+        .map(|entry| read_symbol(sections, entry))
         .collect(alloc)
 }
 
 /// Reads the functions among the symbols of a symbol table, a section of type `SHT_SYMTAB` or
 /// `SHT_DYNSYM`, in its order: symbols of type `STT_FUNC` or `STT_GNU_IFUNC` that are defined and whose
-/// value is not 0. Their names are in the section of index `sh_link`.
+/// value is not 0. Their names are in the section of index `sh_link`. `sections` are those of the file, in
+/// which a symbol without a size ends with its own.
 ///
 /// # Errors
 ///
@@ -82,11 +111,12 @@ fn functions(alloc: Global, entries: &[[u8; ENTRY_SIZE]]) -> Result<Vec<Symbol>,
 pub fn read_function_symbols(
     alloc: Global,
     file: &[u8],
+    sections: &[SectionHeader],
     table: SectionHeader,
 ) -> Result<Vec<Symbol>, ElfError>
     ensures { MatchResult result
-        (λ symbols. function_symbols_of file.now table ≡ Ok symbols.items)
-        (λ error. IsErrorOf (function_symbols_of file.now table) error) }
+        (λ symbols. function_symbols_of file.now sections.now table ≡ Ok symbols.items)
+        (λ error. IsErrorOf (function_symbols_of file.now sections.now table) error) }
 {
     if table.sh_entsize != ENTRY_SIZE as u64 {
         return Err(ElfError::BadEntrySize {
@@ -95,9 +125,36 @@ pub fn read_function_symbols(
     }
     let contents = read_contents(file, table)?;
     let (entries, _) = contents.as_chunks::<ENTRY_SIZE>();
-    match functions(alloc, entries) {
+    match functions(alloc, sections, entries) {
         Ok(symbols) => Ok(symbols),
         Err(_) => Err(ElfError::OutOfMemory),
+    }
+}
+
+/// Returns the string table that has the names of a symbol table's symbols, which [`string_at`] reads.
+///
+/// # Errors
+///
+/// `NoSuchSection` where `sh_link` is the index of no section, with the offset of the table; `Eof` and
+/// `Compressed` by the contents of that section.
+///
+/// Source: System V gABI, chapter 4, "Symbol Table" and "Sections", `sh_link`.
+///
+/// [`string_at`]: crate::section::string_at
+pub fn read_symbol_names<'a>(
+    file: &'a [u8],
+    sections: &[SectionHeader],
+    table: SectionHeader,
+) -> Result<&'a [u8], ElfError>
+    ensures { MatchResult result
+        (λ names. symbol_names_of file.entry.now sections.now table ≡ Ok names.now)
+        (λ error. symbol_names_of file.entry.now sections.now table ≡ Err error) }
+{
+    match sections.get(table.sh_link as usize) {
+        Some(section) => read_contents(file, *section),
+        None => Err(ElfError::NoSuchSection {
+            offset: table.sh_offset,
+        }),
     }
 }
 
@@ -117,10 +174,10 @@ fn nearest(symbols: &[Symbol], svma: u64) -> Option<Symbol>
 fn reaches(symbol: Symbol, svma: u64) -> bool
     ensures { result ≡ reaches svma symbol }
 {
-    let Some(end) = symbol.st_value.checked_add(symbol.st_size) else {
+    let Some(end) = symbol.st_value.checked_add(symbol.size) else {
         return true;
     };
-    symbol.st_size == 0 || svma < end
+    svma < end
 }
 
 /// Symbols of functions, to be searched by address. A contract sees the list of them.
@@ -162,9 +219,9 @@ impl SymbolTable {
     }
 
     /// Returns the symbol of the function that has an address (SVMA): the one with the greatest start at
-    /// or below it, if the address is before its end. A symbol without a size reaches to the next one. Of
-    /// symbols that begin at one address it is the last: in a symbol table a global one is after the
-    /// local ones.
+    /// or below it, if the address is before its end. A symbol without a size reaches to the next one, or
+    /// to the end of its section. Of symbols that begin at one address it is the last: in a symbol table a
+    /// global one is after the local ones.
     pub fn symbol_for(&self, svma: u64) -> Option<Symbol>
         ensures { result ≡ symbol_for self.now svma }
     {

@@ -13,14 +13,15 @@
 //!     __builtin_unreachable();
 //! }
 //! ```
+use framehop_elf::build_id::read_build_id;
 use framehop_elf::error::ElfError;
 use framehop_elf::header::{FileHeader, read_file_header};
-use framehop_elf::note::build_id_in;
 use framehop_elf::program_header::{ProgramHeader, read_program_headers};
 use framehop_elf::section::{read_contents, read_section_names, section_by_name, string_at};
 use framehop_elf::section_header::read_section_headers;
 use framehop_elf::segment::{base_avma, svma_of_file_offset};
-use framehop_elf::symbol::{SymbolTable, read_function_symbols};
+use framehop_elf::symbol::{SymbolTable, read_function_symbols, read_symbol_names};
+use framehop_elf::unwind_sections::read_unwind_sections;
 use std::alloc::Global;
 use std::test::Fail;
 
@@ -91,9 +92,18 @@ fn reads_a_program(rt: HostRuntime) -> Result<(), Fail> {
     assert_eq!(rt; segments.len(), 3);
     assert_eq!(rt; segments.get(0).copied(), Some(LOADED));
     assert_eq!(rt; segments.get(1).map(|note| note.p_offset), Some(0xe8));
-    assert_eq!(rt; svma_of_file_offset(&segments, 0x1000, 0), Some(0x400000));
-    assert_eq!(rt; base_avma(&segments, 0x1000, 0, 0x5400000), Some(0x5000000));
-    assert_eq!(rt; base_avma(&segments, 0x1000, 0x184, 0x5400000), None);
+    assert_eq!(rt;
+        svma_of_file_offset(&segments, 0x1000, 0, 0x1000),
+        Some(0x400000)
+    );
+    assert_eq!(rt;
+        base_avma(&segments, 0x1000, 0, 0x1000, 0x5400000),
+        Some(0x5000000)
+    );
+    assert_eq!(rt;
+        base_avma(&segments, 0x1000, 0x184, 0x1000, 0x5400000),
+        None
+    );
     let sections = read_section_headers(alloc, file, header)?;
     let sections = sections.as_slice();
     let names = read_section_names(file, header, sections)?;
@@ -108,50 +118,126 @@ fn reads_a_program(rt: HostRuntime) -> Result<(), Fail> {
         (1, 0x400130, 0x130, 0x54)
     );
     assert_eq!(rt; section_by_name(sections, names, b".eh_fram"), None);
-    let note = section_by_name(sections, names, b".note.gnu.build-id").ok_or("no note")?;
-    let build_id = hex::decode(alloc, BUILD_ID)?;
-    assert_eq!(rt;
-        build_id_in(read_contents(file, note)?),
-        Some(build_id.as_slice())
-    );
+    let contents = read_contents(file, eh_frame)?;
+    assert_eq!(rt; contents.first().copied(), Some(0x14));
     Ok(())
 }
 
 #[test]
-fn finds_functions(rt: HostRuntime) -> Result<(), Fail> {
+fn reads_the_build_id(rt: HostRuntime) -> Result<(), Fail> {
     let alloc = rt.alloc();
-    let program = hex::decode(alloc, PROGRAM)?;
-    let file = program.as_slice();
-    let header = read_file_header(file)?;
-    let sections = read_section_headers(alloc, file, header)?;
-    let sections = sections.as_slice();
-    let names = read_section_names(file, header, sections)?;
-    let table = section_by_name(sections, names, b".symtab").ok_or("no .symtab")?;
-    let strings = section_by_name(sections, names, b".strtab").ok_or("no .strtab")?;
-    let strings = read_contents(file, strings)?;
-    let symbols = SymbolTable::new(read_function_symbols(alloc, file, table)?)?;
-    for (svma, name) in [
-        (0x40010b, None),
-        (0x40010c, Some("inner")),
-        (0x40010f, Some("inner")),
-        (0x400110, Some("outer")),
-        (0x400118, Some("outer")),
-        (0x400119, Some("_start")),
-        (0x40012c, Some("_start")),
-        (0x40012d, None),
-    ] {
-        let found = symbols.symbol_for(svma);
-        let found = found.map(|symbol| string_at(strings, symbol.st_name));
-        assert_eq!(rt; found, name.map(|name| name.as_bytes()));
+    let build_id = hex::decode(alloc, BUILD_ID)?;
+    // also where no segment has it, and where only the section of notes is lost
+    let changes: [&[(usize, u8)]; 3] = [&[], &[(120, 0)], &[(764, 0)]];
+    for bytes in changes {
+        let program = changed(alloc, bytes)?;
+        let file = program.as_slice();
+        let header = read_file_header(file)?;
+        let segments = read_program_headers(alloc, file, header)?;
+        let sections = read_section_headers(alloc, file, header)?;
+        let found = read_build_id(file, segments.as_slice(), sections.as_slice());
+        assert_eq!(rt; found, Some(build_id.as_slice()));
     }
     Ok(())
 }
 
-/// The program with another byte at an offset.
-fn changed(alloc: Global, offset: usize, byte: u8) -> Result<Vec<u8>, Fail> {
+#[test]
+fn reads_what_an_unwinder_needs(rt: HostRuntime) -> Result<(), Fail> {
+    let alloc = rt.alloc();
+    // then .eh_frame has SHF_COMPRESSED, and then it is SHT_NOBITS
+    for (bytes, size) in [((0, 0x7f), Some(0x54)), ((897, 8), None), ((892, 8), None)] {
+        let program = changed(alloc, &[bytes])?;
+        let file = program.as_slice();
+        let header = read_file_header(file)?;
+        let sections = read_section_headers(alloc, file, header)?;
+        let sections = sections.as_slice();
+        let names = read_section_names(file, header, sections)?;
+        let info = read_unwind_sections(alloc, file, sections, names)?;
+        assert_eq!(rt; info.text_svma, Some(0x40010c..0x40012d));
+        assert_eq!(rt;
+            info.eh_frame_svma,
+            size.map(|size| 0x400130..0x400130 + size)
+        );
+        let contents = info.eh_frame.map(|contents| contents.len() as u64);
+        assert_eq!(rt; contents, size);
+        assert!(rt; info.got_svma.is_none() && info.debug_frame.is_none());
+    }
+    Ok(())
+}
+
+/// The names of functions by addresses.
+const NAMES: [(u64, Option<&str>); 8] = [
+    (0x40010b, None),
+    (0x40010c, Some("inner")),
+    (0x40010f, Some("inner")),
+    (0x400110, Some("outer")),
+    (0x400118, Some("outer")),
+    (0x400119, Some("_start")),
+    (0x40012c, Some("_start")),
+    (0x40012d, None),
+];
+
+#[test]
+fn finds_functions(rt: HostRuntime) -> Result<(), Fail> {
+    let alloc = rt.alloc();
+    // also where `_start` has no size: it ends with `.text`, at the same address; and where `outer` is
+    // of type STT_GNU_IFUNC
+    let changes: [&[(usize, u8)]; 4] = [&[], &[(480, 0)], &[(516, 0x1a)], &IN_FIRST_SECTION];
+    for bytes in changes {
+        let program = changed(alloc, bytes)?;
+        let file = program.as_slice();
+        let header = read_file_header(file)?;
+        let sections = read_section_headers(alloc, file, header)?;
+        let sections = sections.as_slice();
+        let names = read_section_names(file, header, sections)?;
+        let table = section_by_name(sections, names, b".symtab").ok_or("no .symtab")?;
+        let strings = read_symbol_names(file, sections, table)?;
+        let symbols = SymbolTable::new(read_function_symbols(alloc, file, sections, table)?)?;
+        for (svma, name) in NAMES {
+            let found = symbols.symbol_for(svma);
+            let found = found.map(|symbol| string_at(strings, symbol.st_name));
+            assert_eq!(rt; found, name.map(|name| name.as_bytes()));
+        }
+    }
+    Ok(())
+}
+
+/// The program with other bytes at offsets.
+fn changed(alloc: Global, bytes: &[(usize, u8)]) -> Result<Vec<u8>, Fail> {
     let mut program = hex::decode(alloc, PROGRAM)?;
-    *program.get_mut(offset).ok_or("no such byte")? = byte;
+    for (offset, byte) in bytes {
+        *program.get_mut(*offset).ok_or("no such byte")? = *byte;
+    }
     Ok(program)
+}
+
+/// e_shnum 0, e_phnum PN_XNUM and e_shstrndx SHN_XINDEX, and in the first section header sh_size, sh_info
+/// and sh_link. `readelf -hSl` prints the same sections and segments of it.
+const IN_FIRST_SECTION: [(usize, u8); 8] = [
+    (60, 0),
+    (728, 7),
+    (56, 0xff),
+    (57, 0xff),
+    (740, 3),
+    (62, 0xff),
+    (63, 0xff),
+    (736, 6),
+];
+
+#[test]
+fn reads_numbers_in_the_first_section(rt: HostRuntime) -> Result<(), Fail> {
+    let alloc = rt.alloc();
+    let program = changed(alloc, &IN_FIRST_SECTION)?;
+    let file = program.as_slice();
+    let header = read_file_header(file)?;
+    assert_eq!(rt;
+        (header.e_shnum, header.e_phnum, header.e_shstrndx),
+        (0, 0xffff, 0xffff)
+    );
+    assert_eq!(rt; read_program_headers(alloc, file, header)?.len(), 3);
+    let sections = read_section_headers(alloc, file, header)?;
+    assert_eq!(rt; sections.len(), 7);
+    Ok(())
 }
 
 #[test]
@@ -163,11 +249,11 @@ fn refuses_what_is_broken(rt: HostRuntime) -> Result<(), Fail> {
         (5, 2, ElfError::NotLittleEndian { offset: 5 }),
         (6, 0, ElfError::UnknownVersion { offset: 6 }),
     ] {
-        let program = changed(alloc, offset, byte)?;
+        let program = changed(alloc, &[(offset, byte)])?;
         assert_eq!(rt; read_file_header(program.as_slice()).err(), Some(refusal));
     }
     // e_shoff is outside the file: the program headers are still read
-    let program = changed(alloc, 41, 0xff)?;
+    let program = changed(alloc, &[(41, 0xff)])?;
     let file = program.as_slice();
     let header = read_file_header(file)?;
     let refusal = ElfError::Eof { offset: 0xffb8 };
@@ -177,7 +263,7 @@ fn refuses_what_is_broken(rt: HostRuntime) -> Result<(), Fail> {
     );
     assert_eq!(rt; read_program_headers(alloc, file, header)?.len(), 3);
     // so are the section headers where e_phentsize is another
-    let program = changed(alloc, 54, 55)?;
+    let program = changed(alloc, &[(54, 55)])?;
     let file = program.as_slice();
     let header = read_file_header(file)?;
     let refusal = ElfError::BadEntrySize { offset: 54 };
@@ -187,7 +273,7 @@ fn refuses_what_is_broken(rt: HostRuntime) -> Result<(), Fail> {
     );
     assert_eq!(rt; read_section_headers(alloc, file, header)?.len(), 7);
     // e_shstrndx names no section
-    let program = changed(alloc, 62, 7)?;
+    let program = changed(alloc, &[(62, 7)])?;
     let file = program.as_slice();
     let header = read_file_header(file)?;
     let sections = read_section_headers(alloc, file, header)?;

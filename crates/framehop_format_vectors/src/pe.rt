@@ -624,6 +624,13 @@ fn reads_each_word_once(rt: HostRuntime) -> Result<(), Fail> {
             0x101,
             [0x100].as_slice(),
         ),
+        // a frame at 0x10 in the prolog: UWOP_PUSH_NONVOL rsi at 0x18 and UWOP_SAVE_XMM128 at 0x14 are
+        // still to come, UWOP_SAVE_NONVOL rdi at 4 is done
+        (
+            [1, 0x20, 5, 0, 0x18, 0x60, 0x14, 0x68, 2, 0, 4, 0x74, 2, 0].as_slice(),
+            0x101,
+            [0x110, 0x100].as_slice(),
+        ),
         // UWOP_PUSH_MACHFRAME without an error code and with one: the return address, and rsp
         (
             [1, 0, 1, 0, 0, 0x0a].as_slice(),

@@ -8,7 +8,6 @@ use Rattle.framehop_macho.specs.declared.macho.CuiUnwindResult.TheVariants.{Exec
 abbrev pub Answer : Type 0 → Type 0
 Answer Rule = Result (CuiUnwindResult Rule) CompactUnwindInfoUnwinderError
 
--- so many bits of a word, from a lowest one on
 -- a rule, where one is found
 abbrev pub exec_rule : {Rule E : Type 0} → Result Rule E → Result (CuiUnwindResult Rule) E
 exec_rule (Ok rule) = Ok (ExecRule rule)

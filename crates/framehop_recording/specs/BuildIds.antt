@@ -1,7 +1,8 @@
--- The build ids of the files that were mapped: the section of HEADER_BUILD_ID (2) of perf.data-file-format.txt, and in
+-- The build ids of the files that were mapped: the section of HEADER_BUILD_ID of perf.data-file-format.txt, and in
 -- it `perf_record_header_build_id` of perf's event.h.
-use Rattle.std.specs.Prelude.{ℕ, ◌+◌, ◌*◌, ◌%◌, List, [], take, drop, bit_and, count_ones, Option, Some, None, Result, Ok, Err, if◌then◌else◌}
+use Rattle.std.specs.Prelude.{ℕ, ◌+◌, ◌-◌, ◌*◌, ◌^◌, ◌%◌, List, [], take, drop, bit_and, count_ones, Option, Some, None, Result, Ok, Err, if◌then◌else◌}
 use Rattle.framehop_cfi.specs.Bytes.{◌>>=◌}
+use Rattle.framehop_recording.specs.Numbers.{HEADER_BUILD_ID, PERF_RECORD_MISC_BUILD_ID_SIZE}
 use Rattle.framehop_recording.specs.Bytes.{u32_at, block_at, each_of, has_bit}
 use Rattle.framehop_recording.specs.Header.{section_at}
 use Rattle.framehop_recording.specs.Records.{RecordView, run_of}
@@ -24,9 +25,9 @@ file_build_id_view b = record { pid = b.pid; build_id = b.build_id.now; name = b
 -- Where the section of the build ids lies. After the records is where the section of each feature lies that the file
 -- has, in the order of their numbers.
 unfoldable pub build_ids_section : List ℕ → Header → Result (Option Section) RecordingError
-build_ids_section file header = if has_bit header.features 0x4 then (do
+build_ids_section file header = if has_bit header.features (2 ^ HEADER_BUILD_ID) then (do
   records ← block_at file header.records.offset header.records.size (Eof header.records.offset)
-  section ← section_at file (records.1 + 16 * count_ones (bit_and header.features 0x3))
+  section ← section_at file (records.1 + 16 * count_ones (bit_and header.features (2 ^ HEADER_BUILD_ID - 1)))
   Ok (Some section.0)) else Ok None
 
 -- A process, 20 bytes, how many of them are the build id, three reserved bytes, and the name. Where
@@ -35,7 +36,7 @@ unfoldable pub file_build_id_at : RecordView → Result FileBuildIdView Recordin
 file_build_id_at r = do
   pid ← u32_at r.body 0 (ShortRecord r.offset)
   size ← u32_at r.body 24 (ShortRecord r.offset)
-  Ok (record { pid = pid.0; build_id = take (if has_bit r.misc 0x8000 then size.0 % 256 else 20) (take 20 (drop 4 r.body)); name = text_of (drop 28 r.body) })
+  Ok (record { pid = pid.0; build_id = take (if has_bit r.misc PERF_RECORD_MISC_BUILD_ID_SIZE then size.0 % 256 else 20) (take 20 (drop 4 r.body)); name = text_of (drop 28 r.body) })
 
 -- those of a run, which no refusal may end
 abbrev pub build_ids_in : List RecordView → Option RecordingError → Result (List FileBuildIdView) RecordingError

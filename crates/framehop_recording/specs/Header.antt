@@ -1,9 +1,9 @@
 -- The header of a recording: `perf_header` and `perf_file_section` of perf.data-file-format.txt.
-use Rattle.std.specs.Prelude.{ℕ, List, Result, Ok, Err, ◌==◌, nat_lt, if◌then◌else◌}
+use Rattle.std.specs.Prelude.{ℕ, List, Result, Ok, Err, ◌==◌, if◌then◌else◌}
 use Rattle.framehop_cfi.specs.Bytes.{◌>>=◌}
 use Rattle.framehop_recording.specs.Bytes.{Reading, u64_at}
 use Rattle.framehop_recording.specs.declared.error.RecordingError.{RecordingError}
-use Rattle.framehop_recording.specs.declared.error.RecordingError.TheVariants.{Eof, NotARecording, BigEndian, Piped}
+use Rattle.framehop_recording.specs.declared.error.RecordingError.TheVariants.{Eof, NotARecording, BigEndian, Piped, BadHeaderSize, Unfinished}
 use Rattle.framehop_recording.specs.declared.header.Header.{Header}
 use Rattle.framehop_recording.specs.declared.header.Section.{Section}
 
@@ -18,17 +18,26 @@ section_at file at = do
   size ← number_at file offset.1
   Ok (record { offset = offset.0; size = size.0 }, size.1)
 
--- the fields from `size` on
+-- Which features have a section, by the size of the header. The old format, of 72 bytes, has no features; the header that
+-- `perf record` writes to a pipe has 16 bytes.
+unfoldable pub features_at : List ℕ → ℕ → Result ℕ RecordingError
+features_at file size =
+    if size == 16 then Err (Piped 8)
+    else if size == 72 then Ok 0
+    else if size == 104 then (do
+      features ← number_at file 72
+      Ok features.0) else Err (BadHeaderSize 8)
+
+-- The fields from `size` on. The size of the records is written last: where `perf record` was ended before, it is 0.
 unfoldable pub fields_at : List ℕ → Result Header RecordingError
 fields_at file = do
   size ← number_at file 8
-  if nat_lt size.0 104 then Err (Piped 8) else (do
-    attribute_size ← number_at file 16
-    attributes ← section_at file 24
-    records ← section_at file 40
-    event_types ← section_at file 56
-    features ← number_at file 72
-    Ok (record { attribute_size = attribute_size.0; attributes = attributes.0; records = records.0; features = features.0 }))
+  features ← features_at file size.0
+  attribute_size ← number_at file 16
+  attributes ← section_at file 24
+  records ← section_at file 40
+  event_types ← section_at file 56
+  if records.0.size == 0 then Err (Unfinished 48) else Ok (record { attribute_size = attribute_size.0; attributes = attributes.0; records = records.0; features = features })
 
 -- "PERFILE2", which reads backwards on a machine of the other byte order
 unfoldable pub header_at : List ℕ → Result Header RecordingError

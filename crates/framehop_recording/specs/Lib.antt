@@ -1,4 +1,5 @@
 -- What the contracts of this crate cite: the parts of a recording, from its header to the registers of a sample.
+pub mod Numbers
 pub mod Bytes
 pub mod Header
 pub mod Attributes

@@ -1,7 +1,8 @@
--- The mappings of files into processes: PERF_RECORD_MMAP (1) and PERF_RECORD_MMAP2 (10) of perf_event.h.
+-- The mappings of files into processes: PERF_RECORD_MMAP and PERF_RECORD_MMAP2 of perf_event.h.
 use Rattle.std.specs.Prelude.{ℕ, List, [], ◌%◌, take, drop, Bool, not, Result, Ok, Err, ◌==◌, if◌then◌else◌}
 use Rattle.std.specs.List.{before_first}
 use Rattle.framehop_cfi.specs.Bytes.{◌>>=◌}
+use Rattle.framehop_recording.specs.Numbers.{PERF_RECORD_MMAP, PERF_RECORD_MMAP2, PERF_RECORD_MISC_MMAP_DATA, PERF_RECORD_MISC_MMAP_BUILD_ID}
 use Rattle.framehop_recording.specs.Bytes.{u32_at, u64_at, block_at, has_bit}
 use Rattle.framehop_recording.specs.Records.{RecordView}
 use Rattle.framehop_recording.specs.declared.error.RecordingError.{RecordingError}
@@ -36,7 +37,7 @@ text_of bytes = before_first (λ byte. byte == 0) bytes
 -- The build id in the place of the device and inode, where PERF_RECORD_MISC_MMAP_BUILD_ID says so: its size, three
 -- reserved bytes, and at most 20 bytes.
 unfoldable pub build_id_at : RecordView → Result (List ℕ) RecordingError
-build_id_at r = if has_bit r.misc 0x4000 then (do
+build_id_at r = if has_bit r.misc PERF_RECORD_MISC_MMAP_BUILD_ID then (do
   size ← u32_at r.body 32 (ShortRecord r.offset)
   Ok (take (size.0 % 256) (take 20 (drop 36 r.body)))) else Ok []
 
@@ -48,9 +49,9 @@ mapping_fields r name_at build_id = do
   size ← u64_at r.body 16 (ShortRecord r.offset)
   offset ← u64_at r.body 24 (ShortRecord r.offset)
   fields ← block_at r.body 0 name_at (ShortRecord r.offset)
-  Ok (record { pid = pid.0; start = start.0; size = size.0; offset = offset.0; is_executable = not (has_bit r.misc 0x2000); build_id = build_id; name = text_of (drop name_at r.body) })
+  Ok (record { pid = pid.0; start = start.0; size = size.0; offset = offset.0; is_executable = not (has_bit r.misc PERF_RECORD_MISC_MMAP_DATA); build_id = build_id; name = text_of (drop name_at r.body) })
 
 unfoldable pub mapping_at : RecordView → Result MappingView RecordingError
-mapping_at r = if r.kind == 1 then mapping_fields r 32 [] else if r.kind == 10 then (do
+mapping_at r = if r.kind == PERF_RECORD_MMAP then mapping_fields r 32 [] else if r.kind == PERF_RECORD_MMAP2 then (do
   build_id ← build_id_at r
   mapping_fields r 64 build_id) else Err (OtherKind r.offset)

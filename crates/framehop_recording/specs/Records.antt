@@ -2,6 +2,7 @@
 -- which counts these eight bytes.
 use Rattle.std.specs.Prelude.{ℕ, zero, suc, ◌+◌, ◌-◌, List, [], ◌∷◌, length, map, take, drop, Bool, ◌||◌, Option, Some, None, Result, Ok, Err, nat_lt, ◌==◌, if◌then◌else◌}
 use Rattle.framehop_cfi.specs.Bytes.{◌>>=◌}
+use Rattle.framehop_recording.specs.Numbers.{PERF_RECORD_AUXTRACE, PERF_RECORD_COMPRESSED, PERF_RECORD_COMPRESSED2}
 use Rattle.framehop_recording.specs.Bytes.{u16_at, u32_at, u64_at, block_at}
 use Rattle.framehop_recording.specs.declared.error.RecordingError.{RecordingError}
 use Rattle.framehop_recording.specs.declared.error.RecordingError.TheVariants.{Eof, BadRecordSize, Compressed}
@@ -19,19 +20,19 @@ pub record RecordView : Type 0 where
 abbrev pub record_view : Record → RecordView
 record_view r = record { offset = r.offset; kind = r.kind; misc = r.misc; body = r.body.now }
 
--- How many bytes after a record belong to it, although its size does not count them: those of PERF_RECORD_AUXTRACE (71)
--- have their number as its first field.
+-- How many bytes after a record belong to it, although its size does not count them: those of PERF_RECORD_AUXTRACE have
+-- their number as its first field.
 unfoldable pub trailing_of : ℕ → ℕ → List ℕ → Result ℕ RecordingError
-trailing_of offset kind whole = if kind == 71 then (do
+trailing_of offset kind whole = if kind == PERF_RECORD_AUXTRACE then (do
   trailing ← u64_at whole 8 (BadRecordSize offset)
   Ok trailing.0) else Ok 0
 
 -- The record of a kind and a size at the front of bytes, which are at an offset of the file, and how many bytes it
--- takes. Those of the kinds 81 and 83, PERF_RECORD_COMPRESSED and PERF_RECORD_COMPRESSED2, are refused.
+-- takes. PERF_RECORD_COMPRESSED and PERF_RECORD_COMPRESSED2 are refused.
 unfoldable pub sized_record_at : ℕ → List ℕ → ℕ → ℕ → ℕ → Result (RecordView × ℕ) RecordingError
 sized_record_at offset bytes kind misc size = if nat_lt size 8 then Err (BadRecordSize offset) else (do
   whole ← block_at bytes 0 size (Eof offset)
-  if kind == 81 || kind == 83 then Err (Compressed offset) else (do
+  if kind == PERF_RECORD_COMPRESSED || kind == PERF_RECORD_COMPRESSED2 then Err (Compressed offset) else (do
     trailing ← trailing_of offset kind whole.0
     rest ← block_at bytes size trailing (Eof offset)
     Ok (record { offset = offset; kind = kind; misc = misc; body = drop 8 whole.0 }, rest.1)))

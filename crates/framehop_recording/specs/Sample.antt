@@ -1,11 +1,13 @@
 -- The fields of PERF_RECORD_SAMPLE (9), in the order of perf_event.h.
-use Rattle.std.specs.Prelude.{ℕ, ◌*◌, List, Bool, not, bit_and, count_ones, Result, Ok, Err, ◌==◌, if◌then◌else◌}
+use Rattle.std.specs.Prelude.{ℕ, ◌*◌, List, Bool, not, ◌&&◌, ◌||◌, count_ones, Option, None, Result, Ok, Err, ◌==◌, if◌then◌else◌}
 use Rattle.framehop_cfi.specs.Bytes.{◌>>=◌}
+use Rattle.framehop_recording.specs.Numbers.{PERF_RECORD_SAMPLE, PERF_SAMPLE_IP, PERF_SAMPLE_TID, PERF_SAMPLE_TIME, PERF_SAMPLE_ADDR, PERF_SAMPLE_READ, PERF_SAMPLE_CALLCHAIN, PERF_SAMPLE_ID, PERF_SAMPLE_CPU, PERF_SAMPLE_PERIOD, PERF_SAMPLE_STREAM_ID, PERF_SAMPLE_RAW, PERF_SAMPLE_BRANCH_STACK, PERF_SAMPLE_REGS_USER, PERF_SAMPLE_STACK_USER, PERF_SAMPLE_IDENTIFIER, PERF_SAMPLE_REGS_ABI_NONE, PERF_SAMPLE_REGS_ABI_32, PERF_SAMPLE_REGS_ABI_64}
 use Rattle.framehop_recording.specs.Bytes.{Reading, u32_at, u64_at, block_at, has_bit}
 use Rattle.framehop_recording.specs.Attributes.{AttributeView}
 use Rattle.framehop_recording.specs.Records.{RecordView}
+use Rattle.framehop_recording.specs.Events.{known_time}
 use Rattle.framehop_recording.specs.declared.error.RecordingError.{RecordingError}
-use Rattle.framehop_recording.specs.declared.error.RecordingError.TheVariants.{OtherKind, ShortRecord, NoTime, NoUserStack, UnsupportedField, NoUserRegisters, Process32Bit, UnknownAbi}
+use Rattle.framehop_recording.specs.declared.error.RecordingError.TheVariants.{OtherKind, ShortRecord, NoThread, NoUserStack, UnsupportedField, NoUserRegisters, Process32Bit, UnknownAbi}
 use Rattle.framehop_recording.specs.declared.sample.Sample.{Sample}
 use Rattle.framehop_recording.specs.declared.sample.UserStack.{UserStack}
 
@@ -22,11 +24,15 @@ pub record SampleView : Type 0 where
   pub ip : ℕ
   pub pid : ℕ
   pub tid : ℕ
-  pub time : ℕ
-  pub user : UserView
+  pub time : Option ℕ
+  pub user : Result UserView RecordingError
+
+abbrev pub read_user_view : Result UserStack RecordingError → Result UserView RecordingError
+read_user_view (Ok user) = Ok (user_view user)
+read_user_view (Err error) = Err error
 
 abbrev pub sample_view : Sample → SampleView
-sample_view s = record { ip = s.ip; pid = s.pid; tid = s.tid; time = s.time; user = user_view s.user }
+sample_view s = record { ip = s.ip; pid = s.pid; tid = s.tid; time = s.time; user = read_user_view s.user }
 
 -- a number that is there or not
 abbrev pub optional_at : Bool → List ℕ → ℕ → RecordingError → Reading ℕ
@@ -44,9 +50,9 @@ after_chain present bytes at short = if present then (do
 unfoldable pub user_at : ℕ → ℕ → List ℕ → ℕ → Result UserView RecordingError
 user_at offset mask bytes at = do
   abi ← u64_at bytes at (ShortRecord offset)
-  if abi.0 == 0 then Err (NoUserRegisters offset)
-      else if abi.0 == 1 then Err (Process32Bit offset)
-      else if not (abi.0 == 2) then Err (UnknownAbi offset)
+  if abi.0 == PERF_SAMPLE_REGS_ABI_NONE then Err (NoUserRegisters offset)
+      else if abi.0 == PERF_SAMPLE_REGS_ABI_32 then Err (Process32Bit offset)
+      else if not (abi.0 == PERF_SAMPLE_REGS_ABI_64) then Err (UnknownAbi offset)
       else (do
         registers ← block_at bytes abi.1 (8 * count_ones mask) (ShortRecord offset)
         size ← u64_at bytes registers.1 (ShortRecord offset)
@@ -55,28 +61,33 @@ user_at offset mask bytes at = do
         stack ← block_at copied.0 0 filled.0 (ShortRecord offset)
         Ok (record { registers = registers.0; stack = stack.0 }))
 
--- The fields of a sample whose type has an instruction pointer, a thread, a time, registers and a stack.
-unfoldable pub sample_fields : AttributeView → RecordView → Result SampleView RecordingError
-sample_fields a r = do
-  identifier ← optional_at (has_bit a.sample_type 0x10000) r.body 0 (ShortRecord r.offset)
-  ip ← u64_at r.body identifier.1 (ShortRecord r.offset)
-  pid ← u32_at r.body ip.1 (ShortRecord r.offset)
-  tid ← u32_at r.body pid.1 (ShortRecord r.offset)
-  time ← u64_at r.body tid.1 (ShortRecord r.offset)
-  address ← optional_at (has_bit a.sample_type 0x8) r.body time.1 (ShortRecord r.offset)
-  id ← optional_at (has_bit a.sample_type 0x40) r.body address.1 (ShortRecord r.offset)
-  stream ← optional_at (has_bit a.sample_type 0x200) r.body id.1 (ShortRecord r.offset)
-  cpu ← optional_at (has_bit a.sample_type 0x80) r.body stream.1 (ShortRecord r.offset)
-  period ← optional_at (has_bit a.sample_type 0x100) r.body cpu.1 (ShortRecord r.offset)
-  chain ← after_chain (has_bit a.sample_type 0x20) r.body period.1 (ShortRecord r.offset)
-  user ← user_at r.offset a.sample_regs_user r.body chain
-  Ok (record { ip = ip.0; pid = pid.0; tid = tid.0; time = time.0; user = user })
+-- The user's side of a sample, after its time: the fields before it, and the registers and the stack. An event must have
+-- these, and may have no field before them whose size is not known.
+unfoldable pub user_side : AttributeView → RecordView → ℕ → Result UserView RecordingError
+user_side a r at =
+    if not (has_bit a.sample_type PERF_SAMPLE_REGS_USER && has_bit a.sample_type PERF_SAMPLE_STACK_USER)
+    then Err (NoUserStack r.offset)
+    else if has_bit a.sample_type PERF_SAMPLE_READ || has_bit a.sample_type PERF_SAMPLE_RAW
+    || has_bit a.sample_type PERF_SAMPLE_BRANCH_STACK then Err (UnsupportedField r.offset)
+    else (do
+      address ← optional_at (has_bit a.sample_type PERF_SAMPLE_ADDR) r.body at (ShortRecord r.offset)
+      id ← optional_at (has_bit a.sample_type PERF_SAMPLE_ID) r.body address.1 (ShortRecord r.offset)
+      stream ← optional_at (has_bit a.sample_type PERF_SAMPLE_STREAM_ID) r.body id.1 (ShortRecord r.offset)
+      cpu ← optional_at (has_bit a.sample_type PERF_SAMPLE_CPU) r.body stream.1 (ShortRecord r.offset)
+      period ← optional_at (has_bit a.sample_type PERF_SAMPLE_PERIOD) r.body cpu.1 (ShortRecord r.offset)
+      chain ← after_chain (has_bit a.sample_type PERF_SAMPLE_CALLCHAIN) r.body period.1 (ShortRecord r.offset)
+      user_at r.offset a.sample_regs_user r.body chain)
 
--- A sample of an event. Fields after the stack are passed over.
+-- A sample of an event, whose fields begin with the instruction pointer and the thread, and the time if it has one. Why
+-- the user's side can't be read is part of it. Fields after the stack are passed over.
 unfoldable pub sample_at : AttributeView → RecordView → Result SampleView RecordingError
 sample_at a r =
-    if not (r.kind == 9) then Err (OtherKind r.offset)
-    else if not (bit_and a.sample_type 0x7 == 0x7) then Err (NoTime r.offset)
-    else if not (bit_and a.sample_type 0x3000 == 0x3000) then Err (NoUserStack r.offset)
-    else if has_bit a.sample_type 0xc10 then Err (UnsupportedField r.offset)
-    else sample_fields a r
+    if not (r.kind == PERF_RECORD_SAMPLE) then Err (OtherKind r.offset)
+    else if not (has_bit a.sample_type PERF_SAMPLE_IP && has_bit a.sample_type PERF_SAMPLE_TID) then Err (NoThread r.offset)
+    else (do
+      identifier ← optional_at (has_bit a.sample_type PERF_SAMPLE_IDENTIFIER) r.body 0 (ShortRecord r.offset)
+      ip ← u64_at r.body identifier.1 (ShortRecord r.offset)
+      pid ← u32_at r.body ip.1 (ShortRecord r.offset)
+      tid ← u32_at r.body pid.1 (ShortRecord r.offset)
+      time ← optional_at (has_bit a.sample_type PERF_SAMPLE_TIME) r.body tid.1 (ShortRecord r.offset)
+      Ok (record { ip = ip.0; pid = pid.0; tid = tid.0; time = if has_bit a.sample_type PERF_SAMPLE_TIME then known_time time.0 else None; user = user_side a r time.1 }))

@@ -14,12 +14,23 @@ pub enum RecordingError {
     /// The recording is of a big-endian machine.
     #[error("a big-endian recording: offset {offset}")]
     BigEndian { offset: u64 },
-    /// The header is shorter than that of a file, as where `perf record` wrote to a pipe.
+    /// The header is that of a pipe, to which `perf record` wrote.
     #[error("the header of a pipe: offset {offset}")]
     Piped { offset: u64 },
+    /// The header has another size than that of a file.
+    #[error("a header of an unknown size: offset {offset}")]
+    BadHeaderSize { offset: u64 },
+    /// The recording was not finished: `perf record` was ended before it wrote how many bytes of
+    /// records there are.
+    #[error("an unfinished recording: offset {offset}")]
+    Unfinished { offset: u64 },
     /// The attribute of an event is too short to have user registers and a user stack.
     #[error("an attribute without user registers: offset {offset}")]
     ShortAttribute { offset: u64 },
+    /// The size that the attribute of an event has is not that of the header's entries, so that its ids
+    /// are not where these have them.
+    #[error("an attribute of another size: offset {offset}")]
+    BadAttributeSize { offset: u64 },
     /// There are several events, and not each has ids at the place where the first has them.
     #[error("several events whose records can't be told apart: offset {offset}")]
     MixedIds { offset: u64 },
@@ -38,9 +49,9 @@ pub enum RecordingError {
     /// The record at the offset ends before its fields do.
     #[error("the record at offset {offset} ends before its fields do")]
     ShortRecord { offset: u64 },
-    /// The samples of the event have no instruction pointer, thread or time.
-    #[error("a sample without instruction pointer, thread or time at offset {offset}")]
-    NoTime { offset: u64 },
+    /// The samples of the event have no instruction pointer or no thread.
+    #[error("a sample without instruction pointer or thread at offset {offset}")]
+    NoThread { offset: u64 },
     /// The samples of the event have no user registers or no user stack.
     #[error("a sample without user registers and stack at offset {offset}")]
     NoUserStack { offset: u64 },

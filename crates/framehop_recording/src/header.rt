@@ -1,6 +1,6 @@
 //! The header of a recording.
 ghost use Rattle.std.specs.Prelude.{◌≡◌};
-ghost use Rattle.framehop_recording.specs.Header.{number_at, section_at, fields_at, header_at};
+ghost use Rattle.framehop_recording.specs.Header.{number_at, section_at, features_at, fields_at, header_at};
 
 use crate::bytes::read_u64;
 use crate::error::RecordingError;
@@ -13,6 +13,12 @@ const SWAPPED_MAGIC: u64 = 0x50455246494c4532;
 
 /// The size of the header of a file.
 const HEADER_SIZE: u64 = 104;
+
+/// The size of the header of a file of the old format, which has no features.
+const OLD_HEADER_SIZE: u64 = 72;
+
+/// The size of the header that is written to a pipe.
+const PIPE_HEADER_SIZE: u64 = 16;
 
 /// Where a part of the file lies: `perf_file_section`.
 #[derive(Clone, Copy, Debug, PartialEq, Eq)]
@@ -54,20 +60,36 @@ pub(crate) fn read_section(file: &[u8], at: usize) -> Result<(Section, usize), R
     Ok((Section { offset, size }, at))
 }
 
+/// Reads which features have a section, where the header has a size.
+#[tactic(auto, unfolding(crate::specs::Header::features_at))]
+fn read_features(file: &[u8], size: u64) -> Result<u64, RecordingError>
+    ensures { result ≡ features_at file.now size }
+{
+    match size {
+        PIPE_HEADER_SIZE => Err(RecordingError::Piped { offset: 8 }),
+        OLD_HEADER_SIZE => Ok(0),
+        HEADER_SIZE => {
+            let (features, _) = read_number(file, 72)?;
+            Ok(features)
+        }
+        _ => Err(RecordingError::BadHeaderSize { offset: 8 }),
+    }
+}
+
 /// Reads the fields from `size` on.
 #[tactic(auto, unfolding(crate::specs::Header::fields_at))]
 fn read_fields(file: &[u8]) -> Result<Header, RecordingError>
     ensures { result ≡ fields_at file.now }
 {
     let (size, _) = read_number(file, 8)?;
-    if size < HEADER_SIZE {
-        return Err(RecordingError::Piped { offset: 8 });
-    }
+    let features = read_features(file, size)?;
     let (attribute_size, _) = read_number(file, 16)?;
     let (attributes, _) = read_section(file, 24)?;
     let (records, _) = read_section(file, 40)?;
     let (_event_types, _) = read_section(file, 56)?;
-    let (features, _) = read_number(file, 72)?;
+    if records.size == 0 {
+        return Err(RecordingError::Unfinished { offset: 48 });
+    }
     Ok(Header {
         attribute_size,
         attributes,
@@ -80,10 +102,14 @@ fn read_fields(file: &[u8]) -> Result<Header, RecordingError>
 ///
 /// # Errors
 ///
-/// `NotARecording` and `BigEndian` by the first eight bytes, `Piped` where the header is shorter than
-/// that of a file, and `Eof` where the file ends before a field.
+/// - `NotARecording` and `BigEndian` by the first eight bytes;
+/// - `Piped` where the header is that of a pipe, and `BadHeaderSize` where it has another size than that
+///   of a file, 104 bytes, or 72 in the old format, which has no features;
+/// - `Unfinished` where the size of the records is 0: it is written when the recording ends;
+/// - `Eof` where the file ends before a field.
 ///
-/// Source: Linux, `tools/perf/Documentation/perf.data-file-format.txt`, `perf_header`.
+/// Source: Linux, `tools/perf/Documentation/perf.data-file-format.txt`, `perf_header`;
+/// `tools/perf/util/header.c`, `perf_file_header__read` and `perf_session__read_header`.
 #[tactic(auto, unfolding(crate::specs::Header::header_at))]
 pub fn read_header(file: &[u8]) -> Result<Header, RecordingError>
     ensures { result ≡ header_at file.now }

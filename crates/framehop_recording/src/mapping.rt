@@ -5,14 +5,9 @@ ghost use Rattle.framehop_recording.specs.Mapping.{text_of, build_id_at, mapping
 
 use crate::bytes::{back, read_block, read_u32, read_u64};
 use crate::error::RecordingError;
+use crate::kind::{MMAP, MMAP2};
 use crate::records::Record;
 use framehop_cfi::bytes::front;
-
-/// PERF_RECORD_MMAP.
-const MMAP: u32 = 1;
-
-/// PERF_RECORD_MMAP2.
-const MMAP2: u32 = 10;
 
 /// PERF_RECORD_MISC_MMAP_DATA.
 const MMAP_DATA: u16 = 0x2000;

@@ -5,24 +5,16 @@ ghost use Rattle.framehop_recording.specs.Records.{trailing_of, sized_record_at,
 use crate::bytes::{back, read_block, read_u16, read_u32, read_u64};
 use crate::error::RecordingError;
 use crate::header::Section;
+use crate::kind::{AUXTRACE, COMPRESSED, COMPRESSED2};
 use framehop_cfi::bytes::front;
 use std::alloc::Global;
-
-/// PERF_RECORD_AUXTRACE, whose data is after it.
-const AUXTRACE: u32 = 71;
-
-/// PERF_RECORD_COMPRESSED.
-const COMPRESSED: u32 = 81;
-
-/// PERF_RECORD_COMPRESSED2.
-const ALIGNED_COMPRESSED: u32 = 83;
 
 /// A record: `perf_event_header`, and what is after it.
 #[derive(Clone, Copy, Drop)]
 pub struct Record<'a> {
     /// Where it is, in bytes from the start of the file.
     pub offset: u64,
-    /// Its `type`.
+    /// Its `type`, of which [`crate::kind`] has those that are read.
     pub kind: u32,
     /// Its flags.
     pub misc: u16,
@@ -71,7 +63,7 @@ fn read_sized_record<'a>(
     let eof = RecordingError::Eof { offset };
     let size = u64::from(size);
     let (whole, _) = read_block(bytes, 0, size, eof)?;
-    if kind == COMPRESSED || kind == ALIGNED_COMPRESSED {
+    if kind == COMPRESSED || kind == COMPRESSED2 {
         return Err(RecordingError::Compressed { offset });
     }
     let trailing = trailing_size(offset, kind, whole)?;

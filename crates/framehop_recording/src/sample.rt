@@ -1,25 +1,20 @@
 //! Samples of user stacks.
-ghost use Rattle.std.specs.Prelude.{◌≡◌, Ok, Err, MatchResult};
+ghost use Rattle.std.specs.Prelude.{◌≡◌, Ok, Err, IfOk, MatchResult, None, if◌then◌else◌};
 ghost use Rattle.framehop_recording.specs.Attributes.{attribute_view};
 ghost use Rattle.framehop_recording.specs.Records.{record_view};
-ghost use Rattle.framehop_recording.specs.Sample.{optional_at, after_chain, user_at, user_view, sample_fields, sample_at, sample_view};
+ghost use Rattle.framehop_recording.specs.Events.{known_time, time_field};
+ghost use Rattle.framehop_recording.specs.Sample.{optional_at, after_chain, user_at, user_side, user_view, sample_at, sample_view};
 
 use crate::attributes::Attribute;
 use crate::bytes::{read_block, read_u32, read_u64};
 use crate::error::RecordingError;
+use crate::events::known_time;
+use crate::kind::SAMPLE;
 use crate::records::Record;
-
-/// PERF_RECORD_SAMPLE.
-pub(crate) const SAMPLE: u32 = 9;
-
-/// PERF_SAMPLE_IP, PERF_SAMPLE_TID and PERF_SAMPLE_TIME.
-const PLACE: u64 = 0x7;
-
-/// PERF_SAMPLE_REGS_USER and PERF_SAMPLE_STACK_USER.
-const USER_STACK: u64 = 0x3000;
-
-/// PERF_SAMPLE_READ, PERF_SAMPLE_RAW and PERF_SAMPLE_BRANCH_STACK.
-const UNSUPPORTED: u64 = 0xc10;
+use crate::sample_type::{
+    ADDR, BRANCH_STACK, CALLCHAIN, CPU, ID, IDENTIFIER, IP, PERIOD, RAW, READ, REGS_USER,
+    STACK_USER, STREAM_ID, TID, TIME,
+};
 
 /// PERF_SAMPLE_REGS_ABI_NONE, PERF_SAMPLE_REGS_ABI_32 and PERF_SAMPLE_REGS_ABI_64.
 const ABI_NONE: u64 = 0;
@@ -46,10 +41,10 @@ pub struct Sample<'a> {
     pub pid: u32,
     /// The thread.
     pub tid: u32,
-    /// In nanoseconds.
-    pub time: u64,
-    /// Its registers and its stack.
-    pub user: UserStack<'a>,
+    /// In nanoseconds, if the event's samples have a time.
+    pub time: Option<u64>,
+    /// Its registers and its stack, or why they can't be read.
+    pub user: Result<UserStack<'a>, RecordingError>,
 }
 
 /// Reads a number that is there or not.
@@ -67,6 +62,13 @@ fn read_optional(
     } else {
         Ok((0, at))
     }
+}
+
+/// Returns a time that is there or not, unless it says that there is none.
+fn optional_time(present: bool, time: u64) -> Option<u64>
+    ensures { result ≡ (if present then known_time time else None) }
+{
+    if present { known_time(time) } else { None }
 }
 
 /// Passes over a count and so many numbers, where they are there.
@@ -119,54 +121,39 @@ fn read_user<'a>(
     Ok(UserStack { registers, stack })
 }
 
-/// Reads the fields of a sample whose event has an instruction pointer, a thread, a time, registers
-/// and a stack.
-#[tactic(auto, unfolding(crate::specs::Sample::sample_fields))]
-fn read_fields<'a>(
+/// Reads the registers and the stack of a sample, from the offset after its time on.
+#[tactic(auto, unfolding(crate::specs::Sample::user_side))]
+fn read_user_side<'a>(
     attribute: &Attribute<'_>,
     record: Record<'a>,
-) -> Result<Sample<'a>, RecordingError>
+    at: usize,
+) -> Result<UserStack<'a>, RecordingError>
     ensures exact { MatchResult result
-        (λ sample. sample_fields (attribute_view attribute.now) (record_view «record».entry) ≡ Ok (sample_view sample))
-        (λ error. sample_fields (attribute_view attribute.now) (record_view «record».entry) ≡ Err error) }
+        (λ user. user_side (attribute_view attribute.now) (record_view «record».entry) at ≡ Ok (user_view user))
+        (λ error. user_side (attribute_view attribute.now) (record_view «record».entry) at ≡ Err error) }
 {
-    let short = RecordingError::ShortRecord {
-        offset: record.offset,
-    };
-    let bytes = record.body;
+    let offset = record.offset;
     let kind = attribute.sample_type;
-    let (_, at) = read_optional(kind & 0x10000 != 0, bytes, 0, short)?;
-    let (ip, at) = read_u64(bytes, at, short)?;
-    let (pid, at) = read_u32(bytes, at, short)?;
-    let (tid, at) = read_u32(bytes, at, short)?;
-    let (time, at) = read_u64(bytes, at, short)?;
-    let (_, at) = read_optional(kind & 0x8 != 0, bytes, at, short)?;
-    let (_, at) = read_optional(kind & 0x40 != 0, bytes, at, short)?;
-    let (_, at) = read_optional(kind & 0x200 != 0, bytes, at, short)?;
-    let (_, at) = read_optional(kind & 0x80 != 0, bytes, at, short)?;
-    let (_, at) = read_optional(kind & 0x100 != 0, bytes, at, short)?;
-    let at = skip_chain(kind & 0x20 != 0, bytes, at, short)?;
-    let user = read_user(record.offset, attribute.sample_regs_user, bytes, at)?;
-    Ok(Sample {
-        ip,
-        pid,
-        tid,
-        time,
-        user,
-    })
+    if kind & REGS_USER == 0 || kind & STACK_USER == 0 {
+        return Err(RecordingError::NoUserStack { offset });
+    }
+    if kind & READ != 0 || kind & RAW != 0 || kind & BRANCH_STACK != 0 {
+        return Err(RecordingError::UnsupportedField { offset });
+    }
+    let short = RecordingError::ShortRecord { offset };
+    let bytes = record.body;
+    let (_, at) = read_optional(kind & ADDR != 0, bytes, at, short)?;
+    let (_, at) = read_optional(kind & ID != 0, bytes, at, short)?;
+    let (_, at) = read_optional(kind & STREAM_ID != 0, bytes, at, short)?;
+    let (_, at) = read_optional(kind & CPU != 0, bytes, at, short)?;
+    let (_, at) = read_optional(kind & PERIOD != 0, bytes, at, short)?;
+    let at = skip_chain(kind & CALLCHAIN != 0, bytes, at, short)?;
+    read_user(offset, attribute.sample_regs_user, bytes, at)
 }
 
-/// Reads a sample of an event from its record.
-///
-/// # Errors
-///
-/// - `OtherKind` where the record is no PERF_RECORD_SAMPLE, and `ShortRecord`;
-/// - of the event: `NoTime`, `NoUserStack` and `UnsupportedField`;
-/// - of the sample: `NoUserRegisters`, `Process32Bit` and `UnknownAbi`.
-///
-/// Source: Linux, `include/uapi/linux/perf_event.h`, PERF_RECORD_SAMPLE.
+/// Reads the fields of a sample of an event from its record.
 #[tactic(auto, unfolding(crate::specs::Sample::sample_at))]
-pub fn read_sample<'a>(
+fn read_fields<'a>(
     attribute: &Attribute<'_>,
     record: Record<'a>,
 ) -> Result<Sample<'a>, RecordingError>
@@ -178,14 +165,51 @@ pub fn read_sample<'a>(
     if record.kind != SAMPLE {
         return Err(RecordingError::OtherKind { offset });
     }
-    if attribute.sample_type & PLACE != PLACE {
-        return Err(RecordingError::NoTime { offset });
+    let kind = attribute.sample_type;
+    if kind & IP == 0 || kind & TID == 0 {
+        return Err(RecordingError::NoThread { offset });
     }
-    if attribute.sample_type & USER_STACK != USER_STACK {
-        return Err(RecordingError::NoUserStack { offset });
-    }
-    if attribute.sample_type & UNSUPPORTED != 0 {
-        return Err(RecordingError::UnsupportedField { offset });
-    }
-    read_fields(attribute, record)
+    let short = RecordingError::ShortRecord { offset };
+    let bytes = record.body;
+    let (_, at) = read_optional(kind & IDENTIFIER != 0, bytes, 0, short)?;
+    let (ip, at) = read_u64(bytes, at, short)?;
+    let (pid, at) = read_u32(bytes, at, short)?;
+    let (tid, at) = read_u32(bytes, at, short)?;
+    let (time, at) = read_optional(kind & TIME != 0, bytes, at, short)?;
+    let time = optional_time(kind & TIME != 0, time);
+    let user = read_user_side(attribute, record, at);
+    Ok(Sample {
+        ip,
+        pid,
+        tid,
+        time,
+        user,
+    })
+}
+
+/// Reads a sample of an event from its record. Where the registers or the stack can't be read, the sample
+/// says why, and still has its thread and its time.
+///
+/// # Errors
+///
+/// `OtherKind` where the record is no PERF_RECORD_SAMPLE, `NoThread` where the samples of the event have no
+/// instruction pointer or no thread, and `ShortRecord` where the record ends before these and the time do.
+///
+/// Those of the field `user` are:
+///
+/// - of the event: `NoUserStack` and `UnsupportedField`;
+/// - of the sample: `NoUserRegisters`, `Process32Bit`, `UnknownAbi` and `ShortRecord`.
+///
+/// Source: Linux, `include/uapi/linux/perf_event.h`, PERF_RECORD_SAMPLE.
+pub fn read_sample<'a>(
+    attribute: &Attribute<'_>,
+    record: Record<'a>,
+) -> Result<Sample<'a>, RecordingError>
+    ensures exact { MatchResult result
+        (λ sample. sample_at (attribute_view attribute.now) (record_view «record».entry) ≡ Ok (sample_view sample))
+        (λ error. sample_at (attribute_view attribute.now) (record_view «record».entry) ≡ Err error) }
+    ensures timed { IfOk result (λ sample. sample.time ≡ time_field (attribute_view attribute.now) (record_view «record».entry)) }
+{
+    let sample = read_fields(attribute, record)?;
+    Ok(sample)
 }

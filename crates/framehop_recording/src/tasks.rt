@@ -1,27 +1,19 @@
 //! Processes and threads that begin, end or run another program, and lost records.
 ghost use Rattle.std.specs.Prelude.{◌≡◌, Ok, Err, MatchResult};
 ghost use Rattle.framehop_recording.specs.Records.{record_view};
-ghost use Rattle.framehop_recording.specs.Tasks.{command_at, command_view, task_at, lost_at};
+ghost use Rattle.framehop_recording.specs.Tasks.{command_at, command_view, task_at, lost_at, lost_samples_at};
 
 use crate::bytes::{back, read_u32, read_u64};
 use crate::error::RecordingError;
+use crate::kind::{COMM, EXIT, FORK, LOST, LOST_SAMPLES};
 use crate::mapping::text;
 use crate::records::Record;
 
-/// PERF_RECORD_LOST.
-const LOST: u32 = 2;
-
-/// PERF_RECORD_COMM.
-const COMM: u32 = 3;
-
-/// PERF_RECORD_EXIT.
-const EXIT: u32 = 4;
-
-/// PERF_RECORD_FORK.
-const FORK: u32 = 7;
-
 /// PERF_RECORD_MISC_COMM_EXEC.
 const COMM_EXEC: u16 = 0x2000;
+
+/// PERF_RECORD_MISC_FORK_EXEC.
+const FORK_EXEC: u16 = 0x2000;
 
 /// The name of a thread.
 #[derive(Clone, Copy, Drop)]
@@ -47,6 +39,9 @@ pub struct Task {
     pub tid: u32,
     /// The thread that made it.
     pub parent_tid: u32,
+    /// Whether perf made the record up, for a thread that already ran: its process has no mappings of
+    /// its parent, since a record of each of its own follows.
+    pub is_made_up: bool,
     /// When it begins or ends, in nanoseconds.
     pub time: u64,
 }
@@ -85,7 +80,8 @@ pub fn read_command<'a>(record: Record<'a>) -> Result<Command<'a>, RecordingErro
 ///
 /// `OtherKind` where the record is no PERF_RECORD_FORK and no PERF_RECORD_EXIT, and `ShortRecord`.
 ///
-/// Source: Linux, `include/uapi/linux/perf_event.h`, PERF_RECORD_FORK and PERF_RECORD_EXIT.
+/// Source: Linux, `include/uapi/linux/perf_event.h`, PERF_RECORD_FORK and PERF_RECORD_EXIT;
+/// `tools/perf/util/machine.c`, `machine__process_fork_event`, PERF_RECORD_MISC_FORK_EXEC.
 #[tactic(auto, unfolding(crate::specs::Tasks::task_at))]
 pub fn read_task(record: Record<'_>) -> Result<Task, RecordingError>
     ensures exact { result ≡ task_at (record_view «record».entry) }
@@ -105,11 +101,12 @@ pub fn read_task(record: Record<'_>) -> Result<Task, RecordingError>
         parent_pid,
         tid,
         parent_tid,
+        is_made_up: record.misc & FORK_EXEC != 0,
         time,
     })
 }
 
-/// Reads how many records were lost, from the record that says so.
+/// Reads how many records the kernel lost since the last record that says so.
 ///
 /// # Errors
 ///
@@ -125,5 +122,27 @@ pub fn read_lost(record: Record<'_>) -> Result<u64, RecordingError>
         return Err(RecordingError::OtherKind { offset });
     }
     let (lost, _) = read_u64(record.body, 8, RecordingError::ShortRecord { offset })?;
+    Ok(lost)
+}
+
+/// Reads how many samples the kernel lost, from the record with which `perf record` says so at the end.
+/// It says again what the records of the kernel say, which [`read_lost`] reads: the numbers of the two
+/// are not to be added.
+///
+/// # Errors
+///
+/// `OtherKind` where the record is no PERF_RECORD_LOST_SAMPLES, and `ShortRecord`.
+///
+/// Source: Linux, `include/uapi/linux/perf_event.h`, PERF_RECORD_LOST_SAMPLES;
+/// `tools/perf/builtin-record.c`, `record__read_lost_samples`.
+#[tactic(auto, unfolding(crate::specs::Tasks::lost_samples_at))]
+pub fn read_lost_samples(record: Record<'_>) -> Result<u64, RecordingError>
+    ensures exact { result ≡ lost_samples_at (record_view «record».entry) }
+{
+    let offset = record.offset;
+    if record.kind != LOST_SAMPLES {
+        return Err(RecordingError::OtherKind { offset });
+    }
+    let (lost, _) = read_u64(record.body, 0, RecordingError::ShortRecord { offset })?;
     Ok(lost)
 }

@@ -63,12 +63,13 @@ fn reads_a_sample(rt: HostRuntime) -> Result<(), Fail> {
     let sample = read_sample(&EVENT, first_record(alloc, bytes.as_slice())?)?;
     assert_eq!(rt;
         (sample.ip, sample.pid, sample.tid, sample.time),
-        (0x400800, 5, 6, 100)
+        (0x400800, 5, 6, Some(100))
     );
     let stack = [0x11, 0x11, 0, 0, 0, 0, 0, 0];
-    assert_eq!(rt; sample.user.stack, stack.as_slice());
+    let user = sample.user?;
+    assert_eq!(rt; user.stack, stack.as_slice());
     let regs = UnwindRegsAarch64::new(0x400700, 0x7ffff000, 0x7ffff010);
-    let found = aarch64_registers(PtrAuthMask::new_no_strip(), MASK, sample.user.registers);
+    let found = aarch64_registers(PtrAuthMask::new_no_strip(), MASK, user.registers);
     assert_eq!(rt; found, Some((0x400800, regs)));
     Ok(())
 }
@@ -82,8 +83,9 @@ fn refuses_other_registers(rt: HostRuntime) -> Result<(), Fail> {
         (3, RecordingError::UnknownAbi { offset: 0 }),
     ] {
         let bytes = bytes_of(alloc, &sample(abi))?;
-        let read = read_sample(&EVENT, first_record(alloc, bytes.as_slice())?);
-        assert_eq!(rt; read.err(), Some(refusal));
+        let sample = read_sample(&EVENT, first_record(alloc, bytes.as_slice())?)?;
+        assert_eq!(rt; sample.user.err(), Some(refusal));
+        assert_eq!(rt; (sample.pid, sample.tid, sample.time), (5, 6, Some(100)));
     }
     Ok(())
 }

@@ -4,6 +4,8 @@
 #[cfg(test)]
 mod aarch64;
 #[cfg(test)]
+mod machine;
+#[cfg(test)]
 mod two_events;
 #[cfg(test)]
 mod x86_64;

@@ -1,15 +1,13 @@
 //! Pieces of a recording of perf 6.1.187 on x86_64, `perf record -e cpu-clock:u --call-graph dwarf,64`,
 //! of a program of nine instructions whose path was replaced. The expected values are those that
 //! `perf script -D` prints.
-use framehop_core::x86_64::{Reg, UnwindRegsX86_64};
 use framehop_recording::attributes::read_attribute;
 use framehop_recording::error::RecordingError;
 use framehop_recording::header::{Header, Section, read_header};
+use framehop_recording::kind;
 use framehop_recording::mapping::read_mapping;
 use framehop_recording::records::{Record, read_records};
-use framehop_recording::registers::x86_64_registers;
-use framehop_recording::sample::read_sample;
-use framehop_recording::tasks::{Task, read_command, read_lost, read_task};
+use framehop_recording::tasks::{Task, read_command, read_lost, read_lost_samples, read_task};
 use std::alloc::Global;
 use std::test::Fail;
 
@@ -40,22 +38,6 @@ const MAPPING: [u8; 104] = [
     0xa7, 0, 0, 0, 0, 0, 0x0c, 0x8c, 0x80, 0x86, 0, 0, 0, 0, 5, 0, 0, 0, 2, 0, 0, 0, 0x2f, 0x75,
     0x73, 0x72, 0x2f, 0x62, 0x69, 0x6e, 0x2f, 0x6c, 0x65, 0x61, 0x66, 0, 0, 0, 0x0c, 0x1a, 0, 0,
     0x0c, 0x1a, 0, 0, 0x29, 0xc0, 0xaf, 0xae, 0x63, 3, 0, 0,
-];
-
-/// A PERF_RECORD_SAMPLE.
-const SAMPLE: [u8; 312] = [
-    9, 0, 0, 0, 2, 0, 0x38, 1, 0x19, 0x10, 0x40, 0, 0, 0, 0, 0, 0x0c, 0x1a, 0, 0, 0x0c, 0x1a, 0, 0,
-    0xb5, 0xf7, 0x57, 0xb6, 0x63, 3, 0, 0, 0, 0, 0, 0, 0, 0, 0, 0, 0x63, 0x67, 0x37, 1, 0, 0, 0, 0,
-    0, 0, 0, 0, 0, 0, 0, 0, 2, 0, 0, 0, 0, 0, 0, 0, 0, 0, 0, 0, 0, 0, 0, 0, 0, 0, 0, 0, 0, 0, 0, 0,
-    0xbd, 0xad, 0x29, 0x0e, 0, 0, 0, 0, 0, 0, 0, 0, 0, 0, 0, 0, 0, 0, 0, 0, 0, 0, 0, 0, 0, 0, 0, 0,
-    0, 0, 0, 0, 0, 0, 0, 0, 0, 0, 0, 0, 0xb0, 0xf2, 0xfa, 0xb2, 0xff, 0x7f, 0, 0, 0x19, 0x10, 0x40,
-    0, 0, 0, 0, 0, 6, 2, 0, 0, 0, 0, 0, 0, 0x33, 0, 0, 0, 0, 0, 0, 0, 0x2b, 0, 0, 0, 0, 0, 0, 0, 0,
-    0, 0, 0, 0, 0, 0, 0, 0, 0, 0, 0, 0, 0, 0, 0, 0, 0, 0, 0, 0, 0, 0, 0, 0, 0, 0, 0, 0, 0, 0, 0, 0,
-    0, 0, 0, 0, 0, 0, 0, 0, 0, 0, 0, 0, 0, 0, 0, 0, 0, 0, 0, 0, 0, 0, 0, 0, 0, 0, 0, 0, 0, 0, 0,
-    0x40, 0, 0, 0, 0, 0, 0, 0, 0x13, 0x10, 0x40, 0, 0, 0, 0, 0, 5, 0x10, 0x40, 0, 0, 0, 0, 0, 1, 0,
-    0, 0, 0, 0, 0, 0, 0xa4, 0xfa, 0xfa, 0xb2, 0xff, 0x7f, 0, 0, 0, 0, 0, 0, 0, 0, 0, 0, 0xa8, 0xfa,
-    0xfa, 0xb2, 0xff, 0x7f, 0, 0, 0xb8, 0xfa, 0xfa, 0xb2, 0xff, 0x7f, 0, 0, 0xc7, 0xfa, 0xfa, 0xb2,
-    0xff, 0x7f, 0, 0, 0x40, 0, 0, 0, 0, 0, 0, 0, 0x21, 0, 8, 5, 0x1e, 0, 0, 0,
 ];
 
 /// A PERF_RECORD_EXIT.
@@ -126,25 +108,44 @@ fn reads_a_command_a_mapping_and_an_exit(rt: HostRuntime) -> Result<(), Fail> {
         parent_pid: 6652,
         tid: 6668,
         parent_tid: 6652,
+        is_made_up: false,
         time: 3727357570369,
     };
     assert_eq!(rt; read_task(first_record(alloc, &EXIT)?)?, exit);
     Ok(())
 }
 
+/// The header with another number of eight bytes at an offset.
+fn changed(alloc: Global, offset: usize, number: u64) -> Result<Vec<u8>, Fail> {
+    let mut front = Vec::from_slice(alloc, &FRONT)?;
+    let mut at = offset;
+    for byte in number.to_le_bytes() {
+        *front.get_mut(at).ok_or("no such byte")? = byte;
+        at += 1;
+    }
+    Ok(front)
+}
+
 #[test]
-fn reads_a_sample(rt: HostRuntime) -> Result<(), Fail> {
+fn refuses_other_headers(rt: HostRuntime) -> Result<(), Fail> {
     let alloc = rt.alloc();
-    let attribute = read_attribute(&FRONT, 0x88, 0x90)?;
-    let sample = read_sample(&attribute, first_record(alloc, &SAMPLE)?)?;
-    assert_eq!(rt; (sample.ip, sample.pid, sample.tid), (0x401019, 6668, 6668));
-    assert_eq!(rt; sample.time, 3726795863989);
-    assert_eq!(rt; sample.user.stack.len(), 64);
-    assert_eq!(rt; sample.user.stack.get(8).copied(), Some(0x05));
-    let mut regs = UnwindRegsX86_64::new(0x401019, 0x7fffb2faf2b0, 0);
-    regs.set(Reg::RCX, 0xe29adbd);
-    let found = x86_64_registers(attribute.sample_regs_user, sample.user.registers);
-    assert_eq!(rt; found, Some(regs));
+    for (offset, number, refusal) in [
+        (8, 16, RecordingError::Piped { offset: 8 }),
+        (8, 96, RecordingError::BadHeaderSize { offset: 8 }),
+        (48, 0, RecordingError::Unfinished { offset: 48 }),
+    ] {
+        let front = changed(alloc, offset, number)?;
+        assert_eq!(rt; read_header(front.as_slice()), Err(refusal));
+    }
+    // the old format has no features
+    let front = changed(alloc, 8, 72)?;
+    assert_eq!(rt; read_header(front.as_slice())?.features, 0);
+    // the attribute says that it has eight bytes fewer
+    let front = changed(alloc, 0x88, 0x78_0000_0001)?;
+    assert_eq!(rt;
+        read_attribute(front.as_slice(), 0x88, 0x90).err(),
+        Some(RecordingError::BadAttributeSize { offset: 0x88 })
+    );
     Ok(())
 }
 
@@ -163,26 +164,24 @@ fn refuses_by_name(rt: HostRuntime) -> Result<(), Fail> {
         read_header(b"PERFILE1"),
         Err(RecordingError::NotARecording { offset: 0 })
     );
-    let pipe = [
-        0x50, 0x45, 0x52, 0x46, 0x49, 0x4c, 0x45, 0x32, 0x10, 0, 0, 0, 0, 0, 0, 0,
-    ];
-    assert_eq!(rt;
-        read_header(&pipe),
-        Err(RecordingError::Piped { offset: 8 })
-    );
     let cut = Section {
-        offset: 0x20,
+        offset: 0x18,
         size: 0x100,
     };
-    let read = read_records(alloc, &SAMPLE, cut)?;
+    let read = read_records(alloc, &EXIT, cut)?;
     assert_eq!(rt;
         read.refusal,
-        Some(RecordingError::BadRecordSize { offset: 0x20 })
+        Some(RecordingError::BadRecordSize { offset: 0x18 })
     );
     // a PERF_RECORD_LOST of ten records
     let lost = [
         2, 0, 0, 0, 0, 0, 0x18, 0, 0x15, 0, 0, 0, 0, 0, 0, 0, 10, 0, 0, 0, 0, 0, 0, 0,
     ];
     assert_eq!(rt; read_lost(first_record(alloc, &lost)?), Ok(10));
+    // a PERF_RECORD_LOST_SAMPLES of ten samples
+    let lost = [13, 0, 0, 0, 0, 0, 0x10, 0, 10, 0, 0, 0, 0, 0, 0, 0];
+    let record = first_record(alloc, &lost)?;
+    assert_eq!(rt; record.kind, kind::LOST_SAMPLES);
+    assert_eq!(rt; read_lost_samples(record), Ok(10));
     Ok(())
 }

@@ -1,3 +1,4 @@
+pub mod CommandLines
 pub mod Documents
 pub mod Hexadecimal
 pub mod Items
@@ -7,3 +8,4 @@ pub mod Outputs
 pub mod Readings
 pub mod Sequences
 pub mod Tables
+pub mod Writes

@@ -7,5 +7,7 @@ pub mod Program
 pub mod Reading
 pub mod Refusals
 pub mod Registers
+pub mod Runs
 pub mod Sections
+pub mod Streams
 pub mod Text

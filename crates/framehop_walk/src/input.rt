@@ -1,22 +1,31 @@
 //! A reader that keeps whether a read has failed.
-ghost use Rattle.std.specs.Prelude.{◌≡◌, is_err, ◌||◌, IfOk, IfSome, false};
+ghost use Rattle.std.specs.Prelude.{◌≡◌, is_err, ◌||◌, IfOk, IfSome};
+ghost use Rattle.framehop_walk.specs.Streams.{input_over};
 
 use std::alloc::Global;
 use std::io;
 use std::io::Read;
+use std::marker::Model;
 
 /// A reader that keeps whether a read from it has failed.
 #[derive(Drop)]
-pub struct Input<R> {
-    pub reader: R,
-    pub has_failed: bool,
+pub struct Input<R: Read> {
+    reader: R,
+    has_failed: bool,
+}
+
+impl<R: Read> Model for Input<R> {
+    ghost use Rattle.framehop_walk.specs.Streams.{InputView};
+
+    ghost Value = { InputView };
+
+    ghost view = { λ i. record { remaining = R.remaining i.reader; has_failed = i.has_failed } };
 }
 
 impl<R: Read> Input<R> {
     /// Over the reader, from which no read has failed.
     pub fn new(reader: R) -> Self
-        ensures reader { result.reader ≡ reader }
-        ensures fresh { result.has_failed ≡ false }
+        ensures { result ≡ input_over (R.remaining reader) }
     {
         Input {
             reader,
@@ -24,9 +33,16 @@ impl<R: Read> Input<R> {
         }
     }
 
+    /// Whether a read has failed.
+    pub fn has_failed(&self) -> bool
+        ensures { result ≡ self.now.has_failed }
+    {
+        self.has_failed
+    }
+
     /// Reads all bytes that are left.
     pub fn read_all(&mut self, alloc: Global) -> io::Result<Vec<u8>>
-        ensures bytes { IfOk result (λ bytes. IfSome (R.remaining self.old.reader) (λ text. bytes.items ≡ text)) }
+        ensures bytes { IfOk result (λ bytes. IfSome self.old.remaining (λ text. bytes.items ≡ text)) }
         ensures noted { self.new.has_failed ≡ (self.old.has_failed || is_err result) }
     {
         let mut bytes = Vec::new(alloc);

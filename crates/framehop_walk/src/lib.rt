@@ -1,6 +1,7 @@
 //! The program `framehop-walk`: a list of commands in JSON in, the replies as text out.
 #![tactic(auto)]
 
+mod command_line;
 pub mod commands;
 pub mod fields;
 mod input;
@@ -12,6 +13,7 @@ pub mod registers;
 mod replies;
 pub mod sections;
 
+pub use command_line::run;
 pub use input::Input;
 pub use output::Output;
 pub use program::{refuse, walk_program};

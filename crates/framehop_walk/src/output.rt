@@ -2,25 +2,33 @@
 ghost use Rattle.std.specs.Prelude.{◌≡◌, is_err, is_ok, ◌||◌, OnOk, false};
 ghost use Rattle.std.specs.Io.{WritesAtMost};
 ghost use Rattle.std.specs.Io.KnownBytes.{Keeps, Appends, WriteAppends};
+ghost use Rattle.framehop_walk.specs.Streams.{output_over};
 
 use std::io;
 use std::io::Write;
+use std::marker::Model;
 
 /// A writer that keeps whether a write to it has failed, and whether it was flushed after the last
 /// write.
 #[derive(Drop)]
-pub struct Output<W> {
-    pub writer: W,
-    pub has_failed: bool,
-    pub is_flushed: bool,
+pub struct Output<W: Write> {
+    writer: W,
+    has_failed: bool,
+    is_flushed: bool,
+}
+
+impl<W: Write> Model for Output<W> {
+    ghost use Rattle.framehop_walk.specs.Streams.{OutputView};
+
+    ghost Value = { OutputView };
+
+    ghost view = { λ o. record { bytes = W.contents o.writer; has_failed = o.has_failed; is_flushed = o.is_flushed } };
 }
 
 impl<W: Write> Output<W> {
     /// Over the writer, to which no write has failed.
     pub fn new(writer: W) -> Self
-        ensures writer { result.writer ≡ writer }
-        ensures fresh { result.has_failed ≡ false }
-        ensures unflushed { result.is_flushed ≡ false }
+        ensures { result ≡ output_over (W.contents writer) }
     {
         Output {
             writer,
@@ -28,14 +36,28 @@ impl<W: Write> Output<W> {
             is_flushed: false,
         }
     }
+
+    /// Whether a write or a flush has failed.
+    pub fn has_failed(&self) -> bool
+        ensures { result ≡ self.now.has_failed }
+    {
+        self.has_failed
+    }
+
+    /// Returns the writer.
+    pub fn into_inner(self) -> W
+        ensures { W.contents result ≡ self.bytes }
+    {
+        self.writer
+    }
 }
 
 impl<W: Write> Write for Output<W> {
-    ghost contents = { λ o. W.contents o.writer };
+    ghost contents = { λ o. o.bytes };
 
     fn write(&mut self, buf: &[u8]) -> io::Result<usize>
         ensures bound { WritesAtMost result buf.now }
-        ensures bytes { WriteAppends (W.contents self.old.writer) (W.contents self.new.writer) result buf.now }
+        ensures bytes { WriteAppends self.old.bytes self.new.bytes result buf.now }
         ensures noted { self.new.has_failed ≡ (self.old.has_failed || is_err result) }
         ensures unflushed { self.new.is_flushed ≡ false }
     {
@@ -46,7 +68,7 @@ impl<W: Write> Write for Output<W> {
     }
 
     fn flush(&mut self) -> io::Result<()>
-        ensures bytes { Keeps (W.contents self.old.writer) (W.contents self.new.writer) }
+        ensures bytes { Keeps self.old.bytes self.new.bytes }
         ensures noted { self.new.has_failed ≡ (self.old.has_failed || is_err result) }
         ensures flushed { self.new.is_flushed ≡ is_ok result }
     {
@@ -57,7 +79,7 @@ impl<W: Write> Write for Output<W> {
     }
 
     fn write_all(&mut self, buf: &[u8]) -> io::Result<()>
-        ensures bytes { OnOk result (Appends (W.contents self.old.writer) (W.contents self.new.writer) buf.now) }
+        ensures bytes { OnOk result (Appends self.old.bytes self.new.bytes buf.now) }
         ensures noted { self.new.has_failed ≡ (self.old.has_failed || is_err result) }
         ensures unflushed { self.new.is_flushed ≡ false }
     {

@@ -1,5 +1,5 @@
 //! The whole run of the program, over a reader and two writers.
-ghost use Rattle.std.specs.Prelude.{◌≡◌, ◌≢◌, ◌≤◌, ◌^◌, IfOk, IfErr, OnOk, OnErr, IfSome, MatchResult, [], true, false, Ok, Err, map, codes, string_bytes};
+ghost use Rattle.std.specs.Prelude.{◌≡◌, ◌≢◌, ◌≤◌, ◌^◌, ◌||◌, is_err, IfOk, IfErr, OnOk, OnErr, IfSome, MatchResult, [], true, false, Ok, Err, map, codes, string_bytes};
 ghost use Rattle.std.specs.Io.KnownBytes.{Keeps, Appends};
 ghost use Rattle.serde_json.specs.View.{view, items_view};
 ghost use Rattle.framehop.specs.CachedWorld.{cached_replies, empty_cached_world};
@@ -8,6 +8,8 @@ ghost use Rattle.framehop_walk.specs.Refusals.{told, reading_of, refusal_status,
 ghost use Rattle.framehop_walk.specs.Fields.{each, field_below};
 ghost use Rattle.framehop_walk.specs.Program.{lines_of, printed, read_next, AreRead};
 ghost use Rattle.framehop_walk.specs.Answers.{architecture, policy_of, read_arch as arch_read, read_policy as policy_read, AnswersUnder, AnswersOn, AnswersValue, Answers, IsJson, IsNoJson, IsOfInput, IsOfRun, IsPrinted};
+ghost use Rattle.framehop_walk.specs.Runs.{IsRun};
+ghost use Rattle.framehop_walk.specs.Streams.{outputs};
 ghost use Rattle.framehop_walk.specs.Numbers.{has_bad_number as has_bad};
 ghost use Rattle.framehop_walk.specs.Reading.{IsAccepted};
 
@@ -52,18 +54,7 @@ pub fn walk_program<R: Read, W: Write, E: Write>(
     out: &mut Output<W>,
     err: &mut Output<E>,
 ) -> u8
-    ensures read { result ≡ 0 → IfSome (R.remaining input.old.reader) IsAccepted }
-    ensures printed { result ≡ 0 → IfSome (R.remaining input.old.reader)
-        (IsPrinted (W.contents out.old.writer) (W.contents out.new.writer)) }
-    ensures flushed { result ≡ 0 → out.new.is_flushed ≡ true }
-    ensures told { result ≢ 0 → (refusal : Refusal) × (result ≡ refusal_status refusal)
-        × (err.new.has_failed ≡ false
-        → Appends (E.contents err.old.writer) (E.contents err.new.writer) (refusal_line refusal))
-        × (refusal ≢ Refusal.OutOfMemory
-        → IsOfRun input.new.has_failed out.new.has_failed (R.remaining input.old.reader) refusal) }
-    ensures refused { result ≢ 0 → out.new.has_failed ≡ false
-        → Keeps (W.contents out.old.writer) (W.contents out.new.writer) }
-    ensures noted { result ≡ 0 → out.new.has_failed ≡ out.old.has_failed }
+    ensures run { IsRun result input.old input.new (outputs out.old err.old) (outputs out.new err.new) }
     ensures status { result ≤ 2 }
 {
     match print_answer(alloc, input, out) {
@@ -73,16 +64,24 @@ pub fn walk_program<R: Read, W: Write, E: Write>(
 }
 
 /// Writes the line of a refusal, and returns its exit status.
-#[tactic(auto, unfolding(crate::specs::Refusals::refusal_line))]
 pub fn refuse<E: Write>(err: &mut Output<E>, refusal: Refusal) -> u8
     ensures status { result ≡ refusal_status refusal }
-    ensures told { err.new.has_failed ≡ false
-        → Appends (E.contents err.old.writer) (E.contents err.new.writer) (refusal_line refusal) }
+    ensures told { err.new.has_failed ≡ false → Appends err.old.bytes err.new.bytes (refusal_line refusal) }
 {
-    if writeln!(err, "framehop-walk: {refusal}").is_err() {
-        err.has_failed = true;
-    }
+    let _written = write_line(err, refusal);
     refusal.status()
+}
+
+#[tactic(auto, unfolding(crate::specs::Refusals::refusal_line))]
+fn write_line<E: Write>(err: &mut Output<E>, refusal: Refusal) -> io::Result<()>
+    ensures written { OnOk result (Appends err.old.bytes err.new.bytes (refusal_line refusal)) }
+    ensures noted { err.new.has_failed ≡ (err.old.has_failed || is_err result) }
+{
+    let (text, field) = refusal.text();
+    err.write_all(b"framehop-walk: ")?;
+    err.write_all(text.as_bytes())?;
+    err.write_all(field.as_bytes())?;
+    err.write_all(b"\n")
 }
 
 /// Writes the replies to the input to `out`.
@@ -91,15 +90,15 @@ fn print_answer<R: Read, W: Write>(
     input: &mut Input<R>,
     out: &mut Output<W>,
 ) -> Result<(), Refusal>
-    ensures read { OnOk result (IfSome (R.remaining input.old.reader) IsAccepted) }
-    ensures printed { OnOk result (IfSome (R.remaining input.old.reader)
-        (IsPrinted (W.contents out.old.writer) (W.contents out.new.writer))) }
+    ensures read { OnOk result (IfSome input.old.remaining IsAccepted) }
+    ensures printed { OnOk result (IfSome input.old.remaining
+        (IsPrinted out.old.bytes out.new.bytes)) }
     ensures flushed { OnOk result (out.new.is_flushed ≡ true) }
     ensures noted { OnOk result (out.new.has_failed ≡ out.old.has_failed) }
     ensures told { IfErr result (λ refusal. refusal ≢ Refusal.OutOfMemory
-        → IsOfRun input.new.has_failed out.new.has_failed (R.remaining input.old.reader) refusal) }
+        → IsOfRun input.new.has_failed out.new.has_failed input.old.remaining refusal) }
     ensures refused { OnErr result (out.new.has_failed ≡ false
-        → Keeps (W.contents out.old.writer) (W.contents out.new.writer)) }
+        → Keeps out.old.bytes out.new.bytes) }
 {
     let text = replies_to_input(alloc, input)?;
     match write_whole(out, text.as_bytes()) {
@@ -111,7 +110,7 @@ fn print_answer<R: Read, W: Write>(
 fn write_whole<W: Write>(out: &mut Output<W>, text: &[u8]) -> io::Result<()>
     ensures failed { IfErr result (λ _. out.new.has_failed ≡ true) }
     ensures noted { OnOk result (out.new.has_failed ≡ out.old.has_failed) }
-    ensures written { OnOk result (Appends (W.contents out.old.writer) (W.contents out.new.writer) text.now) }
+    ensures written { OnOk result (Appends out.old.bytes out.new.bytes text.now) }
     ensures flushed { OnOk result (out.new.is_flushed ≡ true) }
 {
     out.write_all(text)?;
@@ -120,11 +119,11 @@ fn write_whole<W: Write>(out: &mut Output<W>, text: &[u8]) -> io::Result<()>
 
 // all replies to the input, as text
 fn replies_to_input<R: Read>(alloc: Global, input: &mut Input<R>) -> Result<String, Refusal>
-    ensures read { OnOk result (IfSome (R.remaining input.old.reader) IsAccepted) }
-    ensures answers { IfOk result (λ text. IfSome (R.remaining input.old.reader)
+    ensures read { OnOk result (IfSome input.old.remaining IsAccepted) }
+    ensures answers { IfOk result (λ text. IfSome input.old.remaining
         (λ bytes. Answers bytes (Ok (string_bytes text)))) }
     ensures refused { IfErr result (λ refusal. refusal ≢ Refusal.OutOfMemory
-        → IsOfInput input.new.has_failed (R.remaining input.old.reader) refusal) }
+        → IsOfInput input.new.has_failed input.old.remaining refusal) }
 {
     let value = read_value(alloc, input)?;
     replies_to_value(alloc, &value)
@@ -132,9 +131,9 @@ fn replies_to_input<R: Read>(alloc: Global, input: &mut Input<R>) -> Result<Stri
 
 fn read_value<R: Read>(alloc: Global, input: &mut Input<R>) -> Result<Value, Refusal>
     ensures reading { IfOk result (λ value.
-        IfSome (R.remaining input.old.reader) (λ bytes. IsJson bytes (view value))) }
+        IfSome input.old.remaining (λ bytes. IsJson bytes (view value))) }
     ensures refused { IfErr result (λ refusal. refusal ≢ Refusal.OutOfMemory
-        → IsOfInput input.new.has_failed (R.remaining input.old.reader) refusal) }
+        → IsOfInput input.new.has_failed input.old.remaining refusal) }
 {
     let bytes = input.read_all(alloc)?;
     parse(alloc, bytes.as_slice())

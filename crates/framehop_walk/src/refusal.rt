@@ -1,5 +1,5 @@
 //! Why a run is refused: its line and its exit status.
-ghost use Rattle.std.specs.Prelude.{◌≡◌, Some};
+ghost use Rattle.std.specs.Prelude.{◌≡◌, ◌++◌, Some};
 ghost use Rattle.std.specs.IoError.{error_kind};
 ghost use Rattle.framehop_walk.specs.Refusals.{refusal_text, refusal_status, of_session, of_kind};
 ghost use Rattle.framehop_walk.specs.declared.refusal.Refusal.TheVariants.{OutOfMemory};
@@ -43,29 +43,37 @@ pub enum Refusal {
     GenerationsExhausted,
 }
 
-#[tactic(auto, unfolding(crate::specs::Refusals::bad_field))]
 impl fmt::Display for Refusal {
     ghost output = { λ refusal. Some (refusal_text refusal) };
 
     fn fmt<W: fmt::Write>(&self, f: &mut fmt::Formatter<W>) -> fmt::Result {
-        match self {
-            Refusal::Usage => write!(f, "usage: framehop-walk [FILE]"),
-            Refusal::CannotReadInput => write!(f, "cannot read input"),
-            Refusal::CannotWriteOutput => write!(f, "cannot write output"),
-            Refusal::NotJson => write!(f, "input refused: not JSON"),
-            Refusal::BadNumber => write!(f, "input refused: bad number"),
-            Refusal::BadField(name) => write!(f, "input refused: bad field {name}"),
-            Refusal::NoSuchUnwinder => write!(f, "input refused: no such unwinder"),
-            Refusal::NoSuchCache => write!(f, "input refused: no such cache"),
-            Refusal::OutOfMemory => write!(f, "out of memory"),
-            Refusal::GenerationsExhausted => write!(f, "generations exhausted"),
-        }
+        let (text, field) = self.text();
+        write!(f, "{text}{field}")
     }
 }
 
 impl error::Error for Refusal {}
 
 impl Refusal {
+    /// The text of the error line, after the program's name, and the name of a field that ends it.
+    #[tactic(auto, unfolding(crate::specs::Refusals::bad_field))]
+    pub(crate) fn text(self) -> (&'static str, &'static str)
+        ensures { refusal_text self ≡ result.0.now ++ result.1.now }
+    {
+        match self {
+            Refusal::Usage => ("usage: framehop-walk [FILE]", ""),
+            Refusal::CannotReadInput => ("cannot read input", ""),
+            Refusal::CannotWriteOutput => ("cannot write output", ""),
+            Refusal::NotJson => ("input refused: not JSON", ""),
+            Refusal::BadNumber => ("input refused: bad number", ""),
+            Refusal::BadField(name) => ("input refused: bad field ", name),
+            Refusal::NoSuchUnwinder => ("input refused: no such unwinder", ""),
+            Refusal::NoSuchCache => ("input refused: no such cache", ""),
+            Refusal::OutOfMemory => ("out of memory", ""),
+            Refusal::GenerationsExhausted => ("generations exhausted", ""),
+        }
+    }
+
     /// The exit status of the refused run: 2 where the machine was too small for it, else 1.
     pub fn status(self) -> u8
         ensures { result ≡ refusal_status self }

@@ -75,16 +75,19 @@ pub record IsPrologueRule (before after : List ℕ) (rule : UnwindRuleAarch64) :
   pub expected : IsNext next (lowered run)
   pub made : IsRuleOfDepth (lowered run) rule
 
--- The run undone, in a first frame: wherever it leads from a state at the function's entry to these registers over this
--- memory, the new registers are those of the entry, and the address is its return address.
-abbrev pub UndoneRun : List ℕ → Bool → Registers → Memory → ℕ → Registers → Type 0
-UndoneRun run first r memory address new =
-    first ≡ true → (entry here : State) → entry.sp < 2 ^ 64 → Run r.lr_mask run entry here → HasRegisters r here
-    → here.memory ≡ memory → HasRegisters new entry × (new.lr_mask ≡ r.lr_mask) × (address ≡ new.lr)
+-- So many instructions from an offset on undone, in a first frame: wherever they lead from a state at the function's
+-- entry to these registers over this memory, the new registers are those of the entry, and the address is its return
+-- address.
+abbrev pub UndoneRun : List ℕ → ℕ → ℕ → Bool → Registers → Memory → ℕ → Registers → Type 0
+UndoneRun before count at first r memory address new =
+    first ≡ true → (entry here : State) → entry.sp < 2 ^ 64 → Run r.lr_mask before count at entry here
+    → HasRegisters r here → here.memory ≡ memory
+    → HasRegisters new entry × (new.lr_mask ≡ r.lr_mask) × (address ≡ new.lr)
 
 abbrev pub UndonePrologue : List ℕ → Bool → Registers → Memory → ℕ → Registers → Type 0
 UndonePrologue before first r memory address new =
-    (run : List ℕ) → IsLongestRun before run → UndoneRun run first r memory address new
+    (run : List ℕ) → (longest : IsLongestRun before run)
+    → UndoneRun before (length run) (4 * longest.start) first r memory address new
 
 -- the rule undoes the prologue
 abbrev pub UndoesPrologue : List ℕ → UnwindRuleAarch64 → Type 0
@@ -94,4 +97,4 @@ UndoesPrologue before rule = Does outcome (UndonePrologue before) rule
 pub record ReachesFrom (before : List ℕ) : Type 0 where
   pub run : List ℕ
   pub longest : IsLongestRun before run
-  pub reaches : (mask : ℕ) (entry : State) → (here : State) × Run mask run entry here
+  pub reaches : (mask : ℕ) (entry : State) → (here : State) × Run mask before (length run) (4 * longest.start) entry here

@@ -16,7 +16,6 @@ abbrev pub AreWordsAt : List ℕ → ℕ → List ℕ → Type 0
 AreWordsAt bytes at [] = Unit {0}
 AreWordsAt bytes at (word ∷ words) = (word_at bytes at ≡ Some word) × AreWordsAt bytes (at + 4) words
 
--- so many bits of a word, from a lowest one on
 -- ---- register pairs: STP and LDP of 64-bit registers
 
 -- Rn, the base register, where 31 is sp
@@ -97,7 +96,7 @@ is_return word = (word == 0xD65F03C0) || (word == 0xD65F0FFF)
 
 -- B
 abbrev pub is_b : ℕ → Bool
-is_b word = word / 2 ^ 26 == 5
+is_b word = bits_at word 26 6 == 5
 
 -- BR
 abbrev pub is_br : ℕ → Bool

@@ -1,10 +1,11 @@
 -- Authenticated calls of aarch64, and the words that an epilogue ends with.
 use Rattle.std.proofs.Common.{◌≡◌, ◌⊎◌, inl, inr, ℕ, zero, suc, ◌+◌, ◌-◌, ◌*◌, ◌/◌, ◌%◌, ◌^◌, ◌<◌, ◌≤◌, ℤ, true, false, ◌||◌, ◌==◌, List, [], ◌∷◌, ◌++◌, length, slice_index, Some, refl, sym, ap, ◌∙◌, subst, arith, bit_and}
 use Rattle.std.proofs.lemmas.Bool.{cases_lt, eqb-true, and_parts, false_from_ne_true, or_cases, or_right}
-use Rattle.std.proofs.lemmas.Nat.{and_le_l, and_shr, and_mod, and_mask, shr-shr}
+use Rattle.std.proofs.lemmas.Nat.{and_shr, and_mod, and_mask, shr-shr}
 use Rattle.std.proofs.lemmas.Option.{same_Some}
 use Rattle.framehop_core.specs.Bits.{bits_at}
 use Rattle.framehop_analysis.specs.Aarch64.Words.{word_at, AreWordsAt, is_load, is_add_sp, is_return, is_b, is_br, is_braa, is_mov, is_branch}
+use Rattle.framehop_analysis.specs.Laws.Aarch64.Masks.{kept}
 use Rattle.framehop_analysis.specs.Aarch64.Epilogue.{check_words, is_call_word, IsAuthenticatedCall, by_b, by_braa, IsEnd, returns, branches, calls, IsInsideCallAfter, is_restoring}
 
 -- ---- no word is both
@@ -26,7 +27,7 @@ two_of n low high = elim (cases_lt 10 n) [ inl above ↦ inr (omega arith) | inr
 
 pub b-high : (word : ℕ) → is_b word ≡ true → (bits_at word 25 7 ≡ 10) ⊎ (bits_at word 25 7 ≡ 11)
 b-high word e =
-    let top : word / 2 ^ 26 ≡ 5 = eqb-true _ _ e in
+    let top : word / 2 ^ 26 % 2 ^ 6 ≡ 5 = eqb-true _ _ e in
     let split = shr-shr word 25 1 in
     two_of (bits_at word 25 7) (omega arith) (omega arith)
 
@@ -53,10 +54,11 @@ branch-not-restoring word e = elim (or_cases (is_b word) (bits_at word 25 7 == 0
 
 b-mov-apart : (word : ℕ) → is_b word ≡ true → is_mov word ≡ true → ⊥
 b-mov-apart word b mov =
-    let top : word / 2 ^ 26 ≡ 5 = eqb-true _ _ b in
-    let field : bit_and (word / 2 ^ 23) 0x1C7 ≡ 0x185 = eqb-true _ _ (and_parts _ _ mov).0 in
-    let small = and_le_l (word / 2 ^ 23) 0x1C7 in
-    omega (arith, shr-shr word 23 3)
+    let top : word / 2 ^ 26 % 2 ^ 6 ≡ 5 = eqb-true _ _ b in
+    let mask : bit_and (word / 2 ^ 23) 0x1C7 ≡ 0x185 = eqb-true _ _ (and_parts _ _ mov).0 in
+    let high : word / 2 ^ 23 / 2 ^ 6 % 2 ^ 3 ≡ 6 = sym (kept (word / 2 ^ 23) 0x1C7 6 3 refl) ∙ ap (λ n. n / 2 ^ 6 % 2 ^ 3) mask in
+    let below = shr-shr word 26 3 in
+    omega (arith, shr-shr word 23 6)
 
 -- ---- branches
 

@@ -14,7 +14,9 @@ use Rattle.framehop_core.specs.declared.aarch64.unwind_rule.UnwindRuleAarch64.{U
 use Rattle.framehop_core.specs.declared.aarch64.unwind_rule.UnwindRuleAarch64.TheVariants.{NoOp, NoOpIfFirstFrameOtherwiseFp, OffsetSp, OffsetSpIfFirstFrameOtherwiseStackEndsHere, OffsetSpAndRestoreLr, OffsetSpAndRestoreFpAndLr, UseFramePointer, UseFramepointerWithOffsets}
 use Rattle.framehop_core.specs.Laws.Basics.{ok-same}
 use Rattle.framehop_analysis.specs.Aarch64.Words.{AreWordsAt, is_load, is_add_sp, addressing, pair_offset, first_register, second_register, immediate, is_signing, is_other, is_return, is_b, is_br, is_braa, is_mov, is_check, is_branch}
-use Rattle.framehop_analysis.specs.Aarch64.Machine.{State, Step, Signs, RunOut, SameAddress, HasRegisters, offset_by, access_address}
+use Rattle.framehop_analysis.specs.Aarch64.Machine.{State, Signs, SameAddress, HasRegisters, offset_by}
+use Rattle.framehop_analysis.specs.Laws.Aarch64.Shapes.{Step, RunOut, access_address}
+use Rattle.framehop_analysis.specs.Laws.Aarch64.Encodings.{run_out-shape}
 use Rattle.framehop_analysis.specs.Aarch64.Epilogue.{Places, at_pc, is_restoring, places_after, places_after_all, place_after_load, AllRestoring, IsAuthenticatedCall, by_b, by_braa, IsEnd, returns, branches, calls, IsRestored, inside_call, at_tail_call, IsPlaceInWords, IsRuleOfPlaces, IsEpilogueRule, restored, restores, DoesEpilogue}
 use Rattle.framehop_analysis.specs.Laws.Aarch64.Offsets.{offset_by-fits, offset_by-zero, offset_by-offset_by}
 use Rattle.framehop_analysis.specs.Laws.Aarch64.Calls.{branch-not-restoring, return-branch, b-branch, br-branch, braa-branch}
@@ -373,7 +375,8 @@ start s fits = record { sp = sym (offset_by-zero s.sp fits); fp = refl; lr = ref
 
 pub does : (text : List ℕ) (pc : ℕ) (rule : UnwindRuleAarch64) → IsEpilogueRule text pc rule → DoesEpilogue text pc rule
 unfolding IsOut
-does text pc rule (restored is e) = λ first r new memory address answer here out count fits stands same run.
+does text pc rule (restored is e) = λ first r new memory address answer here out count fits stands same ran.
+    let run = run_out-shape r.lr_mask text count pc here out ran in
     let answer = at-memory rule first r new memory here.memory address (sym same) answer in
     let q = restored-quiet text pc is in
     let P : UnwindRuleAarch64 → Type 0 = IsRuleOfPlaces at_pc in
@@ -381,7 +384,8 @@ does text pc rule (restored is e) = λ first r new memory address answer here ou
     (signed r.lr_mask here here out at_pc (start here fits)
     (run-quiet r.lr_mask text count pc q.0 q.1 here out q.2 q.3 run)) answer
 does text pc rule (restores not_restored rest) =
-    λ first r new memory address answer here out count fits stands same run.
+    λ first r new memory address answer here out count fits stands same ran.
+    let run = run_out-shape r.lr_mask text count pc here out ran in
     let answer = at-memory rule first r new memory here.memory address (sym same) answer in
     rule-does rule r new here out first address (places_after_all at_pc rest.restoring) rest.made stands
     (run-out r.lr_mask text count pc rest.restoring rest.end here here out at_pc

@@ -13,7 +13,9 @@ use Rattle.framehop_core.specs.declared.aarch64.unwind_rule.UnwindRuleAarch64.{U
 use Rattle.framehop_core.specs.declared.aarch64.unwind_rule.UnwindRuleAarch64.TheVariants.{NoOp, NoOpIfFirstFrameOtherwiseFp, OffsetSp, OffsetSpIfFirstFrameOtherwiseStackEndsHere, OffsetSpAndRestoreLr, OffsetSpAndRestoreFpAndLr, UseFramePointer, UseFramepointerWithOffsets}
 use Rattle.framehop_core.specs.Laws.Basics.{ok-same}
 use Rattle.framehop_analysis.specs.Aarch64.Words.{is_store, is_sub_sp, is_pacibsp, addressing, is_indexed, pair_offset, immediate}
-use Rattle.framehop_analysis.specs.Aarch64.Machine.{State, Step, Run, SameAddress, HasRegisters, offset_by}
+use Rattle.framehop_analysis.specs.Aarch64.Machine.{State, SameAddress, HasRegisters, offset_by}
+use Rattle.framehop_analysis.specs.Laws.Aarch64.Shapes.{Step, Run}
+use Rattle.framehop_analysis.specs.Laws.Aarch64.Encodings.{run-shape}
 use Rattle.framehop_analysis.specs.Aarch64.Prologue.{lowered_by, lowered, IsRun, IsRuleOfDepth, IsPrologueRule, UndoesPrologue}
 use Rattle.framehop_analysis.specs.Laws.Aarch64.Offsets.{offset_by-fits, offset_by-zero, offset_by-offset_by, offset_by-below}
 use Rattle.framehop_analysis.specs.Laws.Aarch64.Runs.{longest-same}
@@ -178,4 +180,4 @@ undoes before after rule p first r new memory address e run longest is entry her
     let one : run ≡ p.run = longest-same before run p.run longest p.longest in
     let P : List ℕ → Type 0 = λ words. Run r.lr_mask words entry here in
     undoes-run before p.run (4 * p.longest.start) rule r new entry here address p.longest.stands p.made fits
-    (subst P one ran) holds at
+    (subst P one (run-shape r.lr_mask before (4 * longest.start) run entry here longest.stands ran)) holds at
