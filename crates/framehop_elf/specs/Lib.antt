@@ -7,5 +7,7 @@ pub mod ProgramHeader
 pub mod Section
 pub mod Segment
 pub mod Note
+pub mod BuildId
 pub mod Symbol
 pub mod FileSection
+pub mod UnwindSections

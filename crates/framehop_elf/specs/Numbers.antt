@@ -26,6 +26,9 @@ abbrev pub SHN_XINDEX : ℕ
 SHN_XINDEX = 0xffff
 
 -- sh_type and sh_flags
+abbrev pub SHT_NOTE : ℕ
+SHT_NOTE = 7
+
 abbrev pub SHT_NOBITS : ℕ
 SHT_NOBITS = 8
 

@@ -5,7 +5,7 @@ use Rattle.framehop_cfi.specs.Bytes.{◌>>=◌, le2, le4, le8}
 use Rattle.framehop_elf.specs.Numbers.{SHN_UNDEF, STT_FUNC, STT_GNU_IFUNC}
 use Rattle.framehop_elf.specs.Section.{contents_of}
 use Rattle.framehop_elf.specs.declared.error.ElfError.{ElfError}
-use Rattle.framehop_elf.specs.declared.error.ElfError.TheVariants.{BadEntrySize}
+use Rattle.framehop_elf.specs.declared.error.ElfError.TheVariants.{BadEntrySize, NoSuchSection}
 use Rattle.framehop_elf.specs.declared.section_header.SectionHeader.{SectionHeader}
 use Rattle.framehop_elf.specs.declared.symbol.Symbol.{Symbol}
 
@@ -65,3 +65,12 @@ reaches address symbol = nat_lt address (symbol.st_value + symbol.size)
 abbrev pub symbol_for : List Symbol → ℕ → Option Symbol
 symbol_for symbols address =
     option_and_then (λ symbol. if reaches address symbol then Some symbol else None) (nearest_of symbols address)
+
+-- what a section holds that a symbol table names
+abbrev pub names_in_section : List ℕ → SectionHeader → Option SectionHeader → Result (List ℕ) ElfError
+names_in_section file table (Some section) = contents_of file section
+names_in_section file table None = Err (NoSuchSection table.sh_offset)
+
+-- the string table that has the names of a symbol table: the section of index sh_link
+abbrev pub symbol_names_of : List ℕ → List SectionHeader → SectionHeader → Result (List ℕ) ElfError
+symbol_names_of file sections table = names_in_section file table (slice_get sections table.sh_link)

@@ -24,7 +24,8 @@ pub enum ElfError {
     /// the ELF header, or of the symbol table.
     #[error("entries of an unknown size: offset {offset}")]
     BadEntrySize { offset: u64 },
-    /// The field of the ELF header at the offset asks for a section that is not there.
+    /// The field of the ELF header at the offset, or the symbol table at the offset, asks for a section
+    /// that is not there.
     #[error("no such section: offset {offset}")]
     NoSuchSection { offset: u64 },
     /// The section whose contents begin at the offset is compressed.

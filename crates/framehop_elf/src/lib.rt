@@ -2,6 +2,7 @@
 //! symbolizer need of them. Each reader is given the bytes of the whole file and lends from them.
 #![tactic(auto)]
 
+pub mod build_id;
 mod bytes;
 pub mod error;
 pub mod file_section;
@@ -12,3 +13,4 @@ pub mod section;
 pub mod section_header;
 pub mod segment;
 pub mod symbol;
+pub mod unwind_sections;

@@ -3,7 +3,7 @@ ghost use Rattle.std.specs.Prelude.{◌≡◌, ◌≤◌, Ok, Err, MatchResult, 
 ghost use Rattle.std.specs.List.Sorted.{IsNonDecreasingBy, IsStableByKey};
 ghost use Rattle.std.specs.Ordering.{nat_cmp};
 ghost use Rattle.framehop_elf.specs.Bytes.{IsErrorOf};
-ghost use Rattle.framehop_elf.specs.Symbol.{is_function, size_from, size_of, symbol_of, function_symbols_of, start_of, nearest_of, reaches, symbol_for};
+ghost use Rattle.framehop_elf.specs.Symbol.{is_function, size_from, size_of, symbol_of, function_symbols_of, start_of, nearest_of, reaches, symbol_for, symbol_names_of};
 
 use crate::bytes::{u16_at, u32_at, u64_at};
 use crate::error::ElfError;
@@ -128,6 +128,33 @@ pub fn read_function_symbols(
     match functions(alloc, sections, entries) {
         Ok(symbols) => Ok(symbols),
         Err(_) => Err(ElfError::OutOfMemory),
+    }
+}
+
+/// Returns the string table that has the names of a symbol table's symbols, which [`string_at`] reads.
+///
+/// # Errors
+///
+/// `NoSuchSection` where `sh_link` is the index of no section, with the offset of the table; `Eof` and
+/// `Compressed` by the contents of that section.
+///
+/// Source: System V gABI, chapter 4, "Symbol Table" and "Sections", `sh_link`.
+///
+/// [`string_at`]: crate::section::string_at
+pub fn read_symbol_names<'a>(
+    file: &'a [u8],
+    sections: &[SectionHeader],
+    table: SectionHeader,
+) -> Result<&'a [u8], ElfError>
+    ensures { MatchResult result
+        (λ names. symbol_names_of file.entry.now sections.now table ≡ Ok names.now)
+        (λ error. symbol_names_of file.entry.now sections.now table ≡ Err error) }
+{
+    match sections.get(table.sh_link as usize) {
+        Some(section) => read_contents(file, *section),
+        None => Err(ElfError::NoSuchSection {
+            offset: table.sh_offset,
+        }),
     }
 }
 

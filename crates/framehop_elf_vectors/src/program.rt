@@ -13,14 +13,15 @@
 //!     __builtin_unreachable();
 //! }
 //! ```
+use framehop_elf::build_id::read_build_id;
 use framehop_elf::error::ElfError;
 use framehop_elf::header::{FileHeader, read_file_header};
-use framehop_elf::note::build_id_in;
 use framehop_elf::program_header::{ProgramHeader, read_program_headers};
 use framehop_elf::section::{read_contents, read_section_names, section_by_name, string_at};
 use framehop_elf::section_header::read_section_headers;
 use framehop_elf::segment::{base_avma, svma_of_file_offset};
-use framehop_elf::symbol::{SymbolTable, read_function_symbols};
+use framehop_elf::symbol::{SymbolTable, read_function_symbols, read_symbol_names};
+use framehop_elf::unwind_sections::read_unwind_sections;
 use std::alloc::Global;
 use std::test::Fail;
 
@@ -117,12 +118,50 @@ fn reads_a_program(rt: HostRuntime) -> Result<(), Fail> {
         (1, 0x400130, 0x130, 0x54)
     );
     assert_eq!(rt; section_by_name(sections, names, b".eh_fram"), None);
-    let note = section_by_name(sections, names, b".note.gnu.build-id").ok_or("no note")?;
+    let contents = read_contents(file, eh_frame)?;
+    assert_eq!(rt; contents.first().copied(), Some(0x14));
+    Ok(())
+}
+
+#[test]
+fn reads_the_build_id(rt: HostRuntime) -> Result<(), Fail> {
+    let alloc = rt.alloc();
     let build_id = hex::decode(alloc, BUILD_ID)?;
-    assert_eq!(rt;
-        build_id_in(read_contents(file, note)?),
-        Some(build_id.as_slice())
-    );
+    // also where no segment has it, and where only the section of notes is lost
+    let changes: [&[(usize, u8)]; 3] = [&[], &[(120, 0)], &[(764, 0)]];
+    for bytes in changes {
+        let program = changed(alloc, bytes)?;
+        let file = program.as_slice();
+        let header = read_file_header(file)?;
+        let segments = read_program_headers(alloc, file, header)?;
+        let sections = read_section_headers(alloc, file, header)?;
+        let found = read_build_id(file, segments.as_slice(), sections.as_slice());
+        assert_eq!(rt; found, Some(build_id.as_slice()));
+    }
+    Ok(())
+}
+
+#[test]
+fn reads_what_an_unwinder_needs(rt: HostRuntime) -> Result<(), Fail> {
+    let alloc = rt.alloc();
+    // then .eh_frame has SHF_COMPRESSED, and then it is SHT_NOBITS
+    for (bytes, size) in [((0, 0x7f), Some(0x54)), ((897, 8), None), ((892, 8), None)] {
+        let program = changed(alloc, &[bytes])?;
+        let file = program.as_slice();
+        let header = read_file_header(file)?;
+        let sections = read_section_headers(alloc, file, header)?;
+        let sections = sections.as_slice();
+        let names = read_section_names(file, header, sections)?;
+        let info = read_unwind_sections(alloc, file, sections, names)?;
+        assert_eq!(rt; info.text_svma, Some(0x40010c..0x40012d));
+        assert_eq!(rt;
+            info.eh_frame_svma,
+            size.map(|size| 0x400130..0x400130 + size)
+        );
+        let contents = info.eh_frame.map(|contents| contents.len() as u64);
+        assert_eq!(rt; contents, size);
+        assert!(rt; info.got_svma.is_none() && info.debug_frame.is_none());
+    }
     Ok(())
 }
 
@@ -141,8 +180,9 @@ const NAMES: [(u64, Option<&str>); 8] = [
 #[test]
 fn finds_functions(rt: HostRuntime) -> Result<(), Fail> {
     let alloc = rt.alloc();
-    // also where `_start` has no size: it ends with `.text`, at the same address
-    let changes: [&[(usize, u8)]; 3] = [&[], &[(480, 0)], &IN_FIRST_SECTION];
+    // also where `_start` has no size: it ends with `.text`, at the same address; and where `outer` is
+    // of type STT_GNU_IFUNC
+    let changes: [&[(usize, u8)]; 4] = [&[], &[(480, 0)], &[(516, 0x1a)], &IN_FIRST_SECTION];
     for bytes in changes {
         let program = changed(alloc, bytes)?;
         let file = program.as_slice();
@@ -151,8 +191,7 @@ fn finds_functions(rt: HostRuntime) -> Result<(), Fail> {
         let sections = sections.as_slice();
         let names = read_section_names(file, header, sections)?;
         let table = section_by_name(sections, names, b".symtab").ok_or("no .symtab")?;
-        let strings = section_by_name(sections, names, b".strtab").ok_or("no .strtab")?;
-        let strings = read_contents(file, strings)?;
+        let strings = read_symbol_names(file, sections, table)?;
         let symbols = SymbolTable::new(read_function_symbols(alloc, file, sections, table)?)?;
         for (svma, name) in NAMES {
             let found = symbols.symbol_for(svma);

@@ -1,12 +1,14 @@
 -- Mappings in order: where an address parts them, and what their modules are.
-use Rattle.std.proofs.Common.{◌≡◌, ℕ, zero, suc, ◌+◌, ◌<◌, ◌≤◌, Bool, true, false, nat_le, nat_lt, ◌==◌, List, [], ◌∷◌, ◌++◌, length, take, drop, filter, map, slice_index_or, refl, ap, sym, ◌∙◌, arith, subst}
-use Rattle.std.proofs.lemmas.Bool.{leb-true, ltb-true, ltb-false, le-leb, lt-leb, eq-eqb, ne_eqb, or_right, cond_both}
+use Rattle.std.proofs.Common.{◌≡◌, ℕ, zero, suc, ◌+◌, ◌<◌, ◌≤◌, Bool, true, false, nat_le, nat_lt, ◌==◌, ◌&&◌, min, max, List, [], ◌∷◌, ◌++◌, length, take, drop, filter, map, slice_index_or, get_or, refl, ap, sym, ◌∙◌, arith, subst}
+use Rattle.std.proofs.Math.Seq.{drop-cons}
+use Rattle.std.proofs.lemmas.Bool.{leb-true, leb-false, ltb-true, ltb-false, le-leb, lt-leb, eq-eqb, ne_eqb, or_right, cond_both}
+use Rattle.std.proofs.lemmas.List.{length-append, map-append, take-append-drop, take_more}
 use Rattle.std.proofs.lemmas.List.Elements.{filter-append}
 use Rattle.std.specs.List.Sorted.{IsNonDecreasingBy, IsPartitionPoint}
 use Rattle.framehop.specs.Modules.{ModuleView, with_module, has_start, without_module, starts_by, starting_by, starting_above}
 use Rattle.framehop.proofs.ModuleLemmas.{filter-divided, filter-behind}
 use Rattle.framehop_processes.specs.declared.mapping.Mapping.{Mapping}
-use Rattle.framehop_processes.specs.Mappings.{IsInOrder, ending_by, starting_from, with_mapping}
+use Rattle.framehop_processes.specs.Mappings.{IsInOrder, part_below, part_above, below, above, with_mapping, ending_by, starting_from, overlapped}
 use Rattle.framehop_processes.specs.Process.{StartsAt}
 
 -- ---- starts and ends rise
@@ -15,32 +17,37 @@ starts-from : (from : ℕ) (ms : List Mapping) → IsInOrder from ms → (k : �
 starts-from from [] order k d within = absurd (omega (arith, within))
 starts-from from (m ∷ ms) order zero d within = order.0
 starts-from from (m ∷ ms) order (suc k) d within =
-    let rest = starts-from m.end ms order.1 k d (omega (arith, within)) in
-    let own = m.is_not_empty in
+    let rest = starts-from m.end ms order.2 k d (omega (arith, within)) in
+    let own = order.1 in
     let first = order.0 in
     omega (arith, rest, own, first)
+
+not-empty : (from : ℕ) (ms : List Mapping) → IsInOrder from ms → (k : ℕ) (d : Mapping) → k < length ms → (slice_index_or ms k d).start < (slice_index_or ms k d).end
+not-empty from [] order k d within = absurd (omega (arith, within))
+not-empty from (m ∷ ms) order zero d within = order.1
+not-empty from (m ∷ ms) order (suc k) d within = not-empty m.end ms order.2 k d (omega (arith, within))
 
 pub starts-rise : (from : ℕ) (ms : List Mapping) → IsInOrder from ms → IsNonDecreasingBy (λ m. m.start) ms
 starts-rise from [] order i j d low within = absurd (omega (arith, within))
 starts-rise from (m ∷ ms) order zero zero d low within = omega arith
 starts-rise from (m ∷ ms) order zero (suc j) d low within =
-    let above = starts-from m.end ms order.1 j d (omega (arith, within)) in
-    let own = m.is_not_empty in
-    omega (arith, above, own)
+    let later = starts-from m.end ms order.2 j d (omega (arith, within)) in
+    let own = order.1 in
+    omega (arith, later, own)
 starts-rise from (m ∷ ms) order (suc i) zero d low within = absurd (omega (arith, low))
 starts-rise from (m ∷ ms) order (suc i) (suc j) d low within =
-    starts-rise m.end ms order.1 i j d (omega (arith, low)) (omega (arith, within))
+    starts-rise m.end ms order.2 i j d (omega (arith, low)) (omega (arith, within))
 
 pub ends-rise : (from : ℕ) (ms : List Mapping) → IsInOrder from ms → IsNonDecreasingBy (λ m. m.end) ms
 ends-rise from [] order i j d low within = absurd (omega (arith, within))
 ends-rise from (m ∷ ms) order zero zero d low within = omega arith
 ends-rise from (m ∷ ms) order zero (suc j) d low within =
-    let above = starts-from m.end ms order.1 j d (omega (arith, within)) in
-    let own = (slice_index_or ms j d).is_not_empty in
-    omega (arith, above, own)
+    let later = starts-from m.end ms order.2 j d (omega (arith, within)) in
+    let own = not-empty m.end ms order.2 j d (omega (arith, within)) in
+    omega (arith, later, own)
 ends-rise from (m ∷ ms) order (suc i) zero d low within = absurd (omega (arith, low))
 ends-rise from (m ∷ ms) order (suc i) (suc j) d low within =
-    ends-rise m.end ms order.1 i j d (omega (arith, low)) (omega (arith, within))
+    ends-rise m.end ms order.2 i j d (omega (arith, low)) (omega (arith, within))
 
 -- ---- the mappings at a place
 
@@ -57,26 +64,16 @@ dropped-starting_from address ms i point =
 -- ---- order is kept
 
 weaker-order : (low from : ℕ) (ms : List Mapping) → low ≤ from → IsInOrder from ms → IsInOrder low ms
-weaker-order low from [] below order = tt
-weaker-order low from (m ∷ ms) below order = (let first = order.0 in omega (arith, below, first), order.1)
+weaker-order low from [] less order = tt
+weaker-order low from (m ∷ ms) less order = (let first = order.0 in omega (arith, less, first), order.1, order.2)
 
 pub order-dropped : (i : ℕ) (from : ℕ) (ms : List Mapping) → IsInOrder from ms → IsInOrder from (drop i ms)
 order-dropped zero from ms order = order
 order-dropped (suc i) from [] order = tt
 order-dropped (suc i) from (m ∷ ms) order =
     let first = order.0 in
-    let own = m.is_not_empty in
-    weaker-order from m.end (drop i ms) (omega (arith, first, own)) (order-dropped i m.end ms order.1)
-
-order-filtered : (test : Mapping → Bool) (from : ℕ) (ms : List Mapping) → IsInOrder from ms → IsInOrder from (filter test ms)
-order-filtered test from [] order = tt
-order-filtered test from (m ∷ ms) order =
-    let first = order.0 in
-    let own = m.is_not_empty in
-    let rest = order-filtered test m.end ms order.1 in
-    cond_both (test m) (m ∷ filter test ms) (filter test ms) (IsInOrder from)
-    (λ is. (first, rest))
-    (λ is. weaker-order from m.end (filter test ms) (omega (arith, first, own)) rest)
+    let own = order.1 in
+    weaker-order from m.end (drop i ms) (omega (arith, first, own)) (order-dropped i m.end ms order.2)
 
 -- each ends at or below an address
 abbrev pub EndBy : ℕ → List Mapping → Type 0
@@ -90,49 +87,243 @@ ending_by-ends address (m ∷ ms) =
     cond_both (nat_le m.end address) (m ∷ ending_by address ms) (ending_by address ms) (EndBy address)
     (λ is. (leb-true _ _ is, rest)) (λ is. rest)
 
+all-from : (address from : ℕ) (ms : List Mapping) → IsInOrder from ms → address ≤ from → starting_from address ms ≡ ms
+all-from address from [] order low = refl
+all-from address from (m ∷ ms) order low =
+    let first = order.0 in
+    let own = order.1 in
+    let here : nat_le address m.start ≡ true = le-leb _ _ (omega (arith, low, first)) in
+    rw here (ap (λ others. m ∷ others) (all-from address m.end ms order.2 (omega (arith, low, first, own))))
+
 pub starting_from-starts : (address from : ℕ) (ms : List Mapping) → IsInOrder from ms → IsInOrder address (starting_from address ms)
 starting_from-starts address from [] order = tt
 starting_from-starts address from (m ∷ ms) order =
-    let rest = starting_from-starts address m.end ms order.1 in
-    let kept = order-filtered (λ n. nat_le address n.start) m.end ms order.1 in
+    let rest = starting_from-starts address m.end ms order.2 in
+    let own = order.1 in
     cond_both (nat_le address m.start) (m ∷ starting_from address ms) (starting_from address ms) (IsInOrder address)
-    (λ is. (leb-true _ _ is, kept)) (λ is. rest)
+    (λ is. let here = leb-true _ _ is in (here, own, rw (all-from address m.end ms order.2 (omega (arith, here, own))) order.2)) (λ is. rest)
 
-order-between : (from : ℕ) (new : Mapping) (before after : List Mapping) → IsInOrder from before → EndBy new.start before → IsInOrder new.end after → from ≤ new.start → IsInOrder from (before ++ new ∷ after)
-order-between from new [] after order ends starts low = (low, starts)
-order-between from new (m ∷ before) after order ends starts low =
-    (order.0, order-between m.end new before after order.1 ends.1 starts ends.0)
+order-between : (from : ℕ) (new : Mapping) (before after : List Mapping) → IsInOrder from before → EndBy new.start before → new.start < new.end → IsInOrder new.end after → from ≤ new.start → IsInOrder from (before ++ new ∷ after)
+order-between from new [] after order ends some starts low = (low, some, starts)
+order-between from new (m ∷ before) after order ends some starts low =
+    (order.0, order.1, order-between m.end new before after order.2 ends.1 some starts ends.0)
+
+-- ---- what lies below an address, and above one
+
+below-order : (address from : ℕ) (ms : List Mapping) → IsInOrder from ms → IsInOrder from (below address ms) × EndBy address (below address ms)
+below-order address from [] order = (tt, tt)
+below-order address from (m ∷ ms) order =
+    let rest = below-order address m.end ms order.2 in
+    let first = order.0 in
+    let own = order.1 in
+    cond_both (nat_lt m.start address) (m ∷ filter (λ n. nat_lt n.start address) ms) (filter (λ n. nat_lt n.start address) ms)
+    (λ kept. IsInOrder from (map (part_below address) kept) × EndBy address (map (part_below address) kept))
+    (λ is. let here = ltb-true _ _ is in
+    ((first, omega (arith, own, here), weaker-order (min m.end address) m.end (below address ms) (omega arith) rest.0), (omega arith, rest.1)))
+    (λ is. (weaker-order from m.end (below address ms) (omega (arith, first, own)) rest.0, rest.1))
+
+above-order : (address from : ℕ) (ms : List Mapping) → IsInOrder from ms → IsInOrder (max from address) (above address ms)
+above-order address from [] order = tt
+above-order address from (m ∷ ms) order =
+    let rest = above-order address m.end ms order.2 in
+    let first = order.0 in
+    let own = order.1 in
+    cond_both (nat_lt address m.end) (m ∷ filter (λ n. nat_lt address n.end) ms) (filter (λ n. nat_lt address n.end) ms)
+    (λ kept. IsInOrder (max from address) (map (part_above address) kept))
+    (λ is. let here = ltb-true _ _ is in
+    (omega (arith, first), omega (arith, own, here), weaker-order m.end (max m.end address) (above address ms) (omega arith) rest))
+    (λ is. weaker-order (max from address) (max m.end address) (above address ms) (omega (arith, first, own)) rest)
 
 -- mappings stay in order with a new one
-pub with_mapping-order : (new : Mapping) (ms : List Mapping) → IsInOrder 0 ms → IsInOrder 0 (with_mapping new ms)
-with_mapping-order new ms order =
-    order-between 0 new (ending_by new.start ms) (starting_from new.end ms)
-    (order-filtered (λ m. nat_le m.end new.start) 0 ms order)
-    (ending_by-ends new.start ms)
-    (starting_from-starts new.end 0 ms order)
-    (omega arith)
+pub with_mapping-order : (new : Mapping) (ms : List Mapping) → new.start < new.end → IsInOrder 0 ms → IsInOrder 0 (with_mapping new ms)
+with_mapping-order new ms some order =
+    let lower = below-order new.start 0 ms order in
+    order-between 0 new (below new.start ms) (above new.end ms) lower.0 lower.1 some
+    (weaker-order new.end (max 0 new.end) (above new.end ms) (omega arith) (above-order new.end 0 ms order)) (omega arith)
 
--- ---- of those that end by an address, none starts above it
+-- ---- the parts of the mappings around a new one
 
-no-start-above : (start end : ℕ) → start < end → (ms : List Mapping) → starting_from end (ending_by start ms) ≡ []
-no-start-above start end above [] = refl
-no-start-above start end above (m ∷ ms) =
-    let rest = no-start-above start end above ms in
-    let own = m.is_not_empty in
-    cond_both (nat_le m.end start) (m ∷ ending_by start ms) (ending_by start ms) (λ others. starting_from end others ≡ [])
-    (λ is.
-    let low = leb-true _ _ is in
-    let here : nat_le end m.start ≡ false = lt-leb _ _ (omega (arith, low, own, above)) in
-    rw here rest)
-    (λ is. rest)
+below-all : (address from : ℕ) (ms : List Mapping) → IsInOrder from ms → EndBy address ms → below address ms ≡ ms
+below-all address from [] order ends = refl
+below-all address from (m ∷ ms) order ends =
+    let own = order.1 in
+    let end = ends.0 in
+    let here : nat_lt m.start address ≡ true = le-leb _ _ (omega (arith, own, end)) in
+    let same : min m.end address ≡ m.end = omega (arith, end) in
+    rw (here, same) (ap (λ others. m ∷ others) (below-all address m.end ms order.2 ends.1))
 
-pub starting_from-rest : (start end : ℕ) → start < end → (ms before rest : List Mapping) → ms ≡ before ++ rest → before ≡ ending_by start ms → starting_from end ms ≡ starting_from end rest
-starting_from-rest start end above ms before rest whole is =
-    ap (starting_from end) whole
-    ∙ filter-append (λ m. nat_le end m.start) before rest
-    ∙ ap (λ others. others ++ starting_from end rest) (ap (starting_from end) is ∙ no-start-above start end above ms)
+below-none : (address from : ℕ) (ms : List Mapping) → IsInOrder from ms → address ≤ from → below address ms ≡ []
+below-none address from [] order low = refl
+below-none address from (m ∷ ms) order low =
+    let first = order.0 in
+    let own = order.1 in
+    let here : nat_lt m.start address ≡ false = lt-leb _ _ (omega (arith, first, low)) in
+    rw here (below-none address m.end ms order.2 (omega (arith, first, own, low)))
+
+above-all : (address from : ℕ) (ms : List Mapping) → IsInOrder from ms → address ≤ from → above address ms ≡ ms
+above-all address from [] order low = refl
+above-all address from (m ∷ ms) order low =
+    let first = order.0 in
+    let own = order.1 in
+    let here : nat_lt address m.end ≡ true = le-leb _ _ (omega (arith, first, own, low)) in
+    let same : max m.start address ≡ m.start = omega (arith, first, low) in
+    rw (here, same) (ap (λ others. m ∷ others) (above-all address m.end ms order.2 (omega (arith, first, own, low))))
+
+above-none : (address : ℕ) (ms : List Mapping) → EndBy address ms → above address ms ≡ []
+above-none address [] ends = refl
+above-none address (m ∷ ms) ends =
+    let end = ends.0 in
+    let here : nat_lt address m.end ≡ false = lt-leb _ _ (omega (arith, end)) in
+    rw here (above-none address ms ends.1)
+
+ends-later : (low high : ℕ) (ms : List Mapping) → low ≤ high → EndBy low ms → EndBy high ms
+ends-later low high [] less ends = tt
+ends-later low high (m ∷ ms) less ends = (let end = ends.0 in omega (arith, end, less), ends-later low high ms less ends.1)
+
+below-append : (address : ℕ) (xs ys : List Mapping) → below address (xs ++ ys) ≡ below address xs ++ below address ys
+below-append address xs ys =
+    ap (map (part_below address)) (filter-append (λ m. nat_lt m.start address) xs ys)
+    ∙ map-append (part_below address) (filter (λ m. nat_lt m.start address) xs) (filter (λ m. nat_lt m.start address) ys)
+
+above-append : (address : ℕ) (xs ys : List Mapping) → above address (xs ++ ys) ≡ above address xs ++ above address ys
+above-append address xs ys =
+    ap (map (part_above address)) (filter-append (λ m. nat_lt address m.end) xs ys)
+    ∙ map-append (part_above address) (filter (λ m. nat_lt address m.end) xs) (filter (λ m. nat_lt address m.end) ys)
+
+append-empty : {A : Type 0} (xs : List A) → xs ++ [] ≡ xs
+append-empty [] = refl
+append-empty (x ∷ xs) = ap (λ rest. x ∷ rest) (append-empty xs)
+
+append-parts : {A : Type 0} (xs ys zs : List A) → (xs ++ ys) ++ zs ≡ xs ++ (ys ++ zs)
+append-parts [] ys zs = refl
+append-parts (x ∷ xs) ys zs = ap (λ rest. x ∷ rest) (append-parts xs ys zs)
+
+pub order-front : (from : ℕ) (xs ys : List Mapping) → IsInOrder from (xs ++ ys) → IsInOrder from xs
+order-front from [] ys order = tt
+order-front from (x ∷ xs) ys order = (order.0, order.1, order-front x.end xs ys order.2)
+
+pub order-back : (from : ℕ) (xs ys : List Mapping) → IsInOrder from (xs ++ ys) → IsInOrder from ys
+order-back from [] ys order = order
+order-back from (x ∷ xs) ys order =
+    let first = order.0 in
+    let own = order.1 in
+    weaker-order from x.end ys (omega (arith, first, own)) (order-back x.end xs ys order.2)
+
+-- what is wholly before the new mapping or after it stays
+module _ (new : Mapping) (some : new.start < new.end) (before middle after : List Mapping) (order : IsInOrder 0 (before ++ (middle ++ after))) (ends : EndBy new.start before) (starts : IsInOrder new.end after) where
+  below-parts : below new.start (before ++ (middle ++ after)) ≡ before ++ below new.start middle
+  below-parts =
+      below-append new.start before (middle ++ after)
+      ∙ ap (λ front. front ++ below new.start (middle ++ after)) (below-all new.start 0 before (order-front 0 before (middle ++ after) order) ends)
+      ∙ ap (λ back. before ++ back) (below-append new.start middle after
+      ∙ ap (λ back. below new.start middle ++ back) (below-none new.start new.end after starts (omega (arith, some)))
+      ∙ append-empty (below new.start middle))
+
+  above-parts : above new.end (before ++ (middle ++ after)) ≡ above new.end middle ++ after
+  above-parts =
+      above-append new.end before (middle ++ after)
+      ∙ ap (λ front. front ++ above new.end (middle ++ after)) (above-none new.end before (ends-later new.start new.end before (omega (arith, some)) ends))
+      ∙ above-append new.end middle after
+      ∙ ap (λ back. above new.end middle ++ back) (above-all new.end new.end after starts (omega arith))
+
+  pub parts-joined : before ++ (with_mapping new middle ++ after) ≡ with_mapping new (before ++ (middle ++ after))
+  parts-joined =
+      ap (λ rest. before ++ rest) (append-parts (below new.start middle) (new ∷ above new.end middle) after)
+      ∙ sym (append-parts before (below new.start middle) (new ∷ (above new.end middle ++ after)))
+      ∙ ap (λ front. front ++ new ∷ (above new.end middle ++ after)) (sym below-parts)
+      ∙ ap (λ back. below new.start (before ++ (middle ++ after)) ++ new ∷ back) (sym above-parts)
+
+-- ---- which mappings are overlapped
+
+nothing-more : {A : Type 0} (xs ys : List A) → xs ≡ xs ++ ys → ys ≡ []
+nothing-more [] ys e = sym e
+nothing-more (x ∷ xs) ys e = nothing-more xs ys (ap (drop 1) e)
+
+filter-again : (test : Mapping → Bool) (ms : List Mapping) → filter test (filter test ms) ≡ filter test ms
+filter-again test [] = refl
+filter-again test (m ∷ ms) =
+    let rest = filter-again test ms in
+    cond_both (test m) (m ∷ filter test ms) (filter test ms) (λ kept. filter test kept ≡ kept)
+    (λ is. rw is (ap (λ others. m ∷ others) rest)) (λ is. rest)
+
+-- those after the ones that pass a test fail it, if no others pass
+none-behind : (test : Mapping → Bool) (ms front back : List Mapping) → ms ≡ front ++ back → front ≡ filter test ms → filter test back ≡ []
+none-behind test ms front back whole is =
+    nothing-more front (filter test back)
+    (is ∙ ap (filter test) whole ∙ filter-append test front back
+    ∙ ap (λ kept. kept ++ filter test back) (ap (filter test) is ∙ filter-again test ms ∙ sym is))
+
+fails-head : (test : Mapping → Bool) (m : Mapping) (ms : List Mapping) → filter test (m ∷ ms) ≡ [] → (test m ≡ false) × (filter test ms ≡ [])
+fails-head test m ms none =
+    cond_both (test m) (m ∷ filter test ms) (filter test ms) (λ kept. kept ≡ [] → (test m ≡ false) × (filter test ms ≡ []))
+    (λ is e. cc) (λ is e. (is, e)) none
+
+-- nothing of a front passes a test, if nothing of the whole does
+nothing-front : (test : Mapping → Bool) (front back : List Mapping) → filter test (front ++ back) ≡ [] → filter test front ≡ []
+nothing-front test [] back none = refl
+nothing-front test (m ∷ front) back none =
+    let fails = fails-head test m (front ++ back) none in
+    rw fails.0 (nothing-front test front back fails.1)
+
+append-fits : {A : Type 0} (xs ys : List A) → length xs ≡ length (ys ++ xs) → ys ≡ []
+append-fits xs [] e = refl
+append-fits xs (y ∷ ys) e = absurd (let more = length-append ys xs in omega (arith, e, more))
+
+none-before : (test : Mapping → Bool) (ms front back : List Mapping) → ms ≡ front ++ back → back ≡ filter test ms → filter test front ≡ []
+none-before test ms front back whole is =
+    append-fits back (filter test front)
+    (ap length (is ∙ ap (filter test) whole ∙ filter-append test front back
+    ∙ ap (λ kept. filter test front ++ kept) (ap (filter test) is ∙ filter-again test ms ∙ sym is)))
+
+both : (a b : Bool) → a ≡ true → b ≡ true → (a && b) ≡ true
+both true true x y = refl
+both true false x y = y
+both false b x y = x
+
+not-second : (a b : Bool) → b ≡ false → (a && b) ≡ false
+not-second true b y = y
+not-second false b y = refl
+
+not-first : (a b : Bool) → a ≡ false → (a && b) ≡ false
+not-first true b y = cc
+not-first false b y = refl
+
+overlapped-none-before : (new : Mapping) (ms : List Mapping) → EndBy new.start ms → overlapped new ms ≡ []
+overlapped-none-before new [] ends = refl
+overlapped-none-before new (m ∷ ms) ends =
+    let end = ends.0 in
+    let here = not-second (nat_lt m.start new.end) (nat_lt new.start m.end) (lt-leb _ _ (omega (arith, end))) in
+    rw here (overlapped-none-before new ms ends.1)
+
+overlapped-none-after : (new : Mapping) (from : ℕ) (ms : List Mapping) → IsInOrder from ms → new.end ≤ from → overlapped new ms ≡ []
+overlapped-none-after new from [] order low = refl
+overlapped-none-after new from (m ∷ ms) order low =
+    let first = order.0 in
+    let own = order.1 in
+    let here = not-first (nat_lt m.start new.end) (nat_lt new.start m.end) (lt-leb _ _ (omega (arith, first, low))) in
+    rw here (overlapped-none-after new m.end ms order.2 (omega (arith, first, own, low)))
+
+-- of two numbers the second is lower, where the first is not at most that
+lt-of : (a b : ℕ) → nat_le a b ≡ false → nat_lt b a ≡ true
+lt-of a b fails = le-leb _ _ (leb-false a b fails)
+
+overlapped-all : (new : Mapping) (ms : List Mapping) → ending_by new.start ms ≡ [] → starting_from new.end ms ≡ [] → overlapped new ms ≡ ms
+overlapped-all new [] above_start below_end = refl
+overlapped-all new (m ∷ ms) above_start below_end =
+    let ends = fails-head (λ n. nat_le n.end new.start) m ms above_start in
+    let starts = fails-head (λ n. nat_le new.end n.start) m ms below_end in
+    let here = both (nat_lt m.start new.end) (nat_lt new.start m.end) (lt-of new.end m.start starts.0) (lt-of m.end new.start ends.0) in
+    rw here (ap (λ others. m ∷ others) (overlapped-all new ms ends.1 starts.1))
 
 -- ---- the modules of mappings
+
+order-low : (from : ℕ) (m : Mapping) (before after : List Mapping) → IsInOrder from (before ++ m ∷ after) → from ≤ m.start
+order-low from m [] after order = order.0
+order-low from m (x ∷ before) after order =
+    let first = order.0 in
+    let own = order.1 in
+    let rest = order-low x.end m before after order.2 in
+    omega (arith, first, own, rest)
 
 module _ (module_of : Mapping → ModuleView) (starts : StartsAt module_of) where
   none-by : (address from : ℕ) (ms : List Mapping) → IsInOrder from ms → address < from → starting_by address (map module_of ms) ≡ []
@@ -140,9 +331,9 @@ module _ (module_of : Mapping → ModuleView) (starts : StartsAt module_of) wher
   none-by address from (m ∷ ms) order low =
       let is = starts m in
       let first = order.0 in
-      let own = m.is_not_empty in
+      let own = order.1 in
       let here : starts_by address (module_of m) ≡ false = lt-leb _ _ (omega (arith, is, first, low)) in
-      let rest = none-by address m.end ms order.1 (omega (arith, first, own, low)) in
+      let rest = none-by address m.end ms order.2 (omega (arith, first, own, low)) in
       rw (here, rest) refl
 
   all-above : (address from : ℕ) (ms : List Mapping) → IsInOrder from ms → address < from → starting_above address (map module_of ms) ≡ map module_of ms
@@ -150,50 +341,45 @@ module _ (module_of : Mapping → ModuleView) (starts : StartsAt module_of) wher
   all-above address from (m ∷ ms) order low =
       let is = starts m in
       let first = order.0 in
-      let own = m.is_not_empty in
+      let own = order.1 in
       let here : starts_by address (module_of m) ≡ false = lt-leb _ _ (omega (arith, is, first, low)) in
-      let rest = all-above address m.end ms order.1 (omega (arith, first, own, low)) in
+      let rest = all-above address m.end ms order.2 (omega (arith, first, own, low)) in
       rw (here, rest) refl
 
-  modules-between : (new : Mapping) (before after : List Mapping) → EndBy new.start before → IsInOrder new.end after → with_module (module_of new) (map module_of (before ++ after)) ≡ map module_of (before ++ new ∷ after)
-  modules-between new [] after ends order =
+  -- a module that is added between others
+  modules-between : (from : ℕ) (new : Mapping) (before after : List Mapping) → IsInOrder from (before ++ new ∷ after) → with_module (module_of new) (map module_of (before ++ after)) ≡ map module_of (before ++ new ∷ after)
+  modules-between from new [] after order =
       let is = starts new in
-      let own = new.is_not_empty in
+      let own = order.1 in
       let low : (module_of new).start < new.end = omega (arith, is, own) in
-      rw (none-by (module_of new).start new.end after order low, all-above (module_of new).start new.end after order low) refl
-  modules-between new (m ∷ before) after ends order =
+      rw (none-by (module_of new).start new.end after order.2 low, all-above (module_of new).start new.end after order.2 low) refl
+  modules-between from new (m ∷ before) after order =
       let is = starts new in
       let other = starts m in
-      let own = m.is_not_empty in
-      let end = ends.0 in
+      let own = order.1 in
+      let end = order-low m.end new before after order.2 in
       let here : starts_by (module_of new).start (module_of m) ≡ true = le-leb _ _ (omega (arith, is, other, own, end)) in
-      let rest = modules-between new before after ends.1 order in
+      let rest = modules-between m.end new before after order.2 in
       rw here (ap (λ others. module_of m ∷ others) rest)
-
-  -- a module that is added to those of the other mappings
-  pub modules-added : (new : Mapping) (ms : List Mapping) → IsInOrder 0 ms → with_module (module_of new) (map module_of (ending_by new.start ms ++ starting_from new.end ms)) ≡ map module_of (with_mapping new ms)
-  modules-added new ms order =
-      modules-between new (ending_by new.start ms) (starting_from new.end ms) (ending_by-ends new.start ms)
-      (starting_from-starts new.end 0 ms order)
 
   no-start : (start from : ℕ) (ms : List Mapping) → IsInOrder from ms → start < from → has_start start (map module_of ms) ≡ false
   no-start start from [] order low = refl
   no-start start from (m ∷ ms) order low =
       let is = starts m in
       let first = order.0 in
-      let own = m.is_not_empty in
+      let own = order.1 in
       let here : ((module_of m).start == start) ≡ false = ne_eqb _ _ (λ same. omega (arith, is, first, low, same)) in
-      let rest = no-start start m.end ms order.1 (omega (arith, first, own, low)) in
+      let rest = no-start start m.end ms order.2 (omega (arith, first, own, low)) in
       rw (here, rest) refl
 
   -- a module that is removed
   pub module-removed : (from : ℕ) (m : Mapping) (before after : List Mapping) → IsInOrder from (before ++ m ∷ after) → (has_start m.start (map module_of (before ++ m ∷ after)) ≡ true) × (without_module m.start (map module_of (before ++ m ∷ after)) ≡ map module_of (before ++ after))
   module-removed from m [] after order =
       let here : ((module_of m).start == m.start) ≡ true = eq-eqb _ _ (starts m) in
-      let others : has_start m.start (map module_of after) ≡ false = no-start m.start m.end after order.1 m.is_not_empty in
+      let others : has_start m.start (map module_of after) ≡ false = no-start m.start m.end after order.2 order.1 in
       (rw here refl, rw (others, here) refl)
   module-removed from m (x ∷ before) after order =
-      let rest = module-removed x.end m before after order.1 in (
+      let rest = module-removed x.end m before after order.2 in (
         or_right ((module_of x).start == m.start) (has_start m.start (map module_of (before ++ m ∷ after))) rest.0,
         rw rest.0 (ap (λ others. module_of x ∷ others) rest.1),
       )
@@ -201,20 +387,20 @@ module _ (module_of : Mapping → ModuleView) (starts : StartsAt module_of) wher
 pub order-removed : (from : ℕ) (m : Mapping) (before after : List Mapping) → IsInOrder from (before ++ m ∷ after) → IsInOrder from (before ++ after)
 order-removed from m [] after order =
     let first = order.0 in
-    let own = m.is_not_empty in
-    weaker-order from m.end after (omega (arith, first, own)) order.1
-order-removed from m (x ∷ before) after order = (order.0, order-removed x.end m before after order.1)
+    let own = order.1 in
+    weaker-order from m.end after (omega (arith, first, own)) order.2
+order-removed from m (x ∷ before) after order = (order.0, order.1, order-removed x.end m before after order.2)
 
-drop-head : {A : Type 0} (xs : List A) (i : ℕ) (x : A) → i < length xs → x ≡ slice_index_or xs i x → drop i xs ≡ x ∷ drop (suc i) xs
-drop-head [] i x within is = absurd (omega (arith, within))
-drop-head (y ∷ xs) zero x within is = ap (λ head. head ∷ xs) (sym is)
-drop-head (y ∷ xs) (suc i) x within is = drop-head xs i x (omega (arith, within)) is
+pub order-removed-all : (from : ℕ) (before middle after : List Mapping) → IsInOrder from (before ++ (middle ++ after)) → IsInOrder from (before ++ after)
+order-removed-all from [] middle after order = order-back from middle after order
+order-removed-all from (x ∷ before) middle after order =
+    (order.0, order.1, order-removed-all x.end before middle after order.2)
 
 -- the next mapping of a part is removed
-pub next-removed : (module_of : Mapping → ModuleView) → StartsAt module_of → (removed : List Mapping) (i : ℕ) (m : Mapping) (before after : List Mapping) → i < length removed → m ≡ slice_index_or removed i m → IsInOrder 0 (before ++ (drop i removed ++ after)) → IsInOrder 0 (before ++ (drop (i + 1) removed ++ after)) × (has_start m.start (map module_of (before ++ (drop i removed ++ after))) ≡ true) × (without_module m.start (map module_of (before ++ (drop i removed ++ after))) ≡ map module_of (before ++ (drop (i + 1) removed ++ after)))
-next-removed module_of starts removed i m before after within is order =
+pub next-removed : (module_of : Mapping → ModuleView) → StartsAt module_of → (removed : List Mapping) (i : ℕ) (d m : Mapping) (before after : List Mapping) → i < length removed → m ≡ get_or removed i d → IsInOrder 0 (before ++ (drop i removed ++ after)) → IsInOrder 0 (before ++ (drop (i + 1) removed ++ after)) × (has_start m.start (map module_of (before ++ (drop i removed ++ after))) ≡ true) × (without_module m.start (map module_of (before ++ (drop i removed ++ after))) ≡ map module_of (before ++ (drop (i + 1) removed ++ after)))
+next-removed module_of starts removed i d m before after within is order =
     let one : i + 1 ≡ suc i = omega arith in
-    let head = drop-head removed i m within is in
+    let head : drop i removed ≡ m ∷ drop (suc i) removed = drop-cons removed i d within ∙ ap (λ x. x ∷ drop (suc i) removed) (sym is) in
     let later = subst (λ (left : List Mapping). IsInOrder 0 (before ++ (left ++ after))) head order in
     let parts = module-removed module_of starts 0 m before (drop (suc i) removed ++ after) later in (
       rw one (order-removed 0 m before (drop (suc i) removed ++ after) later),
@@ -222,20 +408,55 @@ next-removed module_of starts removed i m before after within is order =
       rw (one, head) parts.1,
     )
 
--- ---- the parts of the mappings around a new one
+-- the next mapping of a part is added
+pub next-added : (module_of : Mapping → ModuleView) → StartsAt module_of → (added : List Mapping) (i : ℕ) (d m : Mapping) (before after : List Mapping) → i < length added → m ≡ get_or added i d → IsInOrder 0 (before ++ (added ++ after)) → with_module (module_of m) (map module_of (before ++ (take i added ++ after))) ≡ map module_of (before ++ (take (i + 1) added ++ after))
+next-added module_of starts added i d m before after within is order =
+    let front = take i added in
+    let back = drop (suc i) added in
+    let head : drop i added ≡ m ∷ back = drop-cons added i d within ∙ ap (λ x. x ∷ back) (sym is) in
+    let whole : added ≡ front ++ m ∷ back = sym (take-append-drop i added) ∙ ap (λ rest. front ++ rest) head in
+    let next : take (i + 1) added ≡ front ++ m ∷ [] = take_more added i d within ∙ ap (λ one. front ++ one ∷ []) (sym is) in
+    let parted : before ++ (added ++ after) ≡ (before ++ front) ++ m ∷ (back ++ after) =
+    ap (λ all. before ++ (all ++ after)) whole ∙ ap (λ rest. before ++ rest) (append-parts front (m ∷ back) after) ∙ sym (append-parts before front (m ∷ (back ++ after))) in
+    let later = subst (λ (all : List Mapping). IsInOrder 0 all) parted order in
+    let apart = subst (λ (all : List Mapping). IsInOrder 0 all) (sym (append-parts (before ++ front) (m ∷ []) (back ++ after))) later in
+    let thin = order-removed-all 0 ((before ++ front) ++ m ∷ []) back after apart in
+    let alone = subst (λ (all : List Mapping). IsInOrder 0 all) (append-parts (before ++ front) (m ∷ []) after) thin in
+    ap (λ (all : List Mapping). with_module (module_of m) (map module_of all)) (sym (append-parts before front after))
+    ∙ modules-between module_of starts 0 m (before ++ front) after alone
+    ∙ ap (map module_of) (append-parts before front (m ∷ after)
+    ∙ ap (λ (rest : List Mapping). before ++ rest) (sym (ap (λ (taken : List Mapping). taken ++ after) next ∙ append-parts front (m ∷ []) after)))
 
-module _ (new : Mapping) (ms before rest overlapped after : List Mapping) (whole : ms ≡ before ++ rest) (first : before ≡ ending_by new.start ms) (parted : rest ≡ overlapped ++ after) (last : after ≡ starting_from new.end rest) where
-  pub parts-whole : ms ≡ before ++ (overlapped ++ after)
-  parts-whole = whole ∙ ap (λ others. before ++ others) parted
+-- ---- the mappings that are before a new one, overlapped, and after it
 
-  last-of-all : after ≡ starting_from new.end ms
-  last-of-all = last ∙ sym (starting_from-rest new.start new.end new.is_not_empty ms before rest whole first)
+module _ (new : Mapping) (some : new.start < new.end) (ms before rest middle after : List Mapping) (whole : ms ≡ before ++ rest) (first : before ≡ ending_by new.start ms) (parted : rest ≡ middle ++ after) (last : after ≡ starting_from new.end rest) (order : IsInOrder 0 ms) where
+  pub whole-parts : ms ≡ before ++ (middle ++ after)
+  whole-parts = whole ∙ ap (λ others. before ++ others) parted
 
-  pub parts-joined : before ++ new ∷ after ≡ with_mapping new ms
-  parts-joined = ap (λ front. front ++ new ∷ after) first ∙ ap (λ others. ending_by new.start ms ++ new ∷ others) last-of-all
+  ends : EndBy new.start before
+  ends = subst (λ (l : List Mapping). EndBy new.start l) (sym first) (ending_by-ends new.start ms)
 
-  pub parts-modules : (module_of : Mapping → ModuleView) → StartsAt module_of → IsInOrder 0 ms → with_module (module_of new) (map module_of (before ++ after)) ≡ map module_of (with_mapping new ms)
-  parts-modules module_of starts order =
-      ap (λ front. with_module (module_of new) (map module_of (front ++ after))) first
-      ∙ ap (λ others. with_module (module_of new) (map module_of (ending_by new.start ms ++ others))) last-of-all
-      ∙ modules-added module_of starts new ms order
+  order-rest : IsInOrder 0 rest
+  order-rest = order-back 0 before rest (subst (λ (l : List Mapping). IsInOrder 0 l) whole order)
+
+  starts : IsInOrder new.end after
+  starts = subst (λ (l : List Mapping). IsInOrder new.end l) (sym last) (starting_from-starts new.end 0 rest order-rest)
+
+  pub mapped-parts : before ++ (with_mapping new middle ++ after) ≡ with_mapping new ms
+  mapped-parts =
+      parts-joined new some before middle after (subst (λ (l : List Mapping). IsInOrder 0 l) whole-parts order) ends starts
+      ∙ ap (with_mapping new) (sym whole-parts)
+
+  pub overlapped-middle : overlapped new ms ≡ middle
+  overlapped-middle =
+      let test : Mapping → Bool = λ m. nat_lt m.start new.end && nat_lt new.start m.end in
+      let behind = none-behind (λ m. nat_le m.end new.start) ms before rest whole first in
+      let not_by = nothing-front (λ m. nat_le m.end new.start) middle after (ap (ending_by new.start) (sym parted) ∙ behind) in
+      let not_from = none-before (λ m. nat_le new.end m.start) rest middle after parted last in
+      ap (overlapped new) whole-parts
+      ∙ filter-append test before (middle ++ after)
+      ∙ ap (λ kept. kept ++ filter test (middle ++ after)) (overlapped-none-before new before ends)
+      ∙ filter-append test middle after
+      ∙ ap (λ kept. filter test middle ++ kept) (overlapped-none-after new new.end after starts (omega arith))
+      ∙ append-empty (filter test middle)
+      ∙ overlapped-all new middle not_by not_from

@@ -1,21 +1,46 @@
 -- The mappings of a process, in order of start.
-use Rattle.std.specs.Prelude.{ℕ, ◌≤◌, nat_le, List, [], ◌∷◌, ◌++◌, filter}
+use Rattle.std.specs.Prelude.{ℕ, ◌+◌, ◌<◌, ◌≤◌, nat_le, nat_lt, List, [], ◌∷◌, ◌++◌, length, map, filter, min, max, ◌&&◌}
 use Rattle.framehop_processes.specs.declared.mapping.Mapping.{Mapping}
 
--- each starts at or after the end of the one before it, and the first at or after an address
+-- each has an address, and starts at or after the end of the one before it, the first at or after an address
 abbrev pub IsInOrder : ℕ → List Mapping → Type 0
 IsInOrder from [] = Unit {0}
-IsInOrder from (m ∷ mappings) = (from ≤ m.start) × IsInOrder m.end mappings
+IsInOrder from (m ∷ mappings) = (from ≤ m.start) × (m.start < m.end) × IsInOrder m.end mappings
 
--- those that end at or below an address
+-- the part of a mapping that lies below an address, and the part that lies at or above one: of the same file, with its
+-- bytes at the same addresses
+abbrev pub part_below : ℕ → Mapping → Mapping
+part_below address m = record m { end = min m.end address }
+
+abbrev pub part_above : ℕ → Mapping → Mapping
+part_above address m = record m { start = max m.start address }
+
+-- what of mappings lies below an address, and at or above one
+abbrev pub below : ℕ → List Mapping → List Mapping
+below address mappings = map (part_below address) (filter (λ m. nat_lt m.start address) mappings)
+
+abbrev pub above : ℕ → List Mapping → List Mapping
+above address mappings = map (part_above address) (filter (λ m. nat_lt address m.end) mappings)
+
+-- A new mapping in the place of what it overlaps: of each other, what lies before and after the new one stays (mmap(2),
+-- MAP_FIXED: the overlapped part of existing mappings is discarded; munmap(2): what is left of a mapping is mapped still).
+abbrev pub with_mapping : Mapping → List Mapping → List Mapping
+with_mapping new mappings = below new.start mappings ++ new ∷ above new.end mappings
+
+-- those that end at or below an address, and those that start at or above one
 abbrev pub ending_by : ℕ → List Mapping → List Mapping
 ending_by address mappings = filter (λ m. nat_le m.end address) mappings
 
--- those that start at or above an address
 abbrev pub starting_from : ℕ → List Mapping → List Mapping
 starting_from address mappings = filter (λ m. nat_le address m.start) mappings
 
--- a new mapping in the place of those that it overlaps: only those that end before it and those that start after it
--- stay (mmap(2), MAP_FIXED: the overlapped part of existing mappings is discarded)
-abbrev pub with_mapping : Mapping → List Mapping → List Mapping
-with_mapping new mappings = ending_by new.start mappings ++ new ∷ starting_from new.end mappings
+-- those that have an address of the new one
+abbrev pub overlapped : Mapping → List Mapping → List Mapping
+overlapped new mappings = filter (λ m. nat_lt m.start new.end && nat_lt new.start m.end) mappings
+
+-- How many modules go and come with a new mapping: that of each overlapped one goes, and those of the new one and of what
+-- it leaves of them come.
+abbrev pub changed_modules : Mapping → List Mapping → ℕ
+changed_modules new mappings =
+    let before = overlapped new mappings in
+    length before + length (with_mapping new before)

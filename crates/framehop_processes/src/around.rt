@@ -1,6 +1,6 @@
 //! The mappings around a new one.
-ghost use Rattle.std.specs.Prelude.{◌≡◌, ◌++◌, ◌∷◌, IfOk};
-ghost use Rattle.framehop_processes.specs.Mappings.{IsInOrder, ending_by, starting_from};
+ghost use Rattle.std.specs.Prelude.{◌≡◌, ◌++◌, IfOk};
+ghost use Rattle.framehop_processes.specs.Mappings.{IsInOrder, ending_by, starting_from, part_below, part_above, below, above, with_mapping};
 
 use crate::mapping::Mapping;
 use std::alloc::{AllocError, Global};
@@ -32,17 +32,70 @@ pub(crate) fn split_starting_below<'a>(
     mappings.split_at(place)
 }
 
-/// A new mapping between two lists.
+/// Returns what of mappings lies below an address (AVMA).
+fn below(alloc: Global, mappings: &[Mapping], address: u64) -> Result<Vec<Mapping>, AllocError>
+    ensures { IfOk result (λ list. list.items ≡ below address mappings.now) }
+{
+    mappings
+        .iter()
+        .filter(|mapping| mapping.start < address)
+        .map(|mapping| part_below(address, *mapping))
+        .collect(alloc)
+}
+
+/// Returns what of mappings lies at or above an address (AVMA).
+fn above(alloc: Global, mappings: &[Mapping], address: u64) -> Result<Vec<Mapping>, AllocError>
+    ensures { IfOk result (λ list. list.items ≡ above address mappings.now) }
+{
+    mappings
+        .iter()
+        .filter(|mapping| address < mapping.end)
+        .map(|mapping| part_above(address, *mapping))
+        .collect(alloc)
+}
+
+/// Returns these mappings with a new one in the place of what it overlaps.
+pub(crate) fn with_mapping(
+    alloc: Global,
+    mappings: &[Mapping],
+    new: Mapping,
+) -> Result<Vec<Mapping>, AllocError>
+    ensures { IfOk result (λ list. list.items ≡ with_mapping new mappings.now) }
+{
+    let mut list = below(alloc, mappings, new.start)?;
+    let above = above(alloc, mappings, new.end)?;
+    list.push(new)?;
+    list.extend_from_slice(above.as_slice())?;
+    Ok(list)
+}
+
+/// Returns the part of a mapping that lies below an address (AVMA).
+fn part_below(address: u64, mapping: Mapping) -> Mapping
+    ensures { result ≡ part_below address mapping }
+{
+    let end = mapping.end.min(address);
+    Mapping { end, ..mapping }
+}
+
+/// Returns the part of a mapping that lies at or above an address (AVMA).
+fn part_above(address: u64, mapping: Mapping) -> Mapping
+    ensures { result ≡ part_above address mapping }
+{
+    let start = mapping.start.max(address);
+    Mapping { start, ..mapping }
+}
+
+/// Joins three lists.
 pub(crate) fn joined(
     alloc: Global,
     before: &[Mapping],
-    new: Mapping,
+    middle: &[Mapping],
     after: &[Mapping],
 ) -> Result<Vec<Mapping>, AllocError>
-    ensures { IfOk result (λ joined. joined.items ≡ before.now ++ new ∷ after.now) }
+    ensures { IfOk result (λ joined. joined.items ≡ before.now ++ (middle.now ++ after.now)) }
 {
     let mut mappings = Vec::from_slice(alloc, before)?;
-    mappings.push(new)?;
+    mappings.extend_from_slice(middle)?;
     mappings.extend_from_slice(after)?;
     Ok(mappings)
 }

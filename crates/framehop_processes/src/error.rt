@@ -9,6 +9,9 @@ use thiserror::Error;
 /// have been drawn.
 #[derive(Clone, Copy, Debug, PartialEq, Eq, Error)]
 pub enum ProcessesError {
+    /// The mapping has no address: its end does not lie above its start.
+    #[error("a mapping without an address")]
+    EmptyMapping,
     /// An allocation failed.
     #[error("out of memory")]
     OutOfMemory,

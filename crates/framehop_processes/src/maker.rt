@@ -9,9 +9,9 @@ use std::alloc::{AllocError, Global};
 
 /// What makes a module of a mapping: it knows the files of a recording by their numbers.
 ///
-/// Its job is the base of a module (AVMA), by the program header in which the mapping's offset lies,
-/// and whether a file has unwind sections to give: one that is not there, or whose build id is
-/// another than the recording's, has none.
+/// Its job is whether a file has unwind sections to give: one that is not there, or whose build id is
+/// another than the recording's, has none. The base of the module is that of the mapping, which a part
+/// of a mapping has too.
 pub trait ModuleMaker<U: Unwinder> {
     // the module of a mapping
     ghost module_of: { Self → Mapping → ModuleView };

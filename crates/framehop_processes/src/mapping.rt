@@ -8,22 +8,21 @@ pub struct Mapping {
     pub start: u64,
     /// The address after the last (AVMA).
     pub end: u64,
-    /// Where in the file the mapping begins, in bytes.
-    pub offset: u64,
+    /// The base of its module's relative addresses (AVMA), which a part of the mapping has too.
+    pub base_avma: u64,
     /// The number of the file, by which its module is made.
     pub file: u32,
     /// Whether its module has the unwind sections of the file.
     pub has_sections: bool,
-    pub ghost is_not_empty: { start < end },
 }
 
 impl Mapping {
     /// A mapping, with the unwind sections of its file. There is none without an address: where the
     /// end does not lie above the start.
-    pub fn new(start: u64, end: u64, offset: u64, file: u32) -> Option<Self>
+    pub fn new(start: u64, end: u64, base_avma: u64, file: u32) -> Option<Self>
         ensures { MatchOption result (end ≤ start)
-            (λ mapping. (mapping.start ≡ start) × (mapping.end ≡ end) × (mapping.offset ≡ offset)
-            × (mapping.file ≡ file) × (mapping.has_sections ≡ true)) }
+            (λ mapping. (start < end) × (mapping.start ≡ start) × (mapping.end ≡ end)
+            × (mapping.base_avma ≡ base_avma) × (mapping.file ≡ file) × (mapping.has_sections ≡ true)) }
     {
         if end <= start {
             return None;
@@ -31,7 +30,7 @@ impl Mapping {
         Some(Mapping {
             start,
             end,
-            offset,
+            base_avma,
             file,
             has_sections: true,
         })

@@ -1,13 +1,13 @@
 //! A process: its mappings, and the unwinder that has their modules.
-ghost use Rattle.std.specs.Prelude.{◌≡◌, ◌+◌, ◌-◌, ◌^◌, ◌≤◌, [], IfOk, IfErr, OnOk, OnErr, Err};
-ghost use Rattle.framehop_processes.specs.Mappings.{IsInOrder, with_mapping};
+ghost use Rattle.std.specs.Prelude.{◌≡◌, ◌+◌, ◌-◌, ◌^◌, ◌<◌, ◌≤◌, [], IfOk, IfErr, OnOk, OnErr, Err};
+ghost use Rattle.framehop_processes.specs.Mappings.{IsInOrder, with_mapping, changed_modules};
 ghost use Rattle.framehop_processes.specs.Process.{HasModules, IsDrawn};
 
-use crate::around::{joined, split_ending_by, split_starting_below};
+use crate::around::{joined, split_ending_by, split_starting_below, with_mapping};
 use crate::error::ProcessesError;
 use crate::maker::ModuleMaker;
 use crate::mapping::Mapping;
-use crate::modules::{add_module, remove_modules};
+use crate::modules::{add_modules, remove_modules};
 use crate::unwinder::ProcessUnwinder;
 use framehop::generations::Generations;
 use std::alloc::{AllocError, Global};
@@ -60,9 +60,21 @@ impl<U: ProcessUnwinder> Process<U> {
         })
     }
 
-    /// Maps a part of a file into the process, in the place of the mappings that it overlaps: their
-    /// modules go, and the module of the new one, which the maker makes, is added. Where that is
-    /// refused, the process is as it was, though generations may have been drawn.
+    /// Maps a part of a file into the process, so that it can be executed, in the place of what it
+    /// overlaps: of an overlapped mapping what lies outside the new one stays. The modules of the
+    /// overlapped ones go, and those of the new one and of what stays are added, as the maker makes
+    /// them. Each takes a generation. Only mappings that can be executed are to be given: a recording
+    /// may have others, too.
+    ///
+    /// # Errors
+    ///
+    /// - `EmptyMapping` where the mapping has no address;
+    /// - `GenerationsExhausted` where fewer generations are left than modules go and come;
+    /// - `OutOfMemory`.
+    ///
+    /// The process is then as it was, though generations may have been drawn.
+    ///
+    /// Source: mmap(2), MAP_FIXED; munmap(2).
     pub fn map<M: ModuleMaker<U>>(
         &mut self,
         alloc: Global,
@@ -76,17 +88,25 @@ impl<U: ProcessUnwinder> Process<U> {
         ensures served { HasModules (M.module_of maker.now) self.new }
         ensures mapped { OnOk result (self.new.mappings ≡ with_mapping mapping self.old.mappings) }
         ensures drawn { OnOk result (IsDrawn generations.old self.new.unwinder.generation generations.new) }
+        ensures counted { OnOk result ((generations.new ≡ generations.old + changed_modules mapping self.old.mappings)
+            × (self.new.unwinder.generation + 1 ≡ generations.new)) }
         ensures kept { OnErr result (self.new ≡ self.old) }
-        ensures exhausted { result ≡ Err ProcessesError.GenerationsExhausted → generations.new ≡ 2 ^ 64 - 1 }
+        ensures empty { mapping.end ≤ mapping.start → (result ≡ Err ProcessesError.EmptyMapping) × (generations.new ≡ generations.old) }
+        ensures not_empty { result ≡ Err ProcessesError.EmptyMapping → mapping.end ≤ mapping.start }
+        ensures exhausted { result ≡ Err ProcessesError.GenerationsExhausted → (generations.new ≡ 2 ^ 64 - 1)
+            × (2 ^ 64 - 1 < generations.old + changed_modules mapping self.old.mappings) }
         ensures never_back { generations.old ≤ generations.new }
     {
-        let made = maker.make_module(alloc, &mapping)?;
+        if mapping.end <= mapping.start {
+            return Err(ProcessesError::EmptyMapping);
+        }
         let (before, rest) = split_ending_by(self.mappings.as_slice(), mapping.start);
         let (overlapped, after) = split_starting_below(rest, mapping.end);
+        let changed = with_mapping(alloc, overlapped, mapping)?;
+        let mappings = joined(alloc, before, changed.as_slice(), after)?;
         let mut unwinder = self.unwinder.clone()?;
         remove_modules(&mut unwinder, overlapped, generations)?;
-        add_module(&mut unwinder, made, generations)?;
-        let mappings = joined(alloc, before, mapping, after)?;
+        add_modules(alloc, &mut unwinder, maker, changed.as_slice(), generations)?;
         *self = Process { mappings, unwinder };
         Ok(())
     }

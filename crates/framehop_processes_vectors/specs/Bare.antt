@@ -8,6 +8,6 @@ bare mapping = record {
   name = [];
   start = mapping.start;
   end = mapping.end;
-  base_avma = mapping.start;
+  base_avma = mapping.base_avma;
   unwind_data = no_unwind_data None;
 }

@@ -49,7 +49,7 @@ fn bare_module(alloc: Global, mapping: &Mapping) -> Result<Module<Vec<u8>>, Allo
 {
     let name = String::new(alloc);
     let range = mapping.start..mapping.end;
-    match Module::new(alloc, name, range, mapping.start, NoSections) {
+    match Module::new(alloc, name, range, mapping.base_avma, NoSections) {
         Ok(made) => Ok(made),
         Err(_) => Err(AllocError),
     }
@@ -88,19 +88,19 @@ impl ModuleMaker<UnwinderAarch64<Vec<u8>>> for Bare {
 }
 
 fn mapping(start: u64, end: u64) -> Result<Mapping, Fail> {
-    match Mapping::new(start, end, 0, 0) {
+    match Mapping::new(start, end, start, 0) {
         Some(mapping) => Ok(mapping),
         None => Err(Fail::new("a mapping without an address")),
     }
 }
 
-// the starts of the mappings
-fn starts(alloc: Global, mappings: &[Mapping]) -> Result<Vec<u64>, AllocError> {
-    let mut starts = Vec::new(alloc);
+// the start, the end and the base of each mapping
+fn ranges(alloc: Global, mappings: &[Mapping]) -> Result<Vec<(u64, u64, u64)>, AllocError> {
+    let mut ranges = Vec::new(alloc);
     for mapping in mappings {
-        starts.push(mapping.start)?;
+        ranges.push((mapping.start, mapping.end, mapping.base_avma))?;
     }
-    Ok(starts)
+    Ok(ranges)
 }
 
 #[test]
@@ -112,44 +112,82 @@ fn maps_over_older_mappings_on_x86_64(rt: HostRuntime) -> Result<(), Fail> {
 
     process.map(alloc, &Bare, mapping(0x5000, 0x6000)?, &mut generations)?;
     process.map(alloc, &Bare, mapping(0x1000, 0x3000)?, &mut generations)?;
-    let sorted = starts(alloc, process.mappings())?;
-    assert_eq!(rt; sorted.as_slice(), [0x1000, 0x5000].as_slice());
+    let sorted = ranges(alloc, process.mappings())?;
+    let expected = [(0x1000, 0x3000, 0x1000), (0x5000, 0x6000, 0x5000)];
+    assert_eq!(rt; sorted.as_slice(), expected.as_slice());
 
-    // the first is overlapped, the second only touched
+    // the end of the first is overlapped, and the second only touched
     process.map(alloc, &Bare, mapping(0x2000, 0x5000)?, &mut generations)?;
-    let replaced = starts(alloc, process.mappings())?;
-    assert_eq!(rt; replaced.as_slice(), [0x2000, 0x5000].as_slice());
+    let replaced = ranges(alloc, process.mappings())?;
+    let expected = [
+        (0x1000, 0x2000, 0x1000),
+        (0x2000, 0x5000, 0x2000),
+        (0x5000, 0x6000, 0x5000),
+    ];
+    assert_eq!(rt; replaced.as_slice(), expected.as_slice());
     assert_eq!(rt; process.unwinder().max_known_code_address(), 0x6000);
 
+    // all but the start of the first is overlapped
     let child = process.clone()?;
-    process.map(alloc, &Bare, mapping(0x4fff, 0x8000)?, &mut generations)?;
-    let covered = starts(alloc, process.mappings())?;
-    assert_eq!(rt; covered.as_slice(), [0x4fff].as_slice());
+    process.map(alloc, &Bare, mapping(0x1800, 0x8000)?, &mut generations)?;
+    let covered = ranges(alloc, process.mappings())?;
+    let expected = [(0x1000, 0x1800, 0x1000), (0x1800, 0x8000, 0x1800)];
+    assert_eq!(rt; covered.as_slice(), expected.as_slice());
     assert_eq!(rt; process.unwinder().max_known_code_address(), 0x8000);
-    let kept = starts(alloc, child.mappings())?;
-    assert_eq!(rt; kept.as_slice(), [0x2000, 0x5000].as_slice());
+    let kept = ranges(alloc, child.mappings())?;
+    assert_eq!(rt; kept.as_slice(), replaced.as_slice());
     assert_eq!(rt; child.unwinder().max_known_code_address(), 0x6000);
+    Ok(())
+}
+
+#[test]
+fn keeps_both_sides_of_a_new_mapping(rt: HostRuntime) -> Result<(), Fail> {
+    let alloc = rt.alloc();
+    let mut generations = Generations::starting_at(10);
+    let mut process: Process<UnwinderX86_64<Vec<u8>>> = Process::new(alloc, &mut generations)?;
+    process.map(alloc, &Bare, mapping(0x1000, 0x9000)?, &mut generations)?;
+    // a page in the middle: one module goes, and three come
+    process.map(alloc, &Bare, mapping(0x4000, 0x5000)?, &mut generations)?;
+    let parted = ranges(alloc, process.mappings())?;
+    let expected = [
+        (0x1000, 0x4000, 0x1000),
+        (0x4000, 0x5000, 0x4000),
+        (0x5000, 0x9000, 0x1000),
+    ];
+    assert_eq!(rt; parted.as_slice(), expected.as_slice());
+    assert_eq!(rt; generations.next(), Some(16));
     Ok(())
 }
 
 #[test]
 fn stays_as_it_was_at_the_end_of_the_counter_on_aarch64(rt: HostRuntime) -> Result<(), Fail> {
     let alloc = rt.alloc();
-    let mut generations = Generations::starting_at(0xffff_ffff_ffff_fffd);
+    let mut generations = Generations::starting_at(0xffff_ffff_ffff_fffb);
     let mut process: Process<UnwinderAarch64<Vec<u8>>> = Process::new(alloc, &mut generations)?;
     process.map(alloc, &Bare, mapping(0x1000, 0x2000)?, &mut generations)?;
-    assert!(rt; generations.is_exhausted());
+    // two are left, and three are drawn: one module goes, and two come
     let refused = process.map(alloc, &Bare, mapping(0x1800, 0x2800)?, &mut generations);
     assert_eq!(rt; refused, Err(ProcessesError::GenerationsExhausted));
-    let kept = starts(alloc, process.mappings())?;
-    assert_eq!(rt; kept.as_slice(), [0x1000].as_slice());
+    assert!(rt; generations.is_exhausted());
+    let kept = ranges(alloc, process.mappings())?;
+    assert_eq!(rt; kept.as_slice(), [(0x1000, 0x2000, 0x1000)].as_slice());
     assert_eq!(rt; process.unwinder().max_known_code_address(), 0x2000);
     Ok(())
 }
 
 #[test]
-fn has_no_mapping_without_an_address(rt: HostRuntime) {
+fn has_no_mapping_without_an_address(rt: HostRuntime) -> Result<(), Fail> {
+    let alloc = rt.alloc();
     assert!(rt; Mapping::new(0x1000, 0x1000, 0, 0).is_none());
     assert!(rt; Mapping::new(0x1000, 0x0fff, 0, 0).is_none());
     assert!(rt; Mapping::new(0xffff_ffff_ffff_fffe, 0xffff_ffff_ffff_ffff, 0, 0).is_some());
+    let mut generations = Generations::new();
+    let mut process: Process<UnwinderX86_64<Vec<u8>>> = Process::new(alloc, &mut generations)?;
+    let empty = Mapping {
+        end: 0x1000,
+        ..mapping(0x1000, 0x2000)?
+    };
+    let refused = process.map(alloc, &Bare, empty, &mut generations);
+    assert_eq!(rt; refused, Err(ProcessesError::EmptyMapping));
+    Ok(())
 }

@@ -1,6 +1,7 @@
 -- Several things that are read one after another, and the list that they make.
 use Rattle.std.proofs.Common.{◌≡◌, ℕ, zero, suc, ◌+◌, ◌-◌, ◌<◌, List, [], ◌∷◌, ◌++◌, map, Result, Ok, Err, refl, ap, sym, ◌∙◌, arith}
 use Rattle.std.proofs.lemmas.List.{map-append}
+use Rattle.std.specs.Result.{IsOk}
 use Rattle.framehop_cfi.specs.Bytes.{◌>>=◌}
 use Rattle.framehop_recording.specs.Bytes.{offsets, each_of}
 use Rattle.framehop_recording.specs.declared.error.RecordingError.{RecordingError}
@@ -45,6 +46,34 @@ module _ {A B : Type 0} (read : A → Result B RecordingError) where
   unfolding each_of
   each-whole all before left so_far is =
       so_far ∙ ap (λ list. prepended before (each_of read list)) is ∙ ap (λ list. Ok list) (append-none before)
+
+  -- what refuses those after one that can be read refuses them all
+  pub each-later-refused : (x : A) (left rest : List A) (one : B) (error : RecordingError) → left ≡ x ∷ rest → read x ≡ Ok one → each_of read rest ≡ Err error → each_of read left ≡ Err error
+  unfolding each_of
+  each-later-refused x left rest one error is ok e =
+      ap (each_of read) is
+      ∙ ap (λ r. r >>= (λ o. each_of read rest >>= (λ others. Ok (o ∷ others)))) ok
+      ∙ ap (λ others. others >>= (λ more. Ok (one ∷ more))) e
+
+  is-ok-more : (one : B) (others : Result (List B) RecordingError) → IsOk others → IsOk (others >>= (λ more. Ok (one ∷ more)))
+  is-ok-more one (Ok more) ok = refl
+  is-ok-more one (Err error) ok = ok
+
+  -- where those after one that can be read can be read, all can
+  pub each-later-read : (x : A) (left rest : List A) (one : B) → left ≡ x ∷ rest → read x ≡ Ok one → IsOk (each_of read rest) → IsOk (each_of read left)
+  unfolding each_of
+  each-later-read x left rest one is ok all =
+      rw (is, ok) (is-ok-more one (each_of read rest) all)
+
+  pub each-first-refused : (x : A) (left rest : List A) (error : RecordingError) → left ≡ x ∷ rest → read x ≡ Err error → each_of read left ≡ Err error
+  unfolding each_of
+  each-first-refused x left rest error is e =
+      ap (each_of read) is
+      ∙ ap (λ r. r >>= (λ o. each_of read rest >>= (λ others. Ok (o ∷ others)))) e
+
+  pub each-none-read : (left : List A) → left ≡ [] → IsOk (each_of read left)
+  unfolding each_of
+  each-none-read left is = rw is refl
 
 pub offsets-more : (start size n : ℕ) → 0 < n → offsets start size n ≡ start ∷ offsets (start + size) size (n - 1)
 offsets-more start size zero h = absurd (omega (arith, h))

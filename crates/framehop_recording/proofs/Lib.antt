@@ -2,3 +2,4 @@
 pub mod RunLemmas
 pub mod EachLemmas
 pub mod EventLemmas
+pub mod TimeLemmas

@@ -1,7 +1,8 @@
 -- What is read at an offset of bytes, with the offset after it, or the refusal to give where the bytes end before it.
-use Rattle.std.specs.Prelude.{ℕ, zero, suc, ◌+◌, ◌-◌, ◌*◌, List, [], ◌∷◌, length, take, drop, Bool, not, bit_and, ◌==◌, Option, Some, None, Result, Ok, Err, nat_le, if◌then◌else◌}
+use Rattle.std.specs.Prelude.{◌≡◌, ℕ, zero, suc, ◌+◌, ◌-◌, ◌*◌, List, [], ◌∷◌, length, take, drop, Bool, not, bit_and, ◌==◌, Option, Some, None, Result, Ok, Err, nat_le, if◌then◌else◌}
 use Rattle.framehop_cfi.specs.Bytes.{◌>>=◌, le2, le4, le8}
 use Rattle.framehop_recording.specs.declared.error.RecordingError.{RecordingError}
+use Rattle.framehop_recording.specs.declared.error.RecordingError.TheVariants.{OutOfMemory}
 
 abbrev pub Reading : Type 0 → Type 0
 Reading A = Result (A × ℕ) RecordingError
@@ -45,6 +46,11 @@ each_of read (x ∷ xs) = do
   one ← read x
   others ← each_of read xs
   Ok (one ∷ others)
+
+-- the error of what is to be read where memory may run out: that of the bytes comes first
+abbrev pub IsErrorOf : {A : Type 0} → Result A RecordingError → RecordingError → Type 0
+IsErrorOf (Ok value) error = error ≡ OutOfMemory
+IsErrorOf (Err refusal) error = error ≡ refusal
 
 -- a number has the bits of a mask of one bit
 abbrev pub has_bit : ℕ → ℕ → Bool

@@ -1,8 +1,8 @@
 -- Which event a record belongs to, and when it was made: PERF_RECORD_SAMPLE and `struct sample_id` of perf_event.h.
-use Rattle.std.specs.Prelude.{ℕ, ◌*◌, List, [], ◌∷◌, ◌/◌, length, Bool, true, not, bit_and, count_ones, ◌==◌, ◌&&◌, ◌||◌, Option, Some, None, option_and_then, slice_get, sum_by, Result, Ok, Err, nat_lt, if◌then◌else◌}
-use Rattle.std.specs.List.{list_any, list_all, position_from}
+use Rattle.std.specs.Prelude.{ℕ, ◌+◌, ◌*◌, List, [], ◌∷◌, ◌/◌, length, Bool, true, not, bit_and, ◌==◌, ◌&&◌, ◌||◌, Option, Some, None, option_and_then, slice_get, sum_by, Result, Ok, Err, nat_lt, if◌then◌else◌}
+use Rattle.std.specs.List.{count_by, list_any, list_all, position_from}
 use Rattle.framehop_cfi.specs.Bytes.{◌>>=◌, le8}
-use Rattle.framehop_recording.specs.Numbers.{PERF_RECORD_SAMPLE, PERF_RECORD_USER_TYPE_START, NO_TIME}
+use Rattle.framehop_recording.specs.Numbers.{PERF_RECORD_SAMPLE, PERF_RECORD_USER_TYPE_START, PERF_SAMPLE_IP, PERF_SAMPLE_TID, PERF_SAMPLE_TIME, PERF_SAMPLE_ADDR, PERF_SAMPLE_ID, PERF_SAMPLE_STREAM_ID, PERF_SAMPLE_CPU, PERF_SAMPLE_PERIOD, PERF_SAMPLE_IDENTIFIER, NO_TIME}
 use Rattle.framehop_recording.specs.Bytes.{word_at, word_from_end, offsets, has_bit}
 use Rattle.framehop_recording.specs.Attributes.{AttributeView, attributes_of}
 use Rattle.framehop_recording.specs.Records.{RecordView}
@@ -10,34 +10,64 @@ use Rattle.framehop_recording.specs.declared.error.RecordingError.{RecordingErro
 use Rattle.framehop_recording.specs.declared.error.RecordingError.TheVariants.{MixedIds, SharedIds}
 use Rattle.framehop_recording.specs.declared.header.Header.{Header}
 
--- A field of eight bytes of a record of an event. In a sample it comes after the fields of the first mask. Another
--- record of the kernel, of a kind below 64, has it where `sample_id_all` says so: it ends with the fields of the second
--- mask, of which this one is the first.
-unfoldable pub field_of : AttributeView → RecordView → ℕ → ℕ → Option ℕ
-field_of a r before from =
-    if r.kind == PERF_RECORD_SAMPLE then word_at r.body (8 * count_ones (bit_and a.sample_type before))
-    else if a.sample_id_all && nat_lt r.kind PERF_RECORD_USER_TYPE_START then word_from_end r.body (count_ones (bit_and a.sample_type from))
-    else None
+-- The fields of eight bytes that a sample begins with, in their order: PERF_RECORD_SAMPLE of perf_event.h.
+abbrev pub sample_fields : List ℕ
+sample_fields =
+    PERF_SAMPLE_IDENTIFIER ∷ PERF_SAMPLE_IP ∷ PERF_SAMPLE_TID ∷ PERF_SAMPLE_TIME ∷ PERF_SAMPLE_ADDR ∷ PERF_SAMPLE_ID
+    ∷ PERF_SAMPLE_STREAM_ID ∷ PERF_SAMPLE_CPU ∷ PERF_SAMPLE_PERIOD ∷ []
+
+-- Those that another record of the kernel ends with: `struct sample_id` of perf_event.h.
+abbrev pub sample_id_fields : List ℕ
+sample_id_fields =
+    PERF_SAMPLE_TID ∷ PERF_SAMPLE_TIME ∷ PERF_SAMPLE_ID ∷ PERF_SAMPLE_STREAM_ID ∷ PERF_SAMPLE_CPU
+    ∷ PERF_SAMPLE_IDENTIFIER ∷ []
+
+-- those before a field, and those from it on
+abbrev pub before : ℕ → List ℕ → List ℕ
+before field [] = []
+before field (f ∷ fields) = if f == field then [] else f ∷ before field fields
+
+abbrev pub from : ℕ → List ℕ → List ℕ
+from field [] = []
+from field (f ∷ fields) = if f == field then f ∷ fields else from field fields
+
+-- how many of these fields an event has
+abbrev pub count_present : ℕ → List ℕ → ℕ
+count_present sample_type fields = count_by (has_bit sample_type) fields
+
+-- A field of eight bytes of a record of an event, that a sample has after some fields. Another record, of a kind below
+-- PERF_RECORD_USER_TYPE_START, ends with others, of which it is the first, where `sample_id_all` says so.
+unfoldable pub field_between : AttributeView → RecordView → List ℕ → List ℕ → Option ℕ
+field_between a r earlier later =
+    if r.kind == PERF_RECORD_SAMPLE then word_at r.body (8 * count_present a.sample_type earlier)
+    else if a.sample_id_all && nat_lt r.kind PERF_RECORD_USER_TYPE_START
+    then word_from_end r.body (count_present a.sample_type later) else None
+
+-- a field by its bit
+abbrev pub field_of : AttributeView → RecordView → ℕ → Option ℕ
+field_of a r field = field_between a r (before field sample_fields) (from field sample_id_fields)
 
 -- a time, unless it says that there is none
 abbrev pub known_time : ℕ → Option ℕ
 known_time time = if time == NO_TIME then None else Some time
 
--- PERF_SAMPLE_TIME (0x4). Before it are PERF_SAMPLE_IDENTIFIER (0x10000), IP (0x1) and TID (0x2); from it on are ID
--- (0x40), STREAM_ID (0x200), CPU (0x80) and IDENTIFIER.
+-- when a record of an event was made
 unfoldable pub time_field : AttributeView → RecordView → Option ℕ
-time_field a r = if has_bit a.sample_type 0x4 then option_and_then known_time (field_of a r 0x10003 0x102c4) else None
+time_field a r =
+    if has_bit a.sample_type PERF_SAMPLE_TIME then option_and_then known_time (field_of a r PERF_SAMPLE_TIME) else None
 
--- The id of the event: PERF_SAMPLE_IDENTIFIER, which is the first field of a sample and the last of another record, or
--- else PERF_SAMPLE_ID. Before that are IP, TID, TIME and ADDR (0x8); from it on are STREAM_ID and CPU.
+-- the id of the event: PERF_SAMPLE_IDENTIFIER, or else PERF_SAMPLE_ID
 unfoldable pub id_field : AttributeView → RecordView → Option ℕ
 id_field a r =
-    if has_bit a.sample_type 0x10000 then field_of a r 0 0x10000
-    else if has_bit a.sample_type 0x40 then field_of a r 0xf 0x2c0 else None
+    if has_bit a.sample_type PERF_SAMPLE_IDENTIFIER then field_of a r PERF_SAMPLE_IDENTIFIER
+    else if has_bit a.sample_type PERF_SAMPLE_ID then field_of a r PERF_SAMPLE_ID else None
 
 -- the fields that say where the id is, and which it is
 unfoldable pub id_fields : AttributeView → ℕ
-id_fields a = if has_bit a.sample_type 0x10000 then 0x10000 else bit_and a.sample_type 0x2cf
+id_fields a =
+    if has_bit a.sample_type PERF_SAMPLE_IDENTIFIER then PERF_SAMPLE_IDENTIFIER
+    else bit_and a.sample_type (PERF_SAMPLE_IP + PERF_SAMPLE_TID + PERF_SAMPLE_TIME + PERF_SAMPLE_ADDR + PERF_SAMPLE_ID
+    + PERF_SAMPLE_STREAM_ID + PERF_SAMPLE_CPU)
 
 -- the records of two events have their ids at one place
 unfoldable pub is_like : AttributeView → AttributeView → Bool
@@ -47,7 +77,7 @@ is_like a b = (id_fields a == id_fields b) && (if a.sample_id_all then b.sample_
 unfoldable pub are_told_apart : List AttributeView → Bool
 are_told_apart [] = true
 are_told_apart (a ∷ others) =
-    (length others == 0) || (has_bit (id_fields a) 0x10040 && list_all (is_like a) others)
+    (length others == 0) || (has_bit (id_fields a) (PERF_SAMPLE_IDENTIFIER + PERF_SAMPLE_ID) && list_all (is_like a) others)
 
 -- how many bytes the ids of events take
 abbrev pub ids_size : List AttributeView → ℕ

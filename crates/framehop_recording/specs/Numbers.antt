@@ -116,6 +116,71 @@ PERF_SAMPLE_REGS_ABI_32 = 1
 abbrev pub PERF_SAMPLE_REGS_ABI_64 : ℕ
 PERF_SAMPLE_REGS_ABI_64 = 2
 
+-- `enum perf_event_x86_regs` of arch/x86/include/uapi/asm/perf_regs.h, the bits of sample_regs_user
+abbrev pub PERF_REG_X86_AX : ℕ
+PERF_REG_X86_AX = 0
+
+abbrev pub PERF_REG_X86_BX : ℕ
+PERF_REG_X86_BX = 1
+
+abbrev pub PERF_REG_X86_CX : ℕ
+PERF_REG_X86_CX = 2
+
+abbrev pub PERF_REG_X86_DX : ℕ
+PERF_REG_X86_DX = 3
+
+abbrev pub PERF_REG_X86_SI : ℕ
+PERF_REG_X86_SI = 4
+
+abbrev pub PERF_REG_X86_DI : ℕ
+PERF_REG_X86_DI = 5
+
+abbrev pub PERF_REG_X86_BP : ℕ
+PERF_REG_X86_BP = 6
+
+abbrev pub PERF_REG_X86_SP : ℕ
+PERF_REG_X86_SP = 7
+
+abbrev pub PERF_REG_X86_IP : ℕ
+PERF_REG_X86_IP = 8
+
+abbrev pub PERF_REG_X86_R8 : ℕ
+PERF_REG_X86_R8 = 16
+
+abbrev pub PERF_REG_X86_R9 : ℕ
+PERF_REG_X86_R9 = 17
+
+abbrev pub PERF_REG_X86_R10 : ℕ
+PERF_REG_X86_R10 = 18
+
+abbrev pub PERF_REG_X86_R11 : ℕ
+PERF_REG_X86_R11 = 19
+
+abbrev pub PERF_REG_X86_R12 : ℕ
+PERF_REG_X86_R12 = 20
+
+abbrev pub PERF_REG_X86_R13 : ℕ
+PERF_REG_X86_R13 = 21
+
+abbrev pub PERF_REG_X86_R14 : ℕ
+PERF_REG_X86_R14 = 22
+
+abbrev pub PERF_REG_X86_R15 : ℕ
+PERF_REG_X86_R15 = 23
+
+-- `enum perf_event_arm_regs` of arch/arm64/include/uapi/asm/perf_regs.h
+abbrev pub PERF_REG_ARM64_X29 : ℕ
+PERF_REG_ARM64_X29 = 29
+
+abbrev pub PERF_REG_ARM64_LR : ℕ
+PERF_REG_ARM64_LR = 30
+
+abbrev pub PERF_REG_ARM64_SP : ℕ
+PERF_REG_ARM64_SP = 31
+
+abbrev pub PERF_REG_ARM64_PC : ℕ
+PERF_REG_ARM64_PC = 32
+
 -- the features of a recording, by the bit of each
 abbrev pub HEADER_BUILD_ID : ℕ
 HEADER_BUILD_ID = 2

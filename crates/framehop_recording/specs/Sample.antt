@@ -1,5 +1,5 @@
 -- The fields of PERF_RECORD_SAMPLE (9), in the order of perf_event.h.
-use Rattle.std.specs.Prelude.{ℕ, ◌+◌, ◌*◌, List, Bool, not, bit_and, count_ones, Option, None, Result, Ok, Err, ◌==◌, if◌then◌else◌}
+use Rattle.std.specs.Prelude.{ℕ, ◌*◌, List, Bool, not, ◌&&◌, ◌||◌, count_ones, Option, None, Result, Ok, Err, ◌==◌, if◌then◌else◌}
 use Rattle.framehop_cfi.specs.Bytes.{◌>>=◌}
 use Rattle.framehop_recording.specs.Numbers.{PERF_RECORD_SAMPLE, PERF_SAMPLE_IP, PERF_SAMPLE_TID, PERF_SAMPLE_TIME, PERF_SAMPLE_ADDR, PERF_SAMPLE_READ, PERF_SAMPLE_CALLCHAIN, PERF_SAMPLE_ID, PERF_SAMPLE_CPU, PERF_SAMPLE_PERIOD, PERF_SAMPLE_STREAM_ID, PERF_SAMPLE_RAW, PERF_SAMPLE_BRANCH_STACK, PERF_SAMPLE_REGS_USER, PERF_SAMPLE_STACK_USER, PERF_SAMPLE_IDENTIFIER, PERF_SAMPLE_REGS_ABI_NONE, PERF_SAMPLE_REGS_ABI_32, PERF_SAMPLE_REGS_ABI_64}
 use Rattle.framehop_recording.specs.Bytes.{Reading, u32_at, u64_at, block_at, has_bit}
@@ -65,10 +65,10 @@ user_at offset mask bytes at = do
 -- these, and may have no field before them whose size is not known.
 unfoldable pub user_side : AttributeView → RecordView → ℕ → Result UserView RecordingError
 user_side a r at =
-    if not (bit_and a.sample_type (PERF_SAMPLE_REGS_USER + PERF_SAMPLE_STACK_USER) == PERF_SAMPLE_REGS_USER + PERF_SAMPLE_STACK_USER)
+    if not (has_bit a.sample_type PERF_SAMPLE_REGS_USER && has_bit a.sample_type PERF_SAMPLE_STACK_USER)
     then Err (NoUserStack r.offset)
-    else if has_bit a.sample_type (PERF_SAMPLE_READ + PERF_SAMPLE_RAW + PERF_SAMPLE_BRANCH_STACK)
-    then Err (UnsupportedField r.offset)
+    else if has_bit a.sample_type PERF_SAMPLE_READ || has_bit a.sample_type PERF_SAMPLE_RAW
+    || has_bit a.sample_type PERF_SAMPLE_BRANCH_STACK then Err (UnsupportedField r.offset)
     else (do
       address ← optional_at (has_bit a.sample_type PERF_SAMPLE_ADDR) r.body at (ShortRecord r.offset)
       id ← optional_at (has_bit a.sample_type PERF_SAMPLE_ID) r.body address.1 (ShortRecord r.offset)
@@ -83,8 +83,7 @@ user_side a r at =
 unfoldable pub sample_at : AttributeView → RecordView → Result SampleView RecordingError
 sample_at a r =
     if not (r.kind == PERF_RECORD_SAMPLE) then Err (OtherKind r.offset)
-    else if not (bit_and a.sample_type (PERF_SAMPLE_IP + PERF_SAMPLE_TID) == PERF_SAMPLE_IP + PERF_SAMPLE_TID)
-    then Err (NoThread r.offset)
+    else if not (has_bit a.sample_type PERF_SAMPLE_IP && has_bit a.sample_type PERF_SAMPLE_TID) then Err (NoThread r.offset)
     else (do
       identifier ← optional_at (has_bit a.sample_type PERF_SAMPLE_IDENTIFIER) r.body 0 (ShortRecord r.offset)
       ip ← u64_at r.body identifier.1 (ShortRecord r.offset)

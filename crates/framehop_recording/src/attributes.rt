@@ -1,6 +1,6 @@
 //! The events of a recording, by their attributes.
-ghost use Rattle.std.specs.Prelude.{◌≡◌, ◌+◌, ◌^◌, ◌<◌, ◌≤◌, ◌⊎◌, Ok, Err, IfOk, MatchResult, map};
-ghost use Rattle.framehop_recording.specs.Bytes.{offsets, each_of};
+ghost use Rattle.std.specs.Prelude.{◌≡◌, ◌+◌, ◌^◌, ◌<◌, ◌≤◌, ◌⊎◌, Ok, Err, IfOk, IsOk, MatchResult, map};
+ghost use Rattle.framehop_recording.specs.Bytes.{offsets, each_of, IsErrorOf};
 ghost use Rattle.framehop_recording.specs.Attributes.{attribute_in, attribute_at, attributes_of, attribute_view};
 
 use crate::bytes::{read_block, read_u32, read_u64};
@@ -93,6 +93,23 @@ pub fn read_attribute<'a>(
     Ok(attribute)
 }
 
+/// Returns whether so many attributes can be read, whose entries have a size, in bytes, and lie one after
+/// another from an offset of the file on.
+fn check_entries(file: &[u8], start: u64, size: u64, count: u64) -> Result<(), RecordingError>
+    ensures { MatchResult result
+        (λ _. IsOk (each_of (λ at. attribute_at file.now at size) (offsets start size count)))
+        (λ error. each_of (λ at. attribute_at file.now at size) (offsets start size count) ≡ Err error) }
+{
+    let mut at = start;
+    let mut left = count;
+    while left > 0 {
+        read_attribute(file, at, size)?;
+        at += size;
+        left -= 1;
+    }
+    Ok(())
+}
+
 /// Reads so many attributes, whose entries have a size, in bytes, and lie one after another from an
 /// offset of the file on.
 fn read_entries<'a>(
@@ -125,8 +142,8 @@ fn read_entries<'a>(
 ///
 /// # Errors
 ///
-/// `OutOfMemory`; `ShortAttribute` where the header's entries have no user registers; and those of
-/// [`read_attribute`].
+/// `ShortAttribute` where the header's entries have no user registers, and those of [`read_attribute`];
+/// else `OutOfMemory`.
 ///
 /// Source: Linux, `perf.data-file-format.txt`, `perf_header` and `perf_file_attr`.
 #[tactic(auto, unfolding(crate::specs::Attributes::attributes_of))]
@@ -137,12 +154,15 @@ pub fn read_attributes<'a>(
 ) -> Result<Vec<Attribute<'a>>, RecordingError>
     ensures exact { MatchResult result
         (λ attributes. attributes_of file.entry.now header.now ≡ Ok (map attribute_view attributes.items))
-        (λ error. (error ≡ RecordingError.OutOfMemory) ⊎ (attributes_of file.entry.now header.now ≡ Err error)) }
+        (λ error. IsErrorOf (attributes_of file.entry.now header.now) error) }
 {
     let size = header.attribute_size;
     let offset = header.attributes.offset;
     if size < ENTRY_SIZE {
         return Err(RecordingError::ShortAttribute { offset });
     }
-    read_entries(alloc, file, offset, size, header.attributes.size / size)
+    let count = header.attributes.size / size;
+    check_entries(file, offset, size, count)?;
+    let attributes = read_entries(alloc, file, offset, size, count)?;
+    Ok(attributes)
 }

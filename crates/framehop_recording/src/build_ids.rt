@@ -1,5 +1,6 @@
 //! The build ids of the files that were mapped, after the records.
-ghost use Rattle.std.specs.Prelude.{◌≡◌, ◌⊎◌, Ok, Err, MatchResult, map};
+ghost use Rattle.std.specs.Prelude.{◌≡◌, ◌⊎◌, None, Ok, Err, IsOk, MatchResult, map};
+ghost use Rattle.framehop_recording.specs.declared.error.RecordingError.{RecordingError};
 ghost use Rattle.framehop_recording.specs.Bytes.{each_of};
 ghost use Rattle.framehop_recording.specs.Records.{record_view};
 ghost use Rattle.framehop_recording.specs.BuildIds.{build_ids_section, file_build_id_at, file_build_id_view, build_ids_at, build_ids_of};
@@ -104,6 +105,7 @@ fn read_build_ids_at<'a>(
     ensures exact { MatchResult result
         (λ build_ids. build_ids_at file.entry.now section ≡ Ok (map file_build_id_view build_ids.items))
         (λ error. (error ≡ RecordingError.OutOfMemory) ⊎ (build_ids_at file.entry.now section ≡ Err error)) }
+    ensures sought { section ≡ None → IsOk result }
 {
     let Some(section) = section else {
         return Ok(Vec::new(alloc));
@@ -119,8 +121,8 @@ fn read_build_ids_at<'a>(
 ///
 /// # Errors
 ///
-/// `OutOfMemory`; `Eof` where the file ends before the records do, or before the section; and what
-/// refuses a record: `BadRecordSize`, `Compressed` and `ShortRecord`.
+/// `Eof` where the file ends before the records do, or before the section; what refuses a record of the
+/// section: `BadRecordSize`, `Compressed` and `ShortRecord`; and, where there is a section, `OutOfMemory`.
 ///
 /// Source: Linux, `perf.data-file-format.txt`, HEADER_BUILD_ID; `tools/lib/perf/include/perf/event.h`,
 /// `perf_record_header_build_id`.
@@ -133,6 +135,8 @@ pub fn read_build_ids<'a>(
     ensures exact { MatchResult result
         (λ build_ids. build_ids_of file.entry.now header.now ≡ Ok (map file_build_id_view build_ids.items))
         (λ error. (error ≡ RecordingError.OutOfMemory) ⊎ (build_ids_of file.entry.now header.now ≡ Err error)) }
+    ensures sought { result ≡ Err RecordingError.OutOfMemory → build_ids_section file.entry.now header.now ≡ Ok None → ⊥ }
+    ensures placed { (error : RecordingError) → build_ids_section file.entry.now header.now ≡ Err error → result ≡ Err error }
 {
     let section = build_ids_section(file, header)?;
     read_build_ids_at(alloc, file, section)

@@ -79,10 +79,11 @@ pub(crate) fn word(bytes: &[u8], at: usize) -> Option<u64>
 
 /// Returns the number of eight bytes that is so many such numbers before the end, if the bytes have it.
 #[inline]
-pub(crate) fn word_from_end(bytes: &[u8], words: u32) -> Option<u64>
+pub(crate) fn word_from_end(bytes: &[u8], words: usize) -> Option<u64>
+    requires { words < 2 ^ 16 }
     ensures { result ≡ word_from_end bytes.now words }
 {
-    let size = 8 * words as usize;
+    let size = 8 * words;
     if size > bytes.len() {
         return None;
     }

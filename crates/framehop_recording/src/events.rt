@@ -1,14 +1,15 @@
 //! The events of a recording, and which record belongs to which.
-ghost use Rattle.std.specs.Prelude.{ℕ, ◌≡◌, ◌⊎◌, ◌==◌, ◌/◌, Ok, Err, IfErr, IfOk, OnOk, MatchResult, Some, length, map, nat_le, if◌then◌else◌};
+ghost use Rattle.std.specs.Prelude.{ℕ, ◌≡◌, ◌<◌, ◌≤◌, ◌^◌, ◌⊎◌, ◌==◌, ◌/◌, Ok, Err, IfErr, IfOk, OnOk, MatchResult, Some, length, map, nat_le, if◌then◌else◌};
 ghost use Rattle.std.specs.List.{list_any, list_all};
 ghost use Rattle.std.specs.Ordering.{nat_cmp};
 ghost use Rattle.std.specs.BTreeMap.{get};
 ghost use Rattle.std.proofs.Props.{props};
 ghost use Rattle.framehop_cfi.specs.Bytes.{le8};
 ghost use Rattle.framehop_recording.specs.Bytes.{offsets};
-ghost use Rattle.framehop_recording.specs.Attributes.{attribute_view};
+ghost use Rattle.framehop_recording.specs.Attributes.{attribute_view, attributes_of};
+ghost use Rattle.framehop_recording.specs.declared.error.RecordingError.{RecordingError};
 ghost use Rattle.framehop_recording.specs.Records.{record_view};
-ghost use Rattle.framehop_recording.specs.Events.{field_of, known_time, time_field, id_field, id_fields, is_like, are_told_apart, ids_size, event_with, event_of, time_of, events_of};
+ghost use Rattle.framehop_recording.specs.Events.{count_present, field_between, known_time, time_field, id_field, id_fields, is_like, are_told_apart, ids_size, event_with, event_of, time_of, events_of};
 
 use crate::attributes::{Attribute, read_attributes};
 use crate::bytes::{word, word_from_end};
@@ -16,32 +17,27 @@ use crate::error::RecordingError;
 use crate::header::Header;
 use crate::kind::{SAMPLE, USER_TYPE_START};
 use crate::records::Record;
+use crate::sample_type::{ADDR, CPU, ID, IDENTIFIER, IP, STREAM_ID, TID, TIME};
 use std::alloc::Global;
 use std::collections::BTreeMap;
 
-/// PERF_SAMPLE_TIME.
-const TIME: u64 = 0x4;
+/// The fields of a sample before its time.
+const BEFORE_TIME: [u64; 3] = [IDENTIFIER, IP, TID];
 
-/// PERF_SAMPLE_IDENTIFIER, PERF_SAMPLE_IP and PERF_SAMPLE_TID.
-const BEFORE_TIME: u64 = 0x10003;
+/// The fields at the end of another record from its time on.
+const FROM_TIME: [u64; 5] = [TIME, ID, STREAM_ID, CPU, IDENTIFIER];
 
-/// PERF_SAMPLE_TIME, PERF_SAMPLE_ID, PERF_SAMPLE_STREAM_ID, PERF_SAMPLE_CPU and PERF_SAMPLE_IDENTIFIER.
-const FROM_TIME: u64 = 0x102c4;
+/// The fields of a sample before its id.
+const BEFORE_ID: [u64; 5] = [IDENTIFIER, IP, TID, TIME, ADDR];
 
-/// PERF_SAMPLE_IDENTIFIER.
-const IDENTIFIER: u64 = 0x10000;
+/// The fields at the end of another record from its id on.
+const FROM_ID: [u64; 4] = [ID, STREAM_ID, CPU, IDENTIFIER];
 
-/// PERF_SAMPLE_ID.
-const ID: u64 = 0x40;
+/// The fields of which one is the id.
+const ANY_ID: u64 = IDENTIFIER | ID;
 
-/// PERF_SAMPLE_IDENTIFIER and PERF_SAMPLE_ID.
-const ANY_ID: u64 = 0x10040;
-
-/// PERF_SAMPLE_IP, PERF_SAMPLE_TID, PERF_SAMPLE_TIME and PERF_SAMPLE_ADDR.
-const BEFORE_ID: u64 = 0xf;
-
-/// PERF_SAMPLE_ID, PERF_SAMPLE_STREAM_ID and PERF_SAMPLE_CPU.
-const FROM_ID: u64 = 0x2c0;
+/// Which fields say where an id is that is no PERF_SAMPLE_IDENTIFIER.
+const AROUND_ID: u64 = IP | TID | TIME | ADDR | ID | STREAM_ID | CPU;
 
 /// The events of a recording.
 #[derive(Drop)]
@@ -53,20 +49,36 @@ pub struct Events<'a> {
     ghost indexed: { (id : ℕ) → get nat_cmp by_id id ≡ event_with (map attribute_view attributes.items) id } by { Prim.hlevel props },
 }
 
-/// Returns the field of a record of an event that comes after the fields of one mask in a sample, and
-/// is the first of those of another mask in the identity at the end of another record.
-#[tactic(auto, unfolding(crate::specs::Events::field_of))]
-fn field(attribute: &Attribute<'_>, record: Record<'_>, before: u64, from: u64) -> Option<u64>
-    ensures { result ≡ field_of (attribute_view attribute.now) (record_view «record».entry) before from }
+/// Returns how many of these fields a sample has.
+fn count_present(sample_type: u64, fields: &[u64]) -> usize
+    ensures exact { result ≡ count_present sample_type fields.now }
+    ensures bound { result ≤ length fields.now }
+{
+    let mut count = 0;
+    for field in fields {
+        if sample_type & *field != 0 {
+            count += 1;
+        }
+    }
+    count
+}
+
+/// Returns the field of a record of an event that comes after some fields in a sample, and is the first of
+/// others at the end of another record.
+#[tactic(auto, unfolding(crate::specs::Events::field_between))]
+fn field(attribute: &Attribute<'_>, record: Record<'_>, before: &[u64], from: &[u64]) -> Option<u64>
+    requires before_few { length before.now < 2 ^ 16 }
+    requires from_few { length from.now < 2 ^ 16 }
+    ensures { result ≡ field_between (attribute_view attribute.now) (record_view «record».entry) before.now from.now }
 {
     if record.kind == SAMPLE {
-        let before = (attribute.sample_type & before).count_ones() as usize;
+        let before = count_present(attribute.sample_type, before);
         return word(record.body, 8 * before);
     }
     if !attribute.sample_id_all || record.kind >= USER_TYPE_START {
         return None;
     }
-    word_from_end(record.body, (attribute.sample_type & from).count_ones())
+    word_from_end(record.body, count_present(attribute.sample_type, from))
 }
 
 /// A time that says that there is none.
@@ -87,7 +99,7 @@ fn time_field(attribute: &Attribute<'_>, record: Record<'_>) -> Option<u64>
     if attribute.sample_type & TIME == 0 {
         return None;
     }
-    known_time(field(attribute, record, BEFORE_TIME, FROM_TIME)?)
+    known_time(field(attribute, record, &BEFORE_TIME, &FROM_TIME)?)
 }
 
 /// Returns the id of the event that made a record, which has it where this event has it.
@@ -96,12 +108,12 @@ fn id_field(attribute: &Attribute<'_>, record: Record<'_>) -> Option<u64>
     ensures { result ≡ id_field (attribute_view attribute.now) (record_view «record».entry) }
 {
     if attribute.sample_type & IDENTIFIER != 0 {
-        return field(attribute, record, 0, IDENTIFIER);
+        return field(attribute, record, &[], &[IDENTIFIER]);
     }
     if attribute.sample_type & ID == 0 {
         return None;
     }
-    field(attribute, record, BEFORE_ID, FROM_ID)
+    field(attribute, record, &BEFORE_ID, &FROM_ID)
 }
 
 /// Returns which fields say where the id of an event's records is.
@@ -112,7 +124,7 @@ fn id_fields(attribute: &Attribute<'_>) -> u64
     if attribute.sample_type & IDENTIFIER != 0 {
         IDENTIFIER
     } else {
-        attribute.sample_type & (BEFORE_ID | FROM_ID)
+        attribute.sample_type & AROUND_ID
     }
 }
 
@@ -200,9 +212,10 @@ fn events_by_id(
 ///
 /// # Errors
 ///
-/// - `OutOfMemory`, and what [`read_attributes`] refuses;
+/// - What [`read_attributes`] refuses;
 /// - `MixedIds` where there are several events, and not each has an id in its records at one place;
-/// - `SharedIds` where the ids of all take more bytes than the file has.
+/// - `SharedIds` where the ids of all take more bytes than the file has;
+/// - `OutOfMemory`, where the attributes can be read.
 ///
 /// Source: Linux, `perf.data-file-format.txt`, `perf_file_attr`; `include/uapi/linux/perf_event.h`,
 /// PERF_RECORD_SAMPLE and `struct sample_id`.
@@ -215,6 +228,7 @@ pub fn read_events<'a>(
     ensures exact { MatchResult result
         (λ events. events_of file.entry.now header.now ≡ Ok (map attribute_view events.attributes.items))
         (λ error. (error ≡ RecordingError.OutOfMemory) ⊎ (events_of file.entry.now header.now ≡ Err error)) }
+    ensures named { (error : RecordingError) → attributes_of file.entry.now header.now ≡ Err error → result ≡ Err error }
 {
     let offset = header.attributes.offset;
     let attributes = read_attributes(alloc, file, header)?;

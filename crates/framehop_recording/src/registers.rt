@@ -1,6 +1,6 @@
 //! The user registers of a sample, for the unwinders.
-ghost use Rattle.std.specs.Prelude.{◌≡◌, ◌<◌};
-ghost use Rattle.framehop_recording.specs.Registers.{register_of, value_of, with_general, x86_64_registers, aarch64_registers};
+ghost use Rattle.std.specs.Prelude.{◌≡◌, ◌<◌, unwrap_or};
+ghost use Rattle.framehop_recording.specs.Registers.{register_at, with_general, x86_64_registers, aarch64_registers};
 
 use crate::bytes::word;
 use framehop_core::aarch64::{PtrAuthMask, UnwindRegsAarch64};
@@ -9,7 +9,7 @@ use framehop_core::x86_64::{Reg, UnwindRegsX86_64};
 /// Returns the register of a bit, if it was recorded.
 fn register(mask: u64, values: &[u8], bit: u64) -> Option<u64>
     requires { 0 < bit }
-    ensures { result ≡ register_of mask values.now bit }
+    ensures { result ≡ register_at mask values.now bit }
 {
     if mask & bit == 0 {
         return None;
@@ -21,7 +21,7 @@ fn register(mask: u64, values: &[u8], bit: u64) -> Option<u64>
 /// Returns the register of a bit, or 0 where it was not recorded.
 fn value(mask: u64, values: &[u8], bit: u64) -> u64
     requires { 0 < bit }
-    ensures { result ≡ value_of mask values.now bit }
+    ensures { result ≡ unwrap_or (register_at mask values.now bit) 0 }
 {
     register(mask, values, bit).unwrap_or(0)
 }

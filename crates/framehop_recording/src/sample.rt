@@ -1,8 +1,8 @@
 //! Samples of user stacks.
-ghost use Rattle.std.specs.Prelude.{◌≡◌, Ok, Err, MatchResult, None, if◌then◌else◌};
+ghost use Rattle.std.specs.Prelude.{◌≡◌, Ok, Err, IfOk, MatchResult, None, if◌then◌else◌};
 ghost use Rattle.framehop_recording.specs.Attributes.{attribute_view};
 ghost use Rattle.framehop_recording.specs.Records.{record_view};
-ghost use Rattle.framehop_recording.specs.Events.{known_time};
+ghost use Rattle.framehop_recording.specs.Events.{known_time, time_field};
 ghost use Rattle.framehop_recording.specs.Sample.{optional_at, after_chain, user_at, user_side, user_view, sample_at, sample_view};
 
 use crate::attributes::Attribute;
@@ -134,10 +134,10 @@ fn read_user_side<'a>(
 {
     let offset = record.offset;
     let kind = attribute.sample_type;
-    if kind & (REGS_USER | STACK_USER) != REGS_USER | STACK_USER {
+    if kind & REGS_USER == 0 || kind & STACK_USER == 0 {
         return Err(RecordingError::NoUserStack { offset });
     }
-    if kind & (READ | RAW | BRANCH_STACK) != 0 {
+    if kind & READ != 0 || kind & RAW != 0 || kind & BRANCH_STACK != 0 {
         return Err(RecordingError::UnsupportedField { offset });
     }
     let short = RecordingError::ShortRecord { offset };
@@ -151,22 +151,9 @@ fn read_user_side<'a>(
     read_user(offset, attribute.sample_regs_user, bytes, at)
 }
 
-/// Reads a sample of an event from its record. Where the registers or the stack can't be read, the sample
-/// says why, and still has its thread and its time.
-///
-/// # Errors
-///
-/// `OtherKind` where the record is no PERF_RECORD_SAMPLE, `NoThread` where the samples of the event have no
-/// instruction pointer or no thread, and `ShortRecord` where the record ends before these and the time do.
-///
-/// Those of the field `user` are:
-///
-/// - of the event: `NoUserStack` and `UnsupportedField`;
-/// - of the sample: `NoUserRegisters`, `Process32Bit`, `UnknownAbi` and `ShortRecord`.
-///
-/// Source: Linux, `include/uapi/linux/perf_event.h`, PERF_RECORD_SAMPLE.
+/// Reads the fields of a sample of an event from its record.
 #[tactic(auto, unfolding(crate::specs::Sample::sample_at))]
-pub fn read_sample<'a>(
+fn read_fields<'a>(
     attribute: &Attribute<'_>,
     record: Record<'a>,
 ) -> Result<Sample<'a>, RecordingError>
@@ -179,7 +166,7 @@ pub fn read_sample<'a>(
         return Err(RecordingError::OtherKind { offset });
     }
     let kind = attribute.sample_type;
-    if kind & (IP | TID) != IP | TID {
+    if kind & IP == 0 || kind & TID == 0 {
         return Err(RecordingError::NoThread { offset });
     }
     let short = RecordingError::ShortRecord { offset };
@@ -198,4 +185,31 @@ pub fn read_sample<'a>(
         time,
         user,
     })
+}
+
+/// Reads a sample of an event from its record. Where the registers or the stack can't be read, the sample
+/// says why, and still has its thread and its time.
+///
+/// # Errors
+///
+/// `OtherKind` where the record is no PERF_RECORD_SAMPLE, `NoThread` where the samples of the event have no
+/// instruction pointer or no thread, and `ShortRecord` where the record ends before these and the time do.
+///
+/// Those of the field `user` are:
+///
+/// - of the event: `NoUserStack` and `UnsupportedField`;
+/// - of the sample: `NoUserRegisters`, `Process32Bit`, `UnknownAbi` and `ShortRecord`.
+///
+/// Source: Linux, `include/uapi/linux/perf_event.h`, PERF_RECORD_SAMPLE.
+pub fn read_sample<'a>(
+    attribute: &Attribute<'_>,
+    record: Record<'a>,
+) -> Result<Sample<'a>, RecordingError>
+    ensures exact { MatchResult result
+        (λ sample. sample_at (attribute_view attribute.now) (record_view «record».entry) ≡ Ok (sample_view sample))
+        (λ error. sample_at (attribute_view attribute.now) (record_view «record».entry) ≡ Err error) }
+    ensures timed { IfOk result (λ sample. sample.time ≡ time_field (attribute_view attribute.now) (record_view «record».entry)) }
+{
+    let sample = read_fields(attribute, record)?;
+    Ok(sample)
 }

@@ -91,9 +91,16 @@ fn reads_mappings(rt: HostRuntime) -> Result<(), Fail> {
     let mapping = read_mapping(record)?;
     assert_eq!(rt; (mapping.pid, mapping.start), (21966, 0x401000));
     assert_eq!(rt; (mapping.size, mapping.offset), (0x1000, 0x1000));
+    assert!(rt; mapping.is_executable);
     assert_eq!(rt; mapping.name, b"/usr/bin/tiny".as_slice());
     let build_id = hex::decode(alloc, "b2ec3d8f8d18218088ec54db8115c2525b70cb9b")?;
     assert_eq!(rt; mapping.build_id, build_id.as_slice());
+
+    // with PERF_RECORD_MISC_MMAP_DATA, as perf has it for the file's other segments
+    let mut other = hex::decode(alloc, MAPPING)?;
+    *other.get_mut(5).ok_or("no flags")? = 0x60;
+    let mapping = read_mapping(first_record(alloc, other.as_slice())?)?;
+    assert!(rt; !mapping.is_executable);
     Ok(())
 }
 

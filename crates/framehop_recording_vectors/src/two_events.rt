@@ -115,9 +115,38 @@ fn tells_two_events_apart(rt: HostRuntime) -> Result<(), Fail> {
     assert_eq!(rt; events.event_of(sample(&TASK_CLOCK)), Some(1));
     assert_eq!(rt; events.event_of(record(alloc, &MADE_UP)?), Some(0));
     assert_eq!(rt; events.event_of(record(alloc, &EXEC)?), Some(0));
+    // an exec whose time says that there is none
+    let mut timeless = EXEC;
+    for at in 32..40 {
+        timeless[at] = 0xff;
+    }
+    assert_eq!(rt; events.time_of(record(alloc, &timeless)?), None);
     // a PERF_RECORD_FINISHED_ROUND, which has no id
     let round = [0x44, 0, 0, 0, 0, 0, 8, 0];
     assert_eq!(rt; events.event_of(record(alloc, &round)?), None);
+    Ok(())
+}
+
+/// The sample of an event without PERF_SAMPLE_ADDR.
+fn without_address(alloc: Global, body: &[u8; 48]) -> Result<Vec<u8>, Fail> {
+    let mut short = Vec::from_slice(alloc, &body[..24])?;
+    short.extend_from_slice(&body[32..])?;
+    Ok(short)
+}
+
+#[test]
+fn finds_ids_where_samples_have_no_address(rt: HostRuntime) -> Result<(), Fail> {
+    let alloc = rt.alloc();
+    let mut front = FRONT;
+    // the sample_type of both attributes without PERF_SAMPLE_ADDR
+    front[192] = 0x67;
+    front[336] = 0x67;
+    let header = read_header(&front)?;
+    let events = read_events(alloc, &front, &header)?;
+    let cpu_clock = without_address(alloc, &CPU_CLOCK)?;
+    assert_eq!(rt; events.event_of(sample(cpu_clock.as_slice())), Some(0));
+    let task_clock = without_address(alloc, &TASK_CLOCK)?;
+    assert_eq!(rt; events.event_of(sample(task_clock.as_slice())), Some(1));
     Ok(())
 }
 
@@ -172,12 +201,43 @@ fn reads_build_ids(rt: HostRuntime) -> Result<(), Fail> {
     ];
     assert_eq!(rt; read[1].build_id, vdso.as_slice());
     assert_eq!(rt; read[1].name, b"[vdso]".as_slice());
+    // after the section of HEADER_TRACING_DATA, and with a build id of 16 bytes
+    let mut moved = Vec::from_slice(alloc, &[0; 16])?;
+    moved.extend_from_slice(&BUILD_IDS)?;
+    *moved.get_mut(16).ok_or("no offset")? = 0x20;
+    *moved.get_mut(64).ok_or("no size")? = 16;
+    let second = Header {
+        features: 0x86717ffe,
+        ..header
+    };
+    let read = read_build_ids(alloc, moved.as_slice(), &second)?;
+    assert_eq!(rt; read.len(), 2);
+    assert_eq!(rt; read[0].build_id, leaf.get(..16).ok_or("no build id")?);
     // without the feature there is no section
     let none = Header {
         features: 0x86717ff8,
         ..header
     };
     assert_eq!(rt; read_build_ids(alloc, &BUILD_IDS, &none)?.len(), 0);
+    Ok(())
+}
+
+#[test]
+fn passes_over_the_data_of_auxtrace(rt: HostRuntime) -> Result<(), Fail> {
+    let alloc = rt.alloc();
+    // a PERF_RECORD_AUXTRACE with eight bytes after it, and a PERF_RECORD_FINISHED_ROUND
+    let bytes = [
+        71, 0, 0, 0, 0, 0, 16, 0, 8, 0, 0, 0, 0, 0, 0, 0, 1, 0, 0, 0, 0, 0, 8, 0, 0x44, 0, 0, 0, 0,
+        0, 8, 0,
+    ];
+    let section = Section {
+        offset: 0,
+        size: 32,
+    };
+    let read = read_records(alloc, &bytes, section)?;
+    assert_eq!(rt; read.refusal, None);
+    assert_eq!(rt; read.records.len(), 2);
+    assert_eq!(rt; read.records.get(1).map(|record| record.kind), Some(0x44));
     Ok(())
 }
 

@@ -1,14 +1,8 @@
-//! Worked examples of the library, with the values that are to come out. This crate has only tests.
+//! Worked examples of the library that only calls can show: the other rows are in `cases/`. This crate has only tests.
 #![tactic(auto)]
 
 #[cfg(test)]
 mod asked_names;
-#[cfg(test)]
-mod bad_entries;
-#[cfg(test)]
-mod call_frames;
-#[cfg(test)]
-mod call_frames_aarch64;
 #[cfg(test)]
 mod commands;
 #[cfg(test)]
@@ -23,8 +17,6 @@ mod readme;
 mod section_info;
 #[cfg(test)]
 mod sections;
-#[cfg(test)]
-mod sizes;
 #[cfg(test)]
 mod stack_bytes;
 #[cfg(test)]

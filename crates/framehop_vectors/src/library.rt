@@ -1,8 +1,11 @@
 //! The library on aarch64: an iterator, steps, and the list of modules.
 use crate::readme::{module, read_stack};
+use crate::sections::NoSections;
 use framehop::aarch64::{CacheAarch64, UnwindRegsAarch64, UnwinderAarch64};
 use framehop::unwinder::{ModuleListError, Unwinder};
-use framehop::{FrameAddress, Generations, MayAllocateDuringUnwind, MustNotAllocateDuringUnwind};
+use framehop::{
+    FrameAddress, Generations, MayAllocateDuringUnwind, Module, MustNotAllocateDuringUnwind,
+};
 use std::test::Fail;
 
 #[test]
@@ -65,7 +68,13 @@ fn tells_the_greatest_code_address(rt: HostRuntime) -> Result<(), Fail> {
     let mut generations = Generations::new();
     let mut unwinder: UnwinderAarch64<Vec<u8>> = UnwinderAarch64::new(alloc, &mut generations)?;
     assert_eq!(rt; unwinder.max_known_code_address(), 0);
-    for (start, end, greatest) in [(10, 20, 20), (40, 60, 60), (20, 30, 60), (10, 70, 70)] {
+    for (start, end, greatest) in [
+        (5, 5, 5),
+        (10, 20, 20),
+        (40, 60, 60),
+        (20, 30, 60),
+        (10, 70, 70),
+    ] {
         assert!(rt;
             unwinder
                 .add_module(module(alloc, "m", start, end)?, &mut generations)
@@ -78,6 +87,45 @@ fn tells_the_greatest_code_address(rt: HostRuntime) -> Result<(), Fail> {
     unwinder.remove_module(10, &mut generations)?;
     assert_eq!(rt; unwinder.max_known_code_address(), 60);
     assert_eq!(rt; copy.max_known_code_address(), 70);
+    Ok(())
+}
+
+#[test]
+fn holds_a_hundred_modules(rt: HostRuntime) -> Result<(), Fail> {
+    let alloc = rt.alloc();
+    let mut generations = Generations::new();
+    let mut unwinder: UnwinderAarch64<Vec<u8>> = UnwinderAarch64::new(alloc, &mut generations)?;
+    for number in 0..100u64 {
+        // from the greatest start down
+        let start = 0x100000 - number * 0x1000;
+        let added = module(alloc, "m", start, start + 0x1000)?;
+        assert!(rt; unwinder.add_module(added, &mut generations).is_ok());
+        assert_eq!(rt; unwinder.max_known_code_address(), 0x101000);
+    }
+    for number in 0..100u64 {
+        assert_eq!(rt;
+            unwinder.max_known_code_address(),
+            0x101000 - number * 0x1000
+        );
+        unwinder.remove_module(0x100000 - number * 0x1000, &mut generations)?;
+    }
+    assert_eq!(rt; unwinder.max_known_code_address(), 0);
+    assert_eq!(rt; generations.next(), Some(201));
+    Ok(())
+}
+
+#[test]
+fn clones_a_module_of_another_base(rt: HostRuntime) -> Result<(), Fail> {
+    let alloc = rt.alloc();
+    let name = String::from_str(alloc, "library")?;
+    let sections = NoSections { base_svma: 0x4000 };
+    let library: Module<Vec<u8>> = Module::new(alloc, name, 0x9000..0xa000, 0x8000, sections)?;
+    let copy = library.clone()?;
+    assert_eq!(rt;
+        (copy.avma_range(), copy.base_avma()),
+        (0x9000..0xa000, 0x8000)
+    );
+    assert_eq!(rt; copy.name(), "library");
     Ok(())
 }
 

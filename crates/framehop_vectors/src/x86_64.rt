@@ -77,36 +77,3 @@ fn walks_where_no_memory_may_be_taken(rt: HostRuntime) -> Result<(), Fail> {
     let alloc = rt.alloc();
     walks::<MustNotAllocateDuringUnwind, HostRuntime>(&rt, alloc)
 }
-
-/// Addresses that are 509 apart share a set of two entries.
-#[test]
-fn has_509_sets(rt: HostRuntime) -> Result<(), Fail> {
-    let alloc = rt.alloc();
-    let mut generations = Generations::new();
-    let mut cache = CacheX86_64::<MayAllocateDuringUnwind>::new(alloc)?;
-    let unwinder: UnwinderX86_64<Vec<u8>> = UnwinderX86_64::new(alloc, &mut generations)?;
-    let mut read = |address| read_stack(address);
-    for (address, counts) in [
-        (0x1000, (0, 1, 0, 0)),
-        (0x11fd, (0, 2, 0, 0)),
-        (0x1000, (1, 2, 0, 0)),
-        (0x13fa, (1, 2, 0, 1)),
-        (0x1000, (1, 2, 0, 2)),
-    ] {
-        let mut regs = UnwindRegsX86_64::new(address, 0x10, 0);
-        let frame = FrameAddress::from_instruction_pointer(address);
-        let caller = unwinder.unwind_frame(frame, &mut regs, &mut cache, &mut read)?;
-        assert_eq!(rt; caller, None);
-        let stats = cache.stats();
-        assert_eq!(rt;
-            (
-                stats.hit_count,
-                stats.miss_empty_slot_count,
-                stats.miss_wrong_modules_count,
-                stats.miss_wrong_address_count,
-            ),
-            counts
-        );
-    }
-    Ok(())
-}

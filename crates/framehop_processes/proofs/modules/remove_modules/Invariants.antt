@@ -1,4 +1,4 @@
-use Rattle.std.proofs.Common.{◌≡◌, ◌≤◌, ◌++◌, List, drop, map}
+use Rattle.std.proofs.Common.{◌≡◌, ◌+◌, ◌≤◌, ◌++◌, List, drop, map}
 use Rattle.framehop.specs.Modules.{ModuleView}
 use Rattle.framehop_processes.specs.declared.mapping.Mapping.{Mapping}
 use Rattle.framehop_processes.specs.Mappings.{IsInOrder}
@@ -12,4 +12,5 @@ invariant-loop-mapping g l =
     → IsInOrder 0 (before ++ (l.removed ++ after))
     → (g.U.Unwinder.unwinder_view l.fn.unwinder).modules ≡ map module_of (before ++ (l.removed ++ after))
     → IsInOrder 0 (before ++ (drop l.mapping-index l.removed ++ after))
-    × ((g.U.Unwinder.unwinder_view l.unwinder).modules ≡ map module_of (before ++ (drop l.mapping-index l.removed ++ after))))
+    × ((g.U.Unwinder.unwinder_view l.unwinder).modules ≡ map module_of (before ++ (drop l.mapping-index l.removed ++ after)))
+    × (l.generations ≡ l.fn.generations + l.mapping-index))

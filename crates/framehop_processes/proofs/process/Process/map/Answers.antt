@@ -1,10 +1,25 @@
-use Rattle.std.proofs.Common.{List, map, sym, ap, ◌∙◌, subst}
-use Rattle.framehop.specs.Modules.{ModuleView, UnwinderView, with_module}
+use Rattle.std.proofs.Common.{◌≡◌, ℕ, ◌+◌, ◌<◌, ◌^◌, ◌-◌, ◌∷◌, ◌++◌, List, length, map, Err, sym, ap, ◌∙◌, subst, arith}
+use Rattle.std.proofs.lemmas.List.{length-append}
+use Rattle.std.proofs.lemmas.Result.{err_from_is_err_and}
+use Rattle.framehop.specs.Modules.{ModuleView, UnwinderView}
 use Rattle.framehop_processes.specs.declared.mapping.Mapping.{Mapping}
-use Rattle.framehop_processes.specs.Mappings.{IsInOrder, with_mapping}
+use Rattle.framehop_processes.specs.Mappings.{IsInOrder, below, above, with_mapping, overlapped, changed_modules}
 use Rattle.framehop_processes.specs.Process.{ProcessView, StartsAt}
-use Rattle.framehop_processes.proofs.MappingLemmas.{with_mapping-order, parts-whole, parts-joined, parts-modules}
+use Rattle.framehop_processes.proofs.MappingLemmas.{with_mapping-order, whole-parts, mapped-parts, overlapped-middle}
 use Rattle.framehop_processes.proofs.process.Process.map.Goals as goal
+
+-- how many modules change, by the mappings that are overlapped
+changed-is : (new : Mapping) (ms middle changed : List Mapping) → overlapped new ms ≡ middle → changed ≡ with_mapping new middle → changed_modules new ms ≡ length middle + length changed
+changed-is new ms middle changed is are =
+    ap (λ (l : List Mapping). length l + length (with_mapping new l)) is
+    ∙ ap (λ (l : List Mapping). length middle + length l) (sym are)
+
+-- the new mapping is among those that come
+some-change : (new : Mapping) (middle changed : List Mapping) → changed ≡ with_mapping new middle → 0 < length changed
+some-change new middle changed are =
+    let count = length-append (below new.start middle) (new ∷ above new.end middle) in
+    let same = ap length are in
+    omega (arith, count, same)
 
 pub invariant_of-self : goal.invariant_of-self
 invariant_of-self g c =
@@ -12,9 +27,13 @@ invariant_of-self g c =
     let ms = c.as_slice.result.now in
     let first = c.split_ending_by.ensures in
     let last = c.split_starting_below.ensures in
-    let joined = c.in_ok-mappings.ensures ∙ parts-joined new ms c.split_ending_by.result.0.now c.split_ending_by.result.1.now c.split_starting_below.result.0.now c.split_starting_below.result.1.now first.whole first.before last.whole last.after in
+    let some = c.if-mapping.false in
     let order = subst (λ (l : List Mapping). IsInOrder 0 l) (sym c.as_slice.ensures.value) c.self.invariant in
-    subst (λ (l : List Mapping). IsInOrder 0 l) (sym joined) (with_mapping-order new ms order)
+    let changed = c.as_slice-2.ensures.value ∙ c.in_ok-changed.ensures in
+    let all = c.in_ok-mappings.ensures
+    ∙ ap (λ (middle : List Mapping). c.split_ending_by.result.0.now ++ (middle ++ c.split_starting_below.result.1.now)) changed
+    ∙ mapped-parts new some ms c.split_ending_by.result.0.now c.split_ending_by.result.1.now c.split_starting_below.result.0.now c.split_starting_below.result.1.now first.whole first.before last.whole last.after order in
+    subst (λ (l : List Mapping). IsInOrder 0 l) (sym all) (with_mapping-order new ms some order)
 
 pub returns-clause-mapped : goal.returns-clause-mapped
 returns-clause-mapped g c =
@@ -22,9 +41,12 @@ returns-clause-mapped g c =
     let ms = c.as_slice.result.now in
     let first = c.split_ending_by.ensures in
     let last = c.split_starting_below.ensures in
+    let order = subst (λ (l : List Mapping). IsInOrder 0 l) (sym c.as_slice.ensures.value) c.self.invariant in
     let same = c.as_slice.ensures.value ∙ ap (λ (p : ProcessView). p.mappings) c.self.view_is in
+    let changed = c.as_slice-2.ensures.value ∙ c.in_ok-changed.ensures in
     c.in_ok-mappings.ensures
-    ∙ parts-joined new ms c.split_ending_by.result.0.now c.split_ending_by.result.1.now c.split_starting_below.result.0.now c.split_starting_below.result.1.now first.whole first.before last.whole last.after
+    ∙ ap (λ (middle : List Mapping). c.split_ending_by.result.0.now ++ (middle ++ c.split_starting_below.result.1.now)) changed
+    ∙ mapped-parts new c.if-mapping.false ms c.split_ending_by.result.0.now c.split_ending_by.result.1.now c.split_starting_below.result.0.now c.split_starting_below.result.1.now first.whole first.before last.whole last.after order
     ∙ ap (with_mapping new) same
 
 pub returns-clause-served : goal.returns-clause-served
@@ -33,22 +55,104 @@ returns-clause-served g c =
     let ms = c.as_slice.result.now in
     let before = c.split_ending_by.result.0.now in
     let rest = c.split_ending_by.result.1.now in
-    let overlapped = c.split_starting_below.result.0.now in
+    let middle = c.split_starting_below.result.0.now in
     let after = c.split_starting_below.result.1.now in
     let first = c.split_ending_by.ensures in
     let last = c.split_starting_below.ensures in
+    let some = c.if-mapping.false in
     let module_of : Mapping → ModuleView = g.M.ModuleMaker.module_of c.args.maker.now in
     let starts : StartsAt module_of = λ m. g.met.M.ModuleMaker.start_is c.args.maker.now m in
-    let whole = parts-whole new ms before rest overlapped after first.whole first.before last.whole last.after in
-    let joined = c.in_ok-mappings.ensures ∙ parts-joined new ms before rest overlapped after first.whole first.before last.whole last.after in
     let order = subst (λ (l : List Mapping). IsInOrder 0 l) (sym c.as_slice.ensures.value) c.self.invariant in
     let same = c.as_slice.ensures.value ∙ ap (λ (p : ProcessView). p.mappings) c.self.view_is in
+    let whole = whole-parts new some ms before rest middle after first.whole first.before last.whole last.after order in
+    let mapped = mapped-parts new some ms before rest middle after first.whole first.before last.whole last.after order in
+    let added = c.as_slice-3.ensures.value ∙ c.in_ok-changed.ensures in
+    let all = ap (λ (l : List Mapping). before ++ (l ++ after)) added ∙ mapped in
     let copied = g.met.U.ProcessUnwinder.clone_is_same c.self.inside.unwinder c.in_ok-unwinder.unwinder c.in_ok-unwinder.ensures.cases in
     let unwinder = copied ∙ ap (λ (p : ProcessView). p.unwinder) c.self.view_is in
     let modules = ap (λ (u : UnwinderView). u.modules) unwinder ∙ c.requires ∙ ap (map module_of) (sym same ∙ whole) in
     let removed = c.in_ok-remove_modules.ensures.removed module_of starts before after (subst (λ (l : List Mapping). IsInOrder 0 l) whole order) modules in
-    c.in_ok-add_module.ensures.added
-    ∙ ap (λ (m : ModuleView). with_module m (g.U.Unwinder.unwinder_view c.remove_modules.new.unwinder).modules) c.in_ok-made.ensures
-    ∙ ap (with_module (module_of new)) removed
-    ∙ parts-modules new ms before rest overlapped after first.whole first.before last.whole last.after module_of starts order
-    ∙ ap (map module_of) (sym joined)
+    let in_order = subst (λ (l : List Mapping). IsInOrder 0 l) (sym all) (with_mapping-order new ms some order) in
+    let listed = c.in_ok-mappings.ensures
+    ∙ ap (λ (l : List Mapping). before ++ (l ++ after)) (c.as_slice-2.ensures.value ∙ c.in_ok-changed.ensures) ∙ mapped in
+    c.in_ok-add_modules.ensures.added before after in_order removed.0
+    ∙ ap (map module_of) (all ∙ sym listed)
+
+pub returns-clause-counted : goal.returns-clause-counted
+returns-clause-counted g c =
+    let new = c.args.mapping in
+    let ms = c.as_slice.result.now in
+    let before = c.split_ending_by.result.0.now in
+    let rest = c.split_ending_by.result.1.now in
+    let middle = c.split_starting_below.result.0.now in
+    let after = c.split_starting_below.result.1.now in
+    let first = c.split_ending_by.ensures in
+    let last = c.split_starting_below.ensures in
+    let some = c.if-mapping.false in
+    let module_of : Mapping → ModuleView = g.M.ModuleMaker.module_of c.args.maker.now in
+    let starts : StartsAt module_of = λ m. g.met.M.ModuleMaker.start_is c.args.maker.now m in
+    let order = subst (λ (l : List Mapping). IsInOrder 0 l) (sym c.as_slice.ensures.value) c.self.invariant in
+    let same = c.as_slice.ensures.value ∙ ap (λ (p : ProcessView). p.mappings) c.self.view_is in
+    let whole = whole-parts new some ms before rest middle after first.whole first.before last.whole last.after order in
+    let copied = g.met.U.ProcessUnwinder.clone_is_same c.self.inside.unwinder c.in_ok-unwinder.unwinder c.in_ok-unwinder.ensures.cases in
+    let unwinder = copied ∙ ap (λ (p : ProcessView). p.unwinder) c.self.view_is in
+    let modules = ap (λ (u : UnwinderView). u.modules) unwinder ∙ c.requires ∙ ap (map module_of) (sym same ∙ whole) in
+    let removed = c.in_ok-remove_modules.ensures.removed module_of starts before after (subst (λ (l : List Mapping). IsInOrder 0 l) whole order) modules in
+    let added = c.as_slice-3.ensures.value ∙ c.in_ok-changed.ensures in
+    let count = ap (changed_modules new) (sym same) ∙ changed-is new ms middle c.as_slice-3.result.now (overlapped-middle new some ms before rest middle after first.whole first.before last.whole last.after order) added in
+    let gone = removed.1 in
+    let come = c.in_ok-add_modules.ensures.drawn in (
+      omega (arith, count, gone, come),
+      c.in_ok-add_modules.ensures.last (some-change new middle c.as_slice-3.result.now added),
+    )
+
+pub returns-in_err-remove_modules-clause-exhausted : goal.returns-in_err-remove_modules-clause-exhausted
+returns-in_err-remove_modules-clause-exhausted g c is =
+    let new = c.args.mapping in
+    let ms = c.as_slice.result.now in
+    let before = c.split_ending_by.result.0.now in
+    let rest = c.split_ending_by.result.1.now in
+    let middle = c.split_starting_below.result.0.now in
+    let after = c.split_starting_below.result.1.now in
+    let first = c.split_ending_by.ensures in
+    let last = c.split_starting_below.ensures in
+    let some = c.if-mapping.false in
+    let module_of : Mapping → ModuleView = g.M.ModuleMaker.module_of c.args.maker.now in
+    let starts : StartsAt module_of = λ m. g.met.M.ModuleMaker.start_is c.args.maker.now m in
+    let order = subst (λ (l : List Mapping). IsInOrder 0 l) (sym c.as_slice.ensures.value) c.self.invariant in
+    let same = c.as_slice.ensures.value ∙ ap (λ (p : ProcessView). p.mappings) c.self.view_is in
+    let whole = whole-parts new some ms before rest middle after first.whole first.before last.whole last.after order in
+    let copied = g.met.U.ProcessUnwinder.clone_is_same c.self.inside.unwinder c.in_ok-unwinder.unwinder c.in_ok-unwinder.ensures.cases in
+    let unwinder = copied ∙ ap (λ (p : ProcessView). p.unwinder) c.self.view_is in
+    let modules = ap (λ (u : UnwinderView). u.modules) unwinder ∙ c.requires ∙ ap (map module_of) (sym same ∙ whole) in
+    let count = ap (changed_modules new) (sym same) ∙ changed-is new ms middle c.in_ok-changed.changed.items (overlapped-middle new some ms before rest middle after first.whole first.before last.whole last.after order) c.in_ok-changed.ensures in
+    let ended = c.in_err-remove_modules.ensures.exhausted in
+    let short = ended.2 module_of starts before after (subst (λ (l : List Mapping). IsInOrder 0 l) whole order) modules in
+    (ended.1, omega (arith, count, short))
+
+pub returns-in_err-add_modules-clause-exhausted : goal.returns-in_err-add_modules-clause-exhausted
+returns-in_err-add_modules-clause-exhausted g c is =
+    let new = c.args.mapping in
+    let ms = c.as_slice.result.now in
+    let before = c.split_ending_by.result.0.now in
+    let rest = c.split_ending_by.result.1.now in
+    let middle = c.split_starting_below.result.0.now in
+    let after = c.split_starting_below.result.1.now in
+    let first = c.split_ending_by.ensures in
+    let last = c.split_starting_below.ensures in
+    let some = c.if-mapping.false in
+    let module_of : Mapping → ModuleView = g.M.ModuleMaker.module_of c.args.maker.now in
+    let starts : StartsAt module_of = λ m. g.met.M.ModuleMaker.start_is c.args.maker.now m in
+    let order = subst (λ (l : List Mapping). IsInOrder 0 l) (sym c.as_slice.ensures.value) c.self.invariant in
+    let same = c.as_slice.ensures.value ∙ ap (λ (p : ProcessView). p.mappings) c.self.view_is in
+    let whole = whole-parts new some ms before rest middle after first.whole first.before last.whole last.after order in
+    let copied = g.met.U.ProcessUnwinder.clone_is_same c.self.inside.unwinder c.in_ok-unwinder.unwinder c.in_ok-unwinder.ensures.cases in
+    let unwinder = copied ∙ ap (λ (p : ProcessView). p.unwinder) c.self.view_is in
+    let modules = ap (λ (u : UnwinderView). u.modules) unwinder ∙ c.requires ∙ ap (map module_of) (sym same ∙ whole) in
+    let removed = c.in_ok-remove_modules.ensures.removed module_of starts before after (subst (λ (l : List Mapping). IsInOrder 0 l) whole order) modules in
+    let gone = removed.1 in
+    let count = ap (changed_modules new) (sym same) ∙ changed-is new ms middle c.as_slice-3.result.now (overlapped-middle new some ms before rest middle after first.whole first.before last.whole last.after order) (c.as_slice-3.ensures.value ∙ c.in_ok-changed.ensures) in
+    let p = err_from_is_err_and c.from_residual-in_err-add_modules.result c.from_residual-in_err-add_modules.ensures.1 in
+    let ended = c.in_err-add_modules.ensures.exhausted (sym (p.1 ∙ ap (λ error. Err error) p.2) ∙ is) in
+    let short = ended.1 in
+    (ended.0, omega (arith, count, gone, short))

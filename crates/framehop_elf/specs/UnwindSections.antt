@@ -1,0 +1,80 @@
+-- The sections of a file that an unwinder needs, by their names.
+use Rattle.std.specs.Prelude.{ℕ, ◌+◌, ◌-◌, ◌^◌, ◌==◌, if◌then◌else◌, List, codes, Option, None, option_map, option_and_then, min, Vec}
+use Rattle.std.specs.Result.{result_ok}
+use Rattle.std.specs.declared.alloc.Global.{Global}
+use Rattle.std.specs.declared.ops.Range.{Range}
+use Rattle.framehop_cfi.specs.declared.section.ExplicitModuleSectionInfo.{ExplicitModuleSectionInfo}
+use Rattle.framehop_elf.specs.Numbers.{SHT_NOBITS}
+use Rattle.framehop_elf.specs.Section.{contents_of, section_called}
+use Rattle.framehop_elf.specs.declared.section_header.SectionHeader.{SectionHeader}
+
+-- where a section is; one that ends above the last address ends at it
+abbrev pub range_in : SectionHeader → Range ℕ
+range_in section = record { start = section.sh_addr; end = min (section.sh_addr + section.sh_size) (2 ^ 64 - 1) }
+
+-- a section, and what it holds
+abbrev pub Stored : Type 0
+Stored = SectionHeader × List ℕ
+
+-- what the file holds of a section: nothing where it has no bytes in the file, or its contents are refused
+abbrev pub stored_in : List ℕ → SectionHeader → Option (List ℕ)
+stored_in file section = if section.sh_type == SHT_NOBITS then None else result_ok (contents_of file section)
+
+-- the section of a name, if the file holds it
+abbrev pub stored_called : List ℕ → List SectionHeader → List ℕ → List ℕ → Option Stored
+stored_called file sections names name =
+    option_and_then (λ section. option_map (λ contents. (section, contents)) (stored_in file section))
+    (section_called sections names name)
+
+abbrev pub range_of : Option Stored → Option (Range ℕ)
+range_of stored = option_map (λ s. range_in s.0) stored
+
+abbrev pub data_of : Option Stored → Option (List ℕ)
+data_of stored = option_map (λ s. s.1) stored
+
+-- What an unwinder is to know of a file: where its code and its global offset table are, and the call frame sections that
+-- the file holds. One that is refused counts as absent.
+abbrev pub unwind_sections_of : List ℕ → List SectionHeader → List ℕ → ExplicitModuleSectionInfo (List ℕ)
+unwind_sections_of file sections names =
+    let eh_frame = stored_called file sections names (codes ".eh_frame") in
+    let eh_frame_hdr = stored_called file sections names (codes ".eh_frame_hdr") in
+    let debug_frame = stored_called file sections names (codes ".debug_frame") in
+    record {
+      base_svma = 0;
+      text_svma = option_map range_in (section_called sections names (codes ".text"));
+      text = None;
+      stubs_svma = None;
+      stub_helper_svma = None;
+      got_svma = option_map range_in (section_called sections names (codes ".got"));
+      unwind_info = None;
+      eh_frame_svma = range_of eh_frame;
+      eh_frame = data_of eh_frame;
+      eh_frame_hdr_svma = range_of eh_frame_hdr;
+      eh_frame_hdr = data_of eh_frame_hdr;
+      debug_frame = data_of debug_frame;
+      text_segment_svma = None;
+      text_segment = None;
+    }
+
+-- the bytes of data, if there are some
+abbrev pub bytes_in : Option (Vec ℕ Global) → Option (List ℕ)
+bytes_in contents = option_map (λ (bytes : Vec ℕ Global). bytes.items) contents
+
+-- the sections of a module by the bytes of their data
+abbrev pub sections_view : ExplicitModuleSectionInfo (Vec ℕ Global) → ExplicitModuleSectionInfo (List ℕ)
+sections_view info = record {
+  base_svma = info.base_svma;
+  text_svma = info.text_svma;
+  text = bytes_in info.text;
+  stubs_svma = info.stubs_svma;
+  stub_helper_svma = info.stub_helper_svma;
+  got_svma = info.got_svma;
+  unwind_info = bytes_in info.unwind_info;
+  eh_frame_svma = info.eh_frame_svma;
+  eh_frame = bytes_in info.eh_frame;
+  eh_frame_hdr_svma = info.eh_frame_hdr_svma;
+  eh_frame_hdr = bytes_in info.eh_frame_hdr;
+  debug_frame = bytes_in info.debug_frame;
+  text_segment_svma = info.text_segment_svma;
+  text_segment = bytes_in info.text_segment;
+}
