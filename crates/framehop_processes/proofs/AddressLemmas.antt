@@ -1,5 +1,5 @@
 -- What is mapped at each address after a new mapping.
-use Rattle.std.proofs.Common.{◌≡◌, ℕ, ◌<◌, ◌≤◌, Bool, true, false, cond, nat_le, nat_lt, ◌&&◌, min, max, List, [], ◌∷◌, ◌++◌, filter, map, Option, Some, None, option_map, refl, ap, sym, ◌∙◌, arith}
+use Rattle.std.proofs.Common.{◌≡◌, ℕ, ◌<◌, ◌≤◌, Bool, true, false, cond, nat_le, nat_lt, ◌&&◌, min, max, List, [], ◌∷◌, ◌++◌, filter, map, Option, Some, None, option_map, refl, ap, ◌∙◌, arith}
 use Rattle.std.specs.List.{find}
 use Rattle.std.proofs.lemmas.Bool.{leb-true, leb-false, ltb-true, ltb-false, le-leb, lt-leb, cond_both}
 use Rattle.framehop_processes.specs.declared.mapping.Mapping.{Mapping}

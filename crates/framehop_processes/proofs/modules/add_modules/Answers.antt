@@ -1,4 +1,4 @@
-use Rattle.std.proofs.Common.{◌≡◌, ◌+◌, List, map, true, arith, ap, sym, refl, ◌∙◌, rules}
+use Rattle.std.proofs.Common.{true, arith, ap, refl, ◌∙◌}
 use Rattle.framehop.specs.Modules.{ModuleView, with_module}
 use Rattle.framehop_processes.specs.declared.mapping.Mapping.{Mapping}
 use Rattle.framehop_processes.specs.Process.{StartsAt}
