@@ -1,0 +1,5 @@
+mod ServedLemmas
+mod TallyLemmas
+mod NameLemmas
+mod PlaceLemmas
+mod LineLemmas

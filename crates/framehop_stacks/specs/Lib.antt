@@ -1,0 +1,13 @@
+-- What the contracts of this crate cite.
+pub mod Refusal
+pub mod Files
+pub mod Changes
+pub mod Names
+pub mod Processes
+pub mod Start
+pub mod Stack
+pub mod Place
+pub mod Line
+pub mod Tally
+pub mod Counts
+pub mod Run

@@ -1,0 +1,22 @@
+-- The registers with which the walk of a sample begins.
+use Rattle.std.specs.Prelude.{◌≡◌, ℕ, List, Option, option_map}
+use Rattle.framehop.specs.Modules.{ModuleView, greatest_end}
+use Rattle.framehop_core.specs.X86_64.Registers.{Registers as RegistersX86_64}
+use Rattle.framehop_core.specs.Aarch64.Registers.{Registers as RegistersAarch64, IsMaskUpTo}
+use Rattle.framehop_recording.specs.Registers.{x86_64_registers, aarch64_registers}
+use Rattle.framehop_stacks.specs.declared.machine.Start.{Start}
+
+abbrev pub x86_64_start : RegistersX86_64 → Start RegistersX86_64
+x86_64_start regs = record { pc = regs.ip; sp = regs.rsp; regs = regs }
+
+abbrev pub aarch64_start : ℕ × RegistersAarch64 → Start RegistersAarch64
+aarch64_start found = record { pc = found.0; sp = found.1.sp; regs = found.1 }
+
+-- those that were recorded
+abbrev pub StartsX86_64 : ℕ → List ℕ → Option (Start RegistersX86_64) → Type 0
+StartsX86_64 mask values start = start ≡ option_map x86_64_start (x86_64_registers mask values)
+
+-- the same, with the mask of pointers that the greatest known address of code gives
+abbrev pub StartsAarch64 : List ModuleView → ℕ → List ℕ → Option (Start RegistersAarch64) → Type 0
+StartsAarch64 modules mask values start = (lr_mask : ℕ) × IsMaskUpTo (greatest_end modules) lr_mask
+    × (start ≡ option_map aarch64_start (aarch64_registers lr_mask mask values))

@@ -1,0 +1,226 @@
+//! The files of a recording by their numbers, and the modules of their mappings.
+ghost use Rattle.std.specs.Prelude.{◌≡◌, IfOk, option_map, option_copied, slice_get};
+ghost use Rattle.framehop_stacks.specs.Changes.{number_in, elf_in};
+ghost use Rattle.framehop_stacks.specs.Files.{module_at, placed_at};
+
+use crate::elf_file::{ElfFile, FileProblem};
+use crate::error::StacksError;
+use framehop::Module;
+use framehop::aarch64::UnwinderAarch64;
+use framehop::section::ExplicitModuleSectionInfo;
+use framehop::x86_64::UnwinderX86_64;
+use framehop_elf::error::ElfError;
+use framehop_processes::{Mapping, ModuleMaker};
+use std::alloc::{AllocError, Global};
+use std::collections::BTreeMap;
+
+/// What gives files by their names, as a disk does.
+pub trait FileSource {
+    /// Returns the bytes of a file, if it is there and can be read.
+    fn read_file(&mut self, name: &[u8]) -> Option<Vec<u8>>;
+
+    /// Returns the bytes of the debug file of a build id, if it is there and can be read.
+    fn read_debug_file(&mut self, build_id: &[u8]) -> Option<Vec<u8>>;
+}
+
+/// A file of a recording.
+#[derive(Drop)]
+pub struct RecordedFile {
+    /// Its name, as the recording has it.
+    pub name: Vec<u8>,
+    /// What was read of it.
+    pub elf: Option<ElfFile>,
+    /// Why nothing was read of it. The vdso and other memory that is no file have no problem.
+    pub problem: Option<FileProblem>,
+}
+
+/// The files of a recording.
+#[derive(Drop)]
+pub struct Files {
+    list: Vec<RecordedFile>,
+    numbers: BTreeMap<Vec<u8>, u32>,
+    bare: Module<Vec<u8>>,
+}
+
+/// Returns whether a name is a path: perf calls memory that is no file `[vdso]`, `//anon` and the like.
+fn is_path(name: &[u8]) -> bool {
+    name.starts_with(b"/") && !name.starts_with(b"//")
+}
+
+/// Reads a file from its source.
+fn read_elf<S: FileSource>(
+    alloc: Global,
+    source: &mut S,
+    name: &[u8],
+    build_id: &[u8],
+) -> Result<ElfFile, FileProblem> {
+    match source.read_file(name) {
+        Some(bytes) => ElfFile::new(alloc, bytes.as_slice(), build_id),
+        None => Err(FileProblem::NotRead),
+    }
+}
+
+/// Reads the names of a file's functions in its debug file. One that can't be read counts as absent.
+fn add_debug_names<S: FileSource>(
+    alloc: Global,
+    source: &mut S,
+    elf: &mut ElfFile,
+) -> Result<(), StacksError> {
+    if elf.build_id().is_empty() {
+        return Ok(());
+    }
+    let Some(bytes) = source.read_debug_file(elf.build_id()) else {
+        return Ok(());
+    };
+    match elf.add_debug_names(alloc, bytes.as_slice()) {
+        Err(FileProblem::Elf(ElfError::OutOfMemory)) => Err(StacksError::OutOfMemory),
+        _ => Ok(()),
+    }
+}
+
+/// Reads a file of a recording, if its name is a path.
+fn load<S: FileSource>(
+    alloc: Global,
+    source: &mut S,
+    name: &[u8],
+    build_id: &[u8],
+) -> Result<RecordedFile, StacksError> {
+    let mut file = RecordedFile {
+        name: Vec::from_slice(alloc, name)?,
+        elf: None,
+        problem: None,
+    };
+    if is_path(name) {
+        match read_elf(alloc, source, name, build_id) {
+            Ok(mut elf) => {
+                add_debug_names(alloc, source, &mut elf)?;
+                file.elf = Some(elf);
+            }
+            Err(FileProblem::Elf(ElfError::OutOfMemory)) => return Err(StacksError::OutOfMemory),
+            Err(problem) => file.problem = Some(problem),
+        }
+    }
+    Ok(file)
+}
+
+impl Files {
+    /// Returns no files.
+    pub fn new(alloc: Global) -> Result<Self, StacksError> {
+        let info: ExplicitModuleSectionInfo<Vec<u8>> = ExplicitModuleSectionInfo::default();
+        Ok(Files {
+            list: Vec::new(alloc),
+            numbers: BTreeMap::new(alloc),
+            bare: Module::new(alloc, String::new(alloc), 0..0, 0, info)?,
+        })
+    }
+
+    /// Reads a file that a process maps, if it has not been read. Where the recording has a build id of it,
+    /// the file's must be the same.
+    ///
+    /// # Errors
+    ///
+    /// `OutOfMemory`, also from 2^32 files on.
+    pub fn add<S: FileSource>(
+        &mut self,
+        alloc: Global,
+        source: &mut S,
+        name: &[u8],
+        build_id: &[u8],
+    ) -> Result<(), StacksError> {
+        if self.numbers.get(name).is_some() {
+            return Ok(());
+        }
+        let Ok(number) = u32::try_from(self.list.len()) else {
+            return Err(StacksError::OutOfMemory);
+        };
+        let key = Vec::from_slice(alloc, name)?;
+        let file = load(alloc, source, name, build_id)?;
+        self.numbers.insert(key, number)?;
+        self.list.push(file)?;
+        Ok(())
+    }
+
+    /// Returns the number of a file by its name.
+    pub fn number_of(&self, name: &[u8]) -> Option<u32>
+        ensures { result ≡ number_in self.now name.now }
+    {
+        self.numbers.get(name).copied()
+    }
+
+    /// Returns the file of a number.
+    pub fn get(&self, number: u32) -> Option<&RecordedFile>
+        ensures { option_map (λ file. file.now) result ≡ slice_get self.now.list.items number }
+    {
+        self.list.get(number as usize)
+    }
+
+    /// Returns all of them, in the order of their numbers.
+    pub fn list(&self) -> &[RecordedFile] {
+        self.list.as_slice()
+    }
+
+    /// Returns what was read of the file of a number.
+    pub fn elf(&self, number: u32) -> Option<&ElfFile>
+        ensures { option_copied result ≡ elf_in self.now number }
+    {
+        match self.get(number) {
+            Some(file) => file.elf.as_ref(),
+            None => None,
+        }
+    }
+
+    /// Returns the module of a mapping. It has no unwind data where the mapping is without sections, or
+    /// where nothing was read of the file.
+    fn module_at(&self, mapping: &Mapping) -> Result<Module<Vec<u8>>, AllocError>
+        ensures { IfOk result (λ made. made ≡ module_at self.now mapping.now) }
+    {
+        if !mapping.has_sections {
+            return placed_at(&self.bare, mapping);
+        }
+        match self.elf(mapping.file) {
+            Some(elf) => placed_at(elf.module(), mapping),
+            None => placed_at(&self.bare, mapping),
+        }
+    }
+}
+
+/// Returns a module at the addresses of a mapping.
+fn placed_at(loaded: &Module<Vec<u8>>, mapping: &Mapping) -> Result<Module<Vec<u8>>, AllocError>
+    ensures { IfOk result (λ made. made ≡ placed_at loaded.now mapping.now) }
+{
+    loaded.placed_at(mapping.start..mapping.end, mapping.base_avma)
+}
+
+/// Makes the modules of mappings, by the files of a recording.
+#[derive(Clone, Copy, Drop)]
+pub struct FileModules<'a> {
+    pub files: &'a Files,
+}
+
+impl ModuleMaker<UnwinderX86_64<Vec<u8>>> for FileModules<'_> {
+    ghost use Rattle.std.specs.Prelude.{refl};
+
+    ghost module_of = { λ maker mapping. module_at maker.files.now mapping };
+
+    ghost start_is = { λ maker mapping. refl };
+
+    ghost end_is = { λ maker mapping. refl };
+
+    fn make_module(&self, alloc: Global, mapping: &Mapping) -> Result<Module<Vec<u8>>, AllocError> {
+        self.files.module_at(mapping)
+    }
+}
+
+impl ModuleMaker<UnwinderAarch64<Vec<u8>>> for FileModules<'_> {
+    ghost use Rattle.std.specs.Prelude.{refl};
+
+    ghost module_of = { λ maker mapping. module_at maker.files.now mapping };
+
+    ghost start_is = { λ maker mapping. refl };
+
+    ghost end_is = { λ maker mapping. refl };
+
+    fn make_module(&self, alloc: Global, mapping: &Mapping) -> Result<Module<Vec<u8>>, AllocError> {
+        self.files.module_at(mapping)
+    }
+}

@@ -1,0 +1,19 @@
+//! From a recording of perf to stacks: reads the records of a `perf.data`, unwinds each sample by the
+//! unwinder of its process, and writes folded stacks.
+#![tactic(auto)]
+
+pub mod changes;
+pub mod counts;
+pub mod elf_file;
+pub mod error;
+pub mod files;
+pub mod line;
+pub mod machine;
+pub mod names;
+pub mod place;
+pub mod processes;
+pub mod program;
+pub mod recording;
+pub mod run;
+pub mod stack;
+pub mod tally;

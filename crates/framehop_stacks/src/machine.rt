@@ -1,0 +1,89 @@
+//! What differs by the architecture of a recording.
+ghost use Rattle.std.specs.Prelude.{◌≡◌, ℕ, List, Option, IfOk, option_map};
+ghost use Rattle.framehop.specs.Modules.{UnwinderView};
+ghost use Rattle.framehop_stacks.specs.declared.machine.Start.{Start};
+
+use framehop::aarch64::{CacheAarch64, UnwindRegsAarch64, UnwinderAarch64};
+use framehop::cache::MayAllocateDuringUnwind;
+use framehop::section::SectionBytes;
+use framehop::x86_64::{CacheX86_64, UnwindRegsX86_64, UnwinderX86_64};
+use framehop::{CacheStats, Unwinder};
+use framehop_core::aarch64::PtrAuthMask;
+use framehop_processes::ProcessUnwinder;
+use framehop_recording::registers::{aarch64_registers, x86_64_registers};
+use std::alloc::{AllocError, Global};
+
+/// The registers with which the walk of a sample begins.
+#[derive(Clone, Copy, Drop)]
+pub struct Start<R: Copy> {
+    /// The instruction pointer (AVMA).
+    pub pc: u64,
+    /// The stack pointer (AVMA), where the bytes of the stack begin.
+    pub sp: u64,
+    /// All registers.
+    pub regs: R,
+}
+
+/// An unwinder for the samples of its architecture.
+pub trait Sampled: ProcessUnwinder {
+    // the registers of a sample
+    ghost starts: { Self → ℕ → List ℕ → Option (Start Self.UnwindRegs) → Type 0 };
+
+    /// Returns an empty cache, which changes no answer of any unwinder.
+    fn new_cache(alloc: Global) -> Result<Self::Cache, AllocError>
+        ensures { IfOk result (λ cache. (view : UnwinderView) → Self.is_sound view cache) };
+
+    /// Returns what a cache has counted.
+    fn stats(cache: &Self::Cache) -> CacheStats;
+
+    /// Returns the registers of a sample, from the mask of those that were recorded and their values.
+    fn start(&self, mask: u64, values: &[u8]) -> Option<Start<Self::UnwindRegs>>
+        ensures { starts self.now mask values.now result };
+}
+
+impl<D: SectionBytes + Drop> Sampled for UnwinderX86_64<D, MayAllocateDuringUnwind> {
+    ghost use Rattle.framehop_stacks.specs.Start.{StartsX86_64};
+
+    ghost starts = { λ unwinder mask values start. StartsX86_64 mask values start };
+
+    fn new_cache(alloc: Global) -> Result<CacheX86_64<MayAllocateDuringUnwind>, AllocError> {
+        CacheX86_64::new(alloc)
+    }
+
+    fn stats(cache: &CacheX86_64<MayAllocateDuringUnwind>) -> CacheStats {
+        cache.stats()
+    }
+
+    fn start(&self, mask: u64, values: &[u8]) -> Option<Start<UnwindRegsX86_64>> {
+        let regs = x86_64_registers(mask, values)?;
+        Some(Start {
+            pc: regs.ip(),
+            sp: regs.sp(),
+            regs,
+        })
+    }
+}
+
+impl<D: SectionBytes + Drop> Sampled for UnwinderAarch64<D, MayAllocateDuringUnwind> {
+    ghost use Rattle.framehop_stacks.specs.Start.{StartsAarch64};
+
+    ghost starts = { λ unwinder mask values start. StartsAarch64 unwinder.modules mask values start };
+
+    fn new_cache(alloc: Global) -> Result<CacheAarch64<MayAllocateDuringUnwind>, AllocError> {
+        CacheAarch64::new(alloc)
+    }
+
+    fn stats(cache: &CacheAarch64<MayAllocateDuringUnwind>) -> CacheStats {
+        cache.stats()
+    }
+
+    fn start(&self, mask: u64, values: &[u8]) -> Option<Start<UnwindRegsAarch64>> {
+        let known = PtrAuthMask::from_max_known_address(self.max_known_code_address());
+        let (pc, regs) = aarch64_registers(known, mask, values)?;
+        Some(Start {
+            pc,
+            sp: regs.sp(),
+            regs,
+        })
+    }
+}

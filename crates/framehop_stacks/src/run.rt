@@ -1,0 +1,361 @@
+//! The records of a recording one after another: its processes, and the stacks of its samples.
+ghost use Rattle.std.specs.Prelude.{◌≡◌, IfOk, OnOk, IsSome, Bool, false, map, count_by};
+ghost use Rattle.std.specs.BTreeMap.{get};
+ghost use Rattle.std.specs.Ordering.{nat_cmp};
+ghost use Rattle.framehop_core.specs.CodeAddress.{location_of};
+ghost use Rattle.framehop.specs.Modules.{ModuleView};
+ghost use Rattle.framehop.specs.SessionView.{end_of};
+ghost use Rattle.framehop_processes.specs.Mappings.{IsInOrder};
+ghost use Rattle.framehop_processes.specs.declared.mapping.Mapping.{Mapping};
+ghost use Rattle.framehop_stacks.specs.Counts.{CountsOneMore};
+ghost use Rattle.framehop_stacks.specs.Line.{frame_label, line_of, refused_line};
+ghost use Rattle.framehop_stacks.specs.Processes.{IsServed};
+ghost use Rattle.framehop_stacks.specs.Run.{AreCounted, MayCount, CountsMore, is_sample, samples_in_kind, sample_refusal};
+
+use crate::changes::change_of;
+use crate::counts::Counts;
+use crate::error::StacksError;
+use crate::files::Files;
+use crate::line::{block_head, end_name, folded_line, frames_block, refused_block, refused_line};
+use crate::machine::Sampled;
+use crate::names::Names;
+use crate::processes::Processes;
+use crate::recording::{Recording, sample_of};
+use crate::stack::{Stack, walk_sample};
+use framehop_processes::{Mapping, ModuleMaker};
+use framehop_recording::error::RecordingError;
+use framehop_recording::events::Events;
+use framehop_recording::kind::{LOST, SAMPLE};
+use framehop_recording::records::Record;
+use framehop_recording::sample::{Sample, UserStack};
+use framehop_recording::tasks::read_lost;
+use std::alloc::Global;
+use std::io::Write;
+
+/// What is asked for.
+#[derive(Clone, Copy, Debug)]
+pub struct Options {
+    /// A block for each sample, in the place of folded stacks.
+    pub frames: bool,
+    /// The most frames of a stack.
+    pub limit: u32,
+}
+
+/// The state of a run: what is known after the records so far.
+#[derive(Drop)]
+pub struct Run<U: Sampled>
+where
+    U::Cache: Drop,
+{
+    processes: Processes<U>,
+    names: Names,
+    cache: U::Cache,
+    /// What was counted of the samples so far.
+    pub counts: Counts,
+}
+
+/// Returns what is said of a sample that can't be unwound.
+fn refusal_name(error: RecordingError) -> &'static str
+    ensures { result.now ≡ sample_refusal error }
+{
+    match error {
+        RecordingError::NoThread { .. } => "no-thread",
+        RecordingError::NoUserStack { .. } => "no-user-stack",
+        RecordingError::NoUserRegisters { .. } => "no-user-registers",
+        RecordingError::Process32Bit { .. } => "32-bit-process",
+        RecordingError::UnknownAbi { .. } => "unknown-abi",
+        RecordingError::UnsupportedField { .. } => "unsupported-field",
+        RecordingError::ShortRecord { .. } => "short-record",
+        _ => "unreadable",
+    }
+}
+
+/// Counts or writes the stack of a sample, by its process's mappings in order. `head` is that of its block.
+fn take_stack<W: Write>(
+    alloc: Global,
+    counts: &mut Counts,
+    files: &Files,
+    mappings: &[Mapping],
+    name: &[u8],
+    head: &[u8],
+    stack: &Stack,
+    options: Options,
+    out: &mut W,
+) -> Result<(), StacksError>
+    requires ordered { IsInOrder 0 mappings.now }
+    requires room { MayCount options.frames counts.old }
+    ensures counted { OnOk result (CountsMore options.frames 1 counts.old counts.new) }
+    ensures line { OnOk result (options.frames ≡ false → CountsOneMore counts.old.lines counts.new.lines
+        (line_of name.now (end_of stack.now.end) (frame_label files.now mappings.now) (map location_of stack.now.frames.items))) }
+{
+    counts.add_sample(alloc, end_name(stack.end).as_bytes())?;
+    if options.frames {
+        let block = frames_block(alloc, files, mappings, stack)?;
+        out.write_all(head)?;
+        out.write_all(block.as_slice())?;
+    } else {
+        let line = folded_line(alloc, files, mappings, name, stack)?;
+        counts.add_line(line)?;
+    }
+    Ok(())
+}
+
+/// Counts or writes a sample that has no stack. `head` is that of its block.
+fn take_refused<W: Write>(
+    alloc: Global,
+    counts: &mut Counts,
+    name: &[u8],
+    head: &[u8],
+    why: &str,
+    options: Options,
+    out: &mut W,
+) -> Result<(), StacksError>
+    requires { MayCount options.frames counts.old }
+    ensures counted { OnOk result (CountsMore options.frames 1 counts.old counts.new) }
+    ensures line { OnOk result (options.frames ≡ false
+        → CountsOneMore counts.old.lines counts.new.lines (refused_line name.now why.now)) }
+{
+    counts.add_sample(alloc, why.as_bytes())?;
+    if options.frames {
+        let block = refused_block(alloc, why)?;
+        out.write_all(head)?;
+        out.write_all(block.as_slice())?;
+    } else {
+        let line = refused_line(alloc, name, why)?;
+        counts.add_line(line)?;
+    }
+    Ok(())
+}
+
+impl<U: Sampled> Run<U>
+where
+    U::Cache: Drop,
+    U::Module: Drop,
+{
+    /// Returns the state before the first record.
+    pub fn new(alloc: Global) -> Result<Self, StacksError>
+        ensures served { IfOk result (λ run. (module_of : Mapping → ModuleView)
+            → IsServed module_of (λ view. U.is_sound view run.cache) run.processes.by_pid run.processes.generations) }
+        ensures none { IfOk result (λ run. (frames : Bool) → AreCounted frames 0 run.counts) }
+    {
+        Ok(Run {
+            processes: Processes::new(alloc),
+            names: Names::new(alloc),
+            cache: U::new_cache(alloc)?,
+            counts: Counts::new(alloc),
+        })
+    }
+
+    /// Returns the cache.
+    pub fn cache(&self) -> &U::Cache {
+        &self.cache
+    }
+
+    /// Unwinds the stack of a sample, whose process is known.
+    fn take_user<W: Write>(
+        &mut self,
+        alloc: Global,
+        files: &Files,
+        sample: Sample<'_>,
+        mask: u64,
+        user: UserStack<'_>,
+        head: &[u8],
+        options: Options,
+        out: &mut W,
+    ) -> Result<(), StacksError>
+        requires known { IsSome (get nat_cmp self.old.processes.by_pid sample.pid) }
+        requires room { MayCount options.frames self.old.counts }
+        ensures served { OnOk result ((module_of : Mapping → ModuleView)
+            → IsServed module_of (λ view. U.is_sound view self.old.cache) self.old.processes.by_pid self.old.processes.generations
+            → IsServed module_of (λ view. U.is_sound view self.new.cache) self.new.processes.by_pid self.new.processes.generations) }
+        ensures counted { OnOk result (CountsMore options.frames 1 self.old.counts self.new.counts) }
+    {
+        let unwinder = self.processes.known(sample.pid).unwinder();
+        let walked = walk_sample(alloc, unwinder, &mut self.cache, mask, user, options.limit)?;
+        let name = self.names.get(sample.tid);
+        match walked {
+            Some(stack) => {
+                let mappings = self.processes.mappings(sample.pid);
+                take_stack(
+                    alloc,
+                    &mut self.counts,
+                    files,
+                    mappings,
+                    name,
+                    head,
+                    &stack,
+                    options,
+                    out,
+                )?;
+            }
+            None => take_refused(
+                alloc,
+                &mut self.counts,
+                name,
+                head,
+                "no-registers",
+                options,
+                out,
+            )?,
+        }
+        Ok(())
+    }
+
+    /// Unwinds a sample, or counts why that can't be done.
+    fn take_sample<W: Write>(
+        &mut self,
+        alloc: Global,
+        files: &Files,
+        sample: Sample<'_>,
+        mask: u64,
+        options: Options,
+        out: &mut W,
+    ) -> Result<(), StacksError>
+        requires { MayCount options.frames self.old.counts }
+        ensures served { OnOk result ((module_of : Mapping → ModuleView)
+            → IsServed module_of (λ view. U.is_sound view self.old.cache) self.old.processes.by_pid self.old.processes.generations
+            → IsServed module_of (λ view. U.is_sound view self.new.cache) self.new.processes.by_pid self.new.processes.generations) }
+        ensures counted { OnOk result (CountsMore options.frames 1 self.old.counts self.new.counts) }
+    {
+        let name = self.names.get(sample.tid);
+        let head = block_head(alloc, name, sample.pid, sample.tid, sample.time)?;
+        let user = match sample.user {
+            Ok(user) => user,
+            Err(error) => {
+                let why = refusal_name(error);
+                take_refused(
+                    alloc,
+                    &mut self.counts,
+                    name,
+                    head.as_slice(),
+                    why,
+                    options,
+                    out,
+                )?;
+                return Ok(());
+            }
+        };
+        self.processes.meet(alloc, sample.pid)?;
+        self.take_user(
+            alloc,
+            files,
+            sample,
+            mask,
+            user,
+            head.as_slice(),
+            options,
+            out,
+        )?;
+        Ok(())
+    }
+
+    /// Unwinds the sample of a record, or counts why that can't be done.
+    fn take_sample_record<W: Write>(
+        &mut self,
+        alloc: Global,
+        events: &Events<'_>,
+        files: &Files,
+        record: Record<'_>,
+        options: Options,
+        out: &mut W,
+    ) -> Result<(), StacksError>
+        requires { MayCount options.frames self.old.counts }
+        ensures served { OnOk result ((module_of : Mapping → ModuleView)
+            → IsServed module_of (λ view. U.is_sound view self.old.cache) self.old.processes.by_pid self.old.processes.generations
+            → IsServed module_of (λ view. U.is_sound view self.new.cache) self.new.processes.by_pid self.new.processes.generations) }
+        ensures counted { OnOk result (CountsMore options.frames 1 self.old.counts self.new.counts) }
+    {
+        match sample_of(events, record) {
+            Ok((sample, mask)) => self.take_sample(alloc, files, sample, mask, options, out)?,
+            Err(error) => {
+                let why = refusal_name(error);
+                take_refused(
+                    alloc,
+                    &mut self.counts,
+                    b"[unknown]",
+                    b"[unknown]:\n",
+                    why,
+                    options,
+                    out,
+                )?;
+            }
+        }
+        Ok(())
+    }
+
+    /// Counts what a record says that the kernel lost.
+    fn lose(&mut self, record: Record<'_>) -> Result<(), StacksError>
+        ensures processes { self.new.processes ≡ self.old.processes }
+        ensures cache { self.new.cache ≡ self.old.cache }
+        ensures counted { OnOk result ((frames : Bool) → CountsMore frames 0 self.old.counts self.new.counts) }
+    {
+        let lost = read_lost(record)?;
+        self.counts.lost = self.counts.lost.saturating_add(lost);
+        Ok(())
+    }
+
+    /// Takes a record in.
+    ///
+    /// # Errors
+    ///
+    /// - `Recording` where the record is no sample and is too short for its kind;
+    /// - `OutOfMemory`, `GenerationsExhausted` and `CannotWrite`.
+    fn take_record<M: ModuleMaker<U>, W: Write>(
+        &mut self,
+        alloc: Global,
+        events: &Events<'_>,
+        files: &Files,
+        maker: &M,
+        record: Record<'_>,
+        options: Options,
+        out: &mut W,
+    ) -> Result<(), StacksError>
+        requires served { IsServed (M.module_of maker.now) (λ view. U.is_sound view self.old.cache) self.old.processes.by_pid self.old.processes.generations }
+        requires room { MayCount options.frames self.old.counts }
+        ensures served { OnOk result (IsServed (M.module_of maker.now) (λ view. U.is_sound view self.new.cache) self.new.processes.by_pid self.new.processes.generations) }
+        ensures counted { OnOk result (CountsMore options.frames (samples_in_kind «record».entry.kind) self.old.counts self.new.counts) }
+    {
+        if record.kind == SAMPLE {
+            self.take_sample_record(alloc, events, files, record, options, out)?;
+            return Ok(());
+        }
+        if record.kind == LOST {
+            self.lose(record)?;
+            return Ok(());
+        }
+        self.names.note(alloc, record)?;
+        if let Some(change) = change_of(files, record)? {
+            self.processes.apply(alloc, maker, change)?;
+        }
+        Ok(())
+    }
+
+    /// Takes the records of a recording in, in order.
+    pub fn take_records<M: ModuleMaker<U>, W: Write>(
+        &mut self,
+        alloc: Global,
+        recording: &Recording<'_>,
+        files: &Files,
+        maker: &M,
+        options: Options,
+        out: &mut W,
+    ) -> Result<(), StacksError>
+        requires served { IsServed (M.module_of maker.now) (λ view. U.is_sound view self.old.cache) self.old.processes.by_pid self.old.processes.generations }
+        requires none { AreCounted options.frames 0 self.old.counts }
+        ensures served { OnOk result (IsServed (M.module_of maker.now) (λ view. U.is_sound view self.new.cache) self.new.processes.by_pid self.new.processes.generations) }
+        ensures counted { OnOk result (AreCounted options.frames (count_by is_sample recording.now.records.items) self.new.counts) }
+    {
+        for timed in &recording.records {
+            self.take_record(
+                alloc,
+                &recording.events,
+                files,
+                maker,
+                timed.record,
+                options,
+                out,
+            )?;
+        }
+        Ok(())
+    }
+}

@@ -1,0 +1,60 @@
+//! The walk of a sample.
+ghost use Rattle.std.specs.Prelude.{◌≡◌, Some, None, IfOk, MatchOption};
+ghost use Rattle.framehop.specs.Modules.{UnwinderView};
+ghost use Rattle.framehop.specs.Soundness.{AreApart};
+ghost use Rattle.framehop.specs.Walk.{walk_from};
+ghost use Rattle.framehop_stacks.specs.Stack.{IsStackOf};
+ghost use Rattle.framehop_stacks.specs.declared.machine.Start.{Start};
+ghost use Rattle.framehop.specs.Memory.{reply};
+ghost use Rattle.framehop.specs.StackBytes.{memory_of_bytes};
+
+use crate::error::StacksError;
+use crate::machine::Sampled;
+use framehop::FrameAddress;
+use framehop::session::{WalkEnd, read_word, walk};
+use framehop_recording::sample::UserStack;
+use std::alloc::Global;
+
+/// The frames of a sample, the innermost first, and how the walk ended.
+#[derive(Drop)]
+pub struct Stack {
+    pub frames: Vec<FrameAddress>,
+    pub end: WalkEnd,
+}
+
+/// Walks the stack of a sample by at most `limit` frames. Returns `None` where the sample has not the registers
+/// with which a walk begins.
+pub fn walk_sample<U: Sampled>(
+    alloc: Global,
+    unwinder: &U,
+    cache: &mut U::Cache,
+    mask: u64,
+    user: UserStack<'_>,
+    limit: u32,
+) -> Result<Option<Stack>, StacksError>
+    ensures stays_sound { (other : UnwinderView) → AreApart (U.unwinder_view unwinder.now) other
+        → U.is_sound other cache.old → U.is_sound other cache.new }
+    ensures walked { U.is_sound (U.unwinder_view unwinder.now) cache.old → IfOk result (λ walked. MatchOption walked
+        (U.starts unwinder.now mask user.entry.registers.now None)
+        (λ stack. (start : Start U.UnwindRegs) × U.starts unwinder.now mask user.entry.registers.now (Some start)
+        × IsStackOf (walk_from (λ location before. U.step unwinder.now location before (memory_of_bytes start.sp user.entry.stack.now)) limit start.pc start.regs) stack)) }
+{
+    let Some(start) = unwinder.start(mask, user.registers) else {
+        return Ok(None);
+    };
+    let base = start.sp;
+    let bytes = user.stack;
+    let mut read_stack = |address: u64| -> Result<u64, ()>
+        ensures { result ≡ reply (memory_of_bytes base bytes.entry.now address) }
+    { read_word(base, bytes, address) };
+    let (frames, end, _) = walk(
+        alloc,
+        unwinder,
+        cache,
+        start.pc,
+        start.regs,
+        &mut read_stack,
+        limit,
+    )?;
+    Ok(Some(Stack { frames, end }))
+}
