@@ -42,9 +42,7 @@ PLACES = {
     "framehop_vectors": (3, 5, "tests"),
     "framehop_walk_vectors": (4, 5, "tests"),
     "framehop_sweeps": (5, 5, "tests"),
-    "framehop_explain_program": (7, 5, "library"),
-    "framehop_explain_cli": (6, 6, "program"),
-    "framehop_explain_vectors": (7, 6, "tests"),
+    "framehop_explain_vectors": (6, 6, "tests"),
 }
 
 # where a line goes through a row between two crates

@@ -5,6 +5,7 @@ use std::alloc::Global;
 use std::test::Fail;
 
 /// Sections of a module, as hexadecimal digits, and what kind of unwind data it has, in words.
+#[derive(Clone, Copy)]
 struct Kind {
     unwind_info: Option<&'static str>,
     eh_frame: Option<&'static str>,

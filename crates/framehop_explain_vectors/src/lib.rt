@@ -1,8 +1,6 @@
-//! Worked examples of `framehop_explain` and of its program, with what is to come out. This crate has only tests.
+//! Worked examples of `framehop_explain`, with what is to come out. This crate has only tests.
 #![tactic(auto)]
 
-#[cfg(test)]
-mod explanations;
 #[cfg(test)]
 mod kinds;
 #[cfg(test)]
