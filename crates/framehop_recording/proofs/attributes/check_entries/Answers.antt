@@ -1,6 +1,6 @@
-use Rattle.std.proofs.Common.{◌≡◌, ◌+◌, ◌-◌, refl, ap, sym, ◌∙◌, inr, arith, rules}
+use Rattle.std.proofs.Common.{◌+◌, ◌-◌, arith}
 use Rattle.std.proofs.lemmas.Result.{err_from_is_err_and}
-use Rattle.framehop_recording.specs.Bytes.{offsets, each_of}
+use Rattle.framehop_recording.specs.Bytes.{offsets}
 use Rattle.framehop_recording.specs.Attributes.{attribute_at, attribute_view}
 use Rattle.framehop_recording.proofs.EachLemmas.{each-later-refused, each-later-read, each-first-refused, each-none-read, offsets-more, offsets-none}
 use Rattle.framehop_recording.proofs.attributes.check_entries.Goals as goal
