@@ -94,7 +94,7 @@ if command -v cargo > /dev/null; then
     python3 "$here/cases.py" rust window "$CARGO_TARGET_DIR/debug/examples/cases"
     python3 "$here/cases.py" rust callback "$CARGO_TARGET_DIR/debug/examples/cases"
     if command -v valgrind > /dev/null; then
-        quiet="valgrind -q --error-exitcode=9 --leak-check=full --errors-for-leak-kinds=definite"
+        quiet="valgrind -q --error-exitcode=9 --leak-check=full --show-leak-kinds=definite --errors-for-leak-kinds=definite"
         for tests in "$CARGO_TARGET_DIR"/debug/deps/surface-* "$CARGO_TARGET_DIR"/debug/deps/readme-*; do
             case $tests in *.d) continue ;; esac
             $quiet "$tests" --test-threads 1 > "$work/tests" || { cat "$work/tests"; exit 1; }
