@@ -32,8 +32,7 @@ PLACES = {
     "framehop_elf_vectors": (7, 2, "tests"),
     "framehop": (2.5, 3, "library"),
     "framehop_format_vectors": (4, 3, "tests"),
-    "framehop_explain": (6, 3, "library"),
-    "framehop_explain_vectors": (6, 4, "tests"),
+    "framehop_explain": (6, 4, "library"),
     "framehop_lent": (1.2, 4, "library"),
     "framehop_processes": (4, 4, "library"),
     "framehop_processes_vectors": (6, 5, "tests"),
@@ -45,6 +44,7 @@ PLACES = {
     "framehop_vectors": (3, 5, "tests"),
     "framehop_walk_vectors": (4, 5, "tests"),
     "framehop_sweeps": (5, 5, "tests"),
+    "framehop_explain_vectors": (6, 6, "tests"),
 }
 
 # where a line goes through a row between two crates

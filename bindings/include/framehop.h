@@ -41,6 +41,37 @@ enum {
     FRAMEHOP_RETURN_ADDRESS_IS_NULL = -14 /* a frame has the return address 0 */
 };
 
+/* A status as text, for a reader. What no call returns is "Unknown status". */
+static inline const char *framehop_status_text(int32_t status)
+{
+    switch (status) {
+    case FRAMEHOP_OK:
+        return "OK";
+    case FRAMEHOP_FRAMES_FULL:
+        return "As many frames as there is room for";
+    case FRAMEHOP_END:
+        return "Root of the stack";
+    case FRAMEHOP_OUT_OF_MEMORY:
+        return "Out of memory";
+    case FRAMEHOP_GENERATIONS_EXHAUSTED:
+        return "Generations exhausted";
+    case FRAMEHOP_WRONG_HANDLE:
+        return "Object of another kind, architecture or policy";
+    case FRAMEHOP_COULD_NOT_READ_STACK:
+        return "Could not read stack memory";
+    case FRAMEHOP_MOVED_BACKWARDS:
+        return "Frame pointer unwinding moved backwards";
+    case FRAMEHOP_DID_NOT_ADVANCE:
+        return "Neither the code address nor the stack pointer changed, would loop";
+    case FRAMEHOP_INTEGER_OVERFLOW:
+        return "Unwinding caused integer overflow";
+    case FRAMEHOP_RETURN_ADDRESS_IS_NULL:
+        return "Return address is null";
+    default:
+        return "Unknown status";
+    }
+}
+
 /* A counter of generations, an unwinder or a cache. */
 typedef struct {
     void *address;
@@ -96,14 +127,17 @@ typedef struct {
     size_t word_count;
 } framehop_window;
 
-/* What a walk has written: how many frames, and the AVMA of the stack word that could not be read, or 0. */
+/* What a walk has written: how many frames, and the AVMA of the stack word that could not be read. That is said by the
+ * status only: after FRAMEHOP_COULD_NOT_READ_STACK `unreadable` may be 0, an AVMA like others, and after another status
+ * it is 0 and says nothing. */
 typedef struct {
     size_t frame_count;
     uint64_t unreadable;
 } framehop_walk;
 
-/* What a step returned: the return address (AVMA) or 0, the AVMA of the stack word that could not be read or 0, and
- * the first AVMA of a word that was asked for and of which no window tells, if has_missing. */
+/* What a step returned: the return address (AVMA) after FRAMEHOP_OK, the AVMA of the stack word that could not be read
+ * after FRAMEHOP_COULD_NOT_READ_STACK, each 0 after another status; and the first AVMA of a word that was asked for and
+ * of which no window tells, if has_missing. */
 typedef struct {
     uint64_t return_address;
     uint64_t unreadable;
@@ -111,12 +145,14 @@ typedef struct {
     bool has_missing;
 } framehop_step;
 
-/* How many lookups hit and missed. The counts stop at UINT64_MAX. */
+/* How many lookups hit and missed: one lookup for each call that unwinds a frame, so a frame that is unwound again for
+ * a missing word counts again. The counts stop at UINT64_MAX. */
 typedef struct {
     uint64_t hit_count, miss_empty_slot_count, miss_wrong_modules_count, miss_wrong_address_count;
 } framehop_cache_stats;
 
-/* Makes a counter of generations. */
+/* Makes a counter of generations. One is enough for a thread. A cache serves the unwinders of one counter: with those of
+ * another, a walk may find frames that were stored for other modules. */
 int32_t framehop_generations_new(framehop_handle *place);
 
 /* Frees a counter, an unwinder or a cache. */
@@ -124,13 +160,18 @@ void framehop_free(framehop_handle handle);
 
 /* The calls below come for each architecture.
  *
- * ..._new           an empty cache, or an unwinder without modules. With may_allocate unwinding may take memory, which
- *                   is the usual choice; without, it takes none, and some DWARF unwind data is too large for it. An
- *                   unwinder and a cache go together only if both have the same policy.
- * ..._clone         the same modules and generation. Module data is shared, not copied.
+ * cache_..._new     an empty cache. With may_allocate unwinding may take memory, which is the usual choice; without, it
+ *                   takes none, and some DWARF unwind data is too large for it. An unwinder and a cache go together
+ *                   only if both have the same policy, and the cache serves the unwinders of one counter only.
+ * cache_..._stats   its counts.
+ * unwinder_..._new  an unwinder without modules, by a counter of generations. All calls for one unwinder take the same
+ *                   counter, and a cache serves the unwinders of one counter only.
+ * ..._clone         the same modules and generation, so the same counter. Module data is shared, not copied.
  * ..._add_module    a module that is loaded from avma_start to below avma_end, whose relative address 0 is base_avma.
- *                   Where it is refused, nothing has changed.
- * ..._remove_module removes the newest module of a start, and does nothing (FRAMEHOP_OK) where there is none.
+ *                   Where it is refused, nothing has changed. It takes the counter that the unwinder was made by: a
+ *                   cache serves the unwinders of one counter only.
+ * ..._remove_module removes the newest module of a start, and does nothing (FRAMEHOP_OK) where there is none. It takes
+ *                   the counter that the unwinder was made by: a cache serves the unwinders of one counter only.
  * ..._max_known_code_address    the greatest end of a module, or 0.
  * ..._walk          writes the addresses of the frames, pc first, then return addresses, at most frame_capacity; the
  *                   registers become those at its end. FRAMEHOP_END at the root, FRAMEHOP_FRAMES_FULL, or a refusal
@@ -139,6 +180,12 @@ void framehop_free(framehop_handle handle);
  *                   of the stack, and a refusal, leave the registers. If step.has_missing, even with FRAMEHOP_OK, the
  *                   answer was found without a word that was asked for: to have the exact one, restore the registers,
  *                   add a window that has that word, or one without words if it can't be read, and call again.
+ *
+ * Which address counts: pc, or address, says which module and which unwind data a frame has. registers.ip of x86_64
+ * does not: it is only compared, to tell a step that gives the same frame again. Give both the same value.
+ *
+ * Symbols: a return address is that of the instruction after the call, which may be of another function. Look up the
+ * symbol of the byte before it, address - 1; of the first frame, whose address is pc, that of pc itself.
  */
 
 int32_t framehop_cache_x86_64_new(bool may_allocate, framehop_handle *place);

@@ -1,17 +1,21 @@
 #!/usr/bin/env python3
-"""Compares bindings/include/framehop.h with the exports, the structs and the numbers of crates/framehop_c.
+"""Compares bindings/include/framehop.h with the exports, the structs and the numbers of crates/framehop_c, and
+bindings/rust/src/raw.rs with the header.
 
 Each export must be declared with the same parameters in the same order, each struct must have the same fields, and each
-number the same value. It prints what differs, and fails then.
+number the same value. The offsets that raw.rs asserts are asserted of the header by a C compiler. It prints what differs,
+and fails then.
 """
 
 import re
+import subprocess
 import sys
 from pathlib import Path
 
 TOP = Path(__file__).resolve().parent.parent.parent
 SOURCES = sorted((TOP / "crates/framehop_c/src").rglob("*.rt"))
 HEADER = TOP / "bindings/include/framehop.h"
+RUST = TOP / "bindings/rust/src"
 
 # a type of the sources as the header writes it; a slice is two parameters
 TYPES = {
@@ -121,10 +125,95 @@ def header():
     return functions, found, values
 
 
+def tidy(kind):
+    return " ".join(kind.replace("*", " * ").split())
+
+
+# a type of raw.rs as the header writes it
+RAW_TYPES = {
+    "bool": "bool", "u64": "uint64_t", "usize": "size_t", "i32": "int32_t", "*mut u64": "uint64_t *",
+    "*mut u8": "void *", "*const u8": "const uint8_t *", "*const u64": "const uint64_t *",
+}
+
+
+def raw_in_c(kind):
+    """A type of raw.rs as C has it."""
+    if kind in RAW_TYPES:
+        return tidy(RAW_TYPES[kind])
+    prefix, name = re.fullmatch(r"(\*mut |\*const |)(\w+)", kind).groups()
+    name = "framehop_" + snake(name)
+    return tidy({"*mut ": f"{name} *", "*const ": f"const {name} *", "": name}[prefix])
+
+
+def raw_structs(text, general):
+    """For each struct of raw.rs its fields with their types; the sixteen registers in a field have their own names."""
+    found = {}
+    for name, body in re.findall(r"pub struct (\w+) \{(.*?)\n\}", text, re.S):
+        fields = []
+        for field, kind in re.findall(r"pub (\w+): ([^,\n]+),", body):
+            fields += [(it, "uint64_t") for it in general] if field == "general" else [(field, raw_in_c(kind))]
+        found["framehop_" + snake(name)] = fields
+    return found
+
+
+def raw_functions(text):
+    """For each function that raw.rs declares the types of its parameters and its result."""
+    macro = re.search(r"macro_rules! declare \{\s*\((.*?)\) => \{(.*?)\n\}\n", text, re.S)
+    names = re.findall(r"\$(\w+):", macro[1])
+    plain = text.replace(macro[0], "")
+    for values in re.findall(r"^declare!\((.*?)\);", text, re.S | re.M):
+        body = macro[2]
+        for name, value in zip(names, parts_of(values)):
+            body = re.sub(rf"\${name}\b", value, body)
+        plain += body
+    found = {}
+    for name, parameters, result in re.findall(r"pub fn (framehop_\w+)\(([^)]*)\)(?: -> (\w+))?;", plain):
+        kinds = [raw_in_c(part.split(":", 1)[1].strip()) for part in parts_of(parameters)]
+        found[name] = (kinds, raw_in_c(result) if result else "void")
+    return found
+
+
+def raw_offsets(text):
+    """The sizes and offsets that raw.rs asserts, as assertions in C."""
+    lines = ['#include "framehop.h"']
+    for name, size, fields in re.findall(r"lies!\((\w+): (\d+) \{(.*?)\}\);", text, re.S):
+        name = "framehop_" + snake(name)
+        lines.append(f'_Static_assert(sizeof({name}) == {size}, "size of {name}");')
+        for field, offset in re.findall(r"([\w.]+): (\d+)", fields):
+            field = "rax" if field == "general" else field
+            lines.append(f'_Static_assert(offsetof({name}, {field}) == {offset}, "offset of {field} in {name}");')
+    return lines
+
+
+def wrong_in_rust(functions, found, values):
+    """How raw.rs differs from the header."""
+    text = re.sub(r"//[^\n]*", "", (RUST / "raw.rs").read_text())
+    general = re.search(r"pub enum Reg \{(.*?)\}", (RUST / "x86_64.rs").read_text(), re.S)[1]
+    general = [name.lower() for name in parts_of(general)]
+    wrong = []
+    if raw_functions(text) != functions:
+        wrong.append(f"raw.rs: {raw_functions(text)}, {functions} in the header")
+    for name, fields in raw_structs(text, general).items():
+        if fields != [(field, tidy(kind)) for field, kind in found.get(name, [])]:
+            wrong.append(f"raw.rs: {name} has {fields}, {found.get(name)} in the header")
+    if len(raw_structs(text, general)) != len(found):
+        wrong.append(f"raw.rs: {len(raw_structs(text, general))} structs, {len(found)} in the header")
+    for name, value in re.findall(r"pub const (\w+): i32 = (-?\d+);", text):
+        if values.get("FRAMEHOP_" + name) != int(value):
+            wrong.append(f"raw.rs: {name} is {value}, {values.get('FRAMEHOP_' + name)} in the header")
+    asserted = raw_offsets(text)
+    command = ["cc", "-std=c11", "-fsyntax-only", "-xc", "-I", str(HEADER.parent), "-"]
+    ran = subprocess.run(command, input="\n".join(asserted), text=True, capture_output=True)
+    if ran.returncode:
+        wrong.append(ran.stderr)
+    if len(asserted) < 50:
+        wrong.append(f"raw.rs: {len(asserted)} offsets only")
+    return wrong
+
+
 def main():
     functions, found, values = header()
-    wrong = []
-    tidy = lambda kind: " ".join(kind.replace("*", " * ").split())
+    wrong = wrong_in_rust(functions, found, values)
     here = {name: ([tidy(kind) for kind in kinds], result) for name, (kinds, result) in exports().items()}
     for name in sorted(set(here) | set(functions)):
         if here.get(name) != functions.get(name):

@@ -1,7 +1,9 @@
 #!/bin/sh
 # The C interface and the Rust crate, tried: run.sh, anywhere in a clone.
 #
-# Debian packages: clang valgrind python3, and cargo for the Rust crate. The kit's `rt` builds the archive.
+# Debian packages: clang g++ valgrind python3. For the Rust crate cargo 1.85 or newer: Debian 12 has an older one, so take
+# it from https://rustup.rs, or from Debian 13. The kit's `rt` builds the archive; FRAMEHOP_LIB names the folders of one
+# that is built (libframehop_c.a, and the kit's liblibc_c.a), with a colon between.
 set -eu
 top=$(cd "$(dirname "$0")/../.." && pwd)
 here="$top/bindings/test"
@@ -59,6 +61,22 @@ for request in $(seq "$requests"); do
 done
 echo "walk.c: each of $requests requests for memory fails in turn"
 
+# the cases of the gate, by one call and by a callback
+build -g -fsanitize=address,undefined "$here/cases.c" $archives -o "$work/cases"
+python3 "$here/cases.py" c window "$work/cases"
+python3 "$here/cases.py" c callback "$work/cases"
+
+# the header, as other compilers read it
+for language in c c++; do
+    for compiler in gcc g++ clang; do
+        if command -v $compiler > /dev/null; then
+            echo '#include "framehop.h"' \
+                | $compiler -x$language -Wall -Wextra -pedantic -Werror -fsyntax-only -I"$top/bindings/include" -
+        fi
+    done
+done
+echo "framehop.h: no warning"
+
 # a shared object, which Python loads
 set -- $archives
 first=$1
@@ -69,5 +87,19 @@ diff "$work/frames" "$work/expected"
 echo "walk.py: $(grep -c . "$work/frames") lines as expected"
 
 if command -v cargo > /dev/null; then
-    cd "$top/bindings/rust" && CARGO_TARGET_DIR="$work/target" cargo test --quiet
+    export CARGO_TARGET_DIR="${CARGO_TARGET_DIR:-$work/target}"
+    cd "$top/bindings/rust"
+    cargo test --offline --quiet
+    cargo build --offline --quiet --example cases
+    python3 "$here/cases.py" rust window "$CARGO_TARGET_DIR/debug/examples/cases"
+    python3 "$here/cases.py" rust callback "$CARGO_TARGET_DIR/debug/examples/cases"
+    if command -v valgrind > /dev/null; then
+        quiet="valgrind -q --error-exitcode=9 --leak-check=full --show-leak-kinds=definite --errors-for-leak-kinds=definite"
+        for tests in "$CARGO_TARGET_DIR"/debug/deps/surface-* "$CARGO_TARGET_DIR"/debug/deps/readme-*; do
+            case $tests in *.d) continue ;; esac
+            $quiet "$tests" --test-threads 1 > "$work/tests" || { cat "$work/tests"; exit 1; }
+        done
+        python3 "$here/cases.py" rust callback --only walks $quiet "$CARGO_TARGET_DIR/debug/examples/cases"
+        echo "Rust: no error under valgrind"
+    fi
 fi

@@ -15,15 +15,16 @@ def start(number):
 
 def add(number):
     sections = [] if number % 2 else [{"name": ".debug_frame", "data": FRAMES}]
-    return {"do": "add", "unwinder": 0, "name": "m", "start": f"{start(number):x}", "end": f"{start(number) + 0x1000:x}",
-            "base": f"{start(number):x}", "base_svma": "1000", "sections": sections, "segments": []}
+    begin, end = f"{start(number):x}", f"{start(number) + 0x1000:x}"
+    return {"do": "add", "unwinder": 0, "name": "m", "start": begin, "end": end, "base": begin, "base_svma": "1000",
+            "sections": sections, "segments": []}
 
 
 def step(unwinder, number):
     regs = {"ip": "1", "sp": "10", "bp": "20"}
     memory = {"base": "0", "words": ["1", "2", "300", "4", "40", "500"]}
-    return {"do": "step", "unwinder": unwinder, "cache": 0, "kind": "ra", "address": f"{start(number) + 17:x}", "regs": regs,
-            "memory": memory}
+    return {"do": "step", "unwinder": unwinder, "cache": 0, "kind": "ra", "address": f"{start(number) + 17:x}",
+            "regs": regs, "memory": memory}
 
 
 def caller(ip, rsp, rbp):
@@ -39,4 +40,6 @@ removals = [it for n in each for it in ({"do": "remove", "unwinder": 0, "start":
 commands = [{"do": "new"}, *map(add, each), {"do": "clone", "unwinder": 0}, *(step(u, n) for u in (0, 1) for n in each),
             *removals, *(step(1, n) for n in each)]
 INPUT = '{"arch":"x86_64","policy":"both","caches":1,"commands":' + json.dumps(commands) + "}"
-EXPECTED = "new 0\n" + "add\n" * MODULES + "clone 1\n" + in_each * 2 + ("remove\n" + by_frame_pointer) * MODULES + in_each
+EXPECTED = (
+    "new 0\n" + "add\n" * MODULES + "clone 1\n" + in_each * 2 + ("remove\n" + by_frame_pointer) * MODULES + in_each
+)

@@ -16,7 +16,8 @@ module = {"do": "add", "unwinder": 0, "name": "m", "start": "0", "end": "400000"
 def step(address):
     regs = {"ip": f"{address:x}", "sp": "10", "bp": "20"}
     memory = {"base": "0", "words": ["1", "2", "300", "4", "40", "500"]}
-    return {"do": "step", "unwinder": 0, "cache": 0, "kind": "ip", "address": f"{address:x}", "regs": regs, "memory": memory}
+    return {"do": "step", "unwinder": 0, "cache": 0, "kind": "ip", "address": f"{address:x}", "regs": regs,
+            "memory": memory}
 
 
 def caller(ip, rsp):

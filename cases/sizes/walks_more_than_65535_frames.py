@@ -1,4 +1,5 @@
-"""A stack of 70,000 frame records, each 16 bytes above the one before: a walk to a limit of 66,000, and one to the root."""
+"""A stack of 70,000 frame records, each 16 bytes above the one before: a walk to a limit of 66,000, and one to the
+root."""
 import json
 
 FRAMES, LIMIT, STACK = 70_000, 66_000, 0x7000

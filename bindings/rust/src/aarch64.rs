@@ -1,12 +1,13 @@
 //! Unwinding on aarch64.
-use crate::unwinder::{Unwinder, end_of, step_with, unwinder};
+use crate::unwinder::{Step, Unwinder, end_of, step_with, unwinder};
+use crate::words::Words;
 use crate::{
     AllocationPolicy, CacheStats, Error, FrameAddress, Generations, MayAllocateDuringUnwind, Module, ModuleListError,
-    Owned, SectionData, raw,
+    Owned, raw,
 };
 use std::fmt;
 use std::marker::PhantomData;
-use std::rc::Rc;
+use std::ops::Deref;
 
 /// The bits of a pointer that are its address.
 #[derive(Clone, Copy, Debug, PartialEq, Eq, PartialOrd, Ord, Hash)]
@@ -78,8 +79,11 @@ impl UnwindRegsAarch64 {
 
 impl fmt::Debug for UnwindRegsAarch64 {
     fn fmt(&self, f: &mut fmt::Formatter<'_>) -> fmt::Result {
-        let (lr, sp, fp) = (self.lr(), self.sp(), self.fp());
-        write!(f, "UnwindRegsAarch64 {{ lr: {lr:#x}, sp: {sp:#x}, fp: {fp:#x} }}")
+        f.debug_struct("UnwindRegsAarch64")
+            .field("lr", &format_args!("{:x}", self.lr()))
+            .field("sp", &format_args!("{:x}", self.sp()))
+            .field("fp", &format_args!("{:x}", self.fp()))
+            .finish()
     }
 }
 

@@ -1,23 +1,148 @@
 //! A stack frame unwinder with framehop's interface, over the archive `libframehop_c.a`, which is proved. What is
 //! proved begins at the calls of that archive; this crate keeps the duties that its header asks for.
 //!
-//! Unwinders that share a cache must draw from one [`Generations`]. It is the one thing that framehop has not: there
-//! a static counter is in its place.
+//! Unwinders, caches and modules that were added stay on the thread that made them. All unwinders of a thread draw
+//! from one counter of generations, so that they can share a cache.
+//!
+//! # Bytes that are lent outlive the unwinder
+//!
+//! ```
+//! use framehop_rattle::x86_64::UnwinderX86_64;
+//! use framehop_rattle::{ExplicitModuleSectionInfo, Module, Unwinder};
+//!
+//! fn module(bytes: &[u8]) -> Module<&[u8]> {
+//!     let info = ExplicitModuleSectionInfo { debug_frame: Some(bytes), ..Default::default() };
+//!     Module::new(String::new(), 0x1000..0x2000, 0x1000, info)
+//! }
+//!
+//! let bytes = vec![0; 4];
+//! let mut unwinder: UnwinderX86_64<_> = UnwinderX86_64::new();
+//! unwinder.add_module(module(&bytes));
+//! ```
+//!
+//! Nothing else compiles. The unwinder is declared first, so it would be dropped last:
+//!
+//! ```compile_fail,E0597
+//! # use framehop_rattle::x86_64::UnwinderX86_64;
+//! # use framehop_rattle::{ExplicitModuleSectionInfo, Module, Unwinder};
+//! # fn module(bytes: &[u8]) -> Module<&[u8]> {
+//! #     let info = ExplicitModuleSectionInfo { debug_frame: Some(bytes), ..Default::default() };
+//! #     Module::new(String::new(), 0x1000..0x2000, 0x1000, info)
+//! # }
+//! let mut unwinder: UnwinderX86_64<_> = UnwinderX86_64::new();
+//! let bytes = vec![0; 4];
+//! unwinder.add_module(module(&bytes));
+//! ```
+//!
+//! The clone is declared first:
+//!
+//! ```compile_fail,E0597
+//! # use framehop_rattle::aarch64::UnwinderAarch64;
+//! # use framehop_rattle::{ExplicitModuleSectionInfo, Module, Unwinder};
+//! # fn module(bytes: &[u8]) -> Module<&[u8]> {
+//! #     let info = ExplicitModuleSectionInfo { debug_frame: Some(bytes), ..Default::default() };
+//! #     Module::new(String::new(), 0x1000..0x2000, 0x1000, info)
+//! # }
+//! let clone: UnwinderAarch64<_>;
+//! let bytes = vec![0; 4];
+//! let mut unwinder: UnwinderAarch64<_> = UnwinderAarch64::new();
+//! unwinder.add_module(module(&bytes));
+//! clone = unwinder.clone();
+//! ```
+//!
+//! Both are in one binding, whose drops come in an order of its own:
+//!
+//! ```compile_fail,E0597
+//! # use framehop_rattle::x86_64::UnwinderX86_64;
+//! # use framehop_rattle::{ExplicitModuleSectionInfo, Module, Unwinder};
+//! # fn module(bytes: &[u8]) -> Module<&[u8]> {
+//! #     let info = ExplicitModuleSectionInfo { debug_frame: Some(bytes), ..Default::default() };
+//! #     Module::new(String::new(), 0x1000..0x2000, 0x1000, info)
+//! # }
+//! let (mut unwinder, bytes): (UnwinderX86_64<_>, Vec<u8>) = (UnwinderX86_64::new(), vec![0; 4]);
+//! unwinder.add_module(module(&bytes));
+//! ```
+//!
+//! The bytes are dropped by hand, also where the module is removed before that:
+//!
+//! ```compile_fail,E0505
+//! # use framehop_rattle::x86_64::UnwinderX86_64;
+//! # use framehop_rattle::{ExplicitModuleSectionInfo, Module, Unwinder};
+//! # fn module(bytes: &[u8]) -> Module<&[u8]> {
+//! #     let info = ExplicitModuleSectionInfo { debug_frame: Some(bytes), ..Default::default() };
+//! #     Module::new(String::new(), 0x1000..0x2000, 0x1000, info)
+//! # }
+//! let bytes = vec![0; 4];
+//! let mut unwinder: UnwinderX86_64<_> = UnwinderX86_64::new();
+//! unwinder.add_module(module(&bytes));
+//! unwinder.remove_module(0x1000);
+//! drop(bytes);
+//! ```
+//!
+//! # Nothing leaves its thread
+//!
+//! ```compile_fail,E0277
+//! fn leaves<T: Send>(_: T) {}
+//! leaves(framehop_rattle::x86_64::UnwinderX86_64::<Vec<u8>>::new());
+//! ```
+//!
+//! ```compile_fail,E0277
+//! fn is_shared<T: Sync>(_: T) {}
+//! is_shared(framehop_rattle::aarch64::UnwinderAarch64::<Vec<u8>>::new());
+//! ```
+//!
+//! ```compile_fail,E0277
+//! fn leaves<T: Send>(_: T) {}
+//! leaves(framehop_rattle::aarch64::CacheAarch64::new());
+//! ```
+//!
+//! ```compile_fail,E0277
+//! fn is_shared<T: Sync>(_: T) {}
+//! is_shared(framehop_rattle::x86_64::CacheX86_64::new());
+//! ```
+//!
+//! A module may be made on another thread:
+//!
+//! ```
+//! fn leaves<T: Send>() {}
+//! leaves::<framehop_rattle::Module<Vec<u8>>>();
+//! ```
 
+use std::cell::OnceCell;
 use std::fmt;
 use std::num::NonZeroU64;
-
 use std::rc::Rc;
 
 pub mod aarch64;
 mod module;
 mod raw;
 mod unwinder;
+mod words;
 pub mod x86_64;
 
-pub use module::{ExplicitModuleSectionInfo, Module, ModuleSectionInfo, SectionData};
+pub use module::{ExplicitModuleSectionInfo, Module, ModuleSectionInfo};
 pub use raw::CacheStats;
 pub use unwinder::{UnwindIterator, Unwinder};
+
+/// The cache of the architecture that this crate is compiled for.
+#[cfg(target_arch = "aarch64")]
+pub type CacheNative<P> = aarch64::CacheAarch64<P>;
+/// The registers of the architecture that this crate is compiled for.
+#[cfg(target_arch = "aarch64")]
+pub type UnwindRegsNative = aarch64::UnwindRegsAarch64;
+/// The unwinder of the architecture that this crate is compiled for.
+#[cfg(target_arch = "aarch64")]
+pub type UnwinderNative<D, P> = aarch64::UnwinderAarch64<D, P>;
+
+/// The cache of the architecture that this crate is compiled for.
+#[cfg(target_arch = "x86_64")]
+pub type CacheNative<P> = x86_64::CacheX86_64<P>;
+/// The registers of the architecture that this crate is compiled for.
+#[cfg(target_arch = "x86_64")]
+pub type UnwindRegsNative = x86_64::UnwindRegsX86_64;
+/// The unwinder of the architecture that this crate is compiled for.
+#[cfg(target_arch = "x86_64")]
+pub type UnwinderNative<D, P> = x86_64::UnwinderX86_64<D, P>;
 
 /// A code address of a frame (AVMA): the instruction pointer or a return address.
 #[derive(Clone, Copy, Debug, PartialEq, Eq)]
@@ -66,17 +191,18 @@ pub enum Error {
     DidNotAdvance,
     IntegerOverflow,
     ReturnAddressIsNull,
+    /// An allocation failed; or, under [`MustNotAllocateDuringUnwind`], a frame asked for more than 512 stack words.
     OutOfMemory,
 }
 
 impl fmt::Display for Error {
     fn fmt(&self, f: &mut fmt::Formatter<'_>) -> fmt::Result {
         match self {
-            Error::CouldNotReadStack(address) => write!(f, "Could not read stack memory at 0x{address:x}"),
-            Error::FramepointerUnwindingMovedBackwards => f.write_str("Frame pointer unwinding moved backwards"),
-            Error::DidNotAdvance => {
-                f.write_str("Neither the code address nor the stack pointer changed, would loop")
+            Error::CouldNotReadStack(address) => {
+                write!(f, "Could not read stack memory at 0x{address:x}")
             }
+            Error::FramepointerUnwindingMovedBackwards => f.write_str("Frame pointer unwinding moved backwards"),
+            Error::DidNotAdvance => f.write_str("Neither the code address nor the stack pointer changed, would loop"),
             Error::IntegerOverflow => f.write_str("Unwinding caused integer overflow"),
             Error::ReturnAddressIsNull => f.write_str("Return address is null"),
             Error::OutOfMemory => f.write_str("Out of memory"),
@@ -152,30 +278,34 @@ impl Drop for Owned {
     }
 }
 
-/// The counter from which lists of modules draw their numbers. Clones are the same counter.
+/// The counter from which lists of modules draw their numbers: one a thread, which its unwinders keep alive.
 #[derive(Clone)]
-pub struct Generations(Rc<Owned>);
+struct Generations(Rc<Owned>);
+
+thread_local! {
+    static GENERATIONS: OnceCell<Generations> = const { OnceCell::new() };
+}
 
 impl Generations {
-    /// A counter that starts at 0.
-    ///
-    /// # Panics
-    ///
-    /// Where memory runs out; [`Generations::try_new`] returns that.
-    pub fn new() -> Self {
-        Self::try_new().expect("out of memory")
-    }
-
-    pub fn try_new() -> Result<Self, ModuleListError> {
+    fn new() -> Result<Self, ModuleListError> {
         // SAFETY: the place is lent for the call
         let made = Owned::new(|place| unsafe { raw::framehop_generations_new(place) })?;
         Ok(Generations(Rc::new(made)))
     }
-}
 
-impl Default for Generations {
-    fn default() -> Self {
-        Self::new()
+    /// The counter of this thread. A second one is never made, since a cache may have served the first.
+    ///
+    /// # Panics
+    ///
+    /// In a destructor of a thread-local value that runs after the counter's own.
+    fn of_thread() -> Result<Self, ModuleListError> {
+        GENERATIONS.with(|made| match made.get() {
+            Some(generations) => Ok(generations.clone()),
+            None => {
+                let generations = Generations::new()?;
+                Ok(made.get_or_init(|| generations).clone())
+            }
+        })
     }
 }
 

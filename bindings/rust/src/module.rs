@@ -1,43 +1,33 @@
 //! Modules and their sections.
 use crate::raw;
+use std::fmt;
 use std::ops::{Deref, Range};
-use std::rc::Rc;
 use std::sync::Arc;
 
-mod sealed {
-    pub trait Data {}
-}
-
-/// What holds the bytes of a section, and lends the same bytes each time. Other types lend a slice, `&[u8]`.
-pub trait SectionData: Deref<Target = [u8]> + sealed::Data {}
-
-macro_rules! section_data {
-    ($($data:ty),*) => {$(
-        impl sealed::Data for $data {}
-        impl SectionData for $data {}
-    )*};
-}
-
-section_data!(&[u8], Vec<u8>, Box<[u8]>, Rc<[u8]>, Arc<[u8]>);
-
-/// How a module lends the bytes of its sections, and tells where they lie (SVMAs).
+/// How a module lends the bytes of its sections, and says where they lie (SVMAs). [`Module::new`] calls each function
+/// at most once with a name, so that data can be moved out.
 pub trait ModuleSectionInfo<D> {
+    /// Returns the base as stated in the file: 0 for ELF, the vmaddr of `__TEXT` for Mach-O, the image base for PE.
     fn base_svma(&self) -> u64;
 
+    /// Returns where a section lies, as stated in the file.
     fn section_svma_range(&mut self, name: &[u8]) -> Option<Range<u64>>;
 
+    /// Returns the bytes of a section.
     fn section_data(&mut self, name: &[u8]) -> Option<D>;
 
+    /// Returns where a segment lies, as stated in the file.
     fn segment_svma_range(&mut self, _name: &[u8]) -> Option<Range<u64>> {
         None
     }
 
+    /// Returns the bytes of a segment.
     fn segment_data(&mut self, _name: &[u8]) -> Option<D> {
         None
     }
 }
 
-/// The sections of a module, one by one (SVMAs).
+/// The sections of a module, one by one (SVMAs). It has none of PE files: implement [`ModuleSectionInfo`] for them.
 #[derive(Clone, Debug, PartialEq, Eq)]
 pub struct ExplicitModuleSectionInfo<D> {
     /// The base as stated in the file: 0 for ELF, the vmaddr of `__TEXT` for Mach-O.
@@ -136,15 +126,14 @@ struct Section<D> {
     data: Option<D>,
 }
 
-impl<D: SectionData> Section<D> {
-    /// The section under the first of these names that has data, with the range of the first that has one.
-    fn of<I: ModuleSectionInfo<D>>(info: &mut I, names: &[&[u8]]) -> Self {
-        Section {
-            range: names.iter().find_map(|name| info.section_svma_range(name)),
-            data: names.iter().find_map(|name| info.section_data(name)),
-        }
+impl<D> Default for Section<D> {
+    fn default() -> Self {
+        Section { range: None, data: None }
     }
+}
 
+impl<D: Deref<Target = [u8]>> Section<D> {
+    /// The section for one call. Its bytes are borrowed from this one, where it is.
     fn raw(&self) -> raw::Section {
         let range = self.range.clone().unwrap_or(0..0);
         let bytes: &[u8] = self.data.as_deref().unwrap_or(&[]);
@@ -158,11 +147,8 @@ impl<D: SectionData> Section<D> {
     }
 }
 
-/// A module that is loaded in a process, with the data of its sections.
-pub struct Module<D: SectionData> {
-    name: String,
-    avma_range: Range<u64>,
-    base_avma: u64,
+/// The sections by which the frames of a module are unwound. What isn't used is not asked for.
+struct Sections<D> {
     base_svma: u64,
     text: Section<D>,
     stubs: Section<D>,
@@ -178,7 +164,122 @@ pub struct Module<D: SectionData> {
     xdata: Section<D>,
 }
 
-impl<D: SectionData> Module<D> {
+/// The range of the first of these sections that has one.
+fn range_under<D>(info: &mut impl ModuleSectionInfo<D>, names: &[&[u8]]) -> Option<Range<u64>> {
+    names.iter().find_map(|name| info.section_svma_range(name))
+}
+
+/// The bytes of the first of these sections that has some.
+fn data_under<D>(info: &mut impl ModuleSectionInfo<D>, names: &[&[u8]]) -> Option<D> {
+    names.iter().find_map(|name| info.section_data(name))
+}
+
+impl<D> Sections<D> {
+    fn none(base_svma: u64) -> Self {
+        Sections {
+            base_svma,
+            text: Section::default(),
+            stubs: Section::default(),
+            stub_helper: Section::default(),
+            got: Section::default(),
+            unwind_info: Section::default(),
+            eh_frame: Section::default(),
+            eh_frame_hdr: Section::default(),
+            debug_frame: Section::default(),
+            text_segment: Section::default(),
+            pdata: Section::default(),
+            rdata: Section::default(),
+            xdata: Section::default(),
+        }
+    }
+
+    /// Compact unwind info, else PE unwind info, else `.eh_frame`, else `.debug_frame`: the first kind of unwind data
+    /// that there is, as framehop asks for them.
+    fn of(info: &mut impl ModuleSectionInfo<D>) -> Self {
+        let mut sections = Sections::none(info.base_svma());
+        if let Some(unwind_info) = info.section_data(b"__unwind_info") {
+            sections.unwind_info.data = Some(unwind_info);
+            sections.take_compact(info);
+        } else if let Some(pdata) = info.section_data(b".pdata") {
+            sections.pdata.data = Some(pdata);
+            sections.rdata = sections.fitting(info, b".rdata");
+            sections.xdata = sections.fitting(info, b".xdata");
+            sections.text = sections.fitting(info, b".text");
+        } else if let Some(eh_frame) = data_under(info, &[b".eh_frame", b"__eh_frame"]) {
+            sections.eh_frame.data = Some(eh_frame);
+            sections.eh_frame_hdr.data = data_under(info, &[b".eh_frame_hdr", b"__eh_frame_hdr"]);
+            sections.take_bases(info);
+            sections.text.range = range_under(info, &[b"__text", b".text"]);
+        } else if let Some(debug_frame) = info.section_data(b".debug_frame") {
+            sections.debug_frame.data = Some(debug_frame);
+            sections.take_bases(info);
+            sections.text.range = range_under(info, &[b"__text", b".text"]);
+        }
+        sections
+    }
+
+    /// What goes with compact unwind info: the code is that of the segment, or else that of the section `__text`.
+    fn take_compact(&mut self, info: &mut impl ModuleSectionInfo<D>) {
+        self.eh_frame.data = info.section_data(b"__eh_frame");
+        self.stubs.range = info.section_svma_range(b"__stubs");
+        self.stub_helper.range = info.section_svma_range(b"__stub_helper");
+        let segment = Section { data: info.segment_data(b"__TEXT"), range: info.segment_svma_range(b"__TEXT") };
+        let has_segment = segment.data.is_some() && segment.range.is_some();
+        self.text.range = info.section_svma_range(b"__text");
+        if has_segment {
+            self.text_segment = segment;
+        } else if self.text.range.is_some() {
+            self.text.data = info.section_data(b"__text");
+        }
+        if self.text.range.is_none() {
+            self.text.range = info.section_svma_range(b".text");
+        }
+        self.take_bases(info);
+    }
+
+    /// Where the sections lie to which pointers in call frame sections may be relative, but for the text.
+    fn take_bases(&mut self, info: &mut impl ModuleSectionInfo<D>) {
+        self.eh_frame.range = range_under(info, &[b"__eh_frame", b".eh_frame"]);
+        self.eh_frame_hdr.range = range_under(info, &[b"__eh_frame_hdr", b".eh_frame_hdr"]);
+        self.got.range = range_under(info, &[b"__got", b".got"]);
+    }
+
+    /// The section of a PE file, if its relative addresses fit 32 bits.
+    fn fitting(&self, info: &mut impl ModuleSectionInfo<D>, name: &[u8]) -> Section<D> {
+        let fits = |svma: u64| svma.checked_sub(self.base_svma).is_some_and(|rva| u32::try_from(rva).is_ok());
+        let range = info.section_svma_range(name).filter(|range| fits(range.start) && fits(range.end));
+        let data = if range.is_some() { info.section_data(name) } else { None };
+        Section { range, data }
+    }
+}
+
+struct Loaded<D> {
+    name: String,
+    avma_range: Range<u64>,
+    base_avma: u64,
+    sections: Sections<D>,
+}
+
+/// A module that is loaded in a process, with the data of its sections. Clones share the data.
+///
+/// The data of a section is any type that lends bytes, by `Deref<Target = [u8]>`: `Vec<u8>`, `&[u8]`, an `Arc`, a
+/// mapping of a file. It is dropped when the last clone of the module is, and the last unwinder that has it.
+pub struct Module<D>(Arc<Loaded<D>>);
+
+impl<D> Clone for Module<D> {
+    fn clone(&self) -> Self {
+        Module(self.0.clone())
+    }
+}
+
+impl<D> fmt::Debug for Module<D> {
+    fn fmt(&self, f: &mut fmt::Formatter<'_>) -> fmt::Result {
+        let Loaded { name, avma_range, base_avma, .. } = &*self.0;
+        write!(f, "Module {{ name: {name:?}, avma_range: {avma_range:#x?}, base_avma: {base_avma:#x} }}")
+    }
+}
+
+impl<D: Deref<Target = [u8]>> Module<D> {
     /// A module that is loaded at the addresses (AVMAs) of a range, whose relative address 0 is `base_avma`.
     pub fn new(
         name: String,
@@ -186,60 +287,45 @@ impl<D: SectionData> Module<D> {
         base_avma: u64,
         mut section_info: impl ModuleSectionInfo<D>,
     ) -> Self {
-        let info = &mut section_info;
-        Module {
-            name,
-            avma_range,
-            base_avma,
-            base_svma: info.base_svma(),
-            text: Section::of(info, &[b"__text", b".text"]),
-            stubs: Section::of(info, &[b"__stubs"]),
-            stub_helper: Section::of(info, &[b"__stub_helper"]),
-            got: Section::of(info, &[b"__got", b".got"]),
-            unwind_info: Section::of(info, &[b"__unwind_info"]),
-            eh_frame: Section::of(info, &[b"__eh_frame", b".eh_frame"]),
-            eh_frame_hdr: Section::of(info, &[b"__eh_frame_hdr", b".eh_frame_hdr"]),
-            debug_frame: Section::of(info, &[b"__debug_frame", b".debug_frame"]),
-            text_segment: Section {
-                range: info.segment_svma_range(b"__TEXT"),
-                data: info.segment_data(b"__TEXT"),
-            },
-            pdata: Section::of(info, &[b".pdata"]),
-            rdata: Section::of(info, &[b".rdata"]),
-            xdata: Section::of(info, &[b".xdata"]),
-        }
+        let sections = Sections::of(&mut section_info);
+        Module(Arc::new(Loaded { name, avma_range, base_avma, sections }))
     }
 
-    pub fn name(&self) -> &str {
-        &self.name
-    }
-
-    /// The addresses (AVMAs).
-    pub fn avma_range(&self) -> Range<u64> {
-        self.avma_range.clone()
-    }
-
-    /// The address (AVMA) of the relative address 0.
-    pub fn base_avma(&self) -> u64 {
-        self.base_avma
-    }
-
-    /// The sections, whose bytes stay where they are for as long as this module does.
+    /// The sections, whose bytes are borrowed from the data that this module and its clones share. They stay valid
+    /// for as long as one of those lives: the data is not moved, and nobody borrows it mutably.
     pub(crate) fn raw_sections(&self) -> raw::Sections {
+        let sections = &self.0.sections;
         raw::Sections {
-            base_svma: self.base_svma,
-            text: self.text.raw(),
-            stubs: self.stubs.raw(),
-            stub_helper: self.stub_helper.raw(),
-            got: self.got.raw(),
-            unwind_info: self.unwind_info.raw(),
-            eh_frame: self.eh_frame.raw(),
-            eh_frame_hdr: self.eh_frame_hdr.raw(),
-            debug_frame: self.debug_frame.raw(),
-            text_segment: self.text_segment.raw(),
-            pdata: self.pdata.raw(),
-            rdata: self.rdata.raw(),
-            xdata: self.xdata.raw(),
+            base_svma: sections.base_svma,
+            text: sections.text.raw(),
+            stubs: sections.stubs.raw(),
+            stub_helper: sections.stub_helper.raw(),
+            got: sections.got.raw(),
+            unwind_info: sections.unwind_info.raw(),
+            eh_frame: sections.eh_frame.raw(),
+            eh_frame_hdr: sections.eh_frame_hdr.raw(),
+            debug_frame: sections.debug_frame.raw(),
+            text_segment: sections.text_segment.raw(),
+            pdata: sections.pdata.raw(),
+            rdata: sections.rdata.raw(),
+            xdata: sections.xdata.raw(),
         }
+    }
+}
+
+impl<D> Module<D> {
+    /// Returns the name that [`Module::new`] was given.
+    pub fn name(&self) -> &str {
+        &self.0.name
+    }
+
+    /// Returns the addresses (AVMAs).
+    pub fn avma_range(&self) -> Range<u64> {
+        self.0.avma_range.clone()
+    }
+
+    /// Returns the address (AVMA) of the relative address 0.
+    pub fn base_avma(&self) -> u64 {
+        self.0.base_avma
     }
 }

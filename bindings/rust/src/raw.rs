@@ -101,6 +101,81 @@ pub struct CacheStats {
     pub miss_wrong_address_count: u64,
 }
 
+impl CacheStats {
+    /// Returns counts of 0.
+    pub fn new() -> Self {
+        Self::default()
+    }
+
+    /// Returns how many lookups there were.
+    pub fn total(&self) -> u64 {
+        self.hits().saturating_add(self.misses())
+    }
+
+    /// Returns how many lookups hit.
+    pub fn hits(&self) -> u64 {
+        self.hit_count
+    }
+
+    /// Returns how many lookups missed.
+    pub fn misses(&self) -> u64 {
+        self.miss_empty_slot_count
+            .saturating_add(self.miss_wrong_modules_count)
+            .saturating_add(self.miss_wrong_address_count)
+    }
+
+    /// The counts of this and another.
+    pub(crate) fn plus(&self, other: &CacheStats) -> CacheStats {
+        self.by(other, u64::saturating_add)
+    }
+
+    /// The counts of this that another has not.
+    pub(crate) fn minus(&self, other: &CacheStats) -> CacheStats {
+        self.by(other, u64::saturating_sub)
+    }
+
+    fn by(&self, other: &CacheStats, count: impl Fn(u64, u64) -> u64) -> CacheStats {
+        CacheStats {
+            hit_count: count(self.hit_count, other.hit_count),
+            miss_empty_slot_count: count(self.miss_empty_slot_count, other.miss_empty_slot_count),
+            miss_wrong_modules_count: count(self.miss_wrong_modules_count, other.miss_wrong_modules_count),
+            miss_wrong_address_count: count(self.miss_wrong_address_count, other.miss_wrong_address_count),
+        }
+    }
+}
+
+/// Asserts the size of a struct and the offset of each of its fields, in bytes: what the System V ABI for x86_64 and
+/// the procedure call standard for aarch64 give the header's struct.
+macro_rules! lies {
+    ($name:ty: $size:literal { $($field:ident $(. $inner:ident)* : $offset:literal),* $(,)? }) => {
+        const _: () = {
+            assert!(size_of::<$name>() == $size && align_of::<$name>() == 8);
+            $(assert!(std::mem::offset_of!($name, $field $(. $inner)*) == $offset);)*
+        };
+    };
+}
+
+#[cfg(target_pointer_width = "64")]
+mod layout {
+    use super::*;
+
+    lies!(Handle: 8 { address: 0 });
+    lies!(Bytes: 16 { start: 0, length: 8 });
+    lies!(Section: 40 { svma_start: 0, svma_end: 8, bytes.start: 16, bytes.length: 24, has_range: 32, has_bytes: 33 });
+    lies!(Sections: 488 {
+        base_svma: 0, text: 8, stubs: 48, stub_helper: 88, got: 128, unwind_info: 168, eh_frame: 208,
+        eh_frame_hdr: 248, debug_frame: 288, text_segment: 328, pdata: 368, rdata: 408, xdata: 448,
+    });
+    lies!(RegistersX86_64: 136 { ip: 0, general: 8 });
+    lies!(RegistersAarch64: 32 { lr_mask: 0, lr: 8, sp: 16, fp: 24 });
+    lies!(Window: 24 { base: 0, words: 8, word_count: 16 });
+    lies!(Walk: 16 { frame_count: 0, unreadable: 8 });
+    lies!(Step: 32 { return_address: 0, unreadable: 8, missing: 16, has_missing: 24 });
+    lies!(CacheStats: 32 {
+        hit_count: 0, miss_empty_slot_count: 8, miss_wrong_modules_count: 16, miss_wrong_address_count: 24,
+    });
+}
+
 unsafe extern "C" {
     pub fn framehop_generations_new(place: *mut Handle) -> i32;
     pub fn framehop_free(handle: Handle);
@@ -122,11 +197,7 @@ macro_rules! declare {
                 base_avma: u64,
                 sections: *const Sections,
             ) -> i32;
-            pub fn $remove_module(
-                unwinder: *mut Handle,
-                generations: *mut Handle,
-                avma_start: u64,
-            ) -> i32;
+            pub fn $remove_module(unwinder: *mut Handle, generations: *mut Handle, avma_start: u64) -> i32;
             pub fn $max_known_code_address(unwinder: *mut Handle, address: *mut u64) -> i32;
             pub fn $walk(
                 unwinder: *mut Handle,

@@ -1,10 +1,11 @@
 //! What unwinders of all architectures have, and the iterator over the frames of a stack.
-use crate::{Error, FrameAddress, ModuleListError, raw};
+use crate::words::Words;
+use crate::{CacheStats, Error, FrameAddress, raw};
 
 /// An unwinder for one architecture: the modules of one process, and unwinding by them.
 pub trait Unwinder: Clone {
     /// The registers that unwinding needs.
-    type UnwindRegs: Copy;
+    type UnwindRegs;
 
     /// A cache of the unwinder's policy.
     type Cache;
@@ -16,51 +17,44 @@ pub trait Unwinder: Clone {
     ///
     /// # Panics
     ///
-    /// Where memory runs out; [`Unwinder::try_add_module`] returns that.
-    fn add_module(&mut self, module: Self::Module) {
-        self.try_add_module(module).expect("out of memory");
-    }
-
-    /// Adds a module, unless memory or generations run out. Then nothing has changed.
-    fn try_add_module(&mut self, module: Self::Module) -> Result<(), ModuleListError>;
+    /// Where memory or generations run out; `try_add_module` returns that.
+    fn add_module(&mut self, module: Self::Module);
 
     /// Removes the newest module that starts at the address (AVMA), if there is one.
+    ///
+    /// # Panics
+    ///
+    /// Where generations run out, after 2^64 - 1 changes of modules; `try_remove_module` returns that.
     fn remove_module(&mut self, module_avma_range_start: u64);
 
-    /// The greatest end of a module (AVMA), or 0.
+    /// Returns the greatest end of a module (AVMA), or 0.
     fn max_known_code_address(&self) -> u64;
 
-    /// Unwinds a single frame: its return address (AVMA), or `None` at the root of the stack. The callback reads the
-    /// stack word at an address (AVMA), each at most once.
-    fn unwind_frame<F: FnMut(u64) -> Result<u64, ()>>(
+    /// Unwinds a single frame: returns its return address (AVMA), or `None` at the root of the stack. The callback
+    /// reads the stack word at an address (AVMA), each at most once. The registers become the caller's; at the root and
+    /// after an error they are as before.
+    fn unwind_frame<F>(
         &self,
         address: FrameAddress,
         regs: &mut Self::UnwindRegs,
         cache: &mut Self::Cache,
         read_stack: &mut F,
-    ) -> Result<Option<u64>, Error>;
+    ) -> Result<Option<u64>, Error>
+    where
+        F: FnMut(u64) -> Result<u64, ()>;
 
-    /// Walks a stack that was copied, from an instruction pointer (AVMA) on: `stack[i]` is at `stack_base + 8 * i`.
-    /// Returns how many addresses it has written, and whether it has found the root of the stack.
-    fn walk_into(
-        &self,
-        pc: u64,
-        regs: &mut Self::UnwindRegs,
-        cache: &mut Self::Cache,
-        stack_base: u64,
-        stack: &[u64],
-        frames: &mut [u64],
-    ) -> (usize, Result<bool, Error>);
-
-    /// An iterator over the frames of a stack, from an instruction pointer (AVMA) and its registers on.
-    fn iter_frames<'u, 'c, 'r, F: FnMut(u64) -> Result<u64, ()>>(
+    /// Returns an iterator over the frames of a stack, from an instruction pointer (AVMA) and its registers on.
+    fn iter_frames<'u, 'c, 'r, F>(
         &'u self,
         pc: u64,
         regs: Self::UnwindRegs,
         cache: &'c mut Self::Cache,
         read_stack: &'r mut F,
-    ) -> UnwindIterator<'u, 'c, 'r, Self, F> {
-        UnwindIterator { unwinder: self, state: State::Initial(pc), regs, cache, read_stack }
+    ) -> UnwindIterator<'u, 'c, 'r, Self, F>
+    where
+        F: FnMut(u64) -> Result<u64, ()>,
+    {
+        UnwindIterator::new(self, pc, regs, cache, read_stack)
     }
 }
 
@@ -72,7 +66,7 @@ enum State {
 
 /// An iterator over the frames of a stack: the instruction pointer, then return addresses, and `Ok(None)` from the
 /// root on. After an error the next call tries the same frame again.
-pub struct UnwindIterator<'u, 'c, 'r, U: Unwinder + ?Sized, F: FnMut(u64) -> Result<u64, ()>> {
+pub struct UnwindIterator<'u, 'c, 'r, U: Unwinder, F: FnMut(u64) -> Result<u64, ()>> {
     unwinder: &'u U,
     state: State,
     regs: U::UnwindRegs,
@@ -80,7 +74,13 @@ pub struct UnwindIterator<'u, 'c, 'r, U: Unwinder + ?Sized, F: FnMut(u64) -> Res
     read_stack: &'r mut F,
 }
 
-impl<U: Unwinder, F: FnMut(u64) -> Result<u64, ()>> UnwindIterator<'_, '_, '_, U, F> {
+impl<'u, 'c, 'r, U: Unwinder, F: FnMut(u64) -> Result<u64, ()>> UnwindIterator<'u, 'c, 'r, U, F> {
+    /// Returns what [`Unwinder::iter_frames`] returns.
+    pub fn new(unwinder: &'u U, pc: u64, regs: U::UnwindRegs, cache: &'c mut U::Cache, read_stack: &'r mut F) -> Self {
+        UnwindIterator { unwinder, state: State::Initial(pc), regs, cache, read_stack }
+    }
+
+    /// Returns the next frame: first the instruction pointer, then return addresses.
     #[allow(clippy::should_implement_trait)]
     pub fn next(&mut self) -> Result<Option<FrameAddress>, Error> {
         let frame = match self.state {
@@ -100,43 +100,44 @@ impl<U: Unwinder, F: FnMut(u64) -> Result<u64, ()>> UnwindIterator<'_, '_, '_, U
         Ok(Some(frame))
     }
 
-    /// The registers of the frame at which the iterator is.
+    /// Returns the registers of the frame at which the iterator is.
     pub fn regs(&self) -> &U::UnwindRegs {
         &self.regs
     }
 }
 
-/// The words that a callback has read, by address, or that it could not read.
-#[derive(Default)]
-struct Words(Vec<(u64, Option<u64>)>);
+/// One try of a step by the archive, over windows; and the counts of its cache.
+pub(crate) trait Step<R> {
+    fn step(&mut self, regs: &mut R, windows: &[raw::Window], told: &mut raw::Step) -> i32;
 
-impl Words {
-    fn windows(&self) -> Vec<raw::Window> {
-        let window = |(base, word): &(u64, Option<u64>)| raw::Window {
-            base: *base,
-            words: word.as_ref().map_or(std::ptr::dangling(), |word| word),
-            word_count: usize::from(word.is_some()),
-        };
-        self.0.iter().map(window).collect()
-    }
+    fn counts(&mut self) -> CacheStats;
 }
 
 /// Steps until no word is missing. A step that asks for a word of which no window tells has gone on without it, so
-/// its answer may be another than that with the word: the registers are put back, and the step is made again.
+/// its answer may be another than that with the word: the registers are put back, and the step is made again. What the
+/// cache counts again is added to `recounted`.
 pub(crate) fn step_with<R: Copy>(
+    step: &mut impl Step<R>,
     regs: &mut R,
+    words: &mut Words,
+    recounted: &mut CacheStats,
     read_stack: &mut impl FnMut(u64) -> Result<u64, ()>,
-    mut step: impl FnMut(&mut R, &[raw::Window], &mut raw::Step) -> i32,
 ) -> Result<Option<u64>, Error> {
     let before = *regs;
-    let mut words = Words::default();
+    let mut counted = None;
+    words.clear();
     loop {
-        let windows = words.windows();
         let mut told = raw::Step::default();
-        let status = step(regs, &windows, &mut told);
+        let status = step.step(regs, words.windows(), &mut told);
+        if let Some(old) = &counted {
+            let new = step.counts();
+            *recounted = recounted.plus(&new.minus(old));
+            counted = Some(new);
+        }
         if told.has_missing {
             *regs = before;
-            words.0.push((told.missing, read_stack(told.missing).ok()));
+            counted = counted.or_else(|| Some(step.counts()));
+            words.push(told.missing, read_stack(told.missing).ok())?;
             continue;
         }
         return match status {
@@ -147,7 +148,7 @@ pub(crate) fn step_with<R: Copy>(
     }
 }
 
-/// How a walk ended, in the words of [`Unwinder::walk_into`].
+/// How a walk ended, in the words of `walk_into`.
 pub(crate) fn end_of(status: i32, told: &raw::Walk) -> (usize, Result<bool, Error>) {
     let end = match status {
         raw::END => Ok(true),
@@ -161,8 +162,13 @@ pub(crate) fn end_of(status: i32, told: &raw::Walk) -> (usize, Result<bool, Erro
 macro_rules! unwinder {
     ($unwinder:ident, $cache:ident, $regs:ident, $cache_new:ident, $cache_stats:ident, $new:ident, $clone:ident,
         $add_module:ident, $remove_module:ident, $max_known_code_address:ident, $walk:ident, $unwind_frame:ident) => {
-        /// A cache of unwind rules, for unwinders of one policy that draw from one [`Generations`].
-        pub struct $cache<P: AllocationPolicy = MayAllocateDuringUnwind>(Owned, PhantomData<P>);
+        /// A cache of unwind rules, for all unwinders of a thread that have its policy.
+        pub struct $cache<P: AllocationPolicy = MayAllocateDuringUnwind> {
+            cache: Owned,
+            words: Words,
+            recounted: CacheStats,
+            policy: PhantomData<P>,
+        }
 
         impl $cache<MayAllocateDuringUnwind> {
             /// An empty cache.
@@ -170,8 +176,13 @@ macro_rules! unwinder {
             /// # Panics
             ///
             /// Where memory runs out.
-            #[allow(clippy::new_without_default)]
             pub fn new() -> Self {
+                Self::new_in()
+            }
+        }
+
+        impl<P: AllocationPolicy> Default for $cache<P> {
+            fn default() -> Self {
                 Self::new_in()
             }
         }
@@ -186,75 +197,161 @@ macro_rules! unwinder {
                 Self::try_new_in().expect("out of memory")
             }
 
+            /// An empty cache of any policy, unless memory runs out.
             pub fn try_new_in() -> Result<Self, ModuleListError> {
+                let words = Words::new(P::MAY_ALLOCATE)?;
                 // SAFETY: the place is lent for the call
-                let made = Owned::new(|place| unsafe { raw::$cache_new(P::MAY_ALLOCATE, place) })?;
-                Ok($cache(made, PhantomData))
+                let cache = Owned::new(|place| unsafe { raw::$cache_new(P::MAY_ALLOCATE, place) })?;
+                Ok($cache { cache, words, recounted: CacheStats::default(), policy: PhantomData })
             }
 
-            /// How many lookups hit and missed.
+            /// Returns how many lookups hit and missed: one a frame.
             pub fn stats(&self) -> CacheStats {
-                let mut stats = CacheStats::default();
-                // SAFETY: a cache of this architecture, which the call leaves as it is
-                let status = unsafe { raw::$cache_stats(&mut self.0.handle(), &mut stats) };
-                assert_eq!(status, raw::OK);
-                stats
+                counts(&self.cache).minus(&self.recounted)
+            }
+        }
+
+        /// All lookups that the archive has counted.
+        fn counts(cache: &Owned) -> CacheStats {
+            let mut stats = CacheStats::default();
+            // SAFETY: a cache of this architecture, which the call leaves as it is
+            let status = unsafe { raw::$cache_stats(&mut cache.handle(), &mut stats) };
+            assert_eq!(status, raw::OK);
+            stats
+        }
+
+        /// A step from an address, by an unwinder and a cache of one policy.
+        struct StepFrom<'a> {
+            unwinder: &'a Owned,
+            cache: &'a Owned,
+            address: FrameAddress,
+        }
+
+        impl Step<$regs> for StepFrom<'_> {
+            fn step(&mut self, regs: &mut $regs, windows: &[raw::Window], told: &mut raw::Step) -> i32 {
+                // SAFETY: an unwinder and a cache of one policy, and windows that are lent for the call. The callback
+                // is not called meanwhile.
+                unsafe {
+                    raw::$unwind_frame(
+                        &mut self.unwinder.handle(),
+                        &mut self.cache.handle(),
+                        self.address.address(),
+                        self.address.is_return_address(),
+                        &mut regs.0,
+                        windows.as_ptr(),
+                        windows.len(),
+                        told,
+                    )
+                }
+            }
+
+            fn counts(&mut self) -> CacheStats {
+                counts(self.cache)
             }
         }
 
         /// An unwinder. It keeps its modules, whose bytes stay where they are as long as it or a clone has them.
-        pub struct $unwinder<D: SectionData, P: AllocationPolicy = MayAllocateDuringUnwind> {
+        pub struct $unwinder<D, P: AllocationPolicy = MayAllocateDuringUnwind> {
             // freed before the modules
             unwinder: Owned,
             generations: Generations,
-            modules: Vec<Rc<Module<D>>>,
+            modules: Vec<Module<D>>,
             policy: PhantomData<P>,
         }
 
-        impl<D: SectionData, P: AllocationPolicy> $unwinder<D, P> {
+        impl<D, P: AllocationPolicy> Drop for $unwinder<D, P> {
+            /// Nothing but what the fields do. Since it is here, bytes that a module lends must outlive the unwinder.
+            fn drop(&mut self) {}
+        }
+
+        impl<D, P: AllocationPolicy> $unwinder<D, P> {
             /// An unwinder without modules.
             ///
             /// # Panics
             ///
             /// Where memory or generations run out; `try_new` returns that.
-            pub fn new(generations: &Generations) -> Self {
-                Self::try_new(generations).expect("an unwinder")
+            pub fn new() -> Self {
+                Self::try_new().expect("an unwinder")
             }
 
-            pub fn try_new(generations: &Generations) -> Result<Self, ModuleListError> {
+            /// An unwinder without modules, unless memory or generations run out.
+            pub fn try_new() -> Result<Self, ModuleListError> {
+                let generations = Generations::of_thread()?;
                 // SAFETY: the counter is used by one call at a time, since it stays on its thread
-                let unwinder = Owned::new(|place| unsafe {
-                    raw::$new(&mut generations.0.handle(), P::MAY_ALLOCATE, place)
-                })?;
-                Ok($unwinder { unwinder, generations: generations.clone(), modules: Vec::new(), policy: PhantomData })
+                let unwinder =
+                    Owned::new(|place| unsafe { raw::$new(&mut generations.0.handle(), P::MAY_ALLOCATE, place) })?;
+                Ok($unwinder { unwinder, generations, modules: Vec::new(), policy: PhantomData })
             }
 
+            /// Returns an unwinder with the same modules, unless memory runs out.
             pub fn try_clone(&self) -> Result<Self, ModuleListError> {
+                let mut modules = Vec::new();
+                modules.try_reserve(self.modules.len()).map_err(|_| ModuleListError::OutOfMemory)?;
+                modules.extend(self.modules.iter().cloned());
                 // SAFETY: the modules' bytes are kept for the clone too
                 let unwinder = Owned::new(|place| unsafe { raw::$clone(&mut self.unwinder.handle(), place) })?;
-                let (generations, modules) = (self.generations.clone(), self.modules.clone());
-                Ok($unwinder { unwinder, generations, modules, policy: PhantomData })
+                Ok($unwinder { unwinder, generations: self.generations.clone(), modules, policy: PhantomData })
+            }
+
+            /// Removes the newest module that starts at the address (AVMA), if there is one, unless generations run
+            /// out. Then nothing has changed.
+            pub fn try_remove_module(&mut self, module_avma_range_start: u64) -> Result<(), ModuleListError> {
+                // SAFETY: two live handles of two kinds
+                let status = unsafe {
+                    raw::$remove_module(
+                        &mut self.unwinder.handle(),
+                        &mut self.generations.0.handle(),
+                        module_avma_range_start,
+                    )
+                };
+                ModuleListError::of_status(status)?;
+                let starts = |module: &Module<D>| module.avma_range().start == module_avma_range_start;
+                if let Some(newest) = self.modules.iter().rposition(starts) {
+                    self.modules.remove(newest);
+                }
+                Ok(())
+            }
+
+            /// Walks a stack that was copied, from an instruction pointer (AVMA) on: `stack[i]` is at
+            /// `stack_base + 8 * i`. Writes the addresses of the frames to `frames`. Returns how many it has written,
+            /// and whether it has found the root of the stack. This is the fastest way to walk.
+            pub fn walk_into(
+                &self,
+                pc: u64,
+                regs: &mut $regs,
+                cache: &mut $cache<P>,
+                stack_base: u64,
+                stack: &[u64],
+                frames: &mut [u64],
+            ) -> (usize, Result<bool, Error>) {
+                let window = raw::Window { base: stack_base, words: stack.as_ptr(), word_count: stack.len() };
+                let mut told = raw::Walk::default();
+                // SAFETY: an unwinder and a cache of one policy, and words that are lent for the call
+                let status = unsafe {
+                    raw::$walk(
+                        &mut self.unwinder.handle(),
+                        &mut cache.cache.handle(),
+                        pc,
+                        &mut regs.0,
+                        &window,
+                        frames.as_mut_ptr(),
+                        frames.len(),
+                        &mut told,
+                    )
+                };
+                end_of(status, &told)
             }
         }
 
-        impl<D: SectionData, P: AllocationPolicy> Clone for $unwinder<D, P> {
-            fn clone(&self) -> Self {
-                self.try_clone().expect("out of memory")
-            }
-        }
-
-        impl<D: SectionData, P: AllocationPolicy> Unwinder for $unwinder<D, P> {
-            type UnwindRegs = $regs;
-            type Cache = $cache<P>;
-            type Module = Module<D>;
-
-            fn try_add_module(&mut self, module: Module<D>) -> Result<(), ModuleListError> {
-                let module = Rc::new(module);
+        impl<D: Deref<Target = [u8]>, P: AllocationPolicy> $unwinder<D, P> {
+            /// Adds a module, unless memory or generations run out. Then nothing has changed.
+            pub fn try_add_module(&mut self, module: Module<D>) -> Result<(), ModuleListError> {
                 let (avma, base_avma) = (module.avma_range(), module.base_avma());
                 let sections = module.raw_sections();
+                self.modules.try_reserve(1).map_err(|_| ModuleListError::OutOfMemory)?;
                 // first, so that the bytes are kept whatever comes
                 self.modules.push(module);
-                // SAFETY: two live handles of two kinds, and bytes that are borrowed from a module in an `Rc` of ours
+                // SAFETY: two live handles of two kinds, and bytes that are borrowed from a module that is kept
                 let status = unsafe {
                     raw::$add_module(
                         &mut self.unwinder.handle(),
@@ -271,21 +368,31 @@ macro_rules! unwinder {
                 }
                 added
             }
+        }
+
+        impl<D, P: AllocationPolicy> Default for $unwinder<D, P> {
+            fn default() -> Self {
+                Self::new()
+            }
+        }
+
+        impl<D, P: AllocationPolicy> Clone for $unwinder<D, P> {
+            fn clone(&self) -> Self {
+                self.try_clone().expect("out of memory")
+            }
+        }
+
+        impl<D: Deref<Target = [u8]>, P: AllocationPolicy> Unwinder for $unwinder<D, P> {
+            type UnwindRegs = $regs;
+            type Cache = $cache<P>;
+            type Module = Module<D>;
+
+            fn add_module(&mut self, module: Module<D>) {
+                self.try_add_module(module).expect("a module could not be added");
+            }
 
             fn remove_module(&mut self, module_avma_range_start: u64) {
-                // SAFETY: two live handles of two kinds
-                let status = unsafe {
-                    raw::$remove_module(
-                        &mut self.unwinder.handle(),
-                        &mut self.generations.0.handle(),
-                        module_avma_range_start,
-                    )
-                };
-                ModuleListError::of_status(status).expect("generations");
-                let starts = |module: &Rc<Module<D>>| module.avma_range().start == module_avma_range_start;
-                if let Some(newest) = self.modules.iter().rposition(starts) {
-                    self.modules.remove(newest);
-                }
+                self.try_remove_module(module_avma_range_start).expect("a module could not be removed");
             }
 
             fn max_known_code_address(&self) -> u64 {
@@ -303,49 +410,9 @@ macro_rules! unwinder {
                 cache: &mut $cache<P>,
                 read_stack: &mut F,
             ) -> Result<Option<u64>, Error> {
-                step_with(regs, read_stack, |regs, windows, told| {
-                    // SAFETY: an unwinder and a cache of one policy, and windows that are lent for the call. The
-                    // callback is not called meanwhile.
-                    unsafe {
-                        raw::$unwind_frame(
-                            &mut self.unwinder.handle(),
-                            &mut cache.0.handle(),
-                            address.address(),
-                            address.is_return_address(),
-                            &mut regs.0,
-                            windows.as_ptr(),
-                            windows.len(),
-                            told,
-                        )
-                    }
-                })
-            }
-
-            fn walk_into(
-                &self,
-                pc: u64,
-                regs: &mut $regs,
-                cache: &mut $cache<P>,
-                stack_base: u64,
-                stack: &[u64],
-                frames: &mut [u64],
-            ) -> (usize, Result<bool, Error>) {
-                let window = raw::Window { base: stack_base, words: stack.as_ptr(), word_count: stack.len() };
-                let mut told = raw::Walk::default();
-                // SAFETY: an unwinder and a cache of one policy, and words that are lent for the call
-                let status = unsafe {
-                    raw::$walk(
-                        &mut self.unwinder.handle(),
-                        &mut cache.0.handle(),
-                        pc,
-                        &mut regs.0,
-                        &window,
-                        frames.as_mut_ptr(),
-                        frames.len(),
-                        &mut told,
-                    )
-                };
-                end_of(status, &told)
+                let $cache { cache, words, recounted, .. } = cache;
+                let mut step = StepFrom { unwinder: &self.unwinder, cache, address };
+                step_with(&mut step, regs, words, recounted, read_stack)
             }
         }
     };

@@ -1,12 +1,13 @@
 //! Unwinding on x86_64.
-use crate::unwinder::{Unwinder, end_of, step_with, unwinder};
+use crate::unwinder::{Step, Unwinder, end_of, step_with, unwinder};
+use crate::words::Words;
 use crate::{
     AllocationPolicy, CacheStats, Error, FrameAddress, Generations, MayAllocateDuringUnwind, Module, ModuleListError,
-    Owned, SectionData, raw,
+    Owned, raw,
 };
 use std::fmt;
 use std::marker::PhantomData;
-use std::rc::Rc;
+use std::ops::Deref;
 
 /// A general register.
 #[derive(Clone, Copy, Debug, PartialEq, Eq, PartialOrd, Ord, Hash)]
@@ -76,7 +77,16 @@ impl UnwindRegsX86_64 {
 
 impl fmt::Debug for UnwindRegsX86_64 {
     fn fmt(&self, f: &mut fmt::Formatter<'_>) -> fmt::Result {
-        write!(f, "UnwindRegsX86_64 {{ ip: {:#x}, general: {:#x?} }}", self.0.ip, self.0.general)
+        const NAMES: [&str; 16] = [
+            "rax", "rdx", "rcx", "rbx", "rsi", "rdi", "rbp", "rsp", "r8", "r9", "r10", "r11", "r12", "r13", "r14",
+            "r15",
+        ];
+        let mut debug = f.debug_struct("UnwindRegsX86_64");
+        debug.field("ip", &format_args!("{:x}", self.0.ip));
+        for (name, value) in NAMES.iter().zip(self.0.general) {
+            debug.field(name, &format_args!("{value:x}"));
+        }
+        debug.finish()
     }
 }
 

@@ -1,9 +1,9 @@
-//! framehop's own examples of public calls, with another `use` line and a `Generations`.
+//! framehop's own examples of public calls, with another `use` line.
 use framehop_rattle::aarch64::{CacheAarch64, PtrAuthMask, UnwindRegsAarch64, UnwinderAarch64};
 use framehop_rattle::x86_64::{CacheX86_64, Reg, UnwindRegsX86_64, UnwinderX86_64};
 use framehop_rattle::{
-    Error, ExplicitModuleSectionInfo, FrameAddress, Generations, MayAllocateDuringUnwind, Module,
-    MustNotAllocateDuringUnwind, Unwinder,
+    Error, ExplicitModuleSectionInfo, FrameAddress, MayAllocateDuringUnwind, Module, MustNotAllocateDuringUnwind,
+    Unwinder,
 };
 
 const STACK: [u64; 16] =
@@ -12,9 +12,8 @@ const STACK: [u64; 16] =
 /// The example of framehop's README.
 #[test]
 fn walks_on_aarch64() {
-    let generations = Generations::new();
     let mut cache = CacheAarch64::<_>::new();
-    let mut unwinder = UnwinderAarch64::new(&generations);
+    let mut unwinder = UnwinderAarch64::new();
     let module = Module::new(
         "mybinary".to_string(),
         0x1003fc000..0x100634000,
@@ -69,8 +68,7 @@ fn walks_on_aarch64() {
 #[test]
 fn keeps_to_modules_on_x86_64() {
     let bytes = vec![0u8; 4];
-    let generations = Generations::new();
-    let mut unwinder = UnwinderX86_64::<&[u8], MustNotAllocateDuringUnwind>::new(&generations);
+    let mut unwinder = UnwinderX86_64::<&[u8], MustNotAllocateDuringUnwind>::new();
     let info = ExplicitModuleSectionInfo {
         eh_frame_svma: Some(0x100..0x104),
         eh_frame: Some(&bytes[..]),
@@ -102,8 +100,7 @@ fn keeps_to_modules_on_x86_64() {
 /// A word that can't be read is named, and the registers stay.
 #[test]
 fn names_the_word_that_cannot_be_read() {
-    let generations = Generations::new();
-    let unwinder: UnwinderX86_64<Vec<u8>, MayAllocateDuringUnwind> = UnwinderX86_64::new(&generations);
+    let unwinder: UnwinderX86_64<Vec<u8>, MayAllocateDuringUnwind> = UnwinderX86_64::new();
     let mut cache = CacheX86_64::new();
     let mut regs = UnwindRegsX86_64::new(0x100400, 0x10, 0x20);
     let before = regs;

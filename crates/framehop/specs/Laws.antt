@@ -4,3 +4,4 @@ pub mod Values
 pub mod Meaning
 pub mod Aarch64
 pub mod X86_64
+pub mod SectionContents

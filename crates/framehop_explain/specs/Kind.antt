@@ -1,28 +1,19 @@
--- What kind of unwind data a module with lent sections has.
-use Rattle.std.specs.Prelude.{ℕ, List, Option, Some, None, is_some, Result, Ok, Err}
-use Rattle.std.specs.Borrow.{Bor}
-use Rattle.framehop_cfi.specs.Section.{section_of}
+-- What kind of unwind data a module has.
+use Rattle.std.specs.Prelude.{Option, Some, None, is_some}
+use Rattle.framehop_cfi.specs.Header.{Header}
 use Rattle.framehop_cfi.specs.declared.entry.UnwindSectionType.{UnwindSectionType}
-use Rattle.framehop_dwarf.specs.Index.{pairs_of}
-use Rattle.framehop_dwarf.specs.declared.index.DwarfCfiIndexError.{DwarfCfiIndexError}
+use Rattle.framehop.specs.Modules.{UnwindData, no_unwind_data, call_frames, pe_sections, compact_info}
 use Rattle.framehop_explain.specs.declared.kind.UnwindDataKind.{UnwindDataKind}
-use Rattle.framehop_explain.specs.declared.kind.UnwindDataKind.TheVariants.{None as NoUnwindData, IndexRefused, EhFrameWithHeader, Indexed, Pe as PeUnwindInfo, Compact as CompactUnwindInfo}
-use Rattle.framehop_explain.specs.declared.sections.CallFrameSection.{CallFrameSection}
-use Rattle.framehop_explain.specs.declared.sections.UnwindSections.{UnwindSections}
-use Rattle.framehop_explain.specs.declared.sections.UnwindSections.TheVariants.{None as NoSections, CallFrames, Pe, Compact}
+use Rattle.framehop_explain.specs.declared.kind.UnwindDataKind.TheVariants.{None as NoUnwindData, IndexRefused, EhFrameWithHeader, Indexed, Pe, Compact}
 
--- a section without a header: its FDEs have an index, or the lengths of its entries can't be read
-abbrev pub by_index : UnwindSectionType → Result (List (ℕ × ℕ)) DwarfCfiIndexError → UnwindDataKind
-by_index kind (Ok pairs) = Indexed kind
-by_index kind (Err error) = IndexRefused kind error
+-- a call frame section: by its header or, where there is none, by an index
+abbrev pub frames_kind : UnwindSectionType → Option Header → UnwindDataKind
+frames_kind kind (Some header) = EhFrameWithHeader
+frames_kind kind None = Indexed kind
 
-abbrev pub frames_kind : CallFrameSection → Option (Bor (List ℕ)) → UnwindDataKind
-frames_kind s (Some header) = EhFrameWithHeader
-frames_kind s None =
-    by_index s.section_type (pairs_of (section_of s.section_type s.base_addresses s.bytes.now) s.base_svma)
-
-abbrev pub kind_of : {D : Type 0} → UnwindSections D → UnwindDataKind
-kind_of NoSections = NoUnwindData
-kind_of (CallFrames s) = frames_kind s s.eh_frame_hdr
-kind_of (Pe s) = PeUnwindInfo
-kind_of (Compact s) = CompactUnwindInfo (is_some s.eh_frame)
+abbrev pub kind_of : UnwindData → UnwindDataKind
+kind_of (no_unwind_data None) = NoUnwindData
+kind_of (no_unwind_data (Some refusal)) = IndexRefused refusal.section_type refusal.error
+kind_of (call_frames frames) = frames_kind frames.section.kind frames.header
+kind_of (pe_sections sections) = Pe
+kind_of (compact_info d) = Compact (is_some d.frames)

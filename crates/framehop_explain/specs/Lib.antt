@@ -1,2 +1,11 @@
--- What the contracts of this crate cite: what kind of unwind data a module has.
+-- What the contracts of this crate cite: kinds of unwind data, sources of frames, and what is told.
+pub mod Analysed
+pub mod CompactSource
+pub mod Decided
+pub mod Explain
 pub mod Kind
+pub mod Laws
+pub mod PeSource
+pub mod Source
+pub mod Told
+pub mod Uncovered

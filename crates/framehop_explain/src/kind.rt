@@ -1,12 +1,13 @@
 //! What kind of unwind data a module has, and why an index of its FDEs was refused.
-ghost use Rattle.std.specs.Prelude.{◌≡◌, IfOk};
-ghost use Rattle.framehop_explain.specs.Kind.{kind_of, frames_kind};
+ghost use Rattle.std.specs.Prelude.{◌≡◌};
+ghost use Rattle.framehop_explain.specs.Kind.{kind_of};
 
-use crate::sections::{CallFrameSection, UnwindSections};
+use framehop::Module;
+use framehop::unwind_data::ModuleUnwindDataInternal;
 use framehop_cfi::entry::UnwindSectionType;
 use framehop_cfi::read_error::ReadError;
-use framehop_dwarf::index::{DwarfCfiIndex, DwarfCfiIndexError};
-use std::alloc::{AllocError, Global};
+use framehop_cfi::section::SectionBytes;
+use framehop_dwarf::index::DwarfCfiIndexError;
 use std::fmt;
 
 /// What kind of unwind data a module has.
@@ -34,54 +35,27 @@ pub enum UnwindDataKind {
     },
 }
 
-impl CallFrameSection<'_> {
-    /// Returns what kind of unwind data the section is.
-    ///
-    /// # Errors
-    ///
-    /// An allocation failed.
-    fn kind(&self, alloc: Global) -> Result<UnwindDataKind, AllocError>
-        ensures { IfOk result (λ kind. kind ≡ frames_kind self.now self.now.eh_frame_hdr) }
+impl UnwindDataKind {
+    /// Returns what kind of unwind data a loaded module has.
+    pub fn of<D: SectionBytes + Drop>(loaded: &Module<D>) -> Self
+        ensures { result ≡ kind_of loaded.now.unwind_data }
     {
-        if self.eh_frame_hdr.is_some() {
-            return Ok(UnwindDataKind::EhFrameWithHeader);
-        }
-        let section_type = self.section_type;
-        match DwarfCfiIndex::try_new(
-            alloc,
-            self.bytes,
-            section_type,
-            self.base_addresses,
-            self.base_svma,
-        ) {
-            Ok(_index) => Ok(UnwindDataKind::Indexed { section_type }),
-            Err(DwarfCfiIndexError::Gimli(ReadError::OutOfMemory)) => Err(AllocError),
-            Err(error) => Ok(UnwindDataKind::IndexRefused {
-                section_type,
-                error,
-            }),
-        }
-    }
-}
-
-impl<D> UnwindSections<'_, D> {
-    /// Returns what kind of unwind data a module with these sections has.
-    ///
-    /// # Errors
-    ///
-    /// An allocation failed.
-    pub fn kind(&self, alloc: Global) -> Result<UnwindDataKind, AllocError>
-        ensures { IfOk result (λ kind. kind ≡ kind_of self.now) }
-    {
-        match self {
-            UnwindSections::None => Ok(UnwindDataKind::None),
-            UnwindSections::CallFrames(section) => section.kind(alloc),
-            UnwindSections::Pe(_) => Ok(UnwindDataKind::Pe),
-            UnwindSections::Compact(compact) => {
-                Ok(UnwindDataKind::Compact {
-                    has_eh_frame: compact.eh_frame.is_some(),
-                })
+        match loaded.unwind_data() {
+            ModuleUnwindDataInternal::None(None) => UnwindDataKind::None,
+            ModuleUnwindDataInternal::None(Some(refusal)) => UnwindDataKind::IndexRefused {
+                section_type: refusal.section_type,
+                error: refusal.error,
+            },
+            ModuleUnwindDataInternal::EhFrameHdrAndEhFrame { .. } => {
+                UnwindDataKind::EhFrameWithHeader
             }
+            ModuleUnwindDataInternal::DwarfCfiIndexAndFrames(frames) => UnwindDataKind::Indexed {
+                section_type: frames.section_type,
+            },
+            ModuleUnwindDataInternal::PeUnwindInfo { .. } => UnwindDataKind::Pe,
+            ModuleUnwindDataInternal::CompactUnwindInfoAndEhFrame(info) => UnwindDataKind::Compact {
+                has_eh_frame: info.eh_frame.is_some(),
+            },
         }
     }
 }

@@ -1,10 +1,19 @@
-//! Where a frame came from, and why: unwind rules as text, and what kind of unwind data a module has.
+//! Where a frame came from, and why: unwind rules as text, what kind of unwind data a module has, and explanations.
 #![tactic(auto)]
 
+pub mod compact;
+pub mod explain;
+pub mod frames;
 pub mod kind;
+pub mod pe;
 pub mod rule_text;
-pub mod sections;
+pub mod source;
+pub mod told;
+pub mod uncovered;
 
+pub use explain::{Explanation, Finding, explain_frame};
 pub use kind::UnwindDataKind;
 pub use rule_text::{DescribeRule, Described};
-pub use sections::{CallFrameSection, CompactSections, UnwindSections};
+pub use source::{CompactSource, PeSource, RowSource, Source};
+pub use told::Told;
+pub use uncovered::{Uncovered, last_module_by};

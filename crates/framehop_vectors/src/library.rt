@@ -4,9 +4,59 @@ use crate::sections::NoSections;
 use framehop::aarch64::{CacheAarch64, UnwindRegsAarch64, UnwinderAarch64};
 use framehop::unwinder::{ModuleListError, Unwinder};
 use framehop::{
-    FrameAddress, Generations, MayAllocateDuringUnwind, Module, MustNotAllocateDuringUnwind,
+    AllocationPolicy, FrameAddress, Generations, MayAllocateDuringUnwind, Module,
+    MustNotAllocateDuringUnwind,
 };
 use std::test::Fail;
+
+/// The step of the stack's first frame, with the address of its caller.
+fn first_caller<P: AllocationPolicy>(
+    unwinder: &UnwinderAarch64<Vec<u8>, P>,
+    cache: &mut CacheAarch64<P>,
+) -> Result<Option<u64>, Fail> {
+    let mut read = |address| read_stack(address);
+    let mut regs = UnwindRegsAarch64::new(0x1004e0830, 0x10, 0x20);
+    let place = FrameAddress::from_instruction_pointer(0x1005252c0);
+    Ok(unwinder.unwind_frame(place, &mut regs, cache, &mut read)?)
+}
+
+/// What five calls of an iterator over the stack return, and the registers after them.
+fn frames(
+    unwinder: &UnwinderAarch64<Vec<u8>>,
+    cache: &mut CacheAarch64,
+) -> Result<([Option<FrameAddress>; 5], UnwindRegsAarch64), Fail> {
+    let mut read = |address| read_stack(address);
+    let regs = UnwindRegsAarch64::new(0x1004e0830, 0x10, 0x20);
+    let mut frames = unwinder.iter_frames(0x1005252c0, regs, cache, &mut read);
+    let found = [
+        frames.next()?,
+        frames.next()?,
+        frames.next()?,
+        frames.next()?,
+        frames.next()?,
+    ];
+    Ok((found, *frames.regs()))
+}
+
+/// The frames of the stack, and after them `None`.
+fn frames_of_the_stack() -> [Option<FrameAddress>; 5] {
+    [
+        Some(FrameAddress::from_instruction_pointer(0x1005252c0)),
+        FrameAddress::from_return_address(0x1004fcdc4),
+        FrameAddress::from_return_address(0x100528a28),
+        None,
+        None,
+    ]
+}
+
+#[test]
+fn names_a_module(rt: HostRuntime) -> Result<(), Fail> {
+    let binary = module(rt.alloc(), "mybinary", 0x1003fc000, 0x100634000)?;
+    assert_eq!(rt; binary.name(), "mybinary");
+    assert_eq!(rt; binary.avma_range(), 0x1003fc000..0x100634000);
+    assert_eq!(rt; binary.base_avma(), 0x1003fc000);
+    Ok(())
+}
 
 #[test]
 fn walks_with_an_iterator(rt: HostRuntime) -> Result<(), Fail> {
@@ -15,29 +65,13 @@ fn walks_with_an_iterator(rt: HostRuntime) -> Result<(), Fail> {
     let mut cache = CacheAarch64::<MayAllocateDuringUnwind>::new(alloc)?;
     let mut unwinder: UnwinderAarch64<Vec<u8>> = UnwinderAarch64::new(alloc, &mut generations)?;
     let binary = module(alloc, "mybinary", 0x1003fc000, 0x100634000)?;
-    assert_eq!(rt; binary.name(), "mybinary");
-    assert_eq!(rt; binary.avma_range(), 0x1003fc000..0x100634000);
-    assert_eq!(rt; binary.base_avma(), 0x1003fc000);
     assert!(rt; unwinder.add_module(binary, &mut generations).is_ok());
-
-    let mut read = |address| read_stack(address);
-    let regs = UnwindRegsAarch64::new(0x1004e0830, 0x10, 0x20);
-    let mut frames = unwinder.iter_frames(0x1005252c0, regs, &mut cache, &mut read);
-    assert_eq!(rt;
-        frames.next()?,
-        Some(FrameAddress::from_instruction_pointer(0x1005252c0))
-    );
-    for caller in [0x1004fcdc4, 0x100528a28] {
-        assert_eq!(rt; frames.next()?, FrameAddress::from_return_address(caller));
-    }
-    assert_eq!(rt; frames.next()?, None);
-    assert_eq!(rt; frames.next()?, None);
-    let regs = *frames.regs();
+    let (found, regs) = frames(&unwinder, &mut cache)?;
+    assert_eq!(rt; found, frames_of_the_stack());
     assert_eq!(rt;
         (regs.lr(), regs.sp(), regs.fp()),
         (0x100528a28, 0x50, 0x70)
     );
-    drop(frames);
     assert_eq!(rt; (cache.stats().hits(), cache.stats().misses()), (0, 3));
     Ok(())
 }
@@ -51,12 +85,8 @@ fn steps_where_no_memory_may_be_taken(rt: HostRuntime) -> Result<(), Fail> {
         alloc,
         &mut generations,
     )?;
-    let mut read = |address| read_stack(address);
-    let place = FrameAddress::from_instruction_pointer(0x1005252c0);
     for hits in [0, 1] {
-        let mut regs = UnwindRegsAarch64::new(0x1004e0830, 0x10, 0x20);
-        let caller = unwinder.unwind_frame(place, &mut regs, &mut cache, &mut read)?;
-        assert_eq!(rt; caller, Some(0x1004fcdc4));
+        assert_eq!(rt; first_caller(&unwinder, &mut cache)?, Some(0x1004fcdc4));
         assert_eq!(rt; cache.stats().hits(), hits);
     }
     Ok(())
@@ -150,13 +180,7 @@ fn gives_a_module_back_at_the_end_of_the_counter(rt: HostRuntime) -> Result<(), 
             .remove_module(0x1003fc000, &mut generations)
             .is_ok()
     );
-    let mut read = |address| read_stack(address);
-    let mut regs = UnwindRegsAarch64::new(0x1004e0830, 0x10, 0x20);
-    let place = FrameAddress::from_instruction_pointer(0x1005252c0);
-    assert_eq!(rt;
-        unwinder.unwind_frame(place, &mut regs, &mut cache, &mut read)?,
-        Some(0x1004fcdc4)
-    );
+    assert_eq!(rt; first_caller(&unwinder, &mut cache)?, Some(0x1004fcdc4));
     Ok(())
 }
 
@@ -182,24 +206,11 @@ fn requests_of_the_makers_and_steps(rt: HostRuntime) -> Result<(), Fail> {
     let mut unwinder: UnwinderAarch64<Vec<u8>> = UnwinderAarch64::new(alloc, &mut generations)?;
     let binary = module(alloc, "mybinary", 0x1003fc000, 0x100634000)?;
     assert!(rt; unwinder.add_module(binary, &mut generations).is_ok());
-    let mut read = |address| read_stack(address);
-    let place = FrameAddress::from_instruction_pointer(0x1005252c0);
     for _step in 0..2u32 {
-        let mut regs = UnwindRegsAarch64::new(0x1004e0830, 0x10, 0x20);
-        let caller = unwinder.unwind_frame(place, &mut regs, &mut cache, &mut read)?;
-        assert_eq!(rt; caller, Some(0x1004fcdc4));
+        assert_eq!(rt; first_caller(&unwinder, &mut cache)?, Some(0x1004fcdc4));
     }
-    let regs = UnwindRegsAarch64::new(0x1004e0830, 0x10, 0x20);
-    let mut frames = unwinder.iter_frames(0x1005252c0, regs, &mut cache, &mut read);
-    assert_eq!(rt;
-        frames.next()?,
-        Some(FrameAddress::from_instruction_pointer(0x1005252c0))
-    );
-    for caller in [0x1004fcdc4, 0x100528a28] {
-        assert_eq!(rt; frames.next()?, FrameAddress::from_return_address(caller));
-    }
-    assert_eq!(rt; frames.next()?, None);
-    drop(frames);
+    let (found, _regs) = frames(&unwinder, &mut cache)?;
+    assert_eq!(rt; found, frames_of_the_stack());
     let _last: Vec<u8> = Vec::with_capacity(alloc, 1)?;
     Ok(())
 }

@@ -19,7 +19,7 @@ module _ {Regs : Type 0} where
       → (written : Written Regs) × (reading ≡ Ok written) × Says (Ok written) command
   said reading New is = (make, is, refl)
   said reading (Clone unwinder) is = (clone unwinder, is, refl)
-  said reading (Add unwinder loaded) is = (add unwinder is.0, is.1, (is.0, refl, is.2, is.3, is.4))
+  said reading (Add unwinder loaded) is = (add unwinder is.0, is.1, (is.0, refl, is.2))
   said reading (Remove unwinder start) is = (remove unwinder start, is, refl)
   said reading (Step unwinder cache address regs memory) is = (step unwinder cache (location_of address) regs (stack_view memory), is, refl)
   said reading (Walk unwinder cache pc regs memory limit) is = (walk unwinder cache pc regs (stack_view memory) limit, is, refl)

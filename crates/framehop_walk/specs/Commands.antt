@@ -14,7 +14,7 @@ use Rattle.framehop.specs.declared.session.Command.{Command}
 use Rattle.framehop.specs.declared.session.Command.TheVariants.{New, Clone, Add, Remove, Step, Walk, Stats}
 use Rattle.framehop_walk.specs.Refusals.{Reading, and_then, bad_field}
 use Rattle.framehop_walk.specs.Fields.{field_as, field_below, address, whole_number, group, required, each}
-use Rattle.framehop_walk.specs.Sections.{read_table, bytes_of_table}
+use Rattle.framehop_walk.specs.Sections.{read_table}
 
 -- stack words from a base on
 pub record Stack : Type 0 where
@@ -134,28 +134,25 @@ module _ {Regs : Type 0} (registers : Data → Reading Regs) where
       else if bytes_eq verb (codes "stats") then read_stats fields
       else Err (bad_field (codes "do"))
 
--- a module in memory is what is read: its unwind data is that of a table with these bytes
-abbrev pub module_of : LoadedModule → SectionTable (Vec ℕ Global) → ModuleView
-module_of told table = record {
+-- a module in memory is what is read: its unwind data is that of the table's bytes
+abbrev pub module_of : LoadedModule → ModuleView
+module_of told = record {
   name = told.name;
   start = told.start;
   end = told.end;
   base_avma = told.base;
-  unwind_data = unwind_data_in (λ (bytes : Vec ℕ Global). bytes.items) table;
+  unwind_data = unwind_data_in (λ bytes. bytes) told.table;
 }
 
 abbrev pub IsModule : Reading LoadedModule → ModuleView → Type 0
-IsModule reading loaded =
-    (told : LoadedModule) × (reading ≡ Ok told) × (table : SectionTable (Vec ℕ Global))
-    × (bytes_of_table table ≡ told.table) × (loaded ≡ module_of told table)
+IsModule reading loaded = (told : LoadedModule) × (reading ≡ Ok told) × (loaded ≡ module_of told)
 
 -- the command in memory is what is read
 abbrev pub Says : {Regs : Type 0} → Reading (Written Regs) → Command (Vec ℕ Global) Regs → Type 0
 Says reading New = reading ≡ Ok make
 Says reading (Clone unwinder) = reading ≡ Ok (clone unwinder)
 Says reading (Add unwinder loaded) =
-    (told : LoadedModule) × (reading ≡ Ok (add unwinder told)) × (table : SectionTable (Vec ℕ Global))
-    × (bytes_of_table table ≡ told.table) × (loaded ≡ module_of told table)
+    (told : LoadedModule) × (reading ≡ Ok (add unwinder told)) × (loaded ≡ module_of told)
 Says reading (Remove unwinder start) = reading ≡ Ok (remove unwinder start)
 Says reading (Step unwinder cache address regs memory) =
     reading ≡ Ok (step unwinder cache (location_of address) regs (stack_view memory))

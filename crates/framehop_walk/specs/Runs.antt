@@ -11,8 +11,8 @@ use Rattle.framehop_walk.specs.Streams.{InputView, Outputs, input_over}
 use Rattle.framehop_walk.specs.declared.refusal.Refusal.{Refusal}
 use Rattle.framehop_walk.specs.declared.refusal.Refusal.TheVariants.{OutOfMemory, Usage}
 
--- the run has printed its answer: the input is accepted, the output has grown by the lines that are the answer to it and
--- is flushed, no write to it has failed, and nothing is written to the other output
+-- the run has printed its answer: the input is accepted, the output has grown by the lines of its answer and is flushed,
+-- no write to it has failed, and nothing is written to the other output
 pub record HasPrinted (input : InputView) (old new : Outputs) : Type 0 where
   pub read : IfSome input.remaining IsAccepted
   pub printed : IfSome input.remaining (IsPrinted old.out.bytes new.out.bytes)
@@ -20,8 +20,8 @@ pub record HasPrinted (input : InputView) (old new : Outputs) : Type 0 where
   pub noted : new.out.has_failed ≡ old.out.has_failed
   pub silent : Keeps old.err.bytes new.err.bytes
 
--- the run was refused: the line of the refusal is written to the one output, and nothing to the other, as far as no write
--- has failed
+-- the run was refused: the line of the refusal is written to the one output, and nothing to the other, as far as no
+-- write has failed
 pub record HasRefused (refusal : Refusal) (old new : Outputs) : Type 0 where
   pub told : new.err.has_failed ≡ false → Appends old.err.bytes new.err.bytes (refusal_line refusal)
   pub unwritten : new.out.has_failed ≡ false → Keeps old.out.bytes new.out.bytes
@@ -49,7 +49,8 @@ opened_input remaining (Err error) = Err (of_kind (error_kind error))
 abbrev pub Opens : {R : Type 0} → (R → Option (List ℕ)) → (Option (Bor (List ℕ)) → Result R IoError → Type 0)
     → Option (List ℕ) → Result InputView Refusal → Type 0
 Opens {R} remaining Gives path opened =
-    (asked : Option (Bor (List ℕ))) × (result : Result R IoError) × (option_map (λ (p : Bor (List ℕ)). p.now) asked ≡ path)
+    (asked : Option (Bor (List ℕ))) × (result : Result R IoError)
+    × (option_map (λ (p : Bor (List ℕ)). p.now) asked ≡ path)
     × Gives asked result × (opened ≡ opened_input remaining result)
 
 -- a run over what was opened, with the input as it is left, if there is one

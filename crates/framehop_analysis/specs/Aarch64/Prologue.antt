@@ -97,4 +97,5 @@ UndoesPrologue before rule = Does outcome (UndonePrologue before) rule
 pub record ReachesFrom (before : List ℕ) : Type 0 where
   pub run : List ℕ
   pub longest : IsLongestRun before run
-  pub reaches : (mask : ℕ) (entry : State) → (here : State) × Run mask before (length run) (4 * longest.start) entry here
+  pub reaches : (mask : ℕ) (entry : State)
+      → (here : State) × Run mask before (length run) (4 * longest.start) entry here

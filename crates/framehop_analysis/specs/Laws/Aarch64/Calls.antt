@@ -56,7 +56,8 @@ b-mov-apart : (word : ℕ) → is_b word ≡ true → is_mov word ≡ true → �
 b-mov-apart word b mov =
     let top : word / 2 ^ 26 % 2 ^ 6 ≡ 5 = eqb-true _ _ b in
     let mask : bit_and (word / 2 ^ 23) 0x1C7 ≡ 0x185 = eqb-true _ _ (and_parts _ _ mov).0 in
-    let high : word / 2 ^ 23 / 2 ^ 6 % 2 ^ 3 ≡ 6 = sym (kept (word / 2 ^ 23) 0x1C7 6 3 refl) ∙ ap (λ n. n / 2 ^ 6 % 2 ^ 3) mask in
+    let high : word / 2 ^ 23 / 2 ^ 6 % 2 ^ 3
+    ≡ 6 = sym (kept (word / 2 ^ 23) 0x1C7 6 3 refl) ∙ ap (λ n. n / 2 ^ 6 % 2 ^ 3) mask in
     let below = shr-shr word 26 3 in
     omega (arith, shr-shr word 23 6)
 

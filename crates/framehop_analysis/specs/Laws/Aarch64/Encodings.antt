@@ -17,7 +17,8 @@ use Rattle.framehop_analysis.specs.Laws.Aarch64.Apart.{store-step, load-step, su
 
 -- ---- where an instruction is
 
-chosen : (whole : Bool) (found word : ℕ) → whole ≡ true → found ≡ word → (if whole then Some found else None) ≡ Some word
+chosen : (whole : Bool) (found word : ℕ) → whole ≡ true → found ≡ word
+    → (if whole then Some found else None) ≡ Some word
 chosen true found word is same = ap Some same
 chosen false found word is same = cc
 
@@ -284,7 +285,8 @@ other-shape word (braa high low) =
     (or_right (is_return word || is_b word || is_br word) (is_braa word) (braa-shape word high low)))
 other-shape word (mov high low register) =
     or_left _ (is_check word)
-    (or_right (is_return word || is_b word || is_br word || is_braa word) (is_mov word) (mov-shape word high low register))
+    (or_right (is_return word || is_b word || is_br word || is_braa word) (is_mov word)
+    (mov-shape word high low register))
 
 -- ---- branches
 

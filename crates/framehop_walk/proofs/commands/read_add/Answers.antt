@@ -6,4 +6,4 @@ pub returns : goal.returns
 unfolding read_add
 returns g c =
     let given = c.in_ok-module.ensures in
-    (given.0, rw (sym c.in_ok-unwinder.ensures) (rw given.1 refl), given.2, given.3, given.4)
+    (given.0, rw (sym c.in_ok-unwinder.ensures) (rw given.1 refl), given.2)

@@ -1,0 +1,356 @@
+//! What the crate promises beside the archive's own calls: no memory for steps, each section asked for once, counts
+//! without retries, one counter of generations, texts.
+use framehop_rattle::aarch64::{CacheAarch64, PtrAuthMask, UnwindRegsAarch64, UnwinderAarch64};
+use framehop_rattle::x86_64::{CacheX86_64, Reg, UnwindRegsX86_64, UnwinderX86_64};
+use framehop_rattle::{
+    CacheNative, CacheStats, Error, ExplicitModuleSectionInfo, FrameAddress, MayAllocateDuringUnwind, Module,
+    ModuleSectionInfo, MustNotAllocateDuringUnwind, UnwindIterator, UnwindRegsNative, Unwinder, UnwinderNative,
+};
+use std::alloc::{GlobalAlloc, Layout, System};
+use std::borrow::Cow;
+use std::cell::{Cell, RefCell};
+use std::ops::{Deref, Range};
+use std::rc::Rc;
+
+thread_local! {
+    static REQUESTS: Cell<usize> = const { Cell::new(0) };
+}
+
+/// Counts the requests for memory of each thread. The archive's own go to malloc, which this doesn't see.
+struct Counting;
+
+// SAFETY: all is the system's
+unsafe impl GlobalAlloc for Counting {
+    unsafe fn alloc(&self, layout: Layout) -> *mut u8 {
+        REQUESTS.set(REQUESTS.get() + 1);
+        unsafe { System.alloc(layout) }
+    }
+
+    unsafe fn dealloc(&self, place: *mut u8, layout: Layout) {
+        unsafe { System.dealloc(place, layout) }
+    }
+
+    unsafe fn realloc(&self, place: *mut u8, layout: Layout, size: usize) -> *mut u8 {
+        REQUESTS.set(REQUESTS.get() + 1);
+        unsafe { System.realloc(place, layout, size) }
+    }
+}
+
+#[global_allocator]
+static COUNTING: Counting = Counting;
+
+/// Frame records from 16 on, a return address each: the one at `16 * i` leads to `16 * (i + 1)`, and there are 100.
+fn records() -> Vec<u64> {
+    let record = |i: u64| if (1..=100).contains(&i) { [16 * (i + 1), 0x6fff + i] } else { [0, 0] };
+    (0..=101).flat_map(record).collect()
+}
+
+/// How many frames a walk finds, and how many requests for memory it makes.
+fn count<U: Unwinder>(
+    unwinder: &U,
+    pc: u64,
+    regs: U::UnwindRegs,
+    cache: &mut U::Cache,
+    stack: &[u64],
+) -> (usize, usize) {
+    let before = REQUESTS.get();
+    let mut read_stack = |address: u64| stack.get(address as usize / 8).copied().ok_or(());
+    let mut iter = unwinder.iter_frames(pc, regs, cache, &mut read_stack);
+    let mut frames = 0;
+    while let Ok(Some(_)) = iter.next() {
+        frames += 1;
+    }
+    (frames, REQUESTS.get() - before)
+}
+
+#[test]
+fn walks_without_memory() {
+    let stack = records();
+    let unwinder = UnwinderX86_64::<Vec<u8>, MustNotAllocateDuringUnwind>::new();
+    let mut cache = CacheX86_64::new_in();
+    let regs = UnwindRegsX86_64::new(0x7fff, 16, 16);
+    assert_eq!(count(&unwinder, 0x7fff, regs, &mut cache, &stack), (101, 0));
+    let unwinder = UnwinderAarch64::<Vec<u8>, MustNotAllocateDuringUnwind>::new();
+    let mut cache = CacheAarch64::new_in();
+    let regs = UnwindRegsAarch64::new(0x7fff, 16, 16);
+    assert_eq!(count(&unwinder, 0x7fff, regs, &mut cache, &stack), (101, 0));
+
+    // with leave, only a first walk takes memory: for the words of a frame
+    let unwinder = UnwinderX86_64::<Vec<u8>>::new();
+    let mut cache = CacheX86_64::new();
+    let regs = UnwindRegsX86_64::new(0x7fff, 16, 16);
+    assert_eq!(count(&unwinder, 0x7fff, regs, &mut cache, &stack), (101, 2));
+    assert_eq!(count(&unwinder, 0x7fff, regs, &mut cache, &stack), (101, 0));
+}
+
+/// A frame of a PE function with 254 unwind codes, each of which asks for a word.
+#[test]
+fn asks_for_many_words_without_memory() {
+    let mut info = vec![0x01, 0x00, 254, 0x00];
+    for _ in 0..254 {
+        info.extend([0, 0x30]); // UWOP_PUSH_NONVOL of rbx, at the function's start
+    }
+    let pdata: Vec<u8> = [0x1000u32, 0x2000, 0x3000].iter().flat_map(|it| it.to_le_bytes()).collect();
+    let module = Module::new("m".into(), 0x10000..0x20000, 0x10000, Pe { pdata: Some(pdata), xdata: Some(info) });
+    let mut unwinder = UnwinderX86_64::<_, MustNotAllocateDuringUnwind>::new();
+    unwinder.add_module(module);
+    let mut cache = CacheX86_64::new_in();
+    let mut regs = UnwindRegsX86_64::new(0x11800, 0x8000, 0);
+    let address = FrameAddress::from_return_address(0x11800).unwrap();
+    let mut asked = Vec::with_capacity(1000);
+    let before = REQUESTS.get();
+    let found = unwinder.unwind_frame(address, &mut regs, &mut cache, &mut |address| {
+        asked.push(address);
+        Ok(address + 1)
+    });
+    assert_eq!(REQUESTS.get(), before);
+    assert_eq!(asked, (0..255).map(|it| 0x8000 + 8 * it).collect::<Vec<u64>>());
+    assert_eq!(found, Ok(Some(0x8000 + 8 * 254 + 1)));
+    assert_eq!((regs.sp(), regs.get(Reg::RBX)), (0x8000 + 8 * 255, 0x8000 + 8 * 253 + 1));
+}
+
+struct Pe {
+    pdata: Option<Vec<u8>>,
+    xdata: Option<Vec<u8>>,
+}
+
+impl ModuleSectionInfo<Vec<u8>> for Pe {
+    fn base_svma(&self) -> u64 {
+        0
+    }
+
+    fn section_svma_range(&mut self, name: &[u8]) -> Option<Range<u64>> {
+        (name == b".xdata").then_some(0x3000..0x4000)
+    }
+
+    fn section_data(&mut self, name: &[u8]) -> Option<Vec<u8>> {
+        match name {
+            b".pdata" => self.pdata.take(),
+            b".xdata" => self.xdata.take(),
+            _ => None,
+        }
+    }
+}
+
+/// A retry for a missing word counts nothing.
+#[test]
+fn counts_a_lookup_a_frame() {
+    let stack = records();
+    let unwinder = UnwinderX86_64::<Vec<u8>>::new();
+    let mut cache = CacheX86_64::default();
+    let regs = UnwindRegsX86_64::new(0x7fff, 16, 16);
+    count(&unwinder, 0x7fff, regs, &mut cache, &stack);
+    let mut stats = CacheStats::new();
+    stats.miss_empty_slot_count = 101;
+    assert_eq!(cache.stats(), stats);
+    count(&unwinder, 0x7fff, regs, &mut cache, &stack);
+    stats.hit_count = 101;
+    assert_eq!(cache.stats(), stats);
+    assert_eq!((stats.total(), stats.hits(), stats.misses()), (202, 101, 101));
+    let stats =
+        CacheStats { hit_count: 1, miss_empty_slot_count: 2, miss_wrong_modules_count: 4, miss_wrong_address_count: 8 };
+    assert_eq!((stats.total(), stats.hits(), stats.misses()), (15, 1, 14));
+}
+
+/// A module whose frames are unwound by a stack of 8 or of 24 bytes, so that two modules give two callers.
+fn compact(stack_words: u8) -> Module<Vec<u8>> {
+    // a header, two entries of the index, and a page with one opcode
+    let words = [1, 28, 0, 28, 0, 28, 2, 0x1000, 52, 52, 0x1010, 0, 52, 2, 0x10008, 0x1000];
+    let opcode = 0x0200_0000 | u32::from(stack_words) << 16;
+    let info: Vec<u8> = words.iter().chain([&opcode]).flat_map(|word: &u32| word.to_le_bytes()).collect();
+    let info = ExplicitModuleSectionInfo { unwind_info: Some(info), ..Default::default() };
+    Module::new("m".into(), 0..0x500000, 0, info)
+}
+
+/// All unwinders of a thread draw from one counter, so a cache that they share gives each its own frames.
+#[test]
+fn shares_a_cache() {
+    let (mut one, mut other) = (UnwinderX86_64::<Vec<u8>>::new(), UnwinderX86_64::<Vec<u8>>::default());
+    one.add_module(compact(1));
+    other.add_module(compact(3));
+    let stack: Vec<u64> = (0..16).map(|it| 0x7000 + it).collect();
+    let caller = |unwinder: &UnwinderX86_64<Vec<u8>>, cache: &mut CacheX86_64| {
+        let mut regs = UnwindRegsX86_64::new(0x1003, 0x10, 0x20);
+        let address = FrameAddress::from_return_address(0x1003).unwrap();
+        let mut read_stack = |address: u64| stack.get(address as usize / 8).copied().ok_or(());
+        unwinder.unwind_frame(address, &mut regs, cache, &mut read_stack)
+    };
+    let (mut own, mut others, mut shared) = (CacheX86_64::new(), CacheX86_64::new(), CacheX86_64::new());
+    let (first, second) = (caller(&one, &mut own), caller(&other, &mut others));
+    assert_ne!(first, second);
+    for _ in 0..2 {
+        assert_eq!(caller(&one, &mut shared), first);
+        assert_eq!(caller(&other, &mut shared), second);
+    }
+}
+
+/// The names that are asked for, in their order.
+#[derive(Default)]
+struct Asked {
+    has: Vec<&'static [u8]>,
+    names: Rc<RefCell<Vec<String>>>,
+}
+
+impl Asked {
+    fn ask(&mut self, kind: &str, name: &[u8]) -> bool {
+        self.names.borrow_mut().push(format!("{kind} {}", String::from_utf8_lossy(name)));
+        self.has.contains(&name)
+    }
+}
+
+impl ModuleSectionInfo<Vec<u8>> for Asked {
+    fn base_svma(&self) -> u64 {
+        0
+    }
+
+    fn section_svma_range(&mut self, name: &[u8]) -> Option<Range<u64>> {
+        self.ask("range", name).then_some(0..8)
+    }
+
+    fn section_data(&mut self, name: &[u8]) -> Option<Vec<u8>> {
+        self.ask("data", name).then(Vec::new)
+    }
+
+    fn segment_svma_range(&mut self, name: &[u8]) -> Option<Range<u64>> {
+        self.ask("segment range", name).then_some(0..8)
+    }
+
+    fn segment_data(&mut self, name: &[u8]) -> Option<Vec<u8>> {
+        self.ask("segment data", name).then(Vec::new)
+    }
+}
+
+fn asked(has: &[&'static [u8]]) -> Vec<String> {
+    let names = Rc::new(RefCell::new(Vec::new()));
+    let info = Asked { has: has.to_vec(), names: names.clone() };
+    let module = Module::new("name".into(), 1..3, 2, info);
+    assert_eq!((module.name(), module.avma_range(), module.base_avma()), ("name", 1..3, 2));
+    let clone = module.clone();
+    assert_eq!(format!("{clone:?}"), r#"Module { name: "name", avma_range: 0x1..0x3, base_avma: 0x2 }"#);
+    names.take()
+}
+
+#[test]
+fn asks_for_sections_in_use() {
+    let kinds = ["data __unwind_info", "data .pdata", "data .eh_frame", "data __eh_frame", "data .debug_frame"];
+    assert_eq!(asked(&[]), kinds);
+    assert_eq!(asked(&[b".text", b"__text", b"__TEXT", b".rdata"]), kinds);
+    let bases = ["range __eh_frame", "range __eh_frame_hdr", "range __got", "range __text"];
+    assert_eq!(
+        asked(&[b".eh_frame", b".eh_frame_hdr", b"__eh_frame", b"__eh_frame_hdr", b"__got", b"__text"]),
+        [&kinds[..3], &["data .eh_frame_hdr"], &bases].concat()
+    );
+    let pe = ["range .rdata", "data .rdata", "range .xdata", "range .text", "data .text"];
+    assert_eq!(asked(&[b".pdata", b".rdata", b".text"]), [&kinds[..2], &pe].concat());
+    let compact = ["data __eh_frame", "range __stubs", "range __stub_helper", "segment data __TEXT"];
+    let in_segment = ["segment range __TEXT", "range __text"];
+    assert_eq!(
+        asked(&[b"__unwind_info", b"__TEXT", b"__text", b"__eh_frame", b"__eh_frame_hdr", b"__got"]),
+        [&kinds[..1], &compact, &in_segment, &bases[..3]].concat()
+    );
+}
+
+/// Bytes in a type of our own, which says when it is dropped.
+struct Own<'a>(Box<[u8]>, &'a Cell<usize>);
+
+impl Deref for Own<'_> {
+    type Target = [u8];
+
+    fn deref(&self) -> &[u8] {
+        &self.0
+    }
+}
+
+impl Drop for Own<'_> {
+    fn drop(&mut self) {
+        self.1.set(self.1.get() + 1);
+    }
+}
+
+/// Data of other types than std's owned bytes, which is dropped with the last unwinder that has it.
+#[test]
+fn keeps_data_of_own_types() {
+    let dropped = Cell::new(0);
+    let data = Own(Box::new([0; 4]), &dropped);
+    let info = ExplicitModuleSectionInfo { debug_frame: Some(data), ..Default::default() };
+    let module = Module::new(String::new(), 0x1000..0x2000, 0x1000, info);
+    let mut unwinder = UnwinderAarch64::<_>::new();
+    unwinder.add_module(module.clone());
+    let mut clone = unwinder.clone();
+    drop(module);
+    unwinder.remove_module(0x1000);
+    drop(unwinder);
+    assert_eq!((clone.max_known_code_address(), dropped.get()), (0x2000, 0));
+    clone.remove_module(0x1000);
+    assert_eq!((clone.max_known_code_address(), dropped.get()), (0, 1));
+
+    let info = ExplicitModuleSectionInfo { eh_frame: Some(Cow::Borrowed(&[0u8; 4][..])), ..Default::default() };
+    let mut unwinder = UnwinderX86_64::<Cow<[u8]>>::new();
+    assert_eq!(unwinder.try_add_module(Module::new(String::new(), 1..2, 1, info)), Ok(()));
+    assert_eq!(unwinder.try_remove_module(1), Ok(()));
+}
+
+/// A callback that panics leaves the registers, and the next step is as if it had not been called.
+#[test]
+fn comes_through_a_panic() {
+    let unwinder = UnwinderX86_64::<Vec<u8>>::new();
+    let mut cache = CacheX86_64::new();
+    let mut regs = UnwindRegsX86_64::new(0x7fff, 16, 16);
+    let before = regs;
+    let pc = FrameAddress::from_instruction_pointer(0x7fff);
+    let hook = std::panic::take_hook();
+    std::panic::set_hook(Box::new(|_| {}));
+    let panics = std::panic::catch_unwind(std::panic::AssertUnwindSafe(|| {
+        unwinder.unwind_frame(pc, &mut regs, &mut cache, &mut |address| if address == 16 { Ok(32) } else { panic!() })
+    }));
+    std::panic::set_hook(hook);
+    assert!(panics.is_err());
+    assert_eq!(regs, before);
+    let stack = records();
+    let mut read_stack = |address: u64| stack.get(address as usize / 8).copied().ok_or(());
+    assert_eq!(unwinder.unwind_frame(pc, &mut regs, &mut cache, &mut read_stack), Ok(Some(0x7000)));
+    assert_eq!((regs.ip(), regs.sp(), regs.bp()), (0x7000, 32, 32));
+}
+
+/// The texts of framehop's own types.
+#[test]
+fn prints_as_the_original() {
+    let mut regs = UnwindRegsX86_64::new(0x10, 0x18, 0x17);
+    for (value, reg) in (0x20..).zip([Reg::RAX, Reg::RDX, Reg::RCX, Reg::RBX, Reg::RSI, Reg::RDI, Reg::R8, Reg::R15]) {
+        regs.set(reg, value);
+    }
+    assert_eq!(
+        format!("{regs:?}"),
+        "UnwindRegsX86_64 { ip: 10, rax: 20, rdx: 21, rcx: 22, rbx: 23, rsi: 24, rdi: 25, rbp: 17, rsp: 18, r8: 26, \
+         r9: 0, r10: 0, r11: 0, r12: 0, r13: 0, r14: 0, r15: 27 }"
+    );
+    let mut regs = UnwindRegsAarch64::new_with_ptr_auth_mask(PtrAuthMask::new_24_40(), u64::MAX, 0x2f, 0x3f);
+    assert_eq!(format!("{regs:?}"), "UnwindRegsAarch64 { lr: ffffffffff, sp: 2f, fp: 3f }");
+    regs.set_lr(0xab00_0000_0000_2000);
+    assert_eq!((regs.lr(), regs.lr_mask()), (0x2000, PtrAuthMask(0xff_ffff_ffff)));
+    assert_eq!(format!("{:?}", FrameAddress::from_instruction_pointer(1)), "InstructionPointer(1)");
+    let errors = [
+        (Error::CouldNotReadStack(0xab), "Could not read stack memory at 0xab"),
+        (Error::FramepointerUnwindingMovedBackwards, "Frame pointer unwinding moved backwards"),
+        (Error::DidNotAdvance, "Neither the code address nor the stack pointer changed, would loop"),
+        (Error::IntegerOverflow, "Unwinding caused integer overflow"),
+        (Error::ReturnAddressIsNull, "Return address is null"),
+        (Error::OutOfMemory, "Out of memory"),
+    ];
+    for (error, text) in errors {
+        assert_eq!(error.to_string(), text);
+    }
+}
+
+/// framehop's names for the architecture at hand, and an iterator that is made by hand.
+#[test]
+fn has_the_native_names() {
+    let unwinder = UnwinderNative::<&[u8], MayAllocateDuringUnwind>::new();
+    let mut cache = CacheNative::<MayAllocateDuringUnwind>::new();
+    let regs: UnwindRegsNative = UnwindRegsNative::new(0x10, 0x20, 0x30);
+    let mut read_stack = |_| Err(());
+    let mut iter = UnwindIterator::new(&unwinder, 0x10, regs, &mut cache, &mut read_stack);
+    assert_eq!(iter.next(), Ok(Some(FrameAddress::InstructionPointer(0x10))));
+    assert!(iter.next().is_err());
+    assert_eq!(iter.regs(), &regs);
+}

@@ -1,0 +1,5 @@
+pub mod CodeLemmas
+pub mod DecidedLemmas
+pub mod FramesLemmas
+pub mod ToldLemmas
+pub mod UncoveredLemmas

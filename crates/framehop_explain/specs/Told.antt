@@ -1,0 +1,79 @@
+-- What the unwind data of a module tells for a frame, against what the data gives.
+use Rattle.std.specs.Prelude.{ℕ, ◌+◌, List, Option, Some, None, Result, Ok, Err}
+use Rattle.framehop_core.specs.declared.unwind_result.UnwindResult.{UnwindResult}
+use Rattle.framehop_core.specs.declared.unwind_result.UnwindResult.TheVariants.{ExecRule, Uncacheable}
+use Rattle.framehop_cfi.specs.Row.{Row}
+use Rattle.framehop_cfi.specs.declared.storage.StorageLimits.{StorageLimits}
+use Rattle.framehop_cfi.specs.declared.dwarf_error.DwarfUnwinderError.{DwarfUnwinderError}
+use Rattle.framehop_cfi.specs.Header.{Header}
+use Rattle.framehop_dwarf.specs.Unwinder.{Reading, found_by, direct_by, reading_of}
+use Rattle.framehop_macho.specs.Answer.{Answer}
+use Rattle.framehop_macho.specs.declared.macho.CuiUnwindResult.TheVariants.{ExecRule as ByRule, NeedDwarf}
+use Rattle.framehop_pe.specs.declared.pe.PeUnwinderError.{PeUnwinderError}
+use Rattle.framehop.specs.CallFrames.{CallFrames, fde_offset_of}
+use Rattle.framehop.specs.declared.modules.UnwinderError.{UnwinderError}
+use Rattle.framehop.specs.declared.modules.UnwinderError.TheVariants as reason
+use Rattle.framehop_explain.specs.declared.told.Told.{Told}
+use Rattle.framehop_explain.specs.declared.told.Told.TheVariants.{Rule, Computed, Refused}
+
+-- what a call returned
+abbrev pub of_dwarf : {R : Type 0} → Result (UnwindResult R) DwarfUnwinderError → Told R
+of_dwarf (Ok (ExecRule rule)) = Rule rule
+of_dwarf (Ok (Uncacheable address)) = Computed address
+of_dwarf (Err error) = Refused (reason.Dwarf error)
+
+abbrev pub of_pe : {R : Type 0} → Result (UnwindResult R) PeUnwinderError → Told R
+of_pe (Ok (ExecRule rule)) = Rule rule
+of_pe (Ok (Uncacheable address)) = Computed address
+of_pe (Err error) = Refused (reason.Pe error)
+
+-- What is found in the bytes is told, or else what is computed: a refusal of either is the reason of the fallback.
+abbrev pub told_of_values : {R S E : Type 0} → (E → UnwinderError) → Result (ℕ × S) E → Told R
+told_of_values refuse (Ok values) = Computed values.0
+told_of_values refuse (Err error) = Refused (refuse error)
+
+abbrev pub told_by : {R S E : Type 0} → (E → UnwinderError) → Result (Option R) E → Result (ℕ × S) E → Told R
+told_by refuse (Err error) values = Refused (refuse error)
+told_by refuse (Ok (Some rule)) values = Rule rule
+told_by refuse (Ok None) values = told_of_values refuse values
+
+-- by what is read by an FDE
+abbrev pub dwarf_told : {R S : Type 0} → (Row → Option R) → R → (Row → Result (ℕ × S) DwarfUnwinderError) → Reading → Told R
+dwarf_told translated uncovered direct reading =
+    told_by reason.Dwarf (found_by translated uncovered reading) (direct_by direct reading)
+
+-- by a call frame section: the reason where it has no FDE
+abbrev pub no_fde : Option Header → UnwinderError
+no_fde (Some header) = reason.EhFrameHdrCouldNotFindAddress
+no_fde None = reason.DwarfCfiIndexCouldNotFindAddress
+
+abbrev pub offset_told : {R S : Type 0} → (Row → Option R) → R → (Row → Result (ℕ × S) DwarfUnwinderError)
+    → Option StorageLimits → CallFrames → ℕ → Option ℕ → Told R
+offset_told translated uncovered direct limits frames relative None = Refused (no_fde frames.header)
+offset_told translated uncovered direct limits frames relative (Some offset) =
+    dwarf_told translated uncovered direct (reading_of limits frames.section (frames.base_svma + relative) offset)
+
+abbrev pub frames_told : {R S : Type 0} → (Row → Option R) → R → (Row → Result (ℕ × S) DwarfUnwinderError)
+    → Option StorageLimits → CallFrames → ℕ → Told R
+frames_told translated uncovered direct limits frames relative =
+    offset_told translated uncovered direct limits frames relative (fde_offset_of frames relative)
+
+-- PE unwind info's reason of the fallback
+abbrev pub pe_reason : PeUnwinderError → UnwinderError
+pe_reason error = reason.Pe error
+
+-- by the FDE at an offset of `__eh_frame`, if there is one
+abbrev pub eh_frame_told : {R S : Type 0} → (Row → Option R) → R → (List ℕ → Row → Result (ℕ × S) DwarfUnwinderError)
+    → Option StorageLimits → Option CallFrames → ℕ → ℕ → Told R
+eh_frame_told translated uncovered direct limits None relative offset = Refused reason.NoDwarfData
+eh_frame_told translated uncovered direct limits (Some frames) relative offset =
+    dwarf_told translated uncovered (direct frames.section.bytes)
+    (reading_of limits frames.section (frames.base_svma + relative) offset)
+
+-- by what compact unwind info gives: a rule, the offset of an FDE, or a refusal
+abbrev pub compact_told : {R S : Type 0} → (Row → Option R) → R → (List ℕ → Row → Result (ℕ × S) DwarfUnwinderError)
+    → Option StorageLimits → Option CallFrames → ℕ → Answer R → Told R
+compact_told translated uncovered direct limits frames relative (Ok (ByRule rule)) = Rule rule
+compact_told translated uncovered direct limits frames relative (Ok (NeedDwarf offset)) =
+    eh_frame_told translated uncovered direct limits frames relative offset
+compact_told translated uncovered direct limits frames relative (Err error) = Refused (reason.CompactUnwindInfo error)

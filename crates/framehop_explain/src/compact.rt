@@ -1,0 +1,203 @@
+//! Where compact unwind info tells how to unwind from an address, and what.
+ghost use Rattle.std.specs.Prelude.{◌≡◌, ◌≤◌, length, IfOk};
+ghost use Rattle.framehop_core.specs.Memory.{Memory, AnswersAs};
+ghost use Rattle.framehop_macho.specs.Unwinder.{unwound};
+ghost use Rattle.framehop_macho.specs.UnwindInfo.{Covers};
+ghost use Rattle.framehop_explain.specs.CompactSource.{IsPlaceByCode, IsPlaceIn, IsPlace, IsCompactSource, named_fde, eh_frame_source};
+ghost use Rattle.framehop_explain.specs.Told.{eh_frame_told, compact_told};
+
+use crate::frames::explain_fde;
+use crate::pe::Sources;
+use crate::source::{CompactSource, RowSource, Source};
+use crate::told::Told;
+use framehop::unwind_data::CompactInfo;
+use framehop::{AllocationPolicy, UnwinderError, Unwinding};
+use framehop_cfi::context::UnwindContext;
+use framehop_cfi::entry::UnwindSectionType;
+use framehop_cfi::section::SectionBytes;
+use framehop_dwarf::unwinder::DwarfUnwinder;
+use framehop_macho::macho::{CuiUnwindResult, TextBytes, code_of_function, find_function, is_in};
+use framehop_macho::unwind_info::info::Function;
+use std::alloc::{AllocError, Global};
+
+/// Returns the place at an offset of a function's code, in bytes, in a first frame.
+fn place_by_code<A: Sources>(function: Function, code: &[u8], offset: usize) -> CompactSource
+    requires { offset ≤ length code.now }
+    ensures { IsPlaceByCode (record { by_code = A.by_code; prologue = A.prologue_rule; epilogue = A.epilogue_rule })
+        function code.now offset (A.by_code function code.now offset) result }
+{
+    if !A::is_analysed(function.opcode) {
+        return CompactSource::Opcode(function);
+    }
+    if A::rule_from_prologue_analysis(code, offset).is_some() {
+        return CompactSource::Prologue(function);
+    }
+    if A::rule_from_epilogue_analysis(code, offset).is_some() {
+        return CompactSource::Epilogue(function);
+    }
+    CompactSource::Opcode(function)
+}
+
+/// Returns the place in a function of an address in it (relative).
+fn place_in_function<D: SectionBytes, A: Sources>(
+    info: &CompactInfo<D>,
+    function: Function,
+    address: u32,
+    is_first_frame: bool,
+) -> CompactSource
+    requires { Covers address function }
+    ensures { IsPlaceIn (record { by_code = A.by_code; prologue = A.prologue_rule; epilogue = A.epilogue_rule })
+        info.now.info.text address is_first_frame function result }
+{
+    if !is_first_frame {
+        return CompactSource::Opcode(function);
+    }
+    if address == function.start_address {
+        return CompactSource::Start(function);
+    }
+    let text = match &info.text {
+        Some(text) => Some(TextBytes::new(text.offset_from_base, text.bytes.bytes())),
+        None => None,
+    };
+    match code_of_function(text, function) {
+        Some(code) => {
+            place_by_code::<A>(function, code, (address - function.start_address) as usize)
+        }
+        None => CompactSource::Opcode(function),
+    }
+}
+
+/// Returns where compact unwind info tells how to unwind from a relative address.
+fn place_of<D: SectionBytes, A: Sources>(
+    info: &CompactInfo<D>,
+    address: u32,
+    is_first_frame: bool,
+) -> CompactSource
+    ensures { IsPlace (record { by_code = A.by_code; prologue = A.prologue_rule; epilogue = A.epilogue_rule })
+        info.now.info address is_first_frame result }
+{
+    if is_in(info.stubs, address) {
+        return CompactSource::Stub;
+    }
+    if is_in(info.stub_helper, address) {
+        return CompactSource::StubHelper;
+    }
+    match find_function(info.unwind_info.bytes(), address) {
+        Ok(Some(function)) => place_in_function::<D, A>(info, function, address, is_first_frame),
+        Ok(None) => CompactSource::Outside,
+        Err(error) => CompactSource::Unread(error),
+    }
+}
+
+/// Returns the source of a frame by the FDE that the opcode of a function names.
+fn named_fde(place: CompactSource, offset: u32, row: RowSource) -> Source
+    ensures { result ≡ named_fde offset row place }
+{
+    match place {
+        CompactSource::Opcode(function) => Source::CompactFde {
+            function,
+            offset,
+            row,
+        },
+        _ => Source::Compact(place),
+    }
+}
+
+/// Explains a frame by the FDE at an offset of `__eh_frame`, if there is one.
+fn explain_by_eh_frame<D: SectionBytes, A: Unwinding, P: AllocationPolicy, F>(
+    info: &CompactInfo<D>,
+    place: CompactSource,
+    fde_offset: u32,
+    alloc: Global,
+    unwind_context: &mut UnwindContext<P::GimliUnwindContextStorage>,
+    relative_address: u32,
+    is_first_frame: bool,
+    regs: A::UnwindRegs,
+    read_stack: &mut F,
+) -> Result<(Source, Told<A::UnwindRule>), AllocError>
+where
+    F: FnMut(u64) -> Result<u64, ()>,
+    requires { F.IsAlwaysCallable read_stack.old }
+    ensures callable { F.IsAlwaysCallable read_stack.new }
+    ensures source { IfOk result (λ found. found.0 ≡ eh_frame_source
+        P.GimliUnwindContextStorage.limits info.now.frames relative_address fde_offset place) }
+    ensures answers { (memory : Memory) → AnswersAs F.FnMut read_stack.old memory
+        → AnswersAs F.FnMut read_stack.new memory
+        × IfOk result (λ found. found.1 ≡ eh_frame_told A.translated A.uncovered
+        (λ bytes row. A.direct bytes P.GimliEvaluationStorage.Stack.limit memory row is_first_frame regs)
+        P.GimliUnwindContextStorage.limits info.now.frames relative_address fde_offset) }
+{
+    let Some(eh_frame) = &info.eh_frame else {
+        return Ok((
+            Source::Compact(place),
+            Told::Refused(UnwinderError::NoDwarfData),
+        ));
+    };
+    let mut unwinder: DwarfUnwinder<'_, A, P::GimliUnwindContextStorage> = DwarfUnwinder::new(
+        eh_frame.bytes(),
+        UnwindSectionType::EhFrame,
+        None,
+        unwind_context,
+        info.base_addresses,
+        info.base_svma,
+    );
+    let (row, told) = explain_fde::<A, P, F>(
+        &mut unwinder,
+        alloc,
+        relative_address,
+        fde_offset,
+        is_first_frame,
+        regs,
+        read_stack,
+    )?;
+    Ok((named_fde(place, fde_offset, row), told))
+}
+
+/// Explains a frame by compact unwind info.
+///
+/// # Errors
+///
+/// An allocation failed.
+pub fn explain_compact<D: SectionBytes, A: Sources, P: AllocationPolicy, F>(
+    info: &CompactInfo<D>,
+    alloc: Global,
+    unwind_context: &mut UnwindContext<P::GimliUnwindContextStorage>,
+    relative_address: u32,
+    is_first_frame: bool,
+    regs: A::UnwindRegs,
+    read_stack: &mut F,
+) -> Result<(Source, Told<A::UnwindRule>), AllocError>
+where
+    F: FnMut(u64) -> Result<u64, ()>,
+    requires { F.IsAlwaysCallable read_stack.old }
+    ensures callable { F.IsAlwaysCallable read_stack.new }
+    ensures source { IfOk result (λ found. IsCompactSource
+        (record { by_code = A.by_code; prologue = A.prologue_rule; epilogue = A.epilogue_rule })
+        A.readers.compact P.GimliUnwindContextStorage.limits info.now relative_address is_first_frame found.0) }
+    ensures answers { (memory : Memory) → AnswersAs F.FnMut read_stack.old memory
+        → AnswersAs F.FnMut read_stack.new memory
+        × IfOk result (λ found. found.1 ≡ compact_told A.translated A.uncovered
+        (λ bytes row. A.direct bytes P.GimliEvaluationStorage.Stack.limit memory row is_first_frame regs)
+        P.GimliUnwindContextStorage.limits info.now.frames relative_address
+        (unwound A.readers.compact info.now.info relative_address is_first_frame)) }
+{
+    let place = place_of::<D, A>(info, relative_address, is_first_frame);
+    match info.unwind_frame_by_info::<A>(relative_address, is_first_frame) {
+        Ok(CuiUnwindResult::ExecRule(rule)) => Ok((Source::Compact(place), Told::Rule(rule))),
+        Ok(CuiUnwindResult::NeedDwarf(fde_offset)) => explain_by_eh_frame::<D, A, P, F>(
+            info,
+            place,
+            fde_offset,
+            alloc,
+            unwind_context,
+            relative_address,
+            is_first_frame,
+            regs,
+            read_stack,
+        ),
+        Err(error) => Ok((
+            Source::Compact(place),
+            Told::Refused(UnwinderError::CompactUnwindInfo(error)),
+        )),
+    }
+}

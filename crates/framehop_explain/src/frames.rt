@@ -1,0 +1,229 @@
+//! Where call frame information tells how to unwind from an address, and what.
+ghost use Rattle.std.specs.Prelude.{◌≡◌, ◌+◌, IfOk};
+ghost use Rattle.framehop_core.specs.Memory.{Memory, AnswersAs};
+ghost use Rattle.framehop_dwarf.specs.Unwinder.{reading_of};
+ghost use Rattle.framehop.specs.CallFrames.{frames_with_header};
+ghost use Rattle.framehop_explain.specs.Told.{dwarf_told, frames_told};
+ghost use Rattle.framehop_explain.specs.Source.{row_source, frames_source};
+
+use crate::source::{RowSource, Source};
+use crate::told::{Told, told_by_dwarf};
+use framehop::unwind_data::IndexedFrames;
+use framehop::{AllocationPolicy, UnwinderError, Unwinding};
+use framehop_cfi::context::UnwindContext;
+use framehop_cfi::entry::{UnwindSection, UnwindSectionType};
+use framehop_cfi::pointer::BaseAddresses;
+use framehop_cfi::section::SectionBytes;
+use framehop_cfi::storage::UnwindContextStorage;
+use framehop_dwarf::dwarf::DwarfUnwinderError;
+use framehop_dwarf::unwinder::{DwarfUnwinder, find_row};
+use std::alloc::{AllocError, Global};
+
+/// What the FDE at an offset has for an address.
+pub fn row_of<S: UnwindContextStorage>(
+    section: &UnwindSection,
+    base_svma: u64,
+    relative_address: u32,
+    fde_offset: u32,
+    unwind_context: &mut UnwindContext<S>,
+) -> Result<RowSource, AllocError>
+    ensures { IfOk result (λ row. row ≡ row_source (reading_of S.limits section.now (base_svma + relative_address) fde_offset)) }
+{
+    match find_row(
+        section,
+        base_svma,
+        relative_address,
+        fde_offset,
+        unwind_context,
+    ) {
+        Ok(true) => Ok(RowSource::Row),
+        Ok(false) => Ok(RowSource::NoRow),
+        Err(DwarfUnwinderError::FdeFromOffsetFailed(error)) => Ok(RowSource::Unread(error)),
+        Err(_) => Err(AllocError),
+    }
+}
+
+/// What the FDE at an offset tells for a frame.
+pub fn told_by_fde<A: Unwinding, P: AllocationPolicy, F>(
+    unwinder: &mut DwarfUnwinder<'_, A, P::GimliUnwindContextStorage>,
+    alloc: Global,
+    relative_address: u32,
+    fde_offset: u32,
+    is_first_frame: bool,
+    regs: A::UnwindRegs,
+    read_stack: &mut F,
+) -> Result<Told<A::UnwindRule>, AllocError>
+where
+    F: FnMut(u64) -> Result<u64, ()>,
+    requires { F.IsAlwaysCallable read_stack.old }
+    ensures callable { F.IsAlwaysCallable read_stack.new }
+    ensures answers { (memory : Memory) → AnswersAs F.FnMut read_stack.old memory
+        → AnswersAs F.FnMut read_stack.new memory
+        × IfOk result (λ told. told ≡ dwarf_told A.translated A.uncovered
+        (λ row. A.direct unwinder.old.section.bytes P.GimliEvaluationStorage.Stack.limit memory row is_first_frame regs)
+        (reading_of P.GimliUnwindContextStorage.limits unwinder.old.section (unwinder.old.base_svma + relative_address) fde_offset)) }
+{
+    let mut caller = regs;
+    told_by_dwarf(unwinder.unwind_frame_with_fde::<P::GimliEvaluationStorage, F>(
+        alloc,
+        &mut caller,
+        is_first_frame,
+        relative_address,
+        fde_offset,
+        read_stack,
+    ))
+}
+
+/// The FDE at an offset, and what it tells for a frame.
+pub fn explain_fde<A: Unwinding, P: AllocationPolicy, F>(
+    unwinder: &mut DwarfUnwinder<'_, A, P::GimliUnwindContextStorage>,
+    alloc: Global,
+    relative_address: u32,
+    fde_offset: u32,
+    is_first_frame: bool,
+    regs: A::UnwindRegs,
+    read_stack: &mut F,
+) -> Result<(RowSource, Told<A::UnwindRule>), AllocError>
+where
+    F: FnMut(u64) -> Result<u64, ()>,
+    requires { F.IsAlwaysCallable read_stack.old }
+    ensures callable { F.IsAlwaysCallable read_stack.new }
+    ensures source { IfOk result (λ found. found.0 ≡ row_source
+        (reading_of P.GimliUnwindContextStorage.limits unwinder.old.section (unwinder.old.base_svma + relative_address) fde_offset)) }
+    ensures answers { (memory : Memory) → AnswersAs F.FnMut read_stack.old memory
+        → AnswersAs F.FnMut read_stack.new memory
+        × IfOk result (λ found. found.1 ≡ dwarf_told A.translated A.uncovered
+        (λ row. A.direct unwinder.old.section.bytes P.GimliEvaluationStorage.Stack.limit memory row is_first_frame regs)
+        (reading_of P.GimliUnwindContextStorage.limits unwinder.old.section (unwinder.old.base_svma + relative_address) fde_offset)) }
+{
+    let row = row_of(
+        &unwinder.section,
+        unwinder.base_svma,
+        relative_address,
+        fde_offset,
+        unwinder.unwind_context,
+    )?;
+    let told = told_by_fde::<A, P, F>(
+        unwinder,
+        alloc,
+        relative_address,
+        fde_offset,
+        is_first_frame,
+        regs,
+        read_stack,
+    )?;
+    Ok((row, told))
+}
+
+/// Explains a frame by a section with an index of its FDEs.
+pub fn explain_indexed<D: SectionBytes, A: Unwinding, P: AllocationPolicy, F>(
+    frames: &IndexedFrames<D>,
+    alloc: Global,
+    unwind_context: &mut UnwindContext<P::GimliUnwindContextStorage>,
+    relative_address: u32,
+    is_first_frame: bool,
+    regs: A::UnwindRegs,
+    read_stack: &mut F,
+) -> Result<(Source, Told<A::UnwindRule>), AllocError>
+where
+    F: FnMut(u64) -> Result<u64, ()>,
+    requires { F.IsAlwaysCallable read_stack.old }
+    ensures callable { F.IsAlwaysCallable read_stack.new }
+    ensures source { IfOk result (λ found. found.0 ≡ frames_source P.GimliUnwindContextStorage.limits frames.now relative_address) }
+    ensures answers { (memory : Memory) → AnswersAs F.FnMut read_stack.old memory
+        → AnswersAs F.FnMut read_stack.new memory
+        × IfOk result (λ found. found.1 ≡ frames_told A.translated A.uncovered
+        (λ row. A.direct frames.now.section.bytes P.GimliEvaluationStorage.Stack.limit memory row is_first_frame regs)
+        P.GimliUnwindContextStorage.limits frames.now relative_address) }
+{
+    let Some(offset) = frames.fde_offset(relative_address) else {
+        return Ok((
+            Source::NotInIndex(frames.section_type),
+            Told::Refused(UnwinderError::DwarfCfiIndexCouldNotFindAddress),
+        ));
+    };
+    let mut unwinder: DwarfUnwinder<'_, A, P::GimliUnwindContextStorage> = DwarfUnwinder::new(
+        frames.section_data.bytes(),
+        frames.section_type,
+        None,
+        unwind_context,
+        frames.base_addresses,
+        frames.base_svma,
+    );
+    let (row, told) = explain_fde::<A, P, F>(
+        &mut unwinder,
+        alloc,
+        relative_address,
+        offset,
+        is_first_frame,
+        regs,
+        read_stack,
+    )?;
+    Ok((
+        Source::Fde {
+            section_type: frames.section_type,
+            offset,
+            row,
+        },
+        told,
+    ))
+}
+
+/// Explains a frame by `.eh_frame` and its table of FDEs.
+pub fn explain_by_header<A: Unwinding, P: AllocationPolicy, F>(
+    eh_frame_hdr: &[u8],
+    eh_frame: &[u8],
+    base_addresses: BaseAddresses,
+    base_svma: u64,
+    alloc: Global,
+    unwind_context: &mut UnwindContext<P::GimliUnwindContextStorage>,
+    relative_address: u32,
+    is_first_frame: bool,
+    regs: A::UnwindRegs,
+    read_stack: &mut F,
+) -> Result<(Source, Told<A::UnwindRule>), AllocError>
+where
+    F: FnMut(u64) -> Result<u64, ()>,
+    requires { F.IsAlwaysCallable read_stack.old }
+    ensures callable { F.IsAlwaysCallable read_stack.new }
+    ensures source { IfOk result (λ found. found.0 ≡ frames_source P.GimliUnwindContextStorage.limits
+        (frames_with_header eh_frame_hdr.now eh_frame.now base_addresses base_svma) relative_address) }
+    ensures answers { (memory : Memory) → AnswersAs F.FnMut read_stack.old memory
+        → AnswersAs F.FnMut read_stack.new memory
+        × IfOk result (λ found. found.1 ≡ frames_told A.translated A.uncovered
+        (λ row. A.direct eh_frame.now P.GimliEvaluationStorage.Stack.limit memory row is_first_frame regs)
+        P.GimliUnwindContextStorage.limits
+        (frames_with_header eh_frame_hdr.now eh_frame.now base_addresses base_svma) relative_address) }
+{
+    let mut unwinder: DwarfUnwinder<'_, A, P::GimliUnwindContextStorage> = DwarfUnwinder::new(
+        eh_frame,
+        UnwindSectionType::EhFrame,
+        Some(eh_frame_hdr),
+        unwind_context,
+        base_addresses,
+        base_svma,
+    );
+    let Some(offset) = unwinder.get_fde_offset_for_relative_address(relative_address) else {
+        return Ok((
+            Source::NotInHeader,
+            Told::Refused(UnwinderError::EhFrameHdrCouldNotFindAddress),
+        ));
+    };
+    let (row, told) = explain_fde::<A, P, F>(
+        &mut unwinder,
+        alloc,
+        relative_address,
+        offset,
+        is_first_frame,
+        regs,
+        read_stack,
+    )?;
+    Ok((
+        Source::Fde {
+            section_type: UnwindSectionType::EhFrame,
+            offset,
+            row,
+        },
+        told,
+    ))
+}
