@@ -2,18 +2,20 @@
 # crate.sh NAME COMMAND [ARGUMENT..]: `rt COMMAND ARGUMENT..` in a crate of this folder, as `crate.sh framehop_bench run`.
 #
 # These crates are beside the gate, which reads every file whose name ends in .rt: so theirs end in .rt.txt. They are laid out in
-# a temporary repository, with links to the crates that they stand on. A program that is built is copied to out/NAME at the top.
+# a temporary repository in out/, with hard links to the files of the others and to what is proved of them. A program that is
+# built is copied to out/NAME at the top.
 set -eu
 here=$(cd "$(dirname "$(realpath -- "${BASH_SOURCE[0]}")")" && pwd)
 top=$(dirname "$here")
 name=$1
-room=$(mktemp -d)
+mkdir -p "$top/out"
+room=$(mktemp -d "$top/out/$name-XXXXXX")
 trap 'rm -rf "$room"' EXIT
 
-mkdir "$room/crates"
+git init -q "$room"
 cp "$top/HANDLES" "$room/"
 cat "$top/crates.txt" "$here/crates.lines" >"$room/crates.txt"
-ln -s "$top"/crates/* "$room/crates/"
+cp -al "$top/crates" "$room/crates"
 while IFS=: read -r crate _; do
     cp -r "$here/$crate" "$room/crates/$crate"
     for file in "$room/crates/$crate"/src/*.rt.txt; do mv "$file" "${file%.txt}"; done
@@ -25,7 +27,6 @@ input=/dev/null
 [ ! -f stdin ] || input=stdin
 rt "${@:2}" <"$input" || status=$?
 if [ "$2" = run ] && [ -x "out/$name" ]; then
-    mkdir -p "$top/out"
     cp "out/$name" "$top/out/$name"
 fi
 exit "$status"
