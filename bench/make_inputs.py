@@ -6,8 +6,12 @@
                                             and whose return addresses are scattered over 16 MB
     make_inputs.py offsets COUNT            a walk of COUNT frames of one function whose rows have the
                                             CFA rbp + 32 and rbp at CFA - 16
-    make_inputs.py sections ELF             a module with the file's .eh_frame, and where its
-                                            .text and .got are
+    make_inputs.py sections ELF [header]    a module with the file's .eh_frame, and where its
+                                            .text and .got are; with its .eh_frame_hdr, too
+    make_inputs.py fdes COUNT               a module with an .eh_frame of COUNT FDEs, in no order
+    make_inputs.py compact ARCH COUNT       a module with an __unwind_info of COUNT functions
+    make_inputs.py pe COUNT                 a module with a .pdata of COUNT functions, and their
+                                            code and unwind codes
     make_inputs.py cold SECTIONS ELF COUNT  a walk of COUNT frames, each of another row of the
                                             file's .eh_frame; SECTIONS is what `sections ELF`
                                             prints, and `readelf -wF ELF` tells the rows
@@ -105,13 +109,108 @@ def with_offsets(count):
     return session("x86_64", commands)
 
 
+def module(arch, size, base, sections):
+    """A session with one module of `size` bytes from `base` on, with sections by name, address relative to the base,
+    size, and bytes or None."""
+    listed = []
+    for name, at, length, data in sections:
+        section = {"name": name, "svma": [f"{base + at:x}", f"{base + at + length:x}"]}
+        if data is not None:
+            section["data"] = data.hex()
+        listed.append(section)
+    made = {"name": "made", "start": f"{base:x}", "end": f"{base + size:x}", "base": f"{base:x}"}
+    made |= {"base_svma": f"{base:x}", "sections": listed, "segments": []}
+    return session(arch, [{"do": "add", "unwinder": 0, **made}])
+
+
+def fdes(count):
+    """Functions of 16 to 64 bytes, whose rows have the CFA rsp + 8."""
+    numbers = random.Random(1)
+    functions, end = [], 0x1000
+    for _ in range(count):
+        size = numbers.randrange(16, 65)
+        functions.append((end, size))
+        end += size
+    code = end
+    numbers.shuffle(functions)
+    section = (code + 0xFFF) // 0x1000 * 0x1000
+    made = bytearray(bytes.fromhex("1400000000000000017a5200017810011b0c070890010000"))
+    for start, size in functions:
+        at = len(made)
+        made += struct.pack("<IIiIB3x", 0x10, at + 4, start - section - at - 8, size, 0)
+    made += bytes(4)
+    sections = [(".text", 0x1000, code - 0x1000, None), (".eh_frame", section, len(made), bytes(made))]
+    return module("x86_64", section + len(made), 0, sections)
+
+
+COMPACT_OPCODES = {
+    # RBP_FRAME, STACK_IMMD of 16 and of 64 bytes, the last with rbx and r14 saved
+    "x86_64": [0x01000000, 0x02020000, 0x02080000 | 2 << 10],
+    # FRAME, FRAME with x19 and x20, FRAMELESS of 32 bytes
+    "aarch64": [0x04000000, 0x04000001, 0x02002000],
+}
+
+
+def compact(arch, count):
+    """Functions of 64 bytes, 500 to a compressed page."""
+    opcodes = COMPACT_OPCODES[arch]
+    pages = [range(first, min(first + 500, count)) for first in range(0, count, 500)]
+    index_at = 28 + 4 * len(opcodes)
+    at = index_at + 12 * (len(pages) + 1)
+    index, second = b"", b""
+    for page in pages:
+        index += struct.pack("<III", 0x1000 + 64 * page[0], at + len(second), 0)
+        second += struct.pack("<IHHHH", 3, 12, len(page), 12 + 4 * len(page), 0)
+        for place in page:
+            second += struct.pack("<I", place % len(opcodes) << 24 | 64 * (place - page[0]))
+    index += struct.pack("<III", 0x1000 + 64 * count, 0, 0)
+    info = struct.pack("<IIIIIII", 1, 28, len(opcodes), 28, 0, index_at, len(pages) + 1)
+    info += struct.pack(f"<{len(opcodes)}I", *opcodes) + index + second
+    section = 0x1000 + 64 * count
+    sections = [("__text", 0x1000, 64 * count, None), ("__unwind_info", section, len(info), info)]
+    return module(arch, section + len(info), 0x1_0000_0000, sections)
+
+
+# For each function: its unwind info, and the end of its code.
+PE_FUNCTIONS = [
+    # push rbp; sub rsp, 32; lea rbp, [rsp + 32]: and lea rsp, [rbp]; pop rbp; ret
+    (bytes.fromhex("010a0325 0a03 0532 0150 0000".replace(" ", "")), bytes.fromhex("488d65005dc3")),
+    # sub rsp, 40, and add rsp, 40; ret
+    (bytes.fromhex("0104010004420000"), bytes.fromhex("4883c428c3")),
+    # push rbx; push rsi; sub rsp, 32, and its reverse
+    (bytes.fromhex("01060300063202600130 0000".replace(" ", "")), bytes.fromhex("4883c4205e5bc3")),
+]
+
+
+def pe(count):
+    """Functions of 64 bytes."""
+    infos, places = b"", []
+    for info, _ in PE_FUNCTIONS:
+        places.append(len(infos))
+        infos += info
+    code_at, info_at = 0x1000, 0x1000 + 64 * count
+    code, table = bytearray(), b""
+    table_at = info_at + len(infos)
+    for place in range(count):
+        end = PE_FUNCTIONS[place % len(PE_FUNCTIONS)][1]
+        code += bytes([0x90]) * (64 - len(end)) + end
+        start = code_at + 64 * place
+        table += struct.pack("<III", start, start + 64, info_at + places[place % len(PE_FUNCTIONS)])
+    sections = [
+        (".text", code_at, len(code), bytes(code)),
+        (".xdata", info_at, len(infos), infos),
+        (".pdata", table_at, len(table), table),
+    ]
+    return module("x86_64", table_at + len(table), 0x1_4000_0000, sections)
+
+
 def many(walks):
     """Walks of 40 frames through 8 functions, at some 3 kB each."""
     commands = [walk("x86_64", CODE, STACK, STACK, linked_frames(40), 1000) for _ in range(walks)]
     return session("x86_64", commands)
 
 
-def sections_of(elf):
+def sections_of(elf, names=(".eh_frame", ".text", ".got")):
     """A session with one module: the sections of a 64-bit ELF file, as `readelf -SW` lists them."""
     listed = subprocess.run(["readelf", "-SW", elf], capture_output=True, text=True, check=True).stdout
     row = re.compile(r"\[ *[0-9]+\] (\S+) +\S+ +([0-9a-f]{16}) ([0-9a-f]+) ([0-9a-f]+) ")
@@ -120,9 +219,9 @@ def sections_of(elf):
     found = []
     for name, *numbers in row.findall(listed):
         address, offset, size = (int(digits, 16) for digits in numbers)
-        if name in (".eh_frame", ".text", ".got"):
+        if name in names:
             section = {"name": name, "svma": [f"{address:x}", f"{address + size:x}"]}
-            if name == ".eh_frame":
+            if name.startswith(".eh_frame"):
                 section["data"] = contents[offset : offset + size].hex()
             found.append(section)
     module = {"name": "elf", "start": "0", "end": "100000000", "base": "0", "base_svma": "0"}
@@ -183,6 +282,14 @@ def main(arguments):
             made = with_offsets(int(count))
         case ["sections", elf]:
             made = sections_of(elf)
+        case ["sections", elf, "header"]:
+            made = sections_of(elf, (".eh_frame", ".eh_frame_hdr", ".text", ".got"))
+        case ["fdes", count]:
+            made = fdes(int(count))
+        case ["compact", arch, count]:
+            made = compact(arch, int(count))
+        case ["pe", count]:
+            made = pe(int(count))
         case ["cold", sections, elf, count]:
             made = cold(sections, elf, int(count))
         case ["many", walks]:
