@@ -328,10 +328,12 @@ impl CommonInformationEntry {
         }
         // DW_CFA_offset
         if 0x80 <= code && code < 0xc0 {
-            let register = Register(u16::from(code - 0x80));
             let (offset, next) = read_short_factored(self.data_alignment_factor, bytes, next)?;
-            let rule = RegisterRule::Offset(offset);
-            return Some((CallFrameInstruction::SetRule { register, rule }, next));
+            let set_rule = CallFrameInstruction::SetRule {
+                register: Register(u16::from(code - 0x80)),
+                rule: RegisterRule::Offset(offset),
+            };
+            return Some((set_rule, next));
         }
         None
     }
