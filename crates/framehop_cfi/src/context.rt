@@ -77,6 +77,7 @@ impl<S: UnwindContextStorage> UnwindContext<S> {
     }
 
     /// Does what an instruction says, but for a move of the location.
+    #[inline(always)]
     fn execute(&mut self, instruction: CallFrameInstruction) -> Result<(), ReadError>
         ensures exact { Becomes result self.new (effect S.limits instruction self.old) }
         ensures memory { IsErrOf result ReadError.OutOfMemory → S.limits ≡ None }
@@ -101,6 +102,7 @@ impl<S: UnwindContextStorage> UnwindContext<S> {
         }
     }
 
+    #[inline(always)]
     fn set_rule(&mut self, register: Register, rule: RegisterRule) -> Result<(), ReadError>
         ensures exact { Becomes result self.new (setting S.limits register rule self.old) }
         ensures memory { IsErrOf result ReadError.OutOfMemory → S.limits ≡ None }
@@ -109,6 +111,7 @@ impl<S: UnwindContextStorage> UnwindContext<S> {
     }
 
     /// Gives a register the rule that the CIE gave it.
+    #[inline(never)]
     fn restore(&mut self, register: Register) -> Result<(), ReadError>
         ensures exact { Becomes result self.new (restoring S.limits register self.old self.old.initial) }
         ensures memory { IsErrOf result ReadError.OutOfMemory → S.limits ≡ None }
@@ -125,6 +128,7 @@ impl<S: UnwindContextStorage> UnwindContext<S> {
         }
     }
 
+    #[inline(always)]
     fn set_cfa_register(&mut self, register: Register) -> Result<(), ReadError>
         ensures exact { Becomes result self.new (effect S.limits (CallFrameInstruction.DefCfaRegister register) self.old) }
         ensures memory { result ≢ Err ReadError.OutOfMemory }
@@ -139,6 +143,7 @@ impl<S: UnwindContextStorage> UnwindContext<S> {
         }
     }
 
+    #[inline(always)]
     fn set_cfa_offset(&mut self, offset: i64) -> Result<(), ReadError>
         ensures exact { Becomes result self.new (effect S.limits (CallFrameInstruction.DefCfaOffset offset) self.old) }
         ensures memory { result ≢ Err ReadError.OutOfMemory }
@@ -154,6 +159,7 @@ impl<S: UnwindContextStorage> UnwindContext<S> {
     }
 
     /// Remembers the row.
+    #[inline(never)]
     fn remember(&mut self) -> Result<(), ReadError>
         ensures exact { Becomes result self.new (remembering S.limits self.old) }
         ensures memory { IsErrOf result ReadError.OutOfMemory → S.limits ≡ None }
@@ -178,6 +184,7 @@ impl<S: UnwindContextStorage> UnwindContext<S> {
     }
 
     /// Makes the row the one that was remembered last, which is then not remembered any more.
+    #[inline(never)]
     fn restore_state(&mut self) -> Result<(), ReadError>
         ensures exact { Becomes result self.new (restoring_state self.old) }
         ensures memory { result ≢ Err ReadError.OutOfMemory }
@@ -209,6 +216,7 @@ fn spare_rows<S: UnwindContextStorage>(
 
 /// Returns the location that an instruction leaves. A CIE has no address that is looked for, and its
 /// instructions do not move the location.
+#[inline(always)]
 fn location_after(
     cie: &CommonInformationEntry,
     address: Option<u64>,
@@ -236,6 +244,7 @@ fn location_after(
 }
 
 /// Returns the location after an advance of `delta` times the code alignment.
+#[inline(always)]
 fn risen(location: u64, delta: u32, code_alignment_factor: u64) -> Result<u64, ReadError>
     ensures exact { result ≡ risen location (delta * code_alignment_factor) }
     ensures memory { result ≢ Err ReadError.OutOfMemory }
@@ -252,6 +261,7 @@ fn risen(location: u64, delta: u32, code_alignment_factor: u64) -> Result<u64, R
 }
 
 /// Returns whether the location lies beyond the address that is looked for.
+#[inline(always)]
 fn is_beyond(address: Option<u64>, location: u64) -> bool
     ensures { result ≡ is_beyond address location }
 {
@@ -281,7 +291,7 @@ impl<S: UnwindContextStorage> UnwindContext<S> {
         let mut location = start;
         let mut next = at;
         while next < bytes.len() {
-            let (instruction, after_instruction) = cie.read_instruction(bases, bytes, next)?;
+            let (instruction, after_instruction) = cie.read_next(bases, bytes, next)?;
             let moved = location_after(cie, address, location, instruction)?;
             if is_beyond(address, moved) {
                 return Ok(());

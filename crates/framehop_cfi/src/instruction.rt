@@ -1,11 +1,11 @@
 //! Call frame instructions (DWARF 5 section 6.4.2).
-ghost use Rattle.std.specs.Prelude.{◌≡◌, ◌≢◌, Err, ◌≤◌, ◌<◌, IfOk};
+ghost use Rattle.std.specs.Prelude.{◌≡◌, ◌≢◌, Ok, Err, ◌≤◌, ◌<◌, IfOk, IfSome};
 ghost use Rattle.framehop_cfi.specs.Instruction.{instruction_at, operands_at, coded_at, advance_at, cfa_at, def_cfa_at, def_cfa_factored_at, set_rule_at, rule_at, expression_at, offset_at, factored_at, factored_signed_at, checked_i64, register_at};
 
 use crate::augmentation::read_counted;
 use crate::bytes::{read_u8, read_u16, read_u32};
 use crate::entry::CommonInformationEntry;
-use crate::leb128::{read_sleb128, read_uleb128};
+use crate::leb128::{read_short_uleb128, read_sleb128, read_uleb128};
 use crate::pointer::SectionBaseAddresses;
 use crate::read_error::ReadError;
 use crate::rule::{CfaRule, Expression, Register, RegisterRule};
@@ -115,6 +115,29 @@ fn read_offset(bytes: &[u8], at: usize) -> Result<(i64, usize), ReadError>
     let (number, next) = read_uleb128(bytes, at)?;
     let offset = checked(i128::from(number))?;
     Ok((offset, next))
+}
+
+/// Returns an offset of one byte that is not factored, if there is one.
+#[inline(always)]
+#[tactic(auto, unfolding(crate::specs::Instruction::offset_at))]
+fn read_short_offset(bytes: &[u8], at: usize) -> Option<(i64, usize)>
+    ensures exact { IfSome result (λ read. offset_at bytes.now at ≡ Ok read) }
+    ensures forward { IfSome result (λ read. at < read.1) }
+{
+    let (number, next) = read_short_uleb128(bytes, at)?;
+    Some((i64::try_from(number).ok()?, next))
+}
+
+/// Returns an unsigned number of one byte times the data alignment, if there is one.
+#[inline(always)]
+#[tactic(auto, unfolding(crate::specs::Instruction::factored_at))]
+fn read_short_factored(alignment: i64, bytes: &[u8], at: usize) -> Option<(i64, usize)>
+    ensures exact { IfSome result (λ read. factored_at alignment bytes.now at ≡ Ok read) }
+    ensures forward { IfSome result (λ read. at < read.1) }
+{
+    let (number, next) = read_short_uleb128(bytes, at)?;
+    let product = i64::try_from(i128::from(number) * i128::from(alignment)).ok()?;
+    Some((product, next))
 }
 
 /// Returns an expression, after its length.
@@ -272,8 +295,70 @@ fn read_cfa(
 }
 
 impl CommonInformationEntry {
+    /// Returns the instruction at an offset, and the offset after it, if it is one of those that are common and has
+    /// no operand of more than one byte. It is inlined, so that such an instruction is read without a call.
+    #[inline(always)]
+    #[tactic(auto, unfolding(crate::specs::Instruction::instruction_at, crate::specs::Bytes::u8_at))]
+    pub(crate) fn read_short(
+        &self,
+        bytes: &[u8],
+        at: usize,
+    ) -> Option<(CallFrameInstruction, usize)>
+        ensures exact { (bases : SectionBaseAddresses) → IfSome result (λ read. instruction_at self.now bases bytes.now at ≡ Ok read) }
+        ensures forward { IfSome result (λ read. at < read.1) }
+    {
+        if at >= bytes.len() {
+            return None;
+        }
+        let code = bytes[at];
+        let next = at + 1;
+        // DW_CFA_advance_loc
+        if 0x40 <= code && code < 0x80 {
+            let delta = u32::from(code - 0x40);
+            return Some((CallFrameInstruction::AdvanceLoc { delta }, next));
+        }
+        // DW_CFA_nop
+        if code == 0x00 {
+            return Some((CallFrameInstruction::Nop, next));
+        }
+        // DW_CFA_def_cfa_offset
+        if code == 0x0e {
+            let (offset, next) = read_short_offset(bytes, next)?;
+            return Some((CallFrameInstruction::DefCfaOffset { offset }, next));
+        }
+        // DW_CFA_offset
+        if 0x80 <= code && code < 0xc0 {
+            let (offset, next) = read_short_factored(self.data_alignment_factor, bytes, next)?;
+            let set_rule = CallFrameInstruction::SetRule {
+                register: Register(u16::from(code - 0x80)),
+                rule: RegisterRule::Offset(offset),
+            };
+            return Some((set_rule, next));
+        }
+        None
+    }
+
+    /// Returns the instruction at an offset, and the offset after it: a short one inlined, another by a call.
+    #[inline(always)]
+    pub(crate) fn read_next(
+        &self,
+        bases: &SectionBaseAddresses,
+        bytes: &[u8],
+        at: usize,
+    ) -> Result<(CallFrameInstruction, usize), ReadError>
+        ensures exact { result ≡ instruction_at self.now bases.now bytes.now at }
+        ensures forward { IfOk result (λ read. at < read.1) }
+        ensures memory { result ≢ Err ReadError.OutOfMemory }
+    {
+        match self.read_short(bytes, at) {
+            Some(read) => Ok(read),
+            None => self.read_instruction(bases, bytes, at),
+        }
+    }
+
     /// Returns the instruction at an offset, and the offset after it.
     #[tactic(auto, unfolding(crate::specs::Instruction::instruction_at))]
+    #[inline(never)]
     pub fn read_instruction(
         &self,
         bases: &SectionBaseAddresses,

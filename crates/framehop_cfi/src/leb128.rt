@@ -1,5 +1,5 @@
 //! LEB128 numbers: groups of seven bits, the lowest first (DWARF 5 section 7.6).
-ghost use Rattle.std.specs.Prelude.{◌≡◌, ◌≢◌, Err, IfErr, ◌+◌, ◌*◌, ◌<◌, ◌≤◌, ◌^◌, IfOk, IsTrue, Some, None, if◌then◌else◌};
+ghost use Rattle.std.specs.Prelude.{◌≡◌, ◌≢◌, Ok, Err, IfSome, IfErr, ◌+◌, ◌*◌, ◌<◌, ◌≤◌, ◌^◌, IfOk, IsTrue, Some, None, if◌then◌else◌};
 ghost use Rattle.framehop_cfi.specs.Refusal.{IsSliceRefusal};
 ghost use Rattle.framehop_cfi.specs.Leb128.{groups_at, uleb_at, sleb_at, with_sign, fits_i64};
 
@@ -28,6 +28,19 @@ fn read_groups(bytes: &[u8], at: usize) -> Result<((u128, u32), usize), ReadErro
         }
     }
     Err(ReadError::BadLeb)
+}
+
+/// Returns an unsigned number of one byte, if there is one.
+#[inline(always)]
+#[tactic(auto, unfolding(crate::specs::Leb128::uleb_at))]
+pub(crate) fn read_short_uleb128(bytes: &[u8], at: usize) -> Option<(u64, usize)>
+    ensures exact { IfSome result (λ read. uleb_at bytes.now at ≡ Ok read) }
+    ensures forward { IfSome result (λ read. at < read.1) }
+{
+    if at < bytes.len() && bytes[at] < 0x80 {
+        return Some((u64::from(bytes[at]), at + 1));
+    }
+    None
 }
 
 /// Returns an unsigned number of at most ten bytes and 64 bits.
