@@ -35,7 +35,7 @@ LIBRARIES = [
 ]
 ITEM = re.compile(r"(\s*)pub (?:const |extern \"C\" )?(fn|struct|enum|trait|const|type) (\w+)")
 BLOCK = re.compile(r"(\s*)(?:pub )?(impl|trait)\b(.*)")
-METHOD = re.compile(r"(\s*)(pub )?(?:const )?fn (\w+)")
+METHOD = re.compile(r"(\s*)(pub )?(?:final )?(?:const )?fn (\w+)")
 CLAUSE = re.compile(r"\s*(requires|ensures) (\w*) ?\{")
 GHOST_USE = re.compile(r"ghost use Rattle\.([\w.-]+)\.\{([^}]*)\}")
 WORD = re.compile(r"[^\W\d][\w'-]*")
@@ -76,8 +76,8 @@ class Definitions:
             return None
         word = re.escape(name)
         patterns = [
-            rf"(?:abbrev |pub |data |record |rec )*{word}(?:[\s:({{]|$)",
-            rf"\s+(?:pub )?{word} :",
+            rf"(?:(?:abbrev|unfoldable|opaque|pub|data|record|rec) )*{word}(?:[\s:({{]|$)",
+            rf"\s+(?:(?:abbrev|unfoldable|opaque|pub) )*{word} :",
         ]
         lines = file.read_text().split("\n")
         for pattern in patterns:
@@ -171,6 +171,14 @@ def body_of(lines, start):
     return [line[len(indent) :] for line in kept]
 
 
+def trait_of(lines, start):
+    """A trait's head, its types and its constants; its functions have headings of their own."""
+    end = block_end(lines, start, "")
+    head = next(at for at in range(start, end) if lines[at].rstrip().endswith(("{", "}")))
+    members = [line for line in lines[head + 1 : end] if re.match(r"    (type|const) \w+\b[^{]*;", line)]
+    return [*lines[start : head + 1], *members, *["}"][: not lines[head].rstrip().endswith("}")]]
+
+
 def clause_text(clause, words, definitions, source, folder):
     """A clause as Markdown: its text, and links to the definitions of its words."""
     keyword, name, text = clause
@@ -198,13 +206,35 @@ def item_page(lines, number, kind, title, words, definitions, source, folder):
             page += clause_text(clause, words, definitions, source, folder)
     elif kind in ("struct", "enum"):
         page += ["", "```rust", *body_of(lines, number), "```"]
+    elif kind == "trait":
+        page += ["", "```rust", *trait_of(lines, number), "```"]
     return page
+
+
+def without_parameters(text):
+    """What is after the `<..>` at the head of a text."""
+    depth = 0
+    for at, sign in enumerate(text):
+        depth += (sign == "<") - (sign == ">" and text[at - 1] != "-")
+        if depth == 0:
+            return text[at + 1 :].strip() if at else text
+    return text
+
+
+def head_of(lines, number):
+    """The head of the block at a line, up to its brace, in one line."""
+    head = []
+    for line in lines[number:]:
+        head.append(line.strip())
+        if line.rstrip().endswith(("{", "}", "where")):
+            break
+    return " ".join(head)
 
 
 def owner_of(head):
     """The type or trait that an `impl` or `trait` line is of, and whether all its functions are public."""
     kind, rest = head
-    rest = re.sub(r"^<.*?>+(?= )", "", rest) if kind == "impl" else rest
+    rest = without_parameters(rest) if kind == "impl" else rest
     by_trait = " for " in rest
     name = re.match(r"\w+", rest.split(" for ")[-1].strip())
     return (name[0] if name else rest.strip()), kind == "trait", by_trait
@@ -215,11 +245,11 @@ def module_page(file, path, names, definitions, folder):
     outer, page, number = imports([line for line in lines if not line.startswith(" ")]), [], 0
     while number < len(lines):
         line = lines[number]
-        block = BLOCK.match(line)
+        block = BLOCK.match(head_of(lines, number)) if BLOCK.match(line) else None
         item = ITEM.match(line)
         if item and item[1] == "" and (names is None or item[3] in names):
             page += item_page(lines, number, item[2], f"{path}::{item[3]}", outer, definitions, file, folder)
-        if block and block[1] == "" and not line.startswith("pub(crate)"):
+        if block and line[0] != " " and not line.startswith("pub(crate)"):
             owner, all_public, by_trait = owner_of((block[2], block[3].strip()))
             end = block_end(lines, number, "")
             inside = {**outer, **imports(lines[number:end])}
@@ -233,23 +263,75 @@ def module_page(file, path, names, definitions, folder):
     return page
 
 
-def crate_page(crate, definitions, folder):
+class Names:
+    """The public names of all libraries: the items of each module, and what a module passes on."""
+
+    def __init__(self):
+        self.items, self.passed_on = {}, {}
+        for crate in LIBRARIES:
+            for file, path, names in modules(TOP / "crates" / crate / "src/lib.rt", crate):
+                text = file.read_text()
+                listed = [item[3] for item in map(ITEM.match, text.split("\n")) if item and item[1] == ""]
+                self.items.setdefault(path, []).extend(it for it in listed if names is None or it in names)
+                if names is None:
+                    self.passed_on[path] = dict(self.uses_of(text, crate, path))
+
+    def uses_of(self, text, crate, path):
+        """Each name that a module passes on, with the path that it has where it is from."""
+        for use in re.findall(r"^pub use ([^;]+);", text, re.M):
+            before, _, inside = "".join(use.split(" as ")[0].split()).partition("{") if "{" not in use else use.partition("{")
+            for name in inside.rstrip("} \n").split(",") if inside else [use]:
+                words = name.split(" as ")
+                whole = "".join((before + words[0] if inside else words[0]).split())
+                here = words[-1].strip().rpartition("::")[2]
+                first = whole.partition("::")[0]
+                if here:
+                    yield here, whole if first in LIBRARIES else f"{crate if first == 'crate' else path}::{re.sub('^(crate|self)::', '', whole)}"
+
+    def found(self, path):
+        """The items that a path names, each with the rest of its path: itself, or all of a module."""
+        around, _, name = path.rpartition("::")
+        if name in self.items.get(around, ()):
+            return [("", path)]
+        if path in self.items:
+            inner = {it.rpartition("::")[2]: it for it in self.items if it.rpartition("::")[0] == path}
+            inner |= self.passed_on.get(path, {})
+            own = [(f"::{it}", f"{path}::{it}") for it in self.items[path]]
+            return own + [(f"::{it}{rest}", at) for it, to in inner.items() for rest, at in self.found(to)]
+        to = self.passed_on.get(around, {}).get(name)
+        return self.found(to) if to else []
+
+    def links(self, path):
+        """Lines with links to what a module passes on."""
+        found = {}
+        for name, to in self.passed_on.get(path, {}).items():
+            for rest, at in self.found(to):
+                if at != f"{path}::{name}{rest}":
+                    found[f"{path}::{name}{rest}"] = at
+        for name, at in sorted(found.items()):
+            yield f"- [`{name}`]({at.partition('::')[0]}.md#{at.replace('::', '').lower()})"
+
+
+def crate_page(crate, definitions, names_of_all, folder):
     source = TOP / "crates" / crate / "src"
     page = [f"# `{crate}`", "", *re.findall(r"^//! ?(.*)", (source / "lib.rt").read_text(), re.M)]
     for file, path, names in modules(source / "lib.rt", crate):
         items = module_page(file, path, names, definitions, folder)
-        if items:
+        passed_on = list(names_of_all.links(path)) if names is None else []
+        if items or passed_on:
             about = re.findall(r"^//! ?(.*)", file.read_text(), re.M) if file.name != "lib.rt" else []
             page += ["", f"## `{path}`", "", *about, *items]
+        if passed_on:
+            page += ["", "Under names of this module, too:", "", *passed_on]
     return "\n".join(page) + "\n"
 
 
 def main():
     folder = Path(sys.argv[1] if len(sys.argv) > 1 else TOP / "docs" / "api").resolve()
     folder.mkdir(parents=True, exist_ok=True)
-    definitions = Definitions()
+    definitions, names = Definitions(), Names()
     for crate in LIBRARIES:
-        (folder / f"{crate}.md").write_text(crate_page(crate, definitions, folder))
+        (folder / f"{crate}.md").write_text(crate_page(crate, definitions, names, folder))
     print(f"{len(LIBRARIES)} pages in {folder}")
 
 

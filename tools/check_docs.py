@@ -5,7 +5,7 @@
 - Each name in backticks of the pages of NAMED is in the sources, the scripts, the edits or a file's name.
 - The Rust of README.md is in the tests, line by line.
 - No line of a document has more than 100 words, tables and code excepted.
-- The pages of docs/api are those that tools/api.py makes.
+- The pages of docs/api are those that tools/api.py makes, and that of `framehop` has each name that the tests name there.
 - Each edit of edits/CRATE can be applied, and each promise of DEFINITIONS.md has one that the gate tries.
 """
 
@@ -19,11 +19,12 @@ from pathlib import Path
 TOP = Path(__file__).resolve().parent.parent
 NAMED = ["DEFINITIONS.md", "PROVED.md", "CHANGING.md"]
 EXAMPLES = TOP / "crates/framehop_vectors/src/readme.rt"
+PATHS = TOP / "crates/framehop_vectors/src/paths.rt"
 FENCE = re.compile(r"^```.*?^```", re.M | re.S)
 WORD = re.compile(r"[^\W\d][\w'-]*")
-# words of a name in backticks that are not names of this repository: Rust's, and values of arguments
 # the lines of an edit that are no text: edits/try says what they are for
 EDIT_KEYS = {"fn", "gate", "alone", "harmless"}
+# words of a name in backticks that are not names of this repository: Rust's, and values of arguments
 FOREIGN = set("Err None Some Ok Option Result Vec u8 u16 u32 u64 usize for true false null".split())
 
 
@@ -122,6 +123,18 @@ def stale_api():
                 yield f"{page.name} is not what tools/api.py makes"
 
 
+def names_not_on_the_page():
+    """Names under which the tests use `framehop`, and which its page doesn't have."""
+    page = (TOP / "docs/api/framehop.md").read_text()
+    for use in re.findall(r"^use (framehop::[^;]+);", PATHS.read_text(), re.M):
+        before, _, inside = "".join(use.split()).partition("{")
+        for name in inside.rstrip("}").split(",") if inside else [""]:
+            path = before + name
+            # (a module by what is in it)
+            if not path.endswith("::") and f"`{path}`" not in page and f"`{path}::" not in page:
+                yield f"framehop.md has no {path}"
+
+
 def edit_faults(text, crate):
     """Why an edit can't be applied to a crate, if so: each old text is in its file once."""
     texts, path, old = {}, None, None
@@ -168,7 +181,7 @@ def faults():
             checks.append(missing_names(text, known))
         yield from (f"{name}: {fault}" for check in checks for fault in check)
     yield from (f"README.md: {fault}" for fault in untested_examples())
-    yield from (f"docs/api: {fault}" for fault in stale_api())
+    yield from (f"docs/api: {fault}" for check in (stale_api(), names_not_on_the_page()) for fault in check)
     yield from wrong_edits()
 
 
