@@ -65,6 +65,7 @@ echo "walk.c: each of $requests requests for memory fails in turn"
 build -g -fsanitize=address,undefined "$here/cases.c" $archives -o "$work/cases"
 python3 "$here/cases.py" c window "$work/cases"
 python3 "$here/cases.py" c callback "$work/cases"
+python3 "$here/cases.py" c chunks "$work/cases"
 
 # the header, as other compilers read it
 for language in c c++; do
