@@ -94,6 +94,7 @@ if command -v cargo > /dev/null; then
     cargo build --offline --quiet --example cases
     python3 "$here/cases.py" rust window "$CARGO_TARGET_DIR/debug/examples/cases"
     python3 "$here/cases.py" rust callback "$CARGO_TARGET_DIR/debug/examples/cases"
+    python3 "$here/cases.py" rust chunks "$CARGO_TARGET_DIR/debug/examples/cases"
     if command -v valgrind > /dev/null; then
         quiet="valgrind -q --error-exitcode=9 --leak-check=full --show-leak-kinds=definite --errors-for-leak-kinds=definite"
         for tests in "$CARGO_TARGET_DIR"/debug/deps/surface-* "$CARGO_TARGET_DIR"/debug/deps/readme-*; do

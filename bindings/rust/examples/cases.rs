@@ -1,5 +1,6 @@
 //! Carries out a case that `bindings/test/cases.py` writes, and prints what `framehop-walk` does: `cases window` with
-//! walks that are one call, `cases callback` with walks by an iterator.
+//! walks that are one call, `cases callback` with walks by an iterator, `cases chunks` with a callback that reads as many
+//! words as it can.
 use framehop_rattle::aarch64::{CacheAarch64, PtrAuthMask, UnwindRegsAarch64, UnwinderAarch64};
 use framehop_rattle::x86_64::{CacheX86_64, Reg, UnwindRegsX86_64, UnwinderX86_64};
 use framehop_rattle::{
@@ -116,6 +117,22 @@ trait Architecture {
         memory: &Memory,
         frames: &mut [u64],
     ) -> (usize, Result<bool, Error>);
+    fn walk_with(
+        unwinder: &Self::Unwinder,
+        pc: u64,
+        regs: &mut Self::Regs,
+        cache: &mut Self::Cache,
+        memory: &Memory,
+        frames: &mut [u64],
+    ) -> (usize, Result<bool, Error>);
+}
+
+/// How walks read the stack.
+#[derive(Clone, Copy, PartialEq, Eq)]
+enum Mode {
+    Window,
+    Callback,
+    Chunks,
 }
 
 struct X86_64<P>(P);
@@ -157,6 +174,17 @@ macro_rules! architecture {
                 frames: &mut [u64],
             ) -> (usize, Result<bool, Error>) {
                 unwinder.walk_into(pc, regs, cache, memory.base, &memory.words, frames)
+            }
+
+            fn walk_with(
+                unwinder: &Self::Unwinder,
+                pc: u64,
+                regs: &mut $regs,
+                cache: &mut Self::Cache,
+                memory: &Memory,
+                frames: &mut [u64],
+            ) -> (usize, Result<bool, Error>) {
+                unwinder.walk_with(pc, regs, cache, |address, words| memory.read(address, words), frames)
             }
         }
     };
@@ -216,6 +244,18 @@ impl Memory {
         }
         self.words.get(usize::try_from(offset / 8).map_err(drop)?).copied().ok_or(())
     }
+
+    /// Reads words from an address upwards, as many as there are.
+    fn read(&self, address: u64, words: &mut [u64]) -> usize {
+        let addresses = (address..=u64::MAX).step_by(8);
+        let mut count = 0;
+        for (word, address) in words.iter_mut().zip(addresses) {
+            let Ok(found) = self.word(address) else { break };
+            *word = found;
+            count += 1;
+        }
+        count
+    }
 }
 
 /// A callback over the memory that is asked for no word twice while a frame is unwound.
@@ -252,16 +292,17 @@ fn frames_of<A: Architecture>(
     (frames, end)
 }
 
-fn walk<A: Architecture>(words: &mut Words, unwinder: &A::Unwinder, cache: &mut A::Cache, by_callback: bool) {
+fn walk<A: Architecture>(words: &mut Words, unwinder: &A::Unwinder, cache: &mut A::Cache, mode: Mode) {
     let (pc, limit) = (words.address(), words.count());
     let mut regs = A::regs(words);
     let memory = Memory::read_from(words);
-    let (frames, end) = if by_callback {
+    let (frames, end) = if mode == Mode::Callback {
         frames_of::<A>(unwinder, pc, limit, &mut regs, cache, &memory)
     } else {
         // no case has so many frames
         let mut frames = vec![0; limit.min(1_000_000)];
-        let (count, end) = A::walk_into(unwinder, pc, &mut regs, cache, &memory, &mut frames);
+        let walk = if mode == Mode::Window { A::walk_into } else { A::walk_with };
+        let (count, end) = walk(unwinder, pc, &mut regs, cache, &memory, &mut frames);
         assert!(frames[count..].iter().all(|frame| *frame == 0));
         frames.truncate(count);
         (frames, end)
@@ -295,7 +336,7 @@ fn step<A: Architecture>(words: &mut Words, unwinder: &A::Unwinder, cache: &mut 
     A::print(&regs);
 }
 
-fn run<A: Architecture>(words: &mut Words, by_callback: bool) {
+fn run<A: Architecture>(words: &mut Words, mode: Mode) {
     let mut caches: Vec<A::Cache> = (0..words.count()).map(|_| A::cache()).collect();
     let mut unwinders: Vec<A::Unwinder> = Vec::new();
     for _ in 0..words.count() {
@@ -337,21 +378,25 @@ fn run<A: Architecture>(words: &mut Words, by_callback: bool) {
             }
             _ => {
                 let cache = words.count();
-                walk::<A>(words, &unwinders[number], &mut caches[cache], by_callback);
+                walk::<A>(words, &unwinders[number], &mut caches[cache], mode);
             }
         }
     }
 }
 
 fn main() {
-    let by_callback = std::env::args().nth(1).as_deref() == Some("callback");
+    let mode = match std::env::args().nth(1).as_deref() {
+        Some("callback") => Mode::Callback,
+        Some("chunks") => Mode::Chunks,
+        _ => Mode::Window,
+    };
     let mut text = String::new();
     std::io::stdin().read_to_string(&mut text).expect("a case");
     let words = &mut Words(text.split_ascii_whitespace());
     match (words.text(), words.text()) {
-        ("x86_64", "may") => run::<X86_64<MayAllocateDuringUnwind>>(words, by_callback),
-        ("x86_64", _) => run::<X86_64<MustNotAllocateDuringUnwind>>(words, by_callback),
-        (_, "may") => run::<Aarch64<MayAllocateDuringUnwind>>(words, by_callback),
-        (_, _) => run::<Aarch64<MustNotAllocateDuringUnwind>>(words, by_callback),
+        ("x86_64", "may") => run::<X86_64<MayAllocateDuringUnwind>>(words, mode),
+        ("x86_64", _) => run::<X86_64<MustNotAllocateDuringUnwind>>(words, mode),
+        (_, "may") => run::<Aarch64<MayAllocateDuringUnwind>>(words, mode),
+        (_, _) => run::<Aarch64<MustNotAllocateDuringUnwind>>(words, mode),
     }
 }

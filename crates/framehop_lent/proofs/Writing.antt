@@ -1,16 +1,18 @@
 -- A walk that is written into a list of addresses, one call of the iterator at a time.
-use Rattle.std.proofs.Common.{◌≡◌, ℕ, zero, suc, ◌+◌, ◌-◌, ◌<◌, ◌≤◌, List, [], ◌∷◌, ◌++◌, map, length, take, drop, set, Option, Some, None, option_map, Result, Ok, Err, refl, sym, ap, ◌∙◌, subst, arith}
+use Rattle.std.proofs.Common.{◌≡◌, ◌≢◌, ℕ, zero, suc, ◌+◌, ◌-◌, ◌<◌, ◌≤◌, List, [], ◌∷◌, ◌++◌, map, length, take, drop, set, Some, None, Ok, Err, refl, sym, ap, ◌∙◌, subst, arith}
 use Rattle.std.proofs.lemmas.List.{take_more_set, map-append, length-append, length-map, take_all, take-append-le, append-nil}
 use Rattle.framehop_core.specs.Outcome.{Outcome}
 use Rattle.framehop_core.specs.CodeAddress.{FrameLocation, address_of}
-use Rattle.framehop.specs.Walk.{Walk}
+use Rattle.framehop.specs.Walk.{callers, cache_after_callers}
 use Rattle.framehop.specs.SessionView.{end_of}
-use Rattle.framehop.specs.Iterator.{Progress, next_of, end_in, frames_in, walk_on, cache_on, cache_after_next}
+use Rattle.framehop.specs.Iterator.{Progress, at_frame, next_of, end_in, frames_in, walk_on, cache_on, cache_after_next}
 use Rattle.framehop.specs.declared.session.commands.WalkEnd.{WalkEnd}
-use Rattle.framehop.specs.declared.session.commands.WalkEnd.TheVariants.{Limit}
-use Rattle.framehop_core.specs.declared.error.Error.{Error}
+use Rattle.framehop.specs.declared.session.commands.WalkEnd.TheVariants.{Limit, Refused}
+use Rattle.framehop_core.specs.declared.error.Error.TheVariants.{OutOfMemory, ReturnAddressIsNull}
 use Rattle.framehop.proofs.WalkLemmas.{WalksOn, WalksOn-next, WalksOn-ended, WalksOn-limit}
-use Rattle.framehop_lent.specs.Walk.{BeginsWalk, IsWrittenWalk}
+use Rattle.framehop_lent.specs.Walk.{BeginsWalk, IsWrittenWalk, IsWrittenUpTo, IsCallerOrEnd, WhereEnded}
+use Rattle.framehop_lent.specs.declared.walk.WalkStop.{WalkStop}
+use Rattle.framehop_lent.specs.declared.walk.WalkStop.TheVariants.{Ended, Missing}
 
 drop-tail : (i : ℕ) (xs : List ℕ) → drop (suc i) xs ≡ drop 1 (drop i xs)
 drop-tail zero xs = refl
@@ -99,3 +101,17 @@ module _ {Regs Cache : Type 0} (step : FrameLocation → Regs → Outcome Regs) 
             },
             walk.1,
           )
+
+-- a walk over windows that stops at a frame
+module _ {Regs Cache : Type 0} (step : FrameLocation → Regs → Outcome Regs) (cache_after : Cache → FrameLocation → Cache) (frames : List ℕ) (i : ℕ) (callee first : FrameLocation) (regs regs0 : Regs) (cache cache0 : Cache) (so_far : WritesOn step cache_after frames i (at_frame callee) (at_frame first) regs regs0 cache cache0) (regs' : Regs) (cache' : Cache) (total : ℕ) (more : i < total) where
+  pub WritesOn-stopped : (stop : WalkStop) → IsCallerOrEnd (next_of step (at_frame callee) regs) (Err stop) regs' → (stop ≢ Ended (Refused ReturnAddressIsNull) → regs' ≡ regs) → WhereEnded stop (λ _. cache' ≡ cache_after cache callee) → IsWrittenUpTo step total first regs0 i frames stop regs' × WhereEnded stop (λ _. cache' ≡ cache_after_callers step cache_after total first regs0 cache0)
+  WritesOn-stopped (Missing address) is kept cached = (rw (kept (λ e. cc)) (WritesOn-limit step cache_after _ _ _ _ _ _ _ _ so_far i refl).0, tt)
+  WritesOn-stopped (Ended end) is kept cached =
+      let walk : end ≢ Refused OutOfMemory → IsWrittenWalk (callers step total first regs0) i frames end regs' × (cache' ≡ cache_after_callers step cache_after total first regs0 cache0) = λ fine.
+      WritesOn-ended step cache_after _ _ _ _ _ _ _ _ so_far _ _ _ refl (is fine).2 (cached fine) total more end (sym (is fine).0) (sym (is fine).1) in (
+        (
+          (λ out. rw (kept (λ e. let memory = out in cc)) (WritesOn-limit step cache_after _ _ _ _ _ _ _ _ so_far i refl).0),
+          λ fine. (walk fine).0,
+        ),
+        λ fine. (walk fine).1,
+      )

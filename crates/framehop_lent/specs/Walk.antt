@@ -1,5 +1,5 @@
 -- A walk as it is written into a list of addresses.
-use Rattle.std.specs.Prelude.{◌≡◌, ◌≢◌, ⊤, ℕ, List, [], map, length, take, Option, Some, None, Result, Ok, Err}
+use Rattle.std.specs.Prelude.{◌≡◌, ◌≢◌, ⊤, ℕ, List, [], map, length, take, Some, None, Result, Ok, Err}
 use Rattle.framehop.specs.CodeAddress.{FrameLocation, address_of, location_of}
 use Rattle.framehop.specs.Outcome.{Outcome}
 use Rattle.framehop.specs.Walk.{Walk, callers}

@@ -132,8 +132,9 @@ fn caller_over<U: Unwinder>(
         return Err(WalkStop::Missing(address));
     }
     match answer {
-        Ok(Some(return_address)) => FrameAddress::from_return_address(return_address)
-            .ok_or(WalkStop::Ended(WalkEnd::Refused(Error::ReturnAddressIsNull))),
+        Ok(Some(return_address)) => FrameAddress::from_return_address(return_address).ok_or(
+            WalkStop::Ended(WalkEnd::Refused(Error::ReturnAddressIsNull)),
+        ),
         Ok(None) => Err(WalkStop::Ended(WalkEnd::Root)),
         Err(error) => Err(WalkStop::Ended(WalkEnd::Refused(error))),
     }

@@ -1,7 +1,7 @@
-use Rattle.std.proofs.Common.{◌≡◌, ◌+◌, ◌-◌, length, Ok, refl, sym, ap, ◌∙◌, arith, rules}
+use Rattle.std.proofs.Common.{◌≡◌, length, Ok, refl, sym, ap, ◌∙◌, arith, rules}
 use Rattle.framehop.specs.CodeAddress.{FrameLocation, location_of}
 use Rattle.framehop.specs.Outcome.{Outcome}
-use Rattle.framehop.specs.Iterator.{progress_of, location_answer, end_in, frames_in}
+use Rattle.framehop.specs.Iterator.{location_answer, end_in, frames_in}
 use Rattle.framehop.specs.declared.session.commands.WalkEnd.TheVariants.{Root, Refused}
 use Rattle.std.proofs.lemmas.List.{drop-set-lt}
 use Rattle.framehop_lent.proofs.Writing.{drop-more, WritesOn-start, WritesOn-begins, WritesOn-limit, WritesOn-next, WritesOn-ended}
@@ -75,8 +75,9 @@ pub returns-clause-answers : goal.returns-clause-answers
 returns-clause-answers g c = λ memory h sound.
     let step : FrameLocation → g.row.U-UnwindRegs.Denot → Outcome g.row.U-UnwindRegs.Denot = λ location regs. g.U.Unwinder.step c.args.unwinding.now.unwinder.now location regs memory in
     let before = c.loop-i.invariant.7 memory h sound in
-    let all : c.loop-i.i ≡ length c.args.frames.now = omega (arith, c.loop-i.invariant.4) in (
-      WritesOn-begins step (g.U.Unwinder.cache_after c.args.unwinding.now.unwinder.now) _ _ _ _ _ _ _ _ before.1 (length c.args.frames.now) (omega arith),
+    let all : c.loop-i.i ≡ length c.loop-i.frames = omega arith in
+    let written = rw all at before.1 in (
+      WritesOn-begins step (g.U.Unwinder.cache_after c.args.unwinding.now.unwinder.now) _ _ _ _ _ _ _ _ written (length c.args.frames.now) (omega (arith, c.loop-i.invariant.4)),
       λ out. cc,
-      λ fine. WritesOn-limit step (g.U.Unwinder.cache_after c.args.unwinding.now.unwinder.now) _ _ _ _ _ _ _ _ before.1 (length c.args.frames.now) all,
+      λ fine. WritesOn-limit step (g.U.Unwinder.cache_after c.args.unwinding.now.unwinder.now) _ _ _ _ _ _ _ _ written (length c.args.frames.now) c.loop-i.invariant.4,
     )
