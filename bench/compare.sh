@@ -7,7 +7,8 @@
 #
 # Both run in turn, five times each, and the least time of each counts. The table that is printed has
 # the time of a frame, of a cache, of an FDE or of the whole run, and in its last column the time here
-# by that of the original. In the environment, CPU=N has all runs on that processor, and ROUNDS=N
+# by that of the original. Walks through the archive, from C and from the Rust crate over it, are beside the walk of
+# the original with a warm cache; FRAMEHOP_LIB names the folders of an archive that is built, as for bindings/rust. In the environment, CPU=N has all runs on that processor, and ROUNDS=N
 # runs each N times. Needs cargo, python3 and readelf.
 set -eu
 top=$(cd "$(dirname "${BASH_SOURCE[0]}")/.." && pwd)
@@ -59,6 +60,36 @@ measure_walks() {
     note "$1, making a cache" there 'making a cache' <<<"$text"
 }
 
+# the programs over the archive: bindings/test/cases.c and the Rust crate's example of the same name
+build_bindings() {
+    local kit folders archives=() folder archive
+    kit=$(dirname "$(dirname "$(readlink -f "$(command -v rt)")")")
+    if [ -z "${FRAMEHOP_LIB:-}" ]; then
+        (cd "$top/crates/framehop_c" && rt lib) >"$log" 2>&1 || { cat "$log" >&2; exit 1; }
+        export FRAMEHOP_LIB=$top/crates/framehop_c/out:$kit/c
+    fi
+    IFS=: read -ra folders <<<"$FRAMEHOP_LIB"
+    for folder in "${folders[@]}"; do
+        for archive in "$folder"/lib{framehop_c,libc_c}.a; do [ ! -f "$archive" ] || archives+=("$archive"); done
+    done
+    clang -O2 -I"$top/bindings/include" "$top/bindings/test/cases.c" "${archives[@]}" -o "$made/cases-c"
+    (cd "$top/bindings/rust" && cargo build --release --offline --example cases --target-dir "$top/out/bindings") >&2
+}
+
+# measure_bindings NAME N: walks of an input with a warm cache, through the archive
+measure_bindings() {
+    local ways='C, one call|C, callback for words|C, callback for a word|Rust, walk_into|Rust, walk_with|Rust, iter_frames'
+    local text there way
+    python3 "$top/bindings/test/cases.py" words "$made/$1.json" may >"$made/$1.words"
+    text=$("${pinned[@]}" "$made/cases-c" time "$2" <"$made/$1.words" 2>&1 >/dev/null)
+    text+=$'\n'$("${pinned[@]}" "$top/out/bindings/release/examples/cases" time "$2" <"$made/$1.words" 2>&1 >/dev/null)
+    there=$("${pinned[@]}" "$theirs" walk "$made/$1.json" "$2")
+    while IFS= read -rd '|' way; do
+        note "$1, $way" here "$way:" <<<"$text"
+        note "$1, $way" there 'warm cache' <<<"$there"
+    done <<<"$ways|"
+}
+
 measure_index() {
     local text
     text=$("${pinned[@]}" "$ours" index "$made/sections.json" "$1" 2>&1 >/dev/null)
@@ -93,10 +124,13 @@ table() {
 }
 
 make_inputs
+build_bindings
 for ((round = 1; round <= rounds; round++)); do
     for arch in x86_64 aarch64; do measure_walks "fp-$arch" 20000; done
     measure_walks offsets 20000
     measure_walks cold 1000
+    for arch in x86_64 aarch64; do measure_bindings "fp-$arch" 20000; done
+    measure_bindings offsets 20000
     measure_index 100
     measure_program here "$walk"
     measure_program there "$theirs" run

@@ -95,6 +95,17 @@ if command -v cargo > /dev/null; then
     python3 "$here/cases.py" rust window "$CARGO_TARGET_DIR/debug/examples/cases"
     python3 "$here/cases.py" rust callback "$CARGO_TARGET_DIR/debug/examples/cases"
     python3 "$here/cases.py" rust chunks "$CARGO_TARGET_DIR/debug/examples/cases"
+    # the same under the address sanitizer, where this toolchain has it
+    host=$(rustc -vV | sed -n 's/^host: //p')
+    if ls "$(rustc --print sysroot)/lib/rustlib/$host/lib/"*_rt.asan.a > /dev/null 2>&1; then
+        sanitized() { RUSTC_BOOTSTRAP=1 RUSTFLAGS=-Zsanitizer=address cargo "$@" --offline --quiet --target "$host"; }
+        sanitized test --tests
+        sanitized build --example cases
+        for mode in window callback chunks; do
+            python3 "$here/cases.py" rust $mode "$CARGO_TARGET_DIR/$host/debug/examples/cases"
+        done
+        echo "Rust: no error under the address sanitizer"
+    fi
     if command -v valgrind > /dev/null; then
         quiet="valgrind -q --error-exitcode=9 --leak-check=full --show-leak-kinds=definite --errors-for-leak-kinds=definite"
         for tests in "$CARGO_TARGET_DIR"/debug/deps/surface-* "$CARGO_TARGET_DIR"/debug/deps/readme-*; do

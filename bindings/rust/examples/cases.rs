@@ -1,6 +1,7 @@
 //! Carries out a case that `bindings/test/cases.py` writes, and prints what `framehop-walk` does: `cases window` with
 //! walks that are one call, `cases callback` with walks by an iterator, `cases chunks` with a callback that reads as many
-//! words as it can.
+//! words as it can; `cases time N` with walks that are one call, which are made N times more in each way, and tells the
+//! nanoseconds of a frame.
 use framehop_rattle::aarch64::{CacheAarch64, PtrAuthMask, UnwindRegsAarch64, UnwinderAarch64};
 use framehop_rattle::x86_64::{CacheX86_64, Reg, UnwindRegsX86_64, UnwinderX86_64};
 use framehop_rattle::{
@@ -10,6 +11,7 @@ use framehop_rattle::{
 use std::collections::HashMap;
 use std::io::Read;
 use std::ops::{Deref, Range};
+use std::time::Instant;
 
 /// The words of a case.
 struct Words<'a>(std::str::SplitAsciiWhitespace<'a>);
@@ -133,7 +135,18 @@ enum Mode {
     Window,
     Callback,
     Chunks,
+    Time(usize),
 }
+
+/// A walk of an architecture into a list.
+type WalkFn<A> = fn(
+    &<A as Architecture>::Unwinder,
+    u64,
+    &mut <A as Architecture>::Regs,
+    &mut <A as Architecture>::Cache,
+    &Memory,
+    &mut [u64],
+) -> (usize, Result<bool, Error>);
 
 struct X86_64<P>(P);
 struct Aarch64<P>(P);
@@ -296,12 +309,13 @@ fn walk<A: Architecture>(words: &mut Words, unwinder: &A::Unwinder, cache: &mut 
     let (pc, limit) = (words.address(), words.count());
     let mut regs = A::regs(words);
     let memory = Memory::read_from(words);
+    let start = regs;
     let (frames, end) = if mode == Mode::Callback {
         frames_of::<A>(unwinder, pc, limit, &mut regs, cache, &memory)
     } else {
         // no case has so many frames
         let mut frames = vec![0; limit.min(1_000_000)];
-        let walk = if mode == Mode::Window { A::walk_into } else { A::walk_with };
+        let walk = if mode == Mode::Chunks { A::walk_with } else { A::walk_into };
         let (count, end) = walk(unwinder, pc, &mut regs, cache, &memory, &mut frames);
         assert!(frames[count..].iter().all(|frame| *frame == 0));
         frames.truncate(count);
@@ -316,6 +330,43 @@ fn walk<A: Architecture>(words: &mut Words, unwinder: &A::Unwinder, cache: &mut 
         Err(error) => println!("stopped: {error}"),
     }
     A::print(&regs);
+    if let Mode::Time(times) = mode {
+        time::<A>(times, unwinder, pc, limit, start, cache, &memory);
+    }
+}
+
+/// Tells the time of a frame in each way.
+fn time<A: Architecture>(
+    times: usize,
+    unwinder: &A::Unwinder,
+    pc: u64,
+    limit: usize,
+    start: A::Regs,
+    cache: &mut A::Cache,
+    memory: &Memory,
+) {
+    let mut frames = vec![0; limit];
+    for (way, walk) in [("walk_into", A::walk_into as WalkFn<A>), ("walk_with", A::walk_with)] {
+        let before = Instant::now();
+        let walk = |_| walk(unwinder, pc, &mut { start }, cache, memory, &mut frames).0;
+        tell(way, (0..times).map(walk).sum(), before);
+    }
+    let before = Instant::now();
+    let mut count = 0;
+    for _ in 0..times {
+        let mut read_stack = |address| memory.word(address);
+        let mut iter = unwinder.iter_frames(pc, start, cache, &mut read_stack);
+        let mut left = limit;
+        while left > 0 && matches!(iter.next(), Ok(Some(_))) {
+            left -= 1;
+        }
+        count += limit - left;
+    }
+    tell("iter_frames", count, before);
+}
+
+fn tell(way: &str, frames: usize, before: Instant) {
+    eprintln!("Rust, {way}: {:.2} ns/frame", before.elapsed().as_nanos() as f64 / frames as f64);
 }
 
 fn step<A: Architecture>(words: &mut Words, unwinder: &A::Unwinder, cache: &mut A::Cache) {
@@ -388,6 +439,7 @@ fn main() {
     let mode = match std::env::args().nth(1).as_deref() {
         Some("callback") => Mode::Callback,
         Some("chunks") => Mode::Chunks,
+        Some("time") => Mode::Time(std::env::args().nth(2).and_then(|it| it.parse().ok()).expect("a number")),
         _ => Mode::Window,
     };
     let mut text = String::new();

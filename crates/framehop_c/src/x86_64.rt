@@ -293,10 +293,12 @@ fn walk_by(
     ensures unreadable { result ≡ out_of_memory → told.new.unreadable ≡ 0 }
     ensures stays_sound { ForPair unwinder.now cache.old cache.new StaysSound }
     ensures answers { ForPair unwinder.now cache.old cache.new (λ policy unwinder old new. IsSoundX86_64 policy unwinder old →
-        let whole = λ limit. walk_over policy unwinder (words_from stack.now.base stack.now.words.now) limit pc regs.old in
-        BeginsWalk (whole (length frames.old)) told.new.frame_count frames.new
-        × (result ≡ out_of_memory → IsToldPart (whole told.new.frame_count) told.new frames.new regs.new)
-        × (result ≢ out_of_memory → IsToldWalk (whole (length frames.old)) result told.new frames.new regs.new)) }
+        let memory = words_from stack.now.base stack.now.words.now in
+        let whole = walk_over policy unwinder memory (length frames.old) pc regs.old in
+        let part = walk_over policy unwinder memory told.new.frame_count pc regs.old in
+        BeginsWalk whole told.new.frame_count frames.new
+        × (result ≡ out_of_memory → IsToldPart part told.new frames.new regs.new)
+        × (result ≢ out_of_memory → IsToldWalk whole result told.new frames.new regs.new)) }
 {
     match unwinder {
         Object::UnwinderX86_64(unwinder) => match cache {
@@ -337,10 +339,12 @@ pub extern "C" fn framehop_unwinder_x86_64_walk(
     ensures unreadable { result ≡ out_of_memory → told.new.unreadable ≡ 0 }
     ensures stays_sound { ForPair unwinder.old.object cache.old.object cache.new.object StaysSound }
     ensures answers { ForPair unwinder.old.object cache.old.object cache.new.object (λ policy unwinder old new. IsSoundX86_64 policy unwinder old →
-        let whole = λ limit. walk_over policy unwinder (words_from stack.now.base stack.now.words.now) limit pc (registers_in registers.old) in
-        BeginsWalk (whole (length frames.old)) told.new.frame_count frames.new
-        × (result ≡ out_of_memory → IsToldPart (whole told.new.frame_count) told.new frames.new (registers_in registers.new))
-        × (result ≢ out_of_memory → IsToldWalk (whole (length frames.old)) result told.new frames.new (registers_in registers.new))) }
+        let memory = words_from stack.now.base stack.now.words.now in
+        let whole = walk_over policy unwinder memory (length frames.old) pc (registers_in registers.old) in
+        let part = walk_over policy unwinder memory told.new.frame_count pc (registers_in registers.old) in
+        BeginsWalk whole told.new.frame_count frames.new
+        × (result ≡ out_of_memory → IsToldPart part told.new frames.new (registers_in registers.new))
+        × (result ≢ out_of_memory → IsToldWalk whole result told.new frames.new (registers_in registers.new))) }
 {
     let mut regs = registers.load();
     let status = walk_by(
