@@ -1,5 +1,5 @@
 -- Under the limited policy no step takes memory.
-use Rattle.std.proofs.Common.{◌≡◌, ℕ, ◌-◌, Bool, false, true, Option, Some, None, Ok, Err, refl}
+use Rattle.std.proofs.Common.{◌≡◌, ℕ, ◌-◌, Bool, false, Option, Some, None, Ok, Err, refl}
 use Rattle.framehop_core.specs.CodeAddress.{FrameLocation, lookup_address, is_first_frame}
 use Rattle.framehop_core.specs.declared.x86_64.unwind_rule.UnwindRuleX86_64.{UnwindRuleX86_64}
 use Rattle.framehop_core.specs.declared.aarch64.unwind_rule.UnwindRuleAarch64.{UnwindRuleAarch64}

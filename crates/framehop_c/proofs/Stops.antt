@@ -4,7 +4,6 @@ use Rattle.framehop_core.specs.Outcome.{Outcome}
 use Rattle.framehop_core.specs.CodeAddress.{FrameLocation}
 use Rattle.framehop_core.specs.declared.error.Error.TheVariants.{OutOfMemory}
 use Rattle.framehop.specs.Walk.{callers}
-use Rattle.framehop.specs.declared.session.commands.WalkEnd.{WalkEnd}
 use Rattle.framehop.specs.declared.session.commands.WalkEnd.TheVariants.{Refused}
 use Rattle.framehop_lent.specs.Walk.{IsWrittenUpTo}
 use Rattle.framehop_lent.specs.declared.walk.WalkStop.{WalkStop}
