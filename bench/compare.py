@@ -9,11 +9,13 @@ that processor, and --only measures the lines of which one has the word in its n
 The program over the original crate is built from bench/original by cargo, which fetches the crate; CARGO_ARGUMENTS gives
 cargo further arguments, as `--offline --config FILE` with a source or a patch. It is built once more over a copy of the
 crate whose module `dwarf` is public, for the look-ups of its index. Ours are framehop_bench and framehop-walk; they are
-built where they are not there.
+built where they are not there. Walks through the archive, from C and from the Rust crate over it, are beside the walk of
+the original with a warm cache; FRAMEHOP_LIB names the folders of an archive that is built, as for bindings/rust.
 
 Both run in turn, five times each. The table has the least time of each and the ratios, ours by the original's, of the
 least times and of the medians. Counts and sums of both must be equal. The line after the table says how much a fixed
-loop varied that ran between them. Needs cargo, python3 and readelf.
+loop varied that ran between them. Needs cargo, clang, python3 and
+readelf.
 """
 
 import argparse
@@ -65,6 +67,21 @@ def build_original():
     run("cargo", "build", "--release", "--target-dir", opened, *given, "--config", patch, "--features", "index", cwd=crate)
     name = "release/framehop-original"
     return plain / name, opened / name, package["version"]
+
+
+def build_bindings():
+    """Builds the programs over the archive: bindings/test/cases.c and the Rust crate's example of that name."""
+    kit = Path(shutil.which("rt")).resolve().parent.parent
+    if "FRAMEHOP_LIB" not in os.environ:
+        run("rt", "lib", cwd=TOP / "crates/framehop_c", stdout=sys.stderr)
+        os.environ["FRAMEHOP_LIB"] = f"{TOP}/crates/framehop_c/out:{kit}/c"
+    folders = [Path(folder) for folder in os.environ["FRAMEHOP_LIB"].split(":")]
+    archives = [it for folder in folders for name in ("framehop_c", "libc_c") if (it := folder / f"lib{name}.a").is_file()]
+    header = f"-I{TOP}/bindings/include"
+    run("clang", "-O2", header, TOP / "bindings/test/cases.c", *archives, "-o", OUT / "cases-c")
+    rust = ["cargo", "build", "--release", "--offline", "--example", "cases", "--target-dir", OUT / "bindings"]
+    run(*rust, cwd=TOP / "bindings/rust")
+    return OUT / "cases-c", OUT / "bindings/release/examples/cases"
 
 
 def make_inputs(room, elf):
@@ -161,6 +178,22 @@ def measure(pinned, lines, ours, program, theirs, here, there):
         there.setdefault(line, []).append(both[1][0][part])
 
 
+WAYS = ("C, one call", "C, callback for words", "C, callback for a word", "Rust, walk_into", "Rust, walk_with", "Rust, iter_frames")
+
+
+def measure_bindings(pinned, inputs, name, bindings, here, there):
+    """Walks of an input through the archive, in each way; the original's time is that of its walk."""
+    script = [sys.executable, TOP / "bindings/test/cases.py", "words", inputs[name], "may"]
+    words = run(*script, capture_output=True, text=True).stdout
+    text = "".join(
+        run(*pinned, program, "time", 20_000, input=words, capture_output=True, text=True).stderr for program in bindings
+    )
+    for way in WAYS:
+        line = f"`{name}`, {way}"
+        here.setdefault(line, []).append(float(re.search(rf"^{way}: ([0-9.]+) ns/", text, re.M).group(1)))
+        there.setdefault(line, []).append(there[f"`{name}`, warm cache"][-1])
+
+
 def measure_program(pinned, room, large, plain, here, there):
     outputs = []
     for side, command in ((here, [WALK]), (there, [plain, "run"])):
@@ -200,6 +233,7 @@ def main():
     pinned = [] if asked.cpu is None else ["taskset", "-c", asked.cpu]
     build_ours()
     plain, opened, version = build_original()
+    bindings = build_bindings()
     here, there, loops = {}, {}, []
     with tempfile.TemporaryDirectory() as room:
         inputs = make_inputs(room, elf)
@@ -208,6 +242,9 @@ def main():
                 if any(asked.only in line for line in lines.values()):
                     loops.append(fixed_loop())
                     measure(pinned, lines, ours, program, theirs, here, there)
+            for name in ("fp-x86_64", "fp-aarch64", "offsets"):
+                if not asked.only:
+                    measure_bindings(pinned, inputs, name, bindings, here, there)
             if asked.only in "program over 30 MB":
                 measure_program(pinned, room, inputs["many"], plain, here, there)
     print_table(version, here, there, loops)

@@ -31,6 +31,7 @@ enum {
     FRAMEHOP_OK = 0,
     FRAMEHOP_FRAMES_FULL = 1,             /* a walk has written as many frames as there is room for */
     FRAMEHOP_END = 2,                     /* the root of the stack */
+    FRAMEHOP_MISSING_WORD = 3,            /* a walk over windows asks for a word of which none of them tells */
     FRAMEHOP_OUT_OF_MEMORY = -1,          /* an allocation failed */
     FRAMEHOP_GENERATIONS_EXHAUSTED = -2,  /* the counter has reached 2^64 - 1 */
     FRAMEHOP_WRONG_HANDLE = -3,           /* an object of another kind, architecture or policy */
@@ -51,6 +52,8 @@ static inline const char *framehop_status_text(int32_t status)
         return "As many frames as there is room for";
     case FRAMEHOP_END:
         return "Root of the stack";
+    case FRAMEHOP_MISSING_WORD:
+        return "No window tells of a stack word";
     case FRAMEHOP_OUT_OF_MEMORY:
         return "Out of memory";
     case FRAMEHOP_GENERATIONS_EXHAUSTED:
@@ -127,9 +130,9 @@ typedef struct {
     size_t word_count;
 } framehop_window;
 
-/* What a walk has written: how many frames, and the AVMA of the stack word that could not be read. That is said by the
- * status only: after FRAMEHOP_COULD_NOT_READ_STACK `unreadable` may be 0, an AVMA like others, and after another status
- * it is 0 and says nothing. */
+/* What a walk has written: how many frames, and the AVMA of the stack word that could not be read, after
+ * FRAMEHOP_COULD_NOT_READ_STACK, or that is missing, after FRAMEHOP_MISSING_WORD: it may be 0, an AVMA like others. After
+ * another status it is 0 and says nothing. */
 typedef struct {
     size_t frame_count;
     uint64_t unreadable;
@@ -158,7 +161,8 @@ int32_t framehop_generations_new(framehop_handle *place);
 /* Frees a counter, an unwinder or a cache. */
 void framehop_free(framehop_handle handle);
 
-/* The calls below come for each architecture.
+/* The calls below come for each architecture. A call that returns FRAMEHOP_WRONG_HANDLE has changed nothing, and a call
+ * named ..._new or ..._clone writes a handle with FRAMEHOP_OK only.
  *
  * cache_..._new     an empty cache. With may_allocate unwinding may take memory, which is the usual choice; without, it
  *                   takes none, and some DWARF unwind data is too large for it. An unwinder and a cache go together
@@ -180,6 +184,11 @@ void framehop_free(framehop_handle handle);
  *                   of the stack, and a refusal, leave the registers. If step.has_missing, even with FRAMEHOP_OK, the
  *                   answer was found without a word that was asked for: to have the exact one, restore the registers,
  *                   add a window that has that word, or one without words if it can't be read, and call again.
+ *
+ * ..._walk_on       the frames that called the one at an address: writes their return addresses, at most frame_capacity;
+ *                   the registers become those at its end. FRAMEHOP_MISSING_WORD where a word is asked for of which no
+ *                   window tells: the registers are those of the last frame that is written, or as before. Add a window
+ *                   that has the word, or one without words if it can't be read, and walk on from that frame.
  *
  * Which address counts: pc, or address, says which module and which unwind data a frame has. registers.ip of x86_64
  * does not: it is only compared, to tell a step that gives the same frame again. Give both the same value.
@@ -203,6 +212,9 @@ int32_t framehop_unwinder_x86_64_walk(framehop_handle *unwinder, framehop_handle
 int32_t framehop_unwinder_x86_64_unwind_frame(framehop_handle *unwinder, framehop_handle *cache, uint64_t address,
     bool is_return_address, framehop_registers_x86_64 *registers, const framehop_window *windows, size_t window_count,
     framehop_step *step);
+int32_t framehop_unwinder_x86_64_walk_on(framehop_handle *unwinder, framehop_handle *cache, uint64_t address,
+    bool is_return_address, framehop_registers_x86_64 *registers, const framehop_window *windows, size_t window_count,
+    uint64_t *frames, size_t frame_capacity, framehop_walk *walk);
 
 int32_t framehop_cache_aarch64_new(bool may_allocate, framehop_handle *place);
 int32_t framehop_cache_aarch64_stats(framehop_handle *cache, framehop_cache_stats *stats);
@@ -219,99 +231,101 @@ int32_t framehop_unwinder_aarch64_walk(framehop_handle *unwinder, framehop_handl
 int32_t framehop_unwinder_aarch64_unwind_frame(framehop_handle *unwinder, framehop_handle *cache, uint64_t address,
     bool is_return_address, framehop_registers_aarch64 *registers, const framehop_window *windows, size_t window_count,
     framehop_step *step);
+int32_t framehop_unwinder_aarch64_walk_on(framehop_handle *unwinder, framehop_handle *cache, uint64_t address,
+    bool is_return_address, framehop_registers_aarch64 *registers, const framehop_window *windows, size_t window_count,
+    uint64_t *frames, size_t frame_capacity, framehop_walk *walk);
 
-/* Reads the stack word at an AVMA, or returns false where it can't be read. */
-typedef bool (*framehop_read_word)(void *data, uint64_t address, uint64_t *word);
+/* Reads stack words from an AVMA upwards, as many as the caller likes, and returns how many: at most capacity, which is 1
+ * or more, and 0 if the first of them can't be read. */
+typedef size_t (*framehop_read_words)(void *data, uint64_t address, uint64_t *words, size_t capacity);
 
-/* How many stack words a step may ask for, where a callback reads them. */
-#define FRAMEHOP_WORDS_A_FRAME 64
+/* How often a frame may ask for words, how many words a call of the callback may read, and how many are kept. */
+#define FRAMEHOP_READS_A_FRAME 64
+#define FRAMEHOP_WORDS_A_READ 64
+#define FRAMEHOP_WORDS_KEPT 256
 
-/* Walks with a callback: the step above, again while it asks for a word of which no window tells. Each word is asked
- * for once a frame. With more than 64 words to a frame the walk ends with FRAMEHOP_COULD_NOT_READ_STACK. */
-static inline int32_t framehop_unwinder_x86_64_walk_with(framehop_handle *unwinder, framehop_handle *cache, uint64_t pc,
-    framehop_registers_x86_64 *registers, framehop_read_word read, void *data, uint64_t *frames, size_t frame_capacity,
-    framehop_walk *walk)
+/* What a callback has read. */
+typedef struct {
+    framehop_window windows[FRAMEHOP_READS_A_FRAME];
+    uint64_t words[FRAMEHOP_WORDS_KEPT];
+    size_t window_count, word_count;
+} framehop_words_read;
+
+/* Reads words from an AVMA upwards, or returns false where there is no room for a further window. Of the room for words
+ * one each is left for the windows that may follow. */
+static inline bool framehop_read_more(framehop_words_read *known, framehop_read_words read, void *data, uint64_t address)
 {
-    walk->frame_count = 0;
-    walk->unreadable = 0;
-    if (frame_capacity == 0)
-        return FRAMEHOP_FRAMES_FULL;
-    frames[walk->frame_count++] = pc;
-    while (walk->frame_count < frame_capacity) {
-        const framehop_registers_x86_64 before = *registers;
-        framehop_window windows[FRAMEHOP_WORDS_A_FRAME];
-        uint64_t words[FRAMEHOP_WORDS_A_FRAME];
-        framehop_step step;
-        size_t known = 0;
-        int32_t status;
-        for (;;) {
-            status = framehop_unwinder_x86_64_unwind_frame(unwinder, cache, frames[walk->frame_count - 1],
-                walk->frame_count > 1, registers, windows, known, &step);
-            if (!step.has_missing)
-                break;
-            *registers = before;
-            if (known == FRAMEHOP_WORDS_A_FRAME) {
-                walk->unreadable = step.missing;
-                return FRAMEHOP_COULD_NOT_READ_STACK;
-            }
-            windows[known].base = step.missing;
-            windows[known].words = &words[known];
-            windows[known].word_count = read(data, step.missing, &words[known]) ? 1 : 0;
-            known++;
-        }
-        if (status != FRAMEHOP_OK) {
-            walk->unreadable = step.unreadable;
-            return status;
-        }
-        if (step.return_address == 0)
-            return FRAMEHOP_RETURN_ADDRESS_IS_NULL;
-        frames[walk->frame_count++] = step.return_address;
-    }
-    return FRAMEHOP_FRAMES_FULL;
+    size_t windows_left = FRAMEHOP_READS_A_FRAME - known->window_count, room;
+    framehop_window *window = &known->windows[known->window_count];
+    if (windows_left == 0)
+        return false;
+    room = FRAMEHOP_WORDS_KEPT - known->word_count - (windows_left - 1);
+    if (room > FRAMEHOP_WORDS_A_READ)
+        room = FRAMEHOP_WORDS_A_READ;
+    window->base = address;
+    window->words = &known->words[known->word_count];
+    window->word_count = read(data, address, &known->words[known->word_count], room);
+    known->word_count += window->word_count;
+    known->window_count++;
+    return true;
 }
 
-/* Walks with a callback: the step above, again while it asks for a word of which no window tells. Each word is asked
- * for once a frame. With more than 64 words to a frame the walk ends with FRAMEHOP_COULD_NOT_READ_STACK. */
-static inline int32_t framehop_unwinder_aarch64_walk_with(framehop_handle *unwinder, framehop_handle *cache,
-    uint64_t pc, framehop_registers_aarch64 *registers, framehop_read_word read, void *data, uint64_t *frames,
-    size_t frame_capacity, framehop_walk *walk)
+/* Walks with a callback: the call above, again while it asks for a word that was not read. A word is not asked for twice
+ * while a frame is unwound. Where a frame asks for words more often than FRAMEHOP_READS_A_FRAME times, the walk ends with
+ * FRAMEHOP_COULD_NOT_READ_STACK. */
+static inline int32_t framehop_unwinder_x86_64_walk_with(framehop_handle *unwinder, framehop_handle *cache, uint64_t pc,
+    framehop_registers_x86_64 *registers, framehop_read_words read, void *data, uint64_t *frames, size_t frame_capacity,
+    framehop_walk *walk)
 {
-    walk->frame_count = 0;
-    walk->unreadable = 0;
+    framehop_words_read known;
+    size_t count = 1;
+    known.window_count = known.word_count = 0;
     if (frame_capacity == 0)
-        return FRAMEHOP_FRAMES_FULL;
-    frames[walk->frame_count++] = pc;
-    while (walk->frame_count < frame_capacity) {
-        const framehop_registers_aarch64 before = *registers;
-        framehop_window windows[FRAMEHOP_WORDS_A_FRAME];
-        uint64_t words[FRAMEHOP_WORDS_A_FRAME];
-        framehop_step step;
-        size_t known = 0;
-        int32_t status;
-        for (;;) {
-            status = framehop_unwinder_aarch64_unwind_frame(unwinder, cache, frames[walk->frame_count - 1],
-                walk->frame_count > 1, registers, windows, known, &step);
-            if (!step.has_missing)
-                break;
-            *registers = before;
-            if (known == FRAMEHOP_WORDS_A_FRAME) {
-                walk->unreadable = step.missing;
-                return FRAMEHOP_COULD_NOT_READ_STACK;
-            }
-            windows[known].base = step.missing;
-            windows[known].words = &words[known];
-            windows[known].word_count = read(data, step.missing, &words[known]) ? 1 : 0;
-            known++;
-        }
-        if (status != FRAMEHOP_OK) {
-            walk->unreadable = step.unreadable;
+        return framehop_unwinder_x86_64_walk_on(unwinder, cache, pc, false, registers, NULL, 0, NULL, 0, walk);
+    for (;;) {
+        int32_t status = framehop_unwinder_x86_64_walk_on(unwinder, cache, count > 1 ? frames[count - 1] : pc, count > 1,
+            registers, known.windows, known.window_count, frames + count, frame_capacity - count, walk);
+        if (status == FRAMEHOP_WRONG_HANDLE)
             return status;
-        }
-        if (step.return_address == 0)
-            return FRAMEHOP_RETURN_ADDRESS_IS_NULL;
-        frames[walk->frame_count++] = step.return_address;
+        frames[0] = pc;
+        if (walk->frame_count > 0)
+            known.window_count = known.word_count = 0;
+        count += walk->frame_count;
+        walk->frame_count = count;
+        if (status != FRAMEHOP_MISSING_WORD)
+            return status;
+        if (!framehop_read_more(&known, read, data, walk->unreadable))
+            return FRAMEHOP_COULD_NOT_READ_STACK;
     }
-    return FRAMEHOP_FRAMES_FULL;
+}
+
+/* Walks with a callback: the call above, again while it asks for a word that was not read. A word is not asked for twice
+ * while a frame is unwound. Where a frame asks for words more often than FRAMEHOP_READS_A_FRAME times, the walk ends with
+ * FRAMEHOP_COULD_NOT_READ_STACK. */
+static inline int32_t framehop_unwinder_aarch64_walk_with(framehop_handle *unwinder, framehop_handle *cache, uint64_t pc,
+    framehop_registers_aarch64 *registers, framehop_read_words read, void *data, uint64_t *frames, size_t frame_capacity,
+    framehop_walk *walk)
+{
+    framehop_words_read known;
+    size_t count = 1;
+    known.window_count = known.word_count = 0;
+    if (frame_capacity == 0)
+        return framehop_unwinder_aarch64_walk_on(unwinder, cache, pc, false, registers, NULL, 0, NULL, 0, walk);
+    for (;;) {
+        int32_t status = framehop_unwinder_aarch64_walk_on(unwinder, cache, count > 1 ? frames[count - 1] : pc, count > 1,
+            registers, known.windows, known.window_count, frames + count, frame_capacity - count, walk);
+        if (status == FRAMEHOP_WRONG_HANDLE)
+            return status;
+        frames[0] = pc;
+        if (walk->frame_count > 0)
+            known.window_count = known.word_count = 0;
+        count += walk->frame_count;
+        walk->frame_count = count;
+        if (status != FRAMEHOP_MISSING_WORD)
+            return status;
+        if (!framehop_read_more(&known, read, data, walk->unreadable))
+            return FRAMEHOP_COULD_NOT_READ_STACK;
+    }
 }
 
 #ifdef __cplusplus

@@ -1,16 +1,21 @@
-/* Carries out a case that cases.py writes, and prints what `framehop-walk` does: `cases window` with walks that are one
- * call, `cases callback` with walks by a callback. */
+/* Carries out a case that cases.py writes, and prints what `framehop-walk` does: `cases window` with walks and steps that are one
+ * call; `cases callback` with a callback that reads a word a call, and steps that ask for words; `cases chunks` with a
+ * callback that reads as many words as it can; `cases time N` with walks by one call, which are made N times more in each
+ * way, and tells the nanoseconds of a frame. */
+#define _POSIX_C_SOURCE 199309L
 #include "framehop.h"
 #include <stdio.h>
 #include <stdlib.h>
 #include <string.h>
+#include <time.h>
 
 #define UNWINDERS 2100
 #define FRAMES 1000000
 
 static framehop_handle generations, unwinders[UNWINDERS], caches[UNWINDERS];
 static size_t unwinder_count, cache_count, modules_bytes;
-static bool by_callback;
+static bool by_callback, by_chunks;
+static size_t times;
 static uint8_t *kept[200000];
 
 static const char *text(void)
@@ -72,13 +77,15 @@ static struct memory read_memory(void)
     return memory;
 }
 
-static bool read_word(void *data, uint64_t at, uint64_t *word)
+static size_t read_words(void *data, uint64_t at, uint64_t *words, size_t capacity)
 {
     const struct memory *memory = (const struct memory *)data;
-    if (at < memory->base || (at - memory->base) % 8 || (at - memory->base) / 8 >= memory->count)
-        return false;
-    *word = memory->words[(at - memory->base) / 8];
-    return true;
+    size_t first = (at - memory->base) / 8, i;
+    if (at < memory->base || (at - memory->base) % 8)
+        return 0;
+    for (i = 0; i < (by_chunks ? capacity : 1) && first + i < memory->count; i++)
+        words[i] = memory->words[first + i];
+    return i;
 }
 
 static framehop_section *place_of(framehop_sections *sections, bool is_segment, const char *name)
@@ -204,7 +211,56 @@ static void print_aarch64(const framehop_registers_aarch64 *it)
             exit(3);                                             \
         }
 
+static double nanoseconds(void)
+{
+    struct timespec now;
+    clock_gettime(CLOCK_MONOTONIC, &now);
+    return 1e9 * (double)now.tv_sec + (double)now.tv_nsec;
+}
+
+#define CHECK_REST_ZERO(frames, from, to)                        \
+    for (size_t i_ = (from); i_ < (to); i_++)                    \
+        if ((frames)[i_] != 0) {                                 \
+            fprintf(stderr, "a frame beyond those is written\n"); \
+            exit(3);                                             \
+        }
+
 #define ARCHITECTURE(arch)                                                                                            \
+    /* a step from a first frame is a walk to its caller */                                                           \
+    static int32_t call_##arch(framehop_handle *unwinder, framehop_handle *cache, uint64_t pc,                        \
+        framehop_registers_##arch *registers, struct memory *memory, framehop_step *step)                             \
+    {                                                                                                                 \
+        uint64_t frames[3] = {0, 0, 0};                                                                               \
+        framehop_walk walk;                                                                                           \
+        int32_t status = framehop_unwinder_##arch##_walk_with(unwinder, cache, pc, registers, read_words, memory,     \
+            frames, 2, &walk);                                                                                        \
+        CHECK_REST_ZERO(frames, walk.frame_count, 3)                                                                  \
+        step->return_address = frames[1];                                                                             \
+        step->unreadable = walk.unreadable;                                                                           \
+        return status == FRAMEHOP_FRAMES_FULL || status == FRAMEHOP_RETURN_ADDRESS_IS_NULL ? FRAMEHOP_OK : status;    \
+    }                                                                                                                 \
+                                                                                                                      \
+    /* a step that is given the words that it asks for, one after the other */                                        \
+    static int32_t ask_##arch(framehop_handle *unwinder, framehop_handle *cache, uint64_t address,                    \
+        bool is_return_address, framehop_registers_##arch *registers, struct memory *memory, framehop_step *step)     \
+    {                                                                                                                 \
+        framehop_window windows[600];                                                                                 \
+        uint64_t words[600];                                                                                          \
+        const framehop_registers_##arch before = *registers;                                                          \
+        size_t known = 0;                                                                                             \
+        for (;;) {                                                                                                    \
+            int32_t status = framehop_unwinder_##arch##_unwind_frame(unwinder, cache, address, is_return_address,     \
+                registers, windows, known, step);                                                                     \
+            if (!step->has_missing)                                                                                   \
+                return status;                                                                                        \
+            *registers = before;                                                                                      \
+            windows[known].base = step->missing;                                                                      \
+            windows[known].words = &words[known];                                                                     \
+            windows[known].word_count = read_words(memory, step->missing, &words[known], 1);                          \
+            known++;                                                                                                  \
+        }                                                                                                             \
+    }                                                                                                                 \
+                                                                                                                      \
     static void step_##arch(framehop_handle *unwinder)                                                                \
     {                                                                                                                 \
         framehop_handle *cache = &caches[count()];                                                                    \
@@ -214,8 +270,14 @@ static void print_aarch64(const framehop_registers_aarch64 *it)
         struct memory memory = read_memory();                                                                         \
         framehop_window window = {memory.base, memory.words, memory.count};                                           \
         framehop_step step;                                                                                           \
-        int32_t status = framehop_unwinder_##arch##_unwind_frame(unwinder, cache, from, is_return_address,            \
-            &registers, &window, 1, &step);                                                                           \
+        int32_t status;                                                                                               \
+        if (!by_callback)                                                                                             \
+            status = framehop_unwinder_##arch##_unwind_frame(unwinder, cache, from, is_return_address, &registers,    \
+                &window, 1, &step);                                                                                   \
+        else if (is_return_address)                                                                                   \
+            status = ask_##arch(unwinder, cache, from, true, &registers, &memory, &step);                             \
+        else                                                                                                          \
+            status = call_##arch(unwinder, cache, from, &registers, &memory, &step);                                  \
         if (status == FRAMEHOP_OK)                                                                                    \
             printf("step %llx\n", (unsigned long long)step.return_address);                                           \
         else                                                                                                          \
@@ -224,28 +286,60 @@ static void print_aarch64(const framehop_registers_aarch64 *it)
         free(memory.words);                                                                                           \
     }                                                                                                                 \
                                                                                                                       \
+    static int32_t walk_by_##arch(framehop_handle *unwinder, framehop_handle *cache, uint64_t pc,                     \
+        framehop_registers_##arch *registers, struct memory *memory, uint64_t *frames, size_t limit,                  \
+        framehop_walk *walk)                                                                                          \
+    {                                                                                                                 \
+        framehop_window window = {memory->base, memory->words, memory->count};                                        \
+        if (by_callback)                                                                                              \
+            return framehop_unwinder_##arch##_walk_with(unwinder, cache, pc, registers, read_words, memory, frames,   \
+                limit, walk);                                                                                         \
+        return framehop_unwinder_##arch##_walk(unwinder, cache, pc, registers, &window, frames, limit, walk);         \
+    }                                                                                                                 \
+                                                                                                                      \
+    /* tells the time of a frame in each way */                                                                       \
+    static void time_##arch(framehop_handle *unwinder, framehop_handle *cache, uint64_t pc,                           \
+        const framehop_registers_##arch *start, struct memory *memory, uint64_t *frames, size_t limit)                \
+    {                                                                                                                 \
+        static const char *const ways[] = {"one call", "callback for words", "callback for a word"};                  \
+        size_t way, i;                                                                                                \
+        for (way = 0; way < 3; way++) {                                                                               \
+            size_t count = 0;                                                                                         \
+            double before = nanoseconds();                                                                            \
+            by_callback = way > 0;                                                                                    \
+            by_chunks = way == 1;                                                                                     \
+            for (i = 0; i < times; i++) {                                                                             \
+                framehop_registers_##arch registers = *start;                                                         \
+                framehop_walk walk;                                                                                   \
+                walk_by_##arch(unwinder, cache, pc, &registers, memory, frames, limit, &walk);                        \
+                count += walk.frame_count;                                                                            \
+            }                                                                                                         \
+            fprintf(stderr, "C, %s: %.2f ns/frame\n", ways[way], (nanoseconds() - before) / (double)count);           \
+        }                                                                                                             \
+        by_callback = by_chunks = false;                                                                              \
+    }                                                                                                                 \
+                                                                                                                      \
     static void walk_##arch(framehop_handle *unwinder)                                                                \
     {                                                                                                                 \
         framehop_handle *cache = &caches[count()];                                                                    \
         uint64_t pc = address(), *frames;                                                                             \
         size_t limit = count(), i;                                                                                    \
         framehop_registers_##arch registers = read_##arch();                                                          \
-        struct memory memory = read_memory();                                                                         \
-        framehop_window window = {memory.base, memory.words, memory.count};                                           \
+struct memory memory = read_memory();                                                                         \
+        framehop_registers_##arch start = registers;                                                                  \
         framehop_walk walk;                                                                                           \
         int32_t status;                                                                                               \
         limit = limit < FRAMES ? limit : FRAMES;                                                                      \
         frames = malloc(8 * limit + 16);                                                                              \
         memset(frames, 0xab, 8 * limit + 16);                                                                         \
-        status = by_callback                                                                                          \
-            ? framehop_unwinder_##arch##_walk_with(unwinder, cache, pc, &registers, read_word, &memory, frames,       \
-                  limit, &walk)                                                                                       \
-            : framehop_unwinder_##arch##_walk(unwinder, cache, pc, &registers, &window, frames, limit, &walk);        \
+        status = walk_by_##arch(unwinder, cache, pc, &registers, &memory, frames, limit, &walk);                      \
         for (i = 0; i < walk.frame_count; i++)                                                                        \
             printf("%s %llx\n", i ? "ra" : "ip", (unsigned long long)frames[i]);                                      \
         CHECK_REST(frames, walk.frame_count, limit + 2);                                                              \
         print_end("", status, walk.unreadable);                                                                       \
         print_##arch(&registers);                                                                                     \
+        if (times)                                                                                                    \
+            time_##arch(unwinder, cache, pc, &start, &memory, frames, limit);                                         \
         free(frames);                                                                                                 \
         free(memory.words);                                                                                           \
     }                                                                                                                 \
@@ -307,7 +401,9 @@ int main(int argc, char **argv)
     bool is_x86_64 = strcmp(text(), "x86_64") == 0;
     bool may_allocate = strcmp(text(), "may") == 0;
     size_t i;
-    by_callback = argc > 1 && strcmp(argv[1], "callback") == 0;
+    by_chunks = argc > 1 && strcmp(argv[1], "chunks") == 0;
+    times = argc > 2 && strcmp(argv[1], "time") == 0 ? strtoull(argv[2], NULL, 10) : 0;
+    by_callback = by_chunks || (argc > 1 && strcmp(argv[1], "callback") == 0);
     good(framehop_generations_new(&generations));
     if (is_x86_64)
         run_x86_64(may_allocate);

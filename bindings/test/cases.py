@@ -1,11 +1,13 @@
 #!/usr/bin/env python3
 """Runs the cases of cases/ by a program over the archive, and compares what it prints:
 
-    cases.py c|rust window|callback [--only TOPIC] PROGRAM..
+    cases.py c|rust window|callback|chunks [--only TOPIC] PROGRAM..
+    cases.py words FILE POLICY
 
 PROGRAM reads a case as words with spaces between (`words_of`), and prints what `framehop-walk` does. With `window` its
-walks are one call, with `callback` a call a frame. What can't be asked for through C is left out: `fits_c`. The status is
-1 where a case fails, or fewer than LEAST run.
+walks are one call, with `callback` they call back for each word, with `chunks` for many words at once. What can't be asked
+for through C is left out: `fits_c`. The status is 1 where a case fails, or fewer than LEAST run. `words` prints the words of
+a file.
 """
 
 import json
@@ -94,10 +96,13 @@ def without_stats(text):
 
 def main():
     language, mode, *program = sys.argv[1:]
+    if language == "words":
+        print(words_of(json.loads(Path(mode).read_text()), *program))
+        return
     only = program[1] if program[0] == "--only" else ""
     program = program[2 if only else 0 :]
     # a retry of C's loop over a callback counts
-    same = without_stats if (language, mode) == ("c", "callback") else str.splitlines
+    same = without_stats if language == "c" and mode != "window" else str.splitlines
     count, left_out, failed = 0, 0, 0
     for name, text, expected in cases():
         case = json.loads(text)
@@ -119,4 +124,5 @@ def main():
     sys.exit(failed > 0 or count < (1 if only else LEAST[language]))
 
 
-main()
+if __name__ == "__main__":
+    main()

@@ -106,8 +106,9 @@ def typed(declaration):
 
 
 def header():
-    """The functions, the structs and the numbers of the header."""
-    text = re.sub(r"/\*.*?\*/", "", HEADER.read_text(), flags=re.S)
+    """The functions, the structs and the numbers of the header. Below the first callback is what it has of its own."""
+    text = HEADER.read_text().partition("typedef size_t (*framehop_read_words)")[0]
+    text = re.sub(r"/\*.*?\*/", "", text, flags=re.S)
     functions = {}
     for result, name, parameters in re.findall(r"^(int32_t|void) (framehop_\w+)\(([^)]*)\);", text, re.M):
         functions[name] = ([typed(part)[0] for part in parameters.split(",")], result)

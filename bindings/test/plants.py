@@ -50,16 +50,32 @@ PLANTS = [
     ("a walk ends at the limit as at the root", CRATE + "unwinder.rs", "raw::FRAMES_FULL => Ok(false),", "raw::FRAMES_FULL => Ok(true),"),
     ("a policy exchanged", CRATE + "lib.rs", "const MAY_ALLOCATE: bool = false;", "const MAY_ALLOCATE: bool = true;"),
     ("each unwinder has a counter of its own", CRATE + "unwinder.rs", "Generations::of_thread()?", "Generations::new()?"),
-    ("C: registers not put back", HEADER, "            *registers = before;\n", ""),
-    ("C: capacity off by one", HEADER, "while (walk->frame_count < frame_capacity) {", "while (walk->frame_count <= frame_capacity) {"),
+    ("words of a walk are kept for the next frames", CRATE + "unwinder.rs", "            chunks.clear();\n", ""),
+    ("a walk by words asks for more than there is room for", CRATE + "words.rs", ".min(WORDS_A_READ);", ";"),
+    ("a walk by words lends a word that can't be read", CRATE + "words.rs", "read_words(address, words).min(room);",
+     "read_words(address, words).max(1);"),
+    ("a walk by words looks each frame up as a first one", CRATE + "unwinder.rs", "walk_on(found[count - 1], count > 1,",
+     "walk_on(found[count - 1], false,"),
+    ("a walk by words counts the frames of its last call", CRATE + "unwinder.rs", "            told.frame_count = count;\n", ""),
+    ("a window lends the words of its neighbour", CRATE + "words.rs", "            rest = others;\n", "            let _ = others;\n"),
+    ("C: capacity off by one", HEADER, "frame_capacity - count, walk);", "frame_capacity - count + 1, walk);"),
     ("C: the loop of aarch64 returns at once", HEADER,
-     "    size_t frame_capacity, framehop_walk *walk)\n{\n    walk->frame_count = 0;",
-     "    size_t frame_capacity, framehop_walk *walk)\n{\n    if (1) return -1;\n    walk->frame_count = 0;"),
-    ("C: each frame is a first frame", HEADER, "walk->frame_count > 1, registers", "false, registers"),
-    ("C: words are not kept", HEADER, "            known++;\n", "            known = 1;\n"),
-    ("C: unreadable words have a window with a word", HEADER, "read(data, step.missing, &words[known]) ? 1 : 0", "read(data, step.missing, &words[known]), 1"),
-    ("C: the address that can't be read is not told", HEADER, "            walk->unreadable = step.unreadable;\n", ""),
-    ("C: a null return address is a frame", HEADER, "        if (step.return_address == 0)\n            return FRAMEHOP_RETURN_ADDRESS_IS_NULL;\n", ""),
+     "framehop_unwinder_aarch64_walk_on(unwinder, cache, pc, false, registers, NULL, 0, NULL, 0, walk);\n",
+     "framehop_unwinder_aarch64_walk_on(unwinder, cache, pc, false, registers, NULL, 0, NULL, 0, walk);\n    return -1;\n"),
+    ("C: each frame is a first frame", HEADER, ": pc, count > 1,\n", ": pc, false,\n"),
+    ("C: each step is from the first frame", HEADER, "count > 1 ? frames[count - 1] : pc", "pc"),
+    ("C: words are not kept", HEADER, "    known->window_count++;\n", "    known->window_count = 1;\n"),
+    ("C: words of frames before are kept", HEADER,
+     "        if (walk->frame_count > 0)\n            known.window_count = known.word_count = 0;\n", ""),
+    ("C: unreadable words have a window with a word", HEADER, "    known->word_count += window->word_count;\n",
+     "    window->word_count += !window->word_count;\n    known->word_count += window->word_count;\n"),
+    ("C: a window lends the words of another one", HEADER, "window->words = &known->words[known->word_count];", "window->words = known->words;"),
+    ("C: words are written past their room", HEADER, "    if (room > FRAMEHOP_WORDS_A_READ)\n        room = FRAMEHOP_WORDS_A_READ;\n",
+     "    room += 64;\n"),
+    ("C: a window has another base", HEADER, "window->base = address;", "window->base = address & ~(uint64_t)15;"),
+    ("C: the frames of the last call are counted", HEADER, "        walk->frame_count = count;\n", ""),
+    ("C: the first frame is not written", HEADER, "        frames[0] = pc;\n", ""),
+    ("C: frames are written over", HEADER, "frames + count, frame_capacity - count", "frames + 1, frame_capacity - count"),
     ("C: a status has another text", HEADER, '"Return address is null"', '"Return address is 0"'),
     ("C: a field of a section moved", HEADER, "    uint64_t svma_start;\n    uint64_t svma_end;", "    uint64_t svma_end;\n    uint64_t svma_start;"),
 ]
@@ -73,11 +89,11 @@ def checks(top, target):
     program, example = target / "cases-c", target / "debug/examples/cases"
     yield ["python3", here / "check_header.py"]
     yield ["clang", "-fsanitize=address", "-I", top / "bindings/include", here / "cases.c", *archives, "-o", program]
-    for topic in ("walks", "commands"):
-        yield ["python3", here / "cases.py", "c", "callback", "--only", topic, program]
+    for mode in ("callback", "chunks"):
+        yield ["python3", here / "cases.py", "c", mode, program]
     yield ["cargo", "test", "--offline", "--quiet"]
     yield ["cargo", "build", "--offline", "--quiet", "--example", "cases"]
-    for mode in ("callback", "window"):
+    for mode in ("callback", "chunks", "window"):
         yield ["python3", here / "cases.py", "rust", mode, example]
 
 
@@ -92,7 +108,7 @@ def is_noticed(top, target, file):
         running = subprocess.Popen(command, cwd=top / "bindings/rust", env=environment, stdout=subprocess.DEVNULL,
                                    stderr=subprocess.DEVNULL, start_new_session=True)
         try:
-            status = running.wait(timeout=300)
+            status = running.wait(timeout=120)
         except subprocess.TimeoutExpired:
             os.killpg(running.pid, signal.SIGKILL)
             status = running.wait()

@@ -65,6 +65,7 @@ echo "walk.c: each of $requests requests for memory fails in turn"
 build -g -fsanitize=address,undefined "$here/cases.c" $archives -o "$work/cases"
 python3 "$here/cases.py" c window "$work/cases"
 python3 "$here/cases.py" c callback "$work/cases"
+python3 "$here/cases.py" c chunks "$work/cases"
 
 # the header, as other compilers read it
 for language in c c++; do
@@ -93,6 +94,18 @@ if command -v cargo > /dev/null; then
     cargo build --offline --quiet --example cases
     python3 "$here/cases.py" rust window "$CARGO_TARGET_DIR/debug/examples/cases"
     python3 "$here/cases.py" rust callback "$CARGO_TARGET_DIR/debug/examples/cases"
+    python3 "$here/cases.py" rust chunks "$CARGO_TARGET_DIR/debug/examples/cases"
+    # the same under the address sanitizer, where this toolchain has it
+    host=$(rustc -vV | sed -n 's/^host: //p')
+    if ls "$(rustc --print sysroot)/lib/rustlib/$host/lib/"*_rt.asan.a > /dev/null 2>&1; then
+        sanitized() { RUSTC_BOOTSTRAP=1 RUSTFLAGS=-Zsanitizer=address cargo "$@" --offline --quiet --target "$host"; }
+        sanitized test --tests
+        sanitized build --example cases
+        for mode in window callback chunks; do
+            python3 "$here/cases.py" rust $mode "$CARGO_TARGET_DIR/$host/debug/examples/cases"
+        done
+        echo "Rust: no error under the address sanitizer"
+    fi
     if command -v valgrind > /dev/null; then
         quiet="valgrind -q --error-exitcode=9 --leak-check=full --show-leak-kinds=definite --errors-for-leak-kinds=definite"
         for tests in "$CARGO_TARGET_DIR"/debug/deps/surface-* "$CARGO_TARGET_DIR"/debug/deps/readme-*; do

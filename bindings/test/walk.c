@@ -26,14 +26,16 @@ struct stack {
     size_t asked;
 };
 
-static bool read_word(void *data, uint64_t address, uint64_t *word)
+static size_t read_words(void *data, uint64_t address, uint64_t *words, size_t capacity)
 {
     struct stack *stack = data;
+    size_t first = (address - stack->base) / 8, i;
     stack->asked++;
-    if (address < stack->base || (address - stack->base) % 8 || (address - stack->base) / 8 >= stack->count)
-        return false;
-    *word = stack->words[(address - stack->base) / 8];
-    return true;
+    if (address < stack->base || (address - stack->base) % 8)
+        return 0;
+    for (i = 0; i < capacity && first + i < stack->count; i++)
+        words[i] = stack->words[first + i];
+    return i;
 }
 
 static int walk(bool may_allocate, uint64_t *frames, size_t *count)
@@ -75,10 +77,12 @@ static int walk(bool may_allocate, uint64_t *frames, size_t *count)
     registers.ip = PC;
     registers.rsp = SP;
     registers.rbp = BP;
-    status = framehop_unwinder_x86_64_walk_with(&clone, &cache, PC, &registers, read_word, &stack, again, CAPACITY,
+    status = framehop_unwinder_x86_64_walk_with(&clone, &cache, PC, &registers, read_words, &stack, again, CAPACITY,
         &told);
     if (status != FRAMEHOP_END || told.frame_count != *count || memcmp(again, frames, *count * sizeof *frames))
         return failed("the walk by a callback", status);
+    if (stack.asked * 8 > *count)
+        return failed("words are read too often", (int32_t)stack.asked);
     CHECK(framehop_cache_x86_64_stats(&cache, &stats));
     if (stats.hit_count + stats.miss_empty_slot_count + stats.miss_wrong_modules_count
             + stats.miss_wrong_address_count < 2 * *count - 2)

@@ -1,5 +1,7 @@
 //! Carries out a case that `bindings/test/cases.py` writes, and prints what `framehop-walk` does: `cases window` with
-//! walks that are one call, `cases callback` with walks by an iterator.
+//! walks that are one call, `cases callback` with walks by an iterator, `cases chunks` with a callback that reads as many
+//! words as it can; `cases time N` with walks that are one call, which are made N times more in each way, and tells the
+//! nanoseconds of a frame.
 use framehop_rattle::aarch64::{CacheAarch64, PtrAuthMask, UnwindRegsAarch64, UnwinderAarch64};
 use framehop_rattle::x86_64::{CacheX86_64, Reg, UnwindRegsX86_64, UnwinderX86_64};
 use framehop_rattle::{
@@ -9,6 +11,7 @@ use framehop_rattle::{
 use std::collections::HashMap;
 use std::io::Read;
 use std::ops::{Deref, Range};
+use std::time::Instant;
 
 /// The words of a case.
 struct Words<'a>(std::str::SplitAsciiWhitespace<'a>);
@@ -116,7 +119,34 @@ trait Architecture {
         memory: &Memory,
         frames: &mut [u64],
     ) -> (usize, Result<bool, Error>);
+    fn walk_with(
+        unwinder: &Self::Unwinder,
+        pc: u64,
+        regs: &mut Self::Regs,
+        cache: &mut Self::Cache,
+        memory: &Memory,
+        frames: &mut [u64],
+    ) -> (usize, Result<bool, Error>);
 }
+
+/// How walks read the stack.
+#[derive(Clone, Copy, PartialEq, Eq)]
+enum Mode {
+    Window,
+    Callback,
+    Chunks,
+    Time(usize),
+}
+
+/// A walk of an architecture into a list.
+type WalkFn<A> = fn(
+    &<A as Architecture>::Unwinder,
+    u64,
+    &mut <A as Architecture>::Regs,
+    &mut <A as Architecture>::Cache,
+    &Memory,
+    &mut [u64],
+) -> (usize, Result<bool, Error>);
 
 struct X86_64<P>(P);
 struct Aarch64<P>(P);
@@ -157,6 +187,17 @@ macro_rules! architecture {
                 frames: &mut [u64],
             ) -> (usize, Result<bool, Error>) {
                 unwinder.walk_into(pc, regs, cache, memory.base, &memory.words, frames)
+            }
+
+            fn walk_with(
+                unwinder: &Self::Unwinder,
+                pc: u64,
+                regs: &mut $regs,
+                cache: &mut Self::Cache,
+                memory: &Memory,
+                frames: &mut [u64],
+            ) -> (usize, Result<bool, Error>) {
+                unwinder.walk_with(pc, regs, cache, |address, words| memory.read(address, words), frames)
             }
         }
     };
@@ -216,6 +257,18 @@ impl Memory {
         }
         self.words.get(usize::try_from(offset / 8).map_err(drop)?).copied().ok_or(())
     }
+
+    /// Reads words from an address upwards, as many as there are.
+    fn read(&self, address: u64, words: &mut [u64]) -> usize {
+        let addresses = (address..=u64::MAX).step_by(8);
+        let mut count = 0;
+        for (word, address) in words.iter_mut().zip(addresses) {
+            let Ok(found) = self.word(address) else { break };
+            *word = found;
+            count += 1;
+        }
+        count
+    }
 }
 
 /// A callback over the memory that is asked for no word twice while a frame is unwound.
@@ -252,16 +305,18 @@ fn frames_of<A: Architecture>(
     (frames, end)
 }
 
-fn walk<A: Architecture>(words: &mut Words, unwinder: &A::Unwinder, cache: &mut A::Cache, by_callback: bool) {
+fn walk<A: Architecture>(words: &mut Words, unwinder: &A::Unwinder, cache: &mut A::Cache, mode: Mode) {
     let (pc, limit) = (words.address(), words.count());
     let mut regs = A::regs(words);
     let memory = Memory::read_from(words);
-    let (frames, end) = if by_callback {
+    let start = regs;
+    let (frames, end) = if mode == Mode::Callback {
         frames_of::<A>(unwinder, pc, limit, &mut regs, cache, &memory)
     } else {
         // no case has so many frames
         let mut frames = vec![0; limit.min(1_000_000)];
-        let (count, end) = A::walk_into(unwinder, pc, &mut regs, cache, &memory, &mut frames);
+        let walk = if mode == Mode::Chunks { A::walk_with } else { A::walk_into };
+        let (count, end) = walk(unwinder, pc, &mut regs, cache, &memory, &mut frames);
         assert!(frames[count..].iter().all(|frame| *frame == 0));
         frames.truncate(count);
         (frames, end)
@@ -275,6 +330,43 @@ fn walk<A: Architecture>(words: &mut Words, unwinder: &A::Unwinder, cache: &mut 
         Err(error) => println!("stopped: {error}"),
     }
     A::print(&regs);
+    if let Mode::Time(times) = mode {
+        time::<A>(times, unwinder, pc, limit, start, cache, &memory);
+    }
+}
+
+/// Tells the time of a frame in each way.
+fn time<A: Architecture>(
+    times: usize,
+    unwinder: &A::Unwinder,
+    pc: u64,
+    limit: usize,
+    start: A::Regs,
+    cache: &mut A::Cache,
+    memory: &Memory,
+) {
+    let mut frames = vec![0; limit];
+    for (way, walk) in [("walk_into", A::walk_into as WalkFn<A>), ("walk_with", A::walk_with)] {
+        let before = Instant::now();
+        let walk = |_| walk(unwinder, pc, &mut { start }, cache, memory, &mut frames).0;
+        tell(way, (0..times).map(walk).sum(), before);
+    }
+    let before = Instant::now();
+    let mut count = 0;
+    for _ in 0..times {
+        let mut read_stack = |address| memory.word(address);
+        let mut iter = unwinder.iter_frames(pc, start, cache, &mut read_stack);
+        let mut left = limit;
+        while left > 0 && matches!(iter.next(), Ok(Some(_))) {
+            left -= 1;
+        }
+        count += limit - left;
+    }
+    tell("iter_frames", count, before);
+}
+
+fn tell(way: &str, frames: usize, before: Instant) {
+    eprintln!("Rust, {way}: {:.2} ns/frame", before.elapsed().as_nanos() as f64 / frames as f64);
 }
 
 fn step<A: Architecture>(words: &mut Words, unwinder: &A::Unwinder, cache: &mut A::Cache) {
@@ -295,7 +387,7 @@ fn step<A: Architecture>(words: &mut Words, unwinder: &A::Unwinder, cache: &mut 
     A::print(&regs);
 }
 
-fn run<A: Architecture>(words: &mut Words, by_callback: bool) {
+fn run<A: Architecture>(words: &mut Words, mode: Mode) {
     let mut caches: Vec<A::Cache> = (0..words.count()).map(|_| A::cache()).collect();
     let mut unwinders: Vec<A::Unwinder> = Vec::new();
     for _ in 0..words.count() {
@@ -337,21 +429,26 @@ fn run<A: Architecture>(words: &mut Words, by_callback: bool) {
             }
             _ => {
                 let cache = words.count();
-                walk::<A>(words, &unwinders[number], &mut caches[cache], by_callback);
+                walk::<A>(words, &unwinders[number], &mut caches[cache], mode);
             }
         }
     }
 }
 
 fn main() {
-    let by_callback = std::env::args().nth(1).as_deref() == Some("callback");
+    let mode = match std::env::args().nth(1).as_deref() {
+        Some("callback") => Mode::Callback,
+        Some("chunks") => Mode::Chunks,
+        Some("time") => Mode::Time(std::env::args().nth(2).and_then(|it| it.parse().ok()).expect("a number")),
+        _ => Mode::Window,
+    };
     let mut text = String::new();
     std::io::stdin().read_to_string(&mut text).expect("a case");
     let words = &mut Words(text.split_ascii_whitespace());
     match (words.text(), words.text()) {
-        ("x86_64", "may") => run::<X86_64<MayAllocateDuringUnwind>>(words, by_callback),
-        ("x86_64", _) => run::<X86_64<MustNotAllocateDuringUnwind>>(words, by_callback),
-        (_, "may") => run::<Aarch64<MayAllocateDuringUnwind>>(words, by_callback),
-        (_, _) => run::<Aarch64<MustNotAllocateDuringUnwind>>(words, by_callback),
+        ("x86_64", "may") => run::<X86_64<MayAllocateDuringUnwind>>(words, mode),
+        ("x86_64", _) => run::<X86_64<MustNotAllocateDuringUnwind>>(words, mode),
+        (_, "may") => run::<Aarch64<MayAllocateDuringUnwind>>(words, mode),
+        (_, _) => run::<Aarch64<MustNotAllocateDuringUnwind>>(words, mode),
     }
 }

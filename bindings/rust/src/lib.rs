@@ -114,12 +114,14 @@ use std::num::NonZeroU64;
 use std::rc::Rc;
 
 pub mod aarch64;
+mod fallible;
 mod module;
 mod raw;
 mod unwinder;
 mod words;
 pub mod x86_64;
 
+pub use fallible::{FallibleIterator, Results};
 pub use module::{ExplicitModuleSectionInfo, Module, ModuleSectionInfo};
 pub use raw::CacheStats;
 pub use unwinder::{UnwindIterator, Unwinder};

@@ -3,6 +3,7 @@
 pub const OK: i32 = 0;
 pub const FRAMES_FULL: i32 = 1;
 pub const END: i32 = 2;
+pub const MISSING_WORD: i32 = 3;
 pub const OUT_OF_MEMORY: i32 = -1;
 pub const GENERATIONS_EXHAUSTED: i32 = -2;
 pub const COULD_NOT_READ_STACK: i32 = -10;
@@ -69,6 +70,7 @@ pub struct RegistersAarch64 {
 }
 
 #[repr(C)]
+#[derive(Clone, Copy)]
 pub struct Window {
     pub base: u64,
     pub words: *const u64,
@@ -183,7 +185,7 @@ unsafe extern "C" {
 
 macro_rules! declare {
     ($registers:ty, $cache_new:ident, $cache_stats:ident, $new:ident, $clone:ident, $add_module:ident,
-        $remove_module:ident, $max_known_code_address:ident, $walk:ident, $unwind_frame:ident) => {
+        $remove_module:ident, $max_known_code_address:ident, $walk:ident, $unwind_frame:ident, $walk_on:ident) => {
         unsafe extern "C" {
             pub fn $cache_new(may_allocate: bool, place: *mut Handle) -> i32;
             pub fn $cache_stats(cache: *mut Handle, stats: *mut CacheStats) -> i32;
@@ -219,6 +221,18 @@ macro_rules! declare {
                 window_count: usize,
                 step: *mut Step,
             ) -> i32;
+            pub fn $walk_on(
+                unwinder: *mut Handle,
+                cache: *mut Handle,
+                address: u64,
+                is_return_address: bool,
+                registers: *mut $registers,
+                windows: *const Window,
+                window_count: usize,
+                frames: *mut u64,
+                frame_capacity: usize,
+                walk: *mut Walk,
+            ) -> i32;
         }
     };
 }
@@ -233,7 +247,8 @@ declare!(
     framehop_unwinder_x86_64_remove_module,
     framehop_unwinder_x86_64_max_known_code_address,
     framehop_unwinder_x86_64_walk,
-    framehop_unwinder_x86_64_unwind_frame
+    framehop_unwinder_x86_64_unwind_frame,
+    framehop_unwinder_x86_64_walk_on
 );
 
 declare!(
@@ -246,5 +261,6 @@ declare!(
     framehop_unwinder_aarch64_remove_module,
     framehop_unwinder_aarch64_max_known_code_address,
     framehop_unwinder_aarch64_walk,
-    framehop_unwinder_aarch64_unwind_frame
+    framehop_unwinder_aarch64_unwind_frame,
+    framehop_unwinder_aarch64_walk_on
 );

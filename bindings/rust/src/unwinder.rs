@@ -1,5 +1,5 @@
 //! What unwinders of all architectures have, and the iterator over the frames of a stack.
-use crate::words::Words;
+use crate::words::{Chunks, Words};
 use crate::{CacheStats, Error, FrameAddress, raw};
 
 /// An unwinder for one architecture: the modules of one process, and unwinding by them.
@@ -148,6 +148,36 @@ pub(crate) fn step_with<R: Copy>(
     }
 }
 
+/// Walks on from an instruction pointer (AVMA) until no word is missing: `walk_on` writes the return addresses of the
+/// frames that called a frame, over windows. The words of frames that are unwound are let go.
+pub(crate) fn walk_with(
+    mut walk_on: impl FnMut(u64, bool, &[raw::Window], &mut [u64], &mut raw::Walk) -> i32,
+    pc: u64,
+    read_words: &mut impl FnMut(u64, &mut [u64]) -> usize,
+    frames: &mut [u64],
+) -> (usize, Result<bool, Error>) {
+    let Some(first) = frames.first_mut() else { return (0, Ok(false)) };
+    *first = pc;
+    let mut chunks = Chunks::new();
+    let mut told = raw::Walk::default();
+    let mut count = 1;
+    loop {
+        let (found, rest) = frames.split_at_mut(count);
+        let status = walk_on(found[count - 1], count > 1, chunks.windows(), rest, &mut told);
+        if told.frame_count > 0 {
+            chunks.clear();
+        }
+        count += told.frame_count;
+        if status != raw::MISSING_WORD {
+            told.frame_count = count;
+            return end_of(status, &told);
+        }
+        if !chunks.read(told.unreadable, read_words) {
+            return (count, Err(Error::CouldNotReadStack(told.unreadable)));
+        }
+    }
+}
+
 /// How a walk ended, in the words of `walk_into`.
 pub(crate) fn end_of(status: i32, told: &raw::Walk) -> (usize, Result<bool, Error>) {
     let end = match status {
@@ -161,7 +191,7 @@ pub(crate) fn end_of(status: i32, told: &raw::Walk) -> (usize, Result<bool, Erro
 /// The unwinder and the cache of an architecture.
 macro_rules! unwinder {
     ($unwinder:ident, $cache:ident, $regs:ident, $cache_new:ident, $cache_stats:ident, $new:ident, $clone:ident,
-        $add_module:ident, $remove_module:ident, $max_known_code_address:ident, $walk:ident, $unwind_frame:ident) => {
+        $add_module:ident, $remove_module:ident, $max_known_code_address:ident, $walk:ident, $unwind_frame:ident, $walk_on:ident) => {
         /// A cache of unwind rules, for all unwinders of a thread that have its policy.
         pub struct $cache<P: AllocationPolicy = MayAllocateDuringUnwind> {
             cache: Owned,
@@ -340,6 +370,42 @@ macro_rules! unwinder {
                     )
                 };
                 end_of(status, &told)
+            }
+
+            /// Walks a stack from an instruction pointer (AVMA) on, by a callback that reads stack words from an address
+            /// (AVMA) upwards: as many as it likes, at most as many as there is room for, which is one or more. It
+            /// returns how many it has read, 0 if the first can't be read. Writes the addresses of the frames to
+            /// `frames`. Returns how many it has written, and whether it has found the root of the stack.
+            ///
+            /// It takes no memory of its own. A frame that asks for words more than 64 times ends the walk with
+            /// [`Error::CouldNotReadStack`].
+            pub fn walk_with(
+                &self,
+                pc: u64,
+                regs: &mut $regs,
+                cache: &mut $cache<P>,
+                mut read_words: impl FnMut(u64, &mut [u64]) -> usize,
+                frames: &mut [u64],
+            ) -> (usize, Result<bool, Error>) {
+                let walk_on =
+                    |address, is_return_address, windows: &[raw::Window], frames: &mut [u64], told: &mut _| {
+                        // SAFETY: an unwinder and a cache of one policy, and windows and a list that are lent for the call
+                        unsafe {
+                            raw::$walk_on(
+                                &mut self.unwinder.handle(),
+                                &mut cache.cache.handle(),
+                                address,
+                                is_return_address,
+                                &mut regs.0,
+                                windows.as_ptr(),
+                                windows.len(),
+                                frames.as_mut_ptr(),
+                                frames.len(),
+                                told,
+                            )
+                        }
+                    };
+                walk_with(walk_on, pc, &mut read_words, frames)
             }
         }
 

@@ -54,3 +54,60 @@ impl Words {
         &self.windows
     }
 }
+
+/// How often a frame may ask for words.
+const READS: usize = 64;
+
+/// How many words one call of a callback may read.
+const WORDS_A_READ: usize = 64;
+
+/// How many words are kept.
+const KEPT: usize = 256;
+
+/// What a callback has read for a walk: words from some addresses upwards, each run in a window of its own. A window
+/// without words says that the word at its base can't be read. It takes no memory.
+pub(crate) struct Chunks {
+    windows: [raw::Window; READS],
+    window_count: usize,
+    words: [u64; KEPT],
+    word_count: usize,
+}
+
+impl Chunks {
+    pub fn new() -> Self {
+        let none = raw::Window { base: 0, words: std::ptr::null(), word_count: 0 };
+        Chunks { windows: [none; READS], window_count: 0, words: [0; KEPT], word_count: 0 }
+    }
+
+    pub fn clear(&mut self) {
+        self.window_count = 0;
+        self.word_count = 0;
+    }
+
+    /// Reads words from an address (AVMA) upwards, or returns `false` where there is no room for a further window. Of
+    /// the room for words one each is left for the windows that may follow.
+    pub fn read(&mut self, address: u64, read_words: &mut impl FnMut(u64, &mut [u64]) -> usize) -> bool {
+        let windows_left = READS - self.window_count;
+        if windows_left == 0 {
+            return false;
+        }
+        let room = (KEPT - self.word_count - (windows_left - 1)).min(WORDS_A_READ);
+        let words = &mut self.words[self.word_count..self.word_count + room];
+        let word_count = read_words(address, words).min(room);
+        self.windows[self.window_count] = raw::Window { base: address, words: std::ptr::null(), word_count };
+        self.window_count += 1;
+        self.word_count += word_count;
+        true
+    }
+
+    /// The windows, which lend the words until more are read.
+    pub fn windows(&mut self) -> &[raw::Window] {
+        let mut rest = &self.words[..];
+        for window in &mut self.windows[..self.window_count] {
+            let (words, others) = rest.split_at(window.word_count);
+            window.words = words.as_ptr();
+            rest = others;
+        }
+        &self.windows[..self.window_count]
+    }
+}

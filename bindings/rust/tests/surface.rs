@@ -3,8 +3,8 @@
 use framehop_rattle::aarch64::{CacheAarch64, PtrAuthMask, UnwindRegsAarch64, UnwinderAarch64};
 use framehop_rattle::x86_64::{CacheX86_64, Reg, UnwindRegsX86_64, UnwinderX86_64};
 use framehop_rattle::{
-    CacheNative, CacheStats, Error, ExplicitModuleSectionInfo, FrameAddress, MayAllocateDuringUnwind, Module,
-    ModuleSectionInfo, MustNotAllocateDuringUnwind, UnwindIterator, UnwindRegsNative, Unwinder, UnwinderNative,
+    CacheNative, CacheStats, Error, ExplicitModuleSectionInfo, FallibleIterator, FrameAddress, MayAllocateDuringUnwind,
+    Module, ModuleSectionInfo, MustNotAllocateDuringUnwind, UnwindIterator, UnwindRegsNative, Unwinder, UnwinderNative,
 };
 use std::alloc::{GlobalAlloc, Layout, System};
 use std::borrow::Cow;
@@ -94,6 +94,7 @@ fn asks_for_many_words_without_memory() {
     let module = Module::new("m".into(), 0x10000..0x20000, 0x10000, Pe { pdata: Some(pdata), xdata: Some(info) });
     let mut unwinder = UnwinderX86_64::<_, MustNotAllocateDuringUnwind>::new();
     unwinder.add_module(module);
+    walks_by_many_words_of_a_frame(&unwinder);
     let mut cache = CacheX86_64::new_in();
     let mut regs = UnwindRegsX86_64::new(0x11800, 0x8000, 0);
     let address = FrameAddress::from_return_address(0x11800).unwrap();
@@ -107,6 +108,85 @@ fn asks_for_many_words_without_memory() {
     assert_eq!(asked, (0..255).map(|it| 0x8000 + 8 * it).collect::<Vec<u64>>());
     assert_eq!(found, Ok(Some(0x8000 + 8 * 254 + 1)));
     assert_eq!((regs.sp(), regs.get(Reg::RBX)), (0x8000 + 8 * 255, 0x8000 + 8 * 253 + 1));
+}
+
+/// A frame that asks for 255 words: 64 calls of the callback are enough where it reads many words a call.
+fn walks_by_many_words_of_a_frame(unwinder: &UnwinderX86_64<Vec<u8>, MustNotAllocateDuringUnwind>) {
+    let word = |address| match address {
+        0x7ff0 => 0x9000,
+        0x7ff8 => 0x11800,
+        _ => address + 1,
+    };
+    for (most, walked) in [(64, (3, Ok(false))), (1, (2, Err(Error::CouldNotReadStack(0x8000 + 8 * 64))))] {
+        let mut regs = UnwindRegsX86_64::new(0x5, 0x7f00, 0x7ff0);
+        let read_words = |address, words: &mut [u64]| {
+            let count = words.len().min(most);
+            (0..count).for_each(|at| words[at] = word(address + 8 * at as u64));
+            count
+        };
+        let mut frames = [0; 3];
+        let before = REQUESTS.get();
+        let cache = &mut CacheX86_64::new_in();
+        let requests = REQUESTS.get() - before;
+        assert_eq!(unwinder.walk_with(0x5, &mut regs, cache, read_words, &mut frames), walked);
+        assert_eq!(REQUESTS.get() - before, requests);
+        let last = if walked.1.is_ok() { 0x8000 + 8 * 254 + 1 } else { 0 };
+        assert_eq!(frames, [0x5, 0x11800, last]);
+    }
+}
+
+/// However many words a callback reads, a walk is that of a copied stack, and it takes no memory.
+#[test]
+fn walks_by_many_words() {
+    let stack = records();
+    let unwinder = UnwinderAarch64::<Vec<u8>>::new();
+    let mut cache = CacheAarch64::new();
+    let start = UnwindRegsAarch64::new(0x7fff, 16, 16);
+    let (mut regs, mut frames) = (start, [0; 200]);
+    let whole = unwinder.walk_into(0x7fff, &mut regs, &mut cache, 0, &stack, &mut frames);
+    assert_eq!(whole.0, 101);
+    for (most, limit, calls) in [(1, 200, 202), (2, 200, 101), (5, 7, 3), (64, 200, 5), (64, 1, 0), (1, 0, 0)] {
+        let (mut again, mut found, mut called) = (start, [0; 200], 0);
+        let read_words = |address: u64, words: &mut [u64]| {
+            called += 1;
+            let rest = stack.get(address as usize / 8..).unwrap_or(&[]);
+            let count = rest.len().min(words.len()).min(most);
+            words[..count].copy_from_slice(&rest[..count]);
+            count
+        };
+        let before = REQUESTS.get();
+        let walked = unwinder.walk_with(0x7fff, &mut again, &mut cache, read_words, &mut found[..limit]);
+        assert_eq!(REQUESTS.get(), before);
+        let count = limit.min(101);
+        assert_eq!(walked, if limit < 101 { (limit, Ok(false)) } else { whole });
+        assert_eq!((&found[..count], &found[count..]), (&frames[..count], &vec![0; 200 - count][..]));
+        assert_eq!(called, calls, "with {most} words a call");
+        if limit > 101 {
+            assert_eq!(again, regs);
+        }
+    }
+}
+
+/// The iterator by the calls of a trait that is of the shape of `fallible_iterator::FallibleIterator`.
+#[test]
+fn is_a_fallible_iterator() {
+    let stack = records();
+    let unwinder = UnwinderX86_64::<Vec<u8>>::new();
+    let mut cache = CacheX86_64::new();
+    let regs = UnwindRegsX86_64::new(0x7fff, 16, 16);
+    let mut read_stack = |address: u64| stack.get(address as usize / 8).copied().ok_or(());
+    let mut iter = unwinder.iter_frames(0x7fff, regs, &mut cache, &mut read_stack);
+    assert_eq!(FallibleIterator::size_hint(&iter), (0, None));
+    assert_eq!(FallibleIterator::next(&mut iter), Ok(Some(FrameAddress::InstructionPointer(0x7fff))));
+    let two: Result<Vec<u64>, Error> = iter.by_ref().iterator().take(2).map(|it| Ok(it?.address())).collect();
+    assert_eq!(two, Ok(vec![0x7000, 0x7001]));
+    let mut count = 0;
+    let counted = iter.by_ref().for_each(|_| {
+        count += 1;
+        if count == 8 { Err(Error::OutOfMemory) } else { Ok(()) }
+    });
+    assert_eq!((counted, count), (Err(Error::OutOfMemory), 8));
+    assert_eq!(iter.collect::<Vec<_>>().map(|rest| rest.len()), Ok(90));
 }
 
 struct Pe {

@@ -1,1 +1,3 @@
+mod Limited
 mod ObjectBox
+mod Stops

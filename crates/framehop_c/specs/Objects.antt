@@ -17,6 +17,11 @@ ForGenerations (Generations old) (Generations new) holds = holds old new
 ForGenerations (Generations old) _ holds = ⊥
 ForGenerations _ _ holds = ⊤
 
+-- a generation was drawn, unless the counter is at its end
+pub record IsDrawn (status : ℤ) (before after : ℕ) : Type 0 where
+  pub exhausted : status ≡ generations_exhausted → (before ≡ 2 ^ 64 - 1) × (after ≡ before)
+  pub drawn : status ≢ generations_exhausted → (before < 2 ^ 64 - 1) × (after ≡ before + 1)
+
 -- the policy that C asks for
 abbrev pub policy_for : Bool → Policy
 policy_for true = with_allocation

@@ -1,11 +1,11 @@
 -- What C is told of a walk and of a step, and what it tells of a frame and of a module.
-use Rattle.std.specs.Prelude.{◌≡◌, ℕ, ℤ, negsuc, Bool, true, false, ◌==◌, List, [], map, length, take}
+use Rattle.std.specs.Prelude.{◌≡◌, ◌≢◌, ◌⊎◌, ℕ, ℤ, Bool, true, false, ◌==◌, List, [], map, length, take}
 use Rattle.framehop.specs.CodeAddress.{FrameLocation, at_instruction_pointer, at_return_address, address_of}
 use Rattle.framehop.specs.Outcome.{Outcome, answer_of, registers_after}
-use Rattle.framehop.specs.Walk.{Walk}
+use Rattle.framehop.specs.Walk.{Walk, callers}
 use Rattle.framehop.specs.Modules.{ModuleView}
 use Rattle.framehop.specs.ModuleData.{unwind_data_in}
-use Rattle.framehop_c.specs.Status.{status_of_end, unreadable_at, status_of_answer, address_in, unreadable_after}
+use Rattle.framehop_c.specs.Status.{missing_word, out_of_memory, return_address_is_null, status_of_end, unreadable_at, status_of_answer, address_in, unreadable_after}
 use Rattle.framehop_c.specs.Sections.{table_in}
 use Rattle.framehop_c.specs.declared.calls.FramehopWalk.{FramehopWalk}
 use Rattle.framehop_cache.specs.declared.rule_cache.CacheStats.{CacheStats}
@@ -21,6 +21,21 @@ pub record IsToldWalk {Regs : Type 0} (walk : Walk Regs) (status : ℤ) (told : 
   pub ends : status ≡ status_of_end walk.end
   pub unreadable : told.unreadable ≡ unreadable_at walk.end
   pub registers : regs ≡ walk.regs
+
+-- part of a walk is told: the addresses of its first frames, and the registers at the last of them
+pub record IsToldPart {Regs : Type 0} (walk : Walk Regs) (told : FramehopWalk) (frames : List ℕ) (regs : Regs)
+    : Type 0 where
+  pub counted : told.frame_count ≡ length walk.frames
+  pub addresses : take told.frame_count frames ≡ map address_of walk.frames
+  pub registers : regs ≡ walk.regs
+
+-- the callers of a frame are told: all of them, or the first ones, where a word is missing or memory has run out
+pub record IsToldUpTo {Regs : Type 0} (step : FrameLocation → Regs → Outcome Regs) (limit : ℕ) (location : FrameLocation)
+    (old : Regs) (status : ℤ) (told : FramehopWalk) (frames : List ℕ) (new : Regs) : Type 0 where
+  pub whole : status ≢ missing_word → status ≢ out_of_memory
+      → IsToldWalk (callers step limit location old) status told frames new
+  pub part : (status ≡ missing_word) ⊎ (status ≡ out_of_memory)
+      → IsToldPart (callers step told.frame_count location old) told frames new
 
 -- the whole of a step is told: what it returned, and the registers after it
 pub record IsToldStep {Regs : Type 0} (outcome : Outcome Regs) (status : ℤ) (told : FramehopStep) (old new : Regs)
@@ -45,8 +60,14 @@ pub record IsNothing (told : FramehopStep) : Type 0 where
 
 -- the step from the return address 0 is refused with -14
 pub record IsNullStep (status : ℤ) (told : FramehopStep) : Type 0 where
-  pub ends : status ≡ negsuc 13
+  pub ends : status ≡ return_address_is_null
   pub tells : IsNothing told
+
+-- the walk from the return address 0 is refused with -14
+pub record IsNullWalk (status : ℤ) (told : FramehopWalk) : Type 0 where
+  pub ends : status ≡ return_address_is_null
+  pub counted : told.frame_count ≡ 0
+  pub unreadable : told.unreadable ≡ 0
 
 -- the location of a frame
 abbrev pub location_at : ℕ → Bool → FrameLocation

@@ -78,6 +78,11 @@ abbrev pub StaysSound : Policy → UnwinderView → CacheView UnwindRuleX86_64 �
 StaysSound policy unwinder old new =
     (other : UnwinderView) → AreApart unwinder other → IsSoundX86_64 policy other old → IsSoundX86_64 policy other new
 
+-- only an unwinder that may take memory while it unwinds
+abbrev pub RunsOutOnly : Object → Type 0
+RunsOutOnly (UnwinderX86_64 unwinder) = ⊤
+RunsOutOnly _ = ⊥
+
 -- the walk of an unwinder over a memory
 abbrev pub walk_over : Policy → UnwinderView → Memory → ℕ → ℕ → Registers → Walk Registers
 walk_over policy unwinder memory limit pc regs =

@@ -7,21 +7,21 @@ ghost use Rattle.framehop.specs.Soundness.{AreApart};
 ghost use Rattle.framehop.specs.Walk.{walk_from, cache_after_walk};
 ghost use Rattle.framehop_lent.specs.Window.{words_from, words_in, told_in};
 ghost use Rattle.framehop_lent.specs.Walk.{BeginsWalk};
-ghost use Rattle.framehop_c.specs.Status.{ok, out_of_memory, generations_exhausted, wrong_handle};
-ghost use Rattle.framehop_c.specs.Told.{IsToldWalk, IsToldStep, IsNullStep, IsNothing, IsStats, location_at, is_null_return, module_of};
+ghost use Rattle.framehop_c.specs.Status.{ok, missing_word, out_of_memory, generations_exhausted, wrong_handle, could_not_read_stack};
+ghost use Rattle.framehop_c.specs.Told.{IsToldWalk, IsToldPart, IsToldUpTo, IsToldStep, IsNullStep, IsNullWalk, IsNothing, IsStats, location_at, is_null_return, module_of};
 
 use crate::sections::FramehopSections;
 use crate::status::{
     FRAMEHOP_OK, FRAMEHOP_RETURN_ADDRESS_IS_NULL, answer_status, answered_address, end_status,
-    list_error_status, refused_address,
+    list_error_status, refused_address, stop_status,
 };
 use framehop::{CacheStats, FrameAddress, Generations, Module, ModuleListError, Unwinder};
-use framehop_lent::{Window, step_over, walk_into};
+use framehop_lent::{Window, step_over, walk_into, walk_on};
 use std::alloc::Global;
 use std::ops::Range;
 
 /// What a walk has written: how many frames, and the address (AVMA) of the stack word that could
-/// not be read, or 0 where that is not why the walk ended.
+/// not be read or that no window has, or 0 where that is not why the walk stopped.
 #[repr(C)]
 #[derive(Clone, Copy)]
 pub struct FramehopWalk {
@@ -44,7 +44,8 @@ pub struct FramehopStep {
 impl FramehopWalk {
     /// What a walk tells before its first frame.
     pub fn nothing() -> FramehopWalk
-        ensures { result.frame_count ≡ 0 }
+        ensures count { result.frame_count ≡ 0 }
+        ensures unreadable { result.unreadable ≡ 0 }
     {
         FramehopWalk {
             frame_count: 0,
@@ -106,11 +107,15 @@ pub fn walk<U: Unwinder>(
     ensures other { result ≢ wrong_handle }
     ensures fits { walk.new.frame_count ≤ length frames.old }
     ensures others { drop walk.new.frame_count frames.new ≡ drop walk.new.frame_count frames.old }
+    ensures may_run_out { result ≡ out_of_memory
+        → (location : FrameLocation) × (cache : U.Cache) × U.may_run_out unwinder.now cache location }
+    ensures unreadable { result ≡ out_of_memory → walk.new.unreadable ≡ 0 }
     ensures answers { U.is_sound (U.unwinder_view unwinder.now) cache.old →
         let step : FrameLocation → U.UnwindRegs → Outcome U.UnwindRegs = λ location regs. U.step unwinder.now location regs (words_from stack.now.base stack.now.words.now) in
         let limit = length frames.old in
         let whole = walk_from step limit pc regs.old in
         BeginsWalk whole walk.new.frame_count frames.new
+        × (result ≡ out_of_memory → IsToldPart (walk_from step walk.new.frame_count pc regs.old) walk.new frames.new regs.new)
         × (result ≢ out_of_memory → IsToldWalk whole result walk.new frames.new regs.new
         × (cache.new ≡ cache_after_walk step (U.cache_after unwinder.now) limit pc regs.old cache.old)) }
 {
@@ -151,6 +156,9 @@ pub fn unwind_frame<U: Unwinder>(
         × (regs.new ≡ regs.old) × (cache.new ≡ cache.old) }
     ensures kept { result ≢ ok → regs.new ≡ regs.old }
     ensures missing { step.new.has_missing ≡ true → told_in windows.now step.new.missing ≡ None }
+    ensures unreadable { step.new.has_missing ≡ false → result ≡ could_not_read_stack
+        → told_in windows.now step.new.unreadable ≢ None }
+    ensures nothing { result ≡ out_of_memory → (step.new.return_address ≡ 0) × (step.new.unreadable ≡ 0) }
     ensures may_run_out { result ≡ out_of_memory → U.may_run_out unwinder.now cache.old (location_at address is_return_address) }
     ensures cached { is_null_return address is_return_address ≡ false → result ≢ out_of_memory
         → cache.new ≡ U.cache_after unwinder.now cache.old (location_at address is_return_address) }
@@ -175,6 +183,45 @@ pub fn unwind_frame<U: Unwinder>(
         has_missing: missing.is_some(),
     };
     answer_status(answer)
+}
+
+/// Walks on from a frame over the words of windows: [`walk_on`].
+pub fn walk_on_from<U: Unwinder>(
+    unwinder: &U,
+    cache: &mut U::Cache,
+    address: u64,
+    is_return_address: bool,
+    regs: &mut U::UnwindRegs,
+    windows: &[Window<'_>],
+    frames: &mut [u64],
+    walk: &mut FramehopWalk,
+) -> i32
+    ensures stays_sound { (other : UnwinderView) → AreApart (U.unwinder_view unwinder.now) other
+        → U.is_sound other cache.old → U.is_sound other cache.new }
+    ensures other { result ≢ wrong_handle }
+    ensures null { is_null_return address is_return_address ≡ true → IsNullWalk result walk.new
+        × (frames.new ≡ frames.old) × (regs.new ≡ regs.old) × (cache.new ≡ cache.old) }
+    ensures fits { walk.new.frame_count ≤ length frames.old }
+    ensures others { drop walk.new.frame_count frames.new ≡ drop walk.new.frame_count frames.old }
+    ensures missing { result ≡ missing_word → told_in windows.now walk.new.unreadable ≡ None }
+    ensures may_run_out { result ≡ out_of_memory
+        → (location : FrameLocation) × (cache : U.Cache) × U.may_run_out unwinder.now cache location }
+    ensures unreadable { result ≡ out_of_memory → walk.new.unreadable ≡ 0 }
+    ensures answers { is_null_return address is_return_address ≡ false → U.is_sound (U.unwinder_view unwinder.now) cache.old →
+        let step : FrameLocation → U.UnwindRegs → Outcome U.UnwindRegs = λ location regs. U.step unwinder.now location regs (words_in windows.now) in
+        IsToldUpTo step (length frames.old) (location_at address is_return_address) regs.old result walk.new frames.new regs.new }
+{
+    let Some(callee) = frame_at(address, is_return_address) else {
+        *walk = FramehopWalk::nothing();
+        return FRAMEHOP_RETURN_ADDRESS_IS_NULL;
+    };
+    let (frame_count, stop) = walk_on(unwinder, cache, callee, regs, windows, frames);
+    let (status, unreadable) = stop_status(stop);
+    *walk = FramehopWalk {
+        frame_count,
+        unreadable,
+    };
+    status
 }
 
 /// Makes a module without a name, of its addresses (AVMAs) and sections.

@@ -1,6 +1,6 @@
 //! Handles: a pointer that C keeps to an object that Rattle code made.
 ghost use base.Fml.{ftrue};
-ghost use Rattle.std.specs.Prelude.{◌≡◌, ◌⊎◌};
+ghost use Rattle.std.specs.Prelude.{◌≡◌, ◌≢◌, ◌⊎◌};
 ghost use Rattle.framehop_c.specs.declared.object.Object.{Object};
 ghost use Rattle.framehop_c.specs.Handle.{object_coded, owns_object};
 ghost use Rattle.framehop_c.specs.Status.{ok, out_of_memory};
@@ -78,9 +78,11 @@ impl Handle {
     }
 }
 
-/// Puts an object into memory of its own, and writes a handle to it.
+/// Puts an object into memory of its own, and writes a handle to it. Where memory runs out, the place
+/// is as it was.
 pub fn hand_out(alloc: Global, object: Object, place: &mut HandlePlace) -> i32
     ensures written { result ≡ ok → place.new.object ≡ object }
+    ensures kept { result ≢ ok → place.new ≡ place.old }
     ensures statuses { (result ≡ ok) ⊎ (result ≡ out_of_memory) }
 {
     match Box::new(alloc, object) {

@@ -9,7 +9,7 @@ pub mod sections;
 pub mod status;
 pub mod x86_64;
 
-ghost use Rattle.std.specs.Prelude.{◌≡◌, ◌⊎◌, Some};
+ghost use Rattle.std.specs.Prelude.{◌≡◌, ◌≢◌, ◌⊎◌, Some};
 ghost use Rattle.framehop_c.specs.Status.{ok, out_of_memory};
 ghost use Rattle.framehop_c.specs.Objects.{generations_in};
 
@@ -22,6 +22,7 @@ use std::alloc::Global;
 #[unsafe(no_mangle)]
 pub extern "C" fn framehop_generations_new(alloc: Global, place: &mut HandlePlace) -> i32
     ensures made { result ≡ ok → generations_in place.new.object ≡ Some 0 }
+    ensures kept { result ≢ ok → place.new ≡ place.old }
     ensures statuses { (result ≡ ok) ⊎ (result ≡ out_of_memory) }
 {
     hand_out(alloc, Object::Generations(Generations::new()), place)

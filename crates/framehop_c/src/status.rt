@@ -1,10 +1,11 @@
 //! The numbers that calls return: below 0 a refusal, else how the call ended.
-ghost use Rattle.std.specs.Prelude.{◌≡◌, ◌≢◌};
-ghost use Rattle.framehop_c.specs.Status.{wrong_handle, status_of_list_error, status_of_error, unreadable_in, status_of_end, unreadable_at, status_of_answer, address_in, unreadable_after};
+ghost use Rattle.std.specs.Prelude.{◌≡◌, ◌≢◌, ◌↔◌, Err};
+ghost use Rattle.framehop_c.specs.Status.{out_of_memory, missing_word, wrong_handle, status_of_list_error, status_of_error, unreadable_in, status_of_end, unreadable_at, status_of_stop, unreadable_at_stop, status_of_answer, address_in, unreadable_after};
 ghost use Rattle.framehop.specs.SessionView.{end_of};
 
 use framehop::session::WalkEnd;
 use framehop::{Error, ModuleListError};
+use framehop_lent::WalkStop;
 
 /// The call did what it is for.
 pub const FRAMEHOP_OK: i32 = 0;
@@ -14,6 +15,9 @@ pub const FRAMEHOP_FRAMES_FULL: i32 = 1;
 
 /// The root of the stack.
 pub const FRAMEHOP_END: i32 = 2;
+
+/// A walk over windows asks for a word of which none of them tells.
+pub const FRAMEHOP_MISSING_WORD: i32 = 3;
 
 /// An allocation failed.
 pub const FRAMEHOP_OUT_OF_MEMORY: i32 = -1;
@@ -52,7 +56,8 @@ pub fn list_error_status(error: ModuleListError) -> i32
 /// The number of a refusal to unwind a frame.
 pub fn error_status(error: Error) -> i32
     ensures status { result ≡ status_of_error error }
-    ensures other { result ≢ wrong_handle }
+    ensures memory { (result ≡ out_of_memory) ↔ (error ≡ Error.OutOfMemory) }
+    ensures other { (result ≢ wrong_handle) × (result ≢ missing_word) }
 {
     match error {
         Error::CouldNotReadStack(_) => FRAMEHOP_COULD_NOT_READ_STACK,
@@ -77,7 +82,9 @@ pub fn error_address(error: Error) -> u64
 /// The number of the end of a walk, and the address of the word that could not be read, or 0.
 pub fn end_status(end: WalkEnd) -> (i32, u64)
     ensures status { result.0 ≡ status_of_end (end_of end) }
-    ensures other { result.0 ≢ wrong_handle }
+    ensures memory { (result.0 ≡ out_of_memory) ↔ (end ≡ WalkEnd.Refused Error.OutOfMemory) }
+    ensures no_address { result.0 ≡ out_of_memory → result.1 ≡ 0 }
+    ensures other { (result.0 ≢ wrong_handle) × (result.0 ≢ missing_word) }
     ensures address { result.1 ≡ unreadable_at (end_of end) }
 {
     match end {
@@ -87,9 +94,26 @@ pub fn end_status(end: WalkEnd) -> (i32, u64)
     }
 }
 
+/// The number of why a walk over windows has stopped, and the address of the word that could not be
+/// read or is missing, or 0.
+pub fn stop_status(stop: WalkStop) -> (i32, u64)
+    ensures status { result.0 ≡ status_of_stop stop }
+    ensures memory { (result.0 ≡ out_of_memory) ↔ (stop ≡ WalkStop.Ended (WalkEnd.Refused Error.OutOfMemory)) }
+    ensures missing { (result.0 ≡ missing_word) ↔ (stop ≡ WalkStop.Missing result.1) }
+    ensures no_address { result.0 ≡ out_of_memory → result.1 ≡ 0 }
+    ensures other { result.0 ≢ wrong_handle }
+    ensures address { result.1 ≡ unreadable_at_stop stop }
+{
+    match stop {
+        WalkStop::Ended(end) => end_status(end),
+        WalkStop::Missing(address) => (FRAMEHOP_MISSING_WORD, address),
+    }
+}
+
 /// The number of what a step returned.
 pub fn answer_status(answer: Result<Option<u64>, Error>) -> i32
     ensures status { result ≡ status_of_answer answer }
+    ensures memory { (result ≡ out_of_memory) ↔ (answer ≡ Err Error.OutOfMemory) }
     ensures other { result ≢ wrong_handle }
 {
     match answer {

@@ -7,10 +7,10 @@ ghost use Rattle.framehop.specs.X86_64.{x86_64, IsSoundX86_64};
 ghost use Rattle.framehop_cache.specs.Cache.{empty_cache};
 ghost use Rattle.framehop_lent.specs.Window.{words_from, words_in, told_in};
 ghost use Rattle.framehop_lent.specs.Walk.{BeginsWalk};
-ghost use Rattle.framehop_c.specs.Status.{ok, out_of_memory, wrong_handle, generations_exhausted};
-ghost use Rattle.framehop_c.specs.Told.{IsToldWalk, IsToldStep, IsNullStep, IsStats, location_at, is_null_return, module_of};
-ghost use Rattle.framehop_c.specs.Objects.{generations_in, ForGenerations, policy_for, IsAddition, IsRemoval};
-ghost use Rattle.framehop_c.specs.X86_64.{registers_in, unwinder_in, cache_in, IsPaired, ForPair, ForUnwinder, StaysSound, walk_over};
+ghost use Rattle.framehop_c.specs.Status.{ok, missing_word, out_of_memory, wrong_handle, generations_exhausted, could_not_read_stack};
+ghost use Rattle.framehop_c.specs.Told.{IsToldWalk, IsToldPart, IsToldUpTo, IsToldStep, IsNullStep, IsNullWalk, IsStats, location_at, is_null_return, module_of};
+ghost use Rattle.framehop_c.specs.Objects.{generations_in, ForGenerations, policy_for, IsDrawn, IsAddition, IsRemoval};
+ghost use Rattle.framehop_c.specs.X86_64.{registers_in, unwinder_in, cache_in, IsPaired, ForPair, ForUnwinder, StaysSound, RunsOutOnly, walk_over};
 
 use crate::calls::{self, FramehopCacheStats, FramehopStep, FramehopWalk};
 use crate::handle::{Handle, HandlePlace, hand_out};
@@ -101,6 +101,7 @@ pub extern "C" fn framehop_cache_x86_64_new(
     place: &mut HandlePlace,
 ) -> i32
     ensures made { result ≡ ok → cache_in place.new.object ≡ Some (policy_for may_allocate, empty_cache) }
+    ensures kept { result ≢ ok → place.new ≡ place.old }
     ensures statuses { (result ≡ ok) ⊎ (result ≡ out_of_memory) }
 {
     if may_allocate {
@@ -124,6 +125,7 @@ pub extern "C" fn framehop_cache_x86_64_stats(
 ) -> i32
     ensures stats { MatchOption (cache_in cache.old.object) (result ≡ wrong_handle)
         (λ cache. (result ≡ ok) × IsStats stats.new cache.1.stats) }
+    ensures unchanged { result ≡ wrong_handle → stats.new ≡ stats.old }
     ensures kept { cache.new.object ≡ cache.old.object }
 {
     let counts = match cache.object_mut() {
@@ -144,10 +146,12 @@ pub extern "C" fn framehop_unwinder_x86_64_new(
     place: &mut HandlePlace,
 ) -> i32
     ensures made { ForGenerations generations.old.object generations.new.object (λ old new. result ≡ ok →
-        (unwinder_in place.new.object ≡ Some (policy_for may_allocate, record { modules = []; generation = old }))
-        × (new ≡ old + 1) × (old < 2 ^ 64 - 1)) }
-    ensures exhausted { IfSome (generations_in generations.old.object) (λ old. (old ≡ 2 ^ 64 - 1) ↔ (result ≡ generations_exhausted)) }
-    ensures wrong { MatchOption (generations_in generations.old.object) (result ≡ wrong_handle) (λ _. result ≢ wrong_handle) }
+        unwinder_in place.new.object ≡ Some (policy_for may_allocate, record { modules = []; generation = old })) }
+    ensures drawn { ForGenerations generations.old.object generations.new.object (λ old new. IsDrawn result old new) }
+    ensures wrong { MatchOption (generations_in generations.old.object) (result ≡ wrong_handle)
+        (λ _. (result ≡ ok) ⊎ (result ≡ out_of_memory) ⊎ (result ≡ generations_exhausted)) }
+    ensures unchanged { result ≡ wrong_handle → generations.new.object ≡ generations.old.object }
+    ensures kept { result ≢ ok → place.new ≡ place.old }
 {
     let Object::Generations(generations) = generations.object_mut() else {
         return FRAMEHOP_WRONG_HANDLE;
@@ -175,6 +179,7 @@ pub extern "C" fn framehop_unwinder_x86_64_clone(
     ensures made { MatchOption (unwinder_in unwinder.old.object) (result ≡ wrong_handle) (λ unwinder.
         ((result ≡ ok) × (unwinder_in place.new.object ≡ Some unwinder)) ⊎ (result ≡ out_of_memory)) }
     ensures kept { unwinder.new.object ≡ unwinder.old.object }
+    ensures unchanged { result ≢ ok → place.new ≡ place.old }
 {
     match unwinder.object_mut() {
         Object::UnwinderX86_64(unwinder) => match unwinder.clone() {
@@ -203,6 +208,7 @@ pub extern "C" fn framehop_unwinder_x86_64_add_module(
     ensures added { ForUnwinder unwinder.old.object unwinder.new.object (λ policy old new.
         ForGenerations generations.old.object generations.new.object (λ before after.
         IsAddition (module_of avma_start avma_end base_avma sections.now) result old new before after)) }
+    ensures statuses { (result ≡ ok) ⊎ (result ≡ out_of_memory) ⊎ (result ≡ generations_exhausted) ⊎ (result ≡ wrong_handle) }
     ensures wrong { MatchOption (generations_in generations.old.object) (result ≡ wrong_handle) (λ _.
         MatchOption (unwinder_in unwinder.old.object) (result ≡ wrong_handle) (λ _. result ≢ wrong_handle)) }
     ensures refused { result ≢ ok → (unwinder.new.object ≡ unwinder.old.object) × (generations.new.object ≡ generations.old.object) }
@@ -259,6 +265,7 @@ pub extern "C" fn framehop_unwinder_x86_64_max_known_code_address(
     ensures greatest { MatchOption (unwinder_in unwinder.old.object) (result ≡ wrong_handle)
         (λ unwinder. (result ≡ ok) × (address.new ≡ greatest_end unwinder.1.modules)) }
     ensures kept { unwinder.new.object ≡ unwinder.old.object }
+    ensures unchanged { result ≡ wrong_handle → address.new ≡ address.old }
 {
     *address = match unwinder.object_mut() {
         Object::UnwinderX86_64(unwinder) => unwinder.max_known_code_address(),
@@ -279,15 +286,20 @@ fn walk_by(
     told: &mut FramehopWalk,
 ) -> i32
     ensures wrong { IsPaired unwinder.now cache.old (result ≡ wrong_handle) }
-    ensures fits { told.new.frame_count ≤ length frames.old }
-    ensures others { drop told.new.frame_count frames.new ≡ drop told.new.frame_count frames.old }
+    ensures unchanged { result ≡ wrong_handle → (cache.new ≡ cache.old) × (frames.new ≡ frames.old) × (told.new ≡ told.old) }
+    ensures fits { result ≢ wrong_handle → told.new.frame_count ≤ length frames.old }
+    ensures others { result ≢ wrong_handle → drop told.new.frame_count frames.new ≡ drop told.new.frame_count frames.old }
+    ensures may_run_out { result ≡ out_of_memory → RunsOutOnly unwinder.now }
+    ensures unreadable { result ≡ out_of_memory → told.new.unreadable ≡ 0 }
     ensures stays_sound { ForPair unwinder.now cache.old cache.new StaysSound }
     ensures answers { ForPair unwinder.now cache.old cache.new (λ policy unwinder old new. IsSoundX86_64 policy unwinder old →
-        let whole = walk_over policy unwinder (words_from stack.now.base stack.now.words.now) (length frames.old) pc regs.old in
+        let memory = words_from stack.now.base stack.now.words.now in
+        let whole = walk_over policy unwinder memory (length frames.old) pc regs.old in
+        let part = walk_over policy unwinder memory told.new.frame_count pc regs.old in
         BeginsWalk whole told.new.frame_count frames.new
+        × (result ≡ out_of_memory → IsToldPart part told.new frames.new regs.new)
         × (result ≢ out_of_memory → IsToldWalk whole result told.new frames.new regs.new)) }
 {
-    *told = FramehopWalk::nothing();
     match unwinder {
         Object::UnwinderX86_64(unwinder) => match cache {
             Object::CacheX86_64(cache) => {
@@ -319,12 +331,19 @@ pub extern "C" fn framehop_unwinder_x86_64_walk(
 ) -> i32
     ensures wrong { IsPaired unwinder.old.object cache.old.object (result ≡ wrong_handle) }
     ensures kept { unwinder.new.object ≡ unwinder.old.object }
-    ensures fits { told.new.frame_count ≤ length frames.old }
-    ensures others { drop told.new.frame_count frames.new ≡ drop told.new.frame_count frames.old }
+    ensures unchanged { result ≡ wrong_handle → (cache.new.object ≡ cache.old.object) × (registers.new ≡ registers.old)
+        × (frames.new ≡ frames.old) × (told.new ≡ told.old) }
+    ensures fits { result ≢ wrong_handle → told.new.frame_count ≤ length frames.old }
+    ensures others { result ≢ wrong_handle → drop told.new.frame_count frames.new ≡ drop told.new.frame_count frames.old }
+    ensures may_run_out { result ≡ out_of_memory → RunsOutOnly unwinder.old.object }
+    ensures unreadable { result ≡ out_of_memory → told.new.unreadable ≡ 0 }
     ensures stays_sound { ForPair unwinder.old.object cache.old.object cache.new.object StaysSound }
     ensures answers { ForPair unwinder.old.object cache.old.object cache.new.object (λ policy unwinder old new. IsSoundX86_64 policy unwinder old →
-        let whole = walk_over policy unwinder (words_from stack.now.base stack.now.words.now) (length frames.old) pc (registers_in registers.old) in
+        let memory = words_from stack.now.base stack.now.words.now in
+        let whole = walk_over policy unwinder memory (length frames.old) pc (registers_in registers.old) in
+        let part = walk_over policy unwinder memory told.new.frame_count pc (registers_in registers.old) in
         BeginsWalk whole told.new.frame_count frames.new
+        × (result ≡ out_of_memory → IsToldPart part told.new frames.new (registers_in registers.new))
         × (result ≢ out_of_memory → IsToldWalk whole result told.new frames.new (registers_in registers.new))) }
 {
     let mut regs = registers.load();
@@ -337,7 +356,116 @@ pub extern "C" fn framehop_unwinder_x86_64_walk(
         frames,
         told,
     );
-    registers.store(&regs);
+    if status != FRAMEHOP_WRONG_HANDLE {
+        registers.store(&regs);
+    }
+    status
+}
+
+/// Walks on by an unwinder and a cache of one policy: [`calls::walk_on_from`].
+fn walk_on_by(
+    unwinder: &Object,
+    cache: &mut Object,
+    address: u64,
+    is_return_address: bool,
+    regs: &mut UnwindRegsX86_64,
+    windows: &[Window<'_>],
+    frames: &mut [u64],
+    told: &mut FramehopWalk,
+) -> i32
+    ensures wrong { IsPaired unwinder.now cache.old (result ≡ wrong_handle) }
+    ensures unchanged { result ≡ wrong_handle → (cache.new ≡ cache.old) × (frames.new ≡ frames.old) × (told.new ≡ told.old) }
+    ensures fits { result ≢ wrong_handle → told.new.frame_count ≤ length frames.old }
+    ensures others { result ≢ wrong_handle → drop told.new.frame_count frames.new ≡ drop told.new.frame_count frames.old }
+    ensures missing { result ≡ missing_word → told_in windows.now told.new.unreadable ≡ None }
+    ensures may_run_out { result ≡ out_of_memory → RunsOutOnly unwinder.now }
+    ensures unreadable { result ≡ out_of_memory → told.new.unreadable ≡ 0 }
+    ensures null { ForPair unwinder.now cache.old cache.new (λ policy unwinder old new.
+        is_null_return address is_return_address ≡ true → IsNullWalk result told.new × (frames.new ≡ frames.old)
+        × (regs.new ≡ regs.old) × (new ≡ old)) }
+    ensures stays_sound { ForPair unwinder.now cache.old cache.new StaysSound }
+    ensures answers { ForPair unwinder.now cache.old cache.new (λ policy unwinder old new.
+        is_null_return address is_return_address ≡ false → IsSoundX86_64 policy unwinder old
+        → IsToldUpTo (λ location now. step (x86_64 policy) unwinder.modules location now (words_in windows.now)) (length frames.old)
+        (location_at address is_return_address) regs.old result told.new frames.new regs.new) }
+{
+    match unwinder {
+        Object::UnwinderX86_64(unwinder) => match cache {
+            Object::CacheX86_64(cache) => calls::walk_on_from(
+                unwinder,
+                cache,
+                address,
+                is_return_address,
+                regs,
+                windows,
+                frames,
+                told,
+            ),
+            _ => FRAMEHOP_WRONG_HANDLE,
+        },
+        Object::LimitedUnwinderX86_64(unwinder) => match cache {
+            Object::LimitedCacheX86_64(cache) => calls::walk_on_from(
+                unwinder,
+                cache,
+                address,
+                is_return_address,
+                regs,
+                windows,
+                frames,
+                told,
+            ),
+            _ => FRAMEHOP_WRONG_HANDLE,
+        },
+        _ => FRAMEHOP_WRONG_HANDLE,
+    }
+}
+
+/// Walks on from a frame over the words of windows: writes the return addresses (AVMAs) of the
+/// frames that called it, and the registers of the last of them, or of the walk's end. It stops at
+/// the first word that is asked for and of which no window tells.
+#[unsafe(no_mangle)]
+pub extern "C" fn framehop_unwinder_x86_64_walk_on(
+    unwinder: &mut Handle,
+    cache: &mut Handle,
+    address: u64,
+    is_return_address: bool,
+    registers: &mut FramehopRegistersX86_64,
+    windows: &[Window<'_>],
+    frames: &mut [u64],
+    told: &mut FramehopWalk,
+) -> i32
+    ensures wrong { IsPaired unwinder.old.object cache.old.object (result ≡ wrong_handle) }
+    ensures kept { unwinder.new.object ≡ unwinder.old.object }
+    ensures unchanged { result ≡ wrong_handle → (cache.new.object ≡ cache.old.object) × (registers.new ≡ registers.old)
+        × (frames.new ≡ frames.old) × (told.new ≡ told.old) }
+    ensures fits { result ≢ wrong_handle → told.new.frame_count ≤ length frames.old }
+    ensures others { result ≢ wrong_handle → drop told.new.frame_count frames.new ≡ drop told.new.frame_count frames.old }
+    ensures missing { result ≡ missing_word → told_in windows.now told.new.unreadable ≡ None }
+    ensures may_run_out { result ≡ out_of_memory → RunsOutOnly unwinder.old.object }
+    ensures unreadable { result ≡ out_of_memory → told.new.unreadable ≡ 0 }
+    ensures null { ForPair unwinder.old.object cache.old.object cache.new.object (λ policy unwinder old new.
+        is_null_return address is_return_address ≡ true → IsNullWalk result told.new × (frames.new ≡ frames.old)
+        × (registers_in registers.new ≡ registers_in registers.old) × (new ≡ old)) }
+    ensures stays_sound { ForPair unwinder.old.object cache.old.object cache.new.object StaysSound }
+    ensures answers { ForPair unwinder.old.object cache.old.object cache.new.object (λ policy unwinder old new.
+        is_null_return address is_return_address ≡ false → IsSoundX86_64 policy unwinder old
+        → IsToldUpTo (λ location now. step (x86_64 policy) unwinder.modules location now (words_in windows.now)) (length frames.old)
+        (location_at address is_return_address) (registers_in registers.old) result told.new frames.new (registers_in registers.new)) }
+{
+    let mut regs = registers.load();
+    let status = walk_on_by(
+        unwinder.object_mut(),
+        cache.object_mut(),
+        address,
+        is_return_address,
+        &mut regs,
+        windows,
+        frames,
+        told,
+    );
+    if status != FRAMEHOP_WRONG_HANDLE {
+        registers.store(&regs);
+    }
     status
 }
 
@@ -352,8 +480,12 @@ fn unwind_frame_by(
     told: &mut FramehopStep,
 ) -> i32
     ensures wrong { IsPaired unwinder.now cache.old (result ≡ wrong_handle) }
+    ensures unchanged { result ≡ wrong_handle → (cache.new ≡ cache.old) × (told.new ≡ told.old) }
     ensures kept { result ≢ ok → regs.new ≡ regs.old }
-    ensures missing { told.new.has_missing ≡ true → told_in windows.now told.new.missing ≡ None }
+    ensures missing { result ≢ wrong_handle → told.new.has_missing ≡ true → told_in windows.now told.new.missing ≡ None }
+    ensures unreadable { told.new.has_missing ≡ false → result ≡ could_not_read_stack
+        → told_in windows.now told.new.unreadable ≢ None }
+    ensures nothing { result ≡ out_of_memory → (told.new.return_address ≡ 0) × (told.new.unreadable ≡ 0) }
     ensures null { ForPair unwinder.now cache.old cache.new (λ policy unwinder old new.
         is_null_return address is_return_address ≡ true → IsNullStep result told.new × (new ≡ old)) }
     ensures may_run_out { ForPair unwinder.now cache.old cache.new (λ policy unwinder old new.
@@ -369,7 +501,6 @@ fn unwind_frame_by(
         → IsToldStep (step (x86_64 policy) unwinder.modules (location_at address is_return_address) regs.old (words_in windows.now))
         result told.new regs.old regs.new) }
 {
-    *told = FramehopStep::nothing();
     match unwinder {
         Object::UnwinderX86_64(unwinder) => match cache {
             Object::CacheX86_64(cache) => calls::unwind_frame(
@@ -413,8 +544,12 @@ pub extern "C" fn framehop_unwinder_x86_64_unwind_frame(
 ) -> i32
     ensures wrong { IsPaired unwinder.old.object cache.old.object (result ≡ wrong_handle) }
     ensures unwinder { unwinder.new.object ≡ unwinder.old.object }
-    ensures kept { result ≢ ok → registers_in registers.new ≡ registers_in registers.old }
-    ensures missing { told.new.has_missing ≡ true → told_in windows.now told.new.missing ≡ None }
+    ensures unchanged { result ≡ wrong_handle → (cache.new.object ≡ cache.old.object) × (told.new ≡ told.old) }
+    ensures kept { result ≢ ok → registers.new ≡ registers.old }
+    ensures missing { result ≢ wrong_handle → told.new.has_missing ≡ true → told_in windows.now told.new.missing ≡ None }
+    ensures unreadable { told.new.has_missing ≡ false → result ≡ could_not_read_stack
+        → told_in windows.now told.new.unreadable ≢ None }
+    ensures nothing { result ≡ out_of_memory → (told.new.return_address ≡ 0) × (told.new.unreadable ≡ 0) }
     ensures null { ForPair unwinder.old.object cache.old.object cache.new.object (λ policy unwinder old new.
         is_null_return address is_return_address ≡ true → IsNullStep result told.new × (new ≡ old)) }
     ensures may_run_out { ForPair unwinder.old.object cache.old.object cache.new.object (λ policy unwinder old new.
@@ -440,6 +575,8 @@ pub extern "C" fn framehop_unwinder_x86_64_unwind_frame(
         windows,
         told,
     );
-    registers.store(&regs);
+    if status == FRAMEHOP_OK {
+        registers.store(&regs);
+    }
     status
 }

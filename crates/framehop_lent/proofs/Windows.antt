@@ -1,7 +1,7 @@
 -- What windows tell, one window after the other.
-use Rattle.std.proofs.Common.{◌≡◌, ℕ, zero, suc, ◌+◌, ◌<◌, List, [], ◌∷◌, length, drop, Option, Some, None, option_map, Result, refl, ap, ◌∙◌}
+use Rattle.std.proofs.Common.{◌≡◌, ℕ, List, ◌∷◌, Option, Some, None, option_map, Result, refl}
 use Rattle.framehop.specs.Memory.{reply}
-use Rattle.framehop_lent.specs.Window.{told_by, told_first, told_in, word_told, words_in}
+use Rattle.framehop_lent.specs.Window.{told_by, told_first, told_in, word_told}
 use Rattle.framehop_lent.specs.declared.window.Window.{Window}
 
 -- a window that tells nothing leaves it to the others

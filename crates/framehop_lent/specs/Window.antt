@@ -1,6 +1,8 @@
 -- The memory of stack words that are lent.
-use Rattle.std.specs.Prelude.{ℕ, if◌then◌else◌, nat_le, ◌&&◌, ◌==◌, ◌-◌, ◌/◌, ◌%◌, List, [], ◌∷◌, length, slice_get, Option, Some, None, option_map}
+use Rattle.std.specs.Prelude.{ℕ, if◌then◌else◌, nat_le, ◌&&◌, ◌==◌, ◌-◌, ◌/◌, ◌%◌, List, [], ◌∷◌, length, slice_get, Option, Some, None, option_map, Result, Err}
 use Rattle.framehop.specs.Memory.{Memory}
+use Rattle.framehop_core.specs.declared.error.Error.{Error}
+use Rattle.framehop_core.specs.declared.error.Error.TheVariants.{CouldNotReadStack}
 use Rattle.framehop_lent.specs.declared.window.Window.{Window}
 
 -- word i is at the address base + 8 * i
@@ -34,3 +36,18 @@ word_told None = None
 
 abbrev pub words_in : List Window → Memory
 words_in windows address = word_told (told_in windows address)
+
+-- the address, unless something is told of it
+abbrev pub unless_told : Option (Option ℕ) → ℕ → Option ℕ
+unless_told (Some word) address = None
+unless_told None address = Some address
+
+-- the first address that was asked for and of which no window tells, once another one is asked for
+abbrev pub noted : List Window → Option ℕ → ℕ → Option ℕ
+noted windows (Some first) address = Some first
+noted windows None address = unless_told (told_in windows address) address
+
+-- the address of the word that a step could not read, if that is why it was refused
+abbrev pub unreadable_word : Result (Option ℕ) Error → Option ℕ
+unreadable_word (Err (CouldNotReadStack address)) = Some address
+unreadable_word _ = None

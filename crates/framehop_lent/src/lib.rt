@@ -9,5 +9,5 @@ pub mod walk;
 pub mod window;
 
 pub use step::step_over;
-pub use walk::walk_into;
+pub use walk::{WalkStop, walk_into, walk_on};
 pub use window::{Window, told, word_at};

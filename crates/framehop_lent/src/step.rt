@@ -5,14 +5,15 @@ ghost use Rattle.framehop.specs.CodeAddress.{location_of};
 ghost use Rattle.framehop.specs.Outcome.{answer_of, registers_after};
 ghost use Rattle.framehop.specs.Modules.{UnwinderView};
 ghost use Rattle.framehop.specs.Soundness.{AreApart};
-ghost use Rattle.framehop_lent.specs.Window.{told_in, words_in};
+ghost use Rattle.framehop_lent.specs.Window.{told_in, words_in, noted, unreadable_word};
 
 use crate::window::{Window, told};
 use framehop::{Error, FrameAddress, Unwinder};
 
 /// The address (AVMA), if there is one and no window tells of it.
 fn untold(windows: &[Window<'_>], asked: Option<u64>) -> Option<u64>
-    ensures { IfSome result (λ address. told_in windows.now address ≡ None) }
+    ensures some { IfSome result (λ address. told_in windows.now address ≡ None) }
+    ensures none { result ≡ None → IfSome asked (λ address. told_in windows.now address ≢ None) }
 {
     let address = asked?;
     if told(windows, address).is_some() {
@@ -21,12 +22,23 @@ fn untold(windows: &[Window<'_>], asked: Option<u64>) -> Option<u64>
     Some(address)
 }
 
+/// The address (AVMA) of the stack word that a step could not read, if that is why it was refused.
+fn unreadable(answer: Result<Option<u64>, Error>) -> Option<u64>
+    ensures { result ≡ unreadable_word answer }
+{
+    match answer {
+        Err(Error::CouldNotReadStack(address)) => Some(address),
+        _ => None,
+    }
+}
+
 /// Unwinds a single frame over the words of windows: [`Unwinder::unwind_frame`] with a callback that
 /// reads them, which can't read what no window has.
 ///
 /// `missing` is the first address (AVMA) of a word that was asked for and of which no window
 /// tells, if there is one. Who can read that word adds a window that has it, or an empty window
-/// where it can't be read, and calls again with the registers of before.
+/// where it can't be read, and calls again with the registers of before. Where no word is missing,
+/// a word that could not be read is one of which a window tells.
 pub fn step_over<U: Unwinder>(
     unwinder: &U,
     cache: &mut U::Cache,
@@ -39,6 +51,7 @@ pub fn step_over<U: Unwinder>(
         (λ answer. IfNone answer (regs.new ≡ regs.old))
         (λ _. regs.new ≡ regs.old) }
     ensures missing { IfSome missing.new (λ asked. told_in windows.now asked ≡ None) }
+    ensures unreadable { missing.new ≡ None → IfSome (unreadable_word result) (λ address. told_in windows.now address ≢ None) }
     ensures may_run_out { result ≡ Err Error.OutOfMemory → U.may_run_out unwinder.now cache.old (location_of address) }
     ensures cached { result ≢ Err Error.OutOfMemory → cache.new ≡ U.cache_after unwinder.now cache.old (location_of address) }
     ensures not_cached { result ≡ Err Error.OutOfMemory → cache.new ≡ U.cache_after_lookup unwinder.now cache.old (location_of address) }
@@ -50,7 +63,8 @@ pub fn step_over<U: Unwinder>(
 {
     let mut first_missing: Option<u64> = None;
     let mut read_stack = |address: u64| -> Result<u64, ()>
-        ensures { result ≡ reply (words_in windows.entry.now address) }
+        ensures reads { result ≡ reply (words_in windows.entry.now address) }
+        ensures notes { first_missing.exit ≡ noted windows.entry.now first_missing.entry address }
     {
         match told(windows, address) {
             Some(word) => word,
@@ -61,6 +75,6 @@ pub fn step_over<U: Unwinder>(
         }
     };
     let answer = unwinder.unwind_frame(address, regs, cache, &mut read_stack);
-    *missing = untold(windows, first_missing);
+    *missing = untold(windows, first_missing).or(untold(windows, unreadable(answer)));
     answer
 }

@@ -1,19 +1,30 @@
 //! A walk into a list that a caller lends.
-ghost use Rattle.std.specs.Prelude.{◌≡◌, ◌≢◌, ◌≤◌, ◌-◌, map, length, take, drop};
+ghost use Rattle.std.specs.Prelude.{◌≡◌, ◌≢◌, ◌≤◌, ◌-◌, map, length, take, drop, Err, IfErr, MatchResult};
 ghost use Rattle.framehop.specs.Memory.{Memory, AnswersAs, reply};
-ghost use Rattle.framehop.specs.CodeAddress.{FrameLocation};
+ghost use Rattle.framehop.specs.CodeAddress.{FrameLocation, location_of};
 ghost use Rattle.framehop.specs.Outcome.{Outcome};
-ghost use Rattle.framehop.specs.Iterator.{walk_on, cache_on};
+ghost use Rattle.framehop.specs.Iterator.{at_frame, next_of, walk_on, cache_on};
 ghost use Rattle.framehop.specs.UnwindIterator.{unwinder_of, progress_in, regs_of, cache_of, read_stack_of};
 ghost use Rattle.framehop.specs.Modules.{UnwinderView};
 ghost use Rattle.framehop.specs.Soundness.{AreApart};
-ghost use Rattle.framehop.specs.Walk.{walk_from, cache_after_walk};
-ghost use Rattle.framehop_lent.specs.Window.{words_from};
-ghost use Rattle.framehop_lent.specs.Walk.{IsWrittenWalk, BeginsWalk};
+ghost use Rattle.framehop.specs.Walk.{walk_from, cache_after_walk, cache_after_callers};
+ghost use Rattle.framehop_lent.specs.Window.{words_from, words_in, told_in};
+ghost use Rattle.framehop_lent.specs.Walk.{IsWrittenWalk, BeginsWalk, IsWrittenUpTo, IsCallerOrEnd, IsUntold, WhereEnded};
 
+use crate::step::step_over;
 use crate::window::{Window, word_at};
 use framehop::session::WalkEnd;
-use framehop::{Error, UnwindIterator, Unwinder};
+use framehop::{Error, FrameAddress, UnwindIterator, Unwinder};
+
+/// Why a walk over windows has stopped.
+#[derive(Clone, Copy, Debug, PartialEq, Eq)]
+pub enum WalkStop {
+    /// It has ended.
+    Ended(WalkEnd),
+
+    /// The word at this address (AVMA) was asked for, and no window tells of it.
+    Missing(u64),
+}
 
 /// Writes the addresses of the next frames of an iterator: how many they are, and how the walk
 /// ended.
@@ -30,12 +41,15 @@ fn next_into<U: Unwinder, F: FnMut(u64) -> Result<u64, ()>>(
         → U.is_sound other (cache_of unwinding.old).now → U.is_sound other (cache_of unwinding.new).now }
     ensures fits { result.0 ≤ length frames.old }
     ensures others { drop result.0 frames.new ≡ drop result.0 frames.old }
+    ensures may_run_out { result.1 ≡ WalkEnd.Refused Error.OutOfMemory
+        → (location : FrameLocation) × (cache : U.Cache) × U.may_run_out (unwinder_of unwinding.old).now cache location }
     ensures answers { (memory : Memory) → AnswersAs F.FnMut (read_stack_of unwinding.old).now memory
         → U.is_sound (U.unwinder_view (unwinder_of unwinding.old).now) (cache_of unwinding.old).now
         → let step : FrameLocation → U.UnwindRegs → Outcome U.UnwindRegs = λ location regs. U.step (unwinder_of unwinding.old).now location regs memory in
         let limit = length frames.old in
         let walk = walk_on step limit (progress_in unwinding.old) (regs_of unwinding.old) in
         BeginsWalk walk result.0 frames.new
+        × (result.1 ≡ WalkEnd.Refused Error.OutOfMemory → IsWrittenWalk (walk_on step result.0 (progress_in unwinding.old) (regs_of unwinding.old)) result.0 frames.new WalkEnd.Limit (regs_of unwinding.new))
         × (result.1 ≢ WalkEnd.Refused Error.OutOfMemory → IsWrittenWalk walk result.0 frames.new result.1 (regs_of unwinding.new)
         × ((cache_of unwinding.new).now
         ≡ cache_on step (U.cache_after (unwinder_of unwinding.old).now) limit (progress_in unwinding.old) (regs_of unwinding.old) (cache_of unwinding.old).now)) }
@@ -55,7 +69,7 @@ fn next_into<U: Unwinder, F: FnMut(u64) -> Result<u64, ()>>(
 /// returns how many they are, and how the walk ended. The registers are those at its end.
 ///
 /// It writes at most as many as there is room for. Where memory runs out, the frames up to there
-/// are written.
+/// are written, and the registers are those of the last one.
 pub fn walk_into<U: Unwinder>(
     unwinder: &U,
     cache: &mut U::Cache,
@@ -68,11 +82,14 @@ pub fn walk_into<U: Unwinder>(
         → U.is_sound other cache.old → U.is_sound other cache.new }
     ensures fits { result.0 ≤ length frames.old }
     ensures others { drop result.0 frames.new ≡ drop result.0 frames.old }
+    ensures may_run_out { result.1 ≡ WalkEnd.Refused Error.OutOfMemory
+        → (location : FrameLocation) × (cache : U.Cache) × U.may_run_out unwinder.now cache location }
     ensures answers { U.is_sound (U.unwinder_view unwinder.now) cache.old →
         let step : FrameLocation → U.UnwindRegs → Outcome U.UnwindRegs = λ location regs. U.step unwinder.now location regs (words_from stack.now.base stack.now.words.now) in
         let limit = length frames.old in
         let walk = walk_from step limit pc regs.old in
         BeginsWalk walk result.0 frames.new
+        × (result.1 ≡ WalkEnd.Refused Error.OutOfMemory → IsWrittenWalk (walk_from step result.0 pc regs.old) result.0 frames.new WalkEnd.Limit regs.new)
         × (result.1 ≢ WalkEnd.Refused Error.OutOfMemory → IsWrittenWalk walk result.0 frames.new result.1 regs.new
         × (cache.new ≡ cache_after_walk step (U.cache_after unwinder.now) limit pc regs.old cache.old)) }
 {
@@ -83,4 +100,82 @@ pub fn walk_into<U: Unwinder>(
     let walked = next_into(&mut unwinding, frames);
     *regs = *unwinding.regs();
     walked
+}
+
+/// The caller of a frame over the words of windows, or why there is none. The registers become the
+/// caller's; where a word is missing, they are as before.
+fn caller_over<U: Unwinder>(
+    unwinder: &U,
+    cache: &mut U::Cache,
+    callee: FrameAddress,
+    regs: &mut U::UnwindRegs,
+    windows: &[Window<'_>],
+) -> Result<FrameAddress, WalkStop>
+    ensures stays_sound { (other : UnwinderView) → AreApart (U.unwinder_view unwinder.now) other
+        → U.is_sound other cache.old → U.is_sound other cache.new }
+    ensures missing { IfErr result (λ stop. IsUntold windows.now stop) }
+    ensures kept { IfErr result (λ stop. stop ≢ WalkStop.Ended (WalkEnd.Refused Error.ReturnAddressIsNull) → regs.new ≡ regs.old) }
+    ensures may_run_out { result ≡ Err (WalkStop.Ended (WalkEnd.Refused Error.OutOfMemory))
+        → U.may_run_out unwinder.now cache.old (location_of callee) }
+    ensures cached { MatchResult result
+        (λ _. cache.new ≡ U.cache_after unwinder.now cache.old (location_of callee))
+        (λ stop. WhereEnded stop (λ _. cache.new ≡ U.cache_after unwinder.now cache.old (location_of callee))) }
+    ensures answers { U.is_sound (U.unwinder_view unwinder.now) cache.old →
+        let step : FrameLocation → U.UnwindRegs → Outcome U.UnwindRegs = λ location regs. U.step unwinder.now location regs (words_in windows.now) in
+        IsCallerOrEnd (next_of step (at_frame (location_of callee)) regs.old) result regs.new }
+{
+    let before = *regs;
+    let mut missing = None;
+    let answer = step_over(unwinder, cache, callee, regs, windows, &mut missing);
+    if let Some(address) = missing {
+        *regs = before;
+        return Err(WalkStop::Missing(address));
+    }
+    match answer {
+        Ok(Some(return_address)) => FrameAddress::from_return_address(return_address).ok_or(
+            WalkStop::Ended(WalkEnd::Refused(Error::ReturnAddressIsNull)),
+        ),
+        Ok(None) => Err(WalkStop::Ended(WalkEnd::Root)),
+        Err(error) => Err(WalkStop::Ended(WalkEnd::Refused(error))),
+    }
+}
+
+/// Walks on from a frame over the words of windows: writes the return addresses (AVMAs) of the
+/// frames that called it, and returns how many they are, and why the walk has stopped.
+///
+/// Where a word is missing, the registers are those of the last frame that is written. Who can read
+/// that word adds a window that tells of it, and walks on from that frame. It writes at most as many
+/// frames as there is room for.
+pub fn walk_on<U: Unwinder>(
+    unwinder: &U,
+    cache: &mut U::Cache,
+    callee: FrameAddress,
+    regs: &mut U::UnwindRegs,
+    windows: &[Window<'_>],
+    frames: &mut [u64],
+) -> (usize, WalkStop)
+    ensures stays_sound { (other : UnwinderView) → AreApart (U.unwinder_view unwinder.now) other
+        → U.is_sound other cache.old → U.is_sound other cache.new }
+    ensures fits { result.0 ≤ length frames.old }
+    ensures others { drop result.0 frames.new ≡ drop result.0 frames.old }
+    ensures missing { IsUntold windows.now result.1 }
+    ensures may_run_out { result.1 ≡ WalkStop.Ended (WalkEnd.Refused Error.OutOfMemory)
+        → (location : FrameLocation) × (cache : U.Cache) × U.may_run_out unwinder.now cache location }
+    ensures answers { U.is_sound (U.unwinder_view unwinder.now) cache.old →
+        let step : FrameLocation → U.UnwindRegs → Outcome U.UnwindRegs = λ location regs. U.step unwinder.now location regs (words_in windows.now) in
+        let limit = length frames.old in
+        IsWrittenUpTo step limit (location_of callee) regs.old result.0 frames.new result.1 regs.new
+        × WhereEnded result.1 (λ _. cache.new ≡ cache_after_callers step (U.cache_after unwinder.now) limit (location_of callee) regs.old cache.old) }
+{
+    let mut callee = callee;
+    for i in 0..frames.len() {
+        match caller_over(unwinder, cache, callee, regs, windows) {
+            Ok(caller) => {
+                frames[i] = caller.address();
+                callee = caller;
+            }
+            Err(stop) => return (i, stop),
+        }
+    }
+    (frames.len(), WalkStop::Ended(WalkEnd::Limit))
 }

@@ -20,5 +20,5 @@ invariant-loop-i g l =
     → g.U.Unwinder.is_sound (g.U.Unwinder.unwinder_view l.fn.unwinding.unwinder.now) l.fn.unwinding.cache.now
     → AnswersAs g.F.FnMut l.unwinding.read_stack.now memory
     × WritesOn (λ location regs. g.U.Unwinder.step l.fn.unwinding.unwinder.now location regs memory) (g.U.Unwinder.cache_after l.fn.unwinding.unwinder.now)
-    l.frames l.i (length l.fn.frames) (progress_of l.unwinding.state) (progress_of l.fn.unwinding.state)
+    l.frames l.i (progress_of l.unwinding.state) (progress_of l.fn.unwinding.state)
     l.unwinding.regs l.fn.unwinding.regs l.unwinding.cache.now l.fn.unwinding.cache.now)

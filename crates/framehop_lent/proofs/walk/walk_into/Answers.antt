@@ -1,4 +1,4 @@
-use Rattle.std.proofs.Common.{ap, ◌∙◌, rules}
+use Rattle.std.proofs.Common.{◌∙◌, rules}
 use Rattle.framehop_core.proofs.Callback.{AnswersAs-unchanged}
 use Rattle.framehop_lent.specs.Window.{words_from}
 use Rattle.framehop_lent.proofs.walk.walk_into.Goals as goal
@@ -11,7 +11,8 @@ returns-clause-answers g c = λ sound.
     let walked = c.next_into-walked.ensures.answers memory answers (rw (made.unwinder, made.cache) sound) in
     let walk = rw (made.unwinder, made.cache, made.progress, made.regs) at walked in (
       walk.0,
+      (λ out. rw c.regs.ensures (walk.1 out)),
       λ fine.
-          let written = walk.1 fine in
+          let written = walk.2 fine in
           (rw c.regs.ensures written.0, (let last = c.drop-unwinding.ensures.cache ∙ written.1 in search (rules, last))),
     )

@@ -1,0 +1,14 @@
+-- Under the limited policy memory does not run out.
+use Rattle.std.proofs.Common.{rules, ◌≡◌, to_z, of_z}
+use mir.Val.{SFits}
+use mir.Syntax.{w32}
+use Rattle.std.proofs.lemmas.Int.{to_z-of_z}
+use Rattle.framehop_c.proofs.Limited.{aarch64-never-runs-out}
+use Rattle.framehop_c.proofs.aarch64.walk_by.Goals as goal
+
+pub returns-in-LimitedCacheAarch64-clause-may_run_out : goal.returns-in-LimitedCacheAarch64-clause-may_run_out
+returns-in-LimitedCacheAarch64-clause-may_run_out c =
+    let walked = c.walk-in-LimitedCacheAarch64 in
+    let fits : SFits w32 walked.result = search rules in
+    let same : to_z w32 (of_z w32 walked.result) ≡ walked.result = to_z-of_z w32 walked.result fits in
+    rw (c.in-LimitedUnwinderAarch64.is) (λ out. let may = walked.ensures.may_run_out (rw same at out) in aarch64-never-runs-out _ _ _ may.2)
