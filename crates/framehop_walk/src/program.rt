@@ -154,7 +154,12 @@ fn parse(alloc: Global, text: &[u8]) -> Result<Value, Refusal>
     }
 }
 
-fn replies_to_value(alloc: Global, value: &Value) -> Result<String, Refusal>
+/// Carries out the commands of a JSON value, and returns the lines of the replies.
+///
+/// # Errors
+///
+/// The first refusal: of a number, of a field, or of a command.
+pub fn replies_to_value(alloc: Global, value: &Value) -> Result<String, Refusal>
     ensures whole { OnOk result (has_bad (view value.now) ≡ false) }
     ensures answers { result ≢ Err Refusal.OutOfMemory
         → AnswersValue (view value.now) (reading_of (λ text. string_bytes text) result) }
