@@ -5,9 +5,9 @@ mod annotate;
 mod explainer;
 mod fault;
 mod fields;
-mod line;
+mod note;
 mod notes;
 mod program;
 mod sections;
 
-pub use program::{Problem, explain_program, explain_text};
+pub use program::{Problem, explain_program, explain_text, refuse};

@@ -1,5 +1,5 @@
 //! What the notes say: of a module when it is added, and of a frame.
-use crate::line::push_line;
+use crate::note::Note;
 use framehop::{FrameAddress, Module};
 use framehop_core::unwind_rule::UnwindRule;
 use framehop_explain::pe::Sources;
@@ -55,57 +55,63 @@ fn without_svma(kind: UnwindDataKind) -> &'static str {
     }
 }
 
-/// Appends what the input tells of a section beside.
-fn push_section_note(
+/// Adds to a note what the input tells of a section beside.
+fn with_section(
     alloc: Global,
     kind: UnwindDataKind,
     section: &Value,
-    out: &mut String,
-) -> Result<(), AllocError> {
+    note: Note,
+) -> Result<Note, AllocError> {
     let Some(name) = section.get("name").and_then(Value::as_str) else {
-        return Ok(());
+        return Ok(note);
     };
     if !is_section(name) {
-        let note = format!(in alloc; "note: unwinding asks for no section {name}")?;
-        return push_line(note.as_str(), out);
+        let line = format!(in alloc; "note: unwinding asks for no section {name}")?;
+        return note.with_line(line.as_str());
     }
     if needs_svma(kind, name) && section.get("svma").is_none() {
         let effect = without_svma(kind);
-        let note = format!(in alloc; "note: {name} has no svma, {effect}")?;
-        push_line(note.as_str(), out)?;
+        let line = format!(in alloc; "note: {name} has no svma, {effect}")?;
+        return note.with_line(line.as_str());
     }
-    Ok(())
+    Ok(note)
 }
 
-/// Returns the note of a module that a command adds.
+/// Adds to a note that the base of a module is above its start, if it is.
+fn with_base(alloc: Global, module: &Module<Vec<u8>>, note: Note) -> Result<Note, AllocError> {
+    let base = module.base_avma();
+    let start = module.avma_range().start;
+    if base <= start {
+        return Ok(note);
+    }
+    let line = format!(in alloc;
+        "note: the base 0x{base:x} is above the start 0x{start:x}: addresses below the base are not covered"
+    )?;
+    note.with_line(line.as_str())
+}
+
+/// Returns the note of a module that a command adds: its kind of unwind data, and what in the input is of no use.
 pub fn module_note(
     alloc: Global,
     module: &Module<Vec<u8>>,
     command: &Value,
-) -> Result<String, AllocError> {
-    let mut out = String::new(alloc);
+) -> Result<Note, AllocError> {
     let kind = UnwindDataKind::of(module);
     let name = module.name();
-    let note = format!(in alloc; "{name}: {kind}")?;
-    push_line(note.as_str(), &mut out)?;
-    let base = module.base_avma();
-    let start = module.avma_range().start;
-    if base > start {
-        let note = format!(in alloc;
-            "note: the base 0x{base:x} is above the start 0x{start:x}: addresses below the base are not covered"
-        )?;
-        push_line(note.as_str(), &mut out)?;
+    let line = format!(in alloc; "{name}: {kind}")?;
+    let mut note = Note::new(alloc).with_line(line.as_str())?;
+    note = with_base(alloc, module, note)?;
+    let Some(sections) = command.get("sections").and_then(Value::as_array) else {
+        return Ok(note);
+    };
+    for section in sections {
+        note = with_section(alloc, kind, section, note)?;
     }
-    if let Some(sections) = command.get("sections").and_then(Value::as_array) {
-        for section in sections {
-            push_section_note(alloc, kind, section, &mut out)?;
-        }
-    }
-    Ok(out)
+    Ok(note)
 }
 
 /// Returns why no module covers an address (AVMA).
-fn uncovered_text(
+fn reason_text(
     alloc: Global,
     modules: &[Module<Vec<u8>>],
     address: u64,
@@ -129,6 +135,20 @@ fn uncovered_text(
             format!(in alloc; "0x{address:x} is 4 GiB or more above the base 0x{base:x} of {name}")
         }
     }
+}
+
+/// Returns what becomes of a frame that no module covers.
+fn uncovered_text<A: Sources>(
+    alloc: Global,
+    modules: &[Module<Vec<u8>>],
+    address: u64,
+) -> Result<String, AllocError>
+where
+    A::UnwindRule: DescribeRule,
+{
+    let reason = reason_text(alloc, modules, address)?;
+    let rule = Described(A::UnwindRule::fallback_rule());
+    format!(in alloc; "{}: fallback: {rule}", reason.as_str())
 }
 
 /// Returns what the covering module tells for a frame.
@@ -159,28 +179,19 @@ where
     }
 }
 
-/// Returns the note of a frame.
+/// Returns the note of a frame: what the module that covers it tells, or why no module does.
 pub fn frame_note<A: Sources>(
     alloc: Global,
     modules: &[Module<Vec<u8>>],
     address: FrameAddress,
     explanation: &Explanation<'_, Vec<u8>, A>,
-) -> Result<String, AllocError>
+) -> Result<Note, AllocError>
 where
     A::UnwindRule: DescribeRule,
 {
-    let mut out = String::new(alloc);
-    match &explanation.finding {
-        Some(finding) => {
-            let note = finding_text::<A>(alloc, finding)?;
-            push_line(note.as_str(), &mut out)?;
-        }
-        None => {
-            let reason = uncovered_text(alloc, modules, address.address_for_lookup())?;
-            let rule = Described(A::UnwindRule::fallback_rule());
-            let note = format!(in alloc; "{reason}: fallback: {rule}")?;
-            push_line(note.as_str(), &mut out)?;
-        }
-    }
-    Ok(out)
+    let line = match &explanation.finding {
+        Some(finding) => finding_text::<A>(alloc, finding)?,
+        None => uncovered_text::<A>(alloc, modules, address.address_for_lookup())?,
+    };
+    Note::new(alloc).with_line(line.as_str())
 }

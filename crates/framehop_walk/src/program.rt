@@ -107,7 +107,8 @@ fn print_answer<R: Read, W: Write>(
     }
 }
 
-fn write_whole<W: Write>(out: &mut Output<W>, text: &[u8]) -> io::Result<()>
+/// Writes a text to `out`, and flushes it.
+pub fn write_whole<W: Write>(out: &mut Output<W>, text: &[u8]) -> io::Result<()>
     ensures failed { IfErr result (λ _. out.new.has_failed ≡ true) }
     ensures noted { OnOk result (out.new.has_failed ≡ out.old.has_failed) }
     ensures written { OnOk result (Appends out.old.bytes out.new.bytes text.now) }
