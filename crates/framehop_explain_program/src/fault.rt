@@ -2,7 +2,7 @@
 use std::fmt;
 
 /// What is wrong with a value of the input.
-#[derive(Clone, Copy, Debug, PartialEq, Eq)]
+#[derive(Clone, Copy)]
 pub enum Cause {
     /// There is no such field.
     Missing,
@@ -59,14 +59,14 @@ impl fmt::Display for Cause {
 }
 
 /// What has a field: an object, or an item of a list.
-#[derive(Clone, Copy, Debug, PartialEq, Eq)]
+#[derive(Clone, Copy)]
 pub struct Parent {
     pub name: &'static str,
     pub item: Option<usize>,
 }
 
 /// A field of the input that is missing or wrong.
-#[derive(Clone, Copy, Debug, PartialEq, Eq)]
+#[derive(Clone, Copy)]
 pub struct Fault {
     /// The number of the command that has it.
     pub command: Option<usize>,

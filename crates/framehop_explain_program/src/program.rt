@@ -5,6 +5,7 @@ ghost use Rattle.serde_json.specs.View.{view};
 ghost use Rattle.framehop_walk.specs.Answers.{Answers, IsJson, IsNoJson, IsOfRun};
 ghost use Rattle.framehop_walk.specs.Refusals.{refusal_text, refusal_status};
 ghost use Rattle.framehop_walk.specs.Streams.{outputs};
+ghost use Rattle.framehop_walk.specs.declared.refusal.Refusal.TheVariants.{OutOfMemory};
 ghost use Rattle.framehop_explain_program.specs.Explained.{IsExplained, IsPrinted};
 ghost use Rattle.framehop_explain_program.specs.Runs.{place_text, problem_line, IsRun};
 
@@ -46,7 +47,7 @@ impl From<Refusal> for Problem {
 }
 
 impl From<AllocError> for Problem {
-    ghost from_gives = { λ _ problem. problem.refusal ≡ Refusal.OutOfMemory };
+    ghost from_gives = { λ _ problem. problem.refusal ≡ OutOfMemory };
 
     fn from(_error: AllocError) -> Self {
         Problem {
