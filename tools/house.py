@@ -45,6 +45,8 @@ PLACES = {
     "framehop_walk_vectors": (4, 5, "tests"),
     "framehop_sweeps": (5, 5, "tests"),
     "framehop_explain_vectors": (6, 6, "tests"),
+    "framehop_explain_program": (2, 5, "library"),
+    "framehop_explain_cli": (2, 6, "program"),
 }
 
 # where a line goes through a row between two crates

@@ -16,6 +16,6 @@ pub mod sections;
 pub use command_line::run;
 pub use input::Input;
 pub use output::Output;
-pub use program::{refuse, walk_program};
+pub use program::{refuse, replies_to_value, walk_program, write_whole};
 pub use refusal::Refusal;
 pub use sections::section_bytes;

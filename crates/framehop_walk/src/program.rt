@@ -107,7 +107,8 @@ fn print_answer<R: Read, W: Write>(
     }
 }
 
-fn write_whole<W: Write>(out: &mut Output<W>, text: &[u8]) -> io::Result<()>
+/// Writes a text to `out`, and flushes it.
+pub fn write_whole<W: Write>(out: &mut Output<W>, text: &[u8]) -> io::Result<()>
     ensures failed { IfErr result (λ _. out.new.has_failed ≡ true) }
     ensures noted { OnOk result (out.new.has_failed ≡ out.old.has_failed) }
     ensures written { OnOk result (Appends out.old.bytes out.new.bytes text.now) }
@@ -154,7 +155,12 @@ fn parse(alloc: Global, text: &[u8]) -> Result<Value, Refusal>
     }
 }
 
-fn replies_to_value(alloc: Global, value: &Value) -> Result<String, Refusal>
+/// Carries out the commands of a JSON value, and returns the lines of the replies.
+///
+/// # Errors
+///
+/// The first refusal: of a number, of a field, or of a command.
+pub fn replies_to_value(alloc: Global, value: &Value) -> Result<String, Refusal>
     ensures whole { OnOk result (has_bad (view value.now) ≡ false) }
     ensures answers { result ≢ Err Refusal.OutOfMemory
         → AnswersValue (view value.now) (reading_of (λ text. string_bytes text) result) }

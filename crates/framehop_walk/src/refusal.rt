@@ -57,7 +57,7 @@ impl error::Error for Refusal {}
 impl Refusal {
     /// The text of the error line, after the program's name, and the name of a field that ends it.
     #[tactic(auto, unfolding(crate::specs::Refusals::bad_field))]
-    pub(crate) fn text(self) -> (&'static str, &'static str)
+    pub fn text(self) -> (&'static str, &'static str)
         ensures { refusal_text self ≡ result.0.now ++ result.1.now }
     {
         match self {

@@ -1,0 +1,3 @@
+pub mod AnnotatedLemmas
+pub mod NoteLemmas
+pub mod Writes

@@ -1,0 +1,278 @@
+//! What an ELF file has to unwind by: the functions of its table, and for an address its row and its rule.
+use crate::row_text::{RegisterNames, push_row};
+use framehop::aarch64::{ArchAarch64, UnwindRegsAarch64};
+use framehop::cache::MayAllocateDuringUnwind;
+use framehop::unwind_data::ModuleUnwindDataInternal;
+use framehop::x86_64::{ArchX86_64, UnwindRegsX86_64};
+use framehop::{Module, ModuleListError};
+use framehop_cfi::context::UnwindContext;
+use framehop_cfi::entry::{EntryHead, UnwindSection, UnwindSectionType};
+use framehop_cfi::extent::read_extent;
+use framehop_cfi::storage::StoreOnHeap;
+use framehop_dwarf::unwinder::find_row;
+use framehop_elf::error::ElfError;
+use framehop_elf::header::read_file_header;
+use framehop_elf::section::read_section_names;
+use framehop_elf::section_header::read_section_headers;
+use framehop_elf::unwind_sections::read_unwind_sections;
+use framehop_explain::explain::explain_module;
+use framehop_explain::pe::Sources;
+use framehop_explain::{DescribeRule, Described, RowSource, Source, Told, UnwindDataKind};
+use std::alloc::{AllocError, Global};
+use thiserror::Error;
+
+/// `EM_X86_64`.
+const EM_X86_64: u16 = 62;
+
+/// `EM_AARCH64`.
+const EM_AARCH64: u16 = 183;
+
+/// Why a file is not explained.
+#[derive(Clone, Copy, Debug, PartialEq, Eq, Error)]
+pub enum FileProblem {
+    /// It is no ELF file that can be read.
+    #[error("{0}")]
+    Elf(ElfError),
+    /// It is for another machine than x86_64 and aarch64.
+    #[error("machine {0}: neither x86_64 nor aarch64")]
+    OtherMachine(u16),
+    /// An allocation failed.
+    #[error("out of memory")]
+    OutOfMemory,
+}
+
+impl From<ElfError> for FileProblem {
+    fn from(value: ElfError) -> Self {
+        FileProblem::Elf(value)
+    }
+}
+
+impl From<AllocError> for FileProblem {
+    fn from(_value: AllocError) -> Self {
+        FileProblem::OutOfMemory
+    }
+}
+
+impl From<ModuleListError> for FileProblem {
+    fn from(_value: ModuleListError) -> Self {
+        FileProblem::OutOfMemory
+    }
+}
+
+/// An architecture whose files are explained.
+trait Machine: Sources + RegisterNames {
+    /// Registers that are all 0: what a file tells does not depend on them.
+    fn no_registers() -> Self::UnwindRegs;
+}
+
+impl Machine for ArchX86_64 {
+    fn no_registers() -> UnwindRegsX86_64 {
+        UnwindRegsX86_64::new(0, 0, 0)
+    }
+}
+
+impl Machine for ArchAarch64 {
+    fn no_registers() -> UnwindRegsAarch64 {
+        UnwindRegsAarch64::new(0, 0, 0)
+    }
+}
+
+/// Reads a file as a module: addresses in it are the stated ones (SVMAs).
+fn read_module(alloc: Global, file: &[u8]) -> Result<(u16, Module<Vec<u8>>), FileProblem> {
+    let header = read_file_header(file)?;
+    let headers = read_section_headers(alloc, file, header)?;
+    let names = read_section_names(file, header, headers.as_slice())?;
+    let sections = read_unwind_sections(alloc, file, headers.as_slice(), names)?;
+    let module = Module::new(alloc, String::new(alloc), 0..u64::MAX, 0, sections)?;
+    Ok((header.e_machine, module))
+}
+
+/// The call frame section of a module, if it unwinds by one.
+fn call_frames(module: &Module<Vec<u8>>) -> Option<UnwindSection<'_>> {
+    match module.unwind_data() {
+        ModuleUnwindDataInternal::DwarfCfiIndexAndFrames(frames) => Some(UnwindSection::new(
+            frames.section_data.as_slice(),
+            frames.section_type,
+            &frames.base_addresses,
+        )),
+        ModuleUnwindDataInternal::EhFrameHdrAndEhFrame {
+            eh_frame,
+            base_addresses,
+            ..
+        } => Some(UnwindSection::new(
+            eh_frame.as_slice(),
+            UnwindSectionType::EhFrame,
+            base_addresses,
+        )),
+        _ => None,
+    }
+}
+
+/// Appends a line for the entry at an offset, if it is an FDE.
+fn push_function(
+    section: &UnwindSection<'_>,
+    at: usize,
+    out: &mut String,
+) -> Result<(), AllocError> {
+    let Ok(EntryHead::Fde { .. }) = section.head_at(at) else {
+        return Ok(());
+    };
+    match section.fde_from_offset(at) {
+        Ok(fde) => {
+            let start = fde.initial_address;
+            let end = start.wrapping_add(fde.address_range);
+            writeln!(out, "0x{start:x}..0x{end:x}: FDE 0x{at:x}")
+        }
+        Err(error) => writeln!(out, "FDE 0x{at:x} can't be read: {error}"),
+    }
+}
+
+/// Appends a line for each FDE of a section, in its order.
+fn push_functions(section: &UnwindSection<'_>, out: &mut String) -> Result<(), AllocError> {
+    let mut at = 0;
+    while at < section.bytes.len() {
+        let Ok(span) = read_extent(section.bytes, at) else {
+            return Ok(());
+        };
+        if span.is_zero_length() && section.section_type == UnwindSectionType::EhFrame {
+            return Ok(());
+        }
+        push_function(section, at, out)?;
+        at = span.end;
+    }
+    Ok(())
+}
+
+/// Appends the range of the FDE at an offset, and its row for an address.
+fn push_fde<A: RegisterNames>(
+    alloc: Global,
+    section: &UnwindSection<'_>,
+    address: u32,
+    offset: u32,
+    out: &mut String,
+) -> Result<(), AllocError> {
+    if let Ok(fde) = section.fde_from_offset(offset as usize) {
+        let start = fde.initial_address;
+        let end = start.wrapping_add(fde.address_range);
+        writeln!(out, "  function 0x{start:x}..0x{end:x}")?;
+    }
+    let mut context: UnwindContext<StoreOnHeap> = UnwindContext::new_in(alloc)?;
+    if let Ok(true) = find_row(section, 0, address, offset, &mut context) {
+        out.push_str("  row ")?;
+        push_row::<A, StoreOnHeap>(context.row(), out)?;
+        out.push_str("\n")?;
+    }
+    Ok(())
+}
+
+/// Returns where a module's unwind data tells how to unwind from a relative address, and what: of a caller's frame, over
+/// a stack that can't be read.
+fn told_by_module<A: Machine, F>(
+    alloc: Global,
+    module: &Module<Vec<u8>>,
+    address: u32,
+    read_stack: &mut F,
+) -> Result<(Source, Told<A::UnwindRule>), AllocError>
+where
+    F: FnMut(u64) -> Result<u64, ()>,
+    requires { F.IsAlwaysCallable read_stack.old }
+{
+    let mut context = UnwindContext::new_in(alloc)?;
+    explain_module::<Vec<u8>, A, MayAllocateDuringUnwind, F>(
+        module,
+        alloc,
+        &mut context,
+        address,
+        false,
+        A::no_registers(),
+        read_stack,
+    )
+}
+
+/// Appends the rule that a file tells, or why there is none.
+fn push_told<R: DescribeRule>(
+    source: Source,
+    told: Told<R>,
+    out: &mut String,
+) -> Result<(), AllocError> {
+    match told {
+        Told::Rule(rule) => writeln!(out, "  rule {}", Described(rule)),
+        Told::Refused(error) if !is_row(source) => writeln!(out, "  no rule: {error:?}"),
+        _ => writeln!(
+            out,
+            "  no rule: the frame is computed from its registers and its stack"
+        ),
+    }
+}
+
+/// Whether a row is the source.
+fn is_row(source: Source) -> bool {
+    matches!(
+        source,
+        Source::Fde {
+            row: RowSource::Row,
+            ..
+        }
+    )
+}
+
+/// Appends what a module tells of an address.
+fn push_address<A: Machine>(
+    alloc: Global,
+    module: &Module<Vec<u8>>,
+    address: u64,
+    out: &mut String,
+) -> Result<(), AllocError>
+where
+    A::UnwindRule: DescribeRule,
+{
+    let Ok(relative) = u32::try_from(address) else {
+        return writeln!(out, "0x{address:x}: 4 GiB or more above the base");
+    };
+    let mut read_stack = |_word: u64| -> Result<u64, ()> { Err(()) };
+    let (source, told) = told_by_module::<A, _>(alloc, module, relative, &mut read_stack)?;
+    writeln!(out, "0x{address:x}: {source}")?;
+    if let Source::Fde { offset, .. } = source
+        && let Some(section) = call_frames(module)
+    {
+        push_fde::<A>(alloc, &section, relative, offset, out)?;
+    }
+    push_told(source, told, out)
+}
+
+/// Returns the lines for the functions of a module, or for addresses in it where there are any.
+fn module_text<A: Machine>(
+    alloc: Global,
+    module: &Module<Vec<u8>>,
+    addresses: &[u64],
+) -> Result<String, AllocError>
+where
+    A::UnwindRule: DescribeRule,
+{
+    let mut out = String::new(alloc);
+    writeln!(out, "{}", UnwindDataKind::of(module))?;
+    for address in addresses {
+        push_address::<A>(alloc, module, *address, &mut out)?;
+    }
+    if addresses.is_empty()
+        && let Some(section) = call_frames(module)
+    {
+        push_functions(&section, &mut out)?;
+    }
+    Ok(out)
+}
+
+/// Returns what an ELF file has to unwind by, as text: the kind of its unwind data; then for each of the addresses
+/// (SVMAs) the FDE, the row and the rule, or without addresses a line for each FDE.
+///
+/// # Errors
+///
+/// `Elf` where the bytes are no file that can be read, `OtherMachine` and `OutOfMemory`.
+pub fn explain_file(alloc: Global, file: &[u8], addresses: &[u64]) -> Result<String, FileProblem> {
+    let (machine, module) = read_module(alloc, file)?;
+    match machine {
+        EM_X86_64 => Ok(module_text::<ArchX86_64>(alloc, &module, addresses)?),
+        EM_AARCH64 => Ok(module_text::<ArchAarch64>(alloc, &module, addresses)?),
+        other => Err(FileProblem::OtherMachine(other)),
+    }
+}

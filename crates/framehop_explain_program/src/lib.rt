@@ -1,0 +1,17 @@
+//! The program `framehop-explain`: `framehop-walk`'s replies, with notes under their lines that tell where each frame came
+//! from; and what an ELF file has to unwind by.
+#![tactic(auto)]
+
+mod annotate;
+mod explainer;
+mod fault;
+mod fields;
+mod file;
+mod note;
+mod notes;
+mod program;
+mod row_text;
+mod sections;
+
+pub use file::{FileProblem, explain_file};
+pub use program::{Problem, explain_program, explain_text, refuse};
