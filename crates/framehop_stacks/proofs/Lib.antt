@@ -3,3 +3,7 @@ mod TallyLemmas
 mod NameLemmas
 mod PlaceLemmas
 mod LineLemmas
+mod StateLemmas
+mod TakenLemmas
+mod FileLemmas
+mod SoFarLemmas

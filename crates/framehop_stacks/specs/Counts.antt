@@ -1,13 +1,13 @@
 -- What is counted of samples.
-use Rattle.std.specs.Prelude.{◌≡◌, ◌≢◌, ℕ, ◌+◌, ◌-◌, ◌^◌, ◌<◌, List}
-use Rattle.framehop_stacks.specs.Tally.{total_of, count_of}
+use Rattle.std.specs.Prelude.{◌≡◌, ◌≢◌, ℕ, ◌+◌, ◌-◌, ◌^◌, ◌<◌, List, Some}
+use Rattle.framehop_stacks.specs.Tally.{total_of, entry_of, count_of}
 use Rattle.framehop_stacks.specs.declared.counts.Counts.{Counts}
 use Rattle.framehop_stacks.specs.declared.tally.Tally.{Tally}
 
 -- one line is counted once more, and no other is
 pub record CountsOneMore (old new : Tally) (line : List ℕ) : Type 0 where
-  pub counted : count_of new line ≡ count_of old line + 1
-  pub others : (other : List ℕ) → other ≢ line → count_of new other ≡ count_of old other
+  pub counted : entry_of new line ≡ Some (count_of old line + 1)
+  pub others : (other : List ℕ) → other ≢ line → entry_of new other ≡ entry_of old other
   pub total : total_of new ≡ total_of old + 1
 
 -- each count is below the greatest number of 64 bits

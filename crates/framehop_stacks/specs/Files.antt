@@ -1,10 +1,16 @@
--- The modules of mappings.
-use Rattle.std.specs.Prelude.{ℕ, Option, Some, None, Bool, true, false}
+-- The files that processes map, and the modules of mappings.
+use Rattle.std.specs.Prelude.{◌≡◌, ◌≢◌, ℕ, nat_eq, List, [], ◌∷◌, ◌++◌, length, codes, Option, Some, None, Bool, true, false, not, ◌&&◌, if◌then◌else◌}
+use Rattle.std.specs.Cmp.Lexicographic.{pointwise}
+use Rattle.std.specs.List.{starts_with}
 use Rattle.framehop.specs.Modules.{ModuleView}
 use Rattle.framehop_processes.specs.declared.mapping.Mapping.{Mapping}
-use Rattle.framehop_stacks.specs.Changes.{elf_in}
+use Rattle.framehop_stacks.specs.Changes.{elf_in, number_in}
+use Rattle.framehop_stacks.specs.ElfFiles.{Listed, problem_of, debug_tables_of, IsKeptOf}
 use Rattle.framehop_stacks.specs.declared.elf_file.ElfFile.{ElfFile}
+use Rattle.framehop_stacks.specs.declared.elf_file.FileProblem.{FileProblem}
+use Rattle.framehop_stacks.specs.declared.elf_file.FileProblem.TheVariants.{NotRead}
 use Rattle.framehop_stacks.specs.declared.files.Files.{Files}
+use Rattle.framehop_stacks.specs.declared.files.RecordedFile.{RecordedFile}
 
 -- a module at the addresses of a mapping
 abbrev pub placed_at : ModuleView → Mapping → ModuleView
@@ -23,3 +29,53 @@ loaded_with false files mapping = files.bare
 -- the module of a mapping: one without sections has no unwind data
 abbrev pub module_at : Files → Mapping → ModuleView
 module_at files mapping = placed_at (loaded_with mapping.has_sections files mapping) mapping
+
+-- a path: perf calls memory that is no file `[vdso]`, `//anon` and the like
+abbrev pub is_path : List ℕ → Bool
+is_path name = starts_with nat_eq name (codes "/") && not (starts_with nat_eq name (codes "//"))
+
+-- why nothing is kept of a file that is given or not
+abbrev pub IsProblem : Option (List ℕ) → List ℕ → FileProblem → Type 0
+IsProblem None wanted problem = problem ≡ NotRead
+IsProblem (Some bytes) wanted problem = problem_of bytes wanted ≡ Some problem
+
+-- the symbol tables of a debug file that is given or not
+abbrev pub debug_tables_in : List ℕ → Option (List ℕ) → List Listed
+debug_tables_in build_id None = []
+debug_tables_in build_id (Some bytes) = debug_tables_of build_id bytes
+
+module _ (gives gives_debug : List ℕ → Option (List ℕ) → Type 0) where
+  -- the symbol tables of the debug file of a build id: none without one
+  abbrev pub AreDebugTables : List ℕ → List Listed → Type 0
+  AreDebugTables [] tables = tables ≡ []
+  AreDebugTables (byte ∷ bytes) tables =
+      (given : Option (List ℕ)) × gives_debug (byte ∷ bytes) given × (tables ≡ debug_tables_in (byte ∷ bytes) given)
+
+  -- a file that is kept, with its debug names, by what is given of both
+  abbrev pub IsKept : List ℕ → List ℕ → ElfFile → Type 0
+  IsKept name wanted elf =
+      (bytes : List ℕ) × gives name (Some bytes) × (problem_of bytes wanted ≡ None)
+      × ((debug : List Listed) × AreDebugTables elf.build_id.items debug × IsKeptOf bytes debug elf)
+
+  -- or else why nothing is
+  abbrev pub IsLoaded : List ℕ → List ℕ → Option ElfFile → Option FileProblem → Type 0
+  IsLoaded name wanted (Some elf) None = IsKept name wanted elf
+  IsLoaded name wanted None (Some problem) = (given : Option (List ℕ)) × gives name given × IsProblem given wanted problem
+  IsLoaded name wanted None None = ⊥
+  IsLoaded name wanted (Some elf) (Some problem) = ⊥
+
+  -- only a path is read
+  abbrev pub IsLoadedIf : Bool → List ℕ → List ℕ → Option ElfFile → Option FileProblem → Type 0
+  IsLoadedIf true name wanted elf problem = IsLoaded name wanted elf problem
+  IsLoadedIf false name wanted elf problem = (elf ≡ None) × (problem ≡ None)
+
+  -- a file of a name, of which a build id is wanted, is what the source gives
+  pub record IsFileOf (name wanted : List ℕ) (file : RecordedFile) : Type 0 where
+    pub called : file.name.items ≡ name
+    pub loaded : IsLoadedIf (is_path name) name wanted file.elf file.problem
+
+  -- a file is the next of all, under its name
+  pub record IsNext (name wanted : List ℕ) (old new : Files) : Type 0 where
+    pub file : (file : RecordedFile) × (new.list.items ≡ old.list.items ++ file ∷ []) × IsFileOf name wanted file
+    pub number : number_in new name ≡ Some (length old.list.items)
+    pub others : (other : List ℕ) → other ≢ name → number_in new other ≡ number_in old other

@@ -10,22 +10,22 @@ use Rattle.framehop_processes.specs.declared.mapping.Mapping.{Mapping}
 use Rattle.framehop_stacks.specs.declared.changes.Change.{Change}
 use Rattle.framehop_stacks.specs.declared.changes.Change.TheVariants.{Map, Begin, Fork}
 
--- the mappings of each process, by its number
+-- the mappings of each process, by its number: one that is not known has none
 abbrev pub Mapped : Type 0
-Mapped = ℕ → Option (List Mapping)
+Mapped = ℕ → List Mapping
 
 abbrev pub mapped_in : BTreeMap ℕ ProcessView → Mapped
-mapped_in processes pid = option_map (λ process. process.mappings) (get nat_cmp processes pid)
+mapped_in processes pid = unwrap_or (option_map (λ process. process.mappings) (get nat_cmp processes pid)) []
 
 -- those of one process are others
 abbrev pub with_process : ℕ → List Mapping → Mapped → Mapped
-with_process pid mappings mapped number = if number == pid then Some mappings else mapped number
+with_process pid mappings mapped number = if number == pid then mappings else mapped number
 
--- the mappings after a change: a process that is not known has none
+-- the mappings after a change
 abbrev pub after : Change → Mapped → Mapped
-after (Map pid mapping) mapped = with_process pid (with_mapping mapping (unwrap_or (mapped pid) [])) mapped
+after (Map pid mapping) mapped = with_process pid (with_mapping mapping (mapped pid)) mapped
 after (Begin pid) mapped = with_process pid [] mapped
-after (Fork pid parent) mapped = with_process pid (unwrap_or (mapped parent) []) mapped
+after (Fork pid parent) mapped = with_process pid (mapped parent) mapped
 
 -- What holds of a process whose unwinder shares a cache with those of others, under a counter of generations: its unwinder
 -- has exactly the modules of its mappings, its generation was drawn, the cache changes none of its answers, and the

@@ -1,10 +1,14 @@
--- The stack of a sample: what the walk over its bytes gives.
-use Rattle.std.specs.Prelude.{◌≡◌, map}
+-- The stack of a sample, by its values.
+use Rattle.std.specs.Prelude.{Option, Some, None, map, codes}
 use Rattle.framehop_core.specs.CodeAddress.{location_of}
-use Rattle.framehop.specs.Walk.{Walk}
 use Rattle.framehop.specs.SessionView.{end_of}
+use Rattle.framehop_stacks.specs.Samples.{StackView, walked, no_stack}
 use Rattle.framehop_stacks.specs.declared.stack.Stack.{Stack}
 
--- its frames and its end are those of a walk
-abbrev pub IsStackOf : {Regs : Type 0} → Walk Regs → Stack → Type 0
-IsStackOf walk stack = (map location_of stack.frames.items ≡ walk.frames) × (end_of stack.end ≡ walk.end)
+abbrev pub stack_view : Stack → StackView
+stack_view stack = walked (map location_of stack.frames.items) (end_of stack.end)
+
+-- the same, if there is one
+abbrev pub option_stack_view : Option Stack → StackView
+option_stack_view (Some stack) = stack_view stack
+option_stack_view None = no_stack (codes "no-registers")

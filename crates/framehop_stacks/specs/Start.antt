@@ -13,8 +13,8 @@ abbrev pub aarch64_start : ℕ × RegistersAarch64 → Start RegistersAarch64
 aarch64_start found = record { pc = found.0; sp = found.1.sp; regs = found.1 }
 
 -- those that were recorded
-abbrev pub StartsX86_64 : ℕ → List ℕ → Option (Start RegistersX86_64) → Type 0
-StartsX86_64 mask values start = start ≡ option_map x86_64_start (x86_64_registers mask values)
+abbrev pub StartsX86_64 : List ModuleView → ℕ → List ℕ → Option (Start RegistersX86_64) → Type 0
+StartsX86_64 modules mask values start = start ≡ option_map x86_64_start (x86_64_registers mask values)
 
 -- the same, with the mask of pointers that the greatest known address of code gives
 abbrev pub StartsAarch64 : List ModuleView → ℕ → List ℕ → Option (Start RegistersAarch64) → Type 0

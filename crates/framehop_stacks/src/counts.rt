@@ -1,7 +1,7 @@
 //! What is counted of samples.
-ghost use Rattle.std.specs.Prelude.{◌≡◌, ◌-◌, ◌<◌, ◌^◌, OnOk};
+ghost use Rattle.std.specs.Prelude.{ℕ, ◌≡◌, ◌-◌, ◌<◌, ◌^◌, List, [], None, OnOk};
 ghost use Rattle.framehop_stacks.specs.Counts.{CountsOneMore, HasRoom, HasSampleMore};
-ghost use Rattle.framehop_stacks.specs.Tally.{total_of};
+ghost use Rattle.framehop_stacks.specs.Tally.{total_of, entry_of, text_of};
 
 use crate::error::StacksError;
 use crate::tally::Tally;
@@ -27,6 +27,8 @@ impl Counts {
         ensures lost { result.lost ≡ 0 }
         ensures ends { total_of result.ends ≡ 0 }
         ensures lines { total_of result.lines ≡ 0 }
+        ensures none { (line : List ℕ) → entry_of result.lines line ≡ None }
+        ensures unwritten { text_of result.lines ≡ [] }
     {
         Counts {
             samples: 0,

@@ -1,25 +1,24 @@
 //! A file that processes map: where it is loaded, its unwind data and its symbols.
-ghost use Rattle.std.specs.Prelude.{◌≡◌, option_map};
+ghost use Rattle.std.specs.Prelude.{◌≡◌, ◌⊎◌, ℕ, List, [], ◌++◌, Some, None, Ok, Err, IfOk, IfErr, OnOk, MatchResult, option_map, option_to_list};
 ghost use Rattle.framehop_elf.specs.Segment.{base_of};
 ghost use Rattle.framehop_elf.specs.Symbol.{symbol_for};
-ghost use Rattle.framehop_stacks.specs.Place.{named_from, option_named, function_at};
+ghost use Rattle.framehop_elf.specs.declared.error.ElfError.{ElfError};
+ghost use Rattle.framehop_stacks.specs.ElfFiles.{Listed, headers_view, headers_of, build_id_in, is_another, problem_of, symbols_in, symbols_called, tables_of, debug_tables_of, IsTable, AreTables, module_in, IsKeptOf};
+ghost use Rattle.framehop_stacks.specs.Place.{option_named, function_at};
+ghost use Rattle.framehop_stacks.specs.declared.elf_file.FileProblem.{FileProblem};
 
-use framehop::section::ExplicitModuleSectionInfo;
-use framehop::{Module, ModuleListError};
+use framehop::Module;
+use framehop_elf::build_id::read_build_id;
 use framehop_elf::error::ElfError;
 use framehop_elf::header::read_file_header;
-use framehop_elf::note::build_id_in;
 use framehop_elf::program_header::{ProgramHeader, read_program_headers};
-use framehop_elf::section::{read_contents, read_section_names, section_by_name, string_at};
+use framehop_elf::section::{read_section_names, section_by_name, string_at};
 use framehop_elf::section_header::{SectionHeader, read_section_headers};
-use framehop_elf::segment::{base_avma, read_segment};
-use framehop_elf::symbol::{SymbolTable, read_function_symbols};
+use framehop_elf::segment::base_avma;
+use framehop_elf::symbol::{Symbol, SymbolTable, read_function_symbols, read_symbol_names};
+use framehop_elf::unwind_sections::read_unwind_sections;
 use std::alloc::{AllocError, Global};
-use std::ops::Range;
 use thiserror::Error;
-
-/// `PT_NOTE`.
-const PT_NOTE: u32 = 4;
 
 /// The size of a page, in bytes.
 const PAGE_SIZE: u64 = 4096;
@@ -70,131 +69,185 @@ pub enum FileProblem {
 }
 
 impl From<ElfError> for FileProblem {
+    ghost use Rattle.framehop_stacks.specs.declared.elf_file.FileProblem.TheVariants.{Elf};
+
+    ghost from_gives = { λ value error. error ≡ Elf value };
+
     fn from(value: ElfError) -> Self {
         FileProblem::Elf(value)
     }
 }
 
 impl From<AllocError> for FileProblem {
+    ghost use Rattle.framehop_elf.specs.declared.error.ElfError.TheVariants.{OutOfMemory};
+    ghost use Rattle.framehop_stacks.specs.declared.elf_file.FileProblem.TheVariants.{Elf};
+
+    ghost from_gives = { λ value error. error ≡ Elf OutOfMemory };
+
     fn from(_value: AllocError) -> Self {
         FileProblem::Elf(ElfError::OutOfMemory)
     }
 }
 
-impl From<ModuleListError> for FileProblem {
-    fn from(_value: ModuleListError) -> Self {
-        FileProblem::Elf(ElfError::OutOfMemory)
+/// The segments and the sections of a file.
+#[derive(Drop)]
+struct Headers<'a> {
+    segments: Vec<ProgramHeader>,
+    sections: Vec<SectionHeader>,
+    /// The string table that has the names of the sections.
+    names: &'a [u8],
+}
+
+/// Reads the segments and the sections of a file.
+#[tactic(auto, unfolding(crate::specs::ElfFiles::headers_of))]
+fn read_headers<'a>(alloc: Global, file: &'a [u8]) -> Result<Headers<'a>, ElfError>
+    ensures { MatchResult result
+        (λ headers. headers_of file.entry.now ≡ Ok (headers_view headers))
+        (λ error. (error ≡ ElfError.OutOfMemory) ⊎ (headers_of file.entry.now ≡ Err error)) }
+{
+    let header = read_file_header(file)?;
+    let segments = read_program_headers(alloc, file, header)?;
+    let sections = read_section_headers(alloc, file, header)?;
+    let names = read_section_names(file, header, sections.as_slice())?;
+    Ok(Headers {
+        segments,
+        sections,
+        names,
+    })
+}
+
+/// Returns the build id of a file, or no bytes.
+fn build_id_in<'a>(file: &'a [u8], headers: &Headers<'_>) -> &'a [u8]
+    ensures { result.now ≡ build_id_in file.entry.now (headers_view headers.now) }
+{
+    let found = read_build_id(
+        file,
+        headers.segments.as_slice(),
+        headers.sections.as_slice(),
+    );
+    match found {
+        Some(build_id) => build_id,
+        None => &[],
     }
 }
 
-/// Returns the build id of a file, by the first of its segments that has one.
-fn build_id<'a>(bytes: &'a [u8], segments: &[ProgramHeader]) -> Option<&'a [u8]> {
-    for segment in segments {
-        if segment.p_type == PT_NOTE {
-            if let Ok(notes) = read_segment(bytes, *segment) {
-                let found = build_id_in(notes);
-                if found.is_some() {
-                    return found;
-                }
-            }
-        }
-    }
-    None
+/// Returns whether a build id that is wanted is another.
+fn is_another(wanted: &[u8], found: &[u8]) -> bool
+    ensures { result ≡ is_another wanted.now found.now }
+{
+    !wanted.is_empty() && found != wanted
 }
 
-/// Returns where a section is (SVMA).
-fn range_of(section: Option<SectionHeader>) -> Option<Range<u64>> {
-    let section = section?;
-    Some(section.sh_addr..section.sh_addr.saturating_add(section.sh_size))
-}
-
-/// Returns what a section holds, if the file has it.
-fn data_of(
-    alloc: Global,
-    file: &[u8],
-    section: Option<SectionHeader>,
-) -> Result<Option<Vec<u8>>, ElfError> {
-    let Some(section) = section else {
-        return Ok(None);
-    };
-    let Ok(contents) = read_contents(file, section) else {
-        return Ok(None);
-    };
-    match Vec::from_slice(alloc, contents) {
-        Ok(data) => Ok(Some(data)),
+/// Keeps the functions of a symbol table with the strings that have their names.
+fn kept_symbols(alloc: Global, functions: Vec<Symbol>, names: &[u8]) -> Result<Symbols, ElfError>
+    ensures kept { IfOk result (λ symbols. IsTable (functions.items, names.now) symbols) }
+    ensures refused { IfErr result (λ error. error ≡ ElfError.OutOfMemory) }
+{
+    let table = SymbolTable::new(functions)?;
+    match Vec::from_slice(alloc, names) {
+        Ok(names) => Ok(Symbols { table, names }),
         Err(_) => Err(ElfError::OutOfMemory),
     }
 }
 
-/// Returns the sections that an unwinder needs.
-fn unwind_sections(
-    alloc: Global,
-    file: &[u8],
-    sections: &[SectionHeader],
-    names: &[u8],
-) -> Result<ExplicitModuleSectionInfo<Vec<u8>>, ElfError> {
-    let eh_frame = section_by_name(sections, names, b".eh_frame");
-    let eh_frame_hdr = section_by_name(sections, names, b".eh_frame_hdr");
-    let debug_frame = section_by_name(sections, names, b".debug_frame");
-    Ok(ExplicitModuleSectionInfo {
-        text_svma: range_of(section_by_name(sections, names, b".text")),
-        got_svma: range_of(section_by_name(sections, names, b".got")),
-        eh_frame_svma: range_of(eh_frame),
-        eh_frame: data_of(alloc, file, eh_frame)?,
-        eh_frame_hdr_svma: range_of(eh_frame_hdr),
-        eh_frame_hdr: data_of(alloc, file, eh_frame_hdr)?,
-        debug_frame: data_of(alloc, file, debug_frame)?,
-        ..ExplicitModuleSectionInfo::default()
-    })
-}
-
-/// Reads the symbols of a section, if the file has it.
+/// Reads the symbols of a section, if the file has it. They count as absent where they can't be read.
+#[tactic(auto, unfolding(crate::specs::ElfFiles::symbols_of))]
 fn read_symbols(
     alloc: Global,
     file: &[u8],
     sections: &[SectionHeader],
     section: Option<SectionHeader>,
-) -> Result<Option<Symbols>, ElfError> {
+) -> Result<Option<Symbols>, ElfError>
+    ensures kept { IfOk result (λ symbols. AreTables (option_to_list (symbols_in file.now sections.now section)) (option_to_list symbols)) }
+    ensures refused { IfErr result (λ error. error ≡ ElfError.OutOfMemory) }
+{
     let Some(section) = section else {
         return Ok(None);
     };
-    let Some(strings) = sections.get(section.sh_link as usize) else {
-        return Ok(None);
-    };
-    let Some(names) = data_of(alloc, file, Some(*strings))? else {
+    let Ok(names) = read_symbol_names(file, sections, section) else {
         return Ok(None);
     };
     match read_function_symbols(alloc, file, sections, section) {
-        Ok(symbols) => Ok(Some(Symbols {
-            table: SymbolTable::new(symbols)?,
-            names,
-        })),
+        Ok(functions) => {
+            let symbols = kept_symbols(alloc, functions, names)?;
+            Ok(Some(symbols))
+        }
         Err(ElfError::OutOfMemory) => Err(ElfError::OutOfMemory),
         Err(_) => Ok(None),
     }
+}
+
+/// Appends the symbols of a section of a name, if they can be read.
+fn push_symbols(
+    alloc: Global,
+    all: &mut Vec<Symbols>,
+    file: &[u8],
+    headers: &Headers<'_>,
+    name: &[u8],
+) -> Result<(), ElfError>
+    ensures kept { (listed : List Listed) → AreTables listed all.old.items → OnOk result
+        (AreTables (listed ++ option_to_list (symbols_called file.now (headers_view headers.now) name.now)) all.new.items) }
+    ensures refused { IfErr result (λ error. error ≡ ElfError.OutOfMemory) }
+{
+    let sections = headers.sections.as_slice();
+    let section = section_by_name(sections, headers.names, name);
+    let Some(symbols) = read_symbols(alloc, file, sections, section)? else {
+        return Ok(());
+    };
+    let Ok(()) = all.push(symbols) else {
+        return Err(ElfError::OutOfMemory);
+    };
+    Ok(())
 }
 
 /// Reads the symbols of both symbol tables.
 fn read_all_symbols(
     alloc: Global,
     file: &[u8],
-    sections: &[SectionHeader],
-    names: &[u8],
-) -> Result<Vec<Symbols>, ElfError> {
+    headers: &Headers<'_>,
+) -> Result<Vec<Symbols>, ElfError>
+    ensures kept { IfOk result (λ all. AreTables (tables_of file.now (headers_view headers.now)) all.items) }
+    ensures refused { IfErr result (λ error. error ≡ ElfError.OutOfMemory) }
+{
     let mut all = Vec::new(alloc);
-    let symtab = section_by_name(sections, names, b".symtab");
-    let dynsym = section_by_name(sections, names, b".dynsym");
-    if let Some(symbols) = read_symbols(alloc, file, sections, symtab)? {
-        if all.push(symbols).is_err() {
-            return Err(ElfError::OutOfMemory);
-        }
-    }
-    if let Some(symbols) = read_symbols(alloc, file, sections, dynsym)? {
-        if all.push(symbols).is_err() {
-            return Err(ElfError::OutOfMemory);
-        }
-    }
+    push_symbols(alloc, &mut all, file, headers, b".symtab")?;
+    push_symbols(alloc, &mut all, file, headers, b".dynsym")?;
     Ok(all)
+}
+
+/// Reads the symbols of the debug file of a build id: none where it can't be read, or has another build id.
+fn read_debug_symbols(
+    alloc: Global,
+    build_id: &[u8],
+    file: &[u8],
+) -> Result<Option<Symbols>, ElfError>
+    ensures kept { IfOk result (λ symbols. AreTables (debug_tables_of build_id.now file.now) (option_to_list symbols)) }
+    ensures refused { IfErr result (λ error. error ≡ ElfError.OutOfMemory) }
+{
+    let headers = match read_headers(alloc, file) {
+        Ok(headers) => headers,
+        Err(ElfError::OutOfMemory) => return Err(ElfError::OutOfMemory),
+        Err(_) => return Ok(None),
+    };
+    if is_another(build_id_in(file, &headers), build_id) {
+        return Ok(None);
+    }
+    let sections = headers.sections.as_slice();
+    let section = section_by_name(sections, headers.names, b".symtab");
+    let symbols = read_symbols(alloc, file, sections, section)?;
+    Ok(symbols)
+}
+
+/// Returns a module of a file that lies at no address.
+fn module_in(alloc: Global, file: &[u8], headers: &Headers<'_>) -> Result<Module<Vec<u8>>, ElfError>
+    ensures loaded { IfOk result (λ made. made ≡ module_in file.now (headers_view headers.now)) }
+    ensures refused { IfErr result (λ error. error ≡ ElfError.OutOfMemory) }
+{
+    let info = read_unwind_sections(alloc, file, headers.sections.as_slice(), headers.names)?;
+    match Module::new(alloc, String::new(alloc), 0..0, 0, info) {
+        Ok(made) => Ok(made),
+        Err(_) => Err(ElfError::OutOfMemory),
+    }
 }
 
 impl ElfFile {
@@ -202,54 +255,52 @@ impl ElfFile {
     ///
     /// # Errors
     ///
-    /// `OtherBuildId`, and the refusals of the file's headers and of its section names. A section that can't
-    /// be read counts as absent.
-    pub fn new(alloc: Global, bytes: &[u8], wanted: &[u8]) -> Result<Self, FileProblem> {
-        let header = read_file_header(bytes)?;
-        let segments = read_program_headers(alloc, bytes, header)?;
-        let found = build_id(bytes, segments.as_slice()).unwrap_or(&[]);
-        if !wanted.is_empty() && found != wanted {
+    /// `OtherBuildId`, and the refusals of the file's headers and of its section names; `OutOfMemory`. A section
+    /// that can't be read counts as absent.
+    pub fn new(alloc: Global, bytes: &[u8], wanted: &[u8]) -> Result<Self, FileProblem>
+        ensures kept { IfOk result (λ elf. IsKeptOf bytes.now [] elf) }
+        ensures wanted { IfOk result (λ _. problem_of bytes.now wanted.now ≡ None) }
+        ensures refused { IfErr result (λ problem. (problem ≡ FileProblem.Elf ElfError.OutOfMemory)
+            ⊎ (problem_of bytes.now wanted.now ≡ Some problem)) }
+    {
+        let headers = read_headers(alloc, bytes)?;
+        let found = build_id_in(bytes, &headers);
+        if is_another(wanted, found) {
             return Err(FileProblem::OtherBuildId);
         }
-        let sections = read_section_headers(alloc, bytes, header)?;
-        let names = read_section_names(bytes, header, sections.as_slice())?;
-        let info = unwind_sections(alloc, bytes, sections.as_slice(), names)?;
-        let symbols = read_all_symbols(alloc, bytes, sections.as_slice(), names)?;
-        let module = Module::new(alloc, String::new(alloc), 0..0, 0, info)?;
+        let symbols = read_all_symbols(alloc, bytes, &headers)?;
+        let module = module_in(alloc, bytes, &headers)?;
+        let build_id = Vec::from_slice(alloc, found)?;
         Ok(ElfFile {
-            segments,
+            segments: headers.segments,
             symbols,
             module,
-            build_id: Vec::from_slice(alloc, found)?,
+            build_id,
         })
     }
 
-    /// Takes the functions of the file's debug file, which are asked before its own.
-    ///
-    /// # Errors
-    ///
-    /// `OtherBuildId`, and the refusals of the debug file's headers and of its section names.
-    pub fn add_debug_names(&mut self, alloc: Global, bytes: &[u8]) -> Result<(), FileProblem> {
-        let header = read_file_header(bytes)?;
-        let segments = read_program_headers(alloc, bytes, header)?;
-        if let Some(found) = build_id(bytes, segments.as_slice()) {
-            if found != self.build_id.as_slice() {
-                return Err(FileProblem::OtherBuildId);
-            }
+    /// Takes the functions of the file's debug file, which are asked before its own: nothing where it can't be
+    /// read, or has a build id that is another. Fails only where an allocation does.
+    pub fn add_debug_names(&mut self, alloc: Global, bytes: &[u8]) -> Result<(), ElfError>
+        ensures kept { (file : List ℕ) → IsKeptOf file [] self.old
+            → OnOk result (IsKeptOf file (debug_tables_of self.old.build_id.items bytes.now) self.new) }
+        ensures same { self.new.build_id ≡ self.old.build_id }
+        ensures refused { IfErr result (λ error. error ≡ ElfError.OutOfMemory) }
+    {
+        let build_id = self.build_id.as_slice();
+        let Some(symbols) = read_debug_symbols(alloc, build_id, bytes)? else {
+            return Ok(());
+        };
+        match self.symbols.insert(0, symbols) {
+            Ok(()) => Ok(()),
+            Err(_) => Err(ElfError::OutOfMemory),
         }
-        let sections = read_section_headers(alloc, bytes, header)?;
-        let names = read_section_names(bytes, header, sections.as_slice())?;
-        let symtab = section_by_name(sections.as_slice(), names, b".symtab");
-        if let Some(symbols) = read_symbols(alloc, bytes, sections.as_slice(), symtab)? {
-            if self.symbols.insert(0, symbols).is_err() {
-                return Err(FileProblem::Elf(ElfError::OutOfMemory));
-            }
-        }
-        Ok(())
     }
 
     /// Returns the build id of the file, or no bytes.
-    pub fn build_id(&self) -> &[u8] {
+    pub fn build_id(&self) -> &[u8]
+        ensures { result.now ≡ self.now.build_id.items }
+    {
         self.build_id.as_slice()
     }
 

@@ -1,7 +1,11 @@
 //! The files of a recording by their numbers, and the modules of their mappings.
-ghost use Rattle.std.specs.Prelude.{◌≡◌, IfOk, option_map, option_copied, slice_get};
+ghost use Rattle.std.specs.Prelude.{◌≡◌, ◌⊎◌, ℕ, List, [], Option, Some, None, Ok, IsSome, IfOk, IfErr, OnOk, option_map, option_copied, slice_get};
+ghost use Rattle.framehop_elf.specs.UnwindSections.{bytes_in};
+ghost use Rattle.framehop_elf.specs.declared.error.ElfError.{ElfError};
 ghost use Rattle.framehop_stacks.specs.Changes.{number_in, elf_in};
-ghost use Rattle.framehop_stacks.specs.Files.{module_at, placed_at};
+ghost use Rattle.framehop_stacks.specs.ElfFiles.{Listed, problem_of, IsKeptOf};
+ghost use Rattle.framehop_stacks.specs.Files.{module_at, placed_at, is_path, IsProblem, AreDebugTables, IsFileOf, IsNext};
+ghost use Rattle.framehop_stacks.specs.declared.elf_file.FileProblem.{FileProblem};
 
 use crate::elf_file::{ElfFile, FileProblem};
 use crate::error::StacksError;
@@ -16,11 +20,19 @@ use std::collections::BTreeMap;
 
 /// What gives files by their names, as a disk does.
 pub trait FileSource {
+    // what it can give for the name of a file
+    ghost gives: { Self → List ℕ → Option (List ℕ) → Type 0 };
+
+    // what it can give for the build id of a debug file
+    ghost gives_debug: { Self → List ℕ → Option (List ℕ) → Type 0 };
+
     /// Returns the bytes of a file, if it is there and can be read.
-    fn read_file(&mut self, name: &[u8]) -> Option<Vec<u8>>;
+    fn read_file(&self, name: &[u8]) -> Option<Vec<u8>>
+        ensures { gives self.now name.now (bytes_in result) };
 
     /// Returns the bytes of the debug file of a build id, if it is there and can be read.
-    fn read_debug_file(&mut self, build_id: &[u8]) -> Option<Vec<u8>>;
+    fn read_debug_file(&self, build_id: &[u8]) -> Option<Vec<u8>>
+        ensures { gives_debug self.now build_id.now (bytes_in result) };
 }
 
 /// A file of a recording.
@@ -43,17 +55,24 @@ pub struct Files {
 }
 
 /// Returns whether a name is a path: perf calls memory that is no file `[vdso]`, `//anon` and the like.
-fn is_path(name: &[u8]) -> bool {
+fn is_path(name: &[u8]) -> bool
+    ensures { result ≡ is_path name.now }
+{
     name.starts_with(b"/") && !name.starts_with(b"//")
 }
 
 /// Reads a file from its source.
 fn read_elf<S: FileSource>(
     alloc: Global,
-    source: &mut S,
+    source: &S,
     name: &[u8],
     build_id: &[u8],
-) -> Result<ElfFile, FileProblem> {
+) -> Result<ElfFile, FileProblem>
+    ensures kept { IfOk result (λ elf. (bytes : List ℕ) × S.gives source.now name.now (Some bytes)
+        × (problem_of bytes build_id.now ≡ None) × IsKeptOf bytes [] elf) }
+    ensures refused { IfErr result (λ problem. (problem ≡ FileProblem.Elf ElfError.OutOfMemory)
+        ⊎ ((given : Option (List ℕ)) × S.gives source.now name.now given × IsProblem given build_id.now problem)) }
+{
     match source.read_file(name) {
         Some(bytes) => ElfFile::new(alloc, bytes.as_slice(), build_id),
         None => Err(FileProblem::NotRead),
@@ -63,9 +82,12 @@ fn read_elf<S: FileSource>(
 /// Reads the names of a file's functions in its debug file. One that can't be read counts as absent.
 fn add_debug_names<S: FileSource>(
     alloc: Global,
-    source: &mut S,
+    source: &S,
     elf: &mut ElfFile,
-) -> Result<(), StacksError> {
+) -> Result<(), StacksError>
+    ensures kept { (file : List ℕ) → IsKeptOf file [] elf.old → OnOk result ((debug : List Listed)
+        × AreDebugTables (S.gives source.now) (S.gives_debug source.now) elf.new.build_id.items debug × IsKeptOf file debug elf.new) }
+{
     if elf.build_id().is_empty() {
         return Ok(());
     }
@@ -73,18 +95,20 @@ fn add_debug_names<S: FileSource>(
         return Ok(());
     };
     match elf.add_debug_names(alloc, bytes.as_slice()) {
-        Err(FileProblem::Elf(ElfError::OutOfMemory)) => Err(StacksError::OutOfMemory),
-        _ => Ok(()),
+        Ok(()) => Ok(()),
+        Err(_) => Err(StacksError::OutOfMemory),
     }
 }
 
 /// Reads a file of a recording, if its name is a path.
 fn load<S: FileSource>(
     alloc: Global,
-    source: &mut S,
+    source: &S,
     name: &[u8],
     build_id: &[u8],
-) -> Result<RecordedFile, StacksError> {
+) -> Result<RecordedFile, StacksError>
+    ensures { IfOk result (λ file. IsFileOf (S.gives source.now) (S.gives_debug source.now) name.now build_id.now file) }
+{
     let mut file = RecordedFile {
         name: Vec::from_slice(alloc, name)?,
         elf: None,
@@ -123,10 +147,15 @@ impl Files {
     pub fn add<S: FileSource>(
         &mut self,
         alloc: Global,
-        source: &mut S,
+        source: &S,
         name: &[u8],
         build_id: &[u8],
-    ) -> Result<(), StacksError> {
+    ) -> Result<(), StacksError>
+        ensures bare { self.new.bare ≡ self.old.bare }
+        ensures known { IsSome (number_in self.old name.now) → (result ≡ Ok tt) × (self.new ≡ self.old) }
+        ensures added { number_in self.old name.now ≡ None → OnOk result
+            (IsNext (S.gives source.now) (S.gives_debug source.now) name.now build_id.now self.old self.new) }
+    {
         if self.numbers.get(name).is_some() {
             return Ok(());
         }

@@ -1,6 +1,9 @@
 //! What differs by the architecture of a recording.
 ghost use Rattle.std.specs.Prelude.{◌≡◌, ℕ, List, Option, IfOk, option_map};
-ghost use Rattle.framehop.specs.Modules.{UnwinderView};
+ghost use Rattle.framehop_core.specs.CodeAddress.{FrameLocation};
+ghost use Rattle.framehop_core.specs.Memory.{Memory};
+ghost use Rattle.framehop_core.specs.Outcome.{Outcome};
+ghost use Rattle.framehop.specs.Modules.{ModuleView, UnwinderView};
 ghost use Rattle.framehop_stacks.specs.declared.machine.Start.{Start};
 
 use framehop::aarch64::{CacheAarch64, UnwindRegsAarch64, UnwinderAarch64};
@@ -26,8 +29,11 @@ pub struct Start<R: Copy> {
 
 /// An unwinder for the samples of its architecture.
 pub trait Sampled: ProcessUnwinder {
-    // the registers of a sample
-    ghost starts: { Self → ℕ → List ℕ → Option (Start Self.UnwindRegs) → Type 0 };
+    // one step by the bytes of modules, read afresh
+    ghost step_by: { List ModuleView → FrameLocation → Self.UnwindRegs → Memory → Outcome Self.UnwindRegs };
+
+    // the registers of a sample, by the modules of its process
+    ghost starts: { List ModuleView → ℕ → List ℕ → Option (Start Self.UnwindRegs) → Type 0 };
 
     /// Returns an empty cache, which changes no answer of any unwinder.
     fn new_cache(alloc: Global) -> Result<Self::Cache, AllocError>
@@ -38,13 +44,24 @@ pub trait Sampled: ProcessUnwinder {
 
     /// Returns the registers of a sample, from the mask of those that were recorded and their values.
     fn start(&self, mask: u64, values: &[u8]) -> Option<Start<Self::UnwindRegs>>
-        ensures { starts self.now mask values.now result };
+        ensures { starts (Self.unwinder_view self.now).modules mask values.now result };
+
+    // an unwinder steps by the bytes of its modules
+    ghost steps_by_modules: { (unwinder : Self) → Self.step unwinder ≡ step_by (Self.unwinder_view unwinder).modules };
 }
 
 impl<D: SectionBytes + Drop> Sampled for UnwinderX86_64<D, MayAllocateDuringUnwind> {
+    ghost use Rattle.std.specs.Prelude.{refl};
+    ghost use Rattle.framehop.specs.Fresh.{step};
+    ghost use Rattle.framehop.specs.X86_64.{x86_64};
+    ghost use Rattle.framehop.specs.Policy.{with_allocation};
     ghost use Rattle.framehop_stacks.specs.Start.{StartsX86_64};
 
-    ghost starts = { λ unwinder mask values start. StartsX86_64 mask values start };
+    ghost step_by = { step (x86_64 with_allocation) };
+
+    ghost starts = { StartsX86_64 };
+
+    ghost steps_by_modules = { λ unwinder. refl };
 
     fn new_cache(alloc: Global) -> Result<CacheX86_64<MayAllocateDuringUnwind>, AllocError> {
         CacheX86_64::new(alloc)
@@ -65,9 +82,17 @@ impl<D: SectionBytes + Drop> Sampled for UnwinderX86_64<D, MayAllocateDuringUnwi
 }
 
 impl<D: SectionBytes + Drop> Sampled for UnwinderAarch64<D, MayAllocateDuringUnwind> {
+    ghost use Rattle.std.specs.Prelude.{refl};
+    ghost use Rattle.framehop.specs.Fresh.{step};
+    ghost use Rattle.framehop.specs.Aarch64.{aarch64};
+    ghost use Rattle.framehop.specs.Policy.{with_allocation};
     ghost use Rattle.framehop_stacks.specs.Start.{StartsAarch64};
 
-    ghost starts = { λ unwinder mask values start. StartsAarch64 unwinder.modules mask values start };
+    ghost step_by = { step (aarch64 with_allocation) };
+
+    ghost starts = { StartsAarch64 };
+
+    ghost steps_by_modules = { λ unwinder. refl };
 
     fn new_cache(alloc: Global) -> Result<CacheAarch64<MayAllocateDuringUnwind>, AllocError> {
         CacheAarch64::new(alloc)

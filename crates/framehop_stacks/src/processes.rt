@@ -1,5 +1,5 @@
 //! The processes of a recording at a time.
-ghost use Rattle.std.specs.Prelude.{◌≡◌, ℕ, IfOk, ◌==◌, if◌then◌else◌, [], Some, None, IsSome, IfSome, OnOk, option_map, option_copied, unwrap_or};
+ghost use Rattle.std.specs.Prelude.{◌≡◌, ℕ, IfOk, ◌==◌, if◌then◌else◌, [], Some, None, IsSome, IfSome, OnOk, option_map, option_copied};
 ghost use Rattle.std.specs.BTreeMap.{get};
 ghost use Rattle.std.specs.Ordering.{nat_cmp};
 ghost use Rattle.framehop.specs.Modules.{ModuleView, UnwinderView};
@@ -26,6 +26,7 @@ impl<U: ProcessUnwinder> Processes<U> {
     /// Returns no processes.
     pub fn new(alloc: Global) -> Self
         ensures empty { (pid : ℕ) → get nat_cmp result.by_pid pid ≡ None }
+        ensures none { (pid : ℕ) → mapped_in result.by_pid pid ≡ [] }
     {
         Processes {
             by_pid: BTreeMap::new(alloc),
@@ -35,7 +36,7 @@ impl<U: ProcessUnwinder> Processes<U> {
 
     /// Returns the mappings of a process, in order of start: none where it is not known.
     pub fn mappings(&self, pid: u32) -> &[Mapping]
-        ensures value { result.now ≡ unwrap_or (mapped_in self.now.by_pid pid) [] }
+        ensures value { result.now ≡ mapped_in self.now.by_pid pid }
         ensures ordered { IsInOrder 0 result.now }
     {
         match self.get(pid) {
@@ -64,6 +65,7 @@ impl<U: ProcessUnwinder> Processes<U> {
 
     /// Stores a process, in the place of the one that has its number.
     fn put(&mut self, pid: u32, process: Process<U>) -> Result<(), StacksError>
+        ensures known { OnOk result (IsSome (get nat_cmp self.new.by_pid pid)) }
         ensures mapped { OnOk result ((number : ℕ) → mapped_in self.new.by_pid number ≡ with_process pid process.mappings (mapped_in self.old.by_pid) number) }
         ensures served { OnOk result ((module_of : Mapping → ModuleView) (cache : U.Cache)
             → IsServed module_of (λ view. U.is_sound view cache) self.old.by_pid self.old.generations
@@ -76,7 +78,7 @@ impl<U: ProcessUnwinder> Processes<U> {
 
     /// Returns a copy of a process, or one without mappings where it is not known.
     fn copy_of(&mut self, alloc: Global, pid: u32) -> Result<Process<U>, StacksError>
-        ensures copied { IfOk result (λ process. process.mappings ≡ unwrap_or (mapped_in self.old.by_pid pid) []) }
+        ensures copied { IfOk result (λ process. process.mappings ≡ mapped_in self.old.by_pid pid) }
         ensures kept { self.new.by_pid ≡ self.old.by_pid }
         ensures served { OnOk result ((module_of : Mapping → ModuleView) (cache : U.Cache)
             → IsServed module_of (λ view. U.is_sound view cache) self.old.by_pid self.old.generations
@@ -108,6 +110,7 @@ impl<U: ProcessUnwinder> Processes<U> {
 
     /// Begins a process without mappings, in the place of the one that has its number.
     pub fn begin(&mut self, alloc: Global, pid: u32) -> Result<(), StacksError>
+        ensures known { OnOk result (IsSome (get nat_cmp self.new.by_pid pid)) }
         ensures mapped { OnOk result ((number : ℕ) → mapped_in self.new.by_pid number ≡ with_process pid [] (mapped_in self.old.by_pid) number) }
         ensures served { OnOk result ((module_of : Mapping → ModuleView) (cache : U.Cache)
             → IsServed module_of (λ view. U.is_sound view cache) self.old.by_pid self.old.generations
@@ -121,8 +124,7 @@ impl<U: ProcessUnwinder> Processes<U> {
     /// Makes a process known: one that is not known begins without mappings.
     pub fn meet(&mut self, alloc: Global, pid: u32) -> Result<(), StacksError>
         ensures known { OnOk result (IsSome (get nat_cmp self.new.by_pid pid)) }
-        ensures kept { OnOk result ((number : ℕ) → unwrap_or (mapped_in self.new.by_pid number) []
-            ≡ unwrap_or (mapped_in self.old.by_pid number) []) }
+        ensures kept { OnOk result ((number : ℕ) → mapped_in self.new.by_pid number ≡ mapped_in self.old.by_pid number) }
         ensures served { OnOk result ((module_of : Mapping → ModuleView) (cache : U.Cache)
             → IsServed module_of (λ view. U.is_sound view cache) self.old.by_pid self.old.generations
             → IsServed module_of (λ view. U.is_sound view cache) self.new.by_pid self.new.generations) }
@@ -136,7 +138,7 @@ impl<U: ProcessUnwinder> Processes<U> {
 
     /// Begins a process as a copy of another: one without mappings where that one is not known.
     fn fork(&mut self, alloc: Global, pid: u32, parent: u32) -> Result<(), StacksError>
-        ensures mapped { OnOk result ((number : ℕ) → mapped_in self.new.by_pid number ≡ with_process pid (unwrap_or (mapped_in self.old.by_pid parent) []) (mapped_in self.old.by_pid) number) }
+        ensures mapped { OnOk result ((number : ℕ) → mapped_in self.new.by_pid number ≡ with_process pid (mapped_in self.old.by_pid parent) (mapped_in self.old.by_pid) number) }
         ensures served { OnOk result ((module_of : Mapping → ModuleView) (cache : U.Cache)
             → IsServed module_of (λ view. U.is_sound view cache) self.old.by_pid self.old.generations
             → IsServed module_of (λ view. U.is_sound view cache) self.new.by_pid self.new.generations) }
@@ -182,7 +184,7 @@ impl<U: ProcessUnwinder> Processes<U> {
     where
         U::Module: Drop,
         requires { (cache : U.Cache) × IsServed (M.module_of maker.now) (λ view. U.is_sound view cache) self.old.by_pid self.old.generations }
-        ensures mapped { OnOk result ((number : ℕ) → mapped_in self.new.by_pid number ≡ with_process pid (with_mapping mapping (unwrap_or (mapped_in self.old.by_pid pid) [])) (mapped_in self.old.by_pid) number) }
+        ensures mapped { OnOk result ((number : ℕ) → mapped_in self.new.by_pid number ≡ with_process pid (with_mapping mapping (mapped_in self.old.by_pid pid)) (mapped_in self.old.by_pid) number) }
         ensures served { OnOk result ((cache : U.Cache)
             → IsServed (M.module_of maker.now) (λ view. U.is_sound view cache) self.old.by_pid self.old.generations
             → IsServed (M.module_of maker.now) (λ view. U.is_sound view cache) self.new.by_pid self.new.generations) }

@@ -1,4 +1,12 @@
 //! From the bytes of a recording to folded stacks.
+ghost use Rattle.std.specs.Prelude.{ℕ, ◌≡◌, OnOk, IfOk, List, map};
+ghost use Rattle.framehop_recording.specs.Attributes.{attribute_view};
+ghost use Rattle.framehop_stacks.specs.Printed.{IsPrintedOf};
+ghost use Rattle.framehop_stacks.specs.Recording.{records_in, IsReadOf};
+ghost use Rattle.framehop_stacks.specs.Samples.{beginning, samples_from, Each, IsTextOf, IsPrinted};
+ghost use Rattle.framehop_stacks.specs.declared.files.Files.{Files};
+ghost use Rattle.framehop_stacks.specs.declared.recording.Recording.{Recording};
+
 use crate::counts::Counts;
 use crate::error::StacksError;
 use crate::files::{FileModules, FileSource, Files};
@@ -9,6 +17,7 @@ use framehop::aarch64::UnwinderAarch64;
 use framehop::cache::MayAllocateDuringUnwind;
 use framehop::x86_64::UnwinderX86_64;
 use framehop_processes::ModuleMaker;
+use framehop_recording::error::RecordingError;
 use std::alloc::Global;
 use std::io::Write;
 
@@ -41,6 +50,10 @@ fn unwind_all<U: Sampled, M: ModuleMaker<U>, W: Write, E: Write>(
 where
     U::Cache: Drop,
     U::Module: Drop,
+    ensures printed { OnOk result ((texts : List (List ℕ))
+        × Each (IsTextOf (M.module_of maker.now) U.step_by U.starts options.frames options.limit files.now (map attribute_view recording.now.events.attributes.items))
+        (samples_from files.now beginning (records_in recording.now.records.items)) texts
+        × IsPrinted options.frames texts (W.contents out.old) (W.contents out.new)) }
 {
     let mut run: Run<U> = Run::new(alloc)?;
     let ended = run.take_records(alloc, recording, files, maker, options, out);
@@ -61,36 +74,51 @@ fn write_problems<E: Write>(err: &mut E, files: &Files) -> Result<(), StacksErro
     Ok(())
 }
 
-/// Writes the stacks of a recording to `out`, and to `err` what was counted and which files were not read.
-///
-/// Where the records end by one that is refused, those before it are written first.
-///
-/// # Errors
-///
-/// `Recording` with the first refusal of the recording, `OutOfMemory`, `GenerationsExhausted` and `CannotWrite`.
-pub fn write_stacks<S: FileSource, W: Write, E: Write>(
+/// Unwinds all samples of a recording by the unwinder of its architecture.
+fn unwind_recording<W: Write, E: Write>(
     alloc: Global,
-    file: &[u8],
-    source: &mut S,
+    recording: &Recording<'_>,
+    files: &Files,
     options: Options,
     out: &mut W,
     err: &mut E,
-) -> Result<(), StacksError> {
+) -> Result<(), StacksError>
+    ensures { OnOk result (IsPrintedOf recording.now files.now options.frames options.limit (W.contents out.old) (W.contents out.new)) }
+{
+    let maker = FileModules { files };
+    if is_aarch64(&recording.events) {
+        unwind_all::<UnwinderAarch64<Vec<u8>, MayAllocateDuringUnwind>, FileModules<'_>, W, E>(
+            alloc, recording, files, &maker, options, out, err,
+        )?;
+        return Ok(());
+    }
+    unwind_all::<UnwinderX86_64<Vec<u8>, MayAllocateDuringUnwind>, FileModules<'_>, W, E>(
+        alloc, recording, files, &maker, options, out, err,
+    )?;
+    Ok(())
+}
+
+/// Writes the stacks of a recording to `out`, and to `err` what was counted and which files were not read. Returns
+/// the refusal of the record with which the recording ends, if one is refused: the samples before it are written.
+///
+/// # Errors
+///
+/// `Recording` with the first refusal of the header, of the events, or of a record that is no sample, `OutOfMemory`,
+/// `GenerationsExhausted` and `CannotWrite`.
+pub fn write_stacks<S: FileSource, W: Write, E: Write>(
+    alloc: Global,
+    file: &[u8],
+    source: &S,
+    options: Options,
+    out: &mut W,
+    err: &mut E,
+) -> Result<Option<RecordingError>, StacksError>
+    ensures printed { IfOk result (λ refusal. (recording : Recording) × IsReadOf file.now recording × (refusal ≡ recording.refusal)
+        × ((files : Files) × IsPrintedOf recording files options.frames options.limit (W.contents out.old) (W.contents out.new))) }
+{
     let recording = read_recording(alloc, file)?;
     let files = read_files(alloc, &recording, source)?;
     write_problems(err, &files)?;
-    let maker = FileModules { files: &files };
-    if is_aarch64(&recording.events) {
-        unwind_all::<UnwinderAarch64<Vec<u8>, MayAllocateDuringUnwind>, FileModules<'_>, W, E>(
-            alloc, &recording, &files, &maker, options, out, err,
-        )?;
-    } else {
-        unwind_all::<UnwinderX86_64<Vec<u8>, MayAllocateDuringUnwind>, FileModules<'_>, W, E>(
-            alloc, &recording, &files, &maker, options, out, err,
-        )?;
-    }
-    match recording.refusal {
-        Some(refusal) => Err(StacksError::Recording(refusal)),
-        None => Ok(()),
-    }
+    unwind_recording(alloc, &recording, &files, options, out, err)?;
+    Ok(recording.refusal)
 }

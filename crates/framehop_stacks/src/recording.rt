@@ -1,8 +1,20 @@
 //! What is read of a recording before its samples are unwound.
+ghost use Rattle.std.specs.Prelude.{◌≡◌, ◌^◌, ◌⊎◌, Ok, Err, IfOk, IfErr, MatchResult, map};
+ghost use Rattle.std.specs.List.{list_any};
+ghost use Rattle.framehop_recording.specs.Attributes.{attribute_view};
+ghost use Rattle.framehop_recording.specs.Bytes.{has_bit};
+ghost use Rattle.framehop_recording.specs.Numbers.{PERF_REG_ARM64_PC};
+ghost use Rattle.framehop_recording.specs.Records.{record_view};
+ghost use Rattle.framehop_recording.specs.Sample.{sample_view};
+ghost use Rattle.framehop_recording.specs.declared.error.RecordingError.{RecordingError};
+ghost use Rattle.framehop_stacks.specs.Recording.{sample_in, are_of_aarch64, events_in, IsReadOf};
+ghost use Rattle.framehop_stacks.specs.Refusal.{of_recording};
+ghost use Rattle.framehop_stacks.specs.declared.error.StacksError.{StacksError};
 
 use crate::changes::code_mapping;
 use crate::error::StacksError;
 use crate::files::{FileSource, Files};
+use framehop_recording::attributes::Attribute;
 use framehop_recording::build_ids::{FileBuildId, read_build_ids};
 use framehop_recording::error::RecordingError;
 use framehop_recording::events::{Events, read_events};
@@ -31,7 +43,16 @@ pub struct Recording<'a> {
 }
 
 /// Reads a recording. Build ids that can't be read count as absent.
-pub fn read_recording<'a>(alloc: Global, file: &'a [u8]) -> Result<Recording<'a>, StacksError> {
+///
+/// # Errors
+///
+/// `Recording` with the first refusal of the header or of the events, and `OutOfMemory`. What refuses a record
+/// is in the field `refusal`.
+pub fn read_recording<'a>(alloc: Global, file: &'a [u8]) -> Result<Recording<'a>, StacksError>
+    ensures exact { IfOk result (λ recording. IsReadOf file.entry.now recording) }
+    ensures refused { IfErr result (λ error. (error ≡ StacksError.OutOfMemory)
+        ⊎ ((refusal : RecordingError) × (events_in file.entry.now ≡ Err refusal) × (error ≡ of_recording refusal))) }
+{
     let header = read_header(file)?;
     let events = read_events(alloc, file, &header)?;
     let read = read_records(alloc, file, header.records)?;
@@ -63,7 +84,7 @@ fn build_id_of<'a>(build_ids: &[FileBuildId<'a>], name: &[u8]) -> &'a [u8] {
 pub fn read_files<S: FileSource>(
     alloc: Global,
     recording: &Recording<'_>,
-    source: &mut S,
+    source: &S,
 ) -> Result<Files, StacksError> {
     let mut files = Files::new(alloc)?;
     for timed in &recording.records {
@@ -84,10 +105,15 @@ pub fn read_files<S: FileSource>(
 /// # Errors
 ///
 /// `NoThread` also where the record is of no event that is known, and those of [`read_sample`].
+#[tactic(auto, unfolding(crate::specs::Recording::sample_in))]
 pub fn sample_of<'a>(
     events: &Events<'_>,
     record: Record<'a>,
-) -> Result<(Sample<'a>, u64), RecordingError> {
+) -> Result<(Sample<'a>, u64), RecordingError>
+    ensures exact { MatchResult result
+        (λ read. sample_in (map attribute_view events.now.attributes.items) (record_view «record».entry) ≡ Ok (sample_view read.0, read.1))
+        (λ error. sample_in (map attribute_view events.now.attributes.items) (record_view «record».entry) ≡ Err error) }
+{
     let unknown = RecordingError::NoThread {
         offset: record.offset,
     };
@@ -101,12 +127,23 @@ pub fn sample_of<'a>(
     Ok((sample, attribute.sample_regs_user))
 }
 
+/// Returns whether the samples of an event have the program counter of aarch64.
+fn has_aarch64_pc(attribute: &Attribute<'_>) -> bool
+    ensures { result ≡ has_bit attribute.now.sample_regs_user (2 ^ PERF_REG_ARM64_PC) }
+{
+    attribute.sample_regs_user & AARCH64_PC != 0
+}
+
+/// Returns whether the samples of one of these events have it.
+fn have_aarch64_pc(attributes: &[Attribute<'_>]) -> bool
+    ensures { result ≡ list_any (λ a. has_bit a.sample_regs_user (2 ^ PERF_REG_ARM64_PC)) attributes.now }
+{
+    attributes.iter().any(|attribute| has_aarch64_pc(attribute))
+}
+
 /// Returns whether the samples are of aarch64: where an event records the program counter at its place.
-pub fn is_aarch64(events: &Events<'_>) -> bool {
-    for attribute in &events.attributes {
-        if attribute.sample_regs_user & AARCH64_PC != 0 {
-            return true;
-        }
-    }
-    false
+pub fn is_aarch64(events: &Events<'_>) -> bool
+    ensures { result ≡ are_of_aarch64 (map attribute_view events.now.attributes.items) }
+{
+    have_aarch64_pc(events.attributes.as_slice())
 }

@@ -1,16 +1,22 @@
 //! The records of a recording one after another: its processes, and the stacks of its samples.
-ghost use Rattle.std.specs.Prelude.{◌≡◌, IfOk, OnOk, IsSome, Bool, false, map, count_by};
+ghost use Rattle.std.specs.Prelude.{ℕ, ◌≡◌, ◌≢◌, [], None, IfOk, OnOk, Ok, IsSome, Bool, List, map, count_by};
 ghost use Rattle.std.specs.BTreeMap.{get};
 ghost use Rattle.std.specs.Ordering.{nat_cmp};
-ghost use Rattle.framehop_core.specs.CodeAddress.{location_of};
 ghost use Rattle.framehop.specs.Modules.{ModuleView};
-ghost use Rattle.framehop.specs.SessionView.{end_of};
 ghost use Rattle.framehop_processes.specs.Mappings.{IsInOrder};
 ghost use Rattle.framehop_processes.specs.declared.mapping.Mapping.{Mapping};
-ghost use Rattle.framehop_stacks.specs.Counts.{CountsOneMore};
-ghost use Rattle.framehop_stacks.specs.Line.{frame_label, line_of, refused_line};
-ghost use Rattle.framehop_stacks.specs.Processes.{IsServed};
+ghost use Rattle.framehop_recording.specs.Attributes.{attribute_view};
+ghost use Rattle.framehop_recording.specs.Numbers.{PERF_RECORD_SAMPLE};
+ghost use Rattle.framehop_recording.specs.Records.{record_view};
+ghost use Rattle.framehop_recording.specs.Sample.{user_view, sample_view};
+ghost use Rattle.framehop_stacks.specs.Names.{named_in};
+ghost use Rattle.framehop_stacks.specs.Processes.{mapped_in, IsServed};
+ghost use Rattle.framehop_stacks.specs.Recording.{sample_in, records_in};
 ghost use Rattle.framehop_stacks.specs.Run.{AreCounted, MayCount, CountsMore, is_sample, samples_in_kind, sample_refusal};
+ghost use Rattle.framehop_stacks.specs.Samples.{State, StackView, beginning, state_in, state_after, state_over, Agrees, samples_from, no_stack, stack_text, IsUserStack, IsTextAt, IsTextOf, Each, IsTaken, AreTaken};
+ghost use Rattle.framehop_stacks.specs.Stack.{stack_view};
+ghost use Rattle.framehop_stacks.specs.Tally.{entry_of, text_of};
+ghost use Rattle.framehop_stacks.specs.declared.files.Files.{Files};
 
 use crate::changes::change_of;
 use crate::counts::Counts;
@@ -85,8 +91,9 @@ fn take_stack<W: Write>(
     requires ordered { IsInOrder 0 mappings.now }
     requires room { MayCount options.frames counts.old }
     ensures counted { OnOk result (CountsMore options.frames 1 counts.old counts.new) }
-    ensures line { OnOk result (options.frames ≡ false → CountsOneMore counts.old.lines counts.new.lines
-        (line_of name.now (end_of stack.now.end) (frame_label files.now mappings.now) (map location_of stack.now.frames.items))) }
+    ensures taken { OnOk result (IsTaken options.frames
+        (stack_text options.frames files.now name.now head.now mappings.now (stack_view stack.now))
+        counts.old.lines counts.new.lines (W.contents out.old) (W.contents out.new)) }
 {
     counts.add_sample(alloc, end_name(stack.end).as_bytes())?;
     if options.frames {
@@ -112,8 +119,9 @@ fn take_refused<W: Write>(
 ) -> Result<(), StacksError>
     requires { MayCount options.frames counts.old }
     ensures counted { OnOk result (CountsMore options.frames 1 counts.old counts.new) }
-    ensures line { OnOk result (options.frames ≡ false
-        → CountsOneMore counts.old.lines counts.new.lines (refused_line name.now why.now)) }
+    ensures taken { OnOk result ((files : Files) (mappings : List Mapping) → IsTaken options.frames
+        (stack_text options.frames files name.now head.now mappings (no_stack why.now))
+        counts.old.lines counts.new.lines (W.contents out.old) (W.contents out.new)) }
 {
     counts.add_sample(alloc, why.as_bytes())?;
     if options.frames {
@@ -137,6 +145,9 @@ where
         ensures served { IfOk result (λ run. (module_of : Mapping → ModuleView)
             → IsServed module_of (λ view. U.is_sound view run.cache) run.processes.by_pid run.processes.generations) }
         ensures none { IfOk result (λ run. (frames : Bool) → AreCounted frames 0 run.counts) }
+        ensures begun { IfOk result (λ run. Agrees run.names run.processes.by_pid beginning) }
+        ensures uncounted { IfOk result (λ run. (line : List ℕ) → entry_of run.counts.lines line ≡ None) }
+        ensures unwritten { IfOk result (λ run. text_of run.counts.lines ≡ []) }
     {
         Ok(Run {
             processes: Processes::new(alloc),
@@ -169,6 +180,13 @@ where
             → IsServed module_of (λ view. U.is_sound view self.old.cache) self.old.processes.by_pid self.old.processes.generations
             → IsServed module_of (λ view. U.is_sound view self.new.cache) self.new.processes.by_pid self.new.processes.generations) }
         ensures counted { OnOk result (CountsMore options.frames 1 self.old.counts self.new.counts) }
+        ensures processes { self.new.processes ≡ self.old.processes }
+        ensures names { self.new.names ≡ self.old.names }
+        ensures told { OnOk result ((module_of : Mapping → ModuleView)
+            → IsServed module_of (λ view. U.is_sound view self.old.cache) self.old.processes.by_pid self.old.processes.generations
+            → (stack : StackView) × IsUserStack U.step_by U.starts options.limit (map module_of (mapped_in self.old.processes.by_pid sample.entry.pid)) mask (Ok (user_view user.entry)) stack
+            × IsTaken options.frames (stack_text options.frames files.now (named_in self.old.names sample.entry.tid) head.now (mapped_in self.old.processes.by_pid sample.entry.pid) stack)
+            self.old.counts.lines self.new.counts.lines (W.contents out.old) (W.contents out.new)) }
     {
         let unwinder = self.processes.known(sample.pid).unwinder();
         let walked = walk_sample(alloc, unwinder, &mut self.cache, mask, user, options.limit)?;
@@ -216,6 +234,12 @@ where
             → IsServed module_of (λ view. U.is_sound view self.old.cache) self.old.processes.by_pid self.old.processes.generations
             → IsServed module_of (λ view. U.is_sound view self.new.cache) self.new.processes.by_pid self.new.processes.generations) }
         ensures counted { OnOk result (CountsMore options.frames 1 self.old.counts self.new.counts) }
+        ensures names { self.new.names ≡ self.old.names }
+        ensures mapped { OnOk result ((pid : ℕ) → mapped_in self.new.processes.by_pid pid ≡ mapped_in self.old.processes.by_pid pid) }
+        ensures told { OnOk result ((module_of : Mapping → ModuleView)
+            → IsServed module_of (λ view. U.is_sound view self.old.cache) self.old.processes.by_pid self.old.processes.generations
+            → (text : List ℕ) × IsTextAt module_of U.step_by U.starts options.frames options.limit files.now (state_in self.old.names self.old.processes.by_pid) (Ok (sample_view sample.entry, mask)) text
+            × IsTaken options.frames text self.old.counts.lines self.new.counts.lines (W.contents out.old) (W.contents out.new)) }
     {
         let name = self.names.get(sample.tid);
         let head = block_head(alloc, name, sample.pid, sample.tid, sample.time)?;
@@ -264,6 +288,12 @@ where
             → IsServed module_of (λ view. U.is_sound view self.old.cache) self.old.processes.by_pid self.old.processes.generations
             → IsServed module_of (λ view. U.is_sound view self.new.cache) self.new.processes.by_pid self.new.processes.generations) }
         ensures counted { OnOk result (CountsMore options.frames 1 self.old.counts self.new.counts) }
+        ensures names { self.new.names ≡ self.old.names }
+        ensures mapped { OnOk result ((pid : ℕ) → mapped_in self.new.processes.by_pid pid ≡ mapped_in self.old.processes.by_pid pid) }
+        ensures told { OnOk result ((module_of : Mapping → ModuleView)
+            → IsServed module_of (λ view. U.is_sound view self.old.cache) self.old.processes.by_pid self.old.processes.generations
+            → (text : List ℕ) × IsTextAt module_of U.step_by U.starts options.frames options.limit files.now (state_in self.old.names self.old.processes.by_pid) (sample_in (map attribute_view events.now.attributes.items) (record_view «record».entry)) text
+            × IsTaken options.frames text self.old.counts.lines self.new.counts.lines (W.contents out.old) (W.contents out.new)) }
     {
         match sample_of(events, record) {
             Ok((sample, mask)) => self.take_sample(alloc, files, sample, mask, options, out)?,
@@ -286,7 +316,9 @@ where
     /// Counts what a record says that the kernel lost.
     fn lose(&mut self, record: Record<'_>) -> Result<(), StacksError>
         ensures processes { self.new.processes ≡ self.old.processes }
+        ensures names { self.new.names ≡ self.old.names }
         ensures cache { self.new.cache ≡ self.old.cache }
+        ensures lines { self.new.counts.lines ≡ self.old.counts.lines }
         ensures counted { OnOk result ((frames : Bool) → CountsMore frames 0 self.old.counts self.new.counts) }
     {
         let lost = read_lost(record)?;
@@ -314,6 +346,13 @@ where
         requires room { MayCount options.frames self.old.counts }
         ensures served { OnOk result (IsServed (M.module_of maker.now) (λ view. U.is_sound view self.new.cache) self.new.processes.by_pid self.new.processes.generations) }
         ensures counted { OnOk result (CountsMore options.frames (samples_in_kind «record».entry.kind) self.old.counts self.new.counts) }
+        ensures state { OnOk result (Agrees self.new.names self.new.processes.by_pid
+            (state_after files.now (record_view «record».entry) (state_in self.old.names self.old.processes.by_pid))) }
+        ensures sample { «record».entry.kind ≡ PERF_RECORD_SAMPLE → OnOk result ((text : List ℕ)
+            × IsTextOf (M.module_of maker.now) U.step_by U.starts options.frames options.limit files.now (map attribute_view events.now.attributes.items)
+            (record_view «record».entry, state_in self.old.names self.old.processes.by_pid) text
+            × IsTaken options.frames text self.old.counts.lines self.new.counts.lines (W.contents out.old) (W.contents out.new)) }
+        ensures other { «record».entry.kind ≢ PERF_RECORD_SAMPLE → (self.new.counts.lines ≡ self.old.counts.lines) × (out.new ≡ out.old) }
     {
         if record.kind == SAMPLE {
             self.take_sample_record(alloc, events, files, record, options, out)?;
@@ -344,6 +383,12 @@ where
         requires none { AreCounted options.frames 0 self.old.counts }
         ensures served { OnOk result (IsServed (M.module_of maker.now) (λ view. U.is_sound view self.new.cache) self.new.processes.by_pid self.new.processes.generations) }
         ensures counted { OnOk result (AreCounted options.frames (count_by is_sample recording.now.records.items) self.new.counts) }
+        ensures state { (state : State) → Agrees self.old.names self.old.processes.by_pid state → OnOk result
+            (Agrees self.new.names self.new.processes.by_pid (state_over files.now (records_in recording.now.records.items) state)) }
+        ensures told { (state : State) → Agrees self.old.names self.old.processes.by_pid state → OnOk result ((texts : List (List ℕ))
+            × Each (IsTextOf (M.module_of maker.now) U.step_by U.starts options.frames options.limit files.now (map attribute_view recording.now.events.attributes.items))
+            (samples_from files.now state (records_in recording.now.records.items)) texts
+            × AreTaken options.frames texts self.old.counts.lines self.new.counts.lines (W.contents out.old) (W.contents out.new)) }
     {
         for timed in &recording.records {
             self.take_record(

@@ -1,12 +1,12 @@
 //! The walk of a sample.
-ghost use Rattle.std.specs.Prelude.{◌≡◌, Some, None, IfOk, MatchOption};
+ghost use Rattle.std.specs.Prelude.{◌≡◌, Ok, IfOk};
+ghost use Rattle.framehop.specs.Memory.{reply};
 ghost use Rattle.framehop.specs.Modules.{UnwinderView};
 ghost use Rattle.framehop.specs.Soundness.{AreApart};
-ghost use Rattle.framehop.specs.Walk.{walk_from};
-ghost use Rattle.framehop_stacks.specs.Stack.{IsStackOf};
-ghost use Rattle.framehop_stacks.specs.declared.machine.Start.{Start};
-ghost use Rattle.framehop.specs.Memory.{reply};
 ghost use Rattle.framehop.specs.StackBytes.{memory_of_bytes};
+ghost use Rattle.framehop_recording.specs.Sample.{user_view};
+ghost use Rattle.framehop_stacks.specs.Samples.{IsUserStack};
+ghost use Rattle.framehop_stacks.specs.Stack.{option_stack_view};
 
 use crate::error::StacksError;
 use crate::machine::Sampled;
@@ -34,10 +34,8 @@ pub fn walk_sample<U: Sampled>(
 ) -> Result<Option<Stack>, StacksError>
     ensures stays_sound { (other : UnwinderView) → AreApart (U.unwinder_view unwinder.now) other
         → U.is_sound other cache.old → U.is_sound other cache.new }
-    ensures walked { U.is_sound (U.unwinder_view unwinder.now) cache.old → IfOk result (λ walked. MatchOption walked
-        (U.starts unwinder.now mask user.entry.registers.now None)
-        (λ stack. (start : Start U.UnwindRegs) × U.starts unwinder.now mask user.entry.registers.now (Some start)
-        × IsStackOf (walk_from (λ location before. U.step unwinder.now location before (memory_of_bytes start.sp user.entry.stack.now)) limit start.pc start.regs) stack)) }
+    ensures walked { U.is_sound (U.unwinder_view unwinder.now) cache.old → IfOk result (λ walked.
+        IsUserStack U.step_by U.starts limit (U.unwinder_view unwinder.now).modules mask (Ok (user_view user.entry)) (option_stack_view walked)) }
 {
     let Some(start) = unwinder.start(mask, user.registers) else {
         return Ok(None);

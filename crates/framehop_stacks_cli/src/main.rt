@@ -55,14 +55,19 @@ fn debug_path(alloc: Global, debug_dir: &str, build_id: &[u8]) -> Result<String,
 }
 
 impl FileSource for Disk<'_> {
-    fn read_file(&mut self, name: &[u8]) -> Option<Vec<u8>> {
+    // what a disk gives is not known
+    ghost gives = { λ disk name given. Unit {0} };
+
+    ghost gives_debug = { λ disk build_id given. Unit {0} };
+
+    fn read_file(&self, name: &[u8]) -> Option<Vec<u8>> {
         let name = std::str::from_utf8(name).ok()?;
         let root = self.root;
         let path = format!(in self.rt.alloc(); "{root}{name}").ok()?;
         read_regular(self.rt, path.as_str())
     }
 
-    fn read_debug_file(&mut self, build_id: &[u8]) -> Option<Vec<u8>> {
+    fn read_debug_file(&self, build_id: &[u8]) -> Option<Vec<u8>> {
         let path = debug_path(self.rt.alloc(), self.debug_dir, build_id).ok()?;
         read_regular(self.rt, path.as_str())
     }
@@ -153,14 +158,14 @@ fn run(rt: &HostRuntime) -> Result<u8> {
     };
     let root = matches.get_str("root").unwrap_or("");
     let debug_dir = matches.get_str("debug-dir").unwrap_or("/usr/lib/debug");
-    let mut disk = Disk {
+    let disk = Disk {
         rt,
         root,
         debug_dir,
     };
     let mut status = 0;
     for path in matches.get_strs("file").unwrap_or(&[]) {
-        status = status.max(print_stacks(rt, path, &mut disk, options)?);
+        status = status.max(print_stacks(rt, path, &disk, options)?);
     }
     Ok(status)
 }
@@ -172,7 +177,7 @@ fn usage(rt: &HostRuntime, error: &clap::Error) -> Result<u8> {
 }
 
 /// Prints the stacks of a recording, which must be a regular file.
-fn print_stacks(rt: &HostRuntime, path: &str, disk: &mut Disk<'_>, options: Options) -> Result<u8> {
+fn print_stacks(rt: &HostRuntime, path: &str, disk: &Disk<'_>, options: Options) -> Result<u8> {
     let is_file = match fs::metadata(rt, path) {
         Ok(metadata) => metadata.is_file(),
         Err(error) => {
@@ -198,7 +203,7 @@ fn print_stacks_of(
     rt: &HostRuntime,
     path: &str,
     bytes: &[u8],
-    disk: &mut Disk<'_>,
+    disk: &Disk<'_>,
     options: Options,
 ) -> Result<u8> {
     let mut out = BufWriter::new(rt.alloc(), io::writer(rt))?;
@@ -206,7 +211,8 @@ fn print_stacks_of(
     let written = write_stacks(rt.alloc(), bytes, disk, options, &mut out, &mut err);
     io::Write::flush(&mut out)?;
     match written {
-        Ok(()) => Ok(0),
+        Ok(None) => Ok(0),
+        Ok(Some(refusal)) => refuse(rt, path, StacksError::Recording(refusal)),
         Err(error) => refuse(rt, path, error),
     }
 }

@@ -1,0 +1,89 @@
+-- Texts that are taken one after another.
+use Rattle.std.proofs.Common.{◌≡◌, ◌≢◌, ℕ, zero, suc, ◌+◌, Bool, true, false, nat_eq, List, [], ◌∷◌, ◌++◌, Option, Some, None, Result, Ok, Err, OnOk, cond, refl, ap, sym, ◌∙◌, subst, append_assoc, append-nil, arith}
+use Rattle.std.specs.Prelude.{unwrap_or}
+use Rattle.std.specs.Cmp.Lexicographic.{pointwise, same_text, other_text}
+use Rattle.std.specs.Io.KnownBytes.{Appends}
+use Rattle.std.specs.List.{flat_map}
+use Rattle.std.proofs.lemmas.List.{flat_map_more}
+use Rattle.std.proofs.lemmas.List.Sums.{sum_by_push}
+use Rattle.framehop_stacks.proofs.TallyLemmas.{Appends-twice}
+use Rattle.framehop_stacks.specs.Counts.{CountsOneMore}
+use Rattle.framehop_stacks.specs.Samples.{Each, occurrences, more, IsTaken, AreTaken, IsPrinted}
+use Rattle.framehop_stacks.specs.Tally.{entry_of, count_of, text_of, IsInOrderOfBytes}
+use Rattle.framehop_stacks.specs.declared.tally.Tally.{Tally}
+
+-- one more of each list
+pub Each-more : {A B : Type 0} (R : A → B → Type 0) (xs : List A) (ys : List B) (a : A) (b : B) → Each R xs ys → R a b
+    → Each R (xs ++ a ∷ []) (ys ++ b ∷ [])
+Each-more R [] [] a b each last = (last, tt)
+Each-more R [] (y ∷ ys) a b each last = absurd each
+Each-more R (x ∷ xs) [] a b each last = absurd each
+Each-more R (x ∷ xs) (y ∷ ys) a b each last = (each.0, Each-more R xs ys a b each.1 last)
+
+occurrences-more : (line : List ℕ) (texts : List (List ℕ)) (text : List ℕ) (b : Bool) → b ≡ pointwise nat_eq line text
+    → occurrences line (texts ++ text ∷ []) ≡ occurrences line texts + cond b 1 0
+occurrences-more line texts text b e =
+    sum_by_push (λ t. cond (pointwise nat_eq line t) 1 0) texts text
+    ∙ ap (λ c. occurrences line texts + cond c 1 0) (sym e)
+
+more-one : (entry : Option ℕ) (n : ℕ) → Some (unwrap_or (more entry n) 0 + 1) ≡ more entry (n + 1)
+more-one entry zero = refl
+more-one entry (suc n) =
+    let next : suc n + 1 ≡ suc (suc n) = omega arith in
+    let sum : unwrap_or entry 0 + suc n + 1 ≡ unwrap_or entry 0 + suc (suc n) = omega arith in
+    ap Some sum ∙ ap (more entry) (sym next)
+
+module _ (texts : List (List ℕ)) (text : List ℕ) (old mid new : Tally)
+    (before : (line : List ℕ) → entry_of mid line ≡ more (entry_of old line) (occurrences line texts))
+    (one : CountsOneMore mid new text) where
+  counted-by : (line : List ℕ) (b : Bool) → b ≡ pointwise nat_eq line text
+      → entry_of new line ≡ more (entry_of old line) (occurrences line texts + cond b 1 0)
+  counted-by line true e =
+      let same : line ≡ text = same_text line text e in
+      ap (entry_of new) same ∙ one.counted ∙ ap (λ l. Some (count_of mid l + 1)) (sym same)
+      ∙ ap (λ entry. Some (unwrap_or entry 0 + 1)) (before line) ∙ more-one (entry_of old line) (occurrences line texts)
+  counted-by line false e =
+      one.others line (other_text line text e) ∙ before line
+      ∙ ap (more (entry_of old line)) (omega arith)
+
+  pub counted-more : (line : List ℕ) → entry_of new line ≡ more (entry_of old line) (occurrences line (texts ++ text ∷ []))
+  counted-more line =
+      counted-by line (pointwise nat_eq line text) refl
+      ∙ ap (more (entry_of old line)) (sym (occurrences-more line texts text (pointwise nat_eq line text) refl))
+
+-- a text that is taken after others
+pub AreTaken-more : (frames : Bool) (texts : List (List ℕ)) (text : List ℕ) (old mid new : Tally) (first before after : Option (List ℕ))
+    → AreTaken frames texts old mid first before → IsTaken frames text mid new before after
+    → AreTaken frames (texts ++ text ∷ []) old new first after
+AreTaken-more true texts text old mid new first before after taken one = (
+  one.0 ∙ taken.0,
+  subst (λ bytes. Appends first after bytes) (flat_map_more (λ t. t) [] texts text)
+      (Appends-twice first before after (flat_map (λ t. t) texts) text taken.1 one.1),
+)
+AreTaken-more false texts text old mid new first before after taken one =
+    (counted-more texts text old mid new taken.0 one.0, one.1 ∙ taken.1)
+
+-- nothing that is taken
+pub AreTaken-none : (frames : Bool) (tally : Tally) (bytes : Option (List ℕ)) → AreTaken frames [] tally tally bytes bytes
+AreTaken-none true tally None = (refl, tt)
+AreTaken-none true tally (Some bytes) = (refl, sym (append-nil bytes))
+AreTaken-none false tally bytes = (λ line. refl, refl)
+
+-- what is written in the end
+pub printed : (frames : Bool) (texts : List (List ℕ)) (old new : Tally) (first before after : Option (List ℕ))
+    → AreTaken frames texts old new first before → ((line : List ℕ) → entry_of old line ≡ None) → text_of old ≡ []
+    → IsInOrderOfBytes new → Appends before after (text_of new) → IsPrinted frames texts first after
+printed true texts old new first before after taken none empty order written =
+    let blocks = flat_map (λ t. t) texts in
+    let nothing : Appends before after [] = subst (λ bytes. Appends before after bytes) (ap text_of taken.0 ∙ empty) written in
+    subst (λ bytes. Appends first after bytes) (append-nil blocks) (Appends-twice first before after blocks [] taken.1 nothing)
+printed false texts old new first before after taken none empty order written = (
+  new,
+  record { order = order; counted = λ line. taken.0 line ∙ ap (λ entry. more entry (occurrences line texts)) (none line) },
+  subst (λ bytes. Appends bytes after (text_of new)) taken.1 written,
+)
+
+-- what follows of a value that there is only where nothing was refused
+pub on_ok : {T E A B : Type 0} (result : Result T E) → (A → B) → OnOk result A → OnOk result B
+on_ok (Ok value) f told = f told
+on_ok (Err refusal) f told = told

@@ -1,0 +1,12 @@
+use Rattle.std.proofs.Common.{rules, ◌∙◌}
+use Rattle.framehop_stacks.proofs.TallyLemmas.{lookup-insert_other}
+use Rattle.framehop_stacks.proofs.files.Files.add.Goals as goal
+
+pub returns-clause-added : goal.returns-clause-added
+returns-clause-added g c = λ none. record {
+  file = (c.in_ok-file.file, search rules, c.in_ok-file.ensures);
+  number = search rules;
+  others = λ other ne.
+      let a = lookup-insert_other other c.in_ok-key.key c.in-Ok.number (λ same. ne (same ∙ c.in_ok-key.ensures.items)) c.args.self.now.numbers.entries in
+      search (rules, a);
+}

@@ -1,0 +1,33 @@
+-- What the program prints of a recording.
+use Rattle.std.specs.Prelude.{ℕ, Bool, true, false, List, map, Option}
+use Rattle.framehop.specs.Aarch64.{aarch64}
+use Rattle.framehop.specs.Fresh.{step}
+use Rattle.framehop.specs.Policy.{with_allocation}
+use Rattle.framehop.specs.X86_64.{x86_64}
+use Rattle.framehop_recording.specs.Attributes.{AttributeView, attribute_view}
+use Rattle.framehop_recording.specs.Records.{RecordView}
+use Rattle.framehop_stacks.specs.Files.{module_at}
+use Rattle.framehop_stacks.specs.Recording.{are_of_aarch64, records_in}
+use Rattle.framehop_stacks.specs.Samples.{State, beginning, samples_from, Each, IsTextOf, IsPrinted}
+use Rattle.framehop_stacks.specs.Start.{StartsX86_64, StartsAarch64}
+use Rattle.framehop_stacks.specs.declared.files.Files.{Files}
+use Rattle.framehop_stacks.specs.declared.recording.Recording.{Recording}
+
+-- a text is that of a sample of one of the two architectures, by the modules of the files
+abbrev pub IsTextIn : Bool → Bool → ℕ → Files → List AttributeView → RecordView × State → List ℕ → Type 0
+IsTextIn true frames limit files attributes =
+    IsTextOf (module_at files) (step (aarch64 with_allocation)) StartsAarch64 frames limit files attributes
+IsTextIn false frames limit files attributes =
+    IsTextOf (module_at files) (step (x86_64 with_allocation)) StartsX86_64 frames limit files attributes
+
+-- the texts of a recording's samples, each by the state that the records before it lead to
+abbrev pub AreTextsOf : Recording → Files → Bool → ℕ → List (List ℕ) → Type 0
+AreTextsOf recording files frames limit texts =
+    let attributes = map attribute_view recording.events.attributes.items in
+    Each (IsTextIn (are_of_aarch64 attributes) frames limit files attributes)
+    (samples_from files beginning (records_in recording.records.items)) texts
+
+-- they are printed
+abbrev pub IsPrintedOf : Recording → Files → Bool → ℕ → Option (List ℕ) → Option (List ℕ) → Type 0
+IsPrintedOf recording files frames limit before after =
+    (texts : List (List ℕ)) × AreTextsOf recording files frames limit texts × IsPrinted frames texts before after

@@ -1,0 +1,164 @@
+-- The samples of a recording one after another, and what is told of each: a block or a folded line.
+use Rattle.std.specs.Prelude.{◌≡◌, ℕ, zero, suc, ◌+◌, unwrap_or, Bool, true, false, nat_eq, List, [], ◌∷◌, ◌++◌, codes, map, count_by, Option, Some, None, Result, Ok, Err, ◌==◌, if◌then◌else◌}
+use Rattle.std.specs.BTreeMap.{BTreeMap}
+use Rattle.std.specs.Cmp.Lexicographic.{pointwise}
+use Rattle.std.specs.Io.KnownBytes.{Appends}
+use Rattle.std.specs.List.{flat_map}
+use Rattle.framehop_core.specs.CodeAddress.{FrameLocation}
+use Rattle.framehop_core.specs.Memory.{Memory}
+use Rattle.framehop_core.specs.Outcome.{Outcome}
+use Rattle.framehop.specs.Modules.{ModuleView}
+use Rattle.framehop.specs.StackBytes.{memory_of_bytes}
+use Rattle.framehop.specs.Walk.{End, walk_from}
+use Rattle.framehop_processes.specs.Process.{ProcessView}
+use Rattle.framehop_processes.specs.declared.mapping.Mapping.{Mapping}
+use Rattle.framehop_recording.specs.Attributes.{AttributeView}
+use Rattle.framehop_recording.specs.Numbers.{PERF_RECORD_SAMPLE}
+use Rattle.framehop_recording.specs.Records.{RecordView}
+use Rattle.framehop_recording.specs.Sample.{SampleView, UserView}
+use Rattle.framehop_recording.specs.declared.error.RecordingError.{RecordingError}
+use Rattle.framehop_stacks.specs.Changes.{change_in}
+use Rattle.framehop_stacks.specs.Counts.{CountsOneMore}
+use Rattle.framehop_stacks.specs.Line.{line_of, refused_line, frame_label, frame_line, block_of, last_line, head_of}
+use Rattle.framehop_stacks.specs.Names.{Named, named_in, named_after}
+use Rattle.framehop_stacks.specs.Processes.{Mapped, mapped_in, after}
+use Rattle.framehop_stacks.specs.Recording.{sample_in}
+use Rattle.framehop_stacks.specs.Run.{sample_refusal}
+use Rattle.framehop_stacks.specs.Tally.{entry_of, text_of, IsInOrderOfBytes}
+use Rattle.framehop_stacks.specs.declared.changes.Change.{Change}
+use Rattle.framehop_stacks.specs.declared.files.Files.{Files}
+use Rattle.framehop_stacks.specs.declared.machine.Start.{Start}
+use Rattle.framehop_stacks.specs.declared.names.Names.{Names}
+use Rattle.framehop_stacks.specs.declared.tally.Tally.{Tally}
+
+-- what the records before a place lead to: the names of threads, and the mappings of processes
+pub record State : Type 0 where
+  pub named : Named
+  pub mapped : Mapped
+
+-- before the first record
+abbrev pub beginning : State
+beginning = record { named = λ tid. codes "[unknown]"; mapped = λ pid. [] }
+
+-- the mappings after what a record changes
+abbrev pub mapped_by : Result (Option Change) RecordingError → Mapped → Mapped
+mapped_by (Ok (Some change)) mapped = after change mapped
+mapped_by (Ok None) mapped = mapped
+mapped_by (Err refusal) mapped = mapped
+
+abbrev pub state_after : Files → RecordView → State → State
+state_after files r state =
+    record { named = named_after r state.named; mapped = mapped_by (change_in files r) state.mapped }
+
+-- the state after records, one after another
+abbrev pub state_over : Files → List RecordView → State → State
+state_over files [] state = state
+state_over files (r ∷ records) state = state_over files records (state_after files r state)
+
+-- that of the names and the processes that there are
+abbrev pub state_in : Names → BTreeMap ℕ ProcessView → State
+state_in names processes = record { named = named_in names; mapped = mapped_in processes }
+
+-- they are those of a state
+pub record Agrees (names : Names) (processes : BTreeMap ℕ ProcessView) (state : State) : Type 0 where
+  pub named : (tid : ℕ) → named_in names tid ≡ state.named tid
+  pub mapped : (pid : ℕ) → mapped_in processes pid ≡ state.mapped pid
+
+-- each sample among records, with the state at it
+abbrev pub samples_from : Files → State → List RecordView → List (RecordView × State)
+samples_from files state [] = []
+samples_from files state (r ∷ records) =
+    if r.kind == PERF_RECORD_SAMPLE then (r, state) ∷ samples_from files (state_after files r state) records
+    else samples_from files (state_after files r state) records
+
+-- the stack of a sample: its frames and how its walk ended, or why there is none
+pub data StackView : Type 0 where
+  walked : List FrameLocation → End → StackView
+  no_stack : List ℕ → StackView
+
+module _ {Regs : Type 0} (step_by : List ModuleView → FrameLocation → Regs → Memory → Outcome Regs)
+    (starts : List ModuleView → ℕ → List ℕ → Option (Start Regs) → Type 0) (limit : ℕ) where
+  -- the walk over the bytes of a stack by the bytes of modules, from the registers with which it begins
+  abbrev pub stack_from : List ModuleView → List ℕ → Option (Start Regs) → StackView
+  stack_from modules bytes (Some start) =
+      let memory = memory_of_bytes start.sp bytes in
+      let walk = walk_from (λ location regs. step_by modules location regs memory) limit start.pc start.regs in
+      walked walk.frames walk.end
+  stack_from modules bytes None = no_stack (codes "no-registers")
+
+  -- the same of the user's side of a sample, if it can be read
+  abbrev pub IsUserStack : List ModuleView → ℕ → Result UserView RecordingError → StackView → Type 0
+  IsUserStack modules mask (Ok user) stack =
+      (start : Option (Start Regs)) × starts modules mask user.registers start × (stack ≡ stack_from modules user.stack start)
+  IsUserStack modules mask (Err refusal) stack = stack ≡ no_stack (sample_refusal refusal)
+
+  -- the same of a sample with the mask of its registers: its modules are those of its process's mappings
+  abbrev pub IsSampleStack : (Mapping → ModuleView) → Mapped → Result (SampleView × ℕ) RecordingError → StackView → Type 0
+  IsSampleStack module_of mapped (Ok sample) stack =
+      IsUserStack (map module_of (mapped sample.0.pid)) sample.1 sample.0.user stack
+  IsSampleStack module_of mapped (Err refusal) stack = stack ≡ no_stack (sample_refusal refusal)
+
+-- a sample's text: a block after its head, or else a folded line
+abbrev pub stack_text : Bool → Files → List ℕ → List ℕ → List Mapping → StackView → List ℕ
+stack_text true files name head mappings (walked frames end) = head ++ block_of end (frame_line files mappings) frames
+stack_text true files name head mappings (no_stack why) = head ++ last_line why
+stack_text false files name head mappings (walked frames end) = line_of name end (frame_label files mappings) frames
+stack_text false files name head mappings (no_stack why) = refused_line name why
+
+-- by the name of its thread and the mappings of its process; the thread of a sample that can't be read is not known
+abbrev pub sample_text : Bool → Files → State → Result (SampleView × ℕ) RecordingError → StackView → List ℕ
+sample_text frames files state (Ok sample) stack =
+    let name = state.named sample.0.tid in
+    stack_text frames files name (head_of name sample.0.pid sample.0.tid sample.0.time) (state.mapped sample.0.pid) stack
+sample_text frames files state (Err refusal) stack =
+    stack_text frames files (codes "[unknown]") (codes "[unknown]:\n") [] stack
+
+module _ {Regs : Type 0} (module_of : Mapping → ModuleView)
+    (step_by : List ModuleView → FrameLocation → Regs → Memory → Outcome Regs)
+    (starts : List ModuleView → ℕ → List ℕ → Option (Start Regs) → Type 0) (frames : Bool) (limit : ℕ) (files : Files) where
+  -- a text is that of a sample at a state: of its stack, by the modules of its process
+  abbrev pub IsTextAt : State → Result (SampleView × ℕ) RecordingError → List ℕ → Type 0
+  IsTextAt state sample text =
+      (stack : StackView) × IsSampleStack step_by starts limit module_of state.mapped sample stack
+      × (text ≡ sample_text frames files state sample stack)
+
+  -- the same of a record of a recording with these events
+  abbrev pub IsTextOf : List AttributeView → RecordView × State → List ℕ → Type 0
+  IsTextOf attributes at text = IsTextAt at.1 (sample_in attributes at.0) text
+
+-- the members of two lists belong together, one by one
+abbrev pub Each : {A B : Type 0} → (A → B → Type 0) → List A → List B → Type 0
+Each R [] [] = Unit {0}
+Each R [] (y ∷ ys) = ⊥
+Each R (x ∷ xs) [] = ⊥
+Each R (x ∷ xs) (y ∷ ys) = R x y × Each R xs ys
+
+-- how often a line is among others
+abbrev pub occurrences : List ℕ → List (List ℕ) → ℕ
+occurrences line texts = count_by (λ text. pointwise nat_eq line text) texts
+
+-- how often a line was counted, if it was, after so many times more
+abbrev pub more : Option ℕ → ℕ → Option ℕ
+more entry zero = entry
+more entry (suc n) = Some (unwrap_or entry 0 + suc n)
+
+-- a text is printed, if it is a block, or else counted
+abbrev pub IsTaken : Bool → List ℕ → Tally → Tally → Option (List ℕ) → Option (List ℕ) → Type 0
+IsTaken true text old new before after = (new ≡ old) × Appends before after text
+IsTaken false text old new before after = CountsOneMore old new text × (after ≡ before)
+
+-- the same of several texts
+abbrev pub AreTaken : Bool → List (List ℕ) → Tally → Tally → Option (List ℕ) → Option (List ℕ) → Type 0
+AreTaken true texts old new before after = (new ≡ old) × Appends before after (flat_map (λ text. text) texts)
+AreTaken false texts old new before after =
+    ((line : List ℕ) → entry_of new line ≡ more (entry_of old line) (occurrences line texts)) × (after ≡ before)
+
+-- each line among texts, once, in the order of their bytes, with how often it is there
+pub record AreFolded (texts : List (List ℕ)) (tally : Tally) : Type 0 where
+  pub order : IsInOrderOfBytes tally
+  pub counted : (line : List ℕ) → entry_of tally line ≡ more None (occurrences line texts)
+
+-- what is printed of texts: blocks one after another, or folded lines
+abbrev pub IsPrinted : Bool → List (List ℕ) → Option (List ℕ) → Option (List ℕ) → Type 0
+IsPrinted true texts before after = Appends before after (flat_map (λ text. text) texts)
+IsPrinted false texts before after = (tally : Tally) × AreFolded texts tally × Appends before after (text_of tally)

@@ -1,0 +1,43 @@
+#!/usr/bin/env bash
+# Runs the built framehop-stacks with arguments, which its stored run has few of: try-stacks.sh PROGRAM..
+#
+# PROGRAM is what `rt run` in crates/framehop_stacks_cli builds; one that is not there is passed over, but for the first. What is
+# printed is compared with files of tools/stacks, which come from `perf script --no-inline --ns --show-mmap-events -F
+# comm,pid,tid,time,ip,sym,symoff,dso --symfs .` by tools/stacks/from_perf.py. Status 0 where all is as it should be.
+set -u
+tools=$(dirname "$(realpath -- "${BASH_SOURCE[0]}")") || exit 2
+[ $# -ge 1 ] || { sed -n 2p "$0" >&2; exit 2; }
+[ -x "$1" ] || { echo "try-stacks.sh: there is no program $1" >&2; exit 2; }
+data=$tools/../crates/framehop_stacks_cli/data
+work=$(mktemp -d) || exit 1
+trap 'rm -rf "$work"' EXIT
+: >"$work/nothing"
+echo '[ShortFile]' >"$work/short"
+failed=0
+
+# Runs a program in the folder of the recordings, and compares its status and output: try STATUS OUTPUT ARGUMENT..
+try() {
+    local status=$1 wanted=$2 ended
+    shift 2
+    (cd "$data" && "$program" "$@" >"$work/out" 2>"$work/err")
+    ended=$?
+    [ "$ended" = "$status" ] && cmp -s "$work/out" "$wanted" && return
+    echo "$program $*: status $ended and not $status, or another output than $wanted; error output: $(cat "$work/err")" >&2
+    failed=1
+}
+
+for program in "$@"; do
+    [ -x "$program" ] || continue
+    program=$(realpath -- "$program")
+    try 0 "$tools/stacks/tiny.frames" --root . --frames tiny.data
+    try 0 "$tools/stacks/tiny.limit" --root . --limit 3 tiny.data
+    try 2 "$work/nothing"
+    try 2 "$work/nothing" --limit many tiny.data
+    try 1 "$work/nothing" missing.data
+    try 1 "$work/nothing" .
+    try 1 "$work/nothing" srv/tiny
+    try 1 "$work/nothing" "$work/short"
+    try 1 "$tools/stacks/tiny.limit" --root . --limit 3 missing.data tiny.data
+done
+[ "$failed" = 0 ] || exit 1
+echo "the runs of framehop-stacks with arguments are as they should be"
