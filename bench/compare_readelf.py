@@ -46,7 +46,8 @@ def readelf_rows(file):
                 start, end = (int(it, 16) for it in re.search(r"pc=([0-9a-f]+)\.\.([0-9a-f]+)", line).groups())
                 functions[offset] = (start, end, rows, int(entry[3], 16))
             continue
-        words = line.split()
+        # a register is written as its number and its name
+        words = re.sub(r"r\d+ \((\w+)\)", r"\1", line).split()
         if words[:2] == ["LOC", "CFA"]:
             columns = words[2:]
         elif rows is not None and words and re.fullmatch(r"[0-9a-f]{16}", words[0]):
