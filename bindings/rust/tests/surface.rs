@@ -149,6 +149,7 @@ fn walks_by_many_words() {
         let (mut again, mut found, mut called) = (start, [0; 200], 0);
         let read_words = |address: u64, words: &mut [u64]| {
             called += 1;
+            assert!((1..=64).contains(&words.len()));
             let rest = stack.get(address as usize / 8..).unwrap_or(&[]);
             let count = rest.len().min(words.len()).min(most);
             words[..count].copy_from_slice(&rest[..count]);
