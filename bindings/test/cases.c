@@ -396,6 +396,28 @@ struct memory memory = read_memory();                                           
 ARCHITECTURE(x86_64)
 ARCHITECTURE(aarch64)
 
+/* the texts of refusals are those of the original crate's errors */
+static void check_texts(void)
+{
+    static const struct {
+        int32_t status;
+        const char *text;
+    } texts[] = {
+        {-10, "Could not read stack memory"},
+        {-11, "Frame pointer unwinding moved backwards"},
+        {-12, "Neither the code address nor the stack pointer changed, would loop"},
+        {-13, "Unwinding caused integer overflow"},
+        {-14, "Return address is null"},
+        {-15, "Unknown status"},
+    };
+    size_t i;
+    for (i = 0; i < sizeof texts / sizeof *texts; i++)
+        if (strcmp(framehop_status_text(texts[i].status), texts[i].text)) {
+            fprintf(stderr, "the text of %d\n", (int)texts[i].status);
+            exit(3);
+        }
+}
+
 int main(int argc, char **argv)
 {
     bool is_x86_64 = strcmp(text(), "x86_64") == 0;
@@ -404,6 +426,7 @@ int main(int argc, char **argv)
     by_chunks = argc > 1 && strcmp(argv[1], "chunks") == 0;
     times = argc > 2 && strcmp(argv[1], "time") == 0 ? strtoull(argv[2], NULL, 10) : 0;
     by_callback = by_chunks || (argc > 1 && strcmp(argv[1], "callback") == 0);
+    check_texts();
     good(framehop_generations_new(&generations));
     if (is_x86_64)
         run_x86_64(may_allocate);

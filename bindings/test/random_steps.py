@@ -72,7 +72,8 @@ def round_of(case):
     modules = modules_of(case)
     addresses = code_addresses(case, modules)
     walks = [some_walk(case["arch"], addresses, modules) for _ in range(WALKS)]
-    return {"arch": case["arch"], "policy": "may", "caches": 1, "commands": [{"do": "new"}, *modules, *walks]}
+    policy = random.choice(["may", "must"])
+    return {"arch": case["arch"], "policy": policy, "caches": 1, "commands": [{"do": "new"}, *modules, *walks]}
 
 
 def replies(text):
@@ -98,7 +99,7 @@ def main():
             file.write_text(json.dumps(case))
             wanted = replies(subprocess.run([*original.split(), file], capture_output=True, text=True).stdout)
             for mode in ("callback", "window", "chunks"):
-                ran = subprocess.run([*program, mode], input=words_of(case, "may"), capture_output=True, text=True)
+                ran = subprocess.run([*program, mode], input=words_of(case, case["policy"]), capture_output=True, text=True)
                 found = replies(ran.stdout)
                 walks += WALKS
                 for command, (one, other) in enumerate(zip(wanted, found)):

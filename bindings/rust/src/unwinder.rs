@@ -235,7 +235,8 @@ macro_rules! unwinder {
                 Ok($cache { cache, words, recounted: CacheStats::default(), policy: PhantomData })
             }
 
-            /// Returns how many lookups hit and missed: one a frame.
+            /// Returns how many lookups hit and missed: one a frame, and one more for each time that `walk_with` has asked
+            /// for words.
             pub fn stats(&self) -> CacheStats {
                 counts(&self.cache).minus(&self.recounted)
             }

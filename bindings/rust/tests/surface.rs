@@ -139,16 +139,17 @@ fn walks_by_many_words_of_a_frame(unwinder: &UnwinderX86_64<Vec<u8>, MustNotAllo
 #[test]
 fn walks_by_many_words() {
     let stack = records();
-    let unwinder = UnwinderAarch64::<Vec<u8>>::new();
-    let mut cache = CacheAarch64::new();
-    let start = UnwindRegsAarch64::new(0x7fff, 16, 16);
+    let unwinder = UnwinderX86_64::<Vec<u8>>::new();
+    let mut cache = CacheX86_64::new();
+    let start = UnwindRegsX86_64::new(0x7fff, 16, 16);
     let (mut regs, mut frames) = (start, [0; 200]);
     let whole = unwinder.walk_into(0x7fff, &mut regs, &mut cache, 0, &stack, &mut frames);
     assert_eq!(whole.0, 101);
-    for (most, limit, calls) in [(1, 200, 202), (2, 200, 101), (5, 7, 3), (64, 200, 5), (64, 1, 0), (1, 0, 0)] {
+    for (most, limit, calls) in [(1, 200, 202), (2, 200, 101), (5, 7, 4), (64, 200, 4), (64, 1, 0), (1, 0, 0)] {
         let (mut again, mut found, mut called) = (start, [0; 200], 0);
         let read_words = |address: u64, words: &mut [u64]| {
             called += 1;
+            assert!((1..=64).contains(&words.len()));
             let rest = stack.get(address as usize / 8..).unwrap_or(&[]);
             let count = rest.len().min(words.len()).min(most);
             words[..count].copy_from_slice(&rest[..count]);

@@ -7,7 +7,7 @@ ghost use Rattle.framehop.specs.Modules.{UnwinderView};
 ghost use Rattle.framehop.specs.Soundness.{AreApart};
 ghost use Rattle.framehop_lent.specs.Window.{told_in, words_in, noted, unreadable_word};
 
-use crate::window::{Window, told};
+use crate::window::{Window, told, word_at};
 use framehop::{Error, FrameAddress, Unwinder};
 
 /// The address (AVMA), if there is one and no window tells of it.
@@ -32,6 +32,34 @@ fn unreadable(answer: Result<Option<u64>, Error>) -> Option<u64>
     }
 }
 
+/// What the windows tell of an address (AVMA). The first one of which they tell nothing is noted.
+#[inline(never)]
+fn look_up(windows: &[Window<'_>], first_missing: &mut Option<u64>, address: u64) -> Result<u64, ()>
+    ensures reads { result ≡ reply (words_in windows.now address) }
+    ensures notes { first_missing.new ≡ noted windows.now first_missing.old address }
+{
+    match told(windows, address) {
+        Some(word) => word,
+        None => {
+            *first_missing = first_missing.or(Some(address));
+            Err(())
+        }
+    }
+}
+
+/// The first word (AVMA) that was asked for and of which no window tells, if there is one.
+#[inline(never)]
+fn missing_word(
+    windows: &[Window<'_>],
+    first_missing: Option<u64>,
+    answer: Result<Option<u64>, Error>,
+) -> Option<u64>
+    ensures missing { IfSome result (λ asked. told_in windows.now asked ≡ None) }
+    ensures unreadable { result ≡ None → IfSome (unreadable_word answer) (λ address. told_in windows.now address ≢ None) }
+{
+    untold(windows, first_missing).or(untold(windows, unreadable(answer)))
+}
+
 /// Unwinds a single frame over the words of windows: [`Unwinder::unwind_frame`] with a callback that
 /// reads them, which can't read what no window has.
 ///
@@ -39,6 +67,7 @@ fn unreadable(answer: Result<Option<u64>, Error>) -> Option<u64>
 /// tells, if there is one. Who can read that word adds a window that has it, or an empty window
 /// where it can't be read, and calls again with the registers of before. Where no word is missing,
 /// a word that could not be read is one of which a window tells.
+#[inline(always)]
 pub fn step_over<U: Unwinder>(
     unwinder: &U,
     cache: &mut U::Cache,
@@ -66,15 +95,18 @@ pub fn step_over<U: Unwinder>(
         ensures reads { result ≡ reply (words_in windows.entry.now address) }
         ensures notes { first_missing.exit ≡ noted windows.entry.now first_missing.entry address }
     {
-        match told(windows, address) {
-            Some(word) => word,
-            None => {
-                first_missing = first_missing.or(Some(address));
-                Err(())
+        if let Some(window) = windows.first() {
+            // most words are in the first one, and are read at once
+            if let Ok(word) = word_at(window.base, window.words, address) {
+                return Ok(word);
             }
         }
+        look_up(windows, &mut first_missing, address)
     };
     let answer = unwinder.unwind_frame(address, regs, cache, &mut read_stack);
-    *missing = untold(windows, first_missing).or(untold(windows, unreadable(answer)));
+    *missing = match (first_missing, answer) {
+        (None, Ok(_)) => None,
+        _ => missing_word(windows, first_missing, answer),
+    };
     answer
 }

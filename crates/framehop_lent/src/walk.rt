@@ -104,6 +104,7 @@ pub fn walk_into<U: Unwinder>(
 
 /// The caller of a frame over the words of windows, or why there is none. The registers become the
 /// caller's; where a word is missing, they are as before.
+#[inline(always)]
 fn caller_over<U: Unwinder>(
     unwinder: &U,
     cache: &mut U::Cache,

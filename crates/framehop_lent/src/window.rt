@@ -49,7 +49,6 @@ impl Window<'_> {
 }
 
 /// What the first window that tells of an address (AVMA) tells of it, or `None` if none does.
-#[inline(always)]
 pub fn told(windows: &[Window<'_>], address: u64) -> Option<Result<u64, ()>>
     ensures { result ≡ option_map reply (told_in windows.now address) }
 {

@@ -3,8 +3,14 @@ use Rattle.framehop_core.proofs.Callback.{AnswersAs-kept}
 use Rattle.framehop_lent.specs.Window.{words_in}
 use Rattle.framehop_lent.proofs.step.step_over.Goals as goal
 
-pub returns-clause-answers : goal.returns-clause-answers
-returns-clause-answers g c = λ sound not_out.
+pub returns-in-None-Ok-clause-answers : goal.returns-in-None-Ok-clause-answers
+returns-in-None-Ok-clause-answers g c = λ sound not_out.
+    let memory = words_in c.args.windows.now in
+    let answers = AnswersAs-kept _ memory (λ f. f.0 ≡ c.args.windows) (λ f a r f' same call. search rules) _ refl in
+    (c.unwind_frame-answer.ensures.answers memory answers sound).1 not_out
+
+pub returns-in_default-clause-answers : goal.returns-in_default-clause-answers
+returns-in_default-clause-answers g c = λ sound not_out.
     let memory = words_in c.args.windows.now in
     let answers = AnswersAs-kept _ memory (λ f. f.0 ≡ c.args.windows) (λ f a r f' same call. search rules) _ refl in
     (c.unwind_frame-answer.ensures.answers memory answers sound).1 not_out
