@@ -233,7 +233,7 @@ def main():
     pinned = [] if asked.cpu is None else ["taskset", "-c", asked.cpu]
     build_ours()
     plain, opened, version = build_original()
-    bindings = build_bindings()
+    bindings = () if asked.only else build_bindings()
     here, there, loops = {}, {}, []
     with tempfile.TemporaryDirectory() as room:
         inputs = make_inputs(room, elf)
