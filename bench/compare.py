@@ -153,7 +153,7 @@ def told(text, lines):
             continue
         if at := re.search(r"([0-9.]+) ns/", rest):
             times[part] = float(at.group(1))
-        if at := re.search(r"([0-9]+) \w+s,.* sum ([0-9a-f]+)", rest):
+        if at := re.search(r"([0-9]+) \w+s(?:, [0-9]+ hits)?, sum ([0-9a-f]+)", rest):
             counts[part] = at.groups()
     return times, counts
 
