@@ -102,7 +102,10 @@ fn walks_on_up_to_a_missing_word(rt: HostRuntime) -> Result<(), Fail> {
     let stopped = walk_on(&unwinder, &mut cache, pc, &mut regs, &windows, &mut frames);
     assert_eq!(rt; stopped, (1, WalkStop::Missing(0x48)));
     assert_eq!(rt; frames, [0x1004fcdc4, 0, 0, 0]);
-    assert_eq!(rt; (regs.lr(), regs.sp(), regs.fp()), (0x1004fcdc4, 0x30, 0x40));
+    assert_eq!(rt;
+        (regs.lr(), regs.sp(), regs.fp()),
+        (0x1004fcdc4, 0x30, 0x40)
+    );
 
     // the other ones, from that caller on
     let caller = FrameAddress::from_return_address(0x1004fcdc4).ok_or("no caller")?;
@@ -110,9 +113,19 @@ fn walks_on_up_to_a_missing_word(rt: HostRuntime) -> Result<(), Fail> {
         base: 0,
         words: &STACK,
     }];
-    let stopped = walk_on(&unwinder, &mut cache, caller, &mut regs, &windows, &mut frames[1..]);
+    let stopped = walk_on(
+        &unwinder,
+        &mut cache,
+        caller,
+        &mut regs,
+        &windows,
+        &mut frames[1..],
+    );
     assert_eq!(rt; stopped, (1, WalkStop::Ended(WalkEnd::Root)));
     assert_eq!(rt; frames, [0x1004fcdc4, 0x100528a28, 0, 0]);
-    assert_eq!(rt; (regs.lr(), regs.sp(), regs.fp()), (0x100528a28, 0x50, 0x70));
+    assert_eq!(rt;
+        (regs.lr(), regs.sp(), regs.fp()),
+        (0x100528a28, 0x50, 0x70)
+    );
     Ok(())
 }
