@@ -31,6 +31,15 @@ elf_in files number = option_and_then (λ file. file.elf) (slice_get files.list.
 abbrev pub is_of_code : MappingView → Bool
 is_of_code m = m.is_executable && not (m.pid == 2 ^ 32 - 1)
 
+-- the mapping of a record, if it is one of a process's code
+abbrev pub code_of : Result MappingView RecordingError → Option MappingView
+code_of (Ok m) = if is_of_code m then Some m else None
+code_of (Err refusal) = None
+
+unfoldable pub code_mapping_in : RecordView → Option MappingView
+code_mapping_in r =
+    if r.kind == PERF_RECORD_MMAP || r.kind == PERF_RECORD_MMAP2 then code_of (mapping_at r) else None
+
 -- where a mapping ends, within 64 bits
 abbrev pub end_of_mapping : MappingView → ℕ
 end_of_mapping m = min (m.start + m.size) (2 ^ 64 - 1)

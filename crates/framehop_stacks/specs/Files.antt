@@ -1,10 +1,13 @@
 -- The files that processes map, and the modules of mappings.
-use Rattle.std.specs.Prelude.{◌≡◌, ◌≢◌, ℕ, nat_eq, List, [], ◌∷◌, ◌++◌, length, codes, Option, Some, None, Bool, true, false, not, ◌&&◌, if◌then◌else◌}
+use Rattle.std.specs.Prelude.{◌≡◌, ◌≢◌, ◌⊎◌, ℕ, nat_eq, unwrap_or, option_map, IsSome, List, [], ◌∷◌, ◌++◌, length, codes, Option, Some, None, Bool, true, false, not, ◌&&◌, if◌then◌else◌}
 use Rattle.std.specs.Cmp.Lexicographic.{pointwise}
-use Rattle.std.specs.List.{starts_with}
+use Rattle.std.specs.List.{find, starts_with}
+use Rattle.framehop_recording.specs.BuildIds.{FileBuildIdView}
+use Rattle.framehop_recording.specs.Mapping.{MappingView}
+use Rattle.framehop_recording.specs.Records.{RecordView}
 use Rattle.framehop.specs.Modules.{ModuleView}
 use Rattle.framehop_processes.specs.declared.mapping.Mapping.{Mapping}
-use Rattle.framehop_stacks.specs.Changes.{elf_in, number_in}
+use Rattle.framehop_stacks.specs.Changes.{elf_in, number_in, code_mapping_in}
 use Rattle.framehop_stacks.specs.ElfFiles.{Listed, problem_of, debug_tables_of, IsKeptOf}
 use Rattle.framehop_stacks.specs.declared.elf_file.ElfFile.{ElfFile}
 use Rattle.framehop_stacks.specs.declared.elf_file.FileProblem.{FileProblem}
@@ -44,6 +47,23 @@ abbrev pub debug_tables_in : List ℕ → Option (List ℕ) → List Listed
 debug_tables_in build_id None = []
 debug_tables_in build_id (Some bytes) = debug_tables_of build_id bytes
 
+-- the build id that a recording has of the file of a name: the first, or no bytes
+abbrev pub build_id_for : List FileBuildIdView → List ℕ → List ℕ
+build_id_for build_ids name =
+    unwrap_or (option_map (λ b. b.build_id) (find (λ b. pointwise nat_eq b.name name) build_ids)) []
+
+abbrev pub wanted_by : List FileBuildIdView → List ℕ → List ℕ → List ℕ
+wanted_by build_ids name [] = build_id_for build_ids name
+wanted_by build_ids name (byte ∷ bytes) = byte ∷ bytes
+
+abbrev pub wanted_for : List FileBuildIdView → MappingView → List ℕ
+wanted_for build_ids m = wanted_by build_ids m.name m.build_id
+
+-- there are no files, and the module without sections has no unwind data
+pub record IsWithoutFiles (files : Files) : Type 0 where
+  pub list : files.list.items ≡ []
+  pub numbers : (name : List ℕ) → number_in files name ≡ None
+
 module _ (gives gives_debug : List ℕ → Option (List ℕ) → Type 0) where
   -- the symbol tables of the debug file of a build id: none without one
   abbrev pub AreDebugTables : List ℕ → List Listed → Type 0
@@ -79,3 +99,24 @@ module _ (gives gives_debug : List ℕ → Option (List ℕ) → Type 0) where
     pub file : (file : RecordedFile) × (new.list.items ≡ old.list.items ++ file ∷ []) × IsFileOf name wanted file
     pub number : number_in new name ≡ Some (length old.list.items)
     pub others : (other : List ℕ) → other ≢ name → number_in new other ≡ number_in old other
+
+  -- a file is added, unless one has its name
+  abbrev pub IsAdded : List ℕ → List ℕ → Files → Files → Type 0
+  IsAdded name wanted old new =
+      (IsSome (number_in old name) × (new ≡ old)) ⊎ ((number_in old name ≡ None) × IsNext name wanted old new)
+
+  -- The files after a record: that of a mapping of code is added. The build id that is wanted of it is the mapping's, or
+  -- else the one that the recording has of its name.
+  abbrev pub IsAddedFor : List FileBuildIdView → Option MappingView → Files → Files → Type 0
+  IsAddedFor build_ids (Some m) old new = IsAdded m.name (wanted_for build_ids m) old new
+  IsAddedFor build_ids None old new = new ≡ old
+
+  -- the same of records, one after another
+  abbrev pub AreAdded : List FileBuildIdView → List RecordView → Files → Files → Type 0
+  AreAdded build_ids [] old new = new ≡ old
+  AreAdded build_ids (r ∷ records) old new =
+      (between : Files) × IsAddedFor build_ids (code_mapping_in r) old between × AreAdded build_ids records between new
+
+  -- the files whose code is mapped, each once
+  abbrev pub AreFilesOf : List FileBuildIdView → List RecordView → Files → Type 0
+  AreFilesOf build_ids records files = (none : Files) × IsWithoutFiles none × AreAdded build_ids records none files

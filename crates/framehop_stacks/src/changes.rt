@@ -1,8 +1,8 @@
 //! What the records of a recording change in its processes.
-ghost use Rattle.std.specs.Prelude.{◌≡◌};
+ghost use Rattle.std.specs.Prelude.{◌≡◌, option_map};
 ghost use Rattle.framehop_recording.specs.Mapping.{mapping_view};
 ghost use Rattle.framehop_recording.specs.Records.{record_view};
-ghost use Rattle.framehop_stacks.specs.Changes.{elf_in, is_of_code, base_in, mapping_based, maps_file, forks_process, change_in};
+ghost use Rattle.framehop_stacks.specs.Changes.{elf_in, is_of_code, base_in, mapping_based, code_mapping_in, maps_file, forks_process, change_in};
 
 use crate::files::Files;
 use framehop_processes::Mapping;
@@ -26,16 +26,21 @@ pub enum Change {
     Fork { pid: u32, parent: u32 },
 }
 
-/// Returns the mapping of a record, if it is one of a process's code.
-pub fn code_mapping<'a>(record: Record<'a>) -> Result<Option<RecordedMapping<'a>>, RecordingError> {
+/// Returns the mapping of a record, if it can be read and is one of a process's code.
+#[tactic(auto, unfolding(crate::specs::Changes::code_mapping_in))]
+pub fn code_mapping<'a>(record: Record<'a>) -> Option<RecordedMapping<'a>>
+    ensures { option_map (λ mapping. mapping_view mapping) result ≡ code_mapping_in (record_view «record».entry) }
+{
     if record.kind != MMAP && record.kind != MMAP2 {
-        return Ok(None);
+        return None;
     }
-    let mapping = read_mapping(record)?;
+    let Ok(mapping) = read_mapping(record) else {
+        return None;
+    };
     if is_of_code(&mapping) {
-        Ok(Some(mapping))
+        Some(mapping)
     } else {
-        Ok(None)
+        None
     }
 }
 

@@ -4,7 +4,7 @@ ghost use Rattle.framehop_elf.specs.UnwindSections.{bytes_in};
 ghost use Rattle.framehop_elf.specs.declared.error.ElfError.{ElfError};
 ghost use Rattle.framehop_stacks.specs.Changes.{number_in, elf_in};
 ghost use Rattle.framehop_stacks.specs.ElfFiles.{Listed, problem_of, IsKeptOf};
-ghost use Rattle.framehop_stacks.specs.Files.{module_at, placed_at, is_path, IsProblem, AreDebugTables, IsFileOf, IsNext};
+ghost use Rattle.framehop_stacks.specs.Files.{module_at, placed_at, is_path, IsProblem, AreDebugTables, IsFileOf, IsNext, IsAdded, IsWithoutFiles};
 ghost use Rattle.framehop_stacks.specs.declared.elf_file.FileProblem.{FileProblem};
 
 use crate::elf_file::{ElfFile, FileProblem};
@@ -129,7 +129,9 @@ fn load<S: FileSource>(
 
 impl Files {
     /// Returns no files.
-    pub fn new(alloc: Global) -> Result<Self, StacksError> {
+    pub fn new(alloc: Global) -> Result<Self, StacksError>
+        ensures { IfOk result (λ files. IsWithoutFiles files) }
+    {
         let info: ExplicitModuleSectionInfo<Vec<u8>> = ExplicitModuleSectionInfo::default();
         Ok(Files {
             list: Vec::new(alloc),
@@ -155,6 +157,7 @@ impl Files {
         ensures known { IsSome (number_in self.old name.now) → (result ≡ Ok tt) × (self.new ≡ self.old) }
         ensures added { number_in self.old name.now ≡ None → OnOk result
             (IsNext (S.gives source.now) (S.gives_debug source.now) name.now build_id.now self.old self.new) }
+        ensures either { OnOk result (IsAdded (S.gives source.now) (S.gives_debug source.now) name.now build_id.now self.old self.new) }
     {
         if self.numbers.get(name).is_some() {
             return Ok(());

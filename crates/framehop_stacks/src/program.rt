@@ -1,6 +1,8 @@
 //! From the bytes of a recording to folded stacks.
 ghost use Rattle.std.specs.Prelude.{ℕ, ◌≡◌, OnOk, IfOk, List, map};
 ghost use Rattle.framehop_recording.specs.Attributes.{attribute_view};
+ghost use Rattle.framehop_recording.specs.BuildIds.{file_build_id_view};
+ghost use Rattle.framehop_stacks.specs.Files.{AreFilesOf};
 ghost use Rattle.framehop_stacks.specs.Printed.{IsPrintedOf};
 ghost use Rattle.framehop_stacks.specs.Recording.{records_in, IsReadOf};
 ghost use Rattle.framehop_stacks.specs.Samples.{beginning, samples_from, Each, IsTextOf, IsPrinted};
@@ -114,7 +116,9 @@ pub fn write_stacks<S: FileSource, W: Write, E: Write>(
     err: &mut E,
 ) -> Result<Option<RecordingError>, StacksError>
     ensures printed { IfOk result (λ refusal. (recording : Recording) × IsReadOf file.now recording × (refusal ≡ recording.refusal)
-        × ((files : Files) × IsPrintedOf recording files options.frames options.limit (W.contents out.old) (W.contents out.new))) }
+        × ((files : Files) × AreFilesOf (S.gives source.now) (S.gives_debug source.now)
+        (map file_build_id_view recording.build_ids.items) (records_in recording.records.items) files
+        × IsPrintedOf recording files options.frames options.limit (W.contents out.old) (W.contents out.new))) }
 {
     let recording = read_recording(alloc, file)?;
     let files = read_files(alloc, &recording, source)?;

@@ -1,13 +1,17 @@
 //! What is read of a recording before its samples are unwound.
-ghost use Rattle.std.specs.Prelude.{◌≡◌, ◌^◌, ◌⊎◌, Ok, Err, IfOk, IfErr, MatchResult, map};
+ghost use Rattle.std.specs.Prelude.{◌≡◌, ◌^◌, ◌⊎◌, Ok, Err, IfOk, IfErr, OnOk, MatchResult, map};
 ghost use Rattle.std.specs.List.{list_any};
 ghost use Rattle.framehop_recording.specs.Attributes.{attribute_view};
+ghost use Rattle.framehop_recording.specs.BuildIds.{file_build_id_view};
 ghost use Rattle.framehop_recording.specs.Bytes.{has_bit};
+ghost use Rattle.framehop_recording.specs.Mapping.{mapping_view};
 ghost use Rattle.framehop_recording.specs.Numbers.{PERF_REG_ARM64_PC};
 ghost use Rattle.framehop_recording.specs.Records.{record_view};
 ghost use Rattle.framehop_recording.specs.Sample.{sample_view};
 ghost use Rattle.framehop_recording.specs.declared.error.RecordingError.{RecordingError};
-ghost use Rattle.framehop_stacks.specs.Recording.{sample_in, are_of_aarch64, events_in, IsReadOf};
+ghost use Rattle.framehop_stacks.specs.Changes.{code_mapping_in};
+ghost use Rattle.framehop_stacks.specs.Files.{build_id_for, wanted_for, IsAddedFor, AreFilesOf};
+ghost use Rattle.framehop_stacks.specs.Recording.{sample_in, are_of_aarch64, records_in, events_in, IsReadOf};
 ghost use Rattle.framehop_stacks.specs.Refusal.{of_recording};
 ghost use Rattle.framehop_stacks.specs.declared.error.StacksError.{StacksError};
 
@@ -19,6 +23,7 @@ use framehop_recording::build_ids::{FileBuildId, read_build_ids};
 use framehop_recording::error::RecordingError;
 use framehop_recording::events::{Events, read_events};
 use framehop_recording::header::read_header;
+use framehop_recording::mapping::Mapping;
 use framehop_recording::order::{TimedRecord, in_order_of_time};
 use framehop_recording::records::{Record, read_records};
 use framehop_recording::sample::{Sample, read_sample};
@@ -71,7 +76,9 @@ pub fn read_recording<'a>(alloc: Global, file: &'a [u8]) -> Result<Recording<'a>
 }
 
 /// Returns the build id that a recording has of a file, or no bytes.
-fn build_id_of<'a>(build_ids: &[FileBuildId<'a>], name: &[u8]) -> &'a [u8] {
+fn build_id_of<'a>(build_ids: &[FileBuildId<'a>], name: &[u8]) -> &'a [u8]
+    ensures { result.now ≡ build_id_for (map file_build_id_view build_ids.now) name.now }
+{
     for build_id in build_ids {
         if build_id.name == name {
             return build_id.build_id;
@@ -80,22 +87,49 @@ fn build_id_of<'a>(build_ids: &[FileBuildId<'a>], name: &[u8]) -> &'a [u8] {
     &[]
 }
 
+/// Returns the build id that is wanted of the file of a mapping: the mapping's, or else the one that the
+/// recording has of its name.
+fn wanted_build_id<'a>(build_ids: &[FileBuildId<'a>], mapping: &Mapping<'a>) -> &'a [u8]
+    ensures { result.now ≡ wanted_for (map file_build_id_view build_ids.now) (mapping_view mapping.now) }
+{
+    if mapping.build_id.is_empty() {
+        build_id_of(build_ids, mapping.name)
+    } else {
+        mapping.build_id
+    }
+}
+
+/// Reads the file of a record's mapping, if it is one of code.
+fn add_file<S: FileSource>(
+    alloc: Global,
+    recording: &Recording<'_>,
+    source: &S,
+    files: &mut Files,
+    record: Record<'_>,
+) -> Result<(), StacksError>
+    ensures { OnOk result (IsAddedFor (S.gives source.now) (S.gives_debug source.now) (map file_build_id_view recording.now.build_ids.items)
+        (code_mapping_in (record_view «record».entry)) files.old files.new) }
+{
+    let Some(mapping) = code_mapping(record) else {
+        return Ok(());
+    };
+    let build_id = wanted_build_id(recording.build_ids.as_slice(), &mapping);
+    files.add(alloc, source, mapping.name, build_id)?;
+    Ok(())
+}
+
 /// Reads the files whose code is mapped, each once.
 pub fn read_files<S: FileSource>(
     alloc: Global,
     recording: &Recording<'_>,
     source: &S,
-) -> Result<Files, StacksError> {
+) -> Result<Files, StacksError>
+    ensures { IfOk result (λ files. AreFilesOf (S.gives source.now) (S.gives_debug source.now)
+        (map file_build_id_view recording.now.build_ids.items) (records_in recording.now.records.items) files) }
+{
     let mut files = Files::new(alloc)?;
     for timed in &recording.records {
-        if let Ok(Some(mapping)) = code_mapping(timed.record) {
-            let build_id = if mapping.build_id.is_empty() {
-                build_id_of(recording.build_ids.as_slice(), mapping.name)
-            } else {
-                mapping.build_id
-            };
-            files.add(alloc, source, mapping.name, build_id)?;
-        }
+        add_file(alloc, recording, source, &mut files, timed.record)?;
     }
     Ok(files)
 }

@@ -18,6 +18,9 @@ const LIMIT: u32 = 512;
 /// The size of the largest file that is read for its unwind data and names, in bytes: 4 GiB.
 const LARGEST_FILE: u64 = 0x1_0000_0000;
 
+/// The size from which on a recording is told of before it is read, in bytes: 50 MB.
+const LARGE_RECORDING: u64 = 50_000_000;
+
 /// What the program does.
 const ABOUT: &str =
     "Unwinds the user stacks of recordings of `perf record --call-graph dwarf`, and prints folded stacks, as flame graph tools read them. Frames of the kernel are not printed.";
@@ -176,19 +179,40 @@ fn usage(rt: &HostRuntime, error: &clap::Error) -> Result<u8> {
     if error.use_stderr() { Ok(2) } else { Ok(0) }
 }
 
+/// Returns whether standard error is a terminal, by where its descriptor leads.
+fn is_terminal(rt: &HostRuntime) -> bool {
+    match fs::read_link(rt, "/proc/self/fd/2") {
+        Ok(path) => {
+            let device = path.into_string();
+            device.starts_with("/dev/pts/") || device.starts_with("/dev/tty")
+        }
+        Err(_) => false,
+    }
+}
+
+/// Says of a large recording that it is read, where someone sees it.
+fn announce(rt: &HostRuntime, path: &str, size: u64) -> Result<()> {
+    if size > LARGE_RECORDING && is_terminal(rt) {
+        let megabytes = size / 1_000_000;
+        eprintln!(rt; "framehop-stacks: {path}: reading {megabytes} MB")?;
+    }
+    Ok(())
+}
+
 /// Prints the stacks of a recording, which must be a regular file.
 fn print_stacks(rt: &HostRuntime, path: &str, disk: &Disk<'_>, options: Options) -> Result<u8> {
-    let is_file = match fs::metadata(rt, path) {
-        Ok(metadata) => metadata.is_file(),
+    let metadata = match fs::metadata(rt, path) {
+        Ok(metadata) => metadata,
         Err(error) => {
             eprintln!(rt; "framehop-stacks: {path}: {error}")?;
             return Ok(1);
         }
     };
-    if !is_file {
+    if !metadata.is_file() {
         eprintln!(rt; "framehop-stacks: {path}: not a regular file")?;
         return Ok(1);
     }
+    announce(rt, path, metadata.len())?;
     match fs::read(rt, path) {
         Ok(bytes) => print_stacks_of(rt, path, bytes.as_slice(), disk, options),
         Err(error) => {

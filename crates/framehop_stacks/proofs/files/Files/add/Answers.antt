@@ -1,4 +1,5 @@
-use Rattle.std.proofs.Common.{rules, ◌∙◌}
+use Rattle.std.proofs.Common.{rules, ◌≡◌, None, inr, ◌∙◌}
+use Rattle.framehop_stacks.specs.Changes.{number_in}
 use Rattle.framehop_stacks.proofs.TallyLemmas.{lookup-insert_other}
 use Rattle.framehop_stacks.proofs.files.Files.add.Goals as goal
 
@@ -10,3 +11,8 @@ returns-clause-added g c = λ none. record {
       let a = lookup-insert_other other c.in_ok-key.key c.in-Ok.number (λ same. ne (same ∙ c.in_ok-key.ensures.items)) c.args.self.now.numbers.entries in
       search (rules, a);
 }
+
+pub returns-clause-either : goal.returns-clause-either
+returns-clause-either g c =
+    let none : number_in c.args.self.now c.args.name.now ≡ None = search rules in
+    inr (none, returns-clause-added g c none)
