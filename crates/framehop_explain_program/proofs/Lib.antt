@@ -1,3 +1,4 @@
 pub mod AnnotatedLemmas
+pub mod FrameLemmas
 pub mod NoteLemmas
 pub mod Writes
