@@ -43,10 +43,10 @@ PLACES = {
     "framehop_walk_cli": (1, 5, "program"),
     "framehop_vectors": (3, 5, "tests"),
     "framehop_walk_vectors": (4, 5, "tests"),
-    "framehop_sweeps": (5, 5, "tests"),
+    "framehop_sweeps": (2, 5, "tests"),
     "framehop_explain_vectors": (6, 6, "tests"),
-    "framehop_explain_program": (2, 5, "library"),
-    "framehop_explain_cli": (2, 6, "program"),
+    "framehop_explain_program": (5, 5, "library"),
+    "framehop_explain_cli": (5, 6, "program"),
 }
 
 # where a line goes through a row between two crates
@@ -56,6 +56,7 @@ THROUGH = {
     ("framehop", "framehop_pe"): (2.8, 2),
     ("framehop", "framehop_dwarf"): (3.3, 2),
     ("framehop_format_vectors", "framehop_pe"): (3.1, 2),
+    ("framehop_explain_program", "framehop_elf"): (5, 2),
 }
 
 
