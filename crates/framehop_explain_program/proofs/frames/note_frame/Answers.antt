@@ -1,6 +1,6 @@
-use Rattle.std.proofs.Common.{◌≡◌, ◌∙◌, ap, rules}
+use Rattle.std.proofs.Common.{◌∙◌, ap, rules}
 use Rattle.framehop_core.specs.CodeAddress.{location_of}
-use Rattle.framehop_core.specs.Outcome.{Outcome, answer_of, registers_after}
+use Rattle.framehop_core.specs.Outcome.{Outcome, answer_of}
 use Rattle.framehop_core.proofs.Callback.{AnswersAs-unchanged}
 use Rattle.framehop.specs.CachedWorld.{step_of}
 use Rattle.framehop.specs.World.{memory_of}
