@@ -1,3 +1,3 @@
 pub mod AnnotatedLemmas
+pub mod FrameLemmas
 pub mod NoteLemmas
-pub mod Writes

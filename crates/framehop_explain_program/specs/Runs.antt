@@ -1,5 +1,5 @@
 -- How a run of the program ends: by its status, its output and its error line.
-use Rattle.std.specs.Prelude.{◌≡◌, ◌≢◌, ◌⊎◌, ℕ, true, false, List, [], ◌∷◌, ◌++◌, codes, string_bytes, Option, Some, None, IfSome}
+use Rattle.std.specs.Prelude.{◌≡◌, ◌≢◌, ◌⊎◌, ℕ, true, false, List, [], ◌∷◌, ◌++◌, codes, Option, Some, None, IfSome}
 use Rattle.std.specs.Io.KnownBytes.{Keeps, Appends}
 use Rattle.framehop_walk.specs.Answers.{IsOfRun}
 use Rattle.framehop_walk.specs.Refusals.{refusal_text, refusal_status}
@@ -7,7 +7,6 @@ use Rattle.framehop_walk.specs.Streams.{InputView, Outputs}
 use Rattle.framehop_walk.specs.declared.refusal.Refusal.{Refusal}
 use Rattle.framehop_walk.specs.declared.refusal.Refusal.TheVariants.{OutOfMemory}
 use Rattle.framehop_explain_program.specs.Explained.{IsPrinted}
-use Rattle.framehop_explain_program.specs.declared.program.Problem.{Problem}
 
 -- the text of a problem: where the input is wrong or, where that is not known, the refusal
 abbrev pub place_text : Refusal → Option (List ℕ) → List ℕ

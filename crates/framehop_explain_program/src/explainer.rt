@@ -1,11 +1,12 @@
 //! The notes of a list of commands: what each of its frames came from.
+use crate::frames::{note_frame, note_walk};
 use crate::note::Note;
-use crate::notes::{frame_note, module_note};
+use crate::notes::module_note;
 use framehop::session::{Command, Memory};
 use framehop::unwinder::UnwinderInternal;
 use framehop::{AllocationPolicy, FrameAddress, Generations, Module, ModuleListError, Unwinder};
+use framehop_explain::DescribeRule;
 use framehop_explain::pe::Sources;
-use framehop_explain::{DescribeRule, explain_frame};
 use framehop_walk::Refusal;
 use framehop_walk::commands::read_command;
 use framehop_walk::fields::{list, text};
@@ -121,30 +122,6 @@ where
         self.note_nothing(1)
     }
 
-    /// Notes where a frame came from, and returns the frame that called it with its registers, if the step gives one.
-    fn note_frame(
-        &mut self,
-        number: usize,
-        address: FrameAddress,
-        regs: A::UnwindRegs,
-        memory: &Memory,
-    ) -> Result<Option<(FrameAddress, A::UnwindRegs)>, AllocError> {
-        let Some(unwinder) = self.unwinders.get(number) else {
-            return Ok(None);
-        };
-        let mut read_stack = |word: u64| -> Result<u64, ()> { memory.read(word) };
-        let explanation = explain_frame(unwinder, self.alloc, address, regs, &mut read_stack)?;
-        let note = frame_note::<A>(self.alloc, unwinder.modules(), address, &explanation)?;
-        self.notes.push(note)?;
-        let Ok(Some(return_address)) = explanation.outcome else {
-            return Ok(None);
-        };
-        match FrameAddress::from_return_address(return_address) {
-            Some(caller) => Ok(Some((caller, explanation.regs))),
-            None => Ok(None),
-        }
-    }
-
     fn step(
         &mut self,
         number: usize,
@@ -152,7 +129,9 @@ where
         regs: A::UnwindRegs,
         memory: &Memory,
     ) -> Result<(), AllocError> {
-        let _caller = self.note_frame(number, address, regs, memory)?;
+        if let Some(unwinder) = self.unwinders.get(number) {
+            let _caller = note_frame(self.alloc, unwinder, address, regs, memory, &mut self.notes)?;
+        }
         self.note_nothing(1)
     }
 
@@ -164,12 +143,16 @@ where
         memory: &Memory,
         limit: u32,
     ) -> Result<(), AllocError> {
-        let mut frame = (FrameAddress::from_instruction_pointer(pc), regs);
-        for _frame in 0..limit {
-            match self.note_frame(number, frame.0, frame.1, memory)? {
-                Some(caller) => frame = caller,
-                None => break,
-            }
+        if let Some(unwinder) = self.unwinders.get(number) {
+            note_walk(
+                self.alloc,
+                unwinder,
+                pc,
+                regs,
+                memory,
+                limit,
+                &mut self.notes,
+            )?;
         }
         self.note_nothing(2)
     }

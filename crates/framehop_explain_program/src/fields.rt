@@ -20,7 +20,7 @@ pub enum Kind {
     Bytes,
 }
 
-/// Why a fault was not found.
+/// Whether fields are as they must be, or that an allocation failed.
 pub type Checked = Result<Result<(), Fault>, AllocError>;
 
 /// Returns what is wrong with a value that should be of a kind.

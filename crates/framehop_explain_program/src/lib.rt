@@ -7,6 +7,7 @@ mod explainer;
 mod fault;
 mod fields;
 mod file;
+mod frames;
 mod note;
 mod notes;
 mod program;

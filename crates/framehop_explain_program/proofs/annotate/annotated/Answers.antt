@@ -1,4 +1,4 @@
-use Rattle.std.proofs.Common.{◌≡◌, ◌<◌, ◌≤◌, length, rules, arith}
+use Rattle.std.proofs.Common.{◌<◌, ◌≤◌, length, rules, arith}
 use Rattle.framehop_explain_program.specs.Note.{IsNote}
 use Rattle.framehop_explain_program.proofs.AnnotatedLemmas.{annotated-next, annotated-end, all-next, all-end}
 use Rattle.framehop_explain_program.proofs.annotate.annotated.Goals as goal

@@ -1,6 +1,6 @@
 use Rattle.std.proofs.Common.{codes}
 use Rattle.framehop_explain_program.specs.Runs.{problem_line}
-use Rattle.framehop_explain_program.proofs.Writes.{line-written}
+use Rattle.framehop_walk.proofs.Writes.{line-written}
 use Rattle.framehop_explain_program.proofs.program.write_line.Goals as goal
 
 pub returns-clause-written : goal.returns-clause-written

@@ -1,4 +1,4 @@
-use Rattle.std.proofs.Common.{◌≡◌, ◌∙◌, ◌++◌, ◌∷◌, [], sym, rules, arith}
+use Rattle.std.proofs.Common.{◌++◌, ◌∷◌, [], arith}
 use Rattle.framehop_explain_program.proofs.NoteLemmas.{note-more}
 use Rattle.framehop_explain_program.proofs.note.Note.with_line.Goals as goal
 
