@@ -36,7 +36,7 @@ pub struct CoreFile {
 }
 
 /// Returns the machine of a core file.
-fn machine(header: FileHeader) -> Result<Machine, CoreFileError>
+fn machine_of(header: FileHeader) -> Result<Machine, CoreFileError>
     ensures { result ≡ machine_of header }
 {
     if header.e_type != ET_CORE {
@@ -68,7 +68,7 @@ pub fn read_core_file(alloc: Global, file: &[u8]) -> Result<CoreFile, CoreFileEr
         (λ error. IsErrorOf (core_file_of file.now) error) }
 {
     let header = read_file_header(file)?;
-    let machine = machine(header)?;
+    let machine = machine_of(header)?;
     let segments = read_program_headers(alloc, file, header)?;
     Ok(CoreFile { machine, segments })
 }

@@ -48,7 +48,7 @@ fn read_path(offset: u64, paths: &[u8]) -> Result<(&[u8], &[u8]), CoreFileError>
 }
 
 /// Returns the mapped file of an entry and a path.
-fn mapped_file<'a>(
+fn read_entry<'a>(
     offset: u64,
     page_size: u64,
     entry: &[u8; ENTRY_SIZE],
@@ -85,7 +85,7 @@ fn read_files<'a>(
     let mut rest = paths;
     for entry in entries {
         let (path, later) = read_path(offset, rest)?;
-        let file = mapped_file(offset, page_size, entry, path)?;
+        let file = read_entry(offset, page_size, entry, path)?;
         files = pushed(files, file);
         rest = later;
     }

@@ -1,6 +1,6 @@
 //! The memory of a process, as far as a core file has it.
-ghost use Rattle.std.specs.Prelude.{◌≡◌, ◌-◌, ◌+◌, ◌≤◌, IfSome, find, option_map, take, drop, length};
-ghost use Rattle.framehop_core_file.specs.Memory.{dumped, has, bytes_in, memory_of, word_of};
+ghost use Rattle.std.specs.Prelude.{◌≡◌, IfSome, true, find, option_map, length};
+ghost use Rattle.framehop_core_file.specs.Memory.{dumped, has, memory_of, word_of};
 
 use framehop_cfi::bytes::front;
 use framehop_elf::bytes::{back, u64_at};
@@ -35,7 +35,8 @@ fn segment_with(
     address: u64,
     size: u64,
 ) -> Option<ProgramHeader>
-    ensures { result ≡ find (has file.now address size) segments.now }
+    ensures first { result ≡ find (has file.now address size) segments.now }
+    ensures found { IfSome result (λ segment. has file.now address size segment ≡ true) }
 {
     for segment in segments {
         if has(file, *segment, address, size) {
@@ -56,7 +57,7 @@ pub fn bytes_at<'a>(
     address: u64,
     size: u64,
 ) -> Option<&'a [u8]>
-    ensures { option_map (λ bytes. bytes.now) result ≡ memory_of file.entry.now segments.now address size }
+    ensures exact { option_map (λ bytes. bytes.now) result ≡ memory_of file.entry.now segments.now address size }
     ensures whole { IfSome result (λ bytes. length bytes.now ≡ size) }
 {
     let segment = segment_with(file, segments, address, size)?;

@@ -74,7 +74,7 @@ fn with_notes_in<'a>(
 ) -> Result<Option<Vec<PlacedNote<'a>>>, CoreFileError>
     requires { start + length bytes.now < 2 ^ 64 }
     ensures exact { MatchResult result
-        (λ all. (read : List PlacedNote) × (notes_in 0 start bytes.entry.now ≡ Ok (map placed_view read)) × ((list : List PlacedNote) → IsGathered list notes → IsGathered (list ++ read) all))
+        (λ all. (read : List PlacedNote) × (notes_in 0 start bytes.entry.now ≡ Ok (map placed_view read)) × ((list : List PlacedNote) → IsGathered list notes.entry → IsGathered (list ++ read) all))
         (λ error. notes_in 0 start bytes.entry.now ≡ Err error) }
 {
     let mut notes = notes;
@@ -97,7 +97,7 @@ fn with_notes_of<'a>(
     segment: ProgramHeader,
 ) -> Result<Option<Vec<PlacedNote<'a>>>, CoreFileError>
     ensures exact { MatchResult result
-        (λ all. (read : List PlacedNote) × (notes_of_segment file.entry.now segment ≡ Ok (map placed_view read)) × ((list : List PlacedNote) → IsGathered list notes → IsGathered (list ++ read) all))
+        (λ all. (read : List PlacedNote) × (notes_of_segment file.entry.now segment ≡ Ok (map placed_view read)) × ((list : List PlacedNote) → IsGathered list notes.entry → IsGathered (list ++ read) all))
         (λ error. notes_of_segment file.entry.now segment ≡ Err error) }
 {
     if segment.p_type != PT_NOTE {
