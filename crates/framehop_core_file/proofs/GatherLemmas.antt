@@ -1,7 +1,7 @@
 -- Lists that are read item by item.
-use Rattle.std.proofs.Common.{◌≡◌, ℕ, suc, ◌+◌, ◌<◌, List, [], ◌∷◌, ◌++◌, map, drop, length, Option, Some, None, Result, Ok, Err, Vec, refl, ap, sym, ◌∙◌, get_or, arith}
-use Rattle.std.proofs.Math.Seq.{drop-cons}
-use Rattle.std.proofs.lemmas.List.{map-append}
+use Rattle.std.proofs.Common.{◌≡◌, ℕ, suc, ◌+◌, ◌-◌, ◌<◌, List, [], ◌∷◌, ◌++◌, map, take, drop, length, Option, Some, None, Result, Ok, Err, Vec, refl, ap, sym, ◌∙◌, get_or, arith}
+use Rattle.std.proofs.Math.Seq.{drop-cons, take-length}
+use Rattle.std.proofs.lemmas.List.{map-append, length-drop}
 use Rattle.std.specs.declared.alloc.Global.{Global}
 use Rattle.framehop_cfi.specs.Bytes.{◌>>=◌}
 use Rattle.framehop_core_file.specs.declared.error.CoreFileError.{CoreFileError}
@@ -55,6 +55,10 @@ items-are items i default below =
 
 pub next-is : {A B : Type 0} (view : A → B) (items : List A) (i : ℕ) (default : A) → i < length items → map view (drop i items) ≡ view (get_or items i default) ∷ map view (drop (i + 1) items)
 next-is view items i default below = ap (map view) (items-are items i default below)
+
+-- what is left of a list after so many items, as a slice to the end
+pub all-after : {A : Type 0} (items : List A) (k : ℕ) → drop k items ≡ take (length items - k) (drop k items)
+all-after items k = sym (ap (λ n. take n (drop k items)) (sym (length-drop k items)) ∙ take-length (drop k items))
 
 gathered-items : {A : Type 0} (before : List A) (gathered : Option (Vec A Global)) (items : Vec A Global) → IsGathered before gathered → gathered ≡ Some items → items.items ≡ before
 gathered-items before (Some made) items all is =

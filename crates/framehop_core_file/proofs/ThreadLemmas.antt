@@ -33,19 +33,19 @@ module _ (left notes : List PlacedView) (placed : PlacedView) (is : left ≡ pla
       ∙ ap (λ (b : Bool). cond b (Some placed) (mask_in notes)) mask
 
   module _ (machine : Machine) where
-    pub threads-more : (thread : ThreadView) → is_thread placed ≡ true → thread_of machine placed notes ≡ Ok thread → threads_of machine left ≡ threads_of machine notes >>= (λ others. Ok ((thread ∷ []) ++ others))
+    pub threads-more : (thread : ThreadView) (later : List PlacedView) → notes ≡ later → is_thread placed ≡ true → thread_of machine placed later ≡ Ok thread → threads_of machine left ≡ threads_of machine notes >>= (λ others. Ok ((thread ∷ []) ++ others))
     unfolding threads_of
-    threads-more thread first read =
+    threads-more thread later same first read =
         ap (threads_of machine) is
         ∙ ap (λ (b : Bool). if b then thread_of machine placed notes >>= (λ t. threads_of machine notes >>= (λ others. Ok (t ∷ others))) else threads_of machine notes) first
-        ∙ ap (λ r. r >>= (λ t. threads_of machine notes >>= (λ others. Ok (t ∷ others)))) read
+        ∙ ap (λ r. r >>= (λ t. threads_of machine notes >>= (λ others. Ok (t ∷ others)))) (ap (thread_of machine placed) same ∙ read)
 
-    pub threads-refused : (error : CoreFileError) → is_thread placed ≡ true → thread_of machine placed notes ≡ Err error → threads_of machine left ≡ Err error
+    pub threads-refused : (error : CoreFileError) (later : List PlacedView) → notes ≡ later → is_thread placed ≡ true → thread_of machine placed later ≡ Err error → threads_of machine left ≡ Err error
     unfolding threads_of
-    threads-refused error first read =
+    threads-refused error later same first read =
         ap (threads_of machine) is
         ∙ ap (λ (b : Bool). if b then thread_of machine placed notes >>= (λ t. threads_of machine notes >>= (λ others. Ok (t ∷ others))) else threads_of machine notes) first
-        ∙ ap (λ r. r >>= (λ t. threads_of machine notes >>= (λ others. Ok (t ∷ others)))) read
+        ∙ ap (λ r. r >>= (λ t. threads_of machine notes >>= (λ others. Ok (t ∷ others)))) (ap (thread_of machine placed) same ∙ read)
 
     pub threads-later : is_thread placed ≡ false → threads_of machine left ≡ threads_of machine notes
     unfolding threads_of

@@ -1,6 +1,6 @@
 -- The files that a process had mapped: the note of "CORE" of type NT_FILE, as `fill_files_note` of Linux's
 -- fs/binfmt_elf.c writes it.
-use Rattle.std.specs.Prelude.{ℕ, ◌+◌, ◌*◌, ◌^◌, List, [], ◌∷◌, length, drop, Bool, Option, Some, None, Result, Ok, Err, nat_lt, if◌then◌else◌}
+use Rattle.std.specs.Prelude.{ℕ, ◌+◌, ◌*◌, ◌^◌, List, [], ◌∷◌, length, take, drop, Bool, Option, Some, None, Result, Ok, Err, nat_lt, if◌then◌else◌}
 use Rattle.std.specs.List.{find}
 use Rattle.std.specs.Simd.{first_chunks}
 use Rattle.framehop_cfi.specs.Bytes.{◌>>=◌, le8}
@@ -47,12 +47,16 @@ files_of offset page_size (entry ∷ entries) paths = do
   others ← files_of offset page_size entries path.1
   Ok (file ∷ others)
 
--- the count of entries and the size of a page; the entries, of 24 bytes each; the paths
+-- the entries: as many as a count, of 24 bytes each, after the first 16 bytes
+abbrev pub entries_in : List ℕ → ℕ → List (List ℕ)
+entries_in descriptor count = first_chunks 24 count (take (24 * count) (drop 16 descriptor))
+
+-- the count of entries and the size of a page; the entries; the paths
 unfoldable pub files_in : ℕ → List ℕ → Result (List MappedFileView) CoreFileError
 files_in offset descriptor =
     if nat_lt (length descriptor) 16 then Err (ShortNote offset)
     else if nat_lt (length descriptor) (16 + 24 * le8 descriptor 0) then Err (ShortNote offset)
-    else files_of offset (le8 descriptor 8) (first_chunks 24 (le8 descriptor 0) (drop 16 descriptor))
+    else files_of offset (le8 descriptor 8) (entries_in descriptor (le8 descriptor 0))
     (drop (16 + 24 * le8 descriptor 0) descriptor)
 
 abbrev pub files_noted : Option PlacedView → Result (List MappedFileView) CoreFileError

@@ -1,8 +1,8 @@
 //! The files that a process had mapped.
-ghost use Rattle.std.specs.Prelude.{◌≡◌, ◌+◌, Ok, Err, IfOk, MatchResult, map, option_map, find, drop, length};
+ghost use Rattle.std.specs.Prelude.{◌≡◌, ◌+◌, ◌*◌, ◌≤◌, Ok, Err, MatchResult, map, length};
 ghost use Rattle.framehop_core_file.specs.Refusal.{IsErrorOf};
 ghost use Rattle.framehop_core_file.specs.Note.{placed_view};
-ghost use Rattle.framehop_core_file.specs.MappedFile.{mapped_file_view, is_files, path_at, mapped_file_of, files_of, files_in, mapped_files_of};
+ghost use Rattle.framehop_core_file.specs.MappedFile.{mapped_file_view, path_at, mapped_file_of, entries_in, files_of, files_in, mapped_files_of};
 
 use crate::error::CoreFileError;
 use crate::gathered::pushed;
@@ -95,6 +95,16 @@ fn read_files<'a>(
     }
 }
 
+/// Returns so many entries.
+fn entries(descriptor: &[u8], count: u64) -> &[[u8; ENTRY_SIZE]]
+    requires { 16 + 24 * count ≤ length descriptor.now }
+    ensures { result.now ≡ entries_in descriptor.entry.now count }
+{
+    let size = ENTRY_SIZE * count as usize;
+    let (entries, _) = front(back(descriptor, HEADER_SIZE), size).as_chunks::<ENTRY_SIZE>();
+    entries
+}
+
 /// Returns the mapped files of a note.
 #[tactic(auto, unfolding(crate::specs::MappedFile::files_in))]
 fn read_note<'a>(
@@ -116,10 +126,8 @@ fn read_note<'a>(
         return Err(short);
     }
     let page_size = u64_at(descriptor, 8);
-    let size = ENTRY_SIZE as u64 * count;
-    let after_header = back(descriptor, HEADER_SIZE);
-    let (entries, _) = front(after_header, size as usize).as_chunks::<ENTRY_SIZE>();
-    let paths = back(descriptor, HEADER_SIZE + size);
+    let entries = entries(descriptor, count);
+    let paths = back(descriptor, HEADER_SIZE + ENTRY_SIZE as u64 * count);
     read_files(alloc, offset, page_size, entries, paths)
 }
 

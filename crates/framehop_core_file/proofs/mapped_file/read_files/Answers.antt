@@ -1,7 +1,7 @@
 use Rattle.std.proofs.Common.{◌≡◌, ◌+◌, ◌++◌, ◌∷◌, [], map, drop, length, ap, ◌∙◌, rules}
 use Rattle.std.proofs.Math.Seq.{drop-length}
 use Rattle.std.proofs.lemmas.Result.{err_from_is_err_and}
-use Rattle.framehop_core_file.specs.MappedFile.{mapped_file_view, files_of}
+use Rattle.framehop_core_file.specs.MappedFile.{mapped_file_view}
 use Rattle.framehop_core_file.proofs.GatherLemmas.{items-are, read-more, read-refused, refusal-due, made-all, given-up}
 use Rattle.framehop_core_file.proofs.FileLemmas.{files-more, files-no-path, files-refused, files-none}
 use Rattle.framehop_core_file.proofs.mapped_file.read_files.Goals as goal

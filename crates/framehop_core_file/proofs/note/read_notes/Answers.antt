@@ -7,7 +7,14 @@ use Rattle.framehop_core_file.proofs.NoteLemmas.{segments-more, segments-refused
 use Rattle.framehop_core_file.proofs.note.read_notes.Goals as goal
 
 pub returns-in_err-notes : goal.returns-in_err-notes
-returns-in_err-notes c = ?
+returns-in_err-notes c =
+    let l = c.loop-segment in
+    let file = c.args.file.now in
+    let segments = c.args.segments.now in
+    let is = items-are segments l.segment-index _ (search rules) in
+    let p = err_from_is_err_and c.from_residual.result c.from_residual.ensures.1 in
+    rw (p.1, p.2) (refusal-due _ c.in_err-notes.field-0.0 (read-refused _ _ _ c.in_err-notes.field-0.0 l.invariant.2
+        (segments-refused file (drop l.segment-index segments) (drop (l.segment-index + 1) segments) _ is c.in_err-notes.field-0.0 c.in_err-notes.ensures.exact)))
 
 pub loop-segment-preserved : goal.loop-segment-preserved
 loop-segment-preserved c =

@@ -17,7 +17,19 @@ returns-in_err-note c =
     })
 
 pub loop-rest-preserved : goal.loop-rest-preserved
-loop-rest-preserved c = ?
+loop-rest-preserved c =
+    let l = c.loop-rest in
+    let note = c.in_ok-note.note in
+    let size = c.in_ok-note.size in
+    let shorter = ap length c.back-rest.ensures ∙ length-drop size l.rest.now in
+    let taken = c.min-offset.ensures in
+    let so_far = l.invariant.1 in (
+      l.invariant.0 ++ note ∷ [],
+      omega (arith, shorter, taken, so_far),
+      λ list whole. rw (append-assoc list l.invariant.0 (note ∷ [])) (c.pushed-notes.ensures (list ++ l.invariant.0) (l.invariant.2 list whole)),
+      read-more placed_view _ _ _ l.invariant.0 (note ∷ []) l.invariant.3
+      (notes-more l.offset (l.offset + c.min-offset.result) l.rest.now c.back-rest.result.now (placed_view note) size c.in_ok-note.ensures.exact c.in_ok-note.ensures.forward (λ within. omega (arith, taken, within)) c.back-rest.ensures),
+    )
 
 pub returns : goal.returns
 returns c =
