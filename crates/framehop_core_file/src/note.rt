@@ -51,10 +51,7 @@ pub(crate) fn first_of<'a>(
 /// Returns the note at the front of the bytes, which are at an offset of the file, and how many of them
 /// it takes.
 #[tactic(auto, unfolding(crate::specs::Note::placed_at))]
-fn read_placed<'a>(
-    offset: u64,
-    bytes: &'a [u8],
-) -> Result<(PlacedNote<'a>, u64), CoreFileError>
+fn read_placed<'a>(offset: u64, bytes: &'a [u8]) -> Result<(PlacedNote<'a>, u64), CoreFileError>
     ensures exact { MatchResult result
         (λ read. placed_at offset bytes.entry.now ≡ Ok (placed_view read.0, read.1))
         (λ error. placed_at offset bytes.entry.now ≡ Err error) }

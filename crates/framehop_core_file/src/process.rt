@@ -32,9 +32,7 @@ pub struct Process<'a> {
 /// `BadNoteSize` where the note has another size than `struct elf_prpsinfo`.
 ///
 /// Source: Linux, `include/linux/elfcore.h`, `struct elf_prpsinfo`.
-pub fn read_process<'a>(
-    notes: &[PlacedNote<'a>],
-) -> Result<Option<Process<'a>>, CoreFileError>
+pub fn read_process<'a>(notes: &[PlacedNote<'a>]) -> Result<Option<Process<'a>>, CoreFileError>
     ensures { MatchResult result
         (λ process. process_of (map placed_view notes.entry.now) ≡ Ok (option_map process_view process))
         (λ error. process_of (map placed_view notes.entry.now) ≡ Err error) }

@@ -13,7 +13,7 @@ returns-in_err-path c =
     let is = items-are a.entries.now l.entry-index [] (search rules) in
     let p = err_from_is_err_and c.from_residual.result c.from_residual.ensures.1 in
     rw (p.1, p.2) (refusal-due _ c.in_err-path.field-0.0 (read-refused _ _ _ c.in_err-path.field-0.0 l.invariant.2
-        (files-no-path a.offset a.page_size (drop l.entry-index a.entries.now) (drop (l.entry-index + 1) a.entries.now) _ l.rest.now is c.in_err-path.field-0.0 c.in_err-path.ensures.exact)))
+    (files-no-path a.offset a.page_size (drop l.entry-index a.entries.now) (drop (l.entry-index + 1) a.entries.now) _ l.rest.now is c.in_err-path.field-0.0 c.in_err-path.ensures.exact)))
 
 pub returns-in_err-file : goal.returns-in_err-file
 returns-in_err-file c =
@@ -22,7 +22,7 @@ returns-in_err-file c =
     let is = items-are a.entries.now l.entry-index [] (search rules) in
     let p = err_from_is_err_and c.from_residual-in_err-file.result c.from_residual-in_err-file.ensures.1 in
     rw (p.1, p.2) (refusal-due _ c.in_err-file.field-0.0 (read-refused _ _ _ c.in_err-file.field-0.0 l.invariant.2
-        (files-refused a.offset a.page_size (drop l.entry-index a.entries.now) (drop (l.entry-index + 1) a.entries.now) _ l.rest.now is c.in_ok-path.path.now c.in_ok-path.later.now c.in_err-file.field-0.0 c.in_ok-path.ensures.exact c.in_err-file.ensures.exact)))
+    (files-refused a.offset a.page_size (drop l.entry-index a.entries.now) (drop (l.entry-index + 1) a.entries.now) _ l.rest.now is c.in_ok-path.path.now c.in_ok-path.later.now c.in_err-file.field-0.0 c.in_ok-path.ensures.exact c.in_err-file.ensures.exact)))
 
 pub loop-entry-preserved : goal.loop-entry-preserved
 loop-entry-preserved c =
@@ -34,7 +34,7 @@ loop-entry-preserved c =
       before ++ file ∷ [],
       c.pushed-files.ensures before l.invariant.1,
       read-more mapped_file_view _ _ _ before (file ∷ []) l.invariant.2
-      (files-more a.offset a.page_size (drop l.entry-index a.entries.now) (drop (l.entry-index + 1) a.entries.now) _ l.rest.now is c.in_ok-path.path.now c.in_ok-path.later.now (mapped_file_view file) c.in_ok-path.ensures.exact c.in_ok-file.ensures.exact),
+          (files-more a.offset a.page_size (drop l.entry-index a.entries.now) (drop (l.entry-index + 1) a.entries.now) _ l.rest.now is c.in_ok-path.path.now c.in_ok-path.later.now (mapped_file_view file) c.in_ok-path.ensures.exact c.in_ok-file.ensures.exact),
     )
 
 pub returns-in-Some : goal.returns-in-Some

@@ -14,7 +14,7 @@ returns-in_err-notes c =
     let is = items-are segments l.segment-index _ (search rules) in
     let p = err_from_is_err_and c.from_residual.result c.from_residual.ensures.1 in
     rw (p.1, p.2) (refusal-due _ c.in_err-notes.field-0.0 (read-refused _ _ _ c.in_err-notes.field-0.0 l.invariant.2
-        (segments-refused file (drop l.segment-index segments) (drop (l.segment-index + 1) segments) _ is c.in_err-notes.field-0.0 c.in_err-notes.ensures.exact)))
+    (segments-refused file (drop l.segment-index segments) (drop (l.segment-index + 1) segments) _ is c.in_err-notes.field-0.0 c.in_err-notes.ensures.exact)))
 
 pub loop-segment-preserved : goal.loop-segment-preserved
 loop-segment-preserved c =
@@ -26,7 +26,7 @@ loop-segment-preserved c =
       l.invariant.0 ++ read.0,
       read.2 l.invariant.0 l.invariant.1,
       read-more placed_view _ _ _ l.invariant.0 read.0 l.invariant.2
-      (segments-more file (drop l.segment-index segments) (drop (l.segment-index + 1) segments) _ is (map placed_view read.0) read.1),
+          (segments-more file (drop l.segment-index segments) (drop (l.segment-index + 1) segments) _ is (map placed_view read.0) read.1),
     )
 
 pub returns-in-Some : goal.returns-in-Some

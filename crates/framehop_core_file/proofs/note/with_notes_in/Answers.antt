@@ -28,7 +28,7 @@ loop-rest-preserved c =
       omega (arith, shorter, taken, so_far),
       λ list whole. rw (append-assoc list l.invariant.0 (note ∷ [])) (c.pushed-notes.ensures (list ++ l.invariant.0) (l.invariant.2 list whole)),
       read-more placed_view _ _ _ l.invariant.0 (note ∷ []) l.invariant.3
-      (notes-more l.offset (l.offset + c.min-offset.result) l.rest.now c.back-rest.result.now (placed_view note) size c.in_ok-note.ensures.exact c.in_ok-note.ensures.forward (λ within. omega (arith, taken, within)) c.back-rest.ensures),
+          (notes-more l.offset (l.offset + c.min-offset.result) l.rest.now c.back-rest.result.now (placed_view note) size c.in_ok-note.ensures.exact c.in_ok-note.ensures.forward (λ within. omega (arith, taken, within)) c.back-rest.ensures),
     )
 
 pub returns : goal.returns

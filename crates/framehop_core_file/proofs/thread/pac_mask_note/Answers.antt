@@ -10,7 +10,7 @@ returns-then-is_pac_mask c =
     let later = c.args.later.now in
     let is = next-is placed_view later l.index _ (search rules) in
     sym (l.invariant ∙ mask-first (map placed_view (drop l.index later)) (map placed_view (drop (l.index + 1) later)) _ is
-        (sym c.is_thread.ensures ∙ c.if-is_thread.false) (sym c.is_pac_mask.ensures ∙ c.if-is_pac_mask.true))
+    (sym c.is_thread.ensures ∙ c.if-is_thread.false) (sym c.is_pac_mask.ensures ∙ c.if-is_pac_mask.true))
 
 pub loop-index-preserved : goal.loop-index-preserved
 loop-index-preserved c =

@@ -16,7 +16,7 @@ returns-in_err-thread c =
     let is = next-is placed_view notes l.index _ (search rules) in
     let p = err_from_is_err_and c.from_residual.result c.from_residual.ensures.1 in
     rw (p.1, p.2) (refusal-due _ c.in_err-thread.field-0.0 (read-refused _ _ _ c.in_err-thread.field-0.0 l.invariant.2
-        (threads-refused (map placed_view (drop l.index notes)) (map placed_view (drop (l.index + 1) notes)) _ is c.args.machine c.in_err-thread.field-0.0 _ (ap (map placed_view) (all-after notes (l.index + 1))) (sym c.is_thread.ensures ∙ c.if-is_thread.true) c.in_err-thread.ensures.exact)))
+    (threads-refused (map placed_view (drop l.index notes)) (map placed_view (drop (l.index + 1) notes)) _ is c.args.machine c.in_err-thread.field-0.0 _ (ap (map placed_view) (all-after notes (l.index + 1))) (sym c.is_thread.ensures ∙ c.if-is_thread.true) c.in_err-thread.ensures.exact)))
 
 pub loop-index-preserved : goal.loop-index-preserved
 loop-index-preserved c =
@@ -27,14 +27,14 @@ loop-index-preserved c =
     let is = next-is placed_view notes l.index _ (search rules) in
     let before = l.invariant.0 in
     elim c.if-is_thread.branch [
-      then-is_thread+in_ok-thread w ↦
-        let thread = w.in_ok-thread.thread in (
-          before ++ thread ∷ [],
-          rw w.threads-is (w.pushed-threads.ensures before l.invariant.1),
-          read-more thread_view _ _ _ before (thread ∷ []) l.invariant.2
-          (threads-more left rest _ is c.args.machine (thread_view thread) _ (ap (map placed_view) (all-after notes (l.index + 1))) (sym c.is_thread.ensures ∙ w.if-is_thread.true) w.in_ok-thread.ensures.exact),
-        )
-    | else-is_thread w ↦ (
+      | then-is_thread+in_ok-thread w ↦
+          let thread = w.in_ok-thread.thread in (
+            before ++ thread ∷ [],
+            rw w.threads-is (w.pushed-threads.ensures before l.invariant.1),
+            read-more thread_view _ _ _ before (thread ∷ []) l.invariant.2
+                (threads-more left rest _ is c.args.machine (thread_view thread) _ (ap (map placed_view) (all-after notes (l.index + 1))) (sym c.is_thread.ensures ∙ w.if-is_thread.true) w.in_ok-thread.ensures.exact),
+          )
+      | else-is_thread w ↦ (
         before,
         rw w.threads-is l.invariant.1,
         l.invariant.2 ∙ ap (prepended (map thread_view before)) (threads-later left rest _ is c.args.machine (sym c.is_thread.ensures ∙ w.if-is_thread.false)),
