@@ -86,8 +86,8 @@ fn refuses_masks_of_another_size(rt: HostRuntime) -> Result<(), Fail> {
     let refusal = CoreFileError::BadNoteSize { offset: 0xe8 };
     assert_eq!(rt; read_all(alloc, file.as_slice()), Err(refusal));
     change(&mut file, 18, &[183])?;
-    change(&mut file, 0x3bc, &[15])?;
-    let refusal = CoreFileError::BadNoteSize { offset: 0x3b8 };
+    change(&mut file, 0x3c8, &[15])?;
+    let refusal = CoreFileError::BadNoteSize { offset: 0x3c4 };
     assert_eq!(rt; read_all(alloc, file.as_slice()), Err(refusal));
     Ok(())
 }
@@ -96,13 +96,12 @@ fn refuses_masks_of_another_size(rt: HostRuntime) -> Result<(), Fail> {
 fn takes_the_first_of_two_segments(rt: HostRuntime) -> Result<(), Fail> {
     let alloc = rt.alloc();
     let mut file = x86_64::core(alloc)?;
-    // the second segment of memory, of which nothing was dumped, and the third begin at the address of the
-    // fourth; then the third has a word of its own
+    // the second segment of memory is moved to the address of the fourth: nothing of it was dumped
     change(&mut file, 0xc0, &[0, 0x30, 0x40])?;
     let core = read_core_file(alloc, file.as_slice())?;
     let found = word_at(file.as_slice(), core.segments.as_slice(), 0x403488);
     assert_eq!(rt; found, Some(0x4010be));
-    // 0x1000 bytes at the offset 0x3000
+    // then it has 0x1000 bytes, those at the offset 0x3000
     change(&mut file, 0xb8, &[0, 0x30])?;
     change(&mut file, 0xd0, &[0, 0x10])?;
     let core = read_core_file(alloc, file.as_slice())?;
