@@ -27,11 +27,13 @@ PLACES = {
     "framehop_recording": (5, 1, "library"),
     "framehop_elf": (6.2, 1, "library"),
     "framehop_macho": (1.5, 2, "library"),
+    "framehop_core_file": (5, 2, "library"),
     "framehop_dwarf_vectors": (4, 2, "tests"),
     "framehop_recording_vectors": (6, 2, "tests"),
     "framehop_elf_vectors": (7, 2, "tests"),
     "framehop": (2.5, 3, "library"),
     "framehop_format_vectors": (4, 3, "tests"),
+    "framehop_core_file_vectors": (5.2, 3, "tests"),
     "framehop_explain": (6, 4, "library"),
     "framehop_lent": (1.2, 4, "library"),
     "framehop_processes": (4, 4, "library"),
@@ -50,6 +52,7 @@ PLACES = {
 # where a line goes through a row between two crates
 THROUGH = {
     ("framehop_macho", "framehop_cfi"): (2.5, 1),
+    ("framehop_core_file", "framehop_core"): (4.5, 1),
     ("framehop", "framehop_cache"): (2.2, 2),
     ("framehop", "framehop_pe"): (2.8, 2),
     ("framehop", "framehop_dwarf"): (3.3, 2),

@@ -3,7 +3,7 @@ use Rattle.std.proofs.Common.{◌≡◌, ℕ, zero, suc, ◌+◌, ◌-◌, ◌<�
 use Rattle.framehop_cfi.specs.Bytes.{◌>>=◌}
 use Rattle.framehop_elf.specs.declared.program_header.ProgramHeader.{ProgramHeader}
 use Rattle.framehop_core_file.specs.declared.error.CoreFileError.{CoreFileError}
-use Rattle.framehop_core_file.specs.Note.{PlacedView, placed_at, notes_after, notes_in, notes_of_segment, notes_of}
+use Rattle.framehop_core_file.specs.Note.{PlacedView, placed_at, notes_after, notes_in, notes_size, notes_of_segment, notes_among}
 
 -- bytes that belong to a note are passed over
 notes_in-skip : (n offset end : ℕ) (bytes : List ℕ) → (n ≤ length bytes → end ≡ offset + n) → notes_in n offset bytes ≡ notes_in 0 end (drop n bytes)
@@ -41,17 +41,19 @@ notes-none offset [] none = refl
 notes-none offset (b ∷ bytes) none = absurd (omega (arith, none))
 
 -- a segment, and those after it
-module _ (file : List ℕ) (left segments : List ProgramHeader) (segment : ProgramHeader) (is : left ≡ segment ∷ segments) where
-  pub segments-more : (notes : List PlacedView) → notes_of_segment file segment ≡ Ok notes → notes_of file left ≡ notes_of file segments >>= (λ others. Ok (notes ++ others))
-  unfolding notes_of
+module _ (file : List ℕ) (bytes : ℕ) (left segments : List ProgramHeader) (segment : ProgramHeader) (is : left ≡ segment ∷ segments) where
+  pub segments-more : (notes : List PlacedView) → notes_of_segment file bytes segment ≡ Ok notes → notes_among file bytes left ≡ notes_among file (bytes - notes_size segment) segments >>= (λ others. Ok (notes ++ others))
+  unfolding notes_among
   segments-more notes read =
-      ap (notes_of file) is ∙ ap (λ r. r >>= (λ first. notes_of file segments >>= (λ others. Ok (first ++ others)))) read
+      ap (notes_among file bytes) is
+      ∙ ap (λ r. r >>= (λ first. notes_among file (bytes - notes_size segment) segments >>= (λ others. Ok (first ++ others)))) read
 
-  pub segments-refused : (error : CoreFileError) → notes_of_segment file segment ≡ Err error → notes_of file left ≡ Err error
-  unfolding notes_of
+  pub segments-refused : (error : CoreFileError) → notes_of_segment file bytes segment ≡ Err error → notes_among file bytes left ≡ Err error
+  unfolding notes_among
   segments-refused error read =
-      ap (notes_of file) is ∙ ap (λ r. r >>= (λ first. notes_of file segments >>= (λ others. Ok (first ++ others)))) read
+      ap (notes_among file bytes) is
+      ∙ ap (λ r. r >>= (λ first. notes_among file (bytes - notes_size segment) segments >>= (λ others. Ok (first ++ others)))) read
 
-pub segments-none : (file : List ℕ) (left : List ProgramHeader) → left ≡ [] → notes_of file left ≡ Ok []
-unfolding notes_of
-segments-none file left is = ap (notes_of file) is
+pub segments-none : (file : List ℕ) (bytes : ℕ) (left : List ProgramHeader) → left ≡ [] → notes_among file bytes left ≡ Ok []
+unfolding notes_among
+segments-none file bytes left is = ap (notes_among file bytes) is

@@ -1,5 +1,5 @@
 -- The notes of a core file (gABI, chapter 5, "Note Section"): those of its segments of type PT_NOTE, in their order.
-use Rattle.std.specs.Prelude.{ℕ, zero, suc, ◌+◌, ◌-◌, List, [], ◌∷◌, ◌++◌, Bool, Option, Some, None, nat_eq, ◌&&◌, ◌==◌, Result, Ok, Err, if◌then◌else◌}
+use Rattle.std.specs.Prelude.{ℕ, zero, suc, ◌+◌, ◌-◌, List, [], ◌∷◌, ◌++◌, length, Bool, Option, Some, None, nat_eq, nat_lt, ◌&&◌, ◌==◌, Result, Ok, Err, if◌then◌else◌}
 use Rattle.std.specs.Cmp.Lexicographic.{pointwise}
 use Rattle.framehop_cfi.specs.Bytes.{◌>>=◌}
 use Rattle.framehop_elf.specs.Numbers.{PT_NOTE}
@@ -8,7 +8,7 @@ use Rattle.framehop_elf.specs.Note.{NoteView, note_view, note_at}
 use Rattle.framehop_elf.specs.declared.program_header.ProgramHeader.{ProgramHeader}
 use Rattle.framehop_core_file.specs.Refusal.{from_elf}
 use Rattle.framehop_core_file.specs.declared.error.CoreFileError.{CoreFileError}
-use Rattle.framehop_core_file.specs.declared.error.CoreFileError.TheVariants.{NoteBeyondSegment}
+use Rattle.framehop_core_file.specs.declared.error.CoreFileError.TheVariants.{NoteBeyondSegment, SharedNotes}
 use Rattle.framehop_core_file.specs.declared.note.PlacedNote.{PlacedNote}
 
 -- a note by its values, and where it is in the file
@@ -45,16 +45,24 @@ notes_in (suc skipped) offset (byte ∷ bytes) = notes_in skipped (offset + 1) b
 notes_in zero offset (byte ∷ bytes) =
     notes_after (placed_at offset (byte ∷ bytes)) (λ size. notes_in (size - 1) (offset + 1) bytes)
 
--- those of a segment, of which the file must have all bytes
-unfoldable pub notes_of_segment : List ℕ → ProgramHeader → Result (List PlacedView) CoreFileError
-notes_of_segment file segment = if segment.p_type == PT_NOTE then (do
-  block ← from_elf (block_at file segment.p_offset segment.p_filesz)
-  notes_in 0 segment.p_offset block) else Ok []
+-- how many bytes of notes a segment has
+abbrev pub notes_size : ProgramHeader → ℕ
+notes_size segment = if segment.p_type == PT_NOTE then segment.p_filesz else 0
 
--- those of all segments
-unfoldable pub notes_of : List ℕ → List ProgramHeader → Result (List PlacedView) CoreFileError
-notes_of file [] = Ok []
-notes_of file (segment ∷ segments) = do
-  notes ← notes_of_segment file segment
-  others ← notes_of file segments
+-- Those of a segment, of which the file must have all bytes, and which may have so many bytes.
+unfoldable pub notes_of_segment : List ℕ → ℕ → ProgramHeader → Result (List PlacedView) CoreFileError
+notes_of_segment file left segment = if segment.p_type == PT_NOTE then (do
+  block ← from_elf (block_at file segment.p_offset segment.p_filesz)
+  if nat_lt left segment.p_filesz then Err (SharedNotes segment.p_offset) else notes_in 0 segment.p_offset block) else Ok []
+
+-- those of all segments, which may have so many bytes
+unfoldable pub notes_among : List ℕ → ℕ → List ProgramHeader → Result (List PlacedView) CoreFileError
+notes_among file left [] = Ok []
+notes_among file left (segment ∷ segments) = do
+  notes ← notes_of_segment file left segment
+  others ← notes_among file (left - notes_size segment) segments
   Ok (notes ++ others)
+
+-- those of a file: its segments of notes have no more bytes than it has
+abbrev pub notes_of : List ℕ → List ProgramHeader → Result (List PlacedView) CoreFileError
+notes_of file segments = notes_among file (length file) segments

@@ -20,6 +20,10 @@ pub enum CoreFileError {
     /// The segment ends before the note at the offset does.
     #[error("the note at offset {offset} ends after its segment")]
     NoteBeyondSegment { offset: u64 },
+    /// The segment of notes at the offset, with those before it, has more bytes than the file: they share
+    /// some.
+    #[error("segments of notes that share bytes: offset {offset}")]
+    SharedNotes { offset: u64 },
     /// The note at the offset has another size than those of its type and of this machine.
     #[error("a note of a wrong size at offset {offset}")]
     BadNoteSize { offset: u64 },

@@ -3,7 +3,7 @@ ghost use Rattle.std.specs.Prelude.{◌≡◌, ◌+◌, ◌^◌, ◌<◌, ◌≤
 ghost use Rattle.framehop_core_file.specs.declared.note.PlacedNote.{PlacedNote};
 ghost use Rattle.framehop_core_file.specs.Refusal.{IsErrorOf};
 ghost use Rattle.framehop_core_file.specs.Gathered.{IsGathered};
-ghost use Rattle.framehop_core_file.specs.Note.{placed_view, is_of, placed_at, notes_in, notes_of_segment, notes_of};
+ghost use Rattle.framehop_core_file.specs.Note.{placed_view, is_of, placed_at, notes_in, notes_size, notes_of_segment, notes_of};
 
 use crate::error::CoreFileError;
 use crate::gathered::pushed;
@@ -86,30 +86,51 @@ fn with_notes_in<'a>(
     Ok(notes)
 }
 
-/// Returns the notes with those of a segment.
+/// Returns how many bytes of notes a segment has.
+fn notes_size(segment: ProgramHeader) -> u64
+    ensures { result ≡ notes_size segment }
+{
+    if segment.p_type == PT_NOTE {
+        segment.p_filesz
+    } else {
+        0
+    }
+}
+
+/// Returns the notes with those of a segment, which may have so many bytes.
 #[tactic(auto, unfolding(crate::specs::Note::notes_of_segment))]
 fn with_notes_of<'a>(
     notes: Option<Vec<PlacedNote<'a>>>,
     file: &'a [u8],
+    left: u64,
     segment: ProgramHeader,
 ) -> Result<Option<Vec<PlacedNote<'a>>>, CoreFileError>
     ensures exact { MatchResult result
-        (λ all. (read : List PlacedNote) × (notes_of_segment file.entry.now segment ≡ Ok (map placed_view read)) × ((list : List PlacedNote) → IsGathered list notes.entry → IsGathered (list ++ read) all))
-        (λ error. notes_of_segment file.entry.now segment ≡ Err error) }
+        (λ all. (read : List PlacedNote) × (notes_of_segment file.entry.now left segment ≡ Ok (map placed_view read)) × ((list : List PlacedNote) → IsGathered list notes.entry → IsGathered (list ++ read) all))
+        (λ error. notes_of_segment file.entry.now left segment ≡ Err error) }
 {
     if segment.p_type != PT_NOTE {
         return Ok(notes);
     }
+    let offset = segment.p_offset;
     let block = read_segment(file, segment)?;
-    with_notes_in(notes, segment.p_offset, block)
+    if segment.p_filesz > left {
+        return Err(CoreFileError::SharedNotes { offset });
+    }
+    with_notes_in(notes, offset, block)
 }
 
 /// Reads the notes of the segments of type `PT_NOTE`, in the order of the file.
 ///
 /// # Errors
 ///
-/// `Elf` with `Eof` where the file ends before such a segment does, and `NoteBeyondSegment` where the
-/// segment ends before a note does: the first of these. Else `OutOfMemory`.
+/// The first of these, in the order of the segments:
+///
+/// - `Elf` with `Eof` where the file ends before such a segment does;
+/// - `SharedNotes` where it has, with those before it, more bytes than the file;
+/// - `NoteBeyondSegment` where it ends before a note does.
+///
+/// Else `OutOfMemory`.
 ///
 /// Source: System V gABI, chapter 5, "Note Section".
 pub fn read_notes<'a>(
@@ -122,8 +143,10 @@ pub fn read_notes<'a>(
         (λ error. IsErrorOf (notes_of file.entry.now segments.now) error) }
 {
     let mut notes = Some(Vec::new(alloc));
+    let mut left = file.len() as u64;
     for segment in segments {
-        notes = with_notes_of(notes, file, *segment)?;
+        notes = with_notes_of(notes, file, left, *segment)?;
+        left = left.saturating_sub(notes_size(*segment));
     }
     match notes {
         Some(notes) => Ok(notes),

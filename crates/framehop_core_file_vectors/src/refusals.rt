@@ -77,6 +77,30 @@ fn refuses_what_is_broken(rt: HostRuntime) -> Result<(), Fail> {
 }
 
 #[test]
+fn refuses_notes_that_are_shared(rt: HostRuntime) -> Result<(), Fail> {
+    let alloc = rt.alloc();
+    let mut file = aarch64::core(alloc)?;
+    // the two other segments are those of the notes once more, of 0x49c of the file's 0x1200 bytes
+    for entry in [0x78, 0xb0] {
+        change(&mut file, entry, &[4, 0, 0, 0, 0, 0, 0, 0, 0xe8, 0])?;
+        change(&mut file, entry + 32, &[0x9c, 4])?;
+    }
+    let core = read_core_file(alloc, file.as_slice())?;
+    let notes = read_notes(alloc, file.as_slice(), core.segments.as_slice())?;
+    assert_eq!(rt; notes.len(), 15);
+    // three times 0x49c bytes are 0xdd4
+    let refusal = CoreFileError::SharedNotes { offset: 0xe8 };
+    let shared = &file[..0xdd4];
+    assert!(rt; read_notes(alloc, shared, core.segments.as_slice()).is_ok());
+    let shared = &file[..0xdd3];
+    assert_eq!(rt;
+        read_notes(alloc, shared, core.segments.as_slice()).err(),
+        Some(refusal)
+    );
+    Ok(())
+}
+
+#[test]
 fn refuses_masks_of_another_size(rt: HostRuntime) -> Result<(), Fail> {
     let alloc = rt.alloc();
     let mut file = aarch64::core(alloc)?;
