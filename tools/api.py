@@ -29,6 +29,7 @@ LIBRARIES = [
     "framehop_c",
     "framehop_recording",
     "framehop_elf",
+    "framehop_core_file",
     "framehop_explain",
     "framehop_processes",
     "framehop_stacks",

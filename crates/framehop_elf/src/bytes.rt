@@ -10,7 +10,7 @@ use framehop_cfi::bytes::front;
 /// Returns the number of two bytes at an offset.
 #[inline]
 #[tactic(auto, unfolding(framehop_cfi::specs::Bytes::u16_at))]
-pub(crate) fn u16_at(entry: &[u8], at: usize) -> u16
+pub fn u16_at(entry: &[u8], at: usize) -> u16
     requires { at + 2 ≤ length entry.now }
     ensures { result ≡ le2 entry.now at }
 {
@@ -20,7 +20,7 @@ pub(crate) fn u16_at(entry: &[u8], at: usize) -> u16
 /// Returns the number of four bytes at an offset.
 #[inline]
 #[tactic(auto, unfolding(framehop_cfi::specs::Bytes::u32_at))]
-pub(crate) fn u32_at(entry: &[u8], at: usize) -> u32
+pub fn u32_at(entry: &[u8], at: usize) -> u32
     requires { at + 4 ≤ length entry.now }
     ensures { result ≡ le4 entry.now at }
 {
@@ -30,7 +30,7 @@ pub(crate) fn u32_at(entry: &[u8], at: usize) -> u32
 /// Returns the number of eight bytes at an offset.
 #[inline]
 #[tactic(auto, unfolding(framehop_cfi::specs::Bytes::u64_at))]
-pub(crate) fn u64_at(entry: &[u8], at: usize) -> u64
+pub fn u64_at(entry: &[u8], at: usize) -> u64
     requires { at + 8 ≤ length entry.now }
     ensures { result ≡ le8 entry.now at }
 {
@@ -39,7 +39,7 @@ pub(crate) fn u64_at(entry: &[u8], at: usize) -> u64
 
 /// Returns the bytes from an offset on, or none where there are fewer.
 #[inline]
-pub(crate) fn back(bytes: &[u8], start: u64) -> &[u8]
+pub fn back(bytes: &[u8], start: u64) -> &[u8]
     ensures { result.now ≡ drop start bytes.entry.now }
 {
     if start > bytes.len() as u64 {

@@ -3,7 +3,7 @@
 #![tactic(auto)]
 
 pub mod build_id;
-mod bytes;
+pub mod bytes;
 pub mod error;
 pub mod file_section;
 pub mod header;

@@ -14,13 +14,13 @@ const HEADER_SIZE: usize = 12;
 
 /// A note: `Elf64_Nhdr`, and what is after it.
 #[derive(Clone, Copy, Drop)]
-struct Note<'a> {
+pub struct Note<'a> {
     /// Whose note it is, with the 0 after it.
-    name: &'a [u8],
+    pub name: &'a [u8],
     /// Which of the owner's notes it is.
-    n_type: u32,
+    pub n_type: u32,
     /// What it says.
-    descriptor: &'a [u8],
+    pub descriptor: &'a [u8],
 }
 
 /// Returns the next multiple of four.
@@ -31,9 +31,12 @@ fn padded(size: u64) -> u64
     (size + 3) / 4 * 4
 }
 
-/// Returns the note at the front of the bytes, and how many bytes it takes, if they hold it.
+/// Returns the note at the front of the bytes, and how many bytes it takes with the padding after it, if
+/// they hold it. The padding after the last note may be missing.
+///
+/// Source: System V gABI, chapter 5, "Note Section".
 #[tactic(auto, unfolding(crate::specs::Note::note_at))]
-fn read_note<'a>(bytes: &'a [u8]) -> Option<(Note<'a>, u64)>
+pub fn read_note<'a>(bytes: &'a [u8]) -> Option<(Note<'a>, u64)>
     ensures exact { MatchOption result
         (note_at bytes.entry.now ≡ None)
         (λ read. note_at bytes.entry.now ≡ Some (note_view read.0, read.1)) }

@@ -1,0 +1,5 @@
+-- Lemmas of this crate.
+pub mod GatherLemmas
+pub mod NoteLemmas
+pub mod ThreadLemmas
+pub mod FileLemmas

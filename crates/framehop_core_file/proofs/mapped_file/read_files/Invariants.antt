@@ -1,0 +1,11 @@
+use Rattle.std.proofs.Common.{◌≡◌, drop, map, List}
+use Rattle.framehop_core_file.specs.declared.mapped_file.MappedFile.{MappedFile}
+use Rattle.framehop_core_file.specs.Gathered.{IsGathered, prepended}
+use Rattle.framehop_core_file.specs.MappedFile.{mapped_file_view, files_of}
+use Rattle.framehop_core_file.proofs.mapped_file.read_files.Given as goal
+
+abbrev pub invariant-loop-entry : goal.invariant-loop-entry
+invariant-loop-entry l =
+    (before : List MappedFile) × IsGathered before l.files
+    × (files_of l.offset l.page_size l.entries l.fn.paths
+    ≡ prepended (map mapped_file_view before) (files_of l.offset l.page_size (drop l.entry-index l.entries) l.rest))

@@ -1,0 +1,10 @@
+use Rattle.std.proofs.Common.{◌≡◌, drop, map, List}
+use Rattle.framehop_core_file.specs.declared.note.PlacedNote.{PlacedNote}
+use Rattle.framehop_core_file.specs.Gathered.{IsGathered, prepended}
+use Rattle.framehop_core_file.specs.Note.{placed_view, notes_among, notes_of}
+use Rattle.framehop_core_file.proofs.note.read_notes.Given as goal
+
+abbrev pub invariant-loop-segment : goal.invariant-loop-segment
+invariant-loop-segment l =
+    (before : List PlacedNote) × IsGathered before l.notes
+    × (notes_of l.file l.segments ≡ prepended (map placed_view before) (notes_among l.file l.left (drop l.segment-index l.segments)))

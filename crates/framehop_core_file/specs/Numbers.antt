@@ -1,0 +1,60 @@
+-- The numbers of the format, under the names of their sources: the System V gABI, Linux's include/uapi/linux/elf.h and
+-- elf-em.h, and include/linux/elfcore.h. Sizes and places of fields are in bytes.
+use Rattle.std.specs.Prelude.{ℕ, List, [], ◌∷◌}
+
+-- e_type and e_machine
+abbrev pub ET_CORE : ℕ
+ET_CORE = 4
+
+abbrev pub EM_X86_64 : ℕ
+EM_X86_64 = 62
+
+abbrev pub EM_AARCH64 : ℕ
+EM_AARCH64 = 183
+
+-- the owners of notes: "CORE" and "LINUX", with the 0 after them
+abbrev pub CORE : List ℕ
+CORE = 67 ∷ 79 ∷ 82 ∷ 69 ∷ 0 ∷ []
+
+abbrev pub LINUX : List ℕ
+LINUX = 76 ∷ 73 ∷ 78 ∷ 85 ∷ 88 ∷ 0 ∷ []
+
+-- n_type of notes of "CORE", and the last of "LINUX"
+abbrev pub NT_PRSTATUS : ℕ
+NT_PRSTATUS = 1
+
+abbrev pub NT_PRPSINFO : ℕ
+NT_PRPSINFO = 3
+
+abbrev pub NT_FILE : ℕ
+NT_FILE = 0x46494c45
+
+abbrev pub NT_ARM_PAC_MASK : ℕ
+NT_ARM_PAC_MASK = 0x406
+
+-- struct elf_prstatus
+abbrev pub PR_CURSIG : ℕ
+PR_CURSIG = 12
+
+abbrev pub PR_PID : ℕ
+PR_PID = 32
+
+abbrev pub PR_REG : ℕ
+PR_REG = 112
+
+-- struct elf_prpsinfo, and its size
+abbrev pub PRPSINFO_SIZE : ℕ
+PRPSINFO_SIZE = 136
+
+abbrev pub PRPSINFO_PID : ℕ
+PRPSINFO_PID = 24
+
+abbrev pub PRPSINFO_FNAME : ℕ
+PRPSINFO_FNAME = 40
+
+-- struct user_pac_mask (arch/arm64/include/uapi/asm/ptrace.h), and its size
+abbrev pub PAC_MASK_SIZE : ℕ
+PAC_MASK_SIZE = 16
+
+abbrev pub INSN_MASK : ℕ
+INSN_MASK = 8

@@ -1,0 +1,13 @@
+//! Reads ELF core files of Linux (System V gABI, chapter 5; `core(5)`): what an unwinder needs of a process
+//! that is gone. Each reader is given the bytes of the whole file and lends from them.
+#![tactic(auto)]
+
+pub mod core_file;
+pub mod error;
+mod gathered;
+pub mod mapped_file;
+pub mod memory;
+pub mod note;
+pub mod process;
+pub mod registers;
+pub mod thread;

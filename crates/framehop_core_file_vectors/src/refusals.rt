@@ -1,0 +1,135 @@
+//! Each refusal once, of the two core files with a few other bytes.
+use crate::pieces::change;
+use crate::{aarch64, x86_64};
+use framehop_core_file::core_file::{Machine, read_core_file};
+use framehop_core_file::error::CoreFileError;
+use framehop_core_file::mapped_file::read_mapped_files;
+use framehop_core_file::memory::word_at;
+use framehop_core_file::note::read_notes;
+use framehop_core_file::process::read_process;
+use framehop_core_file::thread::read_threads;
+use framehop_elf::error::ElfError;
+use std::alloc::Global;
+use std::test::Fail;
+
+/// Reads all that a core file says of its process.
+fn read_all(alloc: Global, file: &[u8]) -> Result<Machine, CoreFileError> {
+    let core = read_core_file(alloc, file)?;
+    let notes = read_notes(alloc, file, core.segments.as_slice())?;
+    read_threads(alloc, core.machine, notes.as_slice())?;
+    read_process(notes.as_slice())?;
+    read_mapped_files(alloc, notes.as_slice())?;
+    Ok(core.machine)
+}
+
+/// Changes of the file of x86_64: its type and its machine, the size of a segment of notes, the sizes of
+/// notes, the count of mapped files, the size of a page, the end of the last path.
+const CHANGES: [(usize, &[u8], CoreFileError); 12] = [
+    (0, &[0], CoreFileError::Elf(ElfError::NotElf { offset: 0 })),
+    (16, &[2], CoreFileError::NotACore { offset: 16 }),
+    (18, &[40], CoreFileError::UnknownMachine { offset: 18 }),
+    (
+        54,
+        &[0],
+        CoreFileError::Elf(ElfError::BadEntrySize { offset: 54 }),
+    ),
+    (
+        0x62,
+        &[1],
+        CoreFileError::Elf(ElfError::Eof { offset: 0x270 }),
+    ),
+    (
+        0x60,
+        &[0xb],
+        CoreFileError::NoteBeyondSegment { offset: 0x21f8 },
+    ),
+    (
+        0x277,
+        &[0xff],
+        CoreFileError::NoteBeyondSegment { offset: 0x270 },
+    ),
+    (0x274, &[0x4f], CoreFileError::BadNoteSize { offset: 0x270 }),
+    (0x3d8, &[0x87], CoreFileError::BadNoteSize { offset: 0x3d4 }),
+    (0x69c, &[6], CoreFileError::ShortNote { offset: 0x688 }),
+    (0x732, &[0x2f], CoreFileError::ShortNote { offset: 0x688 }),
+    (
+        0x6ab,
+        &[0xff],
+        CoreFileError::OffsetTooBig { offset: 0x688 },
+    ),
+];
+
+#[test]
+fn refuses_what_is_broken(rt: HostRuntime) -> Result<(), Fail> {
+    let alloc = rt.alloc();
+    let file = x86_64::core(alloc)?;
+    assert_eq!(rt; read_all(alloc, file.as_slice()), Ok(Machine::X86_64));
+    for (offset, bytes, refusal) in CHANGES {
+        let mut file = x86_64::core(alloc)?;
+        change(&mut file, offset, bytes)?;
+        assert_eq!(rt; read_all(alloc, file.as_slice()), Err(refusal));
+    }
+    // cut off in its notes
+    let refusal = CoreFileError::Elf(ElfError::Eof { offset: 0x270 });
+    assert_eq!(rt; read_all(alloc, &file[..0x227b]), Err(refusal));
+    assert_eq!(rt; read_all(alloc, &file[..0x227c]), Ok(Machine::X86_64));
+    Ok(())
+}
+
+#[test]
+fn refuses_notes_that_are_shared(rt: HostRuntime) -> Result<(), Fail> {
+    let alloc = rt.alloc();
+    let mut file = aarch64::core(alloc)?;
+    // the two other segments are those of the notes once more, of 0x49c of the file's 0x1200 bytes
+    for entry in [0x78, 0xb0] {
+        change(&mut file, entry, &[4, 0, 0, 0, 0, 0, 0, 0, 0xe8, 0])?;
+        change(&mut file, entry + 32, &[0x9c, 4])?;
+    }
+    let core = read_core_file(alloc, file.as_slice())?;
+    let notes = read_notes(alloc, file.as_slice(), core.segments.as_slice())?;
+    assert_eq!(rt; notes.len(), 15);
+    // three times 0x49c bytes are 0xdd4
+    let refusal = CoreFileError::SharedNotes { offset: 0xe8 };
+    let shared = &file[..0xdd4];
+    assert!(rt; read_notes(alloc, shared, core.segments.as_slice()).is_ok());
+    let shared = &file[..0xdd3];
+    assert_eq!(rt;
+        read_notes(alloc, shared, core.segments.as_slice()).err(),
+        Some(refusal)
+    );
+    Ok(())
+}
+
+#[test]
+fn refuses_masks_of_another_size(rt: HostRuntime) -> Result<(), Fail> {
+    let alloc = rt.alloc();
+    let mut file = aarch64::core(alloc)?;
+    assert_eq!(rt; read_all(alloc, file.as_slice()), Ok(Machine::Aarch64));
+    // a thread of aarch64 has other registers than one of x86_64
+    change(&mut file, 18, &[62])?;
+    let refusal = CoreFileError::BadNoteSize { offset: 0xe8 };
+    assert_eq!(rt; read_all(alloc, file.as_slice()), Err(refusal));
+    change(&mut file, 18, &[183])?;
+    change(&mut file, 0x3c8, &[15])?;
+    let refusal = CoreFileError::BadNoteSize { offset: 0x3c4 };
+    assert_eq!(rt; read_all(alloc, file.as_slice()), Err(refusal));
+    Ok(())
+}
+
+#[test]
+fn takes_the_first_of_two_segments(rt: HostRuntime) -> Result<(), Fail> {
+    let alloc = rt.alloc();
+    let mut file = x86_64::core(alloc)?;
+    // the second segment of memory is moved to the address of the fourth: nothing of it was dumped
+    change(&mut file, 0xc0, &[0, 0x30, 0x40])?;
+    let core = read_core_file(alloc, file.as_slice())?;
+    let found = word_at(file.as_slice(), core.segments.as_slice(), 0x403488);
+    assert_eq!(rt; found, Some(0x4010be));
+    // then it has 0x1000 bytes, those at the offset 0x3000
+    change(&mut file, 0xb8, &[0, 0x30])?;
+    change(&mut file, 0xd0, &[0, 0x10])?;
+    let core = read_core_file(alloc, file.as_slice())?;
+    let found = word_at(file.as_slice(), core.segments.as_slice(), 0x403000);
+    assert_eq!(rt; found, Some(0x10102464c457f));
+    Ok(())
+}
