@@ -11,7 +11,7 @@ pub(crate) fn file_of(
 ) -> Result<Vec<u8>, Fail> {
     let mut file = Vec::new(alloc);
     for (offset, digits) in pieces {
-        while file.len() < *offset {
+        for _ in file.len()..*offset {
             file.push(0)?;
         }
         let piece = hex::decode(alloc, *digits)?;
@@ -19,7 +19,7 @@ pub(crate) fn file_of(
             file.push(*byte)?;
         }
     }
-    while file.len() < size {
+    for _ in file.len()..size {
         file.push(0)?;
     }
     Ok(file)

@@ -1,6 +1,7 @@
 //! Each refusal once, of the two core files with a few other bytes.
 use crate::pieces::change;
 use crate::{aarch64, x86_64};
+use framehop_cfi::bytes::front;
 use framehop_core_file::core_file::{Machine, read_core_file};
 use framehop_core_file::error::CoreFileError;
 use framehop_core_file::mapped_file::read_mapped_files;
@@ -9,6 +10,7 @@ use framehop_core_file::note::read_notes;
 use framehop_core_file::process::read_process;
 use framehop_core_file::thread::read_threads;
 use framehop_elf::error::ElfError;
+use framehop_elf::program_header::ProgramHeader;
 use std::alloc::Global;
 use std::test::Fail;
 
@@ -71,32 +73,48 @@ fn refuses_what_is_broken(rt: HostRuntime) -> Result<(), Fail> {
     }
     // cut off in its notes
     let refusal = CoreFileError::Elf(ElfError::Eof { offset: 0x270 });
-    assert_eq!(rt; read_all(alloc, &file[..0x227b]), Err(refusal));
-    assert_eq!(rt; read_all(alloc, &file[..0x227c]), Ok(Machine::X86_64));
+    assert_eq!(rt;
+        read_all(alloc, front(file.as_slice(), 0x227b)),
+        Err(refusal)
+    );
+    assert_eq!(rt;
+        read_all(alloc, front(file.as_slice(), 0x227c)),
+        Ok(Machine::X86_64)
+    );
     Ok(())
+}
+
+/// Reads the notes by these segments, and returns how many there are.
+fn count_notes(
+    alloc: Global,
+    file: &[u8],
+    segments: &[ProgramHeader],
+) -> Result<usize, CoreFileError> {
+    let notes = read_notes(alloc, file, segments)?;
+    Ok(notes.len())
 }
 
 #[test]
 fn refuses_notes_that_are_shared(rt: HostRuntime) -> Result<(), Fail> {
     let alloc = rt.alloc();
-    let mut file = aarch64::core(alloc)?;
-    // the two other segments are those of the notes once more, of 0x49c of the file's 0x1200 bytes
-    for entry in [0x78, 0xb0] {
-        change(&mut file, entry, &[4, 0, 0, 0, 0, 0, 0, 0, 0xe8, 0])?;
-        change(&mut file, entry + 32, &[0x9c, 4])?;
-    }
-    let core = read_core_file(alloc, file.as_slice())?;
-    let notes = read_notes(alloc, file.as_slice(), core.segments.as_slice())?;
-    assert_eq!(rt; notes.len(), 15);
-    // three times 0x49c bytes are 0xdd4
+    let file = aarch64::core(alloc)?;
+    let notes = ProgramHeader {
+        p_type: 4,
+        p_flags: 0,
+        p_offset: 0xe8,
+        p_vaddr: 0,
+        p_paddr: 0,
+        p_filesz: 0x49c,
+        p_memsz: 0,
+        p_align: 4,
+    };
+    // the same segment three times: 0xdd4 bytes
+    let segments = [notes, notes, notes];
+    let enough = front(file.as_slice(), 0xdd4);
+    assert_eq!(rt; count_notes(alloc, enough, &segments), Ok(15));
     let refusal = CoreFileError::SharedNotes { offset: 0xe8 };
-    let shared = &file[..0xdd4];
-    assert!(rt; read_notes(alloc, shared, core.segments.as_slice()).is_ok());
-    let shared = &file[..0xdd3];
-    assert_eq!(rt;
-        read_notes(alloc, shared, core.segments.as_slice()).err(),
-        Some(refusal)
-    );
+    let fewer = front(file.as_slice(), 0xdd3);
+    assert_eq!(rt; count_notes(alloc, fewer, &segments), Err(refusal));
     Ok(())
 }
 

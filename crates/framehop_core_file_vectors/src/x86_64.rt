@@ -2,6 +2,7 @@
 //! and the bytes of vector registers and of the vdso are 0. The expected values are those that `readelf -ln`
 //! and gdb's `info registers`, `info proc mappings`, `backtrace` and `x/gx` print.
 use crate::pieces::file_of;
+use framehop_cfi::bytes::front;
 use framehop_core::x86_64::Reg;
 use framehop_core_file::core_file::{Machine, read_core_file};
 use framehop_core_file::mapped_file::read_mapped_files;
@@ -253,13 +254,13 @@ fn reads_memory(rt: HostRuntime) -> Result<(), Fail> {
         assert_eq!(rt; word_at(file.as_slice(), segments, address), word);
     }
     // the program's ELF header is in its first page
-    let front = bytes_at(file.as_slice(), segments, 0x400000, 4);
-    assert_eq!(rt; front, Some(b"\x7fELF".as_slice()));
+    let magic = bytes_at(file.as_slice(), segments, 0x400000, 4);
+    assert_eq!(rt; magic, Some(b"\x7fELF".as_slice()));
     let page = bytes_at(file.as_slice(), segments, 0x400000, 0x1000);
     assert_eq!(rt; page.map(|page| page.len()), Some(0x1000));
     assert_eq!(rt; bytes_at(file.as_slice(), segments, 0x400000, 0x1001), None);
     // where the file is cut off in the stack, as much is there as comes before
-    let cut = &file[..0xe328];
+    let cut = front(file.as_slice(), 0xe328);
     assert_eq!(rt; word_at(cut, segments, 0x7fffb27b2318), Some(0x40106a));
     assert_eq!(rt; word_at(cut, segments, 0x7fffb27b2321), None);
     Ok(())
