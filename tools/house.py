@@ -53,6 +53,7 @@ PLACES = {
 THROUGH = {
     ("framehop_macho", "framehop_cfi"): (2.5, 1),
     ("framehop_core_file", "framehop_core"): (4.5, 1),
+    ("framehop_stacks", "framehop_recording"): (5.5, 2),
     ("framehop", "framehop_cache"): (2.2, 2),
     ("framehop", "framehop_pe"): (2.8, 2),
     ("framehop", "framehop_dwarf"): (3.3, 2),
