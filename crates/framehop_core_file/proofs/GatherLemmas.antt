@@ -7,7 +7,12 @@ use Rattle.framehop_cfi.specs.Bytes.{◌>>=◌}
 use Rattle.framehop_core_file.specs.declared.error.CoreFileError.{CoreFileError}
 use Rattle.framehop_core_file.specs.declared.error.CoreFileError.TheVariants.{OutOfMemory}
 use Rattle.framehop_core_file.specs.Refusal.{IsErrorOf}
-use Rattle.framehop_core_file.specs.Gathered.{IsGathered, prepended}
+use Rattle.framehop_core_file.specs.Gathered.{IsGathered}
+
+-- what was read before, with what comes after it
+abbrev pub prepended : {B : Type 0} → List B → Result (List B) CoreFileError → Result (List B) CoreFileError
+prepended before (Ok others) = Ok (before ++ others)
+prepended before (Err error) = Err error
 
 append-none : {A : Type 0} (before : List A) → before ++ [] ≡ before
 append-none [] = refl

@@ -2,8 +2,7 @@ use Rattle.std.proofs.Common.{rules, ◌≡◌, ◌+◌, ◌-◌, ◌++◌, map,
 use Rattle.std.proofs.Math.Seq.{drop-length}
 use Rattle.std.proofs.lemmas.Result.{err_from_is_err_and}
 use Rattle.framehop_core_file.specs.Note.{placed_view, notes_among}
-use Rattle.framehop_core_file.specs.Gathered.{prepended}
-use Rattle.framehop_core_file.proofs.GatherLemmas.{items-are, read-more, read-refused, refusal-due, made-all, given-up}
+use Rattle.framehop_core_file.proofs.GatherLemmas.{prepended, items-are, read-more, read-refused, refusal-due, made-all, given-up}
 use Rattle.framehop_core_file.proofs.NoteLemmas.{segments-more, segments-refused, segments-none}
 use Rattle.framehop_core_file.proofs.note.read_notes.Goals as goal
 

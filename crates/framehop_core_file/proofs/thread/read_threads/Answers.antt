@@ -2,9 +2,8 @@ use Rattle.std.proofs.Common.{rules, ◌≡◌, ◌+◌, ◌++◌, ◌∷◌, []
 use Rattle.std.proofs.Math.Seq.{drop-length}
 use Rattle.std.proofs.lemmas.Result.{err_from_is_err_and}
 use Rattle.framehop_core_file.specs.Note.{placed_view}
-use Rattle.framehop_core_file.specs.Gathered.{prepended}
 use Rattle.framehop_core_file.specs.Thread.{thread_view}
-use Rattle.framehop_core_file.proofs.GatherLemmas.{next-is, all-after, read-more, read-refused, refusal-due, made-all, given-up}
+use Rattle.framehop_core_file.proofs.GatherLemmas.{prepended, next-is, all-after, read-more, read-refused, refusal-due, made-all, given-up}
 use Rattle.framehop_core_file.proofs.ThreadLemmas.{threads-more, threads-refused, threads-later, threads-none}
 use Rattle.framehop_core_file.proofs.thread.read_threads.Goals as goal
 use Rattle.framehop_core_file.proofs.thread.read_threads.Goals.{then-is_thread+in_ok-thread, else-is_thread}

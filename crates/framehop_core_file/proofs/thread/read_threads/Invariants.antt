@@ -1,6 +1,7 @@
 use Rattle.std.proofs.Common.{◌≡◌, drop, map, List}
 use Rattle.framehop_core_file.specs.declared.thread.Thread.{Thread}
-use Rattle.framehop_core_file.specs.Gathered.{IsGathered, prepended}
+use Rattle.framehop_core_file.specs.Gathered.{IsGathered}
+use Rattle.framehop_core_file.proofs.GatherLemmas.{prepended}
 use Rattle.framehop_core_file.specs.Note.{placed_view}
 use Rattle.framehop_core_file.specs.Thread.{thread_view, threads_of}
 use Rattle.framehop_core_file.proofs.thread.read_threads.Given as goal
