@@ -3,7 +3,8 @@
 #
 # PROGRAM is what `rt run` in crates/framehop_stacks_cli builds; one that is not there is passed over, but for the first. What is
 # printed is compared with files of tools/stacks, which come from `perf script --no-inline --ns --show-mmap-events -F
-# comm,pid,tid,time,ip,sym,symoff,dso --symfs .` by tools/stacks/from_perf.py. Status 0 where all is as it should be.
+# comm,pid,tid,time,ip,sym,symoff,dso --symfs .` by tools/stacks/from_perf.py, and for core files from gdb's `thread apply all bt`: the same
+# threads and addresses; with the file of the process, without it, and with another file in its place. Status 0 where all is as it should be.
 set -u
 tools=$(dirname "$(realpath -- "${BASH_SOURCE[0]}")") || exit 2
 [ $# -ge 1 ] || { sed -n 2p "$0" >&2; exit 2; }
@@ -13,6 +14,8 @@ work=$(mktemp -d) || exit 1
 trap 'rm -rf "$work"' EXIT
 : >"$work/nothing"
 echo '[ShortFile]' >"$work/short"
+head -c 1000 "$data/crash.core" >"$work/short.core"
+mkdir -p "$work/other/usr/local/bin" && cp "$data/srv/tiny" "$work/other/usr/local/bin/crash"
 failed=0
 
 # Runs a program in the folder of the recordings, and compares its status and output: try STATUS OUTPUT ARGUMENT..
@@ -31,6 +34,11 @@ for program in "$@"; do
     program=$(realpath -- "$program")
     try 0 "$tools/stacks/tiny.frames" --root . --frames tiny.data
     try 0 "$tools/stacks/tiny.limit" --root . --limit 3 tiny.data
+    try 0 "$tools/stacks/crash.stacks" --root . crash.core
+    try 0 "$tools/stacks/crash.missing" --root srv crash.core
+    try 0 "$tools/stacks/crash.missing" --root "$work/other" crash.core
+    try 0 "$tools/stacks/crash.limit" --root . --limit 1 crash.core
+    try 1 "$work/nothing" "$work/short.core"
     try 2 "$work/nothing"
     try 2 "$work/nothing" --limit many tiny.data
     try 1 "$work/nothing" missing.data

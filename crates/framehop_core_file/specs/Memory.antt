@@ -22,6 +22,11 @@ bytes_in file address size segment = take size (drop (address - segment.p_vaddr)
 abbrev pub memory_of : List ℕ → List ProgramHeader → ℕ → ℕ → Option (List ℕ)
 memory_of file segments address size = option_map (bytes_in file address size) (find (has file address size) segments)
 
+-- those from an address on, as far as they were dumped: of the first segment of which the one there was
+abbrev pub memory_from : List ℕ → List ProgramHeader → ℕ → Option (List ℕ)
+memory_from file segments address =
+    option_map (λ segment. drop (address - segment.p_vaddr) (dumped file segment)) (find (has file address 1) segments)
+
 -- the word of eight bytes at an address
 abbrev pub word_of : List ℕ → List ProgramHeader → ℕ → Option ℕ
 word_of file segments address = option_map (λ bytes. le8 bytes 0) (memory_of file segments address 8)

@@ -1,6 +1,6 @@
 //! The memory of a process, as far as a core file has it.
 ghost use Rattle.std.specs.Prelude.{◌≡◌, IfSome, true, find, option_map, length};
-ghost use Rattle.framehop_core_file.specs.Memory.{dumped, has, memory_of, word_of};
+ghost use Rattle.framehop_core_file.specs.Memory.{dumped, has, memory_of, memory_from, word_of};
 
 use framehop_cfi::bytes::front;
 use framehop_elf::bytes::{back, u64_at};
@@ -63,6 +63,17 @@ pub fn bytes_at<'a>(
     let segment = segment_with(file, segments, address, size)?;
     let bytes = back(dumped(file, segment), address - segment.p_vaddr);
     Some(front(bytes, size as usize))
+}
+
+/// Returns the bytes of memory from an address (AVMA) on, as far as they were dumped, if the file has the
+/// one there: those of the first segment of type `PT_LOAD` of which that one was dumped.
+///
+/// Source: System V gABI, chapter 5, "Program Header"; `core(5)`.
+pub fn bytes_from<'a>(file: &'a [u8], segments: &[ProgramHeader], address: u64) -> Option<&'a [u8]>
+    ensures { option_map (λ bytes. bytes.now) result ≡ memory_from file.entry.now segments.now address }
+{
+    let segment = segment_with(file, segments, address, 1)?;
+    Some(back(dumped(file, segment), address - segment.p_vaddr))
 }
 
 /// Returns the word of eight bytes at an address (AVMA), if the file has them: as [`bytes_at`] has them.

@@ -66,7 +66,7 @@ fn plain_byte(byte: u8) -> u8
 }
 
 /// Appends a name, each `;` of which becomes a colon, and each line feed a blank.
-fn push_name(line: &mut Vec<u8>, name: &[u8]) -> Result<(), StacksError>
+pub fn push_name(line: &mut Vec<u8>, name: &[u8]) -> Result<(), StacksError>
     ensures { OnOk result (line.new.items ≡ line.old.items ++ plain name.now) }
 {
     for byte in name {

@@ -1,8 +1,11 @@
-//! The program `framehop-stacks`: reads recordings of perf, and prints folded stacks.
+//! The program `framehop-stacks`: reads recordings of perf, and prints folded stacks; reads core files, and
+//! prints the stacks of their threads.
 #![tactic(auto)]
 
 use anyhow::Result;
 use clap::{Arg, ArgAction, ArgMatches, Command};
+use framehop_core_stacks::error::CoreStacksError;
+use framehop_core_stacks::program::write_core_stacks;
 use framehop_stacks::error::StacksError;
 use framehop_stacks::files::FileSource;
 use framehop_stacks::program::write_stacks;
@@ -23,7 +26,7 @@ const LARGE_RECORDING: u64 = 50_000_000;
 
 /// What the program does.
 const ABOUT: &str =
-    "Unwinds the user stacks of recordings of `perf record --call-graph dwarf`, and prints folded stacks, as flame graph tools read them. Frames of the kernel are not printed.";
+    "Unwinds the user stacks of recordings of `perf record --call-graph dwarf`, and prints folded stacks, as flame graph tools read them. Frames of the kernel are not printed. Of a core file, prints the stack of each thread.";
 
 /// The files of a disk.
 #[derive(Drop)]
@@ -100,7 +103,7 @@ fn command<'a>(alloc: Global) -> Result<Command<'a>> {
         alloc,
         "root",
         "DIR",
-        "Look for the recorded files below this folder",
+        "Look for the files that were mapped below this folder",
     );
     let debug_dir = valued(
         alloc,
@@ -116,13 +119,15 @@ fn command<'a>(alloc: Global) -> Result<Command<'a>> {
     );
     let frames = Arg::new(alloc, "frames")
         .long("frames")
-        .help("Print a block for each sample, with a line for each frame")
+        .help(
+            "Print a block for each sample of a recording, with a line for each frame, as for each thread of a core file",
+        )
         .action(ArgAction::SetTrue);
     let files = Arg::new(alloc, "file")
         .value_name("FILE")
         .required(true)
         .num_args(1..)
-        .help("Recordings, whose stacks are printed one after another")
+        .help("Recordings and core files, whose stacks are printed one after another")
         .action(ArgAction::Append);
     let command = Command::new(alloc, "framehop-stacks")
         .version("0.1.0")
@@ -214,6 +219,9 @@ fn print_stacks(rt: &HostRuntime, path: &str, disk: &Disk<'_>, options: Options)
     }
     announce(rt, path, metadata.len())?;
     match fs::read(rt, path) {
+        Ok(bytes) if bytes.starts_with(b"\x7fELF") => {
+            print_core(rt, path, bytes.as_slice(), disk, options.limit)
+        }
         Ok(bytes) => print_stacks_of(rt, path, bytes.as_slice(), disk, options),
         Err(error) => {
             eprintln!(rt; "framehop-stacks: {path}: {error}")?;
@@ -238,6 +246,28 @@ fn print_stacks_of(
         Ok(None) => Ok(0),
         Ok(Some(refusal)) => refuse(rt, path, StacksError::Recording(refusal)),
         Err(error) => refuse(rt, path, error),
+    }
+}
+
+/// Prints the stacks of the threads of a core file, by its bytes.
+fn print_core(
+    rt: &HostRuntime,
+    path: &str,
+    bytes: &[u8],
+    disk: &Disk<'_>,
+    limit: u32,
+) -> Result<u8> {
+    let mut out = BufWriter::new(rt.alloc(), io::writer(rt))?;
+    let mut err = rt.stderr();
+    let written = write_core_stacks(rt.alloc(), bytes, disk, limit, &mut out, &mut err);
+    io::Write::flush(&mut out)?;
+    match written {
+        Ok(()) => Ok(0),
+        Err(CoreStacksError::Stacks(error)) => refuse(rt, path, error),
+        Err(CoreStacksError::Core(error)) => {
+            eprintln!(rt; "framehop-stacks: {path}: {error}")?;
+            Ok(1)
+        }
     }
 }
 

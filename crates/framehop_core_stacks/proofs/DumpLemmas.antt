@@ -1,0 +1,21 @@
+-- The mapped files and the threads of a core file one after another.
+use Rattle.std.proofs.Common.{◌≡◌, ℕ, ◌+◌, ◌<◌, List, [], ◌∷◌, ◌++◌, map, take, drop, length, get_or, subst, ap, sym, ◌∙◌}
+use Rattle.std.specs.List.{flat_map}
+use Rattle.std.proofs.lemmas.List.{at_drop_more, flat_map_more, take_more}
+use Rattle.framehop_core_file.specs.MappedFile.{mapped_file_view}
+use Rattle.framehop_core_file.specs.declared.mapped_file.MappedFile.{MappedFile}
+
+-- the files that are left at a place
+pub files-left : (items files : List MappedFile) → items ≡ files → (i : ℕ) (d : MappedFile) → i < length items
+    → map mapped_file_view (drop i files) ≡ mapped_file_view (get_or items i d) ∷ map mapped_file_view (drop (i + 1) files)
+files-left items files same i d within =
+    subst (λ list. map mapped_file_view (drop i list) ≡ mapped_file_view (get_or items i d) ∷ map mapped_file_view (drop (i + 1) list)) same
+    (at_drop_more (map mapped_file_view) items i d within)
+
+-- the text of the next one is appended to those of the ones before
+pub text-next : {X : Type 0} (text : X → List ℕ) (items all : List X) → items ≡ all → (i : ℕ) (d : X) → i < length items
+    → (old new : List ℕ) → old ≡ flat_map text (take i all) → new ≡ old ++ text (get_or items i d) → new ≡ flat_map text (take (i + 1) all)
+text-next text items all same i d within old new so_far is =
+    is ∙ ap (λ before. before ++ text (get_or items i d)) so_far
+    ∙ subst (λ list. flat_map text (take i list) ++ text (get_or items i d) ≡ flat_map text (take (i + 1) list)) same
+    (flat_map_more text [] (take i items) (get_or items i d) ∙ ap (flat_map text) (sym (take_more items i d within)))

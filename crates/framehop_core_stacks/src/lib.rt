@@ -1,0 +1,11 @@
+//! From a core file to stacks: unwinds each thread of a process that is gone, and writes a block for each.
+#![tactic(auto)]
+
+pub mod dump;
+pub mod error;
+pub mod image;
+pub mod machine;
+pub mod modules;
+pub mod program;
+pub mod stack;
+pub mod text;

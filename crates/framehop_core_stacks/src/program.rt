@@ -1,0 +1,160 @@
+//! From the bytes of a core file to the stacks of its threads.
+ghost use Rattle.std.specs.Prelude.{◌≡◌, ◌⊎◌, Ok, Err, IfErr, OnOk};
+ghost use Rattle.std.specs.Io.KnownBytes.{Appends};
+ghost use Rattle.framehop_core_file.specs.declared.error.CoreFileError.{CoreFileError};
+ghost use Rattle.framehop_stacks.specs.declared.files.Files.{Files};
+ghost use Rattle.framehop_core_stacks.specs.Dump.{DumpView, dump_view, dump_of};
+ghost use Rattle.framehop_core_stacks.specs.Modules.{AreFilesOf};
+ghost use Rattle.framehop_core_stacks.specs.Printed.{text_by, text_of};
+ghost use Rattle.framehop_core_stacks.specs.Refusal.{of_core_file};
+
+use crate::dump::{Dump, read_dump};
+use crate::error::CoreStacksError;
+use crate::image::sections_in;
+use crate::machine::Dumped;
+use crate::modules::{DumpModules, map_files, read_files};
+use crate::text::threads_text;
+use framehop::aarch64::UnwinderAarch64;
+use framehop::cache::MayAllocateDuringUnwind;
+use framehop::x86_64::UnwinderX86_64;
+use framehop_core_file::core_file::Machine;
+use framehop_processes::{Mapping, ModuleMaker, Process};
+use framehop_stacks::elf_file::FileProblem;
+use framehop_stacks::error::StacksError;
+use framehop_stacks::files::{FileSource, Files};
+use std::alloc::Global;
+use std::io::Write;
+
+/// Returns whether memory has the unwind data of a file, by its first mapping.
+fn is_in_memory(
+    alloc: Global,
+    dump: &Dump<'_>,
+    mappings: &[Mapping],
+    name: &[u8],
+    number: u32,
+) -> Result<bool, StacksError> {
+    for mapping in mappings {
+        if mapping.file == number && mapping.has_sections {
+            let info = sections_in(alloc, dump, name, mapping.base_avma)?;
+            return Ok(info.eh_frame.is_some());
+        }
+    }
+    Ok(false)
+}
+
+/// Writes a line for a file of which nothing was read.
+fn write_problem<E: Write>(
+    err: &mut E,
+    name: &[u8],
+    problem: FileProblem,
+    in_memory: bool,
+) -> Result<(), CoreStacksError> {
+    err.write_all(name)?;
+    match problem {
+        FileProblem::OtherBuildId => write!(err, ": its build id is not the core file's")?,
+        problem => write!(err, ": {problem}")?,
+    }
+    if in_memory {
+        err.write_all(b"; its unwind data is the core file's")?;
+    }
+    err.write_all(b"\n")?;
+    Ok(())
+}
+
+/// Writes a line for each file of which nothing was read.
+fn write_problems<E: Write>(
+    alloc: Global,
+    err: &mut E,
+    dump: &Dump<'_>,
+    files: &Files,
+    mappings: &[Mapping],
+) -> Result<(), CoreStacksError> {
+    for number in 0..u32::MAX {
+        let Some(file) = files.get(number) else {
+            return Ok(());
+        };
+        if let Some(problem) = file.problem {
+            let name = file.name.as_slice();
+            let in_memory = is_in_memory(alloc, dump, mappings, name, number)?;
+            write_problem(err, name, problem, in_memory)?;
+        }
+    }
+    Ok(())
+}
+
+/// Writes the stacks of all threads.
+fn write_threads<U: Dumped, M: ModuleMaker<U>, W: Write, E: Write>(
+    alloc: Global,
+    maker: &M,
+    dump: &Dump<'_>,
+    files: &Files,
+    limit: u32,
+    out: &mut W,
+    err: &mut E,
+) -> Result<(), CoreStacksError>
+where
+    U::Cache: Drop,
+    U::Module: Drop,
+    ensures { OnOk result (Appends (W.contents out.old) (W.contents out.new)
+        (text_by U.step_by U.begins limit (M.module_of maker.now) (dump_view dump.now) files.now)) }
+{
+    let process: Process<U> = map_files(alloc, maker, dump, files)?;
+    write_problems(alloc, err, dump, files, process.mappings())?;
+    let text = threads_text(alloc, dump, files, &process, limit)?;
+    out.write_all(text.as_slice())?;
+    Ok(())
+}
+
+/// Writes the stacks of all threads, by the unwinder of their machine.
+fn write_dump<W: Write, E: Write>(
+    alloc: Global,
+    dump: &Dump<'_>,
+    files: &Files,
+    limit: u32,
+    out: &mut W,
+    err: &mut E,
+) -> Result<(), CoreStacksError>
+    ensures { OnOk result (Appends (W.contents out.old) (W.contents out.new) (text_of limit (dump_view dump.now) files.now)) }
+{
+    let maker = DumpModules { dump, files };
+    match dump.machine {
+        Machine::X86_64 => write_threads::<
+            UnwinderX86_64<Vec<u8>, MayAllocateDuringUnwind>,
+            DumpModules<'_>,
+            W,
+            E,
+        >(alloc, &maker, dump, files, limit, out, err),
+        Machine::Aarch64 => write_threads::<
+            UnwinderAarch64<Vec<u8>, MayAllocateDuringUnwind>,
+            DumpModules<'_>,
+            W,
+            E,
+        >(alloc, &maker, dump, files, limit, out, err),
+    }
+}
+
+/// Writes the stacks of the threads of a core file to `out`, and to `err` which files were not read.
+///
+/// # Errors
+///
+/// `Core` with the first refusal of the core file; `Stacks` with `OutOfMemory`, `GenerationsExhausted` and
+/// `CannotWrite`.
+pub fn write_core_stacks<S: FileSource, W: Write, E: Write>(
+    alloc: Global,
+    file: &[u8],
+    source: &S,
+    limit: u32,
+    out: &mut W,
+    err: &mut E,
+) -> Result<(), CoreStacksError>
+    ensures printed { OnOk result ((dump : DumpView) × (dump_of file.now ≡ Ok dump)
+        × ((files : Files) × AreFilesOf (S.gives source.now) (S.gives_debug source.now) dump files
+        × Appends (W.contents out.old) (W.contents out.new) (text_of limit dump files))) }
+    ensures refused { (refusal : CoreFileError) → dump_of file.now ≡ Err refusal → IfErr result (λ error.
+        (error ≡ of_core_file refusal) ⊎ (error ≡ CoreStacksError.Stacks StacksError.OutOfMemory)) }
+{
+    let dump = read_dump(alloc, file)?;
+    let files = read_files(alloc, &dump, source)?;
+    write_dump(alloc, &dump, &files, limit, out, err)?;
+    Ok(())
+}

@@ -1,0 +1,65 @@
+//! The walk of a thread.
+ghost use Rattle.std.specs.Prelude.{◌≡◌, IfOk};
+ghost use Rattle.framehop.specs.Memory.{reply};
+ghost use Rattle.framehop.specs.Modules.{UnwinderView};
+ghost use Rattle.framehop.specs.Soundness.{AreApart};
+ghost use Rattle.framehop_core_file.specs.Memory.{word_of};
+ghost use Rattle.framehop_core_file.specs.Thread.{thread_view};
+ghost use Rattle.framehop_stacks.specs.Stack.{option_stack_view};
+ghost use Rattle.framehop_core_stacks.specs.Dump.{dump_view};
+ghost use Rattle.framehop_core_stacks.specs.Thread.{thread_stack};
+
+use crate::dump::Dump;
+use crate::machine::Dumped;
+use framehop::session::walk;
+use framehop_core_file::memory::word_at;
+use framehop_core_file::thread::Thread;
+use framehop_elf::program_header::ProgramHeader;
+use framehop_stacks::error::StacksError;
+use framehop_stacks::stack::Stack;
+use std::alloc::Global;
+
+/// Returns the word of memory at an address (AVMA).
+fn read_memory(file: &[u8], segments: &[ProgramHeader], address: u64) -> Result<u64, ()>
+    ensures { result ≡ reply (word_of file.now segments.now address) }
+{
+    match word_at(file, segments, address) {
+        Some(word) => Ok(word),
+        None => Err(()),
+    }
+}
+
+/// Walks the stack of a thread by at most `limit` frames, over the words of the core file. Returns `None`
+/// where the thread has not the registers with which a walk begins.
+pub fn walk_thread<U: Dumped>(
+    alloc: Global,
+    unwinder: &U,
+    cache: &mut U::Cache,
+    dump: &Dump<'_>,
+    thread: Thread<'_>,
+    limit: u32,
+) -> Result<Option<Stack>, StacksError>
+    ensures stays_sound { (other : UnwinderView) → AreApart (U.unwinder_view unwinder.now) other
+        → U.is_sound other cache.old → U.is_sound other cache.new }
+    ensures walked { U.is_sound (U.unwinder_view unwinder.now) cache.old → IfOk result (λ walked.
+        option_stack_view walked ≡ thread_stack U.step_by U.begins limit (U.unwinder_view unwinder.now).modules (dump_view dump.now) (thread_view thread.entry)) }
+{
+    let Some(start) = U::begin(thread.pac_mask, thread.registers) else {
+        return Ok(None);
+    };
+    let file = dump.file;
+    let segments = dump.segments.as_slice();
+    let mut read_stack = |address: u64| -> Result<u64, ()>
+        ensures { result ≡ reply (word_of file.entry.now segments.entry.now address) }
+    { read_memory(file, segments, address) };
+    let (frames, end, _) = walk(
+        alloc,
+        unwinder,
+        cache,
+        start.pc,
+        start.regs,
+        &mut read_stack,
+        limit,
+    )?;
+    Ok(Some(Stack { frames, end }))
+}
