@@ -1,6 +1,9 @@
 -- The pairs of a section, read one entry at a time.
-use Rattle.std.proofs.Common.{◌≡◌, ℕ, zero, suc, ◌+◌, ◌<◌, List, [], ◌∷◌, ◌++◌, length, map, Option, Some, None, true, false, Result, Ok, Err, refl, ap, ◌∙◌, arith, append_assoc, is_err, is_ok, if◌then◌else◌}
+use Rattle.std.proofs.Common.{◌≡◌, ℕ, zero, suc, ◌+◌, ◌<◌, ◌^◌, List, [], ◌∷◌, ◌++◌, length, map, Option, Some, None, true, false, Result, Ok, Err, refl, ap, ◌∙◌, arith, append_assoc, is_err, is_ok, if◌then◌else◌}
 use Rattle.std.proofs.lemmas.Bool.{lt-leb}
+use Rattle.std.proofs.lemmas.Bool.Decides.{nat_tests}
+use Rattle.framehop_cfi.specs.Entry.{fde_at}
+use Rattle.framehop_cfi.specs.declared.entry.FrameDescriptionEntry.{FrameDescriptionEntry}
 use Rattle.std.proofs.lemmas.List.{append-nil, map_push}
 use Rattle.framehop_cfi.specs.Bytes.{◌>>=◌}
 use Rattle.framehop_cfi.specs.EntryExtent.{extent_at, is_zero_length}
@@ -12,7 +15,7 @@ use Rattle.framehop_cfi.specs.declared.entry.UnwindSectionType.TheVariants.{EhFr
 use Rattle.framehop_cfi.specs.declared.read_error.ReadError.{ReadError}
 use Rattle.framehop_dwarf.specs.declared.index.DwarfCfiIndexError.{DwarfCfiIndexError}
 use Rattle.framehop_dwarf.specs.declared.index.DwarfCfiIndexError.TheVariants.{Gimli}
-use Rattle.framehop_dwarf.specs.Index.{pair_at, pairs_at, pairs_of, unless_refused, pair_of_key}
+use Rattle.framehop_dwarf.specs.Index.{pair_at, pair_if_read, pairs_at, pairs_of, unless_refused, pair_of_key}
 
 -- the pairs of a cut
 abbrev pub of_cut : Section → ℕ → Cut → Result (List (ℕ × ℕ)) DwarfCfiIndexError
@@ -79,3 +82,12 @@ pushed (Err error) items more same kept is = cc
 -- one more key is one more pair
 pub keyed : (keys : List ℕ) (key : ℕ) (pair : ℕ × ℕ) → pair_of_key key ≡ pair → map pair_of_key (keys ++ key ∷ []) ≡ map pair_of_key keys ++ pair ∷ []
 keyed keys key pair is = map_push pair_of_key keys key ∙ ap (λ p. map pair_of_key keys ++ p ∷ []) is
+
+-- the offset of a pair fits 32 bits
+pub offset-small : (section : Section) (base at : ℕ) (pair : ℕ × ℕ) → pair_at section base at ≡ Some pair → at < 2 ^ 32
+unfolding pair_at
+offset-small section base at pair is = if-read (fde_at section at) is
+  where
+    if-read : (read : Result FrameDescriptionEntry ReadError) → pair_if_read base at read ≡ Some pair → at < 2 ^ 32
+    if-read (Err error) is = cc
+    if-read (Ok fde) is = grind (arith, nat_tests)

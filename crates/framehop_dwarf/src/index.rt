@@ -1,10 +1,10 @@
 //! An index of a section's FDEs by their starts, for a section that has no table of its own.
-ghost use Rattle.std.specs.Prelude.{◌≡◌, ◌≢◌, length, map, IfOk, IfErr, Ok, Err, false, IsPermutation};
+ghost use Rattle.std.specs.Prelude.{◌≡◌, ◌≢◌, ◌+◌, ◌^◌, ◌<◌, ◌≤◌, length, map, IfOk, IfErr, Ok, Err, false, IsPermutation};
 ghost use Rattle.framehop_cfi.specs.Section.{section_of};
 ghost use Rattle.framehop_cfi.specs.EntryExtent.{extent_at, is_zero_length};
 ghost use Rattle.framehop_cfi.specs.Entry.{cie_at, head_at, fde_of_head};
 ghost use Rattle.framehop_dwarf.specs.Index.{pair_of, pair_if_read, pair_at, pairs_of, pair_of_key, fde_offset_for, IsFdeFor, IsKnown, IsIndexOf, IsIndexOfAll, IsIndexRefusal, HasNoIndex};
-ghost use Rattle.framehop_dwarf.specs.Tree.{left_to_right, looked_at, IsAscending, IsWithinDigits, IsSearchTree};
+ghost use Rattle.framehop_dwarf.specs.Blocks.{last_start, halvings, IsAscending, AreBelow, AreFrom, IsCountBelow, IsBlockShift, AreBlocks, IsSearched, IsLookedAt, IsWithinDigits};
 ghost use Rattle.framehop_dwarf.specs.declared.index.DwarfCfiIndexError.TheVariants.{Gimli};
 ghost use Rattle.framehop_cfi.specs.declared.read_error.ReadError.TheVariants.{OutOfMemory};
 ghost use Rattle.framehop_dwarf.specs.Bases.{section_in};
@@ -168,6 +168,7 @@ fn read_keys(
     base_svma: u64,
 ) -> Result<Vec<u64>, DwarfCfiIndexError>
     ensures read { IfOk result (λ keys. pairs_of section.now base_svma ≡ Ok (map pair_of_key keys.items)) }
+    ensures few { IfOk result (λ keys. length keys.items ≤ 2 ^ 32) }
     ensures lengths { IfErr result IsIndexRefusal }
     ensures first { IfErr result (λ error. error ≢ Gimli OutOfMemory → pairs_of section.now base_svma ≡ Err error) }
 {
@@ -199,24 +200,28 @@ fn read_keys(
     Ok(keys)
 }
 
-/// An index of a section's FDEs: pairs of a start and an offset, as a search tree by levels.
+/// An index of a section's FDEs: pairs of a start relative to the base address and an offset, in order, with their
+/// places by blocks of addresses.
 #[derive(Drop)]
 pub struct DwarfCfiIndex {
-    /// The starts of the FDEs relative to the base address, with their offsets. The pair at index `i` has the
-    /// pairs before it under index `2 * i + 1`, and those after it under `2 * i + 2`. All levels are full but the
-    /// last, which is filled from the left. Equal starts are in the order of the section.
-    tree: Vec<(u32, u32)>,
+    /// The pairs in order, as keys.
+    keys: Vec<u64>,
+    /// How many addresses a block has, as a power of two.
+    shift: u32,
+    /// Of each block of addresses, from 0 to that in which the last pair starts, how many pairs start before it.
+    blocks: Vec<u32>,
 }
 
 impl Model for DwarfCfiIndex {
-    ghost use Rattle.std.specs.Prelude.{List, ℕ};
-    ghost use Rattle.framehop_dwarf.specs.Tree.{IsAscending, left_to_right};
+    ghost use Rattle.std.specs.Prelude.{List, ℕ, map};
+    ghost use Rattle.framehop_dwarf.specs.Index.{pair_of_key};
+    ghost use Rattle.framehop_dwarf.specs.Blocks.{AreInBlocks};
 
     ghost Value = { List (ℕ × ℕ) };
 
-    ghost view = { λ index. index.tree.items };
+    ghost view = { λ index. map pair_of_key index.keys.items };
 
-    ghost invariant = { λ index. IsAscending (left_to_right index.tree.items) };
+    ghost invariant = { λ index. AreInBlocks (map pair_of_key index.keys.items) index.shift index.blocks.items };
 }
 
 impl DwarfCfiIndex {
@@ -313,76 +318,114 @@ impl DwarfCfiIndex {
     /// digits of the table's length, and 0 for an empty table.
     pub fn lookup_counted(&self, rel_lookup_address: u32) -> (Option<u32>, u32)
         ensures exact { result.0 ≡ fde_offset_for self.now rel_lookup_address }
-        ensures counted { result.1 ≡ looked_at self.now rel_lookup_address (length self.now) 0 }
+        ensures counted { IsLookedAt self.now rel_lookup_address result.1 }
         ensures few { IsWithinDigits result.1 (length self.now) }
     {
-        search(&self.tree, rel_lookup_address)
+        let (begin, end) = self.searched(rel_lookup_address);
+        let (place, count) = halve(&self.keys, rel_lookup_address, begin, end);
+        if place == 0 {
+            return (None, count);
+        }
+        let (_, offset) = pair_of_key(self.keys[place - 1]);
+        (Some(offset), count)
+    }
+
+    /// Returns the places between which the pairs start that are in the block of an address, or in the last block.
+    fn searched(&self, address: u32) -> (usize, usize)
+        ensures { IsSearched self.now address result.0 result.1 }
+    {
+        let Some(last) = self.blocks.len().checked_sub(1) else {
+            return (0, 0);
+        };
+        let block = (address >> self.shift) as usize;
+        if block < last {
+            (self.blocks[block] as usize, self.blocks[block + 1] as usize)
+        } else {
+            (self.blocks[last] as usize, self.keys.len())
+        }
     }
 
     /// Returns the index of the pairs of these keys, in any order.
     fn from_keys(alloc: Global, mut keys: Vec<u64>) -> Result<Self, AllocError>
+        requires { length keys.items ≤ 2 ^ 32 }
         ensures only { IfOk result (λ index. IsPermutation (map pair_of_key keys.items) index) }
-        ensures tree { IfOk result (λ index. IsSearchTree index) }
+        ensures ordered { IfOk result (λ index. IsAscending index) }
     {
         keys.sort_unstable();
-        let tree = fill(alloc, &keys)?;
-        Ok(DwarfCfiIndex { tree })
+        let shift = block_shift(&keys);
+        let blocks = block_counts(alloc, &keys, shift)?;
+        Ok(DwarfCfiIndex {
+            keys,
+            shift,
+            blocks,
+        })
     }
 }
 
-/// Returns the pairs of sorted keys as a search tree by levels.
-///
-/// The loop goes through the levels: `width` is the number of places of one, and `within` of those to the left of
-/// the next. In a tree whose last level is full that is the place `left` from left to right, counted from 1. There
-/// every other place is of the last level, of which only `last_level` are here.
-fn fill(alloc: Global, keys: &[u64]) -> Result<Vec<(u32, u32)>, AllocError>
-    ensures { IfOk result (λ tree. left_to_right tree.items ≡ map pair_of_key keys.now) }
+/// Returns how many addresses a block has, as a power of two, by the last of sorted keys and their number.
+fn block_shift(keys: &[u64]) -> u32
+    ensures sized { IsBlockShift (last_start (map pair_of_key keys.now)) (length keys.now) result }
+    ensures small { result < 32 }
 {
-    let count = keys.len();
-    let mut tree = Vec::with_capacity(alloc, count)?;
-    if count == 0 {
-        return Ok(tree);
+    let Some(last) = keys.last() else {
+        return 0;
+    };
+    let (start, _) = pair_of_key(*last);
+    if start == 0 {
+        return 0;
     }
-    let half = 2usize.pow(count.ilog2());
-    let last_level = count - half + 1;
-    let mut width = 1;
-    let mut step = half;
-    let mut within = 0;
-    for _place in 0..count {
-        if within == width {
-            width *= 2;
-            step /= 2;
-            within = 0;
-        }
-        let left = 2 * within * step + step;
-        let rank = (left - 1) / 2 + (left / 2).min(last_level);
-        tree.push(pair_of_key(keys[rank]))?;
-        within += 1;
-    }
-    Ok(tree)
+    start.ilog2().saturating_sub(keys.len().ilog2())
 }
 
-/// Returns the offset of the last pair at or below an address, and the number of pairs looked at.
-fn search(tree: &[(u32, u32)], address: u32) -> (Option<u32>, u32)
-    requires { IsAscending (left_to_right tree.now) }
-    ensures exact { result.0 ≡ fde_offset_for tree.now address }
-    ensures counted { result.1 ≡ looked_at tree.now address (length tree.now) 0 }
-    ensures few { IsWithinDigits result.1 (length tree.now) }
+/// Returns of each block of 2^shift addresses, up to that in which the last pair starts, how many pairs of sorted
+/// keys start before it.
+fn block_counts(alloc: Global, keys: &[u64], shift: u32) -> Result<Vec<u32>, AllocError>
+    requires ordered { IsAscending (map pair_of_key keys.now) }
+    requires few { length keys.now ≤ 2 ^ 32 }
+    requires small { shift < 32 }
+    ensures { IfOk result (λ blocks. AreBlocks (map pair_of_key keys.now) shift blocks.items) }
 {
+    let Some(last) = keys.last() else {
+        return Ok(Vec::new(alloc));
+    };
+    let (last_start, _) = pair_of_key(*last);
+    let block_count = (last_start >> shift) as usize + 1;
+    let mut counts = Vec::with_capacity(alloc, block_count)?;
     let mut place = 0;
-    let mut found = None;
-    let mut count: u32 = 0;
-    while place < tree.len() {
-        let is_found = tree[place].0 <= address;
-        if is_found {
-            found = Some(place);
+    for block in 0..block_count {
+        let start = (block as u64) << shift;
+        while keys[place] / START_UNIT < start {
+            place += 1;
         }
-        // not by a branch, which a processor could not foresee
-        place = 2 * place + 1 + usize::from(is_found);
+        counts.push(place as u32)?;
+    }
+    Ok(counts)
+}
+
+/// Returns how many pairs of sorted keys start at or below an address, where those before a place do and those from
+/// another on don't, and the number of pairs that the search between these places looks at.
+fn halve(keys: &[u64], address: u32, begin: usize, end: usize) -> (usize, u32)
+    requires ordered { IsAscending (map pair_of_key keys.now) }
+    requires within { (begin ≤ length keys.now) × (end ≤ length keys.now) }
+    requires below { AreBelow (map pair_of_key keys.now) begin (address + 1) }
+    requires above { AreFrom (map pair_of_key keys.now) end (address + 1) }
+    ensures place { IsCountBelow (map pair_of_key keys.now) (address + 1) result.0 }
+    ensures counted { result.1 ≡ halvings (map pair_of_key keys.now) address (length keys.now) begin end }
+    ensures few { IsWithinDigits result.1 (length keys.now) }
+{
+    // of the keys whose pairs start at the address, the greatest that there can be
+    let greatest = u64::from(address) * START_UNIT + (START_UNIT - 1);
+    let mut low = begin;
+    let mut high = end;
+    let mut count: u32 = 0;
+    while low < high {
+        let middle = (low + high) / 2;
+        if keys[middle] <= greatest {
+            low = middle + 1;
+        } else {
+            high = middle;
+        }
         count += 1;
     }
-    match found {
-        Some(place) => (Some(tree[place].1), count),
-        None => (None, count),
-    }
+    (low, count)
 }

@@ -1,193 +1,259 @@
-//! Look-ups in an index with the number of pairs that they look at, and indexes of sections with bad entries.
-use crate::sections::{DEBUG_FRAME, ONE_FDE, TWO_FDES, at, bytes};
+//! Look-ups in an index with the number of pairs that they look at, and refusals of sections.
+ghost use Rattle.std.specs.Prelude.{[], ◌∷◌, codes, None, Some};
+
+use crate::sections::{
+    CUT_DEBUG_FRAME, DEBUG_FRAME, FOUR_FDES, GREAT_LENGTH, ONE_FDE, OTHER_AUGMENTATION, OTHER_CIE,
+    OTHER_VERSION, RESERVED_LENGTH, TWO_FDES, at,
+};
 use framehop_cfi::entry::UnwindSectionType;
 use framehop_cfi::read_error::ReadError;
-use framehop_cfi::section::SectionBytes;
+use framehop_cfi::section::ModuleSectionInfo;
 use framehop_dwarf::index::{DwarfCfiIndex, DwarfCfiIndexError};
 use std::alloc::Global;
-use std::process::Abort;
+use std::ops::Range;
 use std::test::Fail;
 
-/// A CIE, and FDEs for 0x10, 0x20, 0x20 and 0x30 at offsets 24, 52, 80 and 108, in an `.eh_frame` at 0x2000.
-const FOUR_FDES: &str = "14000000 00000000 01 7a5200 01 78 10 01 1b 0c0708 9001 0000 \
-     18000000 1c000000 f0dfffff 08000000 00 41 0e10 8602 43 0d06 000000 \
-     18000000 38000000 e4dfffff 08000000 00 41 0e10 8602 43 0d06 000000 \
-     18000000 54000000 c8dfffff 08000000 00 41 0e10 8602 43 0d06 000000 \
-     18000000 70000000 bcdfffff 08000000 00 41 0e10 8602 43 0d06 000000 00000000";
+const EH_FRAME: UnwindSectionType = UnwindSectionType::EhFrame;
 
-/// The tree is (0x20, 80) over (0x20, 52) and (0x30, 108), with (0x10, 24) under the first of these.
+const DEBUG: UnwindSectionType = UnwindSectionType::DebugFrame;
+
+/// The offset that an index has for an address, and how many pairs the look-up looks at; or why there is no index.
+type Found = Result<(Option<u32>, u32), DwarfCfiIndexError>;
+
+const CUT_OFF: Found = Err(DwarfCfiIndexError::Gimli(ReadError::Eof));
+
+/// A section that begins at an address, and the base address of its module; then an address, and what is found.
+type LookUp = (UnwindSectionType, &'static [u8], u64, u64, u32, Found);
+
+const LOOK_UPS: [LookUp; 25] = [
+    // The logarithms of 0x30 and 4 are 5 and 2, so a block has 2^3 addresses, and there are seven. The pairs are at the
+    // places 0 to 3, and 0, 0, 0, 1, 1, 3 and 3 of them start before each block. Of a block with one pair that one is
+    // looked at, and of the one with two (from 0x20 on) the second, after which none is left.
+    (EH_FRAME, &FOUR_FDES, 0x2000, 0, 0, Ok((None, 0))),
+    (EH_FRAME, &FOUR_FDES, 0x2000, 0, 0x0f, Ok((None, 0))),
+    (EH_FRAME, &FOUR_FDES, 0x2000, 0, 0x10, Ok((Some(24), 1))),
+    (EH_FRAME, &FOUR_FDES, 0x2000, 0, 0x17, Ok((Some(24), 1))),
+    (EH_FRAME, &FOUR_FDES, 0x2000, 0, 0x1f, Ok((Some(24), 0))),
+    (EH_FRAME, &FOUR_FDES, 0x2000, 0, 0x20, Ok((Some(80), 1))),
+    (EH_FRAME, &FOUR_FDES, 0x2000, 0, 0x2f, Ok((Some(80), 0))),
+    (EH_FRAME, &FOUR_FDES, 0x2000, 0, 0x30, Ok((Some(108), 1))),
+    (EH_FRAME, &FOUR_FDES, 0x2000, 0, 0x38, Ok((Some(108), 1))),
+    (
+        EH_FRAME,
+        &FOUR_FDES,
+        0x2000,
+        0,
+        0xffff_ffff,
+        Ok((Some(108), 1)),
+    ),
+    (EH_FRAME, &[0, 0, 0, 0], 0x2000, 0, 0x1000, Ok((None, 0))),
+    (EH_FRAME, &TWO_FDES, 0x2000, 0, 0x1000, Ok((Some(52), 1))),
+    (EH_FRAME, &OTHER_CIE, 0x2000, 0, 0x1000, Ok((Some(24), 1))),
+    (EH_FRAME, &OTHER_VERSION, 0x2000, 0, 0x1000, Ok((None, 0))),
+    // the start is one below the base, and at it
+    (EH_FRAME, &ONE_FDE, 0x2000, 0x1001, 0x1000, Ok((None, 0))),
+    (EH_FRAME, &ONE_FDE, 0x2000, 0x1000, 0, Ok((Some(24), 1))),
+    // it is 2^32 above the base, and 2^32 - 1
+    (
+        EH_FRAME,
+        &ONE_FDE,
+        0x1_0000_2000,
+        0x1000,
+        0x1000,
+        Ok((None, 0)),
+    ),
+    (
+        EH_FRAME,
+        &ONE_FDE,
+        0x1_0000_2000,
+        0x1001,
+        0xffff_fffe,
+        Ok((None, 1)),
+    ),
+    (
+        EH_FRAME,
+        &ONE_FDE,
+        0x1_0000_2000,
+        0x1001,
+        0xffff_ffff,
+        Ok((Some(24), 1)),
+    ),
+    (DEBUG, &OTHER_AUGMENTATION, 0, 0, 0x1000, Ok((None, 0))),
+    (DEBUG, &OTHER_AUGMENTATION, 0, 0, 0x1fff, Ok((None, 0))),
+    (DEBUG, &OTHER_AUGMENTATION, 0, 0, 0x2000, Ok((Some(73), 1))),
+    (
+        EH_FRAME,
+        &RESERVED_LENGTH,
+        0x2000,
+        0,
+        0x1000,
+        Err(DwarfCfiIndexError::Gimli(ReadError::BadLength)),
+    ),
+    (EH_FRAME, &GREAT_LENGTH, 0x2000, 0, 0x1000, CUT_OFF),
+    (DEBUG, &CUT_DEBUG_FRAME, 0, 0, 0x1000, CUT_OFF),
+];
+
+/// What an index of a section finds.
+fn look_up(
+    alloc: Global,
+    section_type: UnwindSectionType,
+    section: &[u8],
+    eh_frame: u64,
+    base_svma: u64,
+    address: u32,
+) -> Found {
+    let index = DwarfCfiIndex::try_new(alloc, section, section_type, at(eh_frame), base_svma)?;
+    Ok(index.lookup_counted(address))
+}
+
 #[test]
-fn pairs_looked_at(rt: HostRuntime) -> Result<(), Fail> {
-    let section = bytes(rt.alloc(), FOUR_FDES)?;
-    let kind = UnwindSectionType::EhFrame;
-    let index = DwarfCfiIndex::try_new(rt.alloc(), section.bytes(), kind, at(0x2000), 0)?;
-    for (address, offset, count) in [
-        (0x0f, None, 3),
-        (0x10, Some(24), 3),
-        (0x1f, Some(24), 3),
-        (0x20, Some(80), 2),
-        (0x2f, Some(80), 2),
-        (0x30, Some(108), 2),
-        (0xffff_ffff, Some(108), 2),
-    ] {
-        let (found, looked_at) = index.lookup_counted(address);
-        assert_eq!(rt; found, offset);
-        assert_eq!(rt; looked_at, count);
+fn finds_by_an_index(rt: HostRuntime) {
+    for (section_type, section, eh_frame, base_svma, address, want) in LOOK_UPS {
+        let found = look_up(
+            rt.alloc(),
+            section_type,
+            section,
+            eh_frame,
+            base_svma,
+            address,
+        );
+        assert_eq!(rt; found, want, "{section:?} at {address:x}");
+    }
+}
+
+/// The CIE of a `.debug_frame`.
+const CIE: [u8; 20] = [
+    0x10, 0x00, 0x00, 0x00, 0xff, 0xff, 0xff, 0xff, 0x04, 0x00, 0x08, 0x00, 0x01, 0x78, 0x10, 0x0c,
+    0x07, 0x08, 0x90, 0x01,
+];
+
+/// An FDE of that CIE before its start, and after it.
+const BEFORE_START: [u8; 8] = [0x1c, 0x00, 0x00, 0x00, 0x00, 0x00, 0x00, 0x00];
+
+const AFTER_START: [u8; 16] = [
+    0x01, 0x00, 0x00, 0x00, 0x00, 0x00, 0x00, 0x00, 0x41, 0x0e, 0x10, 0x86, 0x02, 0x00, 0x00, 0x00,
+];
+
+/// The index of a `.debug_frame` with an FDE for each of these starts. The first is at offset 20, and each takes 32
+/// bytes.
+fn index_of_starts(alloc: Global, starts: &[u64]) -> Result<DwarfCfiIndex, Fail> {
+    let mut section = Vec::from_slice(alloc, &CIE)?;
+    for start in starts {
+        section.extend_from_slice(&BEFORE_START)?;
+        section.extend_from_slice(&start.to_le_bytes())?;
+        section.extend_from_slice(&AFTER_START)?;
+    }
+    Ok(DwarfCfiIndex::try_new(alloc, section.as_slice(), DEBUG, at(0), 0)?)
+}
+
+/// Starts in the order of a section; then an address, its offset, and how many pairs the look-up looks at.
+type Halved = (&'static [u64], u32, Option<u32>, u32);
+
+const EIGHT: [u64; 8] = [0x1_0000, 0x106, 0x105, 0x104, 0x103, 0x102, 0x101, 0x100];
+
+const HALVED: [Halved; 21] = [
+    // The logarithms of 0x10000 and 8 are 16 and 3, so a block has 2^13 addresses: the first block has the places 0 to
+    // 6, the last of nine the place 7. Looked at are the places 3, 1 and 0, each above the address.
+    (&EIGHT, 0, None, 3),
+    // 3, 1, and 0, which starts at it
+    (&EIGHT, 0x100, Some(244), 3),
+    // 3, which starts at it, then 5 and 4
+    (&EIGHT, 0x103, Some(148), 3),
+    // 3, 5 and 6
+    (&EIGHT, 0x106, Some(52), 3),
+    (&EIGHT, 0x1fff, Some(52), 3),
+    // blocks without a pair
+    (&EIGHT, 0x2000, Some(52), 0),
+    (&EIGHT, 0xffff, Some(52), 0),
+    // the last block, and after it
+    (&EIGHT, 0x1_0000, Some(20), 1),
+    (&EIGHT, 0x1_2000, Some(20), 1),
+    // a block has one address, and there is one block
+    (&[0], 0, Some(20), 1),
+    (&[0], 1, Some(20), 1),
+    (&[0], 0xffff_ffff, Some(20), 1),
+    // A block has 2^(12 - 1) addresses, so the last of three begins at 0x1000. Looked at are the second pair, and then
+    // the third.
+    (&[0x1000, 0x1000, 0x1000], 0xfff, None, 0),
+    (&[0x1000, 0x1000, 0x1000], 0x1000, Some(84), 2),
+    (&[0x1000, 0x1000, 0x1000], 0x2000, Some(84), 2),
+    // a block has 2^(31 - 1) addresses, so there are four
+    (&[0xffff_ffff, 0], 0, Some(52), 1),
+    (&[0xffff_ffff, 0], 0x3fff_ffff, Some(52), 1),
+    (&[0xffff_ffff, 0], 0x4000_0000, Some(52), 0),
+    (&[0xffff_ffff, 0], 0xc000_0000, Some(52), 1),
+    (&[0xffff_ffff, 0], 0xffff_fffe, Some(52), 1),
+    (&[0xffff_ffff, 0], 0xffff_ffff, Some(20), 1),
+];
+
+#[test]
+fn halves_a_block(rt: HostRuntime) -> Result<(), Fail> {
+    for (starts, address, offset, count) in HALVED {
+        let index = index_of_starts(rt.alloc(), starts)?;
+        let found = index.lookup_counted(address);
+        assert_eq!(rt; found, (offset, count), "{starts:?} at {address:x}");
         assert_eq!(rt; index.fde_offset_for_relative_address(address), offset);
     }
     Ok(())
 }
 
+/// The section is cut off to where it has no byte, the CIE, the CIE and the FDE, or all, and else inside an entry.
 #[test]
-fn index_without_pairs(rt: HostRuntime) -> Result<(), Fail> {
-    let section = bytes(rt.alloc(), "00000000")?;
-    let kind = UnwindSectionType::EhFrame;
-    let index = DwarfCfiIndex::try_new(rt.alloc(), section.bytes(), kind, at(0x2000), 0)?;
-    let (found, looked_at) = index.lookup_counted(0x1000);
-    assert_eq!(rt; found, None);
-    assert_eq!(rt; looked_at, 0);
-    Ok(())
-}
-
-/// The index of an `.eh_frame` at 0x2000.
-fn index_of(
-    alloc: Global,
-    section: &[u8],
-    base_svma: u64,
-) -> Result<DwarfCfiIndex, DwarfCfiIndexError> {
-    let kind = UnwindSectionType::EhFrame;
-    DwarfCfiIndex::try_new(alloc, section, kind, at(0x2000), base_svma)
-}
-
-/// Tests that an index finds this offset for 0x1000, and looks at so many pairs.
-fn finds<R: Abort>(rt: &R, index: &DwarfCfiIndex, offset: Option<u32>, count: u32) {
-    let (found, looked_at) = index.lookup_counted(0x1000);
-    assert_eq!(rt; found, offset);
-    assert_eq!(rt; looked_at, count);
-}
-
-/// The second FDE names no CIE.
-#[test]
-fn fde_without_a_cie(rt: HostRuntime) -> Result<(), Fail> {
-    let mut section = bytes(rt.alloc(), TWO_FDES)?;
-    finds(&rt, &index_of(rt.alloc(), section.bytes(), 0)?, Some(52), 1);
-    assert!(rt; section.len() > 56);
-    assert_eq!(rt; section[56], 0x38);
-    section[56] = 0x39;
-    finds(&rt, &index_of(rt.alloc(), section.bytes(), 0)?, Some(24), 1);
-    Ok(())
-}
-
-#[test]
-fn start_below_the_base(rt: HostRuntime) -> Result<(), Fail> {
-    let section = bytes(rt.alloc(), ONE_FDE)?;
-    finds(
-        &rt,
-        &index_of(rt.alloc(), section.bytes(), 0x1001)?,
-        None,
-        0,
-    );
-    let index = index_of(rt.alloc(), section.bytes(), 0x1000)?;
-    assert_eq!(rt; index.fde_offset_for_relative_address(0), Some(24));
-    Ok(())
-}
-
-/// The FDE starts 2^32 above the base, and then 2^32 - 1 above it.
-#[test]
-fn start_far_above_the_base(rt: HostRuntime) -> Result<(), Fail> {
-    let section = bytes(rt.alloc(), ONE_FDE)?;
-    let kind = UnwindSectionType::EhFrame;
-    let bases = at(0x1_0000_2000);
-    let index = DwarfCfiIndex::try_new(rt.alloc(), section.bytes(), kind, bases, 0x1000)?;
-    finds(&rt, &index, None, 0);
-    let index = DwarfCfiIndex::try_new(rt.alloc(), section.bytes(), kind, bases, 0x1001)?;
-    assert_eq!(rt; index.fde_offset_for_relative_address(0xffff_fffe), None);
-    assert_eq!(rt;
-        index.fde_offset_for_relative_address(0xffff_ffff),
-        Some(24)
-    );
-    Ok(())
-}
-
-/// Its FDE has no CIE that can be read.
-#[test]
-fn cie_of_an_unknown_version(rt: HostRuntime) -> Result<(), Fail> {
-    let mut section = bytes(rt.alloc(), ONE_FDE)?;
-    assert!(rt; section.len() > 8);
-    section[8] = 2;
-    finds(&rt, &index_of(rt.alloc(), section.bytes(), 0)?, None, 0);
-    Ok(())
-}
-
-/// The FDEs of the CIE after that with the augmentation `S` and no `z` are found.
-#[test]
-fn cie_of_an_unknown_augmentation(rt: HostRuntime) -> Result<(), Fail> {
-    let text = "11000000 ffffffff 04 5300 08 00 01 78 10 0c0708 9001 \
-         1c000000 00000000 0010000000000000 2000000000000000 41 0e10 8602 000000 \
-         10000000 ffffffff 04 00 08 00 01 78 10 0c0708 9001 \
-         1c000000 35000000 0020000000000000 2000000000000000 41 0e10 8602 000000";
-    let section = bytes(rt.alloc(), text)?;
-    let kind = UnwindSectionType::DebugFrame;
-    let index = DwarfCfiIndex::try_new(rt.alloc(), section.bytes(), kind, at(0), 0)?;
-    finds(&rt, &index, None, 1);
-    assert_eq!(rt; index.fde_offset_for_relative_address(0x1fff), None);
-    assert_eq!(rt; index.fde_offset_for_relative_address(0x2000), Some(73));
-    Ok(())
-}
-
-/// The lengths cut the section to its end where it has no byte, the CIE, the CIE and the FDE, or all.
-#[test]
-fn sections_cut_off(rt: HostRuntime) -> Result<(), Fail> {
-    let section = bytes(rt.alloc(), ONE_FDE)?;
-    for (len, offset, count) in [
-        (0, None, 0),
-        (24, None, 0),
-        (52, Some(24), 1),
-        (56, Some(24), 1),
-    ] {
-        assert!(rt; len <= section.len());
-        finds(
-            &rt,
-            &index_of(rt.alloc(), &section[..len], 0)?,
-            offset,
-            count,
-        );
+fn sections_cut_off(rt: HostRuntime) {
+    for len in 0..=ONE_FDE.len() {
+        let want = match len {
+            0 | 24 => Ok((None, 0)),
+            52 | 56 => Ok((Some(24), 1)),
+            _ => CUT_OFF,
+        };
+        let found = look_up(rt.alloc(), EH_FRAME, &ONE_FDE[..len], 0x2000, 0, 0x1000);
+        assert_eq!(rt; found, want, "{len}");
     }
-    let mut refused: usize = 0;
-    for len in 0..section.len() {
-        if let Err(error) = index_of(rt.alloc(), &section[..len], 0) {
-            assert_eq!(rt; error, DwarfCfiIndexError::Gimli(ReadError::Eof));
-            refused = refused.saturating_add(1);
+}
+
+/// A section info that knows where `.eh_frame` begins, and nothing else.
+#[derive(Drop)]
+struct Sections {
+    eh_frame: u64,
+}
+
+impl ModuleSectionInfo<Vec<u8>> for Sections {
+    ghost table = { λ s. record {
+      base_svma = 0;
+      sections = record { names = codes ".eh_frame" ∷ []; range = Some (record { start = s.eh_frame; end = s.eh_frame }); contents = None } ∷ [];
+      segments = [];
+    } };
+
+    fn base_svma(&self) -> u64 {
+        0
+    }
+
+    fn section_svma_range(&mut self, name: &[u8]) -> Option<Range<u64>> {
+        if name == b".eh_frame".as_slice() {
+            return Some(self.eh_frame..self.eh_frame);
         }
+        None
     }
-    assert_eq!(rt; refused, 53);
-    Ok(())
+
+    fn section_data(&mut self, _name: &[u8]) -> Option<Vec<u8>> {
+        None
+    }
+
+    fn segment_svma_range(&mut self, _name: &[u8]) -> Option<Range<u64>> {
+        None
+    }
+
+    fn segment_data(&mut self, _name: &[u8]) -> Option<Vec<u8>> {
+        None
+    }
 }
 
 #[test]
-fn lengths_that_are_refused(rt: HostRuntime) -> Result<(), Fail> {
-    for (first, want) in [(0xf0, ReadError::BadLength), (0xff, ReadError::Eof)] {
-        let mut section = bytes(rt.alloc(), ONE_FDE)?;
-        assert!(rt; section.len() > 4);
-        section[0] = first;
-        section[1] = 0xff;
-        section[2] = 0xff;
-        section[3] = 0xff;
-        let index = index_of(rt.alloc(), section.bytes(), 0);
-        assert_eq!(rt; index.err(), Some(DwarfCfiIndexError::Gimli(want)));
-    }
-    Ok(())
-}
-
-#[test]
-fn debug_frame_cut_off(rt: HostRuntime) -> Result<(), Fail> {
-    let mut section = bytes(rt.alloc(), DEBUG_FRAME)?;
-    assert!(rt; section.pop().is_some());
-    let kind = UnwindSectionType::DebugFrame;
-    let index = DwarfCfiIndex::try_new(rt.alloc(), section.bytes(), kind, at(0), 0);
-    assert_eq!(rt;
-        index.err(),
-        Some(DwarfCfiIndexError::Gimli(ReadError::Eof))
-    );
+fn index_by_section_info(rt: HostRuntime) -> Result<(), Fail> {
+    let mut sections = Sections { eh_frame: 0x2000 };
+    let index = DwarfCfiIndex::try_new_eh_frame(rt.alloc(), &ONE_FDE, &mut sections)?;
+    assert_eq!(rt; index.fde_offset_for_relative_address(0x1000), Some(24));
+    let index = DwarfCfiIndex::try_new_debug_frame(rt.alloc(), &DEBUG_FRAME, &mut sections)?;
+    assert_eq!(rt; index.fde_offset_for_relative_address(0x1000), Some(20));
     Ok(())
 }

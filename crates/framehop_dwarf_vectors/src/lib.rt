@@ -1,12 +1,17 @@
-//! Worked examples of `framehop_dwarf` and `framehop_cfi`, with the values that are to come out. This crate has only
-//! tests.
+//! What only calls of `framehop_dwarf` and `framehop_cfi` show: errors by their names, how many pairs a look-up looks at,
+//! rules of a single register. Rows, and the rules that they give, are cases, in the folders `rows`, `rules` and
+//! `call_frames` of `cases/`. This crate has only tests.
 #![tactic(auto)]
 
-#[cfg(test)]
-mod forms;
 #[cfg(test)]
 mod frames;
 #[cfg(test)]
 mod index;
+#[cfg(test)]
+mod names;
+#[cfg(test)]
+mod rows;
+#[cfg(test)]
+mod rules;
 #[cfg(test)]
 mod sections;

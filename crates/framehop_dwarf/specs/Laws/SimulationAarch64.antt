@@ -1,5 +1,5 @@
 -- aarch64: a rule that a row is translated to does what the row means.
-use Rattle.std.proofs.Common.{◌≡◌, ℕ, ◌*◌, Bool, true, false, Option, Some, None, Result, Ok, ℤ, pos, negsuc, ◌+ℤ◌, ◌*ℤ◌, ◌∙◌, ap, sym, subst, refl, arith, inl, inr, ◌==◌, ◌&&◌, List}
+use Rattle.std.proofs.Common.{◌≡◌, ℕ, ◌*◌, Bool, true, false, Option, Some, None, Ok, ℤ, pos, negsuc, ◌+ℤ◌, ◌*ℤ◌, ◌∙◌, ap, sym, subst, refl, arith, inl, inr, ◌==◌, ◌&&◌, List}
 use Rattle.std.specs.Ordering.{int_eq}
 use Rattle.std.proofs.lemmas.Int.{ints}
 use Rattle.std.proofs.lemmas.Bool.{cases_Bool, and_parts, eqb-true}
@@ -10,7 +10,6 @@ use Rattle.framehop_core.specs.Aarch64.Registers.{Registers, strip_ptr_auth}
 use Rattle.framehop_core.specs.Aarch64.Rules.{Source, kept, stored_at, Demand, nothing_more, frame_pointer_rises, caller, value_from, outcome, outcome_of_line}
 use Rattle.framehop_core.specs.Laws.Aarch64.{caller-answered}
 use Rattle.framehop_core.specs.Laws.Basics.{ok-same, option_map-some}
-use Rattle.framehop_core.specs.declared.error.Error.{Error}
 use Rattle.framehop_core.specs.declared.aarch64.unwind_rule.UnwindRuleAarch64.{UnwindRuleAarch64}
 use Rattle.framehop_core.specs.declared.aarch64.unwind_rule.UnwindRuleAarch64.TheVariants.{OffsetSp, OffsetSpIfFirstFrameOtherwiseStackEndsHere, OffsetSpAndRestoreLr, OffsetSpAndRestoreFpAndLr, UseFramePointer, UseFramepointerWithOffsets}
 use Rattle.framehop_cfi.specs.Row.{Row, rule_of}

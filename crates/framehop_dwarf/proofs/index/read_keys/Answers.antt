@@ -1,13 +1,14 @@
-use Rattle.std.proofs.Common.{◌<◌, ◌∙◌, suc, length, map, sym, ap, arith}
+use Rattle.std.proofs.Common.{◌<◌, ◌∙◌, suc, [], ◌∷◌, length, length-append, map, sym, ap, arith}
 use Rattle.framehop_cfi.specs.Section.{Section}
 use Rattle.framehop_dwarf.specs.Index.{pair_of_key, no_memory}
 use Rattle.framehop_dwarf.proofs.Lengths.{refused-length}
-use Rattle.framehop_dwarf.proofs.Walk.{span-refused, past-other, past-fde, begins, pushed, keyed}
+use Rattle.framehop_dwarf.proofs.Walk.{span-refused, past-other, past-fde, begins, pushed, keyed, offset-small}
 use Rattle.framehop_dwarf.proofs.index.read_keys.Goals as goal
 
 pub loop-at-init : goal.loop-at-init
 loop-at-init c = record {
   known = tt;
+  few = let none = ap length c.new-keys.ensures.items in (omega arith, omega arith);
   rest = (suc (length c.args.section.now.bytes), omega arith, begins c.args.section.now c.args.base_svma (map pair_of_key c.new-keys.result.items) (ap (map pair_of_key) c.new-keys.ensures.items));
 }
 
@@ -37,7 +38,11 @@ loop-at-preserved c =
     let further : c.loop-at.at < c.in-Ok.span.end = omega arith in
     let some = sym c.is_zero_length.ensures ∙ c.if-is_zero_length.false in
     let on = past-other c.args.section.now c.args.base_svma (map pair_of_key c.loop-at.keys.items) inv.0 c.loop-at.at c.in-Ok.span (inv.1, inside) further (sym read) some (sym c.visit_entry.ensures.exact ∙ c.in-None.is) in
-    record { known = c.visit_entry.ensures.known; rest = (on.0, on.1, on.2 ∙ inv.2) }
+    record {
+      known = c.visit_entry.ensures.known;
+      few = (let so = c.loop-at.invariant.few.0 in omega arith, c.loop-at.invariant.few.1);
+      rest = (on.0, on.1, on.2 ∙ inv.2);
+    }
 
 pub loop-at-preserved-else-is_err : goal.loop-at-preserved-else-is_err
 loop-at-preserved-else-is_err c =
@@ -51,7 +56,12 @@ loop-at-preserved-else-is_err c =
     let further : c.loop-at.at < c.in-Ok.span.end = omega arith in
     let some = sym c.is_zero_length.ensures ∙ c.if-is_zero_length.false in
     let on = past-fde c.args.section.now c.args.base_svma (map pair_of_key c.loop-at.keys.items) inv.0 c.loop-at.at c.in-Ok.span c.in-Some.pair (inv.1, inside) further (sym read) some (sym c.visit_entry.ensures.exact ∙ c.in-Some.is) in
+    let all = pushed c.push.result _ _ _ (sym c.is_err.ensures.value ∙ c.if-is_err.false) c.push.ensures.items in
+    let long = ap length all ∙ length-append c.loop-at.keys.items (c.key_of.result ∷ []) in
+    let so = c.loop-at.invariant.few.0 in
+    let at_small = offset-small c.args.section.now c.args.base_svma c.loop-at.at c.in-Some.pair (sym c.visit_entry.ensures.exact ∙ c.in-Some.is) in
     record {
       known = c.visit_entry.ensures.known;
-      rest = (on.0, on.1, rw (pushed c.push.result _ _ _ (sym c.is_err.ensures.value ∙ c.if-is_err.false) c.push.ensures.items, keyed c.loop-at.keys.items c.key_of.result c.in-Some.pair c.key_of.ensures) (on.2 ∙ inv.2));
+      few = (omega arith, omega arith);
+      rest = (on.0, on.1, rw (all, keyed c.loop-at.keys.items c.key_of.result c.in-Some.pair c.key_of.ensures) (on.2 ∙ inv.2));
     }
