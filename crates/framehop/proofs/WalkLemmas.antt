@@ -1,5 +1,7 @@
 -- A walk, one call of the iterator at a time.
 use Rattle.std.proofs.Common.{◌≡◌, ℕ, suc, Bool, true, false, cond, ◌==◌, List, [], ◌∷◌, ◌++◌, Option, Some, None, option_map, Result, Ok, Err, refl, sym, ap, ◌∙◌, append_assoc, append-nil, subst}
+use Rattle.std.specs.Fn.{Mut}
+use Rattle.framehop_core.specs.Memory.{Memory, Answering}
 use Rattle.framehop_core.specs.Outcome.{Outcome, answered, root, refused}
 use Rattle.framehop_core.specs.CodeAddress.{FrameLocation, at_return_address}
 use Rattle.framehop_core.specs.declared.error.Error.{Error}
@@ -8,6 +10,11 @@ use Rattle.framehop.specs.Walk.{Walk, End, at_root, at_refusal, at_limit, frame_
 use Rattle.framehop.specs.SessionView.{end_of}
 use Rattle.framehop.specs.declared.session.commands.WalkEnd.{WalkEnd}
 use Rattle.framehop.specs.Iterator.{Progress, before, at_frame, at_end, Next, next_of, next_after, frames_in, end_in, walk_on, cache_on, cache_after_next}
+
+-- what was done holds where the callback is then
+pub Answering-to : {F : Type 0} (calls : Mut F (ℕ × Unit {0}) (Result ℕ (Unit {0}))) {old new after : F} {Holds : Memory → Type 0}
+    → Answering calls old new Holds → new ≡ after → Answering calls old after Holds
+Answering-to calls {old} {new} {after} {Holds} done same = subst (λ f. Answering calls old f Holds) same done
 
 -- the frames so far before a walk
 abbrev pub frames_before : {Regs : Type 0} → List FrameLocation → Walk Regs → Walk Regs

@@ -1,6 +1,6 @@
 //! The iterator over the frames of a stack.
 ghost use Rattle.std.specs.Prelude.{◌≡◌, ◌≢◌, IfOk, IfErr, IfSome, IfNone, Ok, Err};
-ghost use Rattle.framehop.specs.Memory.{Memory, AnswersAs};
+ghost use Rattle.framehop.specs.Memory.{Memory, AnswersAs, Answering};
 ghost use Rattle.framehop.specs.CodeAddress.{location_of};
 ghost use Rattle.framehop.specs.Iterator.{before};
 ghost use Rattle.framehop.specs.UnwindIterator.{unwinder_of, progress_in, regs_of, cache_of, read_stack_of};
@@ -88,13 +88,25 @@ impl<U: Unwinder, F: FnMut(u64) -> Result<u64, ()>> UnwindIterator<'_, '_, '_, U
     ghost use Rattle.framehop.specs.CodeAddress.{location_of};
     ghost use Rattle.framehop.specs.Iterator.{at_frame, at_end, location_answer, next_of, Moves, MeansNext, AtFrame, NeedsNoStep, cache_after_next};
     ghost use Rattle.framehop.specs.UnwindIterator.{unwinder_of, progress_in, regs_of, cache_of, read_stack_of};
-    ghost use Rattle.framehop.specs.Memory.{Memory, AnswersAs};
+    ghost use Rattle.framehop.specs.Memory.{Memory, AnswersAs, Answering};
     ghost use Rattle.framehop.specs.Modules.{UnwinderView};
     ghost use Rattle.framehop.specs.Soundness.{AreApart};
 
-    /// The next frame: the instruction pointer, then return addresses, and `Ok(None)` from the
-    /// root on. After an error the next call tries the same frame again. A return address 0 is
-    /// `ReturnAddressIsNull`, and the registers are the caller's by then.
+    /// Returns the next frame: the instruction pointer, then return addresses, and `Ok(None)` from
+    /// the root on.
+    ///
+    /// # Errors
+    ///
+    /// Why the frame can't be unwound. The next call tries the same frame again. A return address 0
+    /// is `ReturnAddressIsNull`, and the registers are the caller's by then.
+    ///
+    /// # Examples
+    ///
+    /// ```
+    /// while let Ok(Some(frame)) = frames.next() {
+    ///     write!(out, "{:x} ", frame.address())?;
+    /// }
+    /// ```
     #[allow(clippy::should_implement_trait)]
     pub fn next(&mut self) -> Result<Option<FrameAddress>, Error>
         requires { F.IsAlwaysCallable (read_stack_of self.old).now }
@@ -117,11 +129,10 @@ impl<U: Unwinder, F: FnMut(u64) -> Result<u64, ()>> UnwindIterator<'_, '_, '_, U
             ≡ cache_after_next (U.cache_after (unwinder_of self.old).now) (progress_in self.old) (cache_of self.old).now }
         ensures not_cached { result ≡ Err Error.OutOfMemory → (cache_of self.new).now
             ≡ cache_after_next (U.cache_after_lookup (unwinder_of self.old).now) (progress_in self.old) (cache_of self.old).now }
-        ensures answers { (memory : Memory) → AnswersAs F.FnMut (read_stack_of self.old).now memory
-            → U.is_sound (U.unwinder_view (unwinder_of self.old).now) (cache_of self.old).now
-            → let next = next_of (λ location regs. U.step (unwinder_of self.old).now location regs memory) (progress_in self.old) (regs_of self.old) in
-            AnswersAs F.FnMut (read_stack_of self.new).now memory
-            × (result ≢ Err Error.OutOfMemory →
+        ensures answers { U.is_sound (U.unwinder_view (unwinder_of self.old).now) (cache_of self.old).now
+            → Answering F.FnMut (read_stack_of self.old).now (read_stack_of self.new).now (λ memory.
+            let next = next_of (λ location regs. U.step (unwinder_of self.old).now location regs memory) (progress_in self.old) (regs_of self.old) in
+            result ≢ Err Error.OutOfMemory →
             (location_answer result ≡ next.answer) × (progress_in self.new ≡ next.progress) × (regs_of self.new ≡ next.regs)) }
         ensures means { (memory : Memory) → AnswersAs F.FnMut (read_stack_of self.old).now memory
             → U.is_sound (U.unwinder_view (unwinder_of self.old).now) (cache_of self.old).now

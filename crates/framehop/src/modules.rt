@@ -1,6 +1,6 @@
 //! Modules that are loaded in a process, and unwinding by their unwind data.
 ghost use Rattle.std.specs.Prelude.{◌≡◌, ◌≢◌, ◌+◌, ◌-◌, ◌<◌, true, IfOk, IfErr, SomeIff, IsTrue, option_map, ℕ, List, Ok, Err, None, string_bytes, Option};
-ghost use Rattle.framehop.specs.Memory.{Memory, AnswersAs};
+ghost use Rattle.framehop.specs.Memory.{Memory, Answering};
 ghost use Rattle.framehop.specs.Unwinding.{Unwinding, answer_by, may_take_memory_by};
 ghost use Rattle.framehop.specs.CallFrames.{frames_with_header, frames_answer, fde_answer, fde_offset_of, fde_may_take_memory};
 ghost use Rattle.framehop_dwarf.specs.MayTakeMemory.{may_take_memory};
@@ -133,9 +133,26 @@ impl<D: SectionBytes + Drop> Clone for Module<D> {
 }
 
 impl<D: SectionBytes + Drop> Module<D> {
-    /// A module of the name that is loaded at the addresses (AVMAs) from `avma_range.start` to
-    /// below `avma_range.end`. Its relative address 0 is `base_avma`. The sections are asked for
-    /// the unwind data. Fails only with `OutOfMemory`.
+    /// Returns a module of the name that is loaded at the addresses (AVMAs) from `avma_range.start`
+    /// to below `avma_range.end`. Its relative address 0 is `base_avma`. The sections are asked for
+    /// the unwind data.
+    ///
+    /// # Errors
+    ///
+    /// `OutOfMemory` where an allocation fails.
+    ///
+    /// # Examples
+    ///
+    /// ```
+    /// let name = String::from_str(alloc, "libexample.so")?;
+    /// let module = Module::new(
+    ///     alloc,
+    ///     name,
+    ///     0x7f0000001000..0x7f0000003000,
+    ///     0x7f0000000000,
+    ///     sections,
+    /// )?;
+    /// ```
     pub fn new<I: ModuleSectionInfo<D> + Drop>(
         alloc: Global,
         name: String,
@@ -252,9 +269,8 @@ where
         P.policy.rows P.policy.values unwinder.old.section (unwinder.old.base_svma + relative_address) fde_offset ≡ true }
     ensures told { result ≢ Err out_of_memory → TellsAnswer
         (fde_answer A.readers.rows P.policy unwinder.old.section (unwinder.old.base_svma + relative_address) is_first_frame fde_offset) result }
-    ensures answers { (memory : Memory) → AnswersAs F.FnMut read_stack.old memory
-        → AnswersAs F.FnMut read_stack.new memory
-        × (result ≢ Err out_of_memory → TellsValues
+    ensures answers { Answering F.FnMut read_stack.old read_stack.new (λ memory.
+        result ≢ Err out_of_memory → TellsValues
         (fde_answer A.readers.rows P.policy unwinder.old.section (unwinder.old.base_svma + relative_address) is_first_frame fde_offset)
         regs.old memory result regs.new) }
 {
@@ -295,9 +311,8 @@ where
         (fde_offset_of (frames_with_header eh_frame_hdr.now eh_frame.now base_addresses base_svma) relative_address) ≡ true }
     ensures told { result ≢ Err out_of_memory → TellsAnswer
         (frames_answer A.readers.rows P.policy (frames_with_header eh_frame_hdr.now eh_frame.now base_addresses base_svma) relative_address is_first_frame) result }
-    ensures answers { (memory : Memory) → AnswersAs F.FnMut read_stack.old memory
-        → AnswersAs F.FnMut read_stack.new memory
-        × (result ≢ Err out_of_memory → TellsValues
+    ensures answers { Answering F.FnMut read_stack.old read_stack.new (λ memory.
+        result ≢ Err out_of_memory → TellsValues
         (frames_answer A.readers.rows P.policy (frames_with_header eh_frame_hdr.now eh_frame.now base_addresses base_svma) relative_address is_first_frame)
         regs.old memory result regs.new) }
 {
@@ -351,9 +366,8 @@ impl<D: SectionBytes> IndexedFrames<D> {
             P.policy self.now relative_address (fde_offset_of self.now relative_address) ≡ true }
         ensures told { result ≢ Err out_of_memory → TellsAnswer
             (frames_answer A.readers.rows P.policy self.now relative_address is_first_frame) result }
-        ensures answers { (memory : Memory) → AnswersAs F.FnMut read_stack.old memory
-            → AnswersAs F.FnMut read_stack.new memory
-            × (result ≢ Err out_of_memory → TellsValues
+        ensures answers { Answering F.FnMut read_stack.old read_stack.new (λ memory.
+            result ≢ Err out_of_memory → TellsValues
             (frames_answer A.readers.rows P.policy self.now relative_address is_first_frame) regs.old memory result regs.new) }
     {
         let Some(fde_offset) = self.fde_offset(relative_address) else {
@@ -422,9 +436,8 @@ impl<D: SectionBytes> CompactInfo<D> {
         ensures memory { result ≡ Err out_of_memory → eh_frame_may_take_memory P.policy self.now.frames relative_address fde_offset ≡ true }
         ensures told { result ≢ Err out_of_memory → TellsAnswer
             (by_info A.readers.rows P.policy self.now.frames relative_address is_first_frame (Ok (NeedDwarf fde_offset))) result }
-        ensures answers { (memory : Memory) → AnswersAs F.FnMut read_stack.old memory
-            → AnswersAs F.FnMut read_stack.new memory
-            × (result ≢ Err out_of_memory → TellsValues
+        ensures answers { Answering F.FnMut read_stack.old read_stack.new (λ memory.
+            result ≢ Err out_of_memory → TellsValues
             (by_info A.readers.rows P.policy self.now.frames relative_address is_first_frame (Ok (NeedDwarf fde_offset))) regs.old memory result regs.new) }
     {
         let Some(eh_frame) = &self.eh_frame else {
@@ -470,9 +483,8 @@ impl<D: SectionBytes> CompactInfo<D> {
         ensures told { result ≢ Err out_of_memory → TellsAnswer
             (compact_answer A.readers.compact
             A.readers.rows P.policy self.now relative_address is_first_frame) result }
-        ensures answers { (memory : Memory) → AnswersAs F.FnMut read_stack.old memory
-            → AnswersAs F.FnMut read_stack.new memory
-            × (result ≢ Err out_of_memory → TellsValues
+        ensures answers { Answering F.FnMut read_stack.old read_stack.new (λ memory.
+            result ≢ Err out_of_memory → TellsValues
             (compact_answer A.readers.compact
             A.readers.rows P.policy self.now relative_address is_first_frame) regs.old memory result regs.new) }
     {
@@ -509,11 +521,10 @@ where
     ensures memory { result ≢ Err out_of_memory }
     ensures told { TellsAnswer (fresh_of (A.found (sections_of D.contents sections.entry) relative_address is_first_frame)
         (λ old memory. A.computed (sections_of D.contents sections.entry) relative_address is_first_frame memory old)) result }
-    ensures answers { (memory : Memory) → AnswersAs F.FnMut read_stack.old memory
-        → AnswersAs F.FnMut read_stack.new memory
-        × TellsValues (fresh_of (A.found (sections_of D.contents sections.entry) relative_address is_first_frame)
+    ensures answers { Answering F.FnMut read_stack.old read_stack.new (λ memory.
+        TellsValues (fresh_of (A.found (sections_of D.contents sections.entry) relative_address is_first_frame)
         (λ old memory. A.computed (sections_of D.contents sections.entry) relative_address is_first_frame memory old))
-        regs.old memory result regs.new }
+        regs.old memory result regs.new) }
 {
     match <A as PeUnwinding>::unwind_frame(
         sections,
@@ -561,9 +572,8 @@ impl<D: SectionBytes> Module<D> {
             A.readers P.policy self.now relative_address is_first_frame ≡ true }
         ensures told { result ≢ Err out_of_memory → TellsAnswer
             (answer_by A.readers P.policy self.now relative_address is_first_frame) result }
-        ensures answers { (memory : Memory) → AnswersAs F.FnMut read_stack.old memory
-            → AnswersAs F.FnMut read_stack.new memory
-            × (result ≢ Err out_of_memory → TellsValues
+        ensures answers { Answering F.FnMut read_stack.old read_stack.new (λ memory.
+            result ≢ Err out_of_memory → TellsValues
             (answer_by A.readers P.policy self.now relative_address is_first_frame) regs.old memory result regs.new) }
     {
         match &*self.unwind_data {

@@ -1,6 +1,6 @@
 //! Lists of commands over unwinders that share caches.
 ghost use Rattle.std.specs.Prelude.{◌≡◌, ◌≢◌, ◌+◌, ◌≤◌, map, IfOk, IfErr, length};
-ghost use Rattle.framehop.specs.Memory.{Memory as StackMemory, AnswersAs};
+ghost use Rattle.framehop.specs.Memory.{Answering};
 ghost use Rattle.framehop.specs.SessionView.{result_view, reply_view};
 ghost use Rattle.framehop.specs.World.{empty_world, world_replies};
 ghost use Rattle.framehop.specs.Soundness.{AreApart};
@@ -86,10 +86,9 @@ where
     ensures stays_sound { (other : UnwinderView) → AreApart unwinder.now other
         → IsSoundAarch64 P.policy other cache.old.0 → IsSoundAarch64 P.policy other cache.new.0 }
     ensures refused { IfErr result (λ error. error ≡ SessionError.OutOfMemory) }
-    ensures answers { (memory : StackMemory) → AnswersAs F.FnMut read_stack.old memory
-        → IsSoundAarch64 P.policy unwinder.now cache.old.0
-        → AnswersAs F.FnMut read_stack.new memory
-        × IfOk result (λ reply. IsWalkToEnd P.policy unwinder.now memory pc regs (reply_view reply) cache.old cache.new) }
+    ensures answers { IsSoundAarch64 P.policy unwinder.now cache.old.0
+        → Answering F.FnMut read_stack.old read_stack.new (λ memory.
+        IfOk result (λ reply. IsWalkToEnd P.policy unwinder.now memory pc regs (reply_view reply) cache.old cache.new)) }
 {
     let mut frames = Vec::new(alloc);
     let mut unwinding = unwinder.iter_frames(pc, regs, cache, read_stack);

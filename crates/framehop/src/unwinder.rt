@@ -1,6 +1,6 @@
 //! Unwinders: the modules of a process, and steps by them over a cache.
 ghost use Rattle.std.specs.Prelude.{◌≡◌, ◌≢◌, ◌+◌, ◌-◌, ◌^◌, ◌<◌, ◌↔◌, ◌⊎◌, refl, Bool, true, false, IfOk, IfErr, IfSome, IfNone, IsOk, OnOk, OnSome, IsErrAnd, remove, slice_index_or, MatchOption, MatchResult, IsTrue, ℕ, List, Ok, Err, None, length, take, drop, ◌≤◌, Option, []};
-ghost use Rattle.framehop.specs.Memory.{Memory, AnswersAs};
+ghost use Rattle.framehop.specs.Memory.{Memory, AnswersAs, Answering};
 ghost use Rattle.framehop.specs.Outcome.{Outcome, answered, answer_of, registers_after};
 ghost use Rattle.framehop.specs.CodeAddress.{FrameLocation, location_of, is_first_frame};
 ghost use Rattle.framehop.specs.Iterator.{before};
@@ -254,8 +254,21 @@ pub trait Unwinder: Clone {
     ghost means: { Self → FrameLocation → Self.UnwindRegs → Memory → ℕ → Self.UnwindRegs → Type 0 };
 
     /// Adds a module that is loaded in the process, after those of equal start, and takes the
-    /// next generation. The module comes back where the counter is at its end (tested first) or
-    /// memory is refused; then the unwinder and the counter are unchanged.
+    /// next generation.
+    ///
+    /// # Errors
+    ///
+    /// `GenerationsExhausted` where the counter is at its end (tested first), and `OutOfMemory`. The
+    /// module comes back, and the unwinder and the counter are unchanged.
+    ///
+    /// # Examples
+    ///
+    /// ```
+    /// if let Err(refused) = unwinder.add_module(module, &mut generations) {
+    ///     // The module comes back in `refused.module`.
+    ///     return Err(refused.cause)?;
+    /// }
+    /// ```
     fn add_module(
         &mut self,
         module: Self::Module,
@@ -274,8 +287,18 @@ pub trait Unwinder: Clone {
             ↔ IsErrAnd result (λ back. back.cause ≡ ModuleListError.GenerationsExhausted) };
 
     /// Removes the module that starts at the address (AVMA), the newest of those, and takes the next
-    /// generation. Without such a module nothing happens; with one, the counter's end is the only
-    /// refusal, and changes nothing. It takes no memory.
+    /// generation. Without such a module nothing happens. It takes no memory.
+    ///
+    /// # Errors
+    ///
+    /// `GenerationsExhausted` where there is such a module and the counter is at its end. Nothing is
+    /// changed.
+    ///
+    /// # Examples
+    ///
+    /// ```
+    /// unwinder.remove_module(10, &mut generations)?;
+    /// ```
     fn remove_module(
         &mut self,
         module_avma_range_start: u64,
@@ -302,9 +325,13 @@ pub trait Unwinder: Clone {
     fn max_known_code_address(&self) -> u64
         ensures { result ≡ greatest_end (unwinder_view self.now).modules };
 
-    /// Unwinds a single frame: returns its return address (AVMA), `None` at the root of the stack,
-    /// or why it can't be unwound, and writes the caller's registers where it returns an address.
-    /// `read_stack` reads the stack word at an address (AVMA).
+    /// Unwinds a single frame: returns its return address (AVMA), or `None` at the root of the stack,
+    /// and writes the caller's registers where it returns an address. `read_stack` reads the stack
+    /// word at an address (AVMA).
+    ///
+    /// # Errors
+    ///
+    /// Why the frame can't be unwound. The registers are unchanged.
     fn unwind_frame<F>(
         &self,
         address: FrameAddress,
@@ -327,9 +354,9 @@ pub trait Unwinder: Clone {
         ensures extends { extends self.now cache.old cache.new }
         ensures stays_sound { (other : UnwinderView) → AreApart (unwinder_view self.now) other
             → is_sound other cache.old → is_sound other cache.new }
-        ensures answers { (memory : Memory) → AnswersAs F.FnMut read_stack.old memory → is_sound (unwinder_view self.now) cache.old
-            → AnswersAs F.FnMut read_stack.new memory
-            × (result ≢ Err Error.OutOfMemory →
+        ensures answers { is_sound (unwinder_view self.now) cache.old
+            → Answering F.FnMut read_stack.old read_stack.new (λ memory.
+            result ≢ Err Error.OutOfMemory →
             (result ≡ answer_of (step self.now (location_of address) regs.old memory))
             × (regs.new ≡ registers_after regs.old (step self.now (location_of address) regs.old memory))) }
         ensures means { (memory : Memory) → AnswersAs F.FnMut read_stack.old memory → is_sound (unwinder_view self.now) cache.old
@@ -339,8 +366,14 @@ pub trait Unwinder: Clone {
     ghost step_means: { (unwinder : Self) (location : FrameLocation) (old new : Self.UnwindRegs) (memory : Memory) (address : ℕ)
         → step unwinder location old memory ≡ answered address new → means unwinder location old memory address new };
 
-    /// An iterator over the frames of a stack, from the instruction pointer (AVMA) and the initial
-    /// registers on.
+    /// Returns an iterator over the frames of a stack, from the instruction pointer (AVMA) and the
+    /// initial registers on.
+    ///
+    /// # Examples
+    ///
+    /// ```
+    /// let mut walk = unwinder.iter_frames(regs.ip(), regs, &mut cache, &mut read_stack);
+    /// ```
     final fn iter_frames<'u, 'c, 'r, F>(
         &'u self,
         pc: u64,
@@ -588,9 +621,8 @@ impl<D: SectionBytes + Drop, A: Unwinding, P: AllocationPolicy> UnwinderInternal
         ensures written { IfOk result (λ answer. WritesComputed (A.step_advances is_first_frame) answer regs.old regs.new) }
         ensures executable { IfOk result (AnswerHas (λ rule. A.UnwindRule.executable rule ≡ true)) }
         ensures told { IfOk result (TellsFresh (fresh (A.unwinding P.policy) self.now.modules lookup_address is_first_frame)) }
-        ensures answers { (memory : Memory) → AnswersAs F.FnMut read_stack.old memory
-            → AnswersAs F.FnMut read_stack.new memory
-            × IfOk result (λ answer. TellsFreshValues (fresh (A.unwinding P.policy) self.now.modules lookup_address is_first_frame) regs.old memory answer regs.new) }
+        ensures answers { Answering F.FnMut read_stack.old read_stack.new (λ memory.
+            IfOk result (λ answer. TellsFreshValues (fresh (A.unwinding P.policy) self.now.modules lookup_address is_first_frame) regs.old memory answer regs.new)) }
     {
         let Some((module, relative_address)) = self.find_module_for_address(lookup_address) else {
             return Ok(FrameAnswer::Rule(A::UnwindRule::fallback_rule()));
@@ -629,9 +661,8 @@ impl<D: SectionBytes + Drop, A: Unwinding, P: AllocationPolicy> UnwinderInternal
           sets = sets_after_miss cache.old.sets handle (fresh (A.unwinding P.policy) self.now.modules lookup_address is_first_frame);
         } }
         ensures not_stored { result ≡ Err Error.OutOfMemory → cache.new ≡ cache.old }
-        ensures answers { (memory : Memory) → AnswersAs F.FnMut read_stack.old memory
-            → AnswersAs F.FnMut read_stack.new memory
-            × (result ≢ Err Error.OutOfMemory →
+        ensures answers { Answering F.FnMut read_stack.old read_stack.new (λ memory.
+            result ≢ Err Error.OutOfMemory →
             let outcome = outcome_of (A.unwinding P.policy) (fresh (A.unwinding P.policy) self.now.modules lookup_address is_first_frame) is_first_frame regs.old memory in
             (result ≡ answer_of outcome) × (regs.new ≡ registers_after regs.old outcome)) }
     {

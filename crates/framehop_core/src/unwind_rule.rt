@@ -1,6 +1,6 @@
 //! The rules that unwind one frame, for any architecture, and runs of rules.
 ghost use Rattle.std.specs.Prelude.{◌≡◌, ◌≢◌, ℕ, ◌≤◌, Bool, true, IsTrue, All, MatchResult, IfOk, OnSome, IfNone, Result};
-ghost use Rattle.framehop_core.specs.Memory.{Memory, AnswersAs};
+ghost use Rattle.framehop_core.specs.Memory.{Memory, Answering};
 ghost use Rattle.framehop_core.specs.Runs.{run_of, StepsBy, Raises};
 ghost use Rattle.framehop_core.specs.Outcome.{Outcome, answer_of, registers_after, address_at, word_at, word_from, read_of, above, beside};
 
@@ -56,10 +56,9 @@ pub trait UnwindRule: Copy + fmt::Debug {
         ensures advances { IfOk result
             (λ answer. OnSome answer (advances is_first_frame regs.old regs.new)) }
         ensures never_out_of_memory { result ≢ Err Error.OutOfMemory }
-        ensures answers { (memory : Memory) → AnswersAs F.FnMut read_stack.old memory
-            → AnswersAs F.FnMut read_stack.new memory
-            × (result ≡ answer_of (outcome self is_first_frame regs.old memory))
-            × (regs.new ≡ registers_after regs.old (outcome self is_first_frame regs.old memory)) };
+        ensures answers { Answering F.FnMut read_stack.old read_stack.new (λ memory.
+            (result ≡ answer_of (outcome self is_first_frame regs.old memory))
+            × (regs.new ≡ registers_after regs.old (outcome self is_first_frame regs.old memory))) };
 
     /// The rule inside stub functions.
     fn rule_for_stub_functions() -> Self
@@ -111,9 +110,8 @@ pub fn run_rules<R: UnwindRule, F: FnMut(u64) -> Result<u64, ()>>(
     requires can_read { F.IsAlwaysCallable read_stack.old }
     ensures callable { F.IsAlwaysCallable read_stack.new }
     ensures advances { StepsBy R.advances true result.0 regs.old regs.new }
-    ensures answers { (memory : Memory) → AnswersAs F.FnMut read_stack.old memory
-        → AnswersAs F.FnMut read_stack.new memory
-        × (run_of R.outcome true rules.now regs.old memory
+    ensures answers { Answering F.FnMut read_stack.old read_stack.new (λ memory.
+        run_of R.outcome true rules.now regs.old memory
         ≡ record { count = result.0; end = result.1; registers = regs.new }) }
 {
     for (answered, rule) in rules.iter().enumerate() {
@@ -138,8 +136,7 @@ pub fn read_stack_word<F: FnMut(u64) -> Result<u64, ()>>(
         × F.step read_stack.old address reply read_stack.new
         × (result ≡ read_of address reply) }
     ensures never_out_of_memory { result ≢ Err Error.OutOfMemory }
-    ensures answers { (memory : Memory) → AnswersAs F.FnMut read_stack.old memory
-        → AnswersAs F.FnMut read_stack.new memory × (result ≡ word_at memory address) }
+    ensures answers { Answering F.FnMut read_stack.old read_stack.new (λ memory. result ≡ word_at memory address) }
 {
     match read_stack(address) {
         Ok(word) => Ok(word),
@@ -175,9 +172,7 @@ pub(crate) fn read_word_beside<F: FnMut(u64) -> Result<u64, ()>>(
     requires { F.IsAlwaysCallable read_stack.old }
     ensures callable { F.IsAlwaysCallable read_stack.new }
     ensures never_out_of_memory { result ≢ Err Error.OutOfMemory }
-    ensures answers { (memory : Memory) → AnswersAs F.FnMut read_stack.old memory
-        → AnswersAs F.FnMut read_stack.new memory
-        × (result ≡ word_from memory (beside base offset_by_8)) }
+    ensures answers { Answering F.FnMut read_stack.old read_stack.new (λ memory. result ≡ word_from memory (beside base offset_by_8)) }
 {
     read_stack_word(read_stack, address_beside(base, offset_by_8)?)
 }

@@ -1,6 +1,6 @@
 //! From a row of call frame information to a frame: what both architectures share.
 ghost use Rattle.std.specs.Prelude.{◌≡◌, ◌≢◌, ◌^◌, ℕ, Bool, true, IsTrue, List, Option, Result, Ok, Err, Some, None, IfOk, IfErr, OnErr, pos, negsuc, ◌+ℤ◌, ◌≤ℤ◌, option_and_then};
-ghost use Rattle.framehop_core.specs.Memory.{Memory, AnswersAs};
+ghost use Rattle.framehop_core.specs.Memory.{Memory, Answering};
 ghost use Rattle.framehop_core.specs.Outcome.{answered};
 ghost use Rattle.framehop_cfi.specs.Row.{Row};
 ghost use Rattle.framehop_dwarf.specs.Told.{no_memory, NeedsNoStack, TellsFound, WritesWithAddress, TellsDirect, IsRule, IsMeant, RuleHas, AdvancesWithAddress};
@@ -71,10 +71,9 @@ pub trait DwarfUnwinding: Arch {
         ensures means { (rule : Self.UnwindRule) (first : Bool) (old new : Self.UnwindRegs) (memory : Memory) (address : ℕ)
             → IsRule rule result → Self.UnwindRule.outcome rule first old memory ≡ answered address new
             → row_means section.now memory unwind_info.now first old address new }
-        ensures answers { (memory : Memory) → AnswersAs F.FnMut read_stack.old memory
-            → AnswersAs F.FnMut read_stack.new memory
-            × TellsDirect (direct section.now E.Stack.limit memory unwind_info.now is_first_frame regs.old) result regs.new
-            × IsMeant (columns_mean section.now E.Stack.limit memory unwind_info.now is_first_frame regs.old) result regs.new };
+        ensures answers { Answering F.FnMut read_stack.old read_stack.new (λ memory.
+            TellsDirect (direct section.now E.Stack.limit memory unwind_info.now is_first_frame regs.old) result regs.new
+            × IsMeant (columns_mean section.now E.Stack.limit memory unwind_info.now is_first_frame regs.old) result regs.new) };
 
     /// Returns the rule of an address that no row covers.
     fn rule_if_uncovered_by_fde() -> Self::UnwindRule
@@ -137,8 +136,7 @@ pub(crate) fn read_word<F: FnMut(u64) -> Result<u64, ()>>(
 ) -> Option<u64>
     requires { F.IsAlwaysCallable read_stack.old }
     ensures callable { F.IsAlwaysCallable read_stack.new }
-    ensures answers { (memory : Memory) → AnswersAs F.FnMut read_stack.old memory
-        → AnswersAs F.FnMut read_stack.new memory × (result ≡ memory address) }
+    ensures answers { Answering F.FnMut read_stack.old read_stack.new (λ memory. result ≡ memory address) }
 {
     match read_stack_word(read_stack, address) {
         Ok(word) => Some(word),
@@ -153,8 +151,7 @@ fn read_word_at<F: FnMut(u64) -> Result<u64, ()>>(
 ) -> Option<u64>
     requires { F.IsAlwaysCallable read_stack.old }
     ensures callable { F.IsAlwaysCallable read_stack.new }
-    ensures answers { (memory : Memory) → AnswersAs F.FnMut read_stack.old memory
-        → AnswersAs F.FnMut read_stack.new memory × (result ≡ option_and_then memory address) }
+    ensures answers { Answering F.FnMut read_stack.old read_stack.new (λ memory. result ≡ option_and_then memory address) }
 {
     match address {
         Some(address) => read_word(read_stack, address),
@@ -184,9 +181,8 @@ where
     ensures memory { OnErr result (E.Stack.limit ≡ None) }
     ensures expression { OnErr result (is_some_expression rule ≡ true) }
     ensures error { IfErr result (λ error. error ≡ ReadError.OutOfMemory) }
-    ensures answers { (memory : Memory) → AnswersAs F.FnMut read_stack.old memory
-        → AnswersAs F.FnMut read_stack.new memory
-        × IfOk result (λ answer. answer ≡ register_of (record { bytes = section.now; columns = R.column regs.now; limit = E.Stack.limit }) memory cfa val rule) }
+    ensures answers { Answering F.FnMut read_stack.old read_stack.new (λ memory.
+        IfOk result (λ answer. answer ≡ register_of (record { bytes = section.now; columns = R.column regs.now; limit = E.Stack.limit }) memory cfa val rule)) }
 {
     let Some(rule) = rule else {
         return Ok(None);

@@ -5,7 +5,7 @@ ghost use Rattle.framehop_cfi.specs.Header.{IsOfRowFor};
 ghost use Rattle.framehop_cfi.specs.Entry.{fde_at};
 ghost use Rattle.framehop_dwarf.specs.MayTakeMemory.{needs_room_by, may_take_memory};
 ghost use Rattle.framehop_dwarf.specs.Unwinder.{header_bases, HasHeader, fde_offset_for, reading_of, IsReading, HasFound, found_by, direct_by, OfRow};
-ghost use Rattle.framehop_core.specs.Memory.{Memory, AnswersAs};
+ghost use Rattle.framehop_core.specs.Memory.{Memory, Answering};
 ghost use Rattle.framehop_core.specs.Outcome.{answered};
 ghost use Rattle.framehop_dwarf.specs.Told.{no_memory, NeedsNoStack, TellsFound, WritesWithAddress, TellsDirect, IsRule, IsMeant, RuleHas, AdvancesWithAddress};
 
@@ -158,10 +158,9 @@ impl<'a, A: DwarfUnwinding, S: UnwindContextStorage> DwarfUnwinder<'a, A, S> {
         ensures means { OfRow (λ row. (rule : A.UnwindRule) (first : Bool) (old new : A.UnwindRegs) (memory : Memory) (address : ℕ)
             → IsRule rule result → A.UnwindRule.outcome rule first old memory ≡ answered address new
             → A.row_means self.old.section.bytes memory row first old address new) (reading_of S.limits self.old.section (self.old.base_svma + rel_lookup_address) fde_offset) }
-        ensures answers { (memory : Memory) → AnswersAs F.FnMut read_stack.old memory
-            → AnswersAs F.FnMut read_stack.new memory
-            × TellsDirect (direct_by (λ row. A.direct self.old.section.bytes E.Stack.limit memory row is_first_frame regs.old) (reading_of S.limits self.old.section (self.old.base_svma + rel_lookup_address) fde_offset)) result regs.new
-            × OfRow (λ row. IsMeant (A.columns_mean self.old.section.bytes E.Stack.limit memory row is_first_frame regs.old) result regs.new) (reading_of S.limits self.old.section (self.old.base_svma + rel_lookup_address) fde_offset) }
+        ensures answers { Answering F.FnMut read_stack.old read_stack.new (λ memory.
+            TellsDirect (direct_by (λ row. A.direct self.old.section.bytes E.Stack.limit memory row is_first_frame regs.old) (reading_of S.limits self.old.section (self.old.base_svma + rel_lookup_address) fde_offset)) result regs.new
+            × OfRow (λ row. IsMeant (A.columns_mean self.old.section.bytes E.Stack.limit memory row is_first_frame regs.old) result regs.new) (reading_of S.limits self.old.section (self.old.base_svma + rel_lookup_address) fde_offset)) }
         ensures reading { IsReading S.limits self.old.section (self.old.base_svma + rel_lookup_address) fde_offset (reading_of S.limits self.old.section (self.old.base_svma + rel_lookup_address) fde_offset) }
     {
         let found = find_row(

@@ -1,6 +1,6 @@
 //! Where compact unwind info tells how to unwind from an address, and what.
 ghost use Rattle.std.specs.Prelude.{◌≡◌, ◌≤◌, length, IfOk};
-ghost use Rattle.framehop_core.specs.Memory.{Memory, AnswersAs};
+ghost use Rattle.framehop_core.specs.Memory.{Answering};
 ghost use Rattle.framehop_macho.specs.Unwinder.{unwound};
 ghost use Rattle.framehop_macho.specs.UnwindInfo.{Covers};
 ghost use Rattle.framehop_explain.specs.CompactSource.{IsPlaceByCode, IsPlaceIn, IsPlace, IsCompactSource, named_fde, eh_frame_source};
@@ -121,11 +121,10 @@ where
     ensures callable { F.IsAlwaysCallable read_stack.new }
     ensures source { IfOk result (λ found. found.0 ≡ eh_frame_source
         P.GimliUnwindContextStorage.limits info.now.frames relative_address fde_offset place) }
-    ensures answers { (memory : Memory) → AnswersAs F.FnMut read_stack.old memory
-        → AnswersAs F.FnMut read_stack.new memory
-        × IfOk result (λ found. found.1 ≡ eh_frame_told A.translated A.uncovered
+    ensures answers { Answering F.FnMut read_stack.old read_stack.new (λ memory.
+        IfOk result (λ found. found.1 ≡ eh_frame_told A.translated A.uncovered
         (λ bytes row. A.direct bytes P.GimliEvaluationStorage.Stack.limit memory row is_first_frame regs)
-        P.GimliUnwindContextStorage.limits info.now.frames relative_address fde_offset) }
+        P.GimliUnwindContextStorage.limits info.now.frames relative_address fde_offset)) }
 {
     let Some(eh_frame) = &info.eh_frame else {
         return Ok((
@@ -174,12 +173,11 @@ where
     ensures source { IfOk result (λ found. IsCompactSource
         (record { by_code = A.by_code; prologue = A.prologue_rule; epilogue = A.epilogue_rule })
         A.readers.compact P.GimliUnwindContextStorage.limits info.now relative_address is_first_frame found.0) }
-    ensures answers { (memory : Memory) → AnswersAs F.FnMut read_stack.old memory
-        → AnswersAs F.FnMut read_stack.new memory
-        × IfOk result (λ found. found.1 ≡ compact_told A.translated A.uncovered
+    ensures answers { Answering F.FnMut read_stack.old read_stack.new (λ memory.
+        IfOk result (λ found. found.1 ≡ compact_told A.translated A.uncovered
         (λ bytes row. A.direct bytes P.GimliEvaluationStorage.Stack.limit memory row is_first_frame regs)
         P.GimliUnwindContextStorage.limits info.now.frames relative_address
-        (unwound A.readers.compact info.now.info relative_address is_first_frame)) }
+        (unwound A.readers.compact info.now.info relative_address is_first_frame))) }
 {
     let place = place_of::<D, A>(info, relative_address, is_first_frame);
     match info.unwind_frame_by_info::<A>(relative_address, is_first_frame) {

@@ -1,6 +1,6 @@
 //! Where a frame came from: the covering module, the source of its rule, and the outcome.
 ghost use Rattle.std.specs.Prelude.{◌≡◌, ◌≢◌, ◌-◌, option_map, MatchBool, Err, IfOk, IfSome, MatchOption, Some, None, ℕ, List};
-ghost use Rattle.framehop_core.specs.Memory.{Memory, AnswersAs};
+ghost use Rattle.framehop_core.specs.Memory.{Memory, AnswersAs, Answering};
 ghost use Rattle.framehop_core.specs.Outcome.{answer_of, registers_after};
 ghost use Rattle.framehop_core.specs.CodeAddress.{location_of, lookup_address, is_first_frame};
 ghost use Rattle.framehop_pe.specs.Sections.{sections_of};
@@ -98,16 +98,15 @@ where
           code = record { by_code = A.by_code; prologue = A.prologue_rule; epilogue = A.epilogue_rule };
           compact = A.readers.compact;
         }) P.GimliUnwindContextStorage.limits module.now.unwind_data relative_address is_first_frame found.0) }
-    ensures answers { (memory : Memory) → AnswersAs F.FnMut read_stack.old memory
-        → AnswersAs F.FnMut read_stack.new memory
-        × IfOk result (λ found. IsTold (record {
+    ensures answers { Answering F.FnMut read_stack.old read_stack.new (λ memory.
+        IfOk result (λ found. IsTold (record {
           translated = A.translated;
           uncovered = A.uncovered;
           direct = λ bytes row. A.direct bytes P.GimliEvaluationStorage.Stack.limit memory row is_first_frame regs;
           found = A.found;
           computed = λ sections relative first. A.computed sections relative first memory regs;
           compact = A.readers.compact;
-        }) P.GimliUnwindContextStorage.limits module.now.unwind_data relative_address is_first_frame found.1) }
+        }) P.GimliUnwindContextStorage.limits module.now.unwind_data relative_address is_first_frame found.1)) }
 {
     match module.unwind_data() {
         ModuleUnwindDataInternal::None(refusal) => Ok((
@@ -196,16 +195,15 @@ where
           code = record { by_code = A.by_code; prologue = A.prologue_rule; epilogue = A.epilogue_rule };
           compact = A.readers.compact;
         }) P.GimliUnwindContextStorage.limits found.«module».now.unwind_data found.relative_address is_first_frame found.source)) }
-    ensures answers { (memory : Memory) → AnswersAs F.FnMut read_stack.old memory
-        → AnswersAs F.FnMut read_stack.new memory
-        × IfOk result (λ finding. IfSome finding (λ found. IsTold (record {
+    ensures answers { Answering F.FnMut read_stack.old read_stack.new (λ memory.
+        IfOk result (λ finding. IfSome finding (λ found. IsTold (record {
           translated = A.translated;
           uncovered = A.uncovered;
           direct = λ bytes row. A.direct bytes P.GimliEvaluationStorage.Stack.limit memory row is_first_frame regs;
           found = A.found;
           computed = λ sections relative first. A.computed sections relative first memory regs;
           compact = A.readers.compact;
-        }) P.GimliUnwindContextStorage.limits found.«module».now.unwind_data found.relative_address is_first_frame found.told)) }
+        }) P.GimliUnwindContextStorage.limits found.«module».now.unwind_data found.relative_address is_first_frame found.told))) }
 {
     let Some((module, relative_address)) = unwinder.find_module_for_address(address) else {
         return Ok(None);
@@ -253,16 +251,15 @@ where
           code = record { by_code = A.by_code; prologue = A.prologue_rule; epilogue = A.epilogue_rule };
           compact = A.readers.compact;
         }) P.GimliUnwindContextStorage.limits found.«module».now.unwind_data found.relative_address (is_first_frame (location_of address)) found.source)) }
-    ensures answers { (memory : Memory) → AnswersAs F.FnMut read_stack.old memory
-        → AnswersAs F.FnMut read_stack.new memory
-        × IfOk result (λ explanation. IfSome explanation.finding (λ found. IsTold (record {
+    ensures answers { Answering F.FnMut read_stack.old read_stack.new (λ memory.
+        IfOk result (λ explanation. IfSome explanation.finding (λ found. IsTold (record {
           translated = A.translated;
           uncovered = A.uncovered;
           direct = λ bytes row. A.direct bytes P.GimliEvaluationStorage.Stack.limit memory row (is_first_frame (location_of address)) regs;
           found = A.found;
           computed = λ sections relative first. A.computed sections relative first memory regs;
           compact = A.readers.compact;
-        }) P.GimliUnwindContextStorage.limits found.«module».now.unwind_data found.relative_address (is_first_frame (location_of address)) found.told)) }
+        }) P.GimliUnwindContextStorage.limits found.«module».now.unwind_data found.relative_address (is_first_frame (location_of address)) found.told))) }
     ensures outcome { (memory : Memory) → AnswersAs F.FnMut read_stack.old memory
         → IfOk result (λ explanation.
         (explanation.outcome ≡ answer_of (step (A.unwinding P.policy) unwinder.entry.now.modules (location_of address) regs memory))

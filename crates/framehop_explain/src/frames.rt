@@ -1,6 +1,6 @@
 //! Where call frame information tells how to unwind from an address, and what.
 ghost use Rattle.std.specs.Prelude.{◌≡◌, ◌+◌, IfOk};
-ghost use Rattle.framehop_core.specs.Memory.{Memory, AnswersAs};
+ghost use Rattle.framehop_core.specs.Memory.{Answering};
 ghost use Rattle.framehop_dwarf.specs.Unwinder.{reading_of};
 ghost use Rattle.framehop.specs.CallFrames.{frames_with_header};
 ghost use Rattle.framehop_explain.specs.Told.{dwarf_told, frames_told};
@@ -57,11 +57,10 @@ where
     F: FnMut(u64) -> Result<u64, ()>,
     requires { F.IsAlwaysCallable read_stack.old }
     ensures callable { F.IsAlwaysCallable read_stack.new }
-    ensures answers { (memory : Memory) → AnswersAs F.FnMut read_stack.old memory
-        → AnswersAs F.FnMut read_stack.new memory
-        × IfOk result (λ told. told ≡ dwarf_told A.translated A.uncovered
+    ensures answers { Answering F.FnMut read_stack.old read_stack.new (λ memory.
+        IfOk result (λ told. told ≡ dwarf_told A.translated A.uncovered
         (λ row. A.direct unwinder.old.section.bytes P.GimliEvaluationStorage.Stack.limit memory row is_first_frame regs)
-        (reading_of P.GimliUnwindContextStorage.limits unwinder.old.section (unwinder.old.base_svma + relative_address) fde_offset)) }
+        (reading_of P.GimliUnwindContextStorage.limits unwinder.old.section (unwinder.old.base_svma + relative_address) fde_offset))) }
 {
     let mut caller = regs;
     told_by_dwarf(unwinder.unwind_frame_with_fde::<P::GimliEvaluationStorage, F>(
@@ -90,11 +89,10 @@ where
     ensures callable { F.IsAlwaysCallable read_stack.new }
     ensures source { IfOk result (λ found. found.0 ≡ row_source
         (reading_of P.GimliUnwindContextStorage.limits unwinder.old.section (unwinder.old.base_svma + relative_address) fde_offset)) }
-    ensures answers { (memory : Memory) → AnswersAs F.FnMut read_stack.old memory
-        → AnswersAs F.FnMut read_stack.new memory
-        × IfOk result (λ found. found.1 ≡ dwarf_told A.translated A.uncovered
+    ensures answers { Answering F.FnMut read_stack.old read_stack.new (λ memory.
+        IfOk result (λ found. found.1 ≡ dwarf_told A.translated A.uncovered
         (λ row. A.direct unwinder.old.section.bytes P.GimliEvaluationStorage.Stack.limit memory row is_first_frame regs)
-        (reading_of P.GimliUnwindContextStorage.limits unwinder.old.section (unwinder.old.base_svma + relative_address) fde_offset)) }
+        (reading_of P.GimliUnwindContextStorage.limits unwinder.old.section (unwinder.old.base_svma + relative_address) fde_offset))) }
 {
     let row = row_of(
         &unwinder.section,
@@ -130,11 +128,10 @@ where
     requires { F.IsAlwaysCallable read_stack.old }
     ensures callable { F.IsAlwaysCallable read_stack.new }
     ensures source { IfOk result (λ found. found.0 ≡ frames_source P.GimliUnwindContextStorage.limits frames.now relative_address) }
-    ensures answers { (memory : Memory) → AnswersAs F.FnMut read_stack.old memory
-        → AnswersAs F.FnMut read_stack.new memory
-        × IfOk result (λ found. found.1 ≡ frames_told A.translated A.uncovered
+    ensures answers { Answering F.FnMut read_stack.old read_stack.new (λ memory.
+        IfOk result (λ found. found.1 ≡ frames_told A.translated A.uncovered
         (λ row. A.direct frames.now.section.bytes P.GimliEvaluationStorage.Stack.limit memory row is_first_frame regs)
-        P.GimliUnwindContextStorage.limits frames.now relative_address) }
+        P.GimliUnwindContextStorage.limits frames.now relative_address)) }
 {
     let Some(offset) = frames.fde_offset(relative_address) else {
         return Ok((
@@ -188,12 +185,11 @@ where
     ensures callable { F.IsAlwaysCallable read_stack.new }
     ensures source { IfOk result (λ found. found.0 ≡ frames_source P.GimliUnwindContextStorage.limits
         (frames_with_header eh_frame_hdr.now eh_frame.now base_addresses base_svma) relative_address) }
-    ensures answers { (memory : Memory) → AnswersAs F.FnMut read_stack.old memory
-        → AnswersAs F.FnMut read_stack.new memory
-        × IfOk result (λ found. found.1 ≡ frames_told A.translated A.uncovered
+    ensures answers { Answering F.FnMut read_stack.old read_stack.new (λ memory.
+        IfOk result (λ found. found.1 ≡ frames_told A.translated A.uncovered
         (λ row. A.direct eh_frame.now P.GimliEvaluationStorage.Stack.limit memory row is_first_frame regs)
         P.GimliUnwindContextStorage.limits
-        (frames_with_header eh_frame_hdr.now eh_frame.now base_addresses base_svma) relative_address) }
+        (frames_with_header eh_frame_hdr.now eh_frame.now base_addresses base_svma) relative_address)) }
 {
     let mut unwinder: DwarfUnwinder<'_, A, P::GimliUnwindContextStorage> = DwarfUnwinder::new(
         eh_frame,

@@ -1,6 +1,6 @@
 //! Where PE unwind info tells how to unwind from an address, and what.
 ghost use Rattle.std.specs.Prelude.{◌≡◌, ℕ, Bool, List, None, if◌then◌else◌};
-ghost use Rattle.framehop_core.specs.Memory.{Memory, AnswersAs};
+ghost use Rattle.framehop_core.specs.Memory.{Answering};
 ghost use Rattle.framehop_pe.specs.Sections.{Sections, sections_of};
 ghost use Rattle.framehop_explain.specs.Told.{told_by, pe_reason};
 ghost use Rattle.framehop_explain.specs.PeSource.{function_source};
@@ -133,9 +133,8 @@ where
     F: FnMut(u64) -> Result<u64, ()>,
     requires { F.IsAlwaysCallable read_stack.old }
     ensures callable { F.IsAlwaysCallable read_stack.new }
-    ensures answers { (memory : Memory) → AnswersAs F.FnMut read_stack.old memory
-        → AnswersAs F.FnMut read_stack.new memory
-        × (result ≡ told_by pe_reason (A.found (sections_of D.contents sections.entry) relative_address is_first_frame)
+    ensures answers { Answering F.FnMut read_stack.old read_stack.new (λ memory.
+        result ≡ told_by pe_reason (A.found (sections_of D.contents sections.entry) relative_address is_first_frame)
         (A.computed (sections_of D.contents sections.entry) relative_address is_first_frame memory regs)) }
 {
     let mut caller = regs;

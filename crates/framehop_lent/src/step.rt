@@ -1,6 +1,6 @@
 //! One step over the words of windows.
 ghost use Rattle.std.specs.Prelude.{◌≡◌, ◌≢◌, Err, None, IfSome, IfNone, MatchResult};
-ghost use Rattle.framehop.specs.Memory.{AnswersAs, reply};
+ghost use Rattle.framehop.specs.Memory.{reply};
 ghost use Rattle.framehop.specs.CodeAddress.{location_of};
 ghost use Rattle.framehop.specs.Outcome.{answer_of, registers_after};
 ghost use Rattle.framehop.specs.Modules.{UnwinderView};

@@ -1,6 +1,6 @@
 //! A walk into a list that a caller lends.
 ghost use Rattle.std.specs.Prelude.{◌≡◌, ◌≢◌, ◌≤◌, ◌-◌, map, length, take, drop, Err, IfErr, MatchResult};
-ghost use Rattle.framehop.specs.Memory.{Memory, AnswersAs, reply};
+ghost use Rattle.framehop.specs.Memory.{Answering, reply};
 ghost use Rattle.framehop.specs.CodeAddress.{FrameLocation, location_of};
 ghost use Rattle.framehop.specs.Outcome.{Outcome};
 ghost use Rattle.framehop.specs.Iterator.{at_frame, next_of, walk_on, cache_on};
@@ -43,16 +43,16 @@ fn next_into<U: Unwinder, F: FnMut(u64) -> Result<u64, ()>>(
     ensures others { drop result.0 frames.new ≡ drop result.0 frames.old }
     ensures may_run_out { result.1 ≡ WalkEnd.Refused Error.OutOfMemory
         → (location : FrameLocation) × (cache : U.Cache) × U.may_run_out (unwinder_of unwinding.old).now cache location }
-    ensures answers { (memory : Memory) → AnswersAs F.FnMut (read_stack_of unwinding.old).now memory
-        → U.is_sound (U.unwinder_view (unwinder_of unwinding.old).now) (cache_of unwinding.old).now
-        → let step : FrameLocation → U.UnwindRegs → Outcome U.UnwindRegs = λ location regs. U.step (unwinder_of unwinding.old).now location regs memory in
+    ensures answers { U.is_sound (U.unwinder_view (unwinder_of unwinding.old).now) (cache_of unwinding.old).now
+        → Answering F.FnMut (read_stack_of unwinding.old).now (read_stack_of unwinding.new).now (λ memory.
+        let step : FrameLocation → U.UnwindRegs → Outcome U.UnwindRegs = λ location regs. U.step (unwinder_of unwinding.old).now location regs memory in
         let limit = length frames.old in
         let walk = walk_on step limit (progress_in unwinding.old) (regs_of unwinding.old) in
         BeginsWalk walk result.0 frames.new
         × (result.1 ≡ WalkEnd.Refused Error.OutOfMemory → IsWrittenWalk (walk_on step result.0 (progress_in unwinding.old) (regs_of unwinding.old)) result.0 frames.new WalkEnd.Limit (regs_of unwinding.new))
         × (result.1 ≢ WalkEnd.Refused Error.OutOfMemory → IsWrittenWalk walk result.0 frames.new result.1 (regs_of unwinding.new)
         × ((cache_of unwinding.new).now
-        ≡ cache_on step (U.cache_after (unwinder_of unwinding.old).now) limit (progress_in unwinding.old) (regs_of unwinding.old) (cache_of unwinding.old).now)) }
+        ≡ cache_on step (U.cache_after (unwinder_of unwinding.old).now) limit (progress_in unwinding.old) (regs_of unwinding.old) (cache_of unwinding.old).now))) }
 {
     for i in 0..frames.len() {
         match unwinding.next() {

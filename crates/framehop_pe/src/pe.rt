@@ -1,7 +1,7 @@
 //! What a PE module lends for unwinding, and the trait of an architecture that unwinds by it
 //! (framehop 0.16.0, `pe.rs`).
 ghost use Rattle.std.specs.Prelude.{◌≡◌, ℕ, Bool, IsTrue, Option, Some, None, Result, Ok, MatchOption, MatchResult, IfErr};
-ghost use Rattle.framehop_core.specs.Memory.{Memory, AnswersAs};
+ghost use Rattle.framehop_core.specs.Memory.{Memory, Answering};
 ghost use Rattle.framehop_pe.specs.Answer.{IsMissingStackData, TellsFound, IsComputed, Simulates, KeptUnlessDirect, IfRule};
 ghost use Rattle.framehop_pe.specs.declared.pe.PeUnwinderError.{PeUnwinderError};
 ghost use Rattle.framehop_pe.specs.Sections.{Sections, sections_of, placed_of, bytes_at, unwind_info_at, text_at};
@@ -154,9 +154,8 @@ pub trait PeUnwinding: Arch {
         ensures refusal { IfErr (found (sections_of D.contents sections.entry) address is_first_frame) (λ error. ¬ IsMissingStackData error) }
         ensures executable { IfRule result (λ rule. IsTrue (Self.UnwindRule.executable rule)) }
         ensures simulation { IfRule result (Simulates Self.UnwindRule.outcome (computed (sections_of D.contents sections.entry) address is_first_frame)) }
-        ensures answers { (memory : Memory) → AnswersAs F.FnMut read_stack.old memory
-            → AnswersAs F.FnMut read_stack.new memory
-            × IsComputed (computed (sections_of D.contents sections.entry) address is_first_frame memory regs.old) result regs.new };
+        ensures answers { Answering F.FnMut read_stack.old read_stack.new (λ memory.
+            IsComputed (computed (sections_of D.contents sections.entry) address is_first_frame memory regs.old) result regs.new) };
 
     // where the rule that the bytes give answers an address, the step is what they say
     ghost rule_simulates: { (sections : Sections) (address : ℕ) (first : Bool) (rule : Self.UnwindRule) → found sections address first ≡ Ok (Some rule)

@@ -17,8 +17,17 @@ pub struct CacheAarch64<P: AllocationPolicy = MayAllocateDuringUnwind>(
 );
 
 impl CacheAarch64<MayAllocateDuringUnwind> {
-    /// Returns an empty cache for unwinding that may allocate, or an error if an allocation fails.
-    /// An empty cache changes no answer of any unwinder.
+    /// Returns an empty cache for unwinding that may allocate. It changes no answer of any unwinder.
+    ///
+    /// # Errors
+    ///
+    /// `AllocError` where an allocation fails.
+    ///
+    /// # Examples
+    ///
+    /// ```
+    /// let mut cache = CacheAarch64::new(alloc)?;
+    /// ```
     pub fn new(alloc: Global) -> Result<Self, AllocError>
         ensures made { IfOk result (λ cache. cache.0 ≡ empty_cache) }
         ensures sound { IfOk result (λ cache. (policy : Policy) (unwinder : UnwinderView) → IsSoundAarch64 policy unwinder cache.0) }
@@ -28,8 +37,11 @@ impl CacheAarch64<MayAllocateDuringUnwind> {
 }
 
 impl<P: AllocationPolicy> CacheAarch64<P> {
-    /// Returns an empty cache of any policy, or an error if an allocation fails.
-    /// An empty cache changes no answer of any unwinder.
+    /// Returns an empty cache of any policy. It changes no answer of any unwinder.
+    ///
+    /// # Errors
+    ///
+    /// `AllocError` where an allocation fails.
     pub fn new_in(alloc: Global) -> Result<Self, AllocError>
         ensures made { IfOk result (λ cache. cache.0 ≡ empty_cache) }
         ensures sound { IfOk result (λ cache. (policy : Policy) (unwinder : UnwinderView) → IsSoundAarch64 policy unwinder cache.0) }

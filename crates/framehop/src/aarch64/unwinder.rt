@@ -35,8 +35,18 @@ impl<D: SectionBytes + Drop, P: AllocationPolicy> Clone for UnwinderAarch64<D, P
 }
 
 impl<D: SectionBytes + Drop, P: AllocationPolicy> UnwinderAarch64<D, P> {
-    /// An unwinder without modules, of the next generation. It takes no memory, and is refused
-    /// only at the counter's end.
+    /// Returns an unwinder without modules, of the next generation. It takes no memory.
+    ///
+    /// # Errors
+    ///
+    /// `GenerationsExhausted` where the counter is at its end.
+    ///
+    /// # Examples
+    ///
+    /// ```
+    /// let mut generations = Generations::new();
+    /// let mut unwinder: UnwinderAarch64<Vec<u8>> = UnwinderAarch64::new(alloc, &mut generations)?;
+    /// ```
     pub fn new(alloc: Global, generations: &mut Generations) -> Result<Self, ModuleListError>
         ensures { IsMade result generations.old generations.new }
     {

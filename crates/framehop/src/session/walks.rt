@@ -1,6 +1,6 @@
 //! Steps and walks over the words of a stack.
 ghost use Rattle.std.specs.Prelude.{◌≡◌, ◌+◌, [], ◌∷◌, ◌++◌, map, option_map, IfOk, IfErr, IfSome, IfNone, OnOk};
-ghost use Rattle.framehop.specs.Memory.{Memory as StackMemory, AnswersAs, reply};
+ghost use Rattle.framehop.specs.Memory.{Answering, reply};
 ghost use Rattle.framehop.specs.Iterator.{at_frame, next_of, Moves, frames_in, end_in, cache_after_next, walk_on, cache_on};
 ghost use Rattle.framehop.specs.UnwindIterator.{unwinder_of, progress_in, regs_of, cache_of, read_stack_of};
 ghost use Rattle.framehop.specs.SessionView.{end_of, walk_of};
@@ -57,13 +57,12 @@ pub(crate) fn push_next_frame<U: Unwinder, F: FnMut(u64) -> Result<u64, ()>>(
     ensures kept { IfOk result (λ end. IfSome end (λ _. frames.new.items ≡ frames.old.items)) }
     ensures cached { OnOk result ((cache_of unwinding.new).now ≡ cache_after_next (U.cache_after (unwinder_of unwinding.old).now)
         (progress_in unwinding.old) (cache_of unwinding.old).now) }
-    ensures answers { (memory : StackMemory) → AnswersAs F.FnMut (read_stack_of unwinding.old).now memory
-        → U.is_sound (U.unwinder_view (unwinder_of unwinding.old).now) (cache_of unwinding.old).now
-        → let next = next_of (λ location regs. U.step (unwinder_of unwinding.old).now location regs memory) (progress_in unwinding.old) (regs_of unwinding.old) in
-        AnswersAs F.FnMut (read_stack_of unwinding.new).now memory
-        × IfOk result (λ end. (option_map end_of end ≡ end_in next.answer)
+    ensures answers { U.is_sound (U.unwinder_view (unwinder_of unwinding.old).now) (cache_of unwinding.old).now
+        → Answering F.FnMut (read_stack_of unwinding.old).now (read_stack_of unwinding.new).now (λ memory.
+        let next = next_of (λ location regs. U.step (unwinder_of unwinding.old).now location regs memory) (progress_in unwinding.old) (regs_of unwinding.old) in
+        IfOk result (λ end. (option_map end_of end ≡ end_in next.answer)
         × (map location_of frames.new.items ≡ map location_of frames.old.items ++ frames_in next.answer)
-        × (progress_in unwinding.new ≡ next.progress) × (regs_of unwinding.new ≡ next.regs)) }
+        × (progress_in unwinding.new ≡ next.progress) × (regs_of unwinding.new ≡ next.regs))) }
 {
     match unwinding.next() {
         Ok(Some(frame)) => match frames.push(frame) {
@@ -92,15 +91,14 @@ fn next_frames<U: Unwinder, F: FnMut(u64) -> Result<u64, ()>>(
     ensures stays_sound { (other : UnwinderView) → AreApart (U.unwinder_view (unwinder_of unwinding.old).now) other
         → U.is_sound other (cache_of unwinding.old).now → U.is_sound other (cache_of unwinding.new).now }
     ensures refused { IfErr result (λ error. error ≡ SessionError.OutOfMemory) }
-    ensures answers { (memory : StackMemory) → AnswersAs F.FnMut (read_stack_of unwinding.old).now memory
-        → U.is_sound (U.unwinder_view (unwinder_of unwinding.old).now) (cache_of unwinding.old).now
-        → AnswersAs F.FnMut (read_stack_of unwinding.new).now memory
-        × IfOk result (λ walk.
+    ensures answers { U.is_sound (U.unwinder_view (unwinder_of unwinding.old).now) (cache_of unwinding.old).now
+        → Answering F.FnMut (read_stack_of unwinding.old).now (read_stack_of unwinding.new).now (λ memory.
+        IfOk result (λ walk.
         let step : FrameLocation → U.UnwindRegs → Outcome U.UnwindRegs = λ location regs. U.step (unwinder_of unwinding.old).now location regs memory in
         (walk_of walk.0.items walk.1 (regs_of unwinding.new)
         ≡ walk_on step limit (progress_in unwinding.old) (regs_of unwinding.old))
         × ((cache_of unwinding.new).now
-        ≡ cache_on step (U.cache_after (unwinder_of unwinding.old).now) limit (progress_in unwinding.old) (regs_of unwinding.old) (cache_of unwinding.old).now)) }
+        ≡ cache_on step (U.cache_after (unwinder_of unwinding.old).now) limit (progress_in unwinding.old) (regs_of unwinding.old) (cache_of unwinding.old).now))) }
 {
     let mut frames = Vec::new(alloc);
     for _call in 0..limit {
@@ -132,16 +130,15 @@ where
     ensures stays_sound { (other : UnwinderView) → AreApart (U.unwinder_view unwinder.now) other
         → U.is_sound other cache.old → U.is_sound other cache.new }
     ensures refused { IfErr result (λ error. error ≡ SessionError.OutOfMemory) }
-    ensures answers { (memory : StackMemory) → AnswersAs F.FnMut read_stack.old memory
-        → U.is_sound (U.unwinder_view unwinder.now) cache.old
-        → AnswersAs F.FnMut read_stack.new memory
-        × IfOk result (λ walk.
+    ensures answers { U.is_sound (U.unwinder_view unwinder.now) cache.old
+        → Answering F.FnMut read_stack.old read_stack.new (λ memory.
+        IfOk result (λ walk.
         let step : FrameLocation → U.UnwindRegs → Outcome U.UnwindRegs = λ location before. U.step unwinder.now location before memory in
         (walk_of walk.0.items walk.1 walk.2 ≡ walk_from step limit pc regs)
         × (cache.new ≡ cache_after_walk step (U.cache_after unwinder.now) limit pc regs cache.old)
         × IsWalkMeant (λ location before address after. (step location before ≡ answered address after)
         × U.means unwinder.now location before memory address after)
-        regs (walk_from step limit pc regs)) }
+        regs (walk_from step limit pc regs))) }
 {
     let mut unwinding = unwinder.iter_frames(pc, regs, cache, read_stack);
     let (frames, end) = next_frames(alloc, &mut unwinding, limit)?;

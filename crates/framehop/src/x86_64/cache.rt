@@ -17,8 +17,17 @@ pub struct CacheX86_64<P: AllocationPolicy = MayAllocateDuringUnwind>(
 );
 
 impl CacheX86_64<MayAllocateDuringUnwind> {
-    /// Returns an empty cache for unwinding that may allocate, or an error if an allocation fails.
-    /// An empty cache changes no answer of any unwinder.
+    /// Returns an empty cache for unwinding that may allocate. It changes no answer of any unwinder.
+    ///
+    /// # Errors
+    ///
+    /// `AllocError` where an allocation fails.
+    ///
+    /// # Examples
+    ///
+    /// ```
+    /// let mut cache = CacheX86_64::new(alloc)?;
+    /// ```
     pub fn new(alloc: Global) -> Result<Self, AllocError>
         ensures made { IfOk result (λ cache. cache.0 ≡ empty_cache) }
         ensures sound { IfOk result (λ cache. (policy : Policy) (unwinder : UnwinderView) → IsSoundX86_64 policy unwinder cache.0) }
@@ -28,8 +37,17 @@ impl CacheX86_64<MayAllocateDuringUnwind> {
 }
 
 impl<P: AllocationPolicy> CacheX86_64<P> {
-    /// Returns an empty cache of any policy, or an error if an allocation fails.
-    /// An empty cache changes no answer of any unwinder.
+    /// Returns an empty cache of any policy. It changes no answer of any unwinder.
+    ///
+    /// # Errors
+    ///
+    /// `AllocError` where an allocation fails.
+    ///
+    /// # Examples
+    ///
+    /// ```
+    /// let mut cache = CacheX86_64::new_in(alloc)?;
+    /// ```
     pub fn new_in(alloc: Global) -> Result<Self, AllocError>
         ensures made { IfOk result (λ cache. cache.0 ≡ empty_cache) }
         ensures sound { IfOk result (λ cache. (policy : Policy) (unwinder : UnwinderView) → IsSoundX86_64 policy unwinder cache.0) }

@@ -35,8 +35,18 @@ impl<D: SectionBytes + Drop, P: AllocationPolicy> Clone for UnwinderX86_64<D, P>
 }
 
 impl<D: SectionBytes + Drop, P: AllocationPolicy> UnwinderX86_64<D, P> {
-    /// An unwinder without modules, of the next generation. It takes no memory, and is refused
-    /// only at the counter's end.
+    /// Returns an unwinder without modules, of the next generation. It takes no memory.
+    ///
+    /// # Errors
+    ///
+    /// `GenerationsExhausted` where the counter is at its end.
+    ///
+    /// # Examples
+    ///
+    /// ```
+    /// let mut generations = Generations::new();
+    /// let unwinder = UnwinderX86_64::new(alloc, &mut generations)?;
+    /// ```
     pub fn new(alloc: Global, generations: &mut Generations) -> Result<Self, ModuleListError>
         ensures { IsMade result generations.old generations.new }
     {

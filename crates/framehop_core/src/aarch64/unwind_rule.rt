@@ -1,6 +1,6 @@
 //! The unwind rules of aarch64: a table, and the `exec` that runs a line of it.
 ghost use Rattle.std.specs.Prelude.{◌≡◌, ◌≢◌, ◌≤◌, true, false};
-ghost use Rattle.framehop_core.specs.Memory.{Memory, AnswersAs};
+ghost use Rattle.framehop_core.specs.Memory.{Answering};
 ghost use Rattle.framehop_core.specs.Runs.{run_of, after_first, IsCountWithinRise};
 ghost use Rattle.framehop_core.specs.Aarch64.Rules.{outcome, IsBoundedRun, finished, finished_at_frame_pointer, AdvancesWhereAnswered};
 ghost use Rattle.framehop_core.specs.Outcome.{KeptUnlessAnswered, HasDone};
@@ -200,11 +200,10 @@ pub fn run_rules<F: FnMut(u64) -> Result<u64, ()>>(
     requires { F.IsAlwaysCallable read_stack.old }
     ensures callable { F.IsAlwaysCallable read_stack.new }
     ensures bounded { IsBoundedRun result.0 regs.old regs.new }
-    ensures answers { (memory : Memory) → AnswersAs F.FnMut read_stack.old memory
-        → AnswersAs F.FnMut read_stack.new memory
-        × (run_of outcome true rules.now regs.old memory
+    ensures answers { Answering F.FnMut read_stack.old read_stack.new (λ memory.
+        (run_of outcome true rules.now regs.old memory
         ≡ record { count = result.0; end = result.1; registers = regs.new })
-        × IsCountWithinRise result.0 (after_first outcome rules.now regs.old memory).sp regs.new.sp }
+        × IsCountWithinRise result.0 (after_first outcome rules.now regs.old memory).sp regs.new.sp) }
 {
     unwind_rule::run_rules(rules, regs, read_stack)
 }
@@ -232,10 +231,9 @@ fn exec_frame_pointer<F: FnMut(u64) -> Result<u64, ()>>(
     ensures never_out_of_memory { result ≢ Err Error.OutOfMemory }
     ensures kept { KeptUnlessAnswered result regs.old regs.new }
     ensures advances { AdvancesWhereAnswered is_first_frame result regs.old regs.new }
-    ensures answers { (memory : Memory) → AnswersAs F.FnMut read_stack.old memory
-        → AnswersAs F.FnMut read_stack.new memory
-        × HasDone (outcome UnwindRuleAarch64.UseFramePointer is_first_frame regs.old memory)
-        result regs.old regs.new }
+    ensures answers { Answering F.FnMut read_stack.old read_stack.new (λ memory.
+        HasDone (outcome UnwindRuleAarch64.UseFramePointer is_first_frame regs.old memory)
+        result regs.old regs.new) }
 {
     let fp = regs.fp();
     let new_sp = offset_address(fp, 16)?;
@@ -254,10 +252,9 @@ fn exec_frame_record<F: FnMut(u64) -> Result<u64, ()>>(
     ensures never_out_of_memory { result ≢ Err Error.OutOfMemory }
     ensures kept { KeptUnlessAnswered result regs.old regs.new }
     ensures advances { AdvancesWhereAnswered false result regs.old regs.new }
-    ensures answers { (memory : Memory) → AnswersAs F.FnMut read_stack.old memory
-        → AnswersAs F.FnMut read_stack.new memory
-        × HasDone (outcome UnwindRuleAarch64.NoOpIfFirstFrameOtherwiseFp false regs.old memory)
-        result regs.old regs.new }
+    ensures answers { Answering F.FnMut read_stack.old read_stack.new (λ memory.
+        HasDone (outcome UnwindRuleAarch64.NoOpIfFirstFrameOtherwiseFp false regs.old memory)
+        result regs.old regs.new) }
 {
     let fp = regs.fp();
     let new_sp = offset_address(fp, 16)?;

@@ -56,8 +56,9 @@ impl PtrAuthMask {
         Self(u64::MAX >> 24)
     }
 
-    /// Deduces a mask from the highest known code address (AVMA): the leading zero bits of that
-    /// address are taken to be those of the hash. The mask of the address 0 is 0.
+    /// Returns a mask deduced from the highest known code address (AVMA), as an unwinder's
+    /// `max_known_code_address` returns it: the leading zero bits of that address are taken to be those
+    /// of the hash. The mask of the address 0 is 0.
     pub fn from_max_known_address(address: u64) -> Self
         ensures { IsMaskUpTo address result.0 }
     {
@@ -75,7 +76,13 @@ impl PtrAuthMask {
 }
 
 impl UnwindRegsAarch64 {
-    /// Registers whose return addresses are not stripped.
+    /// Returns registers whose return addresses are not stripped.
+    ///
+    /// # Examples
+    ///
+    /// ```
+    /// let regs = UnwindRegsAarch64::new(0x1004e0830, 0x10, 0x20);
+    /// ```
     pub fn new(lr: u64, sp: u64, fp: u64) -> Self
         ensures registers { result ≡ record { lr_mask = 2 ^ 64 - 1; lr = lr; sp = sp; fp = fp } }
         ensures stripped { StandsStripped result }
@@ -88,7 +95,7 @@ impl UnwindRegsAarch64 {
         }
     }
 
-    /// Registers whose return addresses, that in `lr` among them, are stripped by the mask.
+    /// Returns registers whose return addresses, that in `lr` among them, are stripped by the mask.
     pub fn new_with_ptr_auth_mask(
         code_ptr_auth_mask: PtrAuthMask,
         lr: u64,

@@ -1,7 +1,7 @@
 //! The unwind rules of x86_64: a table, and the `exec` that runs a line of it.
 ghost use Rattle.std.specs.Prelude.{◌≡◌, ◌≢◌, ℕ, ◌<◌, ◌≤◌, pos, ◌-ℤ◌, true, List, length, All, MatchResult, OnOk, MatchOption, IsSome, IfSome};
 ghost use Rattle.std.specs.Iterator.{AlwaysYields};
-ghost use Rattle.framehop_core.specs.Memory.{Memory, AnswersAs};
+ghost use Rattle.framehop_core.specs.Memory.{Answering};
 ghost use Rattle.framehop_core.specs.Outcome.{KeptUnlessAnswered, HasDone, address_at, after, beside};
 ghost use Rattle.framehop_core.specs.Runs.{run_of, after_first, IsCountWithinRise};
 ghost use Rattle.framehop_core.specs.X86_64.Rules.{outcome, NotBelowWhereAnswered, outcome_of_line, frame_pointer_line, frame_pointer_line_with, restored_at, value_from, popped, return_address, finished, is_executable, offset_and_pops_of, IsRuleOfOperations};
@@ -295,11 +295,10 @@ pub fn run_rules<F: FnMut(u64) -> Result<u64, ()>>(
     requires can_read { F.IsAlwaysCallable read_stack.old }
     ensures callable { F.IsAlwaysCallable read_stack.new }
     ensures not_below { regs.old.rsp ≤ regs.new.rsp }
-    ensures answers { (memory : Memory) → AnswersAs F.FnMut read_stack.old memory
-        → AnswersAs F.FnMut read_stack.new memory
-        × (run_of outcome true rules.now regs.old memory
+    ensures answers { Answering F.FnMut read_stack.old read_stack.new (λ memory.
+        (run_of outcome true rules.now regs.old memory
         ≡ record { count = result.0; end = result.1; registers = regs.new })
-        × IsCountWithinRise result.0 (after_first outcome rules.now regs.old memory).rsp regs.new.rsp }
+        × IsCountWithinRise result.0 (after_first outcome rules.now regs.old memory).rsp regs.new.rsp) }
 {
     unwind_rule::run_rules(rules, regs, read_stack)
 }
@@ -329,10 +328,9 @@ fn exec_frame_pointer<F: FnMut(u64) -> Result<u64, ()>>(
     ensures never_out_of_memory { result ≢ Err Error.OutOfMemory }
     ensures kept { KeptUnlessAnswered result regs.old regs.new }
     ensures not_below { NotBelowWhereAnswered result regs.old regs.new }
-    ensures answers { (memory : Memory) → AnswersAs F.FnMut read_stack.old memory
-        → AnswersAs F.FnMut read_stack.new memory
-        × HasDone (outcome_of_line (frame_pointer_line regs.old) regs.old memory)
-        result regs.old regs.new }
+    ensures answers { Answering F.FnMut read_stack.old read_stack.new (λ memory.
+        HasDone (outcome_of_line (frame_pointer_line regs.old) regs.old memory)
+        result regs.old regs.new) }
 {
     let bp = regs.bp();
     let new_sp = offset_address(bp, 16)?;
@@ -356,10 +354,9 @@ fn exec_frame_pointer_with_offsets<F: FnMut(u64) -> Result<u64, ()>>(
     ensures never_out_of_memory { result ≢ Err Error.OutOfMemory }
     ensures kept { KeptUnlessAnswered result regs.old regs.new }
     ensures not_below { NotBelowWhereAnswered result regs.old regs.new }
-    ensures answers { (memory : Memory) → AnswersAs F.FnMut read_stack.old memory
-        → AnswersAs F.FnMut read_stack.new memory
-        × HasDone (outcome_of_line (frame_pointer_line_with sp_offset_from_bp_by_8 bp_storage_offset_from_bp_by_8 regs.old) regs.old memory)
-        result regs.old regs.new }
+    ensures answers { Answering F.FnMut read_stack.old read_stack.new (λ memory.
+        HasDone (outcome_of_line (frame_pointer_line_with sp_offset_from_bp_by_8 bp_storage_offset_from_bp_by_8 regs.old) regs.old memory)
+        result regs.old regs.new) }
 {
     let bp = regs.bp();
     let new_sp = offset_address(bp, u64::from(sp_offset_from_bp_by_8) * 8)?;
@@ -387,9 +384,8 @@ fn read_bp_beside<F: FnMut(u64) -> Result<u64, ()>>(
     requires { F.IsAlwaysCallable read_stack.old }
     ensures callable { F.IsAlwaysCallable read_stack.new }
     ensures never_out_of_memory { result ≢ Err Error.OutOfMemory }
-    ensures answers { (memory : Memory) → AnswersAs F.FnMut read_stack.old memory
-        → AnswersAs F.FnMut read_stack.new memory
-        × (result ≡ value_from memory regs.now.rbp
+    ensures answers { Answering F.FnMut read_stack.old read_stack.new (λ memory.
+        result ≡ value_from memory regs.now.rbp
         (restored_at is_first_frame offset_from_sp_by_8 (beside regs.now.rsp offset_from_sp_by_8))) }
 {
     let location = address_beside(regs.sp(), offset_from_sp_by_8)?;
@@ -414,10 +410,9 @@ fn exec_pops<F: FnMut(u64) -> Result<u64, ()>>(
     ensures never_out_of_memory { result ≢ Err Error.OutOfMemory }
     ensures kept { KeptUnlessAnswered result regs.old regs.new }
     ensures not_below { regs.old.rsp ≤ first → NotBelowWhereAnswered result regs.old regs.new }
-    ensures answers { (memory : Memory) → AnswersAs F.FnMut read_stack.old memory
-        → AnswersAs F.FnMut read_stack.new memory
-        × HasDone (after (popped memory first registers.now regs.old) (λ caller. finished regs.old caller memory))
-        result regs.old regs.new }
+    ensures answers { Answering F.FnMut read_stack.old read_stack.new (λ memory.
+        HasDone (after (popped memory first registers.now regs.old) (λ caller. finished regs.old caller memory))
+        result regs.old regs.new) }
 {
     let mut caller = *regs;
     pop_registers(&mut caller, read_stack, first, registers)?;
@@ -436,10 +431,9 @@ fn pop_registers<F: FnMut(u64) -> Result<u64, ()>>(
     ensures callable { F.IsAlwaysCallable read_stack.new }
     ensures never_out_of_memory { result ≢ Err Error.OutOfMemory }
     ensures not_below { OnOk result (first ≤ regs.new.rsp) }
-    ensures answers { (memory : Memory) → AnswersAs F.FnMut read_stack.old memory
-        → AnswersAs F.FnMut read_stack.new memory
-        × MatchResult result (λ _. popped memory first registers.now regs.old ≡ Ok regs.new)
-        (λ error. popped memory first registers.now regs.old ≡ Err error) }
+    ensures answers { Answering F.FnMut read_stack.old read_stack.new (λ memory.
+        MatchResult result (λ _. popped memory first registers.now regs.old ≡ Ok regs.new)
+        (λ error. popped memory first registers.now regs.old ≡ Err error)) }
 {
     let mut address = first;
     for register in registers {
@@ -465,10 +459,9 @@ fn finish<F: FnMut(u64) -> Result<u64, ()>>(
     ensures never_out_of_memory { result ≢ Err Error.OutOfMemory }
     ensures kept { KeptUnlessAnswered result regs.old regs.new }
     ensures not_below { regs.old.rsp ≤ new_sp → NotBelowWhereAnswered result regs.old regs.new }
-    ensures answers { (memory : Memory) → AnswersAs F.FnMut read_stack.old memory
-        → AnswersAs F.FnMut read_stack.new memory
-        × HasDone (finished regs.old (record regs.old { rsp = new_sp; rbp = new_bp }) memory)
-        result regs.old regs.new }
+    ensures answers { Answering F.FnMut read_stack.old read_stack.new (λ memory.
+        HasDone (finished regs.old (record regs.old { rsp = new_sp; rbp = new_bp }) memory)
+        result regs.old regs.new) }
 {
     let Some(address) = read_return_address(regs, read_stack, new_sp)? else {
         return Ok(None);
@@ -491,9 +484,8 @@ fn finish_with<F: FnMut(u64) -> Result<u64, ()>>(
     ensures never_out_of_memory { result ≢ Err Error.OutOfMemory }
     ensures kept { KeptUnlessAnswered result regs.old regs.new }
     ensures not_below { regs.old.rsp ≤ caller.rsp → NotBelowWhereAnswered result regs.old regs.new }
-    ensures answers { (memory : Memory) → AnswersAs F.FnMut read_stack.old memory
-        → AnswersAs F.FnMut read_stack.new memory
-        × HasDone (finished regs.old caller memory) result regs.old regs.new }
+    ensures answers { Answering F.FnMut read_stack.old read_stack.new (λ memory.
+        HasDone (finished regs.old caller memory) result regs.old regs.new) }
 {
     let Some(address) = read_return_address(regs, read_stack, caller.sp())? else {
         return Ok(None);
@@ -514,9 +506,7 @@ fn read_return_address<F: FnMut(u64) -> Result<u64, ()>>(
     requires { F.IsAlwaysCallable read_stack.old }
     ensures callable { F.IsAlwaysCallable read_stack.new }
     ensures never_out_of_memory { result ≢ Err Error.OutOfMemory }
-    ensures answers { (memory : Memory) → AnswersAs F.FnMut read_stack.old memory
-        → AnswersAs F.FnMut read_stack.new memory
-        × (result ≡ return_address regs.now new_sp memory) }
+    ensures answers { Answering F.FnMut read_stack.old read_stack.new (λ memory. result ≡ return_address regs.now new_sp memory) }
 {
     let location = word_below(new_sp)?;
     let address = read_stack_word(read_stack, location)?;

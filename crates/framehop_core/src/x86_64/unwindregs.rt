@@ -64,8 +64,14 @@ impl Default for Reg {
 }
 
 impl UnwindRegsX86_64 {
-    /// Registers with an instruction pointer, a stack pointer and a frame pointer (AVMAs), the
+    /// Returns registers with an instruction pointer, a stack pointer and a frame pointer (AVMAs), the
     /// others being 0.
+    ///
+    /// # Examples
+    ///
+    /// ```
+    /// let regs = UnwindRegsX86_64::new(0x7f0000001000, 0x7ffc00000010, 0x7ffc00000020);
+    /// ```
     pub fn new(ip: u64, sp: u64, bp: u64) -> Self
         ensures { result ≡ record {
           ip = ip;

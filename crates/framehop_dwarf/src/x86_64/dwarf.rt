@@ -1,7 +1,7 @@
 //! From a row of call frame information to a frame on x86_64: the rule that most rows are translated to,
 //! and the values of the others.
 ghost use Rattle.std.specs.Prelude.{◌≡◌, ◌≢◌, ◌||◌, true, None, IfSome, IfErr, OnErr, Err};
-ghost use Rattle.framehop_core.specs.Memory.{Memory, AnswersAs};
+ghost use Rattle.framehop_core.specs.Memory.{Memory, Answering};
 ghost use Rattle.framehop_core.specs.X86_64.Rules.{is_executable};
 ghost use Rattle.framehop_dwarf.specs.X86_64.{translated_by, by_cfa, by_sp, by_bp, with_bp, with_offsets, below, or_below, scope_of, stepped, direct_by, translated, direct_of};
 ghost use Rattle.framehop_dwarf.specs.Told.{no_memory, NeedsNoStack, Has, IsOfValues};
@@ -123,9 +123,8 @@ where
     ensures refused { IfErr result IsOfValues }
     ensures unread { IfErr result (λ error. NeedsNoStack error → read_stack.new ≡ read_stack.old) }
     ensures memory { result ≡ Err no_memory → (E.Stack.limit ≡ None) × (has_expression unwind_info.now ≡ true) }
-    ensures answers { (memory : Memory) → AnswersAs F.FnMut read_stack.old memory
-        → AnswersAs F.FnMut read_stack.new memory
-        × Has (direct_of section.now E.Stack.limit memory unwind_info.now is_first_frame regs.old) result regs.new }
+    ensures answers { Answering F.FnMut read_stack.old read_stack.new (λ memory.
+        Has (direct_of section.now E.Stack.limit memory unwind_info.now is_first_frame regs.old) result regs.new) }
 {
     let bp_rule = unwind_info.register(RBP);
     let ra_rule = unwind_info.register(RA);
@@ -257,8 +256,7 @@ fn or_word_below<F: FnMut(u64) -> Result<u64, ()>>(
 ) -> Option<u64>
     requires { F.IsAlwaysCallable read_stack.old }
     ensures callable { F.IsAlwaysCallable read_stack.new }
-    ensures answers { (memory : Memory) → AnswersAs F.FnMut read_stack.old memory
-        → AnswersAs F.FnMut read_stack.new memory × (result ≡ or_below saved (below memory cfa)) }
+    ensures answers { Answering F.FnMut read_stack.old read_stack.new (λ memory. result ≡ or_below saved (below memory cfa)) }
 {
     if saved.is_some() {
         return saved;
@@ -316,9 +314,8 @@ where
     ensures unread { IfErr result (λ error. NeedsNoStack error → read_stack.new ≡ read_stack.old) }
     ensures memory { result ≡ Err no_memory → (E.Stack.limit ≡ None)
         × ((is_cfa_expression cfa_rule || is_some_expression bp_rule || is_some_expression ra_rule) ≡ true) }
-    ensures answers { (memory : Memory) → AnswersAs F.FnMut read_stack.old memory
-        → AnswersAs F.FnMut read_stack.new memory
-        × Has (direct_by (scope_of section.now E.Stack.limit regs.old) memory cfa_rule bp_rule ra_rule is_first_frame regs.old) result regs.new }
+    ensures answers { Answering F.FnMut read_stack.old read_stack.new (λ memory.
+        Has (direct_by (scope_of section.now E.Stack.limit regs.old) memory cfa_rule bp_rule ra_rule is_first_frame regs.old) result regs.new) }
 {
     let Ok(cfa) = eval_cfa_rule::<UnwindRegsX86_64, E>(alloc, section, &cfa_rule, regs) else {
         return Err(DwarfUnwinderError::UnwindInfoForAddressFailed(ReadError::OutOfMemory));

@@ -3,7 +3,7 @@
 ghost use Rattle.std.specs.Prelude.{◌≡◌, ◌<◌, ◌≤◌, ◌+◌, Some, None, Ok, Err, length, MatchOption, MatchResult, IfSome, IfErr};
 ghost use Rattle.std.specs.Iterator.{YieldsFirst, item_count};
 ghost use Rattle.framehop_pe.specs.Epilog.{instruction_at, release_at, add_at, short_add_at, long_add_at, lea_at, is_register, displaced_at, pop_at, high_pop_at, is_end, is_return, is_indirect_jump, is_wide_indirect_jump, is_near_jump_outside, is_short_jump_outside, target_of, is_outside, pops_in, epilog_of};
-ghost use Rattle.framehop_core.specs.Memory.{Memory};
+ghost use Rattle.framehop_core.specs.Memory.{Answering};
 ghost use Rattle.framehop_pe.specs.EpilogRun.{with_sp, beside_register, stepped, ran};
 ghost use Rattle.framehop_pe.specs.Answer.{IsMissingStackData};
 ghost use Rattle.framehop_pe.specs.Instructions.{left_instructions};
@@ -383,13 +383,11 @@ pub fn run_epilog<S: UnwindState>(
     ensures callable { S.can_read state.new }
     ensures same_loan { S.loan state.new ≡ S.loan state.old }
     ensures stack { IfErr result IsMissingStackData }
-    ensures answers { (memory : Memory) → S.reads state.old memory
-        → S.reads state.new memory
-        × MatchResult result
+    ensures answers { Answering S.calls (S.callback state.old) (S.callback state.new) (λ memory. MatchResult result
         (λ address. ran memory frame_register (left_instructions instructions.entry) (S.registers state.old)
         ≡ Ok (address, S.registers state.new))
         (λ error. ran memory frame_register (left_instructions instructions.entry) (S.registers state.old)
-        ≡ Err error) }
+        ≡ Err error)) }
 {
     for instruction in instructions {
         run_instruction(instruction, frame_register, state)?;
@@ -408,11 +406,9 @@ fn run_instruction<S: UnwindState>(
     ensures same_loan { S.loan state.new ≡ S.loan state.old }
     ensures kept { IfErr result (λ _. S.registers state.new ≡ S.registers state.old) }
     ensures stack { IfErr result IsMissingStackData }
-    ensures answers { (memory : Memory) → S.reads state.old memory
-        → S.reads state.new memory
-        × MatchResult result
+    ensures answers { Answering S.calls (S.callback state.old) (S.callback state.new) (λ memory. MatchResult result
         (λ _. stepped memory frame_register instruction (S.registers state.old) ≡ Ok (S.registers state.new))
-        (λ error. stepped memory frame_register instruction (S.registers state.old) ≡ Err error) }
+        (λ error. stepped memory frame_register instruction (S.registers state.old) ≡ Err error)) }
 {
     match instruction {
         FunctionEpilogInstruction::AddSP(offset) => {
@@ -451,7 +447,7 @@ fn set_sp<S: UnwindState>(sp: Option<u64>, state: &mut S) -> Result<(), PeUnwind
     ensures stack { IfErr result IsMissingStackData }
     ensures callable { S.can_read state.old → S.can_read state.new }
     ensures same_loan { S.loan state.new ≡ S.loan state.old }
-    ensures answers { (memory : Memory) → S.reads state.old memory → S.reads state.new memory }
+    ensures unread { S.callback state.new ≡ S.callback state.old }
 {
     match sp {
         Some(sp) => {

@@ -1,6 +1,6 @@
 //! Operations undone one by one (Microsoft, "x64 exception handling", "Unwind procedure").
 ghost use Rattle.std.specs.Prelude.{◌≡◌, Ok, Err, Some, None, MatchOption, MatchResult, IfErr, IfNone};
-ghost use Rattle.framehop_core.specs.Memory.{Memory};
+ghost use Rattle.framehop_core.specs.Memory.{Answering};
 ghost use Rattle.framehop_pe.specs.Operations.{left_operations};
 ghost use Rattle.framehop_pe.specs.Answer.{IsMissingStackData};
 ghost use Rattle.framehop_pe.specs.Resolve.{base_of, restored_sp, saves_base, machine_frame_at, popped_register, undone_machine_frame, undone, resolved};
@@ -26,12 +26,10 @@ pub fn resolve_operation<S: UnwindState>(
     ensures callable { S.can_read state.new }
     ensures same_loan { S.loan state.new ≡ S.loan state.old }
     ensures kept { IfNone result (S.registers state.new ≡ S.registers state.old) }
-    ensures answers { (memory : Memory) → S.reads state.old memory
-        → S.reads state.new memory
-        × MatchOption result
+    ensures answers { Answering S.calls (S.callback state.old) (S.callback state.new) (λ memory. MatchOption result
         (undone memory framed.operation framed.base (S.registers state.old) ≡ None)
         (λ flow. undone memory framed.operation framed.base (S.registers state.old)
-        ≡ Some (flow, S.registers state.new)) }
+        ≡ Some (flow, S.registers state.new))) }
 {
     match framed.operation {
         UnwindOperation::UnStackAlloc(size) => {
@@ -61,7 +59,7 @@ fn set_register<S: UnwindState>(reg: Reg, value: u64, state: &mut S) -> ControlF
     ensures written { S.registers state.new ≡ with_register (S.registers state.old) reg value }
     ensures callable { S.can_read state.old → S.can_read state.new }
     ensures same_loan { S.loan state.new ≡ S.loan state.old }
-    ensures answers { (memory : Memory) → S.reads state.old memory → S.reads state.new memory }
+    ensures unread { S.callback state.new ≡ S.callback state.old }
 {
     state.write_register(reg, value);
     ControlFlow::Continue(())
@@ -73,11 +71,9 @@ fn pop_register<S: UnwindState>(reg: Reg, state: &mut S) -> Option<ControlFlow<u
     ensures callable { S.can_read state.new }
     ensures same_loan { S.loan state.new ≡ S.loan state.old }
     ensures kept { IfNone result (S.registers state.new ≡ S.registers state.old) }
-    ensures answers { (memory : Memory) → S.reads state.old memory
-        → S.reads state.new memory
-        × MatchOption result
+    ensures answers { Answering S.calls (S.callback state.old) (S.callback state.new) (λ memory. MatchOption result
         (popped_register memory reg (S.registers state.old) ≡ None)
-        (λ flow. popped_register memory reg (S.registers state.old) ≡ Some (flow, S.registers state.new)) }
+        (λ flow. popped_register memory reg (S.registers state.old) ≡ Some (flow, S.registers state.new))) }
 {
     let sp = state.read_register(Reg::RSP);
     let word = state.read_stack(sp)?;
@@ -134,12 +130,10 @@ fn resolve_machine_frame<S: UnwindState>(
     ensures callable { S.can_read state.new }
     ensures same_loan { S.loan state.new ≡ S.loan state.old }
     ensures kept { IfNone result (S.registers state.new ≡ S.registers state.old) }
-    ensures answers { (memory : Memory) → S.reads state.old memory
-        → S.reads state.new memory
-        × MatchOption result
+    ensures answers { Answering S.calls (S.callback state.old) (S.callback state.new) (λ memory. MatchOption result
         (undone_machine_frame memory has_error_code (S.registers state.old) ≡ None)
         (λ flow. undone_machine_frame memory has_error_code (S.registers state.old)
-        ≡ Some (flow, S.registers state.new)) }
+        ≡ Some (flow, S.registers state.new))) }
 {
     let address = machine_frame_at(has_error_code, state)?;
     let return_address = state.read_stack(address)?;
@@ -158,13 +152,11 @@ pub fn resolve_operations<S: UnwindState, D: SectionBytes>(
     ensures callable { S.can_read state.new }
     ensures same_loan { S.loan state.new ≡ S.loan state.old }
     ensures stack { IfErr result IsMissingStackData }
-    ensures answers { (memory : Memory) → S.reads state.old memory
-        → S.reads state.new memory
-        × MatchResult result
+    ensures answers { Answering S.calls (S.callback state.old) (S.callback state.new) (λ memory. MatchResult result
         (λ address. resolved memory (left_operations D.contents operations.entry) (S.registers state.old)
         ≡ Ok (address, S.registers state.new))
         (λ error. resolved memory (left_operations D.contents operations.entry) (S.registers state.old)
-        ≡ Err error) }
+        ≡ Err error)) }
 {
     for framed in operations {
         match resolve_operation(framed, state) {

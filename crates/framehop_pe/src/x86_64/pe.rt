@@ -1,6 +1,6 @@
 //! Unwinding by Microsoft's x64 unwind info (framehop 0.16.0, `x86_64/pe.rs`).
 ghost use Rattle.std.specs.Prelude.{◌≡◌, ◌<◌, Some, None, Ok, Err, MatchResult, IfErr, option_map, map};
-ghost use Rattle.framehop_core.specs.Memory.{Memory, AnswersAs};
+ghost use Rattle.framehop_core.specs.Memory.{Answering};
 ghost use Rattle.framehop_core.specs.X86_64.RuleOfOperations.{rule_of_operations};
 ghost use Rattle.framehop_pe.specs.Answer.{TellsFound, IsComputed, KeptUnlessDirect, IfRule, IsMissingStackData};
 ghost use Rattle.framehop_pe.specs.Sections.{sections_of};
@@ -29,13 +29,15 @@ struct State<'a, F: FnMut(u64) -> Result<u64, ()>> {
 }
 
 impl<F: FnMut(u64) -> Result<u64, ()>> UnwindState for State<'_, F> {
-    ghost use Rattle.framehop_core.specs.Memory.{AnswersAs};
-
     ghost registers = { λ state. state.regs };
 
     ghost can_read = { λ state. F.IsAlwaysCallable state.read_stack.now };
 
-    ghost reads = { λ state memory. AnswersAs F.FnMut state.read_stack.now memory };
+    ghost Callback = { F };
+
+    ghost calls = { F.FnMut };
+
+    ghost callback = { λ state. state.read_stack.now };
 
     ghost loan = { λ state. state.read_stack.ghost_name };
 
@@ -153,9 +155,8 @@ where
     ensures unread { IfRule result (λ _. read_stack.new ≡ read_stack.old) }
     ensures unread_refused { IfErr result (λ error. (¬ IsMissingStackData error) → read_stack.new ≡ read_stack.old) }
     ensures found { TellsFound (Ok (rule_along (by_codes (left_operations D.contents operations.entry)))) result }
-    ensures answers { (memory : Memory) → AnswersAs F.FnMut read_stack.old memory
-        → AnswersAs F.FnMut read_stack.new memory
-        × IsComputed (along (by_codes (left_operations D.contents operations.entry)) memory regs.old) result regs.new }
+    ensures answers { Answering F.FnMut read_stack.old read_stack.new (λ memory.
+        IsComputed (along (by_codes (left_operations D.contents operations.entry)) memory regs.old) result regs.new) }
 {
     if let Some(rule) = rule_of_codes(operations) {
         return Ok(UnwindResult::ExecRule(rule));
@@ -181,9 +182,8 @@ fn unwind_epilog<F: FnMut(u64) -> Result<u64, ()>>(
     ensures unread { IfRule result (λ _. read_stack.new ≡ read_stack.old) }
     ensures unread_refused { IfErr result (λ error. (¬ IsMissingStackData error) → read_stack.new ≡ read_stack.old) }
     ensures found { TellsFound (Ok (rule_along (by_epilog frame_register (left_instructions instructions.entry)))) result }
-    ensures answers { (memory : Memory) → AnswersAs F.FnMut read_stack.old memory
-        → AnswersAs F.FnMut read_stack.new memory
-        × IsComputed (along (by_epilog frame_register (left_instructions instructions.entry)) memory regs.old) result regs.new }
+    ensures answers { Answering F.FnMut read_stack.old read_stack.new (λ memory.
+        IsComputed (along (by_epilog frame_register (left_instructions instructions.entry)) memory regs.old) result regs.new) }
 {
     if let Some(rule) = rule_of_epilog(instructions) {
         return Ok(UnwindResult::ExecRule(rule));
@@ -263,9 +263,8 @@ where
     ensures unread { IfRule result (λ _. read_stack.new ≡ read_stack.old) }
     ensures unread_refused { IfErr result (λ error. (¬ IsMissingStackData error) → read_stack.new ≡ read_stack.old) }
     ensures found { TellsFound (found_of (codes_way (sections_of D.contents sections.now) function (shown info.entry) address)) result }
-    ensures answers { (memory : Memory) → AnswersAs F.FnMut read_stack.old memory
-        → AnswersAs F.FnMut read_stack.new memory
-        × IsComputed (computed_of (codes_way (sections_of D.contents sections.now) function (shown info.entry) address) memory regs.old) result regs.new }
+    ensures answers { Answering F.FnMut read_stack.old read_stack.new (λ memory.
+        IsComputed (computed_of (codes_way (sections_of D.contents sections.now) function (shown info.entry) address) memory regs.old) result regs.new) }
 {
     let offset = address.saturating_sub(function.begin_address);
     match UnwindOperations::new(sections, info, offset) {
@@ -294,9 +293,8 @@ where
     ensures unread { IfRule result (λ _. read_stack.new ≡ read_stack.old) }
     ensures unread_refused { IfErr result (λ error. (¬ IsMissingStackData error) → read_stack.new ≡ read_stack.old) }
     ensures found { TellsFound (found_of (way_of is_first_frame (sections_of D.contents sections.now) function address)) result }
-    ensures answers { (memory : Memory) → AnswersAs F.FnMut read_stack.old memory
-        → AnswersAs F.FnMut read_stack.new memory
-        × IsComputed (computed_of (way_of is_first_frame (sections_of D.contents sections.now) function address) memory regs.old) result regs.new }
+    ensures answers { Answering F.FnMut read_stack.old read_stack.new (λ memory.
+        IsComputed (computed_of (way_of is_first_frame (sections_of D.contents sections.now) function address) memory regs.old) result regs.new) }
 {
     let info = match sections.unwind_info(function.unwind_info_address) {
         Ok(info) => info,

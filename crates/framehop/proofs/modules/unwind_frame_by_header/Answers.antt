@@ -1,4 +1,5 @@
 use Rattle.std.proofs.Common.{refl}
+use Rattle.framehop_core.proofs.Callback.{Answering-so}
 use Rattle.framehop.proofs.FramesLemmas.{header-found}
 use Rattle.framehop.proofs.modules.unwind_frame_by_header.Goals as goal
 
@@ -13,10 +14,10 @@ returns-in-Some-clause-told g c = λ some.
     rw found (rw (c.new-unwinder.ensures.section, c.new-unwinder.ensures.base) at c.unwind_frame_with_fde.ensures.told some)
 
 pub returns-in-Some-clause-answers : goal.returns-in-Some-clause-answers
-returns-in-Some-clause-answers g c = λ memory answers.
+returns-in-Some-clause-answers g c =
     let found = header-found c.args.eh_frame_hdr.now c.args.eh_frame.now c.args.base_addresses c.args.base_svma c.new-unwinder.result.eh_frame_hdr c.new-unwinder.result.base_svma c.args.relative_address _ _ c.new-unwinder.ensures.header c.new-unwinder.ensures.base c.get_fde_offset_for_relative_address.ensures.exact c.in-Some.is in
-    let ran = c.unwind_frame_with_fde.ensures.answers memory answers in
-    (ran.0, λ some. rw found (rw (c.new-unwinder.ensures.section, c.new-unwinder.ensures.base) at ran.1 some))
+    Answering-so g.F.FnMut c.unwind_frame_with_fde.ensures.answers
+    (λ memory ran some. rw found (rw (c.new-unwinder.ensures.section, c.new-unwinder.ensures.base) at ran some))
 
 pub returns-in-None-clause-told : goal.returns-in-None-clause-told
 returns-in-None-clause-told g c = λ some.

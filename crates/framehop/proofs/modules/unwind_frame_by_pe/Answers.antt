@@ -1,4 +1,5 @@
 use Rattle.std.proofs.Common.{Ok, Err}
+use Rattle.framehop_core.proofs.Callback.{Answering-so}
 use Rattle.framehop.proofs.ToldLemmas.{pe-told, pe-values, pe-written}
 use Rattle.framehop.proofs.modules.unwind_frame_by_pe.Goals as goal
 
@@ -10,14 +11,14 @@ pub returns-in-Ok-clause-told : goal.returns-in-Ok-clause-told
 returns-in-Ok-clause-told g c = pe-told _ _ (Ok c.in-Ok.found) c.in-Ok.ensures.refusal c.in-Ok.ensures.found
 
 pub returns-in-Ok-clause-answers : goal.returns-in-Ok-clause-answers
-returns-in-Ok-clause-answers g c = λ memory answers.
-    let ran = c.in-Ok.ensures.answers memory answers in
-    (ran.0, pe-values _ _ (Ok c.in-Ok.found) c.args.regs.now c.unwind_frame.new.regs memory c.in-Ok.ensures.refusal c.in-Ok.ensures.found ran.1)
+returns-in-Ok-clause-answers g c =
+    Answering-so g.F.FnMut c.in-Ok.ensures.answers
+    (λ memory ran. pe-values _ _ (Ok c.in-Ok.found) c.args.regs.now c.unwind_frame.new.regs memory c.in-Ok.ensures.refusal c.in-Ok.ensures.found ran)
 
 pub returns-in-Err-clause-told : goal.returns-in-Err-clause-told
 returns-in-Err-clause-told g c = pe-told _ _ (Err c.in-Err.error) c.in-Err.ensures.refusal c.in-Err.ensures.found
 
 pub returns-in-Err-clause-answers : goal.returns-in-Err-clause-answers
-returns-in-Err-clause-answers g c = λ memory answers.
-    let ran = c.in-Err.ensures.answers memory answers in
-    (ran.0, pe-values _ _ (Err c.in-Err.error) c.args.regs.now c.unwind_frame.new.regs memory c.in-Err.ensures.refusal c.in-Err.ensures.found ran.1)
+returns-in-Err-clause-answers g c =
+    Answering-so g.F.FnMut c.in-Err.ensures.answers
+    (λ memory ran. pe-values _ _ (Err c.in-Err.error) c.args.regs.now c.unwind_frame.new.regs memory c.in-Err.ensures.refusal c.in-Err.ensures.found ran)

@@ -1,4 +1,5 @@
 use Rattle.std.proofs.Common.{◌≢◌, ◌+◌, Ok, Err, ap, sym, subst}
+use Rattle.framehop_core.proofs.Callback.{Answering-so}
 use Rattle.framehop_dwarf.specs.Told.{no_memory}
 use Rattle.framehop.specs.CallFrames.{RowReader, fde_answer}
 use Rattle.framehop.specs.Told.{TellsAnswer, TellsValues}
@@ -7,15 +8,12 @@ use Rattle.framehop.proofs.ToldLemmas.{fde-err-told, fde-err-values, fde-ok-valu
 use Rattle.framehop.proofs.modules.unwind_frame_with_fde.Goals as goal
 
 pub returns-in-Ok-clause-answers : goal.returns-in-Ok-clause-answers
-returns-in-Ok-clause-answers g c = λ memory answers.
+returns-in-Ok-clause-answers g c =
     let limits = g.met.P.AllocationPolicy.is_policy in
-    let ran = c.in-Ok.ensures.answers memory answers in (
-      ran.0,
-      λ kept.
-          subst (λ (reader : RowReader g.row.A-UnwindRule.Denot g.row.A-UnwindRegs.Denot). TellsValues (fde_answer reader g.P.AllocationPolicy.policy c.args.unwinder.now.section (c.args.unwinder.now.base_svma + c.args.relative_address) c.args.is_first_frame c.args.fde_offset) c.args.regs.now memory (Ok c.in-Ok.found) c.unwind_frame_with_fde.new.regs)
-          (sym (rows-are _ _ g.met.A.Unwinding.readers_are))
-          (fde-ok-values _ g.P.AllocationPolicy.policy c.args.unwinder.now.section (c.args.unwinder.now.base_svma + c.args.relative_address) c.args.is_first_frame c.args.fde_offset _ _ limits.1 limits.2 memory c.args.regs.now c.unwind_frame_with_fde.new.regs c.in-Ok.found (c.in-Ok.ensures.found (λ e. cc)) ran.1),
-    )
+    Answering-so g.F.FnMut c.in-Ok.ensures.answers (λ memory ran kept.
+    subst (λ (reader : RowReader g.row.A-UnwindRule.Denot g.row.A-UnwindRegs.Denot). TellsValues (fde_answer reader g.P.AllocationPolicy.policy c.args.unwinder.now.section (c.args.unwinder.now.base_svma + c.args.relative_address) c.args.is_first_frame c.args.fde_offset) c.args.regs.now memory (Ok c.in-Ok.found) c.unwind_frame_with_fde.new.regs)
+    (sym (rows-are _ _ g.met.A.Unwinding.readers_are))
+    (fde-ok-values _ g.P.AllocationPolicy.policy c.args.unwinder.now.section (c.args.unwinder.now.base_svma + c.args.relative_address) c.args.is_first_frame c.args.fde_offset _ _ limits.1 limits.2 memory c.args.regs.now c.unwind_frame_with_fde.new.regs c.in-Ok.found (c.in-Ok.ensures.found (λ e. cc)) ran.0))
 
 pub returns-in-Err-clause-told : goal.returns-in-Err-clause-told
 returns-in-Err-clause-told g c = λ some.
@@ -26,13 +24,10 @@ returns-in-Err-clause-told g c = λ some.
     (fde-err-told _ g.P.AllocationPolicy.policy c.args.unwinder.now.section (c.args.unwinder.now.base_svma + c.args.relative_address) c.args.is_first_frame c.args.fde_offset _ _ limits.1 limits.2 c.in-Err.error kept (c.in-Err.ensures.found (λ e. kept (err-same _ _ e))))
 
 pub returns-in-Err-clause-answers : goal.returns-in-Err-clause-answers
-returns-in-Err-clause-answers g c = λ memory answers.
+returns-in-Err-clause-answers g c =
     let limits = g.met.P.AllocationPolicy.is_policy in
-    let ran = c.in-Err.ensures.answers memory answers in (
-      ran.0,
-      λ some.
-          let kept : c.in-Err.error ≢ no_memory = λ e. some (ap (λ x. Err (Dwarf x)) e) in
-          subst (λ (reader : RowReader g.row.A-UnwindRule.Denot g.row.A-UnwindRegs.Denot). TellsValues (fde_answer reader g.P.AllocationPolicy.policy c.args.unwinder.now.section (c.args.unwinder.now.base_svma + c.args.relative_address) c.args.is_first_frame c.args.fde_offset) c.args.regs.now memory (Err (Dwarf c.in-Err.error)) c.unwind_frame_with_fde.new.regs)
-          (sym (rows-are _ _ g.met.A.Unwinding.readers_are))
-          (fde-err-values _ g.P.AllocationPolicy.policy c.args.unwinder.now.section (c.args.unwinder.now.base_svma + c.args.relative_address) c.args.is_first_frame c.args.fde_offset _ _ limits.1 limits.2 memory c.args.regs.now c.unwind_frame_with_fde.new.regs c.in-Err.error kept (c.in-Err.ensures.found (λ e. kept (err-same _ _ e))) ran.1),
-    )
+    Answering-so g.F.FnMut c.in-Err.ensures.answers (λ memory ran some.
+    let kept : c.in-Err.error ≢ no_memory = λ e. some (ap (λ x. Err (Dwarf x)) e) in
+    subst (λ (reader : RowReader g.row.A-UnwindRule.Denot g.row.A-UnwindRegs.Denot). TellsValues (fde_answer reader g.P.AllocationPolicy.policy c.args.unwinder.now.section (c.args.unwinder.now.base_svma + c.args.relative_address) c.args.is_first_frame c.args.fde_offset) c.args.regs.now memory (Err (Dwarf c.in-Err.error)) c.unwind_frame_with_fde.new.regs)
+    (sym (rows-are _ _ g.met.A.Unwinding.readers_are))
+    (fde-err-values _ g.P.AllocationPolicy.policy c.args.unwinder.now.section (c.args.unwinder.now.base_svma + c.args.relative_address) c.args.is_first_frame c.args.fde_offset _ _ limits.1 limits.2 memory c.args.regs.now c.unwind_frame_with_fde.new.regs c.in-Err.error kept (c.in-Err.ensures.found (λ e. kept (err-same _ _ e))) ran.0))

@@ -1,5 +1,5 @@
 use Rattle.std.proofs.Common.{◌≡◌, ℕ, ◌+◌, map, length}
-use Rattle.framehop.specs.Memory.{Memory, AnswersAs}
+use Rattle.framehop.specs.Memory.{Answering}
 use Rattle.framehop.specs.CodeAddress.{location_of}
 use Rattle.framehop.specs.Iterator.{before, progress_of}
 use Rattle.framehop.specs.Modules.{UnwinderView}
@@ -22,10 +22,8 @@ invariant-loop-unwinding g l =
     × ((other : UnwinderView) → AreApart l.fn.unwinder other → IsSoundAarch64 g.P.AllocationPolicy.policy other l.fn.cache.0
     → IsSoundAarch64 g.P.AllocationPolicy.policy other l.unwinding.cache.now.0)
     × StillEnds l.frames.items (progress_of l.unwinding.state) l.unwinding.regs
-    × ((memory : Memory) → AnswersAs g.F.FnMut l.fn.read_stack memory
-    → IsSoundAarch64 g.P.AllocationPolicy.policy l.fn.unwinder l.fn.cache.0
-    → AnswersAs g.F.FnMut l.unwinding.read_stack.now memory
-    × ((left : ℕ) → WalksOn (aarch64_step g.P.AllocationPolicy.policy l.fn.unwinder memory) (aarch64_cache_after g.P.AllocationPolicy.policy l.fn.unwinder)
+    × (IsSoundAarch64 g.P.AllocationPolicy.policy l.fn.unwinder l.fn.cache.0
+    → Answering g.F.FnMut l.fn.read_stack l.unwinding.read_stack.now (λ memory. (left : ℕ) → WalksOn (aarch64_step g.P.AllocationPolicy.policy l.fn.unwinder memory) (aarch64_cache_after g.P.AllocationPolicy.policy l.fn.unwinder)
     (map location_of l.frames.items) left (length l.frames.items + left)
     (progress_of l.unwinding.state) (before l.fn.pc)
     l.unwinding.regs l.fn.regs l.unwinding.cache.now l.fn.cache))

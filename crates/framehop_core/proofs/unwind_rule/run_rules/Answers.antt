@@ -1,5 +1,6 @@
 use Rattle.std.proofs.Common.{◌≡◌, true, length, subst, refl, arith}
 use Rattle.framehop_core.specs.Runs.{StepsBy}
+use Rattle.framehop_core.proofs.Callback.{Answering-then}
 use Rattle.framehop_core.proofs.Runs.{StepsBy-more, StepsBy-end, run_of-answered}
 use Rattle.framehop_core.proofs.unwind_rule.run_rules.Goals as goal
 
@@ -18,10 +19,8 @@ loop-answered-preserved g c =
     let step = rw c.in-Ok-Some.field-0-is at c.in-Ok-Some.ensures.advances in (
       c.in-Ok-Some.ensures.callable,
       λ n new steps. StepsBy-more g.R.UnwindRule.advances l.answered n c.args.regs.now l.regs c.exec.new.regs new l.invariant.1 step steps,
-      λ memory h.
-          let so_far = l.invariant.2 memory h in
-          let done = rw c.in-Ok-Some.field-0-is at (c.in-Ok-Some.ensures.answers memory so_far.0) in
-          (done.0, run_of-answered g.R.UnwindRule.outcome memory c.args.rules.now l.answered l.regs c.exec.new.regs _ c.index-rules-answered.result c.in-Ok-Some.field-0-0 so_far.1 c.loop-answered-test.true c.index-rules-answered.is done.1 done.2),
+      Answering-then g.F.FnMut l.invariant.2 (rw c.in-Ok-Some.field-0-is at c.in-Ok-Some.ensures.answers)
+          (λ memory so_far done. run_of-answered g.R.UnwindRule.outcome memory c.args.rules.now l.answered l.regs c.exec.new.regs _ c.index-rules-answered.result c.in-Ok-Some.field-0-0 so_far c.loop-answered-test.true c.index-rules-answered.is done.0 done.1),
     )
 
 pub returns-clause-advances : goal.returns-clause-advances

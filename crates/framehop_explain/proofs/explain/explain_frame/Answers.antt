@@ -1,5 +1,6 @@
 use Rattle.std.proofs.Common.{◌≡◌, ◌≢◌, Bool, true, false, Err, MatchBool, subst, ap, ◌∙◌}
 use Rattle.framehop_core.specs.CodeAddress.{location_of}
+use Rattle.framehop_core.proofs.Callback.{Answering-then, Answering-over}
 use Rattle.framehop.specs.Unwinding.{answer_by}
 use Rattle.framehop_explain.proofs.DecidedLemmas.{decided, readers-by}
 use Rattle.framehop_explain.proofs.explain.explain_frame.Goals as goal
@@ -10,27 +11,24 @@ holds-not A B true fact is = (let e : true ≡ false = is in cc)
 holds-not A B false fact is = fact
 
 pub returns-then-is_out_of_memory-clause-answers : goal.returns-then-is_out_of_memory-clause-answers
-returns-then-is_out_of_memory-clause-answers g c = λ memory answers.
-    let found = c.in_ok-finding.ensures.answers memory answers in
-    let ran = c.unwind_frame-outcome.ensures.answers memory found.0 (c.in_ok-cache.ensures.sound _ _) in
-    (ran.0, tt)
+returns-then-is_out_of_memory-clause-answers g c =
+    Answering-then g.F.FnMut c.in_ok-finding.ensures.answers (c.unwind_frame-outcome.ensures.answers (c.in_ok-cache.ensures.sound _ _)) (λ memory found ran. tt)
 
 pub returns-clause-answers : goal.returns-clause-answers
-returns-clause-answers g c = λ memory answers.
-    let found = c.in_ok-finding.ensures.answers memory answers in
-    let ran = c.unwind_frame-outcome.ensures.answers memory found.0 (c.in_ok-cache.ensures.sound _ _) in
-    (ran.0, (rw c.is_return_address.ensures at found.1))
+returns-clause-answers g c =
+    Answering-then g.F.FnMut c.in_ok-finding.ensures.answers (c.unwind_frame-outcome.ensures.answers (c.in_ok-cache.ensures.sound _ _))
+    (λ memory found ran. rw c.is_return_address.ensures at found)
 
 pub returns-clause-outcome : goal.returns-clause-outcome
 returns-clause-outcome g c = λ memory answers.
-    let found = c.in_ok-finding.ensures.answers memory answers in
-    let ran = c.unwind_frame-outcome.ensures.answers memory found.0 (c.in_ok-cache.ensures.sound _ _) in
+    let found = Answering-over g.F.FnMut c.in_ok-finding.ensures.answers memory answers in
+    let ran = Answering-over g.F.FnMut (c.unwind_frame-outcome.ensures.answers (c.in_ok-cache.ensures.sound _ _)) memory found.0 in
     ran.1 (holds-not _ _ _ c.is_out_of_memory.ensures c.if-is_out_of_memory.false)
 
 pub returns-clause-decided : goal.returns-clause-decided
 returns-clause-decided g c = λ memory answers.
-    let found = c.in_ok-finding.ensures.answers memory answers in
-    let ran = c.unwind_frame-outcome.ensures.answers memory found.0 (c.in_ok-cache.ensures.sound _ _) in
+    let found = Answering-over g.F.FnMut c.in_ok-finding.ensures.answers memory answers in
+    let ran = Answering-over g.F.FnMut (c.unwind_frame-outcome.ensures.answers (c.in_ok-cache.ensures.sound _ _)) memory found.0 in
     let met = ran.1 (holds-not _ _ _ c.is_out_of_memory.ensures c.if-is_out_of_memory.false) in
     let policy = g.P.AllocationPolicy.policy in
     let limits = g.met.P.AllocationPolicy.is_policy in

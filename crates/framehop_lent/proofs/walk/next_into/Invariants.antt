@@ -1,5 +1,5 @@
 use Rattle.std.proofs.Common.{◌≡◌, length, drop}
-use Rattle.framehop.specs.Memory.{Memory, AnswersAs}
+use Rattle.framehop.specs.Memory.{Answering}
 use Rattle.framehop.specs.Iterator.{progress_of}
 use Rattle.framehop.specs.Modules.{UnwinderView}
 use Rattle.framehop.specs.Soundness.{AreApart}
@@ -16,9 +16,7 @@ invariant-loop-i g l =
     × (drop l.i l.frames ≡ drop l.i l.fn.frames)
     × ((other : UnwinderView) → AreApart (g.U.Unwinder.unwinder_view l.fn.unwinding.unwinder.now) other
     → g.U.Unwinder.is_sound other l.fn.unwinding.cache.now → g.U.Unwinder.is_sound other l.unwinding.cache.now)
-    × ((memory : Memory) → AnswersAs g.F.FnMut l.fn.unwinding.read_stack.now memory
-    → g.U.Unwinder.is_sound (g.U.Unwinder.unwinder_view l.fn.unwinding.unwinder.now) l.fn.unwinding.cache.now
-    → AnswersAs g.F.FnMut l.unwinding.read_stack.now memory
-    × WritesOn (λ location regs. g.U.Unwinder.step l.fn.unwinding.unwinder.now location regs memory) (g.U.Unwinder.cache_after l.fn.unwinding.unwinder.now)
+    × (g.U.Unwinder.is_sound (g.U.Unwinder.unwinder_view l.fn.unwinding.unwinder.now) l.fn.unwinding.cache.now
+    → Answering g.F.FnMut l.fn.unwinding.read_stack.now l.unwinding.read_stack.now (λ memory. WritesOn (λ location regs. g.U.Unwinder.step l.fn.unwinding.unwinder.now location regs memory) (g.U.Unwinder.cache_after l.fn.unwinding.unwinder.now)
     l.frames l.i (progress_of l.unwinding.state) (progress_of l.fn.unwinding.state)
-    l.unwinding.regs l.fn.unwinding.regs l.unwinding.cache.now l.fn.unwinding.cache.now)
+    l.unwinding.regs l.fn.unwinding.regs l.unwinding.cache.now l.fn.unwinding.cache.now))

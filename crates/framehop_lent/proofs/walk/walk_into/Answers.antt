@@ -1,5 +1,5 @@
 use Rattle.std.proofs.Common.{◌∙◌, rules}
-use Rattle.framehop_core.proofs.Callback.{AnswersAs-unchanged}
+use Rattle.framehop_core.proofs.Callback.{AnswersAs-unchanged, Answering-over}
 use Rattle.framehop_lent.specs.Window.{words_from}
 use Rattle.framehop_lent.proofs.walk.walk_into.Goals as goal
 
@@ -8,7 +8,7 @@ returns-clause-answers g c = λ sound.
     let made = c.iter_frames-unwinding.ensures in
     let memory = words_from c.args.stack.now.base c.args.stack.now.words.now in
     let answers = AnswersAs-unchanged _ memory _ (λ a r f' call. search rules) in
-    let walked = c.next_into-walked.ensures.answers memory answers (rw (made.unwinder, made.cache) sound) in
+    let walked = (Answering-over _ (c.next_into-walked.ensures.answers (rw (made.unwinder, made.cache) sound)) memory answers).1 in
     let walk = rw (made.unwinder, made.cache, made.progress, made.regs) at walked in (
       walk.0,
       (λ out. rw c.regs.ensures (walk.1 out)),

@@ -1,6 +1,7 @@
 use Rattle.std.proofs.Common.{ap, sym, ◌∙◌, subst, IfOk}
 use Rattle.framehop.specs.Answer.{Fresh, by_rule}
 use Rattle.framehop.specs.Told.{TellsFresh, TellsFreshValues}
+use Rattle.framehop_core.proofs.Callback.{Answering-so}
 use Rattle.framehop.proofs.AnswerLemmas.{fresh-uncovered, given-fresh, may-take-memory, refused, tells, values}
 use Rattle.framehop.proofs.unwinder.UnwinderInternal.unwind_frame_by_modules.Goals as goal
 
@@ -24,11 +25,9 @@ returns-clause-told g c =
     (tells g.A.UnwindRule.UnwindRule.fallback _ c.unwind_frame.result c.frame_answer.result c.frame_answer.ensures c.unwind_frame.ensures.told)
 
 pub returns-clause-answers : goal.returns-clause-answers
-returns-clause-answers g c = λ memory answers.
+returns-clause-answers g c =
     let policy = g.P.AllocationPolicy.policy in
-    let ran = c.unwind_frame.ensures.answers memory answers in (
-      ran.0,
-      subst (λ (answer : Fresh g.row.A-UnwindRule.Denot g.row.A-UnwindRegs.Denot). IfOk c.frame_answer.result (λ made. TellsFreshValues answer c.args.regs.now memory made c.unwind_frame.new.regs))
-          (given-fresh (g.A.Unwinding.unwinding policy) _ policy g.A.UnwindRule.UnwindRule.fallback (g.A.Unwinding.answer_is policy) (g.met.A.Unwinding.fallback_is policy) c.args.self.now.modules c.args.lookup_address c.args.is_first_frame c.in-Some.module.now c.in-Some.relative_address c.in-Some.ensures.0 c.in-Some.ensures.1)
-          (values g.A.UnwindRule.UnwindRule.fallback _ c.unwind_frame.result c.frame_answer.result c.args.regs.now c.unwind_frame.new.regs memory c.frame_answer.ensures c.unwind_frame.ensures.told ran.1),
-    )
+    Answering-so g.F.FnMut c.unwind_frame.ensures.answers (λ memory ran.
+    subst (λ (answer : Fresh g.row.A-UnwindRule.Denot g.row.A-UnwindRegs.Denot). IfOk c.frame_answer.result (λ made. TellsFreshValues answer c.args.regs.now memory made c.unwind_frame.new.regs))
+    (given-fresh (g.A.Unwinding.unwinding policy) _ policy g.A.UnwindRule.UnwindRule.fallback (g.A.Unwinding.answer_is policy) (g.met.A.Unwinding.fallback_is policy) c.args.self.now.modules c.args.lookup_address c.args.is_first_frame c.in-Some.module.now c.in-Some.relative_address c.in-Some.ensures.0 c.in-Some.ensures.1)
+    (values g.A.UnwindRule.UnwindRule.fallback _ c.unwind_frame.result c.frame_answer.result c.args.regs.now c.unwind_frame.new.regs memory c.frame_answer.ensures c.unwind_frame.ensures.told ran))

@@ -1,30 +1,29 @@
 use Rattle.std.proofs.Common.{ap, sym, ◌∙◌}
+use Rattle.framehop_core.proofs.Callback.{Answering-then}
 use Rattle.framehop_core.specs.Outcome.{answer_of, registers_after}
 use Rattle.framehop.proofs.AnswerLemmas.{rule-outcome, failed-outcome}
 use Rattle.framehop.proofs.unwinder.UnwinderInternal.unwind_uncached.Goals as goal
 
 pub returns-in-Rule-clause-answers : goal.returns-in-Rule-clause-answers
-returns-in-Rule-clause-answers g c = λ memory answers.
+returns-in-Rule-clause-answers g c =
     let policy = g.P.AllocationPolicy.policy in
-    let before = c.in_ok-rule.ensures.answers memory answers in
     let told = rw c.in-Rule.is at c.in_ok-rule.ensures.told in
     let same = rw c.in-Rule.is at c.in_ok-rule.ensures.written in
-    let ran = c.exec.ensures.answers memory before.0 in
+    Answering-then g.F.FnMut c.in_ok-rule.ensures.answers c.exec.ensures.answers (λ memory before ran.
     let stepped =
     ap (λ outcome. outcome c.in-Rule.rule c.args.is_first_frame c.args.regs.now memory) (sym (g.met.A.Unwinding.outcome_is policy))
     ∙ sym (rule-outcome (g.A.Unwinding.unwinding policy) _ c.in-Rule.rule c.args.is_first_frame c.args.regs.now memory told) in
-    (ran.0, λ some. ((rw same at ran.1) ∙ ap answer_of stepped, (rw same at ran.2) ∙ ap (registers_after c.args.regs.now) stepped))
+    λ some. ((rw same at ran.0) ∙ ap answer_of stepped, (rw same at ran.1) ∙ ap (registers_after c.args.regs.now) stepped))
 
 pub returns-in-NotComputed-clause-answers : goal.returns-in-NotComputed-clause-answers
-returns-in-NotComputed-clause-answers g c = λ memory answers.
+returns-in-NotComputed-clause-answers g c =
     let policy = g.P.AllocationPolicy.policy in
-    let before = c.in_ok-rule.ensures.answers memory answers in
     let told = rw c.in-NotComputed.is at c.in_ok-rule.ensures.told in
-    let none = rw c.in-NotComputed.is at before.1 in
     let same = rw c.in-NotComputed.is at c.in_ok-rule.ensures.written in
-    let ran = rw c.fallback_rule.ensures at c.exec-in-NotComputed.ensures.answers memory before.0 in
+    Answering-then g.F.FnMut c.in_ok-rule.ensures.answers (rw c.fallback_rule.ensures at c.exec-in-NotComputed.ensures.answers) (λ memory before ran.
+    let none = rw c.in-NotComputed.is at before in
     let stepped =
     ap (λ outcome. outcome g.A.UnwindRule.UnwindRule.fallback c.args.is_first_frame c.args.regs.now memory) (sym (g.met.A.Unwinding.outcome_is policy))
     ∙ ap (λ rule. (g.A.Unwinding.unwinding policy).outcome rule c.args.is_first_frame c.args.regs.now memory) (sym (g.met.A.Unwinding.fallback_is policy))
     ∙ sym (failed-outcome (g.A.Unwinding.unwinding policy) _ c.args.is_first_frame c.args.regs.now memory told none) in
-    (ran.0, λ some. ((rw same at ran.1) ∙ ap answer_of stepped, (rw same at ran.2) ∙ ap (registers_after c.args.regs.now) stepped))
+    λ some. ((rw same at ran.0) ∙ ap answer_of stepped, (rw same at ran.1) ∙ ap (registers_after c.args.regs.now) stepped))

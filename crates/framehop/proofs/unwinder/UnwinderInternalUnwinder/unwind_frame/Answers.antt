@@ -3,6 +3,7 @@ use Rattle.framehop.specs.Outcome.{answer_of, registers_after}
 use Rattle.framehop.specs.CodeAddress.{location_of, lookup_address}
 use Rattle.framehop_cache.specs.Cache.{CacheView}
 use Rattle.framehop.specs.Soundness.{Extends, MayTakeMemory}
+use Rattle.framehop_core.proofs.Callback.{Answering-so, Answering-over}
 use Rattle.framehop.proofs.SoundnessLemmas.{cache_after-hit, cache_after-miss, cache_after_lookup-miss, missed, step-hit, step-at, fresh-at, Extends-after, Extends-same, IsSound-extended, out-or-not}
 use Rattle.framehop.proofs.MeaningLemmas.{answer-means}
 use Rattle.framehop.proofs.unwinder.UnwinderInternalUnwinder.unwind_frame.Goals as goal
@@ -13,15 +14,15 @@ returns-in-Hit-clause-cached g c = λ other.
     cache_after-hit (g.A.Unwinding.unwinding g.P.AllocationPolicy.policy) c.args.self.now c.args.cache.now (location_of c.args.address) c.lookup_rule.new.cache c.in-Hit.rule found.kept found.stats (sym found.answer ∙ c.in-Hit.is)
 
 pub returns-in-Hit-clause-answers : goal.returns-in-Hit-clause-answers
-returns-in-Hit-clause-answers g c = λ memory answers sound.
-    let ran = c.exec.ensures.answers memory answers in
+returns-in-Hit-clause-answers g c = λ sound.
+    Answering-so g.F.FnMut c.exec.ensures.answers (λ memory ran.
     let policy = g.P.AllocationPolicy.policy in
     let kind = ap not c.is_return_address-is_first_frame.ensures in
     let stepped =
     ap (λ outcome. outcome c.in-Hit.rule (not c.is_return_address-is_first_frame.result) c.args.regs.now memory) (sym (g.met.A.Unwinding.outcome_is policy))
     ∙ ap (λ first. (g.A.Unwinding.unwinding policy).outcome c.in-Hit.rule first c.args.regs.now memory) kind
     ∙ step-hit (g.A.Unwinding.unwinding policy) c.args.self.now c.args.cache.now (location_of c.args.address) c.in-Hit.rule c.args.regs.now memory sound (sym c.lookup_rule.ensures.answer ∙ c.in-Hit.is) in
-    (ran.0, λ other. (ran.1 ∙ ap answer_of stepped, ran.2 ∙ ap (registers_after c.args.regs.now) stepped))
+    λ other. (ran.0 ∙ ap answer_of stepped, ran.1 ∙ ap (registers_after c.args.regs.now) stepped))
 
 pub returns-in-Miss-clause-may_run_out : goal.returns-in-Miss-clause-may_run_out
 returns-in-Miss-clause-may_run_out g c = λ out. record {
@@ -56,20 +57,20 @@ returns-in-Miss-clause-stays_sound g c = λ other apart sound.
     IsSound-extended (g.A.Unwinding.unwinding g.P.AllocationPolicy.policy) c.args.self.now other c.args.cache.now.sets c.unwind_uncached.new.cache.sets apart (returns-in-Miss-clause-extends g c) sound
 
 pub returns-in-Miss-clause-answers : goal.returns-in-Miss-clause-answers
-returns-in-Miss-clause-answers g c = λ memory answers sound.
-    let ran = c.unwind_uncached.ensures.answers memory answers in
+returns-in-Miss-clause-answers g c = λ sound.
+    Answering-so g.F.FnMut c.unwind_uncached.ensures.answers (λ memory ran.
     let unwinding = g.A.Unwinding.unwinding g.P.AllocationPolicy.policy in
     let stepped = step-at unwinding c.args.self.now.modules (location_of c.args.address) _ _ c.args.regs.now memory c.address_for_lookup.ensures (ap not c.is_return_address-is_first_frame.ensures) in
-    (ran.0, λ some. (let told = ran.1 some in (told.0 ∙ ap answer_of stepped, told.1 ∙ ap (registers_after c.args.regs.now) stepped)))
+    λ some. (let told = ran some in (told.0 ∙ ap answer_of stepped, told.1 ∙ ap (registers_after c.args.regs.now) stepped)))
 
 pub returns-in-Hit-clause-means : goal.returns-in-Hit-clause-means
 returns-in-Hit-clause-means g c = λ memory answers sound.
     let policy = g.P.AllocationPolicy.policy in
-    answer-means c.exec.result _ c.args.regs.now c.exec.new.regs _ (returns-in-Hit-clause-answers g c memory answers sound).1
+    answer-means c.exec.result _ c.args.regs.now c.exec.new.regs _ (Answering-over g.F.FnMut (returns-in-Hit-clause-answers g c sound) memory answers).1
     (λ address e. g.met.A.Unwinding.step_means policy c.args.self.now.modules (location_of c.args.address) c.args.regs.now c.exec.new.regs memory address e)
 
 pub returns-in-Miss-clause-means : goal.returns-in-Miss-clause-means
 returns-in-Miss-clause-means g c = λ memory answers sound.
     let policy = g.P.AllocationPolicy.policy in
-    answer-means c.unwind_uncached.result _ c.args.regs.now c.unwind_uncached.new.regs _ (returns-in-Miss-clause-answers g c memory answers sound).1
+    answer-means c.unwind_uncached.result _ c.args.regs.now c.unwind_uncached.new.regs _ (Answering-over g.F.FnMut (returns-in-Miss-clause-answers g c sound) memory answers).1
     (λ address e. g.met.A.Unwinding.step_means policy c.args.self.now.modules (location_of c.args.address) c.args.regs.now c.unwind_uncached.new.regs memory address e)
