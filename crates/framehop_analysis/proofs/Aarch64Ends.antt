@@ -1,11 +1,60 @@
 -- The detector of an epilogue on aarch64: each end, each instruction and the walk forwards.
-use Rattle.std.proofs.Common.{◌≡◌, ◌≢◌, ◌↔◌, ℕ, ◌+◌, ◌*◌, ℤ, pos, ◌+ℤ◌, ◌≤ℤ◌, Bool, true, false, ◌==◌, IsTrue, cond, List, [], ◌∷◌, length, Option, Some, None, MatchOption, is_some, refl, sym, ap, ◌∙◌, subst, arith}
+use Rattle.std.proofs.Common.{
+  ◌≡◌,
+  ◌≢◌,
+  ◌↔◌,
+  ℕ,
+  ◌+◌,
+  ◌*◌,
+  ℤ,
+  pos,
+  ◌+ℤ◌,
+  ◌≤ℤ◌,
+  Bool,
+  true,
+  false,
+  ◌==◌,
+  IsTrue,
+  cond,
+  List,
+  [],
+  ◌∷◌,
+  length,
+  Option,
+  Some,
+  None,
+  MatchOption,
+  is_some,
+  refl,
+  sym,
+  ap,
+  ◌∙◌,
+  subst,
+  arith,
+}
 use Rattle.std.proofs.lemmas.Int.{ints}
 use Rattle.std.proofs.lemmas.Option.{same_Some}
 use Rattle.framehop_core.specs.declared.aarch64.unwind_rule.UnwindRuleAarch64.{UnwindRuleAarch64}
 use Rattle.framehop_analysis.specs.Answer.{IsOnly}
 use Rattle.framehop_analysis.specs.Aarch64.Words.{word_at, AreWordsAt, is_load, is_return, is_b, addressing, pair_offset}
-use Rattle.framehop_analysis.specs.Aarch64.Epilogue.{Places, at_pc, is_restoring, places_after, place_after_load, IsAuthenticatedCall, IsEnd, returns, branches, calls, IsRestored, IsRuleOfPlaces, IsRestOfEpilogue, IsEpilogueRule, restored, restores}
+use Rattle.framehop_analysis.specs.Aarch64.Epilogue.{
+  Places,
+  at_pc,
+  is_restoring,
+  places_after,
+  place_after_load,
+  IsAuthenticatedCall,
+  IsEnd,
+  returns,
+  branches,
+  calls,
+  IsRestored,
+  IsRuleOfPlaces,
+  IsRestOfEpilogue,
+  IsEpilogueRule,
+  restored,
+  restores,
+}
 use Rattle.framehop_analysis.specs.Laws.Answer.{only-map}
 use Rattle.framehop_analysis.specs.Laws.Aarch64.Ends.{Ends, rest-forward, rest-back, rest-end, end-rest}
 
@@ -18,7 +67,11 @@ pub end-branch : (text : List ℕ) (at word : ℕ) (by : ℤ) → Some word ≡ 
 end-branch text at word by there is apart = (word ∷ [], (sym there, tt), branches word is apart refl)
 
 -- where the word is neither a return nor a branch after sp has moved, an end is a call
-pub end-call : (text : List ℕ) (at word : ℕ) (by : ℤ) (found : Option ℕ) → Some word ≡ word_at text at → (is_return word ≡ true → ⊥) → (is_b word ≡ true → by ≢ pos 0 → ⊥) → MatchOption found ((words : List ℕ) → AreWordsAt text at words → IsAuthenticatedCall words → ⊥) (λ len. (words : List ℕ) × AreWordsAt text at words × IsAuthenticatedCall words × (len ≡ length words)) → IsTrue (is_some found) ↔ Ends text at by
+pub end-call : (text : List ℕ) (at word : ℕ) (by : ℤ) (found : Option ℕ) → Some word ≡ word_at text at
+    → (is_return word ≡ true → ⊥) → (is_b word ≡ true → by ≢ pos 0 → ⊥)
+    → MatchOption found ((words : List ℕ) → AreWordsAt text at words → IsAuthenticatedCall words → ⊥)
+    (λ len. (words : List ℕ) × AreWordsAt text at words × IsAuthenticatedCall words × (len ≡ length words))
+    → IsTrue (is_some found) ↔ Ends text at by
 end-call text at word by (Some len) there no_return no_branch call = (λ t. (call.0, call.1, calls call.2), λ e. refl)
 end-call text at word by None there no_return no_branch call = (λ t. cc, λ e. absurd (no_end e.0 e.1 e.2)) where
   no_end : (words : List ℕ) → AreWordsAt text at words → IsEnd by words → ⊥
@@ -75,7 +128,9 @@ read-none text pc places e = record {
   high = (let sp : places.sp ≡ pos 0 = ap (λ p. p.sp) e in omega (arith, ints));
 }
 
-pub read-more : (text : List ℕ) (pc at word : ℕ) (places next : Places) → IsReadUpTo text pc at places → word_at text at ≡ Some word → is_restoring word ≡ true → next ≡ places_after places word → places.sp ≤ℤ (next.sp +ℤ pos 512) → next.sp ≤ℤ (places.sp +ℤ pos 16777216) → IsReadUpTo text pc (at + 4) next
+pub read-more : (text : List ℕ) (pc at word : ℕ) (places next : Places) → IsReadUpTo text pc at places
+    → word_at text at ≡ Some word → is_restoring word ≡ true → next ≡ places_after places word
+    → places.sp ≤ℤ (next.sp +ℤ pos 512) → next.sp ≤ℤ (places.sp +ℤ pos 16777216) → IsReadUpTo text pc (at + 4) next
 read-more text pc at word places next r there is e least most =
     let P : UnwindRuleAarch64 → Places → Type 0 = λ rule p. IsRestOfEpilogue text (at + 4) p rule in
     let low = r.low in let high = r.high in
@@ -88,12 +143,17 @@ read-more text pc at word places next r there is e least most =
 
 -- ---- the rule of an epilogue
 
-pub no-end : (text : List ℕ) (pc at : ℕ) (places : Places) → (IsRestored text pc → ⊥) → IsReadUpTo text pc at places → ((word : ℕ) → word_at text at ≡ Some word → is_restoring word ≡ true → ⊥) → (Ends text at places.sp → ⊥) → (rule : UnwindRuleAarch64) → IsEpilogueRule text pc rule → ⊥
+pub no-end : (text : List ℕ) (pc at : ℕ) (places : Places) → (IsRestored text pc → ⊥) → IsReadUpTo text pc at places
+    → ((word : ℕ) → word_at text at ≡ Some word → is_restoring word ≡ true → ⊥) → (Ends text at places.sp → ⊥)
+    → (rule : UnwindRuleAarch64) → IsEpilogueRule text pc rule → ⊥
 no-end text pc at places not_restored r none no_end rule (restored here e) = not_restored here
 no-end text pc at places not_restored r none no_end rule (restores not_here rest) =
     no_end (rest-end text at places none rule (r.forward rule rest)).0
 
-pub only-end : (text : List ℕ) (pc at : ℕ) (places : Places) (found : Option UnwindRuleAarch64) → (IsRestored text pc → ⊥) → IsReadUpTo text pc at places → ((word : ℕ) → word_at text at ≡ Some word → is_restoring word ≡ true → ⊥) → Ends text at places.sp → IsOnly (IsRuleOfPlaces places) found → IsOnly (IsEpilogueRule text pc) found
+pub only-end : (text : List ℕ) (pc at : ℕ) (places : Places) (found : Option UnwindRuleAarch64)
+    → (IsRestored text pc → ⊥) → IsReadUpTo text pc at places
+    → ((word : ℕ) → word_at text at ≡ Some word → is_restoring word ≡ true → ⊥) → Ends text at places.sp
+    → IsOnly (IsRuleOfPlaces places) found → IsOnly (IsEpilogueRule text pc) found
 only-end text pc at places found not_restored r none ends only =
     only-map (IsRuleOfPlaces places) (IsEpilogueRule text pc) found
     (λ rule made. restores not_restored (r.back rule (end-rest text at places ends rule made)))

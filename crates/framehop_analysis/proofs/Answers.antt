@@ -21,7 +21,9 @@ only-some P Q None only to = tt
 only-some P Q (Some y) only to = to y only.0
 
 -- the first answer where there is one, else another
-pub first-exact : {A : Type 0} (P Q : A → Type 0) (first found : Option A) (Other : Type 0) → ((x : A) → (first ≡ Some x) ↔ P x) → MatchOption first Other (λ x. found ≡ Some x) → (Other → (x : A) → (found ≡ Some x) ↔ Q x) → (x : A) → (found ≡ Some x) ↔ FirstOf P Q x
+pub first-exact : {A : Type 0} (P Q : A → Type 0) (first found : Option A) (Other : Type 0)
+    → ((x : A) → (first ≡ Some x) ↔ P x) → MatchOption first Other (λ x. found ≡ Some x)
+    → (Other → (x : A) → (found ≡ Some x) ↔ Q x) → (x : A) → (found ≡ Some x) ↔ FirstOf P Q x
 first-exact {A} P Q None found Other exact other then x =
     (λ e. inr (λ y p. (let none = (exact y).1 p in cc), (then other x).0 e), λ f. from f) where
       from : FirstOf P Q x → found ≡ Some x

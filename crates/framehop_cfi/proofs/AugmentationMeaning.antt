@@ -1,5 +1,54 @@
 -- Reading a CIE's augmentation letter by letter gives what its text says.
-use Rattle.std.proofs.Common.{◌≡◌, ℕ, zero, suc, ◌+◌, ◌-◌, ◌*◌, ◌%◌, ◌^◌, ◌<◌, ◌≤◌, ◌≢◌, ◌⊎◌, Bool, true, false, List, [], ◌∷◌, ◌++◌, length, take, drop, get_or, map, slice_range, Some, Result, Ok, ℤ, refl, ap, sym, subst, ◌∙◌, inl, inr, arith, leb, ltb, ◌==◌, ◌||◌, if◌then◌else◌, append_assoc, length-append, length-drop, get_or-drop, add-one}
+use Rattle.std.proofs.Common.{
+  ◌≡◌,
+  ℕ,
+  zero,
+  suc,
+  ◌+◌,
+  ◌-◌,
+  ◌*◌,
+  ◌%◌,
+  ◌^◌,
+  ◌<◌,
+  ◌≤◌,
+  ◌≢◌,
+  ◌⊎◌,
+  Bool,
+  true,
+  false,
+  List,
+  [],
+  ◌∷◌,
+  ◌++◌,
+  length,
+  take,
+  drop,
+  get_or,
+  map,
+  slice_range,
+  Some,
+  Result,
+  Ok,
+  ℤ,
+  refl,
+  ap,
+  sym,
+  subst,
+  ◌∙◌,
+  inl,
+  inr,
+  arith,
+  leb,
+  ltb,
+  ◌==◌,
+  ◌||◌,
+  if◌then◌else◌,
+  append_assoc,
+  length-append,
+  length-drop,
+  get_or-drop,
+  add-one,
+}
 use Rattle.std.proofs.Math.Seq.{drop-append_seam, drop-nil}
 use Rattle.std.proofs.lemmas.Bool.{cases_Bool, cases_lt, eqb-true, eq-eqb, le-leb}
 use Rattle.std.proofs.lemmas.Bool.Decides.{nat_tests}
@@ -11,7 +60,26 @@ use Rattle.framehop_cfi.specs.Leb128.{continued, sum_of_groups, groups_at, uleb_
 use Rattle.framehop_cfi.specs.Raw.{raw_at, format_of, sign_extended}
 use Rattle.framehop_cfi.specs.Pointer.{pointer_at, base_of, application_of}
 use Rattle.framehop_cfi.specs.Augmentation.{counted_at, personality_at, letter_at, letters_at, augmentation_data, augmentation_at}
-use Rattle.framehop_cfi.specs.AugmentationMeaning.{IsPointer, of_two, of_four, of_eight, of_uleb, of_sleb, CountsFromKnown, AreArguments, of_r, of_l, of_p, of_p_without, of_flag, Lettered, encodings_of, HasData, HasNoData, HasAugmentation}
+use Rattle.framehop_cfi.specs.AugmentationMeaning.{
+  IsPointer,
+  of_two,
+  of_four,
+  of_eight,
+  of_uleb,
+  of_sleb,
+  CountsFromKnown,
+  AreArguments,
+  of_r,
+  of_l,
+  of_p,
+  of_p_without,
+  of_flag,
+  Lettered,
+  encodings_of,
+  HasData,
+  HasNoData,
+  HasAugmentation,
+}
 use Rattle.framehop_cfi.specs.declared.augmentation.Augmentation.{Augmentation}
 use Rattle.framehop_cfi.specs.declared.pointer.SectionBaseAddresses.{SectionBaseAddresses}
 use Rattle.framehop_cfi.specs.declared.read_error.ReadError.{ReadError}

@@ -15,11 +15,15 @@ module _ (section : Section) where
   abbrev Goes : ℕ → Cut → Type 0
   Goes at cut = cut.refusal ≡ None → AreOffsets section at cut.offsets
 
-  on-zero : (at : ℕ) (span : EntryExtent) (kind : UnwindSectionType) (rest : Cut) → section.kind ≡ kind → extent_at section.bytes at ≡ Ok span → is_zero_length span ≡ true → Goes span.end rest → Goes at (after_zero kind rest)
+  on-zero : (at : ℕ) (span : EntryExtent) (kind : UnwindSectionType) (rest : Cut) → section.kind ≡ kind
+      → extent_at section.bytes at ≡ Ok span → is_zero_length span ≡ true → Goes span.end rest
+      → Goes at (after_zero kind rest)
   on-zero at span EhFrame rest kind is zeros goes = λ none. at_mark kind is zeros
   on-zero at span DebugFrame rest kind is zeros goes = λ none. past_zero kind is zeros (goes none)
 
-  on-span : (n at : ℕ) (read : Result EntryExtent ReadError) → extent_at section.bytes at ≡ read → ((end : ℕ) → at < end → Goes end (cut_from section n end)) → Goes at (cut_by section at (cut_from section n) read)
+  on-span : (n at : ℕ) (read : Result EntryExtent ReadError) → extent_at section.bytes at ≡ read
+      → ((end : ℕ) → at < end → Goes end (cut_from section n end))
+      → Goes at (cut_by section at (cut_from section n) read)
   on-span n at (Err error) is rest = λ none. absurd cc
   on-span n at (Ok span) is rest =
       let within = span-within section.bytes at span is in

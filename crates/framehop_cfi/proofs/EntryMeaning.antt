@@ -9,7 +9,22 @@ use Rattle.framehop_cfi.specs.Pointer.{pointer_at}
 use Rattle.framehop_cfi.specs.Augmentation.{terminator_at, augmentation_at}
 use Rattle.framehop_cfi.specs.EntryExtent.{extent_at, is_zero_length}
 use Rattle.framehop_cfi.specs.Section.{Section}
-use Rattle.framehop_cfi.specs.Entry.{head_at, is_known_version, sizes_of, return_register_at, alignments_at, versioned_fields, cie_fields, cie_of_head, cie_at, skipped_at, fde_range, fde_fields, fde_of_head, fde_at}
+use Rattle.framehop_cfi.specs.Entry.{
+  head_at,
+  is_known_version,
+  sizes_of,
+  return_register_at,
+  alignments_at,
+  versioned_fields,
+  cie_fields,
+  cie_of_head,
+  cie_at,
+  skipped_at,
+  fde_range,
+  fde_fields,
+  fde_of_head,
+  fde_at,
+}
 use Rattle.framehop_cfi.specs.EntryMeaning.{Begins, HasCieFields, IsCie, IsFde}
 use Rattle.framehop_cfi.specs.declared.extent.EntryExtent.{EntryExtent}
 use Rattle.framehop_cfi.specs.declared.pointer.SectionBaseAddresses.{SectionBaseAddresses}
@@ -81,14 +96,27 @@ module _ (kind : UnwindSectionType) (bases : SectionBaseAddresses) (entry : List
             cc
       ]
 
-  read-augmentation : {fields : ℕ} (f : HasCieFields kind entry fields cie) → augmentation_at bases (slice_range entry f.text f.text_end) entry f.augmentation_data ≡ Ok (record { encoding = cie.fde_pointer_encoding; has_data = cie.has_augmentation_data; after_data = cie.instructions })
+  read-augmentation : {fields : ℕ} (f : HasCieFields kind entry fields cie)
+      → augmentation_at bases (slice_range entry f.text f.text_end) entry f.augmentation_data ≡ Ok
+      (record {
+        encoding = cie.fde_pointer_encoding;
+        has_data = cie.has_augmentation_data;
+        after_data = cie.instructions;
+      })
   read-augmentation f =
-      means-augmentation bases (slice_range entry f.text f.text_end) entry f.augmentation_data (record { encoding = cie.fde_pointer_encoding; has_data = cie.has_augmentation_data; after_data = cie.instructions }) f.is_augmentation
+      means-augmentation bases (slice_range entry f.text f.text_end) entry f.augmentation_data
+      (record {
+        encoding = cie.fde_pointer_encoding;
+        has_data = cie.has_augmentation_data;
+        after_data = cie.instructions;
+      }) f.is_augmentation
 
   means-fields : (fields : ℕ) → HasCieFields kind entry fields cie → cie.end ≡ end → cie_fields kind bases entry fields end ≡ Ok cie
   unfolding cie_fields versioned_fields alignments_at
   means-fields fields f ends =
-      rw (f.is_version, f.known) (rw f.is_text_end (rw f.is_sizes (rw f.is_code_alignment (rw f.is_data_alignment (rw f.is_return_register (rw (read-augmentation f) (ap (λ e. Ok (record cie { end = e })) (sym ends))))))))
+      rw (f.is_version, f.known) (rw f.is_text_end
+      (rw f.is_sizes (rw f.is_code_alignment (rw f.is_data_alignment
+      (rw f.is_return_register (rw (read-augmentation f) (ap (λ e. Ok (record cie { end = e })) (sym ends))))))))
 
 module _ (kind : UnwindSectionType) (bases : SectionBaseAddresses) (bytes : List ℕ) where
   -- an entry's head, and the span that it begins with
@@ -114,7 +142,8 @@ module _ (section : Section) where
   cie-of at (Cie fields end) cie begins is =
       let b = head-begins section.kind section.bases section.bytes at (Cie fields end) (λ e h. cc) begins in
       let there : end ≡ b.0.end = id-ends (take b.0.end section.bytes) b.0 (Cie fields end) section.kind b.1.id in
-      let f = fields-means section.kind section.bases (take b.0.end section.bytes) b.0.end cie fields (subst (λ e. cie_fields section.kind section.bases (take e section.bytes) fields e ≡ Ok cie) there is) in
+      let f = fields-means section.kind section.bases (take b.0.end section.bytes) b.0.end cie fields
+      (subst (λ e. cie_fields section.kind section.bases (take e section.bytes) fields e ≡ Ok cie) there is) in
       record {
         span = b.0;
         fields = fields;
@@ -136,7 +165,10 @@ module _ (section : Section) where
       rw (begins-head section.kind section.bases section.bytes at c.span (Cie c.fields c.span.end) c.begins)
       (means-fields section.kind section.bases (take c.span.end section.bytes) c.span.end cie c.fields c.has_fields c.ends)
 
-  range-means : (at cie_offset fields : ℕ) (span : EntryExtent) (cie : CommonInformationEntry) (fde : FrameDescriptionEntry) → Begins section.kind section.bytes at span (Fde cie_offset fields span.end) → IsCie section cie_offset cie → fde_fields section.bases cie (take span.end section.bytes) fields span.end ≡ Ok fde → IsFde section at fde
+  range-means : (at cie_offset fields : ℕ) (span : EntryExtent) (cie : CommonInformationEntry)
+      (fde : FrameDescriptionEntry) → Begins section.kind section.bytes at span (Fde cie_offset fields span.end)
+      → IsCie section cie_offset cie → fde_fields section.bases cie (take span.end section.bytes) fields span.end
+      ≡ Ok fde → IsFde section at fde
   unfolding fde_range
   range-means at cie_offset fields span cie fde begins its is =
       elim (cases_Bool (leb 128 cie.fde_pointer_encoding)) [
@@ -174,7 +206,8 @@ module _ (section : Section) where
       let b = head-begins section.kind section.bases section.bytes at (Fde cie_offset fields end) (λ e h. cc) begins in
       let there : end ≡ b.0.end = id-ends (take b.0.end section.bytes) b.0 (Fde cie_offset fields end) section.kind b.1.id in
       let its = bind_ok (cie_at section cie_offset) _ fde is in
-      let read : fde_fields section.bases its.0 (take b.0.end section.bytes) fields b.0.end ≡ Ok fde = subst (λ e. fde_fields section.bases its.0 (take e section.bytes) fields e ≡ Ok fde) there its.2 in
+      let read : fde_fields section.bases its.0 (take b.0.end section.bytes) fields b.0.end ≡ Ok fde = subst
+      (λ e. fde_fields section.bases its.0 (take e section.bytes) fields e ≡ Ok fde) there its.2 in
       range-means at cie_offset fields b.0 its.0 fde (subst (λ e. Begins section.kind section.bytes at b.0 (Fde cie_offset fields e)) there b.1) (cie_at-means cie_offset its.0 its.1) read
 
   pub fde_at-means : (at : ℕ) (fde : FrameDescriptionEntry) → fde_at section at ≡ Ok fde → IsFde section at fde

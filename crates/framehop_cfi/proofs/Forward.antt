@@ -5,7 +5,24 @@ use Rattle.framehop_cfi.specs.Leb128.{continued, groups_at, uleb_at, sleb_at, wi
 use Rattle.framehop_cfi.specs.Raw.{raw_at, format_of}
 use Rattle.framehop_cfi.specs.Pointer.{pointer_at, base_of, application_of}
 use Rattle.framehop_cfi.specs.Augmentation.{counted_at}
-use Rattle.framehop_cfi.specs.Instruction.{mapped, register_at, checked_i64, factored_at, factored_signed_at, offset_at, expression_at, rule_at, set_rule_at, def_cfa_at, def_cfa_factored_at, cfa_at, advance_at, coded_at, operands_at, instruction_at}
+use Rattle.framehop_cfi.specs.Instruction.{
+  mapped,
+  register_at,
+  checked_i64,
+  factored_at,
+  factored_signed_at,
+  offset_at,
+  expression_at,
+  rule_at,
+  set_rule_at,
+  def_cfa_at,
+  def_cfa_factored_at,
+  cfa_at,
+  advance_at,
+  coded_at,
+  operands_at,
+  instruction_at,
+}
 use Rattle.framehop_cfi.specs.declared.pointer.SectionBaseAddresses.{SectionBaseAddresses}
 use Rattle.framehop_cfi.specs.declared.entry.CommonInformationEntry.{CommonInformationEntry}
 use Rattle.framehop_cfi.specs.declared.rule.CfaRule.TheVariants as cfa
@@ -190,7 +207,9 @@ module _ (cie : CommonInformationEntry) (bases : SectionBaseAddresses) (bytes : 
   operands-reaches : (code : ℕ) → Reaches at (operands_at cie bases code bytes at)
   operands-reaches code =
       choose at (leb 0xC0 code) _ _ (omega arith)
-      (choose at (leb 0x80 code) _ _ (less at (suc at) _ (omega arith) (mapped-reaches (suc at) (λ offset. SetRule (record { 0 = code - 0x80 }) (rule.Offset offset)) _ (factored-reaches bytes at cie.data_alignment_factor)))
+      (choose at (leb 0x80 code) _ _ (less at (suc at) _ (omega arith)
+      (mapped-reaches (suc at) (λ offset. SetRule (record { 0 = code - 0x80 }) (rule.Offset offset)) _
+      (factored-reaches bytes at cie.data_alignment_factor)))
       (choose at (leb 0x40 code) _ _ (omega arith) (coded-reaches code)))
 
 instruction-reaches : (cie : CommonInformationEntry) (bases : SectionBaseAddresses) (bytes : List ℕ) (at : ℕ) → Reaches (suc at) (instruction_at cie bases bytes at)
@@ -200,6 +219,7 @@ instruction-reaches cie bases bytes at =
     less (suc at) code.1 _ past (operands-reaches cie bases bytes code.1 code.0))
 
 -- an instruction that is read ends after the place where it begins
-pub instruction-forward : (cie : CommonInformationEntry) (bases : SectionBaseAddresses) (bytes : List ℕ) (at : ℕ) (read : CallFrameInstruction × ℕ) → instruction_at cie bases bytes at ≡ Ok read → at < read.1
+pub instruction-forward : (cie : CommonInformationEntry) (bases : SectionBaseAddresses) (bytes : List ℕ) (at : ℕ)
+    (read : CallFrameInstruction × ℕ) → instruction_at cie bases bytes at ≡ Ok read → at < read.1
 instruction-forward cie bases bytes at read is =
     let r = rw is at (instruction-reaches cie bases bytes at) in omega arith

@@ -37,7 +37,9 @@ module _ (bytes : List ℕ) (at count : ℕ) (before : (k : ℕ) → k < count �
       let here : get_or (drop at bytes) count 0 < 128 = rw get_or-drop (omega arith) in
       rw (continued-is (drop at bytes) count continues here) (grind (arith, nat_tests))
 
-  pub groups-last : count < 10 → at + count < length bytes → get_or bytes (at + count) 0 < 128 → (sum bits next : ℕ) → sum ≡ sum_of_groups bytes at (count + 1) → bits ≡ 7 * (count + 1) → next ≡ at + count + 1 → Ok ((sum, bits), next) ≡ groups_at bytes at
+  pub groups-last : count < 10 → at + count < length bytes → get_or bytes (at + count) 0 < 128 → (sum bits next : ℕ)
+      → sum ≡ sum_of_groups bytes at (count + 1) → bits ≡ 7 * (count + 1) → next ≡ at + count + 1
+      → Ok ((sum, bits), next) ≡ groups_at bytes at
   unfolding groups_at
   groups-last few within last sum bits next s b n =
       let here : get_or (drop at bytes) count 0 < 128 = rw get_or-drop last in
@@ -63,7 +65,8 @@ below-more sum byte count below =
     let most = mul-le-mul_right (2 ^ (7 * count)) (let h : byte % 128 ≤ 127 = omega arith in h) in
     rw same (omega arith)
 
-module _ (bytes : List ℕ) (at count next sum low : ℕ) (few : count < 10) (place : next ≡ at + count) (read : low ≡ bit_and (get_or bytes next 0) 127) (so_far : sum ≡ sum_of_groups bytes at count) where
+module _ (bytes : List ℕ) (at count next sum low : ℕ) (few : count < 10) (place : next ≡ at + count)
+    (read : low ≡ bit_and (get_or bytes next 0) 127) (so_far : sum ≡ sum_of_groups bytes at count) where
   pub sum-more : sum + low * 2 ^ (7 * count) % 2 ^ 128 ≡ sum_of_groups bytes at (count + 1)
   sum-more =
       rw (add-one, read, place, so_far, shifted (get_or bytes (at + count) 0) count few) refl

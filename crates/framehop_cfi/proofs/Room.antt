@@ -7,7 +7,20 @@ use Rattle.framehop_cfi.specs.RowAt.{InstructionList, run, run_from, location_af
 use Rattle.framehop_cfi.specs.RowRoom.{needs_room, one_needs_room, list_needs_room}
 use Rattle.framehop_cfi.specs.declared.storage.StorageLimits.{StorageLimits}
 use Rattle.framehop_cfi.specs.declared.instruction.CallFrameInstruction.{CallFrameInstruction}
-use Rattle.framehop_cfi.specs.declared.instruction.CallFrameInstruction.TheVariants.{Nop, NegateRaState, ArgsSize, SetLoc, AdvanceLoc, SetRule, Restore, RememberState, RestoreState, DefCfa, DefCfaRegister, DefCfaOffset}
+use Rattle.framehop_cfi.specs.declared.instruction.CallFrameInstruction.TheVariants.{
+  Nop,
+  NegateRaState,
+  ArgsSize,
+  SetLoc,
+  AdvanceLoc,
+  SetRule,
+  Restore,
+  RememberState,
+  RestoreState,
+  DefCfa,
+  DefCfaRegister,
+  DefCfaOffset,
+}
 use Rattle.framehop_cfi.specs.declared.read_error.ReadError.{ReadError}
 use Rattle.framehop_cfi.proofs.RowMeaning.{same}
 use Rattle.framehop_cfi.proofs.Spans.{bind_ok}
@@ -44,7 +57,8 @@ module _ (limits : Option StorageLimits) where
       as-before _ after (record { rules = bare.rules; remembered = bare.remembered }) (same _ after cfa.2)
 
 module _ (code : InstructionList) where
-  run-bare : (limits : Option StorageLimits) (n at location : ℕ) (rows after : TableRows) → IsBare rows → one_needs_room code n at location ≡ false → run limits code n at location rows ≡ Ok after → IsBare after
+  run-bare : (limits : Option StorageLimits) (n at location : ℕ) (rows after : TableRows) → IsBare rows
+      → one_needs_room code n at location ≡ false → run limits code n at location rows ≡ Ok after → IsBare after
   run-bare limits zero at location rows after bare none is = as-before limits rows after bare (same rows after is)
   run-bare limits (suc n) at location rows after bare none is =
       elim (cases_lt at (length code.bytes)) [
@@ -65,7 +79,9 @@ module _ (code : InstructionList) where
       ]
 
   -- the row of a list that begins with nothing has a rule only where an instruction needs room
-  pub rules-need : (limits : Option StorageLimits) (at location : ℕ) (after : TableRows) → run_from limits code at location start ≡ Ok after → 0 < length after.row.rules → list_needs_room code at location ≡ true
+  pub rules-need : (limits : Option StorageLimits) (at location : ℕ) (after : TableRows)
+      → run_from limits code at location start ≡ Ok after → 0 < length after.row.rules
+      → list_needs_room code at location ≡ true
   unfolding run_from list_needs_room
   rules-need limits at location after is some =
       elim (cases_Bool (one_needs_room code (suc (length code.bytes)) at location)) [
@@ -77,7 +93,10 @@ module _ (code : InstructionList) where
       ]
 
   -- an instruction at the place needs room
-  pub needs-here : (n at location moved : ℕ) (read : CallFrameInstruction × ℕ) → IsIn code n at → instruction_at code.cie code.bases code.bytes at ≡ Ok read → location_after code.cie code.address location read.0 ≡ Ok moved → is_beyond code.address moved ≡ false → needs_room read.0 ≡ true → one_needs_room code n at location ≡ true
+  pub needs-here : (n at location moved : ℕ) (read : CallFrameInstruction × ℕ) → IsIn code n at
+      → instruction_at code.cie code.bases code.bytes at ≡ Ok read
+      → location_after code.cie code.address location read.0 ≡ Ok moved → is_beyond code.address moved ≡ false
+      → needs_room read.0 ≡ true → one_needs_room code n at location ≡ true
   needs-here zero at location moved read inside is moves near needs = absurd (omega arith)
   needs-here (suc n) at location moved read inside is moves near needs =
       rw (lt-leb (length code.bytes) at inside.1, is) (rw moves (rw (near, needs) refl))
@@ -87,12 +106,21 @@ module _ (code : InstructionList) where
   or-true false = refl
 
   -- one after it does
-  needs-later : (n at location moved : ℕ) (read : CallFrameInstruction × ℕ) → at < length code.bytes → instruction_at code.cie code.bases code.bytes at ≡ Ok read → location_after code.cie code.address location read.0 ≡ Ok moved → is_beyond code.address moved ≡ false → one_needs_room code n read.1 moved ≡ true → one_needs_room code (suc n) at location ≡ true
+  needs-later : (n at location moved : ℕ) (read : CallFrameInstruction × ℕ) → at < length code.bytes
+      → instruction_at code.cie code.bases code.bytes at ≡ Ok read
+      → location_after code.cie code.address location read.0 ≡ Ok moved → is_beyond code.address moved ≡ false
+      → one_needs_room code n read.1 moved ≡ true → one_needs_room code (suc n) at location ≡ true
   needs-later n at location moved read inside is moves near needs =
       rw (lt-leb (length code.bytes) at inside, is) (rw moves (rw (near, needs) (or-true (needs_room read.0))))
 
   -- what is known of a list at one of its instructions is known after it
-  pub one-on : (limits : Option StorageLimits) (n at location moved : ℕ) (rows after : TableRows) (read : CallFrameInstruction × ℕ) (whole : Result TableRows ReadError) (needed : Bool) → IsIn code n at → instruction_at code.cie code.bases code.bytes at ≡ Ok read → location_after code.cie code.address location read.0 ≡ Ok moved → is_beyond code.address moved ≡ false → effect limits read.0 rows ≡ Ok after → at < read.1 → run limits code n at location rows ≡ whole → (one_needs_room code n at location ≡ true → needed ≡ true) → (m : ℕ) × (length code.bytes < m + read.1) × (run limits code m read.1 moved after ≡ whole) × (one_needs_room code m read.1 moved ≡ true → needed ≡ true)
+  pub one-on : (limits : Option StorageLimits) (n at location moved : ℕ) (rows after : TableRows)
+      (read : CallFrameInstruction × ℕ) (whole : Result TableRows ReadError) (needed : Bool) → IsIn code n at
+      → instruction_at code.cie code.bases code.bytes at ≡ Ok read
+      → location_after code.cie code.address location read.0 ≡ Ok moved → is_beyond code.address moved ≡ false
+      → effect limits read.0 rows ≡ Ok after → at < read.1 → run limits code n at location rows ≡ whole
+      → (one_needs_room code n at location ≡ true → needed ≡ true) → (m : ℕ) × (length code.bytes < m + read.1)
+      × (run limits code m read.1 moved after ≡ whole) × (one_needs_room code m read.1 moved ≡ true → needed ≡ true)
   one-on limits zero at location moved rows after read whole needed inside is moves near does further runs needs = absurd (omega arith)
   one-on limits (suc n) at location moved rows after read whole needed inside is moves near does further runs needs =
       let e = rw does at (rw near at (rw moves at (rw (lt-leb (length code.bytes) at inside.1, is) at runs))) in

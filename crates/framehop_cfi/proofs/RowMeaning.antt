@@ -33,7 +33,10 @@ module _ (limits : Option StorageLimits) (code : InstructionList) where
     effect = ap Ok is;
   }
 
-  one-more : (at location next moved : ℕ) (instruction : CallFrameInstruction) (before middle after : TableRows) → Stands code at location instruction next moved → is_beyond code.address moved ≡ false → effect limits instruction before ≡ Ok middle → HasEffect limits code next moved middle after → HasEffect limits code at location before after
+  one-more : (at location next moved : ℕ) (instruction : CallFrameInstruction) (before middle after : TableRows)
+      → Stands code at location instruction next moved → is_beyond code.address moved ≡ false
+      → effect limits instruction before ≡ Ok middle → HasEffect limits code next moved middle after
+      → HasEffect limits code at location before after
   one-more at location next moved instruction before middle after stands near does rest = record {
     instructions = instruction ∷ rest.instructions;
     end = rest.end;
@@ -85,7 +88,9 @@ module _ (limits : Option StorageLimits) (code : InstructionList) where
       let stands = beyond.3 in
       rw (lt-leb (length code.bytes) at stands.inside, stands.reads) (rw stands.moves (rw beyond.4 refl))
 
-  effect-run : (instructions : List CallFrameInstruction) (n at location end last : ℕ) (before after : TableRows) → length instructions < n → Lists code at location instructions end last → Ends code end last → effects limits instructions before ≡ Ok after → run limits code n at location before ≡ Ok after
+  effect-run : (instructions : List CallFrameInstruction) (n at location end last : ℕ) (before after : TableRows)
+      → length instructions < n → Lists code at location instructions end last → Ends code end last
+      → effects limits instructions before ≡ Ok after → run limits code n at location before ≡ Ok after
   effect-run [] n at location end last before after enough lists ends is =
       let there : Ends code at location = subst (λ e. Ends code e location) (sym lists.0) (subst (λ l. Ends code end l) (sym lists.1) ends) in
       ended n at location before (omega arith) there ∙ is
@@ -137,7 +142,8 @@ row-of (Ok rows) row is = (rows, refl, cc)
 row-of (Err error) row is = cc
 
 -- what becomes of the rows becomes of the current one
-pub becomes-row : {A : Type 0} (result : Result A ReadError) (new : TableRows) (wanted : Result TableRows ReadError) → Becomes result new wanted → Becomes result new.row (wanted >>= λ rows. Ok rows.row)
+pub becomes-row : {A : Type 0} (result : Result A ReadError) (new : TableRows) (wanted : Result TableRows ReadError)
+    → Becomes result new wanted → Becomes result new.row (wanted >>= λ rows. Ok rows.row)
 becomes-row (Ok done) new wanted is = rw is refl
 becomes-row (Err error) new wanted is = λ kept. rw (is kept) refl
 
@@ -148,14 +154,18 @@ module _ (limits : Option StorageLimits) (section : Section) (fde : FrameDescrip
   answered (Err error) new is = tt
 
   -- it is refused only where the address has none
-  pub refused : {A : Type 0} (result : Result A ReadError) (new : TableRows) → Becomes result new (rows_at limits section fde address) → IfErr result (λ error. error ≢ OutOfMemory → (row : Row) → IsRowAt limits section fde address row → ⊥)
+  pub refused : {A : Type 0} (result : Result A ReadError) (new : TableRows)
+      → Becomes result new (rows_at limits section fde address)
+      → IfErr result (λ error. error ≢ OutOfMemory → (row : Row) → IsRowAt limits section fde address row → ⊥)
   refused (Ok done) new is = tt
   refused (Err error) new is = λ kept row there.
       let first = is kept in
       let second = means-rows_at limits section fde address there.0 there.1 in
       cc
 
-  pub becomes-row_at : {A : Type 0} (result : Result A ReadError) (new : TableRows) → Becomes result new (rows_at limits section fde address) → Becomes result new.row (row_at limits section fde address)
+  pub becomes-row_at : {A : Type 0} (result : Result A ReadError) (new : TableRows)
+      → Becomes result new (rows_at limits section fde address)
+      → Becomes result new.row (row_at limits section fde address)
   unfolding row_at
   becomes-row_at result new is = becomes-row result new (rows_at limits section fde address) is
 

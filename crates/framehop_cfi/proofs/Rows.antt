@@ -6,7 +6,10 @@ use Rattle.std.proofs.lemmas.Option.{slice_get_read}
 use Rattle.framehop_cfi.specs.Row.{Row}
 use Rattle.framehop_cfi.specs.TableRows.{restoring_state}
 
-pub restoring_state-front : (initial : Option Row) (row : Row) (rows : List Row) (count : ℕ) (spare latest : Row) → (count ≡ 0 → ⊥) → count ≤ length rows → latest ≡ get_or rows (count - 1) latest → restoring_state (record { initial = initial; row = row; remembered = take count rows }) ≡ Ok (record { initial = initial; row = latest; remembered = take (count - 1) (slice_set rows (count - 1) spare) })
+pub restoring_state-front : (initial : Option Row) (row : Row) (rows : List Row) (count : ℕ) (spare latest : Row)
+    → (count ≡ 0 → ⊥) → count ≤ length rows → latest ≡ get_or rows (count - 1) latest
+    → restoring_state (record { initial = initial; row = row; remembered = take count rows }) ≡ Ok
+    (record { initial = initial; row = latest; remembered = take (count - 1) (slice_set rows (count - 1) spare) })
 restoring_state-front initial row rows count spare latest some within is =
     let n : length (take count rows) ≡ count = length-take-le count rows within in
     let below : count - 1 < count = omega arith in

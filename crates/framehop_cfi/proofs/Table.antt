@@ -9,7 +9,8 @@ pub length-starts_of : (bases : SectionBaseAddresses) (layout : Layout) (bytes :
 unfolding starts_of
 length-starts_of bases layout bytes = length-map-range_with_len (start_of_row bases layout bytes) 0 layout.count
 
-pub get_or-starts_of : (bases : SectionBaseAddresses) (layout : Layout) (bytes : List ℕ) (index : ℕ) → index < layout.count → get_or (starts_of bases layout bytes) index 0 ≡ start_of_row bases layout bytes index
+pub get_or-starts_of : (bases : SectionBaseAddresses) (layout : Layout) (bytes : List ℕ) (index : ℕ)
+    → index < layout.count → get_or (starts_of bases layout bytes) index 0 ≡ start_of_row bases layout bytes index
 unfolding starts_of
 get_or-starts_of bases layout bytes index below =
     get_or-map-range_with_len (start_of_row bases layout bytes) 0 layout.count index index 0 below (omega arith)

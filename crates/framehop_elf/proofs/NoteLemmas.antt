@@ -35,13 +35,15 @@ abbrev found : List NoteView → Option (List ℕ)
 found notes = option_map (λ (note : NoteView). note.descriptor) (find is_build_id notes)
 
 -- the first note is the build id
-pub build_id_of-first : (bytes : List ℕ) (note : NoteView) (size : ℕ) → note_at bytes ≡ Some (note, size) → (0 < size) × (0 < length bytes) → is_build_id note ≡ true → build_id_of bytes ≡ Some note.descriptor
+pub build_id_of-first : (bytes : List ℕ) (note : NoteView) (size : ℕ) → note_at bytes ≡ Some (note, size)
+    → (0 < size) × (0 < length bytes) → is_build_id note ≡ true → build_id_of bytes ≡ Some note.descriptor
 build_id_of-first bytes note size e some is =
     ap found (notes_in-more bytes note size e some)
     ∙ ap (λ (b : Bool). option_map (λ (n : NoteView). n.descriptor) (cond b (Some note) (find is_build_id (notes_in 0 (drop size bytes))))) is
 
 -- it is not, and the build id is among those after it
-pub build_id_of-later : (bytes : List ℕ) (note : NoteView) (size : ℕ) → note_at bytes ≡ Some (note, size) → (0 < size) × (0 < length bytes) → is_build_id note ≡ false → build_id_of bytes ≡ build_id_of (drop size bytes)
+pub build_id_of-later : (bytes : List ℕ) (note : NoteView) (size : ℕ) → note_at bytes ≡ Some (note, size)
+    → (0 < size) × (0 < length bytes) → is_build_id note ≡ false → build_id_of bytes ≡ build_id_of (drop size bytes)
 build_id_of-later bytes note size e some is =
     ap found (notes_in-more bytes note size e some)
     ∙ ap (λ (b : Bool). option_map (λ (n : NoteView). n.descriptor) (cond b (Some note) (find is_build_id (notes_in 0 (drop size bytes))))) is

@@ -1,20 +1,21 @@
 #!/usr/bin/env python3
-"""Makes src/dll.rt: a DLL's sections, and what unwinding gives at addresses of it.
+"""Writes the case pe_of_a_dll of cases/rules: a DLL's sections, and what unwinding gives at addresses of it.
 
-The DLL is made of functions.c by mingw's gcc (Debian: gcc-mingw-w64-x86-64-posix). What unwinding
-gives is worked out here from the codes that llvm-readobj prints and the instructions that objdump
-prints, and not by the library. Run it anywhere: scripts/make_table.py > src/dll.rt,
-then `rt fmt`.
+The DLL is made of functions.c by mingw's gcc (Debian: gcc-mingw-w64-x86-64-posix). What unwinding gives is worked out here
+from the codes that llvm-readobj prints and the instructions that objdump prints, and not by the library.
 """
+import json
 import os
 import re
 import struct
 import subprocess
 import tempfile
+from pathlib import Path
 
+CASES = Path(__file__).resolve().parents[3] / "cases/rules"
 HERE = os.path.dirname(os.path.abspath(__file__))
 NUMBERS = "RAX RCX RDX RBX RSP RBP RSI RDI R8 R9 R10 R11 R12 R13 R14 R15".split()
-SHOWN = "RSP RBX RBP RSI RDI R12 R13 R14 R15".split()
+PRINTED = "RAX RDX RCX RBX RSI RDI RBP RSP R8 R9 R10 R11 R12 R13 R14 R15".split()
 EIGHT = "RBX RBP RDI RSI R12 R13 R14 R15".split()
 
 
@@ -125,31 +126,38 @@ def resolve(codes, frame, offset, established):
     return word(r["RSP"]), {**r, "RSP": r["RSP"] + 8}
 
 
-def ordering(count, n):
-    places = list(EIGHT)
-    for k in range(8):
-        digit, n = n % (8 - k), n // (8 - k)
-        places[k], places[k + digit] = places[k + digit], places[k]
-    return places[:count]
-
-
 def rule_of(steps):
-    """The offset in words, the count and the number of the pops, or None."""
+    """The rule of an offset and pops as framehop-explain prints it, or None."""
     offset, pops = 0, []
     for place, (kind, value) in enumerate(steps):
         if kind == "add" and place == 0 and value % 8 == 0 and value < 8 << 16:
-            offset = value // 8
+            offset = value
         elif kind == "pop" and value in EIGHT and value not in pops:
             pops.append(value)
         else:
             return None
-    return offset, len(pops), next(n for n in range(40320) if ordering(len(pops), n) == pops)
+    below = 8 * len(pops) + 8
+    saved = "".join(f"; {name.lower()} at CFA - {below - 8 * place}" for place, name in enumerate(pops))
+    return f"CFA = rsp + {offset + below}{saved}; return address at CFA - 8"
+
+
+def step(address, first, caller_rsp):
+    """The step of a frame, over the thirty words below the caller's stack pointer."""
+    base = caller_rsp - 240
+    names = {"RSP": "sp", "RBP": "bp"}
+    return {
+        "do": "step", "unwinder": 0, "cache": 0, "kind": "ip" if first else "ra",
+        "address": f"{address if first else address + 1:x}",
+        "regs": {"ip": "1", **{names.get(name, name.lower()): f"{START[name]:x}" for name in NUMBERS}},
+        "memory": {"base": f"{base:x}", "words": [f"{word(at):x}" for at in range(base, caller_rsp, 8)]},
+    }
 
 
 def row(function, address, first, instructions, image_base):
     begin, end, frame, offset, codes = function
     place = [a for a, _ in instructions].index(address)
     steps = epilog_at(instructions, place, function, image_base) if first else None
+    kind = "unwind codes" if steps is None else "epilog"
     if steps is not None:
         answer, registers = run_steps(steps, frame)
     else:
@@ -162,10 +170,10 @@ def row(function, address, first, instructions, image_base):
         steps = [("add", v) if k.startswith("ALLOC") else ("pop", n) if k == "PUSH_NONVOL" else ("", None)
                  for _, k, n, v in left]
     rule = rule_of(steps)
-    shape = "None" if rule is None else "Some((%d, %d, %d))" % rule
-    values = ", ".join("0x%x" % registers[name] for name in SHOWN)
-    return ("Row { address: 0x%x, is_first_frame: %s, rule: %s, return_address: 0x%x, registers: [%s] },"
-            % (address, "true" if first else "false", shape, answer, values))
+    source = f"{kind} of function 0x{begin:x}..0x{end:x}"
+    told = f"  m+0x{address:x}: {source}: {rule or f'computed: return address 0x{answer:x}'}"
+    line = f"regs ip={answer:x} " + " ".join(f"{name.lower()}={registers[name]:x}" for name in PRINTED)
+    return step(address, first, registers["RSP"]), [f"step {answer:x}", told, line]
 
 
 def rows_of(function, instructions, image_base):
@@ -183,9 +191,27 @@ def rows_of(function, instructions, image_base):
     return [row(function, a, f, instructions, image_base) for a, f in sorted(set(chosen))]
 
 
-def literal(name, data):
-    values = ", ".join("0x%02x" % byte for byte in data)
-    return "pub const %s: [u8; %d] = [%s];\n" % (name, len(data), values)
+def write(sections, text_end, rows):
+    parts = []
+    for name in (".pdata", ".xdata", ".text"):
+        rva, data = sections[name]
+        held = data[:text_end] if name == ".text" else data
+        svma = {} if name == ".pdata" else {"svma": [f"{rva:x}", f"{rva + 0x1000:x}"]}
+        parts.append({"name": name, **svma, "data": held.hex()})
+    commands = [{"do": "new"}, {
+        "do": "add", "unwinder": 0, "name": "m", "start": "0", "end": "10000", "base": "0", "base_svma": "0",
+        "sections": parts, "segments": [],
+    }]
+    commands += [command for command, _ in rows]
+    about = (
+        "Addresses of a DLL that mingw's gcc made, as first frames and as callers'; the word at each address is the address with "
+        "the bit 0x8000 turned. The rules and the callers are worked out from what llvm-readobj prints of its unwind info and "
+        "objdump of its code.")
+    text = ",\n  ".join(json.dumps(it, separators=(",", ":")) for it in commands)
+    head = f'{{"about":{json.dumps(about)},\n "arch":"x86_64","policy":"both","caches":1,"commands":[\n  '
+    (CASES / "pe_of_a_dll.json").write_text(head + text + "\n ]}\n")
+    lines = ["new 0", "add", "  m: PE unwind info", *(line for _, told in rows for line in told)]
+    (CASES / "pe_of_a_dll.expected").write_text("\n".join(lines) + "\n")
 
 
 def main():
@@ -200,18 +226,7 @@ def main():
         if function[2] not in names:
             rows += rows_of(function, instructions, image_base)
     text_end = functions[-1][1] - sections[".text"][0]
-    print("//! A DLL of scripts/functions.c, and what unwinding gives at addresses of it. Made by")
-    print("//! scripts/make_table.py.\n")
-    print("/// What unwinding gives at an address: the rule of an offset and pops, if there is one, and what")
-    print("/// the rule or the call itself leaves: the return address, and rsp, rbx, rbp, rsi, rdi, r12, r13,")
-    print("/// r14 and r15.")
-    print("#[derive(Drop)]\npub struct Row { pub address: u32, pub is_first_frame: bool, pub rule: Option<(u16, u8, u16)>,")
-    print("pub return_address: u64, pub registers: [u64; 9] }\n")
-    for name, section in (("TEXT", ".text"), ("PDATA", ".pdata"), ("XDATA", ".xdata")):
-        rva, data = sections[section]
-        print("pub const %s_RVA: u32 = 0x%x;\n" % (name, rva))
-        print(literal(name, data[:text_end] if name == "TEXT" else data))
-    print("pub const ROWS: [Row; %d] = [%s];" % (len(rows), "\n".join(rows)))
+    write(sections, text_end, rows)
 
 
 main()

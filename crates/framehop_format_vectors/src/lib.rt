@@ -1,5 +1,5 @@
-//! Worked examples of code analysis, compact unwind info and PE unwind info, with the values that are to come out. This
-//! crate has only tests.
+//! Worked examples of code analysis, and what only calls show of compact unwind info and of PE unwind info. The rules that
+//! these two give, and what they refuse, are cases, in `cases/rules`. This crate has only tests.
 #![tactic(auto)]
 
 #[cfg(test)]
@@ -7,12 +7,8 @@ mod analysis_aarch64;
 #[cfg(test)]
 mod analysis_x86_64;
 #[cfg(test)]
-mod dll;
-#[cfg(test)]
 mod macho;
 #[cfg(test)]
 mod pe;
 #[cfg(test)]
 mod real_code;
-#[cfg(test)]
-mod real_info;

@@ -1,5 +1,35 @@
 -- Lists of distinct members in lexicographic order, and the one of a rank.
-use Rattle.std.proofs.Common.{◌≡◌, ℕ, zero, suc, ◌+◌, ◌-◌, ◌*◌, ◌/◌, ◌%◌, ◌<◌, ◌≤◌, List, [], ◌∷◌, ◌++◌, length, map, Option, Some, None, refl, ap, sym, ◌∙◌, arith, length-append, append_assoc, sub-one, lit≤}
+use Rattle.std.proofs.Common.{
+  ◌≡◌,
+  ℕ,
+  zero,
+  suc,
+  ◌+◌,
+  ◌-◌,
+  ◌*◌,
+  ◌/◌,
+  ◌%◌,
+  ◌<◌,
+  ◌≤◌,
+  List,
+  [],
+  ◌∷◌,
+  ◌++◌,
+  length,
+  map,
+  Option,
+  Some,
+  None,
+  refl,
+  ap,
+  sym,
+  ◌∙◌,
+  arith,
+  length-append,
+  append_assoc,
+  sub-one,
+  lit≤,
+}
 use Rattle.std.specs.List.{slice_get, flat_map, remove}
 use Rattle.std.specs.Option.{option_map, option_and_then}
 use Rattle.std.proofs.Math.Nat.{suc-mul, mul-zero, mul-le-mul_left, div-add-mod, mul_comm, mod-lt, zero-mul}
@@ -34,7 +64,8 @@ length-blocks f (x ∷ xs) b each =
     let rest = length-blocks f xs b (λ k. each (suc k)) in
     rw (length-append, suc-mul) (omega arith)
 
-slice_get-blocks : {X Y : Type 0} (f : X → List Y) (xs : List X) (b r q d : ℕ) → HasBlocks f xs b → r ≡ q * b + d → d < b → slice_get (flat_map f xs) r ≡ option_and_then (λ x. slice_get (f x) d) (slice_get xs q)
+slice_get-blocks : {X Y : Type 0} (f : X → List Y) (xs : List X) (b r q d : ℕ) → HasBlocks f xs b → r ≡ q * b + d
+    → d < b → slice_get (flat_map f xs) r ≡ option_and_then (λ x. slice_get (f x) d) (slice_get xs q)
 slice_get-blocks f [] b r q d each is below = refl
 slice_get-blocks f (x ∷ xs) b r zero d each is below =
     let first : length (f x) ≡ b = each 0 x refl in
@@ -72,7 +103,9 @@ length-others {A} pool k choice e =
 
 -- ---- lists
 
-blocks-lists_of : {A : Type 0} (n : ℕ) (pool : List A) (b : ℕ) → b ≡ list_count n (length pool - 1) → ((others : List A) → length (lists_of n others) ≡ list_count n (length others)) → HasBlocks (λ choice. map (λ list. choice.0 ∷ list) (lists_of n choice.1)) (choices pool) b
+blocks-lists_of : {A : Type 0} (n : ℕ) (pool : List A) (b : ℕ) → b ≡ list_count n (length pool - 1)
+    → ((others : List A) → length (lists_of n others) ≡ list_count n (length others))
+    → HasBlocks (λ choice. map (λ list. choice.0 ∷ list) (lists_of n choice.1)) (choices pool) b
 blocks-lists_of n pool b is each k choice e =
     let others : length choice.1 ≡ length pool - 1 = omega (arith, length-others pool k choice e) in
     length-map (lists_of n choice.1) (λ list. choice.0 ∷ list) ∙ each choice.1 ∙ ap (list_count n) others ∙ sym is
@@ -86,11 +119,16 @@ length-lists_of (suc n) (x ∷ xs) =
     length-blocks (λ choice. map (λ list. choice.0 ∷ list) (lists_of n choice.1)) (choices (x ∷ xs)) b (blocks-lists_of n (x ∷ xs) b (ap (list_count n) (sym one)) (length-lists_of n))
     ∙ ap (λ m. m * b) (length-choices (x ∷ xs))
 
-first-of-lists : {A : Type 0} (n d : ℕ) (pool : List A) (q : ℕ) (o : Option A) → option_and_then (λ (choice : A × List A). slice_get (map (λ list. choice.0 ∷ list) (lists_of n choice.1)) d) (option_map (λ x. (x, remove pool q)) o) ≡ option_and_then (λ x. option_map (λ list. x ∷ list) (slice_get (lists_of n (remove pool q)) d)) o
+first-of-lists : {A : Type 0} (n d : ℕ) (pool : List A) (q : ℕ) (o : Option A)
+    → option_and_then (λ (choice : A × List A). slice_get (map (λ list. choice.0 ∷ list) (lists_of n choice.1)) d)
+    (option_map (λ x. (x, remove pool q)) o) ≡ option_and_then
+    (λ x. option_map (λ list. x ∷ list) (slice_get (lists_of n (remove pool q)) d)) o
 first-of-lists n d pool q None = refl
 first-of-lists n d pool q (Some x) = slice_get-map (λ list. x ∷ list) (lists_of n (remove pool q)) d
 
-pub slice_get-lists_of : {A : Type 0} (n rest b q d : ℕ) (pool : List A) → b ≡ list_count n (length pool - 1) → rest ≡ q * b + d → d < b → slice_get (lists_of (suc n) pool) rest ≡ option_and_then (λ x. option_map (λ list. x ∷ list) (slice_get (lists_of n (remove pool q)) d)) (slice_get pool q)
+pub slice_get-lists_of : {A : Type 0} (n rest b q d : ℕ) (pool : List A) → b ≡ list_count n (length pool - 1)
+    → rest ≡ q * b + d → d < b → slice_get (lists_of (suc n) pool) rest ≡ option_and_then
+    (λ x. option_map (λ list. x ∷ list) (slice_get (lists_of n (remove pool q)) d)) (slice_get pool q)
 slice_get-lists_of {A} n rest b q d pool is at below =
     slice_get-blocks (λ choice. map (λ list. choice.0 ∷ list) (lists_of n choice.1)) (choices pool) b rest q d (blocks-lists_of n pool b is (length-lists_of n)) at below
     ∙ ap (option_and_then (λ (choice : A × List A). slice_get (map (λ list. choice.0 ∷ list) (lists_of n choice.1)) d)) (slice_get-choices pool q)
@@ -105,7 +143,10 @@ before-first : {A : Type 0} (saved : List A) (x : A) (o : Option (List A)) → o
 before-first saved x None = refl
 before-first saved x (Some list) = ap Some (sym (append_assoc saved (x ∷ []) list))
 
-next-block : {A : Type 0} (saved pool : List A) (x : A) (n m rest b q d : ℕ) → n ≡ suc m → b ≡ list_count m (length pool - 1) → rest ≡ q * b + d → d < b → slice_get pool q ≡ Some x → option_map (λ list. saved ++ list) (slice_get (lists_of n pool) rest) ≡ option_map (λ list. (saved ++ (x ∷ [])) ++ list) (slice_get (lists_of m (remove pool q)) d)
+next-block : {A : Type 0} (saved pool : List A) (x : A) (n m rest b q d : ℕ) → n ≡ suc m
+    → b ≡ list_count m (length pool - 1) → rest ≡ q * b + d → d < b → slice_get pool q ≡ Some x
+    → option_map (λ list. saved ++ list) (slice_get (lists_of n pool) rest) ≡ option_map
+    (λ list. (saved ++ (x ∷ [])) ++ list) (slice_get (lists_of m (remove pool q)) d)
 next-block {A} saved pool x n m rest b q d is_next is at below found =
     ap (λ k. option_map (λ list. saved ++ list) (slice_get (lists_of k pool) rest)) is_next
     ∙ ap (option_map (λ list. saved ++ list)) (slice_get-lists_of m rest b q d pool is at below
@@ -113,18 +154,27 @@ next-block {A} saved pool x n m rest b q d is_next is at below found =
     ∙ before-first saved x (slice_get (lists_of m (remove pool q)) d)
 
 -- the same by division
-pub next-found : {A : Type 0} (saved pool : List A) (x : A) (n m rest b : ℕ) → n ≡ suc m → b ≡ list_count m (length pool - 1) → 0 < b → slice_get pool (rest / b) ≡ Some x → option_map (λ list. saved ++ list) (slice_get (lists_of n pool) rest) ≡ option_map (λ list. (saved ++ (x ∷ [])) ++ list) (slice_get (lists_of m (remove pool (rest / b))) (rest % b))
+pub next-found : {A : Type 0} (saved pool : List A) (x : A) (n m rest b : ℕ) → n ≡ suc m
+    → b ≡ list_count m (length pool - 1) → 0 < b → slice_get pool (rest / b) ≡ Some x
+    → option_map (λ list. saved ++ list) (slice_get (lists_of n pool) rest) ≡ option_map
+    (λ list. (saved ++ (x ∷ [])) ++ list) (slice_get (lists_of m (remove pool (rest / b))) (rest % b))
 next-found saved pool x n m rest b is_next is some found =
     next-block saved pool x n m rest b (rest / b) (rest % b) is_next is (div_mod rest b) (mod-lt rest some) found
 
-pub next-none : {A : Type 0} (saved pool : List A) (n m rest b : ℕ) → n ≡ suc m → b ≡ list_count m (length pool - 1) → 0 < b → slice_get pool (rest / b) ≡ None → option_map (λ list. saved ++ list) (slice_get (lists_of n pool) rest) ≡ None
+pub next-none : {A : Type 0} (saved pool : List A) (n m rest b : ℕ) → n ≡ suc m → b ≡ list_count m (length pool - 1)
+    → 0 < b → slice_get pool (rest / b) ≡ None
+    → option_map (λ list. saved ++ list) (slice_get (lists_of n pool) rest) ≡ None
 next-none {A} saved pool n m rest b is_next is some none =
     ap (λ k. option_map (λ list. saved ++ list) (slice_get (lists_of k pool) rest)) is_next
     ∙ ap (option_map (λ list. saved ++ list)) (slice_get-lists_of m rest b (rest / b) (rest % b) pool is (div_mod rest b) (mod-lt rest some)
     ∙ ap (option_and_then (λ (y : A). option_map (λ list. y ∷ list) (slice_get (lists_of m (remove pool (rest / b))) (rest % b)))) none)
 
 -- the same where the lists after the step are given by equations
-pub next-kept : {A : Type 0} (saved pool saved' pool' : List A) (x : A) (n m rest b : ℕ) (all : Option (List A)) → n ≡ suc m → b ≡ list_count m (length pool - 1) → 0 < b → Some x ≡ slice_get pool (rest / b) → saved' ≡ saved ++ (x ∷ []) → pool' ≡ remove pool (rest / b) → option_map (λ list. saved ++ list) (slice_get (lists_of n pool) rest) ≡ all → option_map (λ list. saved' ++ list) (slice_get (lists_of m pool') (rest % b)) ≡ all
+pub next-kept : {A : Type 0} (saved pool saved' pool' : List A) (x : A) (n m rest b : ℕ) (all : Option (List A))
+    → n ≡ suc m → b ≡ list_count m (length pool - 1) → 0 < b → Some x ≡ slice_get pool (rest / b)
+    → saved' ≡ saved ++ (x ∷ []) → pool' ≡ remove pool (rest / b)
+    → option_map (λ list. saved ++ list) (slice_get (lists_of n pool) rest) ≡ all
+    → option_map (λ list. saved' ++ list) (slice_get (lists_of m pool') (rest % b)) ≡ all
 next-kept saved pool saved' pool' x n m rest b all is_next is some found saved_is pool_is before =
     ap (λ s. option_map (λ list. s ++ list) (slice_get (lists_of m pool') (rest % b))) saved_is
     ∙ ap (λ p. option_map (λ list. (saved ++ (x ∷ [])) ++ list) (slice_get (lists_of m p) (rest % b))) pool_is

@@ -27,7 +27,9 @@ and-false : (b : Bool) → (b && false) ≡ false
 and-false true = refl
 and-false false = refl
 
-found-alike : (test : Bool) (x y : Mapping) (p q : Option Mapping) → content x ≡ content y → option_map content p ≡ option_map content q → option_map content (cond test (Some x) p) ≡ option_map content (cond test (Some y) q)
+found-alike : (test : Bool) (x y : Mapping) (p q : Option Mapping) → content x ≡ content y
+    → option_map content p ≡ option_map content q
+    → option_map content (cond test (Some x) p) ≡ option_map content (cond test (Some y) q)
 found-alike true x y p q one others = ap (λ c. Some c) one
 found-alike false x y p q one others = others
 

@@ -1,5 +1,39 @@
 -- Mappings in order: where an address parts them, and what their modules are.
-use Rattle.std.proofs.Common.{◌≡◌, ℕ, zero, suc, ◌+◌, ◌<◌, ◌≤◌, Bool, true, false, nat_le, nat_lt, ◌==◌, ◌&&◌, min, max, List, [], ◌∷◌, ◌++◌, length, take, drop, filter, map, slice_index_or, get_or, refl, ap, sym, ◌∙◌, arith, subst}
+use Rattle.std.proofs.Common.{
+  ◌≡◌,
+  ℕ,
+  zero,
+  suc,
+  ◌+◌,
+  ◌<◌,
+  ◌≤◌,
+  Bool,
+  true,
+  false,
+  nat_le,
+  nat_lt,
+  ◌==◌,
+  ◌&&◌,
+  min,
+  max,
+  List,
+  [],
+  ◌∷◌,
+  ◌++◌,
+  length,
+  take,
+  drop,
+  filter,
+  map,
+  slice_index_or,
+  get_or,
+  refl,
+  ap,
+  sym,
+  ◌∙◌,
+  arith,
+  subst,
+}
 use Rattle.std.proofs.Math.Seq.{drop-cons}
 use Rattle.std.proofs.lemmas.Bool.{leb-true, leb-false, ltb-true, ltb-false, le-leb, lt-leb, eq-eqb, ne_eqb, or_right, cond_both}
 use Rattle.std.proofs.lemmas.List.{length-append, map-append, take-append-drop, take_more}
@@ -55,7 +89,9 @@ pub taken-ending_by : (address : ℕ) (ms : List Mapping) (i : ℕ) → IsPartit
 taken-ending_by address ms i point =
     sym (filter-divided (λ m. nat_le m.end address) ms i (λ k d h. point.0 k d (omega arith) h) point.1)
 
-pub dropped-starting_from : (address : ℕ) (ms : List Mapping) (i : ℕ) → IsPartitionPoint (λ m. nat_lt m.start address ≡ true) (λ m. nat_lt m.start address ≡ false) ms i → drop i ms ≡ starting_from address ms
+pub dropped-starting_from : (address : ℕ) (ms : List Mapping) (i : ℕ)
+    → IsPartitionPoint (λ m. nat_lt m.start address ≡ true) (λ m. nat_lt m.start address ≡ false) ms i
+    → drop i ms ≡ starting_from address ms
 dropped-starting_from address ms i point =
     sym (filter-behind (λ m. nat_le address m.start) ms i
     (λ k d h. lt-leb _ _ (ltb-true _ _ (point.0 k d (omega arith) h)))
@@ -103,7 +139,9 @@ starting_from-starts address from (m ∷ ms) order =
     cond_both (nat_le address m.start) (m ∷ starting_from address ms) (starting_from address ms) (IsInOrder address)
     (λ is. let here = leb-true _ _ is in (here, own, rw (all-from address m.end ms order.2 (omega (arith, here, own))) order.2)) (λ is. rest)
 
-order-between : (from : ℕ) (new : Mapping) (before after : List Mapping) → IsInOrder from before → EndBy new.start before → new.start < new.end → IsInOrder new.end after → from ≤ new.start → IsInOrder from (before ++ new ∷ after)
+order-between : (from : ℕ) (new : Mapping) (before after : List Mapping) → IsInOrder from before
+    → EndBy new.start before → new.start < new.end → IsInOrder new.end after → from ≤ new.start
+    → IsInOrder from (before ++ new ∷ after)
 order-between from new [] after order ends some starts low = (low, some, starts)
 order-between from new (m ∷ before) after order ends some starts low =
     (order.0, order.1, order-between m.end new before after order.2 ends.1 some starts ends.0)
@@ -210,7 +248,9 @@ order-back from (x ∷ xs) ys order =
     weaker-order from x.end ys (omega (arith, first, own)) (order-back x.end xs ys order.2)
 
 -- what is wholly before the new mapping or after it stays
-module _ (new : Mapping) (some : new.start < new.end) (before middle after : List Mapping) (order : IsInOrder 0 (before ++ (middle ++ after))) (ends : EndBy new.start before) (starts : IsInOrder new.end after) where
+module _ (new : Mapping) (some : new.start < new.end) (before middle after : List Mapping)
+    (order : IsInOrder 0 (before ++ (middle ++ after))) (ends : EndBy new.start before)
+    (starts : IsInOrder new.end after) where
   below-parts : below new.start (before ++ (middle ++ after)) ≡ before ++ below new.start middle
   below-parts =
       below-append new.start before (middle ++ after)
@@ -347,7 +387,8 @@ module _ (module_of : Mapping → ModuleView) (starts : StartsAt module_of) wher
       rw (here, rest) refl
 
   -- a module that is added between others
-  modules-between : (from : ℕ) (new : Mapping) (before after : List Mapping) → IsInOrder from (before ++ new ∷ after) → with_module (module_of new) (map module_of (before ++ after)) ≡ map module_of (before ++ new ∷ after)
+  modules-between : (from : ℕ) (new : Mapping) (before after : List Mapping) → IsInOrder from (before ++ new ∷ after)
+      → with_module (module_of new) (map module_of (before ++ after)) ≡ map module_of (before ++ new ∷ after)
   modules-between from new [] after order =
       let is = starts new in
       let own = order.1 in
@@ -373,7 +414,9 @@ module _ (module_of : Mapping → ModuleView) (starts : StartsAt module_of) wher
       rw (here, rest) refl
 
   -- a module that is removed
-  pub module-removed : (from : ℕ) (m : Mapping) (before after : List Mapping) → IsInOrder from (before ++ m ∷ after) → (has_start m.start (map module_of (before ++ m ∷ after)) ≡ true) × (without_module m.start (map module_of (before ++ m ∷ after)) ≡ map module_of (before ++ after))
+  pub module-removed : (from : ℕ) (m : Mapping) (before after : List Mapping) → IsInOrder from (before ++ m ∷ after)
+      → (has_start m.start (map module_of (before ++ m ∷ after)) ≡ true)
+      × (without_module m.start (map module_of (before ++ m ∷ after)) ≡ map module_of (before ++ after))
   module-removed from m [] after order =
       let here : ((module_of m).start == m.start) ≡ true = eq-eqb _ _ (starts m) in
       let others : has_start m.start (map module_of after) ≡ false = no-start m.start m.end after order.2 order.1 in
@@ -397,7 +440,13 @@ order-removed-all from (x ∷ before) middle after order =
     (order.0, order.1, order-removed-all x.end before middle after order.2)
 
 -- the next mapping of a part is removed
-pub next-removed : (module_of : Mapping → ModuleView) → StartsAt module_of → (removed : List Mapping) (i : ℕ) (d m : Mapping) (before after : List Mapping) → i < length removed → m ≡ get_or removed i d → IsInOrder 0 (before ++ (drop i removed ++ after)) → IsInOrder 0 (before ++ (drop (i + 1) removed ++ after)) × (has_start m.start (map module_of (before ++ (drop i removed ++ after))) ≡ true) × (without_module m.start (map module_of (before ++ (drop i removed ++ after))) ≡ map module_of (before ++ (drop (i + 1) removed ++ after)))
+pub next-removed : (module_of : Mapping → ModuleView) → StartsAt module_of
+    → (removed : List Mapping) (i : ℕ) (d m : Mapping) (before after : List Mapping) → i < length removed
+    → m ≡ get_or removed i d → IsInOrder 0 (before ++ (drop i removed ++ after))
+    → IsInOrder 0 (before ++ (drop (i + 1) removed ++ after))
+    × (has_start m.start (map module_of (before ++ (drop i removed ++ after))) ≡ true)
+    × (without_module m.start (map module_of (before ++ (drop i removed ++ after))) ≡ map module_of
+    (before ++ (drop (i + 1) removed ++ after)))
 next-removed module_of starts removed i d m before after within is order =
     let one : i + 1 ≡ suc i = omega arith in
     let head : drop i removed ≡ m ∷ drop (suc i) removed = drop-cons removed i d within ∙ ap (λ x. x ∷ drop (suc i) removed) (sym is) in
@@ -409,7 +458,11 @@ next-removed module_of starts removed i d m before after within is order =
     )
 
 -- the next mapping of a part is added
-pub next-added : (module_of : Mapping → ModuleView) → StartsAt module_of → (added : List Mapping) (i : ℕ) (d m : Mapping) (before after : List Mapping) → i < length added → m ≡ get_or added i d → IsInOrder 0 (before ++ (added ++ after)) → with_module (module_of m) (map module_of (before ++ (take i added ++ after))) ≡ map module_of (before ++ (take (i + 1) added ++ after))
+pub next-added : (module_of : Mapping → ModuleView) → StartsAt module_of
+    → (added : List Mapping) (i : ℕ) (d m : Mapping) (before after : List Mapping) → i < length added
+    → m ≡ get_or added i d → IsInOrder 0 (before ++ (added ++ after))
+    → with_module (module_of m) (map module_of (before ++ (take i added ++ after))) ≡ map module_of
+    (before ++ (take (i + 1) added ++ after))
 next-added module_of starts added i d m before after within is order =
     let front = take i added in
     let back = drop (suc i) added in
@@ -429,7 +482,9 @@ next-added module_of starts added i d m before after within is order =
 
 -- ---- the mappings that are before a new one, overlapped, and after it
 
-module _ (new : Mapping) (some : new.start < new.end) (ms before rest middle after : List Mapping) (whole : ms ≡ before ++ rest) (first : before ≡ ending_by new.start ms) (parted : rest ≡ middle ++ after) (last : after ≡ starting_from new.end rest) (order : IsInOrder 0 ms) where
+module _ (new : Mapping) (some : new.start < new.end) (ms before rest middle after : List Mapping)
+    (whole : ms ≡ before ++ rest) (first : before ≡ ending_by new.start ms) (parted : rest ≡ middle ++ after)
+    (last : after ≡ starting_from new.end rest) (order : IsInOrder 0 ms) where
   pub whole-parts : ms ≡ before ++ (middle ++ after)
   whole-parts = whole ∙ ap (λ others. before ++ others) parted
 

@@ -28,14 +28,18 @@ module _ {A B : Type 0} (read : A → Result B RecordingError) where
       ∙ prepended-more before one (each_of read xs)
 
   -- the next is read, and pushed to the list
-  pub each-pushed : {X : Type 0} (view : X → B) (all : Result (List B) RecordingError) (items pushed : List X) (one : X) (x : A) (left rest : List A) → all ≡ prepended (map view items) (each_of read left) → left ≡ x ∷ rest → read x ≡ Ok (view one) → pushed ≡ items ++ one ∷ [] → all ≡ prepended (map view pushed) (each_of read rest)
+  pub each-pushed : {X : Type 0} (view : X → B) (all : Result (List B) RecordingError) (items pushed : List X)
+      (one : X) (x : A) (left rest : List A) → all ≡ prepended (map view items) (each_of read left) → left ≡ x ∷ rest
+      → read x ≡ Ok (view one) → pushed ≡ items ++ one ∷ [] → all ≡ prepended (map view pushed) (each_of read rest)
   each-pushed view all items pushed one x left rest so_far is ok push =
       so_far ∙ ap (λ list. prepended (map view items) (each_of read list)) is
       ∙ one-more (map view items) x rest (view one) ok
       ∙ ap (λ before. prepended before (each_of read rest)) (sym (ap (map view) push ∙ map-append view items (one ∷ [])))
 
   -- the next is refused
-  pub each-refused : (all : Result (List B) RecordingError) (before : List B) (x : A) (left rest : List A) (error : RecordingError) → all ≡ prepended before (each_of read left) → left ≡ x ∷ rest → read x ≡ Err error → all ≡ Err error
+  pub each-refused : (all : Result (List B) RecordingError) (before : List B) (x : A) (left rest : List A)
+      (error : RecordingError) → all ≡ prepended before (each_of read left) → left ≡ x ∷ rest → read x ≡ Err error
+      → all ≡ Err error
   unfolding each_of
   each-refused all before x left rest error so_far is e =
       so_far ∙ ap (λ list. prepended before (each_of read list)) is

@@ -1,5 +1,37 @@
 -- The ids of events, and the first event that has one.
-use Rattle.std.proofs.Common.{◌≡◌, ℕ, suc, ◌+◌, ◌-◌, ◌/◌, ◌<◌, ◌≤◌, Bool, true, false, not, cond, ◌||◌, ◌&&◌, ◌==◌, nat_le, List, ◌∷◌, map, length, Option, Some, None, inl, inr, refl, ap, sym, ◌∙◌, arith}
+use Rattle.std.proofs.Common.{
+  ◌≡◌,
+  ℕ,
+  suc,
+  ◌+◌,
+  ◌-◌,
+  ◌/◌,
+  ◌<◌,
+  ◌≤◌,
+  Bool,
+  true,
+  false,
+  not,
+  cond,
+  ◌||◌,
+  ◌&&◌,
+  ◌==◌,
+  nat_le,
+  List,
+  ◌∷◌,
+  map,
+  length,
+  Option,
+  Some,
+  None,
+  inl,
+  inr,
+  refl,
+  ap,
+  sym,
+  ◌∙◌,
+  arith,
+}
 use Rattle.std.specs.List.{list_any, list_all}
 use Rattle.std.proofs.lemmas.Bool.Decides.{nat_tests, eqb_tells}
 use Rattle.std.proofs.lemmas.List.{length-map}
@@ -37,7 +69,9 @@ either true false x y = refl
 either false rest x y = refl
 
 -- one more id is entered
-pub id-entered : (test : ℕ → Bool) (at n : ℕ) (event before after all : Option ℕ) → at + 8 ≤ n → cond (list_any test (offsets at 8 ((n - at) / 8))) event before ≡ all → after ≡ cond (test at) event before → cond (list_any test (offsets (at + 8) 8 ((n - (at + 8)) / 8))) event after ≡ all
+pub id-entered : (test : ℕ → Bool) (at n : ℕ) (event before after all : Option ℕ) → at + 8 ≤ n
+    → cond (list_any test (offsets at 8 ((n - at) / 8))) event before ≡ all → after ≡ cond (test at) event before
+    → cond (list_any test (offsets (at + 8) 8 ((n - (at + 8)) / 8))) event after ≡ all
 id-entered test at n event before after all within so_far put =
     let rest = (n - (at + 8)) / 8 in
     ap (λ value. cond (list_any test (offsets (at + 8) 8 rest)) event value) put
@@ -54,7 +88,11 @@ pub not-zero : (n : ℕ) → (n ≡ 0 → ⊥) → not (n == 0) ≡ true
 not-zero n h = elim (eqb_tells n 0) [ inl same ↦ absurd (h same.1) | inr other ↦ ap not other.0 ]
 
 -- Every other event is like the first.
-pub told-apart : (attributes : List Attribute) (first : Attribute) (others : List Attribute) (alike : Bool) → attributes ≡ first ∷ others → (length others == 0) ≡ false → has_bit (id_fields (attribute_view first)) 0x10040 ≡ true → alike ≡ list_all (λ other. is_like (attribute_view first) (attribute_view other)) others → alike ≡ are_told_apart (map attribute_view attributes)
+pub told-apart : (attributes : List Attribute) (first : Attribute) (others : List Attribute) (alike : Bool)
+    → attributes ≡ first ∷ others → (length others == 0) ≡ false
+    → has_bit (id_fields (attribute_view first)) 0x10040 ≡ true
+    → alike ≡ list_all (λ other. is_like (attribute_view first) (attribute_view other)) others
+    → alike ≡ are_told_apart (map attribute_view attributes)
 unfolding are_told_apart
 told-apart attributes first others alike is some ids all =
     let a = attribute_view first in

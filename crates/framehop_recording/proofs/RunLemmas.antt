@@ -18,7 +18,9 @@ run_in-skip cut (suc n) offset end (b ∷ bytes) within e =
 less-one : (n : ℕ) → suc n - 1 ≡ n
 less-one n = omega arith
 
-one-more : (cut : Bool) (offset end b : ℕ) (bytes : List ℕ) (one : RecordView) (n : ℕ) → record_at offset (b ∷ bytes) ≡ Ok (one, suc n) → suc n ≤ length (b ∷ bytes) → end ≡ offset + suc n → run_in cut 0 offset (b ∷ bytes) ≡ joined (one ∷ []) (run_in cut 0 end (drop n bytes))
+one-more : (cut : Bool) (offset end b : ℕ) (bytes : List ℕ) (one : RecordView) (n : ℕ)
+    → record_at offset (b ∷ bytes) ≡ Ok (one, suc n) → suc n ≤ length (b ∷ bytes) → end ≡ offset + suc n
+    → run_in cut 0 offset (b ∷ bytes) ≡ joined (one ∷ []) (run_in cut 0 end (drop n bytes))
 unfolding run_in
 one-more cut offset end b bytes one n e within is =
     ap (λ read. run_after read (λ size. run_in cut (size - 1) (offset + 1) bytes)) e
@@ -30,7 +32,10 @@ append-one [] one others = refl
 append-one (x ∷ before) one others = ap (λ rest. x ∷ rest) (append-one before one others)
 
 -- a record, and those after it
-pub joined-more : (cut : Bool) (offset end : ℕ) (bytes rest : List ℕ) (before : List RecordView) (one : RecordView) (size : ℕ) → record_at offset bytes ≡ Ok (one, size) → (0 < size) × (size ≤ length bytes) → end ≡ offset + size → rest ≡ drop size bytes → joined before (run_in cut 0 offset bytes) ≡ joined (before ++ one ∷ []) (run_in cut 0 end rest)
+pub joined-more : (cut : Bool) (offset end : ℕ) (bytes rest : List ℕ) (before : List RecordView) (one : RecordView)
+    (size : ℕ) → record_at offset bytes ≡ Ok (one, size) → (0 < size) × (size ≤ length bytes) → end ≡ offset + size
+    → rest ≡ drop size bytes → joined before (run_in cut 0 offset bytes) ≡ joined (before ++ one ∷ [])
+    (run_in cut 0 end rest)
 joined-more cut offset end bytes rest before one zero e within ends is = absurd (let h = within.0 in omega (arith, h))
 joined-more cut offset end [] rest before one (suc n) e within ends is = absurd (let h = within.1 in omega (arith, h))
 joined-more cut offset end (b ∷ bytes) rest before one (suc n) e within ends is =
@@ -43,7 +48,9 @@ append-none [] = refl
 append-none (x ∷ before) = ap (λ rest. x ∷ rest) (append-none before)
 
 -- the record at the front is refused
-pub joined-refused : (cut : Bool) (offset : ℕ) (bytes : List ℕ) (before : List RecordView) (error : RecordingError) → record_at offset bytes ≡ Err error → 0 < length bytes → joined before (run_in cut 0 offset bytes) ≡ record { records = before; refusal = Some error }
+pub joined-refused : (cut : Bool) (offset : ℕ) (bytes : List ℕ) (before : List RecordView) (error : RecordingError)
+    → record_at offset bytes ≡ Err error → 0 < length bytes
+    → joined before (run_in cut 0 offset bytes) ≡ record { records = before; refusal = Some error }
 unfolding run_in
 joined-refused cut offset [] before error e some = absurd (omega (arith, some))
 joined-refused cut offset (b ∷ bytes) before error e some =
@@ -51,7 +58,8 @@ joined-refused cut offset (b ∷ bytes) before error e some =
     ∙ ap (λ records. record { records = records; refusal = Some error }) (append-none before)
 
 -- no bytes are left
-pub joined-end : (cut : Bool) (offset : ℕ) (bytes : List ℕ) (before : List RecordView) → length bytes ≡ 0 → joined before (run_in cut 0 offset bytes) ≡ record { records = before; refusal = refusal_at_end cut offset }
+pub joined-end : (cut : Bool) (offset : ℕ) (bytes : List ℕ) (before : List RecordView) → length bytes ≡ 0
+    → joined before (run_in cut 0 offset bytes) ≡ record { records = before; refusal = refusal_at_end cut offset }
 unfolding run_in
 joined-end cut offset [] before none = ap (λ records. record { records = records; refusal = refusal_at_end cut offset }) (append-none before)
 joined-end cut offset (b ∷ bytes) before none = absurd (omega (arith, none))

@@ -22,16 +22,20 @@ bind-is : {A B : Type 0} (r : Result A RecordingError) (f : A → Result B Recor
 bind-is (Ok x) f v e = (x, refl, e)
 bind-is (Err error) f v e = cc
 
-guarded : {V : Type 0} (one two : Bool) (first second : RecordingError) (rest : Result V RecordingError) (v : V) → cond (not one) (Err first) (cond (not two) (Err second) rest) ≡ Ok v → (one ≡ true) × (two ≡ true) × (rest ≡ Ok v)
+guarded : {V : Type 0} (one two : Bool) (first second : RecordingError) (rest : Result V RecordingError) (v : V)
+    → cond (not one) (Err first) (cond (not two) (Err second) rest) ≡ Ok v → (one ≡ true) × (two ≡ true)
+    × (rest ≡ Ok v)
 guarded true true first second rest v e = (refl, refl, e)
 guarded true false first second rest v e = cc
 guarded false two first second rest v e = cc
 
-some-sized : {A : Type 0} (b : Bool) (value : A) (end : ℕ) (short : RecordingError) (read : A × ℕ) (P : Type 0) → (b ≡ true → P) → cond b (Ok (value, end)) (Err short) ≡ Ok read → P × (read ≡ (value, end))
+some-sized : {A : Type 0} (b : Bool) (value : A) (end : ℕ) (short : RecordingError) (read : A × ℕ) (P : Type 0)
+    → (b ≡ true → P) → cond b (Ok (value, end)) (Err short) ≡ Ok read → P × (read ≡ (value, end))
 some-sized true value end short read P there e = (there refl, sym (ap (λ r. result_unwrap_or r read) e))
 some-sized false value end short read P there e = cc
 
-sized-is : {A : Type 0} (value : A) (size : ℕ) (bytes : List ℕ) (at : ℕ) (short : RecordingError) (read : A × ℕ) → sized_at value size bytes at short ≡ Ok read → (at + size ≤ length bytes) × (read ≡ (value, at + size))
+sized-is : {A : Type 0} (value : A) (size : ℕ) (bytes : List ℕ) (at : ℕ) (short : RecordingError) (read : A × ℕ)
+    → sized_at value size bytes at short ≡ Ok read → (at + size ≤ length bytes) × (read ≡ (value, at + size))
 sized-is value size bytes at short read e =
     some-sized (nat_le (at + size) (length bytes)) value (at + size) short read (at + size ≤ length bytes) (λ is. leb-true _ _ is) e
 
@@ -57,7 +61,9 @@ word-is bytes at short read e =
     let is = u64-is bytes at short read e in
     ap (λ b. cond b (Some (le8 bytes at)) None) (le-leb _ _ is.0) ∙ ap (λ p. Some p.0) (sym is.1)
 
-time-or-none : (present : Bool) (bytes : List ℕ) (at : ℕ) (short : RecordingError) (read : ℕ × ℕ) → optional_at present bytes at short ≡ Ok read → cond present (known_time read.0) None ≡ cond present (option_and_then known_time (word_at bytes at)) None
+time-or-none : (present : Bool) (bytes : List ℕ) (at : ℕ) (short : RecordingError) (read : ℕ × ℕ)
+    → optional_at present bytes at short ≡ Ok read
+    → cond present (known_time read.0) None ≡ cond present (option_and_then known_time (word_at bytes at)) None
 time-or-none true bytes at short read e = ap (option_and_then known_time) (sym (word-is bytes at short read e))
 time-or-none false bytes at short read e = refl
 
@@ -65,7 +71,9 @@ abbrev one_if : Bool → ℕ
 one_if b = cond b 1 0
 
 -- the fields before the time: an identifier or none, and two more
-count-is : (sample_type : ℕ) → has_bit sample_type PERF_SAMPLE_IP ≡ true → has_bit sample_type PERF_SAMPLE_TID ≡ true → count_present sample_type (PERF_SAMPLE_IDENTIFIER ∷ PERF_SAMPLE_IP ∷ PERF_SAMPLE_TID ∷ []) ≡ cond (has_bit sample_type PERF_SAMPLE_IDENTIFIER) 1 0 + 2
+count-is : (sample_type : ℕ) → has_bit sample_type PERF_SAMPLE_IP ≡ true → has_bit sample_type PERF_SAMPLE_TID ≡ true
+    → count_present sample_type (PERF_SAMPLE_IDENTIFIER ∷ PERF_SAMPLE_IP ∷ PERF_SAMPLE_TID ∷ []) ≡ cond
+    (has_bit sample_type PERF_SAMPLE_IDENTIFIER) 1 0 + 2
 count-is sample_type ip tid =
     let two : cond (has_bit sample_type PERF_SAMPLE_IP) 1 0 ≡ 1 = ap one_if ip in
     let three : cond (has_bit sample_type PERF_SAMPLE_TID) 1 0 ≡ 1 = ap one_if tid in

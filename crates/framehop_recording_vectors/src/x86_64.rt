@@ -5,10 +5,8 @@ use framehop_recording::attributes::read_attribute;
 use framehop_recording::error::RecordingError;
 use framehop_recording::header::{Header, Section, read_header};
 use framehop_recording::kind;
-use framehop_recording::mapping::read_mapping;
 use framehop_recording::records::{Record, read_records};
-use framehop_recording::tasks::{Task, read_command, read_lost, read_lost_samples, read_task};
-use std::alloc::Global;
+use framehop_recording::tasks::{read_command, read_lost, read_lost_samples};
 use std::test::Fail;
 
 /// The header, the ids and the attribute.
@@ -32,7 +30,7 @@ const COMMAND: [u8; 40] = [
 ];
 
 /// A PERF_RECORD_MMAP2.
-const MAPPING: [u8; 104] = [
+pub(crate) const MAPPING: [u8; 104] = [
     0x0a, 0, 0, 0, 2, 0, 0x68, 0, 0x0c, 0x1a, 0, 0, 0x0c, 0x1a, 0, 0, 0, 0x10, 0x40, 0, 0, 0, 0, 0,
     0, 0x10, 0, 0, 0, 0, 0, 0, 0, 0x10, 0, 0, 0, 0, 0, 0, 0xfe, 0, 0, 0, 0, 0, 0, 0, 0x87, 0xa7,
     0xa7, 0, 0, 0, 0, 0, 0x0c, 0x8c, 0x80, 0x86, 0, 0, 0, 0, 5, 0, 0, 0, 2, 0, 0, 0, 0x2f, 0x75,
@@ -41,20 +39,28 @@ const MAPPING: [u8; 104] = [
 ];
 
 /// A PERF_RECORD_EXIT.
-const EXIT: [u8; 48] = [
+pub(crate) const EXIT: [u8; 48] = [
     4, 0, 0, 0, 0, 0, 0x30, 0, 0x0c, 0x1a, 0, 0, 0xfc, 0x19, 0, 0, 0x0c, 0x1a, 0, 0, 0xfc, 0x19, 0,
     0, 0x41, 0xed, 0xd2, 0xd7, 0x63, 3, 0, 0, 0x0c, 0x1a, 0, 0, 0x0c, 0x1a, 0, 0, 0xdd, 0xe8, 0xd2,
     0xd7, 0x63, 3, 0, 0,
 ];
 
-/// The first record of the bytes.
-pub(crate) fn first_record<'a>(alloc: Global, bytes: &'a [u8]) -> Result<Record<'a>, Fail> {
-    let section = Section {
-        offset: 0,
-        size: bytes.len() as u64,
-    };
-    let read = read_records(alloc, bytes, section)?;
-    Ok(read.records.get(0).copied().ok_or("no record")?)
+/// The record that has these bytes, at the start of a file.
+pub(crate) fn record_of(bytes: &[u8]) -> Record<'_> {
+    match bytes {
+        [k0, k1, k2, k3, m0, m1, _, _, body @ ..] => Record {
+            offset: 0,
+            kind: u32::from_le_bytes([*k0, *k1, *k2, *k3]),
+            misc: u16::from_le_bytes([*m0, *m1]),
+            body,
+        },
+        _ => Record {
+            offset: 0,
+            kind: 0,
+            misc: 0,
+            body: bytes,
+        },
+    }
 }
 
 #[test]
@@ -71,117 +77,145 @@ fn reads_the_header_and_the_attribute(rt: HostRuntime) -> Result<(), Fail> {
         },
         features: 0x86717ff8,
     };
-    assert_eq!(rt; read_header(&FRONT)?, header);
+    assert!(rt; read_header(&FRONT) == Ok(header));
     let attribute = read_attribute(&FRONT, 0x88, 0x90)?;
-    assert_eq!(rt; attribute.sample_type, 0xb12f);
-    assert!(rt; attribute.sample_id_all);
-    assert_eq!(rt; attribute.sample_regs_user, 0xff0fff);
+    assert!(rt; attribute.sample_type == 0xb12f && attribute.sample_id_all);
+    assert!(rt; attribute.sample_regs_user == 0xff0fff);
     let ids = [
         0x15, 0, 0, 0, 0, 0, 0, 0, 0x16, 0, 0, 0, 0, 0, 0, 0, 0x17, 0, 0, 0, 0, 0, 0, 0, 0x18, 0,
         0, 0, 0, 0, 0, 0,
     ];
-    assert_eq!(rt; attribute.ids, ids.as_slice());
+    assert!(rt; attribute.ids == ids.as_slice());
     Ok(())
 }
 
 #[test]
-fn reads_a_command_a_mapping_and_an_exit(rt: HostRuntime) -> Result<(), Fail> {
-    let alloc = rt.alloc();
-    let command = read_command(first_record(alloc, &COMMAND)?)?;
-    assert_eq!(rt;
-        (command.pid, command.tid, command.is_exec),
-        (6668, 6668, true)
-    );
-    assert_eq!(rt; command.name, b"s".as_slice());
-
-    let mapping = read_mapping(first_record(alloc, &MAPPING)?)?;
-    assert_eq!(rt;
-        (mapping.pid, mapping.start, mapping.size),
-        (6668, 0x401000, 0x1000)
-    );
-    assert_eq!(rt; (mapping.offset, mapping.is_executable), (0x1000, true));
-    assert_eq!(rt; mapping.name, b"/usr/bin/leaf".as_slice());
-    assert_eq!(rt; mapping.build_id.len(), 0);
-
-    let exit = Task {
-        pid: 6668,
-        parent_pid: 6652,
-        tid: 6668,
-        parent_tid: 6652,
-        is_made_up: false,
-        time: 3727357570369,
-    };
-    assert_eq!(rt; read_task(first_record(alloc, &EXIT)?)?, exit);
+fn reads_a_command(rt: HostRuntime) -> Result<(), Fail> {
+    let command = read_command(record_of(&COMMAND))?;
+    assert!(rt; command.pid == 6668 && command.tid == 6668 && command.is_exec);
+    assert!(rt; command.name == b"s".as_slice());
     Ok(())
 }
 
 /// The header with another number of eight bytes at an offset.
-fn changed(alloc: Global, offset: usize, number: u64) -> Result<Vec<u8>, Fail> {
-    let mut front = Vec::from_slice(alloc, &FRONT)?;
-    let mut at = offset;
-    for byte in number.to_le_bytes() {
-        *front.get_mut(at).ok_or("no such byte")? = byte;
-        at += 1;
+fn changed(offset: usize, number: u64) -> [u8; 280] {
+    let mut front = FRONT;
+    for (at, byte) in number.to_le_bytes().iter().enumerate() {
+        if let Some(place) = front.get_mut(offset.saturating_add(at)) {
+            *place = *byte;
+        }
     }
-    Ok(front)
+    front
 }
 
+/// A number at an offset of the header, and why the header is refused.
+const HEADERS: [(usize, u64, RecordingError); 3] = [
+    (8, 16, RecordingError::Piped { offset: 8 }),
+    (8, 96, RecordingError::BadHeaderSize { offset: 8 }),
+    (48, 0, RecordingError::Unfinished { offset: 48 }),
+];
+
+/// Bytes that are no recording.
+const OTHER_FILES: [(&[u8], RecordingError); 3] = [
+    (b"PERFILE", RecordingError::Eof { offset: 0 }),
+    (b"2ELIFREP", RecordingError::BigEndian { offset: 0 }),
+    (b"PERFILE1", RecordingError::NotARecording { offset: 0 }),
+];
+
 #[test]
-fn refuses_other_headers(rt: HostRuntime) -> Result<(), Fail> {
-    let alloc = rt.alloc();
-    for (offset, number, refusal) in [
-        (8, 16, RecordingError::Piped { offset: 8 }),
-        (8, 96, RecordingError::BadHeaderSize { offset: 8 }),
-        (48, 0, RecordingError::Unfinished { offset: 48 }),
-    ] {
-        let front = changed(alloc, offset, number)?;
-        assert_eq!(rt; read_header(front.as_slice()), Err(refusal));
+fn refuses_other_headers(rt: HostRuntime) {
+    for (offset, number, refusal) in &HEADERS {
+        assert!(rt; read_header(&changed(*offset, *number)) == Err(*refusal));
+    }
+    for (bytes, refusal) in &OTHER_FILES {
+        assert!(rt; read_header(bytes) == Err(*refusal));
     }
     // the old format has no features
-    let front = changed(alloc, 8, 72)?;
-    assert_eq!(rt; read_header(front.as_slice())?.features, 0);
+    let is_old = match read_header(&changed(8, 72)) {
+        Ok(header) => header.features == 0,
+        Err(_) => false,
+    };
+    assert!(rt; is_old);
     // the attribute says that it has eight bytes fewer
-    let front = changed(alloc, 0x88, 0x78_0000_0001)?;
-    assert_eq!(rt;
-        read_attribute(front.as_slice(), 0x88, 0x90).err(),
-        Some(RecordingError::BadAttributeSize { offset: 0x88 })
-    );
+    let refusal = RecordingError::BadAttributeSize { offset: 0x88 };
+    let front = changed(0x88, 0x78_0000_0001);
+    assert!(rt; read_attribute(&front, 0x88, 0x90).err() == Some(refusal));
+}
+
+/// A section of records, its first byte and its size, how many can be read, the kind of the last one, and why the next
+/// one can't be read.
+type Records = (&'static [u8], u64, u64, usize, u32, Option<RecordingError>);
+
+const SECTIONS: [Records; 6] = [
+    (&COMMAND, 0, 40, 1, kind::COMM, None),
+    (&MAPPING, 0, 104, 1, kind::MMAP2, None),
+    (
+        &EXIT,
+        0x18,
+        0x100,
+        0,
+        0,
+        Some(RecordingError::BadRecordSize { offset: 0x18 }),
+    ),
+    // a PERF_RECORD_AUXTRACE with eight bytes after it, and a PERF_RECORD_FINISHED_ROUND
+    (
+        &[
+            71, 0, 0, 0, 0, 0, 16, 0, 8, 0, 0, 0, 0, 0, 0, 0, 1, 0, 0, 0, 0, 0, 8, 0, 0x44, 0, 0,
+            0, 0, 0, 8, 0,
+        ],
+        0,
+        32,
+        2,
+        0x44,
+        None,
+    ),
+    (
+        &[81, 0, 0, 0, 0, 0, 8, 0],
+        0,
+        8,
+        0,
+        0,
+        Some(RecordingError::Compressed { offset: 0 }),
+    ),
+    (
+        &[83, 0, 0, 0, 0, 0, 8, 0],
+        0,
+        8,
+        0,
+        0,
+        Some(RecordingError::Compressed { offset: 0 }),
+    ),
+];
+
+#[test]
+fn reads_records(rt: HostRuntime) -> Result<(), Fail> {
+    for (bytes, offset, size, count, last, refusal) in &SECTIONS {
+        let section = Section {
+            offset: *offset,
+            size: *size,
+        };
+        let read = read_records(rt.alloc(), bytes, section)?;
+        assert!(rt; read.refusal == *refusal && read.records.len() == *count);
+        let found = match read.records.last() {
+            Some(record) => record.kind,
+            None => 0,
+        };
+        assert!(rt; found == *last);
+    }
     Ok(())
 }
 
+/// A PERF_RECORD_LOST of ten records.
+const LOST: [u8; 24] = [
+    2, 0, 0, 0, 0, 0, 0x18, 0, 0x15, 0, 0, 0, 0, 0, 0, 0, 10, 0, 0, 0, 0, 0, 0, 0,
+];
+
+/// A PERF_RECORD_LOST_SAMPLES of ten samples.
+const LOST_SAMPLES: [u8; 16] = [13, 0, 0, 0, 0, 0, 0x10, 0, 10, 0, 0, 0, 0, 0, 0, 0];
+
 #[test]
-fn refuses_by_name(rt: HostRuntime) -> Result<(), Fail> {
-    let alloc = rt.alloc();
-    assert_eq!(rt;
-        read_header(b"PERFILE"),
-        Err(RecordingError::Eof { offset: 0 })
-    );
-    assert_eq!(rt;
-        read_header(b"2ELIFREP"),
-        Err(RecordingError::BigEndian { offset: 0 })
-    );
-    assert_eq!(rt;
-        read_header(b"PERFILE1"),
-        Err(RecordingError::NotARecording { offset: 0 })
-    );
-    let cut = Section {
-        offset: 0x18,
-        size: 0x100,
-    };
-    let read = read_records(alloc, &EXIT, cut)?;
-    assert_eq!(rt;
-        read.refusal,
-        Some(RecordingError::BadRecordSize { offset: 0x18 })
-    );
-    // a PERF_RECORD_LOST of ten records
-    let lost = [
-        2, 0, 0, 0, 0, 0, 0x18, 0, 0x15, 0, 0, 0, 0, 0, 0, 0, 10, 0, 0, 0, 0, 0, 0, 0,
-    ];
-    assert_eq!(rt; read_lost(first_record(alloc, &lost)?), Ok(10));
-    // a PERF_RECORD_LOST_SAMPLES of ten samples
-    let lost = [13, 0, 0, 0, 0, 0, 0x10, 0, 10, 0, 0, 0, 0, 0, 0, 0];
-    let record = first_record(alloc, &lost)?;
-    assert_eq!(rt; record.kind, kind::LOST_SAMPLES);
-    assert_eq!(rt; read_lost_samples(record), Ok(10));
-    Ok(())
+fn reads_what_is_lost(rt: HostRuntime) {
+    assert!(rt; read_lost(record_of(&LOST)) == Ok(10));
+    let record = record_of(&LOST_SAMPLES);
+    assert!(rt; record.kind == kind::LOST_SAMPLES && read_lost_samples(record) == Ok(10));
 }

@@ -1,5 +1,40 @@
 -- Texts of at most sixteen hexadecimal digits.
-use Rattle.std.proofs.Common.{◌≡◌, ◌≢◌, ℕ, ◌<◌, ◌≤◌, ◌^◌, ◌&&◌, Bool, true, false, List, [], ◌∷◌, length, drop, get_or, cond, Option, Some, None, nat_lt, nat_le, if◌then◌else◌, refl, Result, Ok, Err, ap, subst, arith, inl, inr, SomeIff, lit<}
+use Rattle.std.proofs.Common.{
+  ◌≡◌,
+  ◌≢◌,
+  ℕ,
+  ◌<◌,
+  ◌≤◌,
+  ◌^◌,
+  ◌&&◌,
+  Bool,
+  true,
+  false,
+  List,
+  [],
+  ◌∷◌,
+  length,
+  drop,
+  get_or,
+  cond,
+  Option,
+  Some,
+  None,
+  nat_lt,
+  nat_le,
+  if◌then◌else◌,
+  refl,
+  Result,
+  Ok,
+  Err,
+  ap,
+  subst,
+  arith,
+  inl,
+  inr,
+  SomeIff,
+  lit<,
+}
 use Rattle.std.specs.Result.{OkIff, result_ok}
 use Rattle.std.specs.Char.{digit_value}
 use Rattle.framehop_walk.specs.Fields.{all_digits, hexadecimal}

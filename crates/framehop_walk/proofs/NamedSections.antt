@@ -1,5 +1,35 @@
 -- The section that goes by a name, in the list and in the table that the list tells.
-use Rattle.std.proofs.Common.{◌≡◌, ℕ, ◌+◌, ◌<◌, ◌≤◌, suc, Bool, true, false, not, List, [], ◌∷◌, length, set, get_or, Some, None, Option, nat_lt, slice_get, option_and_then, refl, sym, ap, ◌∙◌, arith, cond, subst}
+use Rattle.std.proofs.Common.{
+  ◌≡◌,
+  ℕ,
+  ◌+◌,
+  ◌<◌,
+  ◌≤◌,
+  suc,
+  Bool,
+  true,
+  false,
+  not,
+  List,
+  [],
+  ◌∷◌,
+  length,
+  set,
+  get_or,
+  Some,
+  None,
+  Option,
+  nat_lt,
+  slice_get,
+  option_and_then,
+  refl,
+  sym,
+  ap,
+  ◌∙◌,
+  arith,
+  cond,
+  subst,
+}
 use Rattle.std.proofs.lemmas.List.Folds.{find_at}
 use Rattle.std.proofs.lemmas.Bool.{ltb-true, ltb-false}
 use Rattle.std.proofs.lemmas.Option.{slice_get_read, slice_get_past}

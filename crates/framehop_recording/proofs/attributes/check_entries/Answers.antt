@@ -12,8 +12,11 @@ loop-left-preserved c =
     let size = c.args.size in
     let more = offsets-more l.at size l.left (omega (arith, c.loop-left-test.true)) in
     let read = c.in_ok-read_attribute.ensures.exact in (
-      λ error e. l.invariant.0 error (each-later-refused (λ at. attribute_at file at size) l.at (offsets l.at size l.left) (offsets (l.at + size) size (l.left - 1)) (attribute_view c.in_ok-read_attribute.field-0) error more read e),
-      λ all. l.invariant.1 (each-later-read (λ at. attribute_at file at size) l.at (offsets l.at size l.left) (offsets (l.at + size) size (l.left - 1)) (attribute_view c.in_ok-read_attribute.field-0) more read all),
+      λ error e. l.invariant.0 error (each-later-refused (λ at. attribute_at file at size) l.at
+          (offsets l.at size l.left) (offsets (l.at + size) size (l.left - 1))
+          (attribute_view c.in_ok-read_attribute.field-0) error more read e),
+      λ all. l.invariant.1 (each-later-read (λ at. attribute_at file at size) l.at (offsets l.at size l.left)
+          (offsets (l.at + size) size (l.left - 1)) (attribute_view c.in_ok-read_attribute.field-0) more read all),
     )
 
 pub returns-in_err-read_attribute : goal.returns-in_err-read_attribute
@@ -23,7 +26,10 @@ returns-in_err-read_attribute c =
     let size = c.args.size in
     let more = offsets-more l.at size l.left (omega (arith, c.loop-left-test.true)) in
     let p = err_from_is_err_and c.from_residual.result c.from_residual.ensures.1 in
-    rw (p.1, p.2) (l.invariant.0 c.in_err-read_attribute.field-0.0 (each-first-refused (λ at. attribute_at file at size) l.at (offsets l.at size l.left) (offsets (l.at + size) size (l.left - 1)) c.in_err-read_attribute.field-0.0 more c.in_err-read_attribute.ensures.exact))
+    rw (p.1, p.2) (l.invariant.0 c.in_err-read_attribute.field-0.0
+    (each-first-refused (λ at. attribute_at file at size) l.at (offsets l.at size l.left)
+    (offsets (l.at + size) size (l.left - 1)) c.in_err-read_attribute.field-0.0 more
+    c.in_err-read_attribute.ensures.exact))
 
 pub returns : goal.returns
 returns c =

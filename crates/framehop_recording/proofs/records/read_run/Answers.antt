@@ -13,7 +13,9 @@ loop-rest-preserved c =
     let pushed : c.push.new.self.items ≡ l.records.items ++ c.in-Ok.record ∷ [] = search rules in
     let viewed = ap (map record_view) pushed ∙ map-append record_view l.records.items (c.in-Ok.record ∷ []) in
     let shorter = ap length c.back-rest.ensures ∙ length-drop c.in-Ok.size l.rest.now in
-    let more = joined-more c.args.is_cut l.offset end l.rest.now rest (map record_view l.records.items) (record_view c.in-Ok.record) c.in-Ok.size c.in-Ok.ensures.exact c.in-Ok.ensures.within refl c.back-rest.ensures in (
+    let more = joined-more c.args.is_cut l.offset end l.rest.now rest (map record_view l.records.items)
+    (record_view c.in-Ok.record) c.in-Ok.size c.in-Ok.ensures.exact c.in-Ok.ensures.within refl
+    c.back-rest.ensures in (
       (let within = c.in-Ok.ensures.within in let so_far = l.invariant.0 in omega (arith, shorter, within.1, so_far)),
       l.invariant.1 ∙ more ∙ ap (λ before. joined before (run_in c.args.is_cut 0 end rest)) (sym viewed),
     )

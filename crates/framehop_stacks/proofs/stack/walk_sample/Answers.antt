@@ -1,7 +1,7 @@
 use Rattle.std.proofs.Common.{ap, ◌∙◌, Some, rules}
 use Rattle.framehop.specs.StackBytes.{memory_of_bytes}
 use Rattle.framehop.specs.Walk.{walk_from}
-use Rattle.framehop_core.proofs.Callback.{AnswersAs-unchanged}
+use Rattle.framehop_core.proofs.Callback.{AnswersAs-unchanged, Answering-over}
 use Rattle.framehop_stacks.specs.Samples.{walked}
 use Rattle.framehop_stacks.proofs.stack.walk_sample.Goals as goal
 
@@ -10,7 +10,7 @@ returns-clause-walked g c = λ sound.
     let start = c.in-Some.start in
     let memory = memory_of_bytes start.sp c.args.user.stack.now in
     let answers = AnswersAs-unchanged _ memory _ (λ a r f' call. search rules) in
-    let by_steps = (c.in_ok-frames.ensures.answers memory answers sound).1.0 in
+    let by_steps = (Answering-over _ (c.in_ok-frames.ensures.answers sound) memory answers).1.0 in
     let by_modules = g.met.U.Sampled.steps_by_modules c.args.unwinder.now in (
       Some start,
       c.in-Some.ensures,

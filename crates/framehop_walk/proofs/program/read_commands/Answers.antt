@@ -42,7 +42,9 @@ returns-in_err-read_command g c =
     let same : c.from_residual-in_err-read_command.result ≡ Err c.in_err-read_command.field-0.0 = search rules in
     rw same (λ other. given.1
     ∙ each-refused (read_next g.A.Registers.reading) given.0 c.args.items.now.items c.loop-command.command-index c.command-item.result (refusal_text c.in_err-read_command.field-0.0) within item
-    (next-refused g.A.Registers.reading given.0 (view c.command-item.result) c.in_ok-verb.verb.now (refusal_text c.in_err-read_command.field-0.0) (sym c.in_ok-verb.ensures) (c.in_err-read_command.ensures other)))
+    (next-refused g.A.Registers.reading given.0 (view c.command-item.result) c.in_ok-verb.verb.now
+    (refusal_text c.in_err-read_command.field-0.0) (sym c.in_ok-verb.ensures)
+    (c.in_err-read_command.ensures other)))
 
 pub returns : goal.returns
 returns g c =

@@ -26,7 +26,9 @@ returns-in_err-read_section c =
     let item : c.item-item.result ≡ get_or c.args.items.now.items c.loop-item.item-index c.item-item.result = rw c.deref-item-items.ensures.value at c.item-item.is in
     let same : c.from_residual-in_err-read_section.result ≡ Err c.in_err-read_section.field-0.0 = search rules in
     rw same (λ other.
-    let given = c.in_err-read_section.ensures done c.loop-item.invariant.names (λ out. other (refused-same c.in_err-read_section.field-0.0 (Err c.in_err-read_section.field-0.0) (Err c.in_err-read_section.field-0.0) refl refl out)) in
+    let given = c.in_err-read_section.ensures done c.loop-item.invariant.names
+    (λ out. other (refused-same c.in_err-read_section.field-0.0 (Err c.in_err-read_section.field-0.0)
+    (Err c.in_err-read_section.field-0.0) refl refl out)) in
     sym (c.loop-item.invariant.reading
     ∙ each-refused read_section done c.args.items.now.items c.loop-item.item-index c.item-item.result (refusal_text c.in_err-read_section.field-0.0) within item (sym given.0)))
 

@@ -12,5 +12,7 @@ returns-in_err-begin_fde-clause-room g c = λ out.
     let covered = sym c.covers.ensures ∙ c.if-not-covers.false in
     let bases = ap (λ (s : Section). s.bases) c.section.view_is in
     let bytes = c.front-bytes.ensures ∙ ap (λ (s : Section). take c.args.fde.now.cie.end s.bytes) c.section.view_is in
-    let needs = rules-need (instructions_of_cie c.args.section.now c.args.fde.now.cie) g.S.UnwindContextStorage.limits c.args.fde.now.cie.instructions 0 c.run.new.self (rw (← c.clear.ensures, ← bases, ← bytes) c.in_ok-run.ensures.exact) c.in_err-begin_fde.ensures.room in
+    let needs = rules-need (instructions_of_cie c.args.section.now c.args.fde.now.cie)
+    g.S.UnwindContextStorage.limits c.args.fde.now.cie.instructions 0 c.run.new.self
+    (rw (← c.clear.ensures, ← bases, ← bytes) c.in_ok-run.ensures.exact) c.in_err-begin_fde.ensures.room in
     rw (covered, needs) refl

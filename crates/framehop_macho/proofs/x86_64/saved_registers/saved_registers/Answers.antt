@@ -17,7 +17,10 @@ returns-in_err-pop_at-clause-exact c =
     let place = c.loop-place.place in
     let after = c.args.count - (place + 1) in
     rw c.from_residual.ensures
-    (sym kept.found ∙ next-none saved pool (c.args.count - place) after c.loop-place.rest c.list_count-block.result (omega (arith, c.loop-place-test.true)) (list_count-same _ _ after (length pool - 1) c.list_count-block.result block.exact (omega arith) (omega (arith, kept.pool))) block.some (sym c.in_err-pop_at.ensures.value))
+    (sym kept.found ∙ next-none saved pool (c.args.count - place) after c.loop-place.rest c.list_count-block.result
+    (omega (arith, c.loop-place-test.true)) (list_count-same _ _ after (length pool - 1)
+    c.list_count-block.result block.exact (omega arith) (omega (arith, kept.pool))) block.some
+    (sym c.in_err-pop_at.ensures.value))
 
 pub loop-place-preserved : goal.loop-place-preserved
 loop-place-preserved c =
@@ -30,7 +33,11 @@ loop-place-preserved c =
     record {
       pool = omega (arith, kept.pool, c.in_ok-pop_at.ensures.len);
       saved = omega (arith, kept.saved, c.push.ensures.len);
-      found = next-kept saved pool _ _ c.in_ok-pop_at.field-0 (c.args.count - place) after c.loop-place.rest c.list_count-block.result _ (omega (arith, c.loop-place-test.true)) (list_count-same _ _ after (length pool - 1) c.list_count-block.result block.exact (omega arith) (omega (arith, kept.pool))) block.some c.in_ok-pop_at.ensures.value c.push.ensures.items c.in_ok-pop_at.ensures.items kept.found;
+      found = next-kept saved pool _ _ c.in_ok-pop_at.field-0 (c.args.count - place) after c.loop-place.rest
+          c.list_count-block.result _ (omega (arith, c.loop-place-test.true))
+          (list_count-same _ _ after (length pool - 1) c.list_count-block.result block.exact (omega arith)
+          (omega (arith, kept.pool))) block.some c.in_ok-pop_at.ensures.value c.push.ensures.items
+          c.in_ok-pop_at.ensures.items kept.found;
     }
 
 pub returns-then-rest-eq0-clause-exact : goal.returns-then-rest-eq0-clause-exact
@@ -43,4 +50,5 @@ pub returns-else-rest-eq0-clause-exact : goal.returns-else-rest-eq0-clause-exact
 unfolding saved_registers
 returns-else-rest-eq0-clause-exact c =
     let kept = c.loop-place.invariant in
-    sym kept.found ∙ last-none c.loop-place.saved.items c.loop-place.pool.items (c.args.count - c.loop-place.place) c.loop-place.rest (omega (arith, c.loop-place-test.false)) (omega (arith, c.if-rest-eq0.false))
+    sym kept.found ∙ last-none c.loop-place.saved.items c.loop-place.pool.items (c.args.count - c.loop-place.place)
+    c.loop-place.rest (omega (arith, c.loop-place-test.false)) (omega (arith, c.if-rest-eq0.false))

@@ -33,7 +33,9 @@ invariant_of-self g c =
     let changed = c.as_slice-2.ensures.value ∙ c.in_ok-changed.ensures in
     let all = c.in_ok-mappings.ensures
     ∙ ap (λ (middle : List Mapping). c.split_ending_by.result.0.now ++ (middle ++ c.split_starting_below.result.1.now)) changed
-    ∙ mapped-parts new some ms c.split_ending_by.result.0.now c.split_ending_by.result.1.now c.split_starting_below.result.0.now c.split_starting_below.result.1.now first.whole first.before last.whole last.after order in
+    ∙ mapped-parts new some ms c.split_ending_by.result.0.now c.split_ending_by.result.1.now
+    c.split_starting_below.result.0.now c.split_starting_below.result.1.now first.whole first.before last.whole
+    last.after order in
     subst (λ (l : List Mapping). IsInOrder 0 l) (sym all) (with_mapping-order new ms some order)
 
 pub returns-clause-mapped : goal.returns-clause-mapped
@@ -47,7 +49,9 @@ returns-clause-mapped g c =
     let changed = c.as_slice-2.ensures.value ∙ c.in_ok-changed.ensures in
     c.in_ok-mappings.ensures
     ∙ ap (λ (middle : List Mapping). c.split_ending_by.result.0.now ++ (middle ++ c.split_starting_below.result.1.now)) changed
-    ∙ mapped-parts new c.if-mapping.false ms c.split_ending_by.result.0.now c.split_ending_by.result.1.now c.split_starting_below.result.0.now c.split_starting_below.result.1.now first.whole first.before last.whole last.after order
+    ∙ mapped-parts new c.if-mapping.false ms c.split_ending_by.result.0.now c.split_ending_by.result.1.now
+    c.split_starting_below.result.0.now c.split_starting_below.result.1.now first.whole first.before last.whole
+    last.after order
     ∙ ap (with_mapping new) same
 
 pub returns-clause-by_address : goal.returns-clause-by_address
@@ -61,7 +65,9 @@ returns-clause-by_address g c address =
     let changed = c.as_slice-2.ensures.value ∙ c.in_ok-changed.ensures in
     let all = c.in_ok-mappings.ensures
     ∙ ap (λ (middle : List Mapping). c.split_ending_by.result.0.now ++ (middle ++ c.split_starting_below.result.1.now)) changed
-    ∙ mapped-parts new c.if-mapping.false ms c.split_ending_by.result.0.now c.split_ending_by.result.1.now c.split_starting_below.result.0.now c.split_starting_below.result.1.now first.whole first.before last.whole last.after order
+    ∙ mapped-parts new c.if-mapping.false ms c.split_ending_by.result.0.now c.split_ending_by.result.1.now
+    c.split_starting_below.result.0.now c.split_starting_below.result.1.now first.whole first.before last.whole
+    last.after order
     ∙ ap (with_mapping new) same in
     ap (mapped_at address) all ∙ mapped-by_address address new c.args.self.now.mappings c.if-mapping.false
 
@@ -115,7 +121,9 @@ returns-clause-counted g c =
     let modules = ap (λ (u : UnwinderView). u.modules) unwinder ∙ c.requires ∙ ap (map module_of) (sym same ∙ whole) in
     let removed = c.in_ok-remove_modules.ensures.removed module_of starts before after (subst (λ (l : List Mapping). IsInOrder 0 l) whole order) modules in
     let added = c.as_slice-3.ensures.value ∙ c.in_ok-changed.ensures in
-    let count = ap (changed_modules new) (sym same) ∙ changed-is new ms middle c.as_slice-3.result.now (overlapped-middle new some ms before rest middle after first.whole first.before last.whole last.after order) added in
+    let count = ap (changed_modules new) (sym same) ∙ changed-is new ms middle c.as_slice-3.result.now
+    (overlapped-middle new some ms before rest middle after first.whole first.before last.whole last.after order)
+    added in
     let gone = removed.1 in
     let come = c.in_ok-add_modules.ensures.drawn in (
       omega (arith, count, gone, come),
@@ -141,7 +149,9 @@ returns-in_err-remove_modules-clause-exhausted g c is =
     let copied = g.met.U.ProcessUnwinder.clone_is_same c.self.inside.unwinder c.in_ok-unwinder.unwinder c.in_ok-unwinder.ensures.cases in
     let unwinder = copied ∙ ap (λ (p : ProcessView). p.unwinder) c.self.view_is in
     let modules = ap (λ (u : UnwinderView). u.modules) unwinder ∙ c.requires ∙ ap (map module_of) (sym same ∙ whole) in
-    let count = ap (changed_modules new) (sym same) ∙ changed-is new ms middle c.in_ok-changed.changed.items (overlapped-middle new some ms before rest middle after first.whole first.before last.whole last.after order) c.in_ok-changed.ensures in
+    let count = ap (changed_modules new) (sym same) ∙ changed-is new ms middle c.in_ok-changed.changed.items
+    (overlapped-middle new some ms before rest middle after first.whole first.before last.whole last.after order)
+    c.in_ok-changed.ensures in
     let ended = c.in_err-remove_modules.ensures.exhausted in
     let short = ended.2 module_of starts before after (subst (λ (l : List Mapping). IsInOrder 0 l) whole order) modules in
     (ended.1, omega (arith, count, short))
@@ -167,7 +177,9 @@ returns-in_err-add_modules-clause-exhausted g c is =
     let modules = ap (λ (u : UnwinderView). u.modules) unwinder ∙ c.requires ∙ ap (map module_of) (sym same ∙ whole) in
     let removed = c.in_ok-remove_modules.ensures.removed module_of starts before after (subst (λ (l : List Mapping). IsInOrder 0 l) whole order) modules in
     let gone = removed.1 in
-    let count = ap (changed_modules new) (sym same) ∙ changed-is new ms middle c.as_slice-3.result.now (overlapped-middle new some ms before rest middle after first.whole first.before last.whole last.after order) (c.as_slice-3.ensures.value ∙ c.in_ok-changed.ensures) in
+    let count = ap (changed_modules new) (sym same) ∙ changed-is new ms middle c.as_slice-3.result.now
+    (overlapped-middle new some ms before rest middle after first.whole first.before last.whole last.after order)
+    (c.as_slice-3.ensures.value ∙ c.in_ok-changed.ensures) in
     let p = err_from_is_err_and c.from_residual-in_err-add_modules.result c.from_residual-in_err-add_modules.ensures.1 in
     let ended = c.in_err-add_modules.ensures.exhausted (sym (p.1 ∙ ap (λ error. Err error) p.2) ∙ is) in
     let short = ended.1 in

@@ -4,7 +4,10 @@ use Rattle.framehop_analysis.specs.Laws.Aarch64.Calls.{call-word}
 use Rattle.framehop_analysis.specs.Laws.Aarch64.Ends.{inside-short}
 use Rattle.framehop_analysis.proofs.Aarch64Ends.{never}
 use Rattle.framehop_analysis.proofs.aarch64.instruction_analysis.epilogue.is_in_auth_tail_call.Goals as goal
-use Rattle.framehop_analysis.proofs.aarch64.instruction_analysis.epilogue.is_in_auth_tail_call.Goals.{else-is_word_of_auth_tail_call-via-then-is_word_of_auth_tail_call+else-is_in_auth_tail_call_after, else-is_word_of_auth_tail_call-via-else-is_word_of_auth_tail_call}
+use Rattle.framehop_analysis.proofs.aarch64.instruction_analysis.epilogue.is_in_auth_tail_call.Goals.{
+  else-is_word_of_auth_tail_call-via-then-is_word_of_auth_tail_call+else-is_in_auth_tail_call_after,
+  else-is_word_of_auth_tail_call-via-else-is_word_of_auth_tail_call,
+}
 
 pub loop-before-preserved : goal.loop-before-preserved
 loop-before-preserved c = below_more _ _ c.loop-before.invariant

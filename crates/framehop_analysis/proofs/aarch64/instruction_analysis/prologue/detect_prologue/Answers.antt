@@ -4,7 +4,10 @@ use Rattle.framehop_analysis.specs.Aarch64.Prologue.{lowered}
 use Rattle.framehop_analysis.specs.Laws.Aarch64.Prologue.{too_early, rule-only}
 use Rattle.framehop_analysis.proofs.Aarch64Prologue.{not-both}
 use Rattle.framehop_analysis.proofs.aarch64.instruction_analysis.prologue.detect_prologue.Goals as goal
-use Rattle.framehop_analysis.proofs.aarch64.instruction_analysis.prologue.detect_prologue.Goals.{else-sp_offset-eq0-via-then-sp_offset-eq0+else-is_plain_store, else-sp_offset-eq0-via-else-sp_offset-eq0}
+use Rattle.framehop_analysis.proofs.aarch64.instruction_analysis.prologue.detect_prologue.Goals.{
+  else-sp_offset-eq0-via-then-sp_offset-eq0+else-is_plain_store,
+  else-sp_offset-eq0-via-else-sp_offset-eq0,
+}
 
 pub returns-then-is_plain_store : goal.returns-then-is_plain_store
 returns-then-is_plain_store c =
