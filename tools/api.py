@@ -131,7 +131,8 @@ def docs_before(lines, number):
         number -= 1
     found = []
     while number >= 0 and lines[number].strip().startswith("///"):
-        found.insert(0, re.sub(r"^\s*/// ?", "", lines[number]))
+        line = re.sub(r"^\s*/// ?", "", lines[number])
+        found.insert(0, re.sub(r"^# ", "#### ", line))
         number -= 1
     return found
 

@@ -2,8 +2,9 @@
 """Checks the documents against the sources, and prints a line for each fault; the status is 1 where there is one.
 
 - Each link of a document leads to a file of the repository, to a heading that is there, or to a line that is.
+- Each script or source in backticks is a file of the repository.
 - Each name in backticks of the pages of NAMED is in the sources, the scripts, the edits or a file's name.
-- The Rust of README.md is in the tests, line by line.
+- The Rust of README.md and of the doc comments' examples is in the tests, line by line.
 - No line of a document has more than 100 words, tables and code excepted.
 - The pages of docs/api are those that tools/api.py makes, and that of `framehop` has each name that the tests name there.
 - Each edit of edits/CRATE can be applied, and each promise of DEFINITIONS.md has one that the gate tries.
@@ -18,7 +19,7 @@ from pathlib import Path
 
 TOP = Path(__file__).resolve().parent.parent
 NAMED = ["DEFINITIONS.md", "PROVED.md", "CHANGING.md"]
-EXAMPLES = TOP / "crates/framehop_vectors/src/readme.rt"
+EXAMPLES = [TOP / f"crates/{name}/src/readme.rt" for name in ("framehop_vectors", "framehop_elf_vectors")]
 PATHS = TOP / "crates/framehop_vectors/src/paths.rt"
 FENCE = re.compile(r"^```.*?^```", re.M | re.S)
 WORD = re.compile(r"[^\W\d][\w'-]*")
@@ -29,7 +30,8 @@ FOREIGN = set("Err None Some Ok Option Result Vec u8 u16 u32 u64 usize for true 
 
 
 def documents():
-    return [TOP / "README.md", *sorted(TOP.glob("docs/*.md")), *sorted(TOP.glob("docs/api/*.md"))]
+    readmes = [TOP / "README.md", TOP / "bindings/README.md", TOP / "cases/README.md"]
+    return [*readmes, *sorted(TOP.glob("docs/*.md")), *sorted(TOP.glob("docs/api/*.md"))]
 
 
 def without_code(text):
@@ -85,6 +87,14 @@ def names_of_sources():
     return found
 
 
+def lost_files(text, names):
+    """Scripts and sources in backticks that the repository doesn't have; ARCH and the like stand for many."""
+    for path in re.findall(r"`([\w./-]+\.(?:py|sh|rt))\b", without_code(text)):
+        held = [name for name in names if f"/{name}".removesuffix(".txt").endswith(f"/{path}")]
+        if not held and not re.search(r"\b[A-Z]+\b", path):
+            yield f"no file `{path}`"
+
+
 def missing_names(text, known):
     for span in re.findall(r"`([^`\n]+)`", without_code(text)):
         for word in WORD.findall(span):
@@ -101,9 +111,8 @@ def long_lines(text):
 
 
 def untested_examples():
-    tests = {line.strip() for line in EXAMPLES.read_text().split("\n")}
-    tests.add(None)
-    imports = " ".join(line for line in tests if line)
+    tests = {line.strip() for page in EXAMPLES for line in page.read_text().split("\n")}
+    imports = " ".join(tests)
     for block in re.findall(r"^```rust\n(.*?)^```", (TOP / "README.md").read_text(), re.M | re.S):
         for line in block.split("\n"):
             if line.startswith("use "):
@@ -112,6 +121,17 @@ def untested_examples():
                     yield f"the tests don't use {lost[0]}"
             elif line.strip() and line.strip() not in tests:
                 yield f"not in the tests: {line.strip()}"
+
+
+def untested_doc_examples():
+    """Examples of doc comments, of which each line is a line of a test."""
+    tests = {line.strip() for page in TOP.glob("crates/*_vectors/src/*.rt") for line in page.read_text().split("\n")}
+    for page in sorted(TOP.glob("crates/*/src/**/*.rt")):
+        for block in re.findall(r"^ */// ```\n(.*?)^ */// ```", page.read_text(), re.M | re.S):
+            for line in block.split("\n"):
+                code = line.strip().removeprefix("///").strip()
+                if code and code not in tests:
+                    yield f"{page.relative_to(TOP)}: not in the tests: {code}"
 
 
 def stale_api():
@@ -171,10 +191,10 @@ def wrong_edits():
 
 
 def faults():
-    known = names_of_sources()
+    known, names = names_of_sources(), tracked()
     for page in documents():
         text, name = page.read_text(), str(page.relative_to(TOP))
-        checks = [dead_links(page, text)]
+        checks = [dead_links(page, text), lost_files(text, names)]
         if page.parent.name != "api":
             checks.append(long_lines(text))
         if page.name in NAMED:
@@ -182,6 +202,7 @@ def faults():
         yield from (f"{name}: {fault}" for check in checks for fault in check)
     yield from (f"README.md: {fault}" for fault in untested_examples())
     yield from (f"docs/api: {fault}" for check in (stale_api(), names_not_on_the_page()) for fault in check)
+    yield from untested_doc_examples()
     yield from wrong_edits()
 
 
