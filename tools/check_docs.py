@@ -8,6 +8,7 @@
 - No line of a document has more than 100 words, tables and code excepted.
 - The pages of docs/api are those that tools/api.py makes, and that of `framehop` has each name that the tests name there.
 - Each edit of edits/CRATE can be applied, and each promise of DEFINITIONS.md has one that the gate tries.
+- Each source, definition and proof has the layout that `rt fmt` gives it.
 """
 
 import filecmp
@@ -190,6 +191,13 @@ def wrong_edits():
     yield from (f"docs/DEFINITIONS.md: the gate tries no edit of {promise}" for promise in sorted(promises - tried))
 
 
+def not_in_the_layout(names):
+    """What `rt ci` refuses a crate for before it proves anything."""
+    sources = [name for name in names if name.startswith("crates/") and name.endswith((".rt", ".antt"))]
+    checked = subprocess.run(["rattle", "fmt", "--check", *sources], cwd=TOP, capture_output=True, text=True)
+    yield from (checked.stdout + checked.stderr).splitlines()
+
+
 def faults():
     known, names = names_of_sources(), tracked()
     for page in documents():
@@ -204,6 +212,7 @@ def faults():
     yield from (f"docs/api: {fault}" for check in (stale_api(), names_not_on_the_page()) for fault in check)
     yield from untested_doc_examples()
     yield from wrong_edits()
+    yield from not_in_the_layout(names)
 
 
 def main():
