@@ -21,20 +21,20 @@ codeview_view (Elf build_id) = of_elf build_id.now
 
 -- "RSDS", Signature, Age and PdbFileName, which ends with a 0
 abbrev pub pdb_in : ℕ → List ℕ → Result (Option CodeViewView) MinidumpError
-pdb_in offset record =
-    if nat_lt (length record) 24 then Err (ShortCodeView offset)
-    else Ok (Some (of_pdb (take 16 (drop 4 record)) (le4 record 20) (string_of record 24)))
+pdb_in offset bytes =
+    if nat_lt (length bytes) 24 then Err (ShortCodeView offset)
+    else Ok (Some (of_pdb (take 16 (drop 4 bytes)) (le4 bytes 20) (string_of bytes 24)))
 
 -- "LEpB" and the build id; other records are passed over
 unfoldable pub codeview_in : ℕ → List ℕ → Result (Option CodeViewView) MinidumpError
-codeview_in offset record =
-    if nat_lt (length record) 4 then Err (ShortCodeView offset)
-    else if le4 record 0 == RSDS then pdb_in offset record
-    else if le4 record 0 == MD_CVINFOELF_SIGNATURE then Ok (Some (of_elf (drop 4 record)))
+codeview_in offset bytes =
+    if nat_lt (length bytes) 4 then Err (ShortCodeView offset)
+    else if le4 bytes 0 == RSDS then pdb_in offset bytes
+    else if le4 bytes 0 == MD_CVINFOELF_SIGNATURE then Ok (Some (of_elf (drop 4 bytes)))
     else Ok None
 
 -- the record at a location, or none where that has no bytes
 unfoldable pub codeview_of : List ℕ → Location → Result (Option CodeViewView) MinidumpError
 codeview_of file location = if location.size == 0 then Ok None else (do
-  record ← located file location
-  codeview_in location.offset record)
+  bytes ← located file location
+  codeview_in location.offset bytes)

@@ -1,5 +1,5 @@
 -- The modules of a process: MINIDUMP_MODULE, of 108 bytes.
-use Rattle.std.specs.Prelude.{ℕ, List, map, Result, Ok, Err}
+use Rattle.std.specs.Prelude.{ℕ, List, map, Result, Ok}
 use Rattle.framehop_cfi.specs.Bytes.{◌>>=◌, le4, le8}
 use Rattle.framehop_minidump.specs.Numbers.{ModuleListStream, MODULE_SIZE}
 use Rattle.framehop_minidump.specs.Location.{location_at, entries_in}

@@ -1,5 +1,5 @@
 -- The streams of a minidump: MINIDUMP_DIRECTORY, of 12 bytes.
-use Rattle.std.specs.Prelude.{ℕ, ◌*◌, List, map, Option, Result, Ok, Err, ◌==◌}
+use Rattle.std.specs.Prelude.{ℕ, ◌*◌, List, map, Option, Result, Ok, ◌==◌}
 use Rattle.std.specs.List.{find}
 use Rattle.framehop_cfi.specs.Bytes.{◌>>=◌, le4}
 use Rattle.framehop_minidump.specs.Numbers.{DIRECTORY_SIZE}

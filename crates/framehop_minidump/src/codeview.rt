@@ -38,23 +38,23 @@ pub enum CodeView<'a> {
 
 /// Returns the file that the bytes of a record name, which are at an offset of the file.
 #[tactic(auto, unfolding(crate::specs::CodeView::codeview_in))]
-fn codeview_in<'a>(offset: u64, record: &'a [u8]) -> Result<Option<CodeView<'a>>, MinidumpError>
+fn codeview_in<'a>(offset: u64, bytes: &'a [u8]) -> Result<Option<CodeView<'a>>, MinidumpError>
     ensures { MatchResult result
-        (λ found. codeview_in offset record.entry.now ≡ Ok (option_map codeview_view found))
-        (λ error. codeview_in offset record.entry.now ≡ Err error) }
+        (λ found. codeview_in offset bytes.entry.now ≡ Ok (option_map codeview_view found))
+        (λ error. codeview_in offset bytes.entry.now ≡ Err error) }
 {
-    if record.len() < 4 {
+    if bytes.len() < 4 {
         return Err(MinidumpError::ShortCodeView { offset });
     }
-    match u32_at(record, 0) {
-        RSDS if record.len() < RSDS_SIZE => Err(MinidumpError::ShortCodeView { offset }),
+    match u32_at(bytes, 0) {
+        RSDS if bytes.len() < RSDS_SIZE => Err(MinidumpError::ShortCodeView { offset }),
         RSDS => Ok(Some(CodeView::Pdb {
-            guid: front(back(record, 4), 16),
-            age: u32_at(record, 20),
-            path: string_at(record, 24),
+            guid: front(back(bytes, 4), 16),
+            age: u32_at(bytes, 20),
+            path: string_at(bytes, 24),
         })),
         ELF => Ok(Some(CodeView::Elf {
-            build_id: back(record, 4),
+            build_id: back(bytes, 4),
         })),
         _ => Ok(None),
     }
@@ -80,6 +80,6 @@ pub fn read_codeview<'a>(
     if location.size == 0 {
         return Ok(None);
     }
-    let record = read_located(file, location)?;
-    codeview_in(u64::from(location.offset), record)
+    let bytes = read_located(file, location)?;
+    codeview_in(u64::from(location.offset), bytes)
 }

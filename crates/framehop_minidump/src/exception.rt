@@ -50,10 +50,7 @@ fn exception_in(fields: &[u8]) -> Exception
 ///
 /// Source: `minidumpapiset.h`, `MINIDUMP_EXCEPTION_STREAM` and `MINIDUMP_EXCEPTION`.
 #[tactic(auto, unfolding(crate::specs::Exception::exception_of))]
-pub fn read_exception(
-    file: &[u8],
-    streams: &[Stream],
-) -> Result<Option<Exception>, MinidumpError>
+pub fn read_exception(file: &[u8], streams: &[Stream]) -> Result<Option<Exception>, MinidumpError>
     ensures { result ≡ exception_of file.now streams.now }
 {
     let Some(stream) = first_stream(streams, EXCEPTION_STREAM) else {

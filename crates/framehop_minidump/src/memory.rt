@@ -74,10 +74,7 @@ fn short_entries<'a>(
 /// Returns where the bytes of the first range begin, and the entries, of a list of type
 /// `Memory64ListStream` that is at an offset of the file.
 #[tactic(auto, unfolding(crate::specs::Memory::long_list_in))]
-fn long_list_in(
-    offset: u64,
-    list: &[u8],
-) -> Result<(u64, &[[u8; ENTRY_SIZE]]), MinidumpError>
+fn long_list_in(offset: u64, list: &[u8]) -> Result<(u64, &[[u8; ENTRY_SIZE]]), MinidumpError>
     ensures { MatchResult result
         (λ read. long_list_in offset list.entry.now ≡ Ok (read.0, read.1.now))
         (λ error. long_list_in offset list.entry.now ≡ Err error) }
@@ -118,9 +115,14 @@ fn long_list<'a>(
 fn short_ranges(alloc: Global, entries: &[[u8; ENTRY_SIZE]]) -> Option<Vec<MemoryRange>>
     ensures { IsGathered (map range_at entries.now) result }
 {
-    let ranges: Result<Vec<MemoryRange>, AllocError> =
-        entries.iter().map(|entry| range_at(entry)).collect(alloc);
-    ranges.ok()
+    let ranges: Result<Vec<MemoryRange>, AllocError> = entries
+        .iter()
+        .map(|entry| range_at(entry))
+        .collect(alloc);
+    match ranges {
+        Ok(ranges) => Some(ranges),
+        Err(_) => None,
+    }
 }
 
 /// Returns the ranges with those of these entries of the list of type `Memory64ListStream`, whose bytes lie
@@ -131,7 +133,7 @@ fn with_long_ranges(
     entries: &[[u8; ENTRY_SIZE]],
 ) -> Result<Option<Vec<MemoryRange>>, MinidumpError>
     ensures exact { MatchResult result
-        (λ all. (read : List MemoryRange) × (ranges_from base entries.now ≡ Ok read) × ((list : List MemoryRange) → IsGathered list ranges.entry → IsGathered (list ++ read) all))
+        (λ all. (read : List MemoryRange) × (ranges_from base entries.now ≡ Ok read) × ((list : List MemoryRange) → IsGathered list ranges → IsGathered (list ++ read) all))
         (λ error. ranges_from base entries.now ≡ Err error) }
 {
     let mut ranges = ranges;
@@ -205,12 +207,7 @@ fn has(file: &[u8], range: MemoryRange, address: u64, size: u64) -> bool
 }
 
 /// Returns the first range that has so many bytes from an address on.
-fn range_with(
-    file: &[u8],
-    ranges: &[MemoryRange],
-    address: u64,
-    size: u64,
-) -> Option<MemoryRange>
+fn range_with(file: &[u8], ranges: &[MemoryRange], address: u64, size: u64) -> Option<MemoryRange>
     ensures first { result ≡ find (has file.now address size) ranges.now }
     ensures found { IfSome result (λ range. has file.now address size range ≡ true) }
 {

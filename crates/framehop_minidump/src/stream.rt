@@ -1,7 +1,7 @@
 //! The directory of a minidump.
-ghost use Rattle.std.specs.Prelude.{◌≡◌, ◌==◌, ◌≤◌, Ok, Err, MatchResult, IfOk, length, map, find};
+ghost use Rattle.std.specs.Prelude.{◌≡◌, ◌≤◌, Ok, Err, MatchResult, IfOk, length, map};
 ghost use Rattle.framehop_minidump.specs.Location.{IsErrorOf};
-ghost use Rattle.framehop_minidump.specs.Stream.{stream_at, directory_of, streams_of};
+ghost use Rattle.framehop_minidump.specs.Stream.{stream_at, directory_of, streams_of, stream_of};
 
 use crate::error::MinidumpError;
 use crate::header::{Header, read_header};
@@ -77,7 +77,7 @@ pub fn read_streams(alloc: Global, file: &[u8]) -> Result<Vec<Stream>, MinidumpE
 
 /// Returns the first stream of a type.
 pub fn first_stream(streams: &[Stream], stream_type: u32) -> Option<Stream>
-    ensures { result ≡ find (λ stream. stream.stream_type == stream_type) streams.now }
+    ensures { result ≡ stream_of streams.now stream_type }
 {
     for stream in streams {
         if stream.stream_type == stream_type {

@@ -54,6 +54,7 @@ fn text(alloc: Global, bytes: &[[u8; UNIT_SIZE]]) -> Result<String, AllocError>
 /// `OutOfMemory`.
 ///
 /// Source: `minidumpapiset.h`, `MINIDUMP_STRING`.
+#[tactic(auto, unfolding(crate::specs::String::string_of))]
 pub fn read_string(alloc: Global, file: &[u8], offset: u32) -> Result<String, MinidumpError>
     ensures { MatchResult result
         (λ text. string_of file.now offset ≡ Ok (string_bytes text))

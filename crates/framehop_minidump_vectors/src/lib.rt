@@ -2,6 +2,10 @@
 #![tactic(auto)]
 
 #[cfg(test)]
+mod aarch64;
+#[cfg(test)]
 mod pieces;
+#[cfg(test)]
+mod refusals;
 #[cfg(test)]
 mod x86_64;
