@@ -71,10 +71,7 @@ pub(crate) const PIECES: [(usize, &str); 14] = [
         000000001b330000000000001c33000000000000100000f0ffff000048070000aaaa2d00000000f0ffff0000\
         10070000aaaa",
     ),
-    (
-        0xd08,
-        "f5010000000000000b00000001000000000000000000000010",
-    ),
+    (0xd08, "f5010000000000000b00000001000000000000000000000010"),
     (
         0xda8,
         "980300007009000001000000000000f0ffff000000010000a00000000000000000a000000000000001a00000\
@@ -89,30 +86,12 @@ pub(crate) const PIECES: [(usize, &str); 14] = [
         0xed0,
         "0400000000000000aaaa0000002001000101000001000000280e",
     ),
-    (
-        0xf20,
-        "18000000500e",
-    ),
-    (
-        0xf43,
-        "a0ffff0000001000000201000002000000680e",
-    ),
-    (
-        0xf8c,
-        "28000000800e",
-    ),
-    (
-        0xfaf,
-        "b0ffff0000002000000301000003000000a80e",
-    ),
-    (
-        0xff8,
-        "10000000b80e",
-    ),
-    (
-        0x101b,
-        "c0ffff0000003000000401000004000000c80e",
-    ),
+    (0xf20, "18000000500e"),
+    (0xf43, "a0ffff0000001000000201000002000000680e"),
+    (0xf8c, "28000000800e"),
+    (0xfaf, "b0ffff0000002000000301000003000000a80e"),
+    (0xff8, "10000000b80e"),
+    (0x101b, "c0ffff0000003000000401000004000000c80e"),
 ];
 
 /// The minidump.
@@ -193,7 +172,10 @@ fn reads_both_lists_of_memory(rt: HostRuntime) -> Result<(), Fail> {
     // the second thread's stack is in no list: its range is the thread's
     let threads = read_threads(alloc, file, streams.as_slice())?;
     let second = threads.get(1).copied().ok_or("no second thread")?;
-    assert_eq!(rt; word_at(file, &[second.stack], 0xfffff0000878), Some(0x6000000f));
+    assert_eq!(rt;
+        word_at(file, &[second.stack], 0xfffff0000878),
+        Some(0x6000000f)
+    );
     Ok(())
 }
 
@@ -204,7 +186,12 @@ fn reads_modules(rt: HostRuntime) -> Result<(), Fail> {
     let file = file.as_slice();
     let streams = read_streams(alloc, file)?;
     let modules = read_modules(alloc, file, streams.as_slice())?;
-    let names = ["/usr/bin/gr\u{f6}\u{df}e", "C:\\\u{1d11e}.dll", "a\u{fffd}b", ""];
+    let names = [
+        "/usr/bin/gr\u{f6}\u{df}e",
+        "C:\\\u{1d11e}.dll",
+        "a\u{fffd}b",
+        "",
+    ];
     assert_eq!(rt; modules.len(), 4);
     for (module, name) in modules.iter().zip(names) {
         let read = read_string(alloc, file, module.name)?;
@@ -217,7 +204,10 @@ fn reads_modules(rt: HostRuntime) -> Result<(), Fail> {
         return Err("no program database".into());
     };
     // the GUID 01234567-89ab-cdef-f0f1-f2f3f4f5f6f7
-    assert_eq!(rt; guid, b"\x67\x45\x23\x01\xab\x89\xef\xcd\xf0\xf1\xf2\xf3\xf4\xf5\xf6\xf7".as_slice());
+    assert_eq!(rt;
+        guid,
+        b"\x67\x45\x23\x01\xab\x89\xef\xcd\xf0\xf1\xf2\xf3\xf4\xf5\xf6\xf7".as_slice()
+    );
     assert_eq!(rt; (age, path), (3, b"c:\\made\\up.pdb".as_slice()));
     // a record of another kind, and none
     for module in &modules[2..] {

@@ -111,7 +111,10 @@ fn takes_the_first_of_two(rt: HostRuntime) -> Result<(), Fail> {
     let streams = read_streams(alloc, file.as_slice())?;
     let system = read_system_info(file.as_slice(), streams.as_slice())?;
     assert_eq!(rt; system.machine, Machine::Aarch64);
-    assert_eq!(rt; read_exception(file.as_slice(), streams.as_slice()), Ok(None));
+    assert_eq!(rt;
+        read_exception(file.as_slice(), streams.as_slice()),
+        Ok(None)
+    );
     // a range of the second list is moved to the address of the first's, and is longer
     change(&mut file, 0xe08, &[0, 0, 0, 0xf0, 0xff, 0xff, 0, 0])?;
     change(&mut file, 0xe10, &[0x10, 1])?;

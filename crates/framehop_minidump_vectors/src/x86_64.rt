@@ -31,26 +31,17 @@ pub(crate) const PIECES: [(usize, &str); 24] = [
         ae0800000400674799050000f21b000006006747150000008b2100000800674770010000a021000009006747\
         df020000102300000b00674708010000ef25000006000000a8000000f726000005000000240000003f36",
     ),
-    (
-        0xe0,
-        "090000000000000090ac7eaffd7f000000000000018200001801",
-    ),
+    (0xe0, "090000000000000090ac7eaffd7f000000000000018200001801"),
     (
         0x11e,
         "020000000000400000000000b401000000000000c0a7066b1202",
     ),
-    (
-        0x16e,
-        "18000000fa01",
-    ),
+    (0x16e, "18000000fa01"),
     (
         0x18a,
         "0900000000d0fff7ff7f00004215000000000000c0a7066b5802",
     ),
-    (
-        0x1da,
-        "180000004002",
-    ),
+    (0x1da, "180000004002"),
     (
         0x1f6,
         "090000004c457042cb47e4cd805ea4a5d817ed2970d18a00481898ad280000002f007500730072002f006c00\
@@ -63,52 +54,25 @@ pub(crate) const PIECES: [(usize, &str); 24] = [
         0x2c6,
         "0834400000000000f80b0000472a0000d0020000de050000df7a",
     ),
-    (
-        0x2f6,
-        "58edffffff7f0000a80200009f270000d00200000e03",
-    ),
-    (
-        0x33e,
-        "0700100000000000ffffffff0000ffffffffffffffffffff",
-    ),
+    (0x2f6, "58edffffff7f0000a80200009f270000d00200000e03"),
+    (0x33e, "0700100000000000ffffffff0000ffffffffffffffffffff"),
     (
         0x386,
         "a100000000000000c300000000000000d400000000000000b200000000000000d8edffffff7f0000b6000000\
         00000000e500000000000000100000000000000081800000000000009190000000000000a1a0000000000000\
         b1b0000000000000c1c0000000000000d1d0000000000000e1e0000000000000f1f00000000000004e1040",
     ),
-    (
-        0x60e,
-        "0700100000000000ffffffff0000ffffffffffffffffffff",
-    ),
-    (
-        0x656,
-        "fefdffffffffffff881040",
-    ),
-    (
-        0x676,
-        "883440",
-    ),
-    (
-        0x696,
-        "22",
-    ),
-    (
-        0x6ae,
-        "4602",
-    ),
-    (
-        0x6d6,
-        "881040",
-    ),
+    (0x60e, "0700100000000000ffffffff0000ffffffffffffffffffff"),
+    (0x656, "fefdffffffffffff881040"),
+    (0x676, "883440"),
+    (0x696, "22"),
+    (0x6ae, "4602"),
+    (0x6d6, "881040"),
     (
         0x26f7,
         "df7a0000000000000b0000000000000000000000000000004e1040",
     ),
-    (
-        0x2797,
-        "d00200000e03",
-    ),
+    (0x2797, "d00200000e03"),
     (
         0x281f,
         "6a1040000000000000000000000000001011400000000000000000000000000080f0fa020000000000000000\
@@ -130,10 +94,7 @@ pub(crate) const PIECES: [(usize, &str); 24] = [
         "ae9bb3b3d408bfb5144e1283b2d87b257838365f36340000000000000000000000000000002f7573722f6c6f\
         63616c2f62696e2f6372617368002f7573722f6c6f63616c2f62696e2f6372617368",
     ),
-    (
-        0x2ac7,
-        "be1040",
-    ),
+    (0x2ac7, "be1040"),
     (
         0x363f,
         "0200000058edffffff7f0000a80200009f2700000834400000000000f80b0000472a",
@@ -179,13 +140,19 @@ fn reads_header_and_system(rt: HostRuntime) -> Result<(), Fail> {
     let streams = read_streams(alloc, file.as_slice())?;
     assert_eq!(rt; streams.len(), 12);
     let first = first_stream(streams.as_slice(), 0x47670003).ok_or("no cpuinfo")?;
-    assert_eq!(rt; (first.location.size, first.location.offset), (0x1344, 0x8ae));
+    assert_eq!(rt;
+        (first.location.size, first.location.offset),
+        (0x1344, 0x8ae)
+    );
     assert_eq!(rt; first_stream(streams.as_slice(), 9), None);
     let expected = SystemInfo {
         machine: Machine::X86_64,
         platform: 0x8201,
     };
-    assert_eq!(rt; read_system_info(file.as_slice(), streams.as_slice()), Ok(expected));
+    assert_eq!(rt;
+        read_system_info(file.as_slice(), streams.as_slice()),
+        Ok(expected)
+    );
     Ok(())
 }
 
@@ -199,12 +166,18 @@ fn reads_threads(rt: HostRuntime) -> Result<(), Fail> {
     assert_eq!(rt; threads.len(), 2);
     let exception = read_exception(file, streams.as_slice())?.ok_or("no exception")?;
     // SIGSEGV
-    assert_eq!(rt; (exception.tid, exception.code, exception.address), (31455, 11, 0x40104e));
+    assert_eq!(rt;
+        (exception.tid, exception.code, exception.address),
+        (31455, 11, 0x40104e)
+    );
     let waiting = threads.get(0).copied().ok_or("no thread")?;
     assert_eq!(rt; (waiting.tid, waiting.teb), (31458, 0));
     let context = read_located(file, context_of(waiting, Some(exception)))?;
     let registers = x86_64_registers(context).ok_or("no registers")?;
-    assert_eq!(rt; (registers.ip(), registers.sp(), registers.bp()), (0x401088, 0x403488, 0));
+    assert_eq!(rt;
+        (registers.ip(), registers.sp(), registers.bp()),
+        (0x401088, 0x403488, 0)
+    );
     let crashed = threads.get(1).copied().ok_or("no second thread")?;
     assert_eq!(rt; crashed.tid, 31455);
     let context = read_located(file, context_of(crashed, Some(exception)))?;
@@ -214,7 +187,10 @@ fn reads_threads(rt: HostRuntime) -> Result<(), Fail> {
         assert_eq!(rt; registers.get(register), value);
     }
     // the stack reaches from the 128 bytes below rsp to its end
-    assert_eq!(rt; (crashed.stack.start, crashed.stack.size), (0x7fffffffed58, 0x2a8));
+    assert_eq!(rt;
+        (crashed.stack.start, crashed.stack.size),
+        (0x7fffffffed58, 0x2a8)
+    );
     assert!(rt; x86_64_registers(front(context, 0xff)).is_none());
     assert!(rt; x86_64_registers(front(context, 0x100)).is_some());
     Ok(())
@@ -241,7 +217,10 @@ fn reads_modules(rt: HostRuntime) -> Result<(), Fail> {
     let modules = read_modules(alloc, file, streams.as_slice())?;
     assert_eq!(rt; modules.len(), 2);
     for (module, (base, size, name)) in modules.iter().zip(MODULES) {
-        assert_eq!(rt; (module.base, module.size, module.time), (base, size, 0x6b06a7c0));
+        assert_eq!(rt;
+            (module.base, module.size, module.time),
+            (base, size, 0x6b06a7c0)
+        );
         let read = read_string(alloc, file, module.name)?;
         assert_eq!(rt; read.as_str(), name);
     }
@@ -282,10 +261,16 @@ fn reads_memory(rt: HostRuntime) -> Result<(), Fail> {
     }
     let stack = bytes_at(file, ranges.as_slice(), 0x7fffffffed58, 0x2a8);
     assert_eq!(rt; stack.map(|stack| stack.len()), Some(0x2a8));
-    assert_eq!(rt; bytes_at(file, ranges.as_slice(), 0x7fffffffed58, 0x2a9), None);
+    assert_eq!(rt;
+        bytes_at(file, ranges.as_slice(), 0x7fffffffed58, 0x2a9),
+        None
+    );
     // the program's name is the last on its stack
     let name = bytes_from(file, ranges.as_slice(), 0x7fffffffefe3);
-    assert_eq!(rt; name.map(|name| front(name, 21)), Some(b"/usr/local/bin/crash\0".as_slice()));
+    assert_eq!(rt;
+        name.map(|name| front(name, 21)),
+        Some(b"/usr/local/bin/crash\0".as_slice())
+    );
     // where the file is cut off, there are fewer bytes
     let cut = front(file, 0x2a47 + 0x88);
     assert_eq!(rt; word_at(cut, ranges.as_slice(), 0x403488), Some(0x4010be));
