@@ -2,9 +2,10 @@
 //! that it is made of; LLDB 19.1 prints the same registers, threads, memory and build ids, and the name of
 //! each module but the third, whose name is not UTF-16.
 use crate::pieces::file_of;
+use framehop_cfi::bytes::front;
 use framehop_core::aarch64::{PtrAuthMask, UnwindRegsAarch64};
 use framehop_minidump::codeview::{CodeView, read_codeview};
-use framehop_minidump::exception::{context_of, read_exception};
+use framehop_minidump::exception::{Exception, context_of, read_exception};
 use framehop_minidump::location::read_located;
 use framehop_minidump::memory::{read_memory, word_at};
 use framehop_minidump::module::read_modules;
@@ -12,7 +13,7 @@ use framehop_minidump::registers::{aarch64_registers, x86_64_registers};
 use framehop_minidump::stream::read_streams;
 use framehop_minidump::string::read_string;
 use framehop_minidump::system_info::{Machine, SystemInfo, read_system_info};
-use framehop_minidump::thread::read_threads;
+use framehop_minidump::thread::{Thread, read_threads};
 use std::alloc::Global;
 use std::test::Fail;
 
@@ -99,8 +100,71 @@ pub(crate) fn dump(alloc: Global) -> Result<Vec<u8>, Fail> {
     file_of(alloc, SIZE, &PIECES)
 }
 
+/// Returns the bytes of a thread's context: that of the exception if it is of the thread, or its own.
+fn context<'a>(
+    file: &'a [u8],
+    threads: &[Thread],
+    index: usize,
+    exception: Option<Exception>,
+) -> Result<&'a [u8], Fail> {
+    let thread = threads.get(index).copied().ok_or("no such thread")?;
+    Ok(read_located(file, context_of(thread, exception))?)
+}
+
+/// Registers by the thread, whether the exception counts, and the mask: pc, lr, sp and x29. The first thread
+/// has its own, with which it wrote the minidump; the second has the older form of a context.
+const REGISTERS: [(usize, bool, u64, [u64; 4]); 3] = [
+    (
+        0,
+        true,
+        0xff80ffffffffffff,
+        [
+            0xaaaa00000710,
+            0x2daaaa00000748,
+            0xfffff0000000,
+            0xfffff0000010,
+        ],
+    ),
+    (0, false, u64::MAX, [0x4444, 0x2222, 0x3333, 0x1111]),
+    (
+        1,
+        true,
+        u64::MAX,
+        [
+            0xaaaa00000800,
+            0x11aaaa00000900,
+            0xfffff0000800,
+            0xfffff0000810,
+        ],
+    ),
+];
+
 #[test]
-fn reads_threads(rt: HostRuntime) -> Result<(), Fail> {
+fn reads_registers(rt: HostRuntime) -> Result<(), Fail> {
+    let alloc = rt.alloc();
+    let file = dump(alloc)?;
+    let file = file.as_slice();
+    let streams = read_streams(alloc, file)?;
+    let threads = read_threads(alloc, file, streams.as_slice())?;
+    let exception = read_exception(file, streams.as_slice())?;
+    for (index, counts, mask, [pc, lr, sp, fp]) in REGISTERS {
+        let mask = PtrAuthMask(mask);
+        let exception = if counts { exception } else { None };
+        let context = context(file, threads.as_slice(), index, exception)?;
+        let read = aarch64_registers(mask, context).ok_or("no registers")?;
+        let expected = UnwindRegsAarch64::new_with_ptr_auth_mask(mask, lr, sp, fp);
+        assert!(rt; read == (pc, expected));
+        assert!(rt; aarch64_registers(mask, front(context, 0x110)).is_some());
+        assert!(rt; aarch64_registers(mask, front(context, 0x10f)).is_none());
+        assert!(rt; x86_64_registers(context).is_none());
+    }
+    let none = context(file, threads.as_slice(), 2, exception)?;
+    assert!(rt; aarch64_registers(PtrAuthMask::new_no_strip(), none).is_none());
+    Ok(())
+}
+
+#[test]
+fn reads_system_and_threads(rt: HostRuntime) -> Result<(), Fail> {
     let alloc = rt.alloc();
     let file = dump(alloc)?;
     let file = file.as_slice();
@@ -110,41 +174,14 @@ fn reads_threads(rt: HostRuntime) -> Result<(), Fail> {
         platform: 0x8201,
     };
     assert_eq!(rt; read_system_info(file, streams.as_slice()), Ok(system));
-    let exception = read_exception(file, streams.as_slice())?;
     let threads = read_threads(alloc, file, streams.as_slice())?;
     assert_eq!(rt; threads.len(), 3);
     let crashed = threads.get(0).copied().ok_or("no thread")?;
     assert_eq!(rt; (crashed.tid, crashed.teb), (501, 0x700001f5));
-    // the registers of the exception, and not those with which the thread wrote the minidump
-    let context = read_located(file, context_of(crashed, exception))?;
-    let mask = PtrAuthMask(0xff80ffffffffffff);
-    let (pc, registers) = aarch64_registers(mask, context).ok_or("no registers")?;
-    let expected = UnwindRegsAarch64::new_with_ptr_auth_mask(
-        mask,
-        0x2daaaa00000748,
-        0xfffff0000000,
-        0xfffff0000010,
-    );
-    assert_eq!(rt; pc, 0xaaaa00000710);
-    assert!(rt; registers == expected);
-    assert!(rt; x86_64_registers(context).is_none());
-    let own = read_located(file, context_of(crashed, None))?;
-    let (pc, _) = aarch64_registers(mask, own).ok_or("no own registers")?;
-    assert_eq!(rt; pc, 0x4444);
-    // the older form of a context
+    // the second thread's stack is in no list of memory
     let second = threads.get(1).copied().ok_or("no second thread")?;
-    let context = read_located(file, context_of(second, exception))?;
-    let mask = PtrAuthMask::new_no_strip();
-    let (pc, registers) = aarch64_registers(mask, context).ok_or("no registers")?;
-    let expected = UnwindRegsAarch64::new(0x11aaaa00000900, 0xfffff0000800, 0xfffff0000810);
-    assert_eq!(rt; pc, 0xaaaa00000800);
-    assert!(rt; registers == expected);
-    assert!(rt; aarch64_registers(mask, &context[..0x10f]).is_none());
-    assert!(rt; aarch64_registers(mask, &context[..0x110]).is_some());
-    // the third has none
-    let third = threads.get(2).copied().ok_or("no third thread")?;
-    let context = read_located(file, context_of(third, exception))?;
-    assert!(rt; context.is_empty() && aarch64_registers(mask, context).is_none());
+    let word = word_at(file, &[second.stack], 0xfffff0000878);
+    assert_eq!(rt; word, Some(0x6000000f));
     Ok(())
 }
 
@@ -169,13 +206,6 @@ fn reads_both_lists_of_memory(rt: HostRuntime) -> Result<(), Fail> {
     ] {
         assert_eq!(rt; word_at(file, ranges.as_slice(), address), word);
     }
-    // the second thread's stack is in no list: its range is the thread's
-    let threads = read_threads(alloc, file, streams.as_slice())?;
-    let second = threads.get(1).copied().ok_or("no second thread")?;
-    assert_eq!(rt;
-        word_at(file, &[second.stack], 0xfffff0000878),
-        Some(0x6000000f)
-    );
     Ok(())
 }
 
@@ -210,7 +240,7 @@ fn reads_modules(rt: HostRuntime) -> Result<(), Fail> {
     );
     assert_eq!(rt; (age, path), (3, b"c:\\made\\up.pdb".as_slice()));
     // a record of another kind, and none
-    for module in &modules[2..] {
+    for module in modules.iter().skip(2) {
         assert!(rt; read_codeview(file, module.codeview)?.is_none());
     }
     Ok(())
