@@ -30,6 +30,7 @@ LIBRARIES = [
     "framehop_recording",
     "framehop_elf",
     "framehop_core_file",
+    "framehop_minidump",
     "framehop_explain",
     "framehop_processes",
     "framehop_stacks",

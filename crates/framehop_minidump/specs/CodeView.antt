@@ -1,0 +1,40 @@
+-- Which file a module is of: MDCVInfoPDB70 and MDCVInfoELF of Breakpad's minidump_format.h.
+use Rattle.std.specs.Prelude.{ℕ, List, length, take, drop, Option, Some, None, Result, Ok, Err, nat_lt, ◌==◌, if◌then◌else◌}
+use Rattle.framehop_cfi.specs.Bytes.{◌>>=◌, le4}
+use Rattle.framehop_elf.specs.Section.{string_of}
+use Rattle.framehop_minidump.specs.Numbers.{RSDS, MD_CVINFOELF_SIGNATURE}
+use Rattle.framehop_minidump.specs.Location.{located}
+use Rattle.framehop_minidump.specs.declared.codeview.CodeView.{CodeView}
+use Rattle.framehop_minidump.specs.declared.codeview.CodeView.TheVariants.{Pdb, Elf}
+use Rattle.framehop_minidump.specs.declared.error.MinidumpError.{MinidumpError}
+use Rattle.framehop_minidump.specs.declared.error.MinidumpError.TheVariants.{ShortCodeView}
+use Rattle.framehop_minidump.specs.declared.location.Location.{Location}
+
+-- a record by its values: the GUID, the age and the path of a program database, or a build id
+pub data CodeViewView : Type 0 where
+  of_pdb : List ℕ → ℕ → List ℕ → CodeViewView
+  of_elf : List ℕ → CodeViewView
+
+abbrev pub codeview_view : CodeView → CodeViewView
+codeview_view (Pdb guid age path) = of_pdb guid.now age path.now
+codeview_view (Elf build_id) = of_elf build_id.now
+
+-- "RSDS", Signature, Age and PdbFileName, which ends with a 0
+abbrev pub pdb_in : ℕ → List ℕ → Result (Option CodeViewView) MinidumpError
+pdb_in offset bytes =
+    if nat_lt (length bytes) 24 then Err (ShortCodeView offset)
+    else Ok (Some (of_pdb (take 16 (drop 4 bytes)) (le4 bytes 20) (string_of bytes 24)))
+
+-- "LEpB" and the build id; other records are passed over
+unfoldable pub codeview_in : ℕ → List ℕ → Result (Option CodeViewView) MinidumpError
+codeview_in offset bytes =
+    if nat_lt (length bytes) 4 then Err (ShortCodeView offset)
+    else if le4 bytes 0 == RSDS then pdb_in offset bytes
+    else if le4 bytes 0 == MD_CVINFOELF_SIGNATURE then Ok (Some (of_elf (drop 4 bytes)))
+    else Ok None
+
+-- the record at a location, or none where that has no bytes
+unfoldable pub codeview_of : List ℕ → Location → Result (Option CodeViewView) MinidumpError
+codeview_of file location = if location.size == 0 then Ok None else (do
+  bytes ← located file location
+  codeview_in location.offset bytes)

@@ -1,0 +1,15 @@
+-- What the contracts of this crate cite: the parts of a minidump.
+pub mod Numbers
+pub mod Location
+pub mod Header
+pub mod Stream
+pub mod List
+pub mod SystemInfo
+pub mod Gathered
+pub mod Memory
+pub mod Thread
+pub mod Exception
+pub mod Registers
+pub mod Module
+pub mod String
+pub mod CodeView

@@ -1,0 +1,81 @@
+-- The memory of a process, as far as a minidump has it: MINIDUMP_MEMORY_LIST and MINIDUMP_MEMORY64_LIST.
+use Rattle.std.specs.Prelude.{ℕ, ◌+◌, ◌-◌, ◌*◌, ◌^◌, List, [], ◌∷◌, ◌++◌, map, length, take, drop, Bool, Option, Some, None, option_map, Result, Ok, Err, nat_le, nat_lt, ◌&&◌, ◌==◌, if◌then◌else◌}
+use Rattle.std.specs.List.{find}
+use Rattle.framehop_cfi.specs.Bytes.{◌>>=◌, le4, le8}
+use Rattle.framehop_minidump.specs.Numbers.{MemoryListStream, Memory64ListStream, MEMORY_DESCRIPTOR_SIZE}
+use Rattle.framehop_minidump.specs.Location.{located, entries_in}
+use Rattle.framehop_minidump.specs.Stream.{stream_of}
+use Rattle.framehop_minidump.specs.List.{list_of}
+use Rattle.framehop_minidump.specs.declared.error.MinidumpError.{MinidumpError}
+use Rattle.framehop_minidump.specs.declared.error.MinidumpError.TheVariants.{ShortStream, BadListSize, OffsetTooBig}
+use Rattle.framehop_minidump.specs.declared.memory.MemoryRange.{MemoryRange}
+use Rattle.framehop_minidump.specs.declared.stream.Stream.{Stream}
+
+-- MINIDUMP_MEMORY_DESCRIPTOR: StartOfMemoryRange, DataSize and Rva
+abbrev pub descriptor_at : List ℕ → ℕ → MemoryRange
+descriptor_at entry at = record { start = le8 entry at; size = le4 entry (at + 8); offset = le4 entry (at + 12) }
+
+abbrev pub range_at : List ℕ → MemoryRange
+range_at entry = descriptor_at entry 0
+
+-- the entries of MINIDUMP_MEMORY_LIST
+unfoldable pub short_entries_of : List ℕ → List Stream → Result (List (List ℕ)) MinidumpError
+short_entries_of file streams = do
+  list ← list_of file streams MemoryListStream MEMORY_DESCRIPTOR_SIZE
+  Ok (entries_in MEMORY_DESCRIPTOR_SIZE list)
+
+-- BaseRva and the entries of MINIDUMP_MEMORY64_LIST: NumberOfMemoryRanges, BaseRva, and so many
+unfoldable pub long_list_in : ℕ → List ℕ → Result (ℕ × List (List ℕ)) MinidumpError
+long_list_in offset list =
+    if nat_lt (length list) 16 then Err (ShortStream offset)
+    else if length list == 16 + 16 * le8 list 0 then Ok (le8 list 8, entries_in MEMORY_DESCRIPTOR_SIZE (drop 16 list))
+    else Err (BadListSize offset)
+
+abbrev pub long_list_found : List ℕ → Option Stream → Result (ℕ × List (List ℕ)) MinidumpError
+long_list_found file None = Ok (0, [])
+long_list_found file (Some stream) = located file stream.location >>= (λ list. long_list_in stream.location.offset list)
+
+unfoldable pub long_list_of : List ℕ → List Stream → Result (ℕ × List (List ℕ)) MinidumpError
+long_list_of file streams = long_list_found file (stream_of streams Memory64ListStream)
+
+-- MINIDUMP_MEMORY_DESCRIPTOR64: StartOfMemoryRange and DataSize. The bytes of the first range are at an offset of the
+-- file, and those of each other after those of the one before it.
+unfoldable pub ranges_from : ℕ → List (List ℕ) → Result (List MemoryRange) MinidumpError
+ranges_from offset [] = Ok []
+ranges_from offset (entry ∷ entries) =
+    if nat_lt (offset + le8 entry 8) (2 ^ 64) then (do
+      others ← ranges_from (offset + le8 entry 8) entries
+      Ok (record { start = le8 entry 0; size = le8 entry 8; offset = offset } ∷ others)) else Err (OffsetTooBig offset)
+
+-- the ranges of a file: those of the first list, and then those of the second
+unfoldable pub ranges_of : List ℕ → List Stream → Result (List MemoryRange) MinidumpError
+ranges_of file streams = do
+  short ← short_entries_of file streams
+  long ← long_list_of file streams
+  ranges ← ranges_from long.0 long.1
+  Ok (map range_at short ++ ranges)
+
+-- the bytes of a range that the file has: fewer where the file is cut off
+abbrev pub dumped : List ℕ → MemoryRange → List ℕ
+dumped file range = take range.size (drop range.offset file)
+
+-- a range has so many bytes from an address on
+abbrev pub has : List ℕ → ℕ → ℕ → MemoryRange → Bool
+has file address size range =
+    nat_le range.start address && nat_le (address + size) (range.start + length (dumped file range))
+
+abbrev pub bytes_in : List ℕ → ℕ → ℕ → MemoryRange → List ℕ
+bytes_in file address size range = take size (drop (address - range.start) (dumped file range))
+
+-- so many bytes from an address on: those of the first range that has all of them
+abbrev pub memory_of : List ℕ → List MemoryRange → ℕ → ℕ → Option (List ℕ)
+memory_of file ranges address size = option_map (bytes_in file address size) (find (has file address size) ranges)
+
+-- those from an address on, as far as the range has them: of the first that has the one there
+abbrev pub memory_from : List ℕ → List MemoryRange → ℕ → Option (List ℕ)
+memory_from file ranges address =
+    option_map (λ range. drop (address - range.start) (dumped file range)) (find (has file address 1) ranges)
+
+-- the word of eight bytes at an address
+abbrev pub word_of : List ℕ → List MemoryRange → ℕ → Option ℕ
+word_of file ranges address = option_map (λ bytes. le8 bytes 0) (memory_of file ranges address 8)

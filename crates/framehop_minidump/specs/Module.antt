@@ -1,0 +1,31 @@
+-- The modules of a process: MINIDUMP_MODULE, of 108 bytes.
+use Rattle.std.specs.Prelude.{ℕ, List, map, Result, Ok}
+use Rattle.framehop_cfi.specs.Bytes.{◌>>=◌, le4, le8}
+use Rattle.framehop_minidump.specs.Numbers.{ModuleListStream, MODULE_SIZE}
+use Rattle.framehop_minidump.specs.Location.{location_at, entries_in}
+use Rattle.framehop_minidump.specs.List.{list_of}
+use Rattle.framehop_minidump.specs.declared.error.MinidumpError.{MinidumpError}
+use Rattle.framehop_minidump.specs.declared.module.Module.{Module}
+use Rattle.framehop_minidump.specs.declared.stream.Stream.{Stream}
+
+-- BaseOfImage, SizeOfImage, CheckSum, TimeDateStamp, ModuleNameRva, and CvRecord after VersionInfo, which has 52 bytes
+abbrev pub module_at : List ℕ → Module
+module_at entry = record {
+  base = le8 entry 0;
+  size = le4 entry 8;
+  checksum = le4 entry 12;
+  time = le4 entry 16;
+  name = le4 entry 20;
+  codeview = location_at entry 76;
+}
+
+unfoldable pub module_entries_of : List ℕ → List Stream → Result (List (List ℕ)) MinidumpError
+module_entries_of file streams = do
+  list ← list_of file streams ModuleListStream MODULE_SIZE
+  Ok (entries_in MODULE_SIZE list)
+
+-- the modules of a file
+unfoldable pub modules_of : List ℕ → List Stream → Result (List Module) MinidumpError
+modules_of file streams = do
+  entries ← module_entries_of file streams
+  Ok (map module_at entries)

@@ -1,0 +1,30 @@
+-- The threads of a process: MINIDUMP_THREAD, of 48 bytes.
+use Rattle.std.specs.Prelude.{ℕ, List, map, Result, Ok}
+use Rattle.framehop_cfi.specs.Bytes.{◌>>=◌, le4, le8}
+use Rattle.framehop_minidump.specs.Numbers.{ThreadListStream, THREAD_SIZE}
+use Rattle.framehop_minidump.specs.Location.{location_at, entries_in}
+use Rattle.framehop_minidump.specs.List.{list_of}
+use Rattle.framehop_minidump.specs.Memory.{descriptor_at}
+use Rattle.framehop_minidump.specs.declared.error.MinidumpError.{MinidumpError}
+use Rattle.framehop_minidump.specs.declared.stream.Stream.{Stream}
+use Rattle.framehop_minidump.specs.declared.thread.Thread.{Thread}
+
+-- ThreadId, Teb, Stack and ThreadContext; SuspendCount and the priorities are passed over
+abbrev pub thread_at : List ℕ → Thread
+thread_at entry = record {
+  tid = le4 entry 0;
+  teb = le8 entry 16;
+  stack = descriptor_at entry 24;
+  context = location_at entry 40;
+}
+
+unfoldable pub thread_entries_of : List ℕ → List Stream → Result (List (List ℕ)) MinidumpError
+thread_entries_of file streams = do
+  list ← list_of file streams ThreadListStream THREAD_SIZE
+  Ok (entries_in THREAD_SIZE list)
+
+-- the threads of a file
+unfoldable pub threads_of : List ℕ → List Stream → Result (List Thread) MinidumpError
+threads_of file streams = do
+  entries ← thread_entries_of file streams
+  Ok (map thread_at entries)

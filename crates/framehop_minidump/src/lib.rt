@@ -1,0 +1,18 @@
+//! Reads minidumps (Microsoft's `minidumpapiset.h`; Breakpad's `minidump_format.h`): what an unwinder needs
+//! of a process that is gone. Each reader is given the bytes of the whole file and lends from them.
+#![tactic(auto)]
+
+pub mod codeview;
+pub mod error;
+pub mod exception;
+mod gathered;
+pub mod header;
+mod list;
+pub mod location;
+pub mod memory;
+pub mod module;
+pub mod registers;
+pub mod stream;
+pub mod string;
+pub mod system_info;
+pub mod thread;

@@ -1,0 +1,257 @@
+//! The memory of a process, as far as a minidump has it.
+ghost use Rattle.std.specs.Prelude.{◌≡◌, ◌+◌, ◌≤◌, ◌++◌, List, IfSome, true, Ok, Err, MatchResult, find, option_map, length, map};
+ghost use Rattle.framehop_minidump.specs.declared.memory.MemoryRange.{MemoryRange};
+ghost use Rattle.framehop_minidump.specs.Gathered.{IsGathered};
+ghost use Rattle.framehop_minidump.specs.Location.{IsErrorOf};
+ghost use Rattle.framehop_minidump.specs.Memory.{descriptor_at, range_at, short_entries_of, long_list_in, long_list_of, ranges_from, ranges_of, dumped, has, memory_of, memory_from, word_of};
+
+use crate::error::MinidumpError;
+use crate::gathered::pushed;
+use crate::list::read_list;
+use crate::location::read_located;
+use crate::stream::{Stream, first_stream};
+use framehop_cfi::bytes::front;
+use framehop_elf::bytes::{back, u32_at, u64_at};
+use std::alloc::{AllocError, Global};
+
+/// `MemoryListStream`.
+const MEMORY_LIST_STREAM: u32 = 5;
+
+/// `Memory64ListStream`.
+const MEMORY64_LIST_STREAM: u32 = 9;
+
+/// The size of an entry of both lists, in bytes.
+const ENTRY_SIZE: usize = 16;
+
+/// The size of what is before the entries of the second: their number, and where the bytes begin.
+const LONG_HEADER_SIZE: u64 = 16;
+
+/// A range of memory: `MINIDUMP_MEMORY_DESCRIPTOR` or `MINIDUMP_MEMORY_DESCRIPTOR64`.
+#[derive(Clone, Copy, Debug, PartialEq, Eq)]
+pub struct MemoryRange {
+    /// Its first address (AVMA): `StartOfMemoryRange`.
+    pub start: u64,
+    /// Its size, in bytes: `DataSize`.
+    pub size: u64,
+    /// Where its bytes begin, in bytes from the start of the file.
+    pub offset: u64,
+}
+
+/// Returns the range of a descriptor of 32 bits at an offset of an entry.
+pub(crate) fn descriptor_at(entry: &[u8], at: usize) -> MemoryRange
+    requires { at + 16 ≤ length entry.now }
+    ensures { result ≡ descriptor_at entry.now at }
+{
+    MemoryRange {
+        start: u64_at(entry, at),
+        size: u64::from(u32_at(entry, at + 8)),
+        offset: u64::from(u32_at(entry, at + 12)),
+    }
+}
+
+/// Returns the range of an entry of the list of type `MemoryListStream`.
+fn range_at(entry: &[u8; ENTRY_SIZE]) -> MemoryRange
+    ensures { result ≡ range_at entry.now }
+{
+    descriptor_at(entry, 0)
+}
+
+/// Returns the entries of the list of type `MemoryListStream`.
+#[tactic(auto, unfolding(crate::specs::Memory::short_entries_of))]
+fn short_entries<'a>(
+    file: &'a [u8],
+    streams: &[Stream],
+) -> Result<&'a [[u8; ENTRY_SIZE]], MinidumpError>
+    ensures { MatchResult result
+        (λ entries. short_entries_of file.entry.now streams.now ≡ Ok entries.now)
+        (λ error. short_entries_of file.entry.now streams.now ≡ Err error) }
+{
+    let list = read_list(file, streams, MEMORY_LIST_STREAM, ENTRY_SIZE as u64)?;
+    let (entries, _) = list.as_chunks::<ENTRY_SIZE>();
+    Ok(entries)
+}
+
+/// Returns where the bytes of the first range begin, and the entries, of a list of type
+/// `Memory64ListStream` that is at an offset of the file.
+#[tactic(auto, unfolding(crate::specs::Memory::long_list_in))]
+fn long_list_in(offset: u64, list: &[u8]) -> Result<(u64, &[[u8; ENTRY_SIZE]]), MinidumpError>
+    ensures { MatchResult result
+        (λ read. long_list_in offset list.entry.now ≡ Ok (read.0, read.1.now))
+        (λ error. long_list_in offset list.entry.now ≡ Err error) }
+{
+    let length = list.len() as u64;
+    if length < LONG_HEADER_SIZE {
+        return Err(MinidumpError::ShortStream { offset });
+    }
+    let size = length - LONG_HEADER_SIZE;
+    let entry_size = ENTRY_SIZE as u64;
+    if size % entry_size != 0 || size / entry_size != u64_at(list, 0) {
+        return Err(MinidumpError::BadListSize { offset });
+    }
+    let (entries, _) = back(list, LONG_HEADER_SIZE).as_chunks::<ENTRY_SIZE>();
+    Ok((u64_at(list, 8), entries))
+}
+
+/// Returns where the bytes of the first range begin, and the entries, of the list of type
+/// `Memory64ListStream`: none where there is no such stream.
+#[tactic(auto, unfolding(crate::specs::Memory::long_list_of))]
+fn long_list<'a>(
+    file: &'a [u8],
+    streams: &[Stream],
+) -> Result<(u64, &'a [[u8; ENTRY_SIZE]]), MinidumpError>
+    ensures { MatchResult result
+        (λ read. long_list_of file.entry.now streams.now ≡ Ok (read.0, read.1.now))
+        (λ error. long_list_of file.entry.now streams.now ≡ Err error) }
+{
+    let Some(stream) = first_stream(streams, MEMORY64_LIST_STREAM) else {
+        return Ok((0, &[]));
+    };
+    let list = read_located(file, stream.location)?;
+    long_list_in(u64::from(stream.location.offset), list)
+}
+
+/// Returns the ranges of these entries of the list of type `MemoryListStream`, or `None` where an
+/// allocation fails.
+fn short_ranges(alloc: Global, entries: &[[u8; ENTRY_SIZE]]) -> Option<Vec<MemoryRange>>
+    ensures { IsGathered (map range_at entries.now) result }
+{
+    let ranges: Result<Vec<MemoryRange>, AllocError> = entries
+        .iter()
+        .map(|entry| range_at(entry))
+        .collect(alloc);
+    match ranges {
+        Ok(ranges) => Some(ranges),
+        Err(_) => None,
+    }
+}
+
+/// Returns the ranges with those of these entries of the list of type `Memory64ListStream`, whose bytes lie
+/// one after another from an offset of the file on.
+fn with_long_ranges(
+    ranges: Option<Vec<MemoryRange>>,
+    base: u64,
+    entries: &[[u8; ENTRY_SIZE]],
+) -> Result<Option<Vec<MemoryRange>>, MinidumpError>
+    ensures exact { MatchResult result
+        (λ all. (read : List MemoryRange) × (ranges_from base entries.now ≡ Ok read) × ((list : List MemoryRange) → IsGathered list ranges → IsGathered (list ++ read) all))
+        (λ error. ranges_from base entries.now ≡ Err error) }
+{
+    let mut ranges = ranges;
+    let mut offset = base;
+    for entry in entries {
+        let start = u64_at(entry, 0);
+        let size = u64_at(entry, 8);
+        let Some(end) = offset.checked_add(size) else {
+            return Err(MinidumpError::OffsetTooBig { offset });
+        };
+        ranges = pushed(
+            ranges,
+            MemoryRange {
+                start,
+                size,
+                offset,
+            },
+        );
+        offset = end;
+    }
+    Ok(ranges)
+}
+
+/// Reads which memory of the process the minidump has: the ranges of the first stream of type
+/// `MemoryListStream`, and after them those of the first of type `Memory64ListStream`.
+///
+/// # Errors
+///
+/// The first of these, of the first stream and then of the second:
+///
+/// - `Eof` where the file ends before the stream does;
+/// - `ShortStream` where it ends before its entries begin;
+/// - `BadListSize` where its size is not that of so many entries; in the first, four bytes of padding may
+///   come after their number;
+/// - `OffsetTooBig` where a range of the second ends at an offset of the file that does not fit 64 bits.
+///
+/// Else `OutOfMemory`.
+///
+/// Source: `minidumpapiset.h`, `MINIDUMP_MEMORY_LIST` and `MINIDUMP_MEMORY64_LIST`.
+#[tactic(auto, unfolding(crate::specs::Memory::ranges_of))]
+pub fn read_memory(
+    alloc: Global,
+    file: &[u8],
+    streams: &[Stream],
+) -> Result<Vec<MemoryRange>, MinidumpError>
+    ensures { MatchResult result
+        (λ ranges. ranges_of file.now streams.now ≡ Ok ranges.items)
+        (λ error. IsErrorOf (ranges_of file.now streams.now) error) }
+{
+    let short = short_entries(file, streams)?;
+    let (base, long) = long_list(file, streams)?;
+    match with_long_ranges(short_ranges(alloc, short), base, long)? {
+        Some(ranges) => Ok(ranges),
+        None => Err(MinidumpError::OutOfMemory),
+    }
+}
+
+/// Returns the bytes of a range that the file has.
+fn dumped(file: &[u8], range: MemoryRange) -> &[u8]
+    ensures { result.now ≡ dumped file.entry.now range }
+{
+    front(back(file, range.offset), range.size as usize)
+}
+
+/// Returns whether a range has so many bytes from an address on.
+fn has(file: &[u8], range: MemoryRange, address: u64, size: u64) -> bool
+    ensures { result ≡ has file.now address size range }
+{
+    let available = dumped(file, range).len() as u64;
+    range.start <= address && size <= available && address - range.start <= available - size
+}
+
+/// Returns the first range that has so many bytes from an address on.
+fn range_with(file: &[u8], ranges: &[MemoryRange], address: u64, size: u64) -> Option<MemoryRange>
+    ensures first { result ≡ find (has file.now address size) ranges.now }
+    ensures found { IfSome result (λ range. has file.now address size range ≡ true) }
+{
+    for range in ranges {
+        if has(file, *range, address, size) {
+            return Some(*range);
+        }
+    }
+    None
+}
+
+/// Returns so many bytes of memory from an address (AVMA) on, if the file has them: those of the first
+/// range that has all of them. A file that is cut off has fewer bytes of a range.
+///
+/// Source: `minidumpapiset.h`, `MINIDUMP_MEMORY_DESCRIPTOR`.
+pub fn bytes_at<'a>(
+    file: &'a [u8],
+    ranges: &[MemoryRange],
+    address: u64,
+    size: u64,
+) -> Option<&'a [u8]>
+    ensures exact { option_map (λ bytes. bytes.now) result ≡ memory_of file.entry.now ranges.now address size }
+    ensures whole { IfSome result (λ bytes. length bytes.now ≡ size) }
+{
+    let range = range_with(file, ranges, address, size)?;
+    let bytes = back(dumped(file, range), address - range.start);
+    Some(front(bytes, size as usize))
+}
+
+/// Returns the bytes of memory from an address (AVMA) on, as far as the range has them, if the file has the
+/// one there: those of the first range that has it.
+///
+/// Source: `minidumpapiset.h`, `MINIDUMP_MEMORY_DESCRIPTOR`.
+pub fn bytes_from<'a>(file: &'a [u8], ranges: &[MemoryRange], address: u64) -> Option<&'a [u8]>
+    ensures { option_map (λ bytes. bytes.now) result ≡ memory_from file.entry.now ranges.now address }
+{
+    let range = range_with(file, ranges, address, 1)?;
+    Some(back(dumped(file, range), address - range.start))
+}
+
+/// Returns the word of eight bytes at an address (AVMA), if the file has them: as [`bytes_at`] has them.
+pub fn word_at(file: &[u8], ranges: &[MemoryRange], address: u64) -> Option<u64>
+    ensures { result ≡ word_of file.now ranges.now address }
+{
+    let bytes = bytes_at(file, ranges, address, 8)?;
+    Some(u64_at(bytes, 0))
+}

@@ -1,0 +1,68 @@
+//! The strings of a minidump.
+ghost use Rattle.std.specs.Prelude.{◌≡◌, ◌^◌, ◌<◌, Ok, Err, MatchResult, IfOk, map, string_bytes};
+ghost use Rattle.framehop_minidump.specs.Location.{IsErrorOf};
+ghost use Rattle.framehop_minidump.specs.String.{unit_at, units_of, text_of, string_of};
+
+use crate::error::MinidumpError;
+use crate::location::read_block;
+use framehop_elf::bytes::{u16_at, u32_at};
+use std::alloc::{AllocError, Global};
+
+/// The size of what is before a string, in bytes.
+const LENGTH_SIZE: u64 = 4;
+
+/// The size of a unit of UTF-16, in bytes.
+const UNIT_SIZE: usize = 2;
+
+/// Returns the bytes of the units of the string at an offset of the file.
+#[tactic(auto, unfolding(crate::specs::String::units_of))]
+fn units_at(file: &[u8], offset: u64) -> Result<&[[u8; UNIT_SIZE]], MinidumpError>
+    requires { offset < 2 ^ 32 }
+    ensures { MatchResult result
+        (λ units. units_of file.entry.now offset ≡ Ok (map unit_at units.now))
+        (λ error. units_of file.entry.now offset ≡ Err error) }
+{
+    let length = u32_at(read_block(file, offset, LENGTH_SIZE)?, 0);
+    if length % 2 != 0 {
+        return Err(MinidumpError::OddString { offset });
+    }
+    let block = read_block(file, offset + LENGTH_SIZE, u64::from(length))?;
+    let (units, _) = block.as_chunks::<UNIT_SIZE>();
+    Ok(units)
+}
+
+/// Returns the units that have these bytes.
+fn units(alloc: Global, units: &[[u8; UNIT_SIZE]]) -> Result<Vec<u16>, AllocError>
+    ensures { IfOk result (λ read. read.items ≡ map unit_at units.now) }
+{
+    units.iter().map(|unit| u16_at(unit, 0)).collect(alloc)
+}
+
+/// Returns the text of these units.
+fn text(alloc: Global, bytes: &[[u8; UNIT_SIZE]]) -> Result<String, AllocError>
+    ensures { IfOk result (λ text. string_bytes text ≡ text_of (map unit_at bytes.now)) }
+{
+    let units = units(alloc, bytes)?;
+    String::from_utf16_lossy(alloc, units.as_slice())
+}
+
+/// Reads the string at an offset of the file. Each surrogate that has no partner becomes U+FFFD.
+///
+/// # Errors
+///
+/// `Eof` where the file ends before the string does, and `OddString` where its bytes are an odd number; else
+/// `OutOfMemory`.
+///
+/// Source: `minidumpapiset.h`, `MINIDUMP_STRING`.
+#[tactic(auto, unfolding(crate::specs::String::string_of))]
+pub fn read_string(alloc: Global, file: &[u8], offset: u32) -> Result<String, MinidumpError>
+    ensures { MatchResult result
+        (λ text. string_of file.now offset ≡ Ok (string_bytes text))
+        (λ error. IsErrorOf (string_of file.now offset) error) }
+{
+    let units = units_at(file, u64::from(offset))?;
+    match text(alloc, units) {
+        Ok(text) => Ok(text),
+        Err(_) => Err(MinidumpError::OutOfMemory),
+    }
+}

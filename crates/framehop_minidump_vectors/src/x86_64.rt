@@ -1,0 +1,279 @@
+//! A minidump of x86_64 that LLDB 19.1 wrote on Linux 6.18 (`process save-core --plugin-name=minidump --style
+//! stack`) for the program of `framehop_core_file_vectors/scripts/crash.c`. The bytes of the streams of text
+//! that Linux has in `/proc` are 0. The expected values are those that LLDB printed of the process:
+//! `register read`, `thread list`, `thread backtrace all` and `image list`.
+use crate::pieces::file_of;
+use framehop_cfi::bytes::front;
+use framehop_core::x86_64::Reg;
+use framehop_minidump::codeview::{CodeView, read_codeview};
+use framehop_minidump::exception::{context_of, read_exception};
+use framehop_minidump::header::{Header, read_header};
+use framehop_minidump::location::read_located;
+use framehop_minidump::memory::{bytes_at, bytes_from, read_memory, word_at};
+use framehop_minidump::module::read_modules;
+use framehop_minidump::registers::x86_64_registers;
+use framehop_minidump::stream::{first_stream, read_streams};
+use framehop_minidump::string::read_string;
+use framehop_minidump::system_info::{Machine, SystemInfo, read_system_info};
+use framehop_minidump::thread::read_threads;
+use std::alloc::Global;
+use std::test::Fail;
+
+/// How many bytes the file has.
+pub(crate) const SIZE: usize = 0x3663;
+
+/// Its bytes that are not 0, by their offsets.
+pub(crate) const PIECES: [(usize, &str); 24] = [
+    (
+        0x0,
+        "4d444d5093a700000c0000002000000000000000c0a7066b00000000000000000700000038000000e0000000\
+        04000000dc0000001e0100000f00000018000000920200000300000064000000aa0200000300674744130000\
+        ae0800000400674799050000f21b000006006747150000008b2100000800674770010000a021000009006747\
+        df020000102300000b00674708010000ef25000006000000a8000000f726000005000000240000003f36",
+    ),
+    (0xe0, "090000000000000090ac7eaffd7f000000000000018200001801"),
+    (
+        0x11e,
+        "020000000000400000000000b401000000000000c0a7066b1202",
+    ),
+    (0x16e, "18000000fa01"),
+    (
+        0x18a,
+        "0900000000d0fff7ff7f00004215000000000000c0a7066b5802",
+    ),
+    (0x1da, "180000004002"),
+    (
+        0x1f6,
+        "090000004c457042cb47e4cd805ea4a5d817ed2970d18a00481898ad280000002f007500730072002f006c00\
+        6f00630061006c002f00620069006e002f006300720061007300680000004c45704233876398737cab544642\
+        6103634a9c4cb686983b340000005b007600640073006f005d00280030007800300030003000300037006600\
+        6600660066003700660066006400300030003000290000001800000001000000df7a000000000000b8ab7eaf\
+        fd7f000002000000e27a",
+    ),
+    (
+        0x2c6,
+        "0834400000000000f80b0000472a0000d0020000de050000df7a",
+    ),
+    (0x2f6, "58edffffff7f0000a80200009f270000d00200000e03"),
+    (0x33e, "0700100000000000ffffffff0000ffffffffffffffffffff"),
+    (
+        0x386,
+        "a100000000000000c300000000000000d400000000000000b200000000000000d8edffffff7f0000b6000000\
+        00000000e500000000000000100000000000000081800000000000009190000000000000a1a0000000000000\
+        b1b0000000000000c1c0000000000000d1d0000000000000e1e0000000000000f1f00000000000004e1040",
+    ),
+    (0x60e, "0700100000000000ffffffff0000ffffffffffffffffffff"),
+    (0x656, "fefdffffffffffff881040"),
+    (0x676, "883440"),
+    (0x696, "22"),
+    (0x6ae, "4602"),
+    (0x6d6, "881040"),
+    (
+        0x26f7,
+        "df7a0000000000000b0000000000000000000000000000004e1040",
+    ),
+    (0x2797, "d00200000e03"),
+    (
+        0x281f,
+        "6a1040000000000000000000000000001011400000000000000000000000000080f0fa020000000000000000\
+        0000000060104000000000000100000000000000ceefffffff7f",
+    ),
+    (
+        0x2877,
+        "210000000000000000d0fff7ff7f00003300000000000000300e0000000000001000000000000000fffb8b1f\
+        0000000006000000000000000010000000000000110000000000000064000000000000000300000000000000\
+        4000400000000000040000000000000038000000000000000500000000000000060000000000000007000000\
+        0000000000000000000000000800000000000000000000000000000009000000000000005510400000000000\
+        0b0000000000000000000000000000000c0000000000000000000000000000000d0000000000000000000000\
+        000000000e000000000000000000000000000000170000000000000000000000000000001900000000000000\
+        a9efffffff7f00001a0000000000000002000000000000001f00000000000000e3efffffff7f00000f000000\
+        00000000b9efffffff7f00001b000000000000001c000000000000001c0000000000000020",
+    ),
+    (
+        0x29f0,
+        "ae9bb3b3d408bfb5144e1283b2d87b257838365f36340000000000000000000000000000002f7573722f6c6f\
+        63616c2f62696e2f6372617368002f7573722f6c6f63616c2f62696e2f6372617368",
+    ),
+    (0x2ac7, "be1040"),
+    (
+        0x363f,
+        "0200000058edffffff7f0000a80200009f2700000834400000000000f80b0000472a",
+    ),
+];
+
+/// The minidump.
+pub(crate) fn dump(alloc: Global) -> Result<Vec<u8>, Fail> {
+    file_of(alloc, SIZE, &PIECES)
+}
+
+/// What LLDB prints of the registers of the thread that crashed.
+const REGISTERS: [(Reg, u64); 16] = [
+    (Reg::RAX, 0xa1),
+    (Reg::RBX, 0xb2),
+    (Reg::RCX, 0xc3),
+    (Reg::RDX, 0xd4),
+    (Reg::RSI, 0xe5),
+    (Reg::RDI, 0x10),
+    (Reg::RBP, 0xb6),
+    (Reg::RSP, 0x7fffffffedd8),
+    (Reg::R8, 0x8081),
+    (Reg::R9, 0x9091),
+    (Reg::R10, 0xa0a1),
+    (Reg::R11, 0xb0b1),
+    (Reg::R12, 0xc0c1),
+    (Reg::R13, 0xd0d1),
+    (Reg::R14, 0xe0e1),
+    (Reg::R15, 0xf0f1),
+];
+
+#[test]
+fn reads_header_and_system(rt: HostRuntime) -> Result<(), Fail> {
+    let alloc = rt.alloc();
+    let file = dump(alloc)?;
+    // 25 November 2026, 09:17:52 UTC
+    let expected = Header {
+        stream_count: 12,
+        directory: 0x20,
+        time: 0x6b06a7c0,
+    };
+    assert_eq!(rt; read_header(file.as_slice()), Ok(expected));
+    let streams = read_streams(alloc, file.as_slice())?;
+    assert_eq!(rt; streams.len(), 12);
+    let first = first_stream(streams.as_slice(), 0x47670003).ok_or("no cpuinfo")?;
+    assert_eq!(rt;
+        (first.location.size, first.location.offset),
+        (0x1344, 0x8ae)
+    );
+    assert_eq!(rt; first_stream(streams.as_slice(), 9), None);
+    let expected = SystemInfo {
+        machine: Machine::X86_64,
+        platform: 0x8201,
+    };
+    assert_eq!(rt;
+        read_system_info(file.as_slice(), streams.as_slice()),
+        Ok(expected)
+    );
+    Ok(())
+}
+
+#[test]
+fn reads_threads(rt: HostRuntime) -> Result<(), Fail> {
+    let alloc = rt.alloc();
+    let file = dump(alloc)?;
+    let file = file.as_slice();
+    let streams = read_streams(alloc, file)?;
+    let threads = read_threads(alloc, file, streams.as_slice())?;
+    assert_eq!(rt; threads.len(), 2);
+    let exception = read_exception(file, streams.as_slice())?.ok_or("no exception")?;
+    // SIGSEGV
+    assert_eq!(rt;
+        (exception.tid, exception.code, exception.address),
+        (31455, 11, 0x40104e)
+    );
+    let waiting = threads.get(0).copied().ok_or("no thread")?;
+    assert_eq!(rt; (waiting.tid, waiting.teb), (31458, 0));
+    let context = read_located(file, context_of(waiting, Some(exception)))?;
+    let registers = x86_64_registers(context).ok_or("no registers")?;
+    assert_eq!(rt;
+        (registers.ip(), registers.sp(), registers.bp()),
+        (0x401088, 0x403488, 0)
+    );
+    let crashed = threads.get(1).copied().ok_or("no second thread")?;
+    assert_eq!(rt; crashed.tid, 31455);
+    let context = read_located(file, context_of(crashed, Some(exception)))?;
+    let registers = x86_64_registers(context).ok_or("no registers")?;
+    assert_eq!(rt; registers.ip(), 0x40104e);
+    for (register, value) in REGISTERS {
+        assert_eq!(rt; registers.get(register), value);
+    }
+    // the stack reaches from the 128 bytes below rsp to its end
+    assert_eq!(rt;
+        (crashed.stack.start, crashed.stack.size),
+        (0x7fffffffed58, 0x2a8)
+    );
+    assert!(rt; x86_64_registers(front(context, 0xff)).is_none());
+    assert!(rt; x86_64_registers(front(context, 0x100)).is_some());
+    Ok(())
+}
+
+/// The modules: first address, size in the file's segments, name.
+const MODULES: [(u64, u32, &str); 2] = [
+    (0x400000, 0x1b4, "/usr/local/bin/crash"),
+    (0x7ffff7ffd000, 0x1542, "[vdso](0x00007ffff7ffd000)"),
+];
+
+/// Their build ids, as `image list` prints them.
+const BUILD_IDS: [&str; 2] = [
+    "cb47e4cd805ea4a5d817ed2970d18a00481898ad",
+    "33876398737cab5446426103634a9c4cb686983b",
+];
+
+#[test]
+fn reads_modules(rt: HostRuntime) -> Result<(), Fail> {
+    let alloc = rt.alloc();
+    let file = dump(alloc)?;
+    let file = file.as_slice();
+    let streams = read_streams(alloc, file)?;
+    let modules = read_modules(alloc, file, streams.as_slice())?;
+    assert_eq!(rt; modules.len(), 2);
+    for (module, (base, size, name)) in modules.iter().zip(MODULES) {
+        assert_eq!(rt;
+            (module.base, module.size, module.time),
+            (base, size, 0x6b06a7c0)
+        );
+        let read = read_string(alloc, file, module.name)?;
+        assert_eq!(rt; read.as_str(), name);
+    }
+    for (module, build_id) in modules.iter().zip(BUILD_IDS) {
+        let expected = hex::decode(alloc, build_id)?;
+        match read_codeview(file, module.codeview)? {
+            Some(CodeView::Elf { build_id }) => assert_eq!(rt; build_id, expected.as_slice()),
+            _ => return Err("no build id".into()),
+        }
+    }
+    Ok(())
+}
+
+/// Words by their addresses: the return addresses of LLDB's `thread backtrace all`, on both stacks; and none
+/// of the code, which is not there, nor where a stack begins or ends.
+const WORDS: [(u64, Option<u64>); 9] = [
+    (0x7fffffffedd8, Some(0x40106a)),
+    (0x7fffffffede8, Some(0x401110)),
+    (0x7fffffffee08, Some(0x401060)),
+    (0x403488, Some(0x4010be)),
+    (0x403ff8, Some(0)),
+    (0x403ff9, None),
+    (0x403407, None),
+    (0x40104e, None),
+    (u64::MAX, None),
+];
+
+#[test]
+fn reads_memory(rt: HostRuntime) -> Result<(), Fail> {
+    let alloc = rt.alloc();
+    let file = dump(alloc)?;
+    let file = file.as_slice();
+    let streams = read_streams(alloc, file)?;
+    let ranges = read_memory(alloc, file, streams.as_slice())?;
+    assert_eq!(rt; ranges.len(), 2);
+    for (address, word) in WORDS {
+        assert_eq!(rt; word_at(file, ranges.as_slice(), address), word);
+    }
+    let stack = bytes_at(file, ranges.as_slice(), 0x7fffffffed58, 0x2a8);
+    assert_eq!(rt; stack.map(|stack| stack.len()), Some(0x2a8));
+    assert_eq!(rt;
+        bytes_at(file, ranges.as_slice(), 0x7fffffffed58, 0x2a9),
+        None
+    );
+    // the program's name is the last on its stack
+    let name = bytes_from(file, ranges.as_slice(), 0x7fffffffefe3);
+    assert_eq!(rt;
+        name.map(|name| front(name, 21)),
+        Some(b"/usr/local/bin/crash\0".as_slice())
+    );
+    // where the file is cut off, there are fewer bytes
+    let cut = front(file, 0x2a47 + 0x88);
+    assert_eq!(rt; word_at(cut, ranges.as_slice(), 0x403488), Some(0x4010be));
+    assert_eq!(rt; word_at(cut, ranges.as_slice(), 0x403489), None);
+    Ok(())
+}
