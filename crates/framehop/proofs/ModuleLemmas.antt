@@ -1,6 +1,7 @@
 -- The modules in order of start, around the place of an address.
 use Rattle.std.proofs.Common.{◌≡◌, ℕ, zero, suc, ◌+◌, ◌<◌, ◌≤◌, Bool, true, false, not, List, [], ◌∷◌, length, take, drop, filter, slice_index_or, refl, ap, sym, arith, insert, remove, leb-true, leb-false, eq-eqb, ne_eqb, ◌==◌, ⊎_elim}
 use Rattle.std.proofs.lemmas.Bool.{cases_lt, or_right}
+use Rattle.std.proofs.lemmas.List.Edits.{get_or-remove_below, get_or-remove_above}
 use Rattle.std.specs.List.Sorted.{IsPartitionPoint}
 use Rattle.std.proofs.lemmas.List.Sorted.{IsNonDecreasingBy-insert}
 use Rattle.framehop.specs.Modules.{ModuleView, AreInOrder, has_start, without_module, starts_by, starting_by, starting_above}
@@ -54,6 +55,26 @@ AreInOrder-inserted modules i m ordered within point =
     IsNonDecreasingBy-insert (λ n. n.start) modules i m ordered within
     (λ k d h. leb-true _ _ (point.0 k d (omega arith) h))
     (λ k d low h. let above = leb-false _ _ (point.1 k d low h) in omega arith)
+
+-- and without one of them
+pub AreInOrder-removed : (modules : List ModuleView) (i : ℕ) → AreInOrder modules → i < length modules → length (remove modules i) + 1 ≡ length modules → AreInOrder (remove modules i)
+AreInOrder-removed modules i ordered within shorter j k d up inside =
+    ⊎_elim
+    (λ (below : k < i).
+    let first = get_or-remove_below modules i d j (omega arith) within in
+    let second = get_or-remove_below modules i d k below within in
+    rw (first, second) (ordered j k d up (omega arith)))
+    (λ (from : i ≤ k).
+    let second = get_or-remove_above modules i d k from within in
+    ⊎_elim
+    (λ (below : j < i).
+    let first = get_or-remove_below modules i d j below within in
+    rw (first, second) (ordered j (k + 1) d (omega arith) (omega arith)))
+    (λ (from' : i ≤ j).
+    let first = get_or-remove_above modules i d j from' within in
+    rw (first, second) (ordered (j + 1) (k + 1) d (omega arith) (omega arith)))
+    (cases_lt j i))
+    (cases_lt k i)
 
 -- ---- the last module of a start
 

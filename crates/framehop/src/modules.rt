@@ -93,11 +93,17 @@ impl From<CompactUnwindInfoUnwinderError> for UnwinderError {
 }
 
 /// A module that is loaded in a process, as an executable or a library: its addresses, and its
-/// unwind data.
+/// unwind data. A clone shares them.
 #[derive(Drop)]
 pub struct Module<D: SectionBytes> {
+    fields: Rc<ModuleFields<D>>,
+}
+
+/// The fields of a module, which is a pointer to them: an unwinder moves modules when one comes or goes.
+#[derive(Drop)]
+struct ModuleFields<D: SectionBytes> {
     name: String,
-    pub(crate) avma_range: Range<u64>,
+    avma_range: Range<u64>,
     base_avma: u64,
     unwind_data: Rc<ModuleUnwindDataInternal<D>>,
 }
@@ -111,11 +117,11 @@ impl<D: SectionBytes> Model for Module<D> {
     ghost use Rattle.framehop.specs.UnwindData.{unwind_data_of};
 
     ghost view = { λ m. record {
-      name = string_bytes m.name;
-      start = m.avma_range.start;
-      end = m.avma_range.end;
-      base_avma = m.base_avma;
-      unwind_data = unwind_data_of D.contents m.unwind_data.value;
+      name = string_bytes m.fields.value.name;
+      start = m.fields.value.avma_range.start;
+      end = m.fields.value.avma_range.end;
+      base_avma = m.fields.value.base_avma;
+      unwind_data = unwind_data_of D.contents m.fields.value.unwind_data.value;
     } };
 }
 
@@ -124,10 +130,7 @@ impl<D: SectionBytes + Drop> Clone for Module<D> {
 
     fn clone(&self) -> Result<Self, AllocError> {
         Ok(Module {
-            name: self.name.clone()?,
-            avma_range: self.avma_range.start..self.avma_range.end,
-            base_avma: self.base_avma,
-            unwind_data: self.unwind_data.clone()?,
+            fields: self.fields.clone()?,
         })
     }
 }
@@ -173,12 +176,16 @@ impl<D: SectionBytes + Drop> Module<D> {
         let Ok(unwind_data) = Rc::new(alloc, unwind_data) else {
             return Err(ModuleListError::OutOfMemory);
         };
-        Ok(Module {
+        let fields = ModuleFields {
             name,
             avma_range,
             base_avma,
             unwind_data,
-        })
+        };
+        match Rc::new(alloc, fields) {
+            Ok(fields) => Ok(Module { fields }),
+            Err(_) => Err(ModuleListError::OutOfMemory),
+        }
     }
 
     /// The same module at other addresses (AVMAs), from `avma_range.start` to below `avma_range.end`,
@@ -193,11 +200,14 @@ impl<D: SectionBytes + Drop> Module<D> {
           unwind_data = self.now.unwind_data;
         }) }
     {
-        Ok(Module {
-            name: self.name.clone()?,
+        let fields = ModuleFields {
+            name: self.fields.name.clone()?,
             avma_range,
             base_avma,
-            unwind_data: self.unwind_data.clone()?,
+            unwind_data: self.fields.unwind_data.clone()?,
+        };
+        Ok(Module {
+            fields: Rc::new(*self.fields.name.allocator(), fields)?,
         })
     }
 
@@ -206,45 +216,59 @@ impl<D: SectionBytes + Drop> Module<D> {
         ensures start { result.start ≡ self.now.start }
         ensures end { result.end ≡ self.now.end }
     {
-        self.avma_range.start..self.avma_range.end
+        self.fields.avma_range.start..self.fields.avma_range.end
     }
 
     /// The address (AVMA) of the module's relative address 0.
     pub fn base_avma(&self) -> u64
         ensures { result ≡ self.now.base_avma }
     {
-        self.base_avma
+        self.fields.base_avma
     }
 
     /// The module's name.
     pub fn name(&self) -> &str
         ensures { result.now ≡ self.now.name }
     {
-        self.name.as_str()
+        self.fields.name.as_str()
     }
 
     /// The module's unwind data.
     pub fn unwind_data(&self) -> &ModuleUnwindDataInternal<D>
         ensures { unwind_data_of D.contents result.now ≡ self.now.unwind_data }
     {
-        &*self.unwind_data
+        &*self.fields.unwind_data
+    }
+
+    // the start (AVMA)
+    pub(crate) fn start(&self) -> u64
+        ensures { result ≡ self.now.start }
+    {
+        self.fields.avma_range.start
+    }
+
+    // the end (AVMA)
+    pub(crate) fn end(&self) -> u64
+        ensures { result ≡ self.now.end }
+    {
+        self.fields.avma_range.end
     }
 
     // whether the module starts at or below the address
     pub(crate) fn starts_by(&self, address: u64) -> bool
         ensures { result ≡ starts_by address self.now }
     {
-        self.avma_range.start <= address
+        self.start() <= address
     }
 
     // the relative address of an address (AVMA) that the module covers
     pub(crate) fn relative_address(&self, address: u64) -> Option<u32>
         ensures { SomeIff result (covers address self.now ≡ true) (address - self.now.base_avma) }
     {
-        if address != self.avma_range.start && self.avma_range.end <= address {
+        if address != self.start() && self.end() <= address {
             return None;
         }
-        u32::try_from(address.checked_sub(self.base_avma)?).ok()
+        u32::try_from(address.checked_sub(self.fields.base_avma)?).ok()
     }
 }
 
@@ -576,7 +600,7 @@ impl<D: SectionBytes> Module<D> {
             result ≢ Err out_of_memory → TellsValues
             (answer_by A.readers P.policy self.now relative_address is_first_frame) regs.old memory result regs.new) }
     {
-        match &*self.unwind_data {
+        match &*self.fields.unwind_data {
             ModuleUnwindDataInternal::EhFrameHdrAndEhFrame {
                 eh_frame_hdr,
                 eh_frame,

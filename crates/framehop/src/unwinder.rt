@@ -553,7 +553,7 @@ impl<D: SectionBytes + Drop, A: Unwinding, P: AllocationPolicy> UnwinderInternal
         ensures start { (m : ModuleView) → result ≡ (slice_index_or self.now.modules index m).start }
         ensures ordered { AreInOrder self.now.modules }
     {
-        self.modules[index].avma_range.start
+        self.modules[index].start()
     }
 
     // the index of the last module with this start
@@ -731,7 +731,7 @@ impl<D: SectionBytes + Drop, A: Unwinding, P: AllocationPolicy> Unwinder
                 cause: ModuleListError::GenerationsExhausted,
             });
         }
-        let index = self.place_after(module.avma_range.start);
+        let index = self.place_after(module.start());
         if let Err(refused) = self.modules.insert(index, module) {
             return Err(RefusedModule {
                 module: refused.value,
@@ -763,7 +763,7 @@ impl<D: SectionBytes + Drop, A: Unwinding, P: AllocationPolicy> Unwinder
     fn max_known_code_address(&self) -> u64 {
         let mut greatest = 0;
         for module in self.modules.iter() {
-            greatest = module.avma_range.end.max(greatest);
+            greatest = module.end().max(greatest);
         }
         greatest
     }
