@@ -305,6 +305,13 @@ impl DwarfCfiIndex {
         )
     }
 
+    /// Returns how many FDEs the index has.
+    pub fn len(&self) -> usize
+        ensures { result ≡ length self.now }
+    {
+        self.keys.len()
+    }
+
     /// Returns the offset of the FDE with the greatest start at or below a relative address; among equal starts
     /// that of the last in the section.
     pub fn fde_offset_for_relative_address(&self, rel_lookup_address: u32) -> Option<u32>

@@ -1,6 +1,7 @@
--- What the contracts of this crate cite: kinds of unwind data, sources of frames, and what is told.
+-- What the contracts of this crate cite: kinds of unwind data and how much there is, sources of frames, and what is told.
 pub mod Analysed
 pub mod CompactSource
+pub mod Count
 pub mod Decided
 pub mod Explain
 pub mod Kind

@@ -2,18 +2,22 @@
 #![tactic(auto)]
 
 pub mod compact;
+pub mod count;
 pub mod explain;
 pub mod frames;
 pub mod kind;
 pub mod pe;
 pub mod rule_text;
 pub mod source;
+pub mod text;
 pub mod told;
 pub mod uncovered;
 
+pub use count::UnwindDataCount;
 pub use explain::{Explanation, Finding, explain_frame};
 pub use kind::UnwindDataKind;
 pub use rule_text::{DescribeRule, Described};
 pub use source::{CompactSource, PeSource, RowSource, Source};
+pub use text::{frame_text, unwind_data_text};
 pub use told::Told;
 pub use uncovered::{Uncovered, last_module_by};
