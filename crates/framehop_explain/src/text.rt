@@ -23,6 +23,20 @@ pub fn unwind_data_text<D: SectionBytes + Drop>(
     }
 }
 
+/// Returns the name of a module, or what stands for one that is not named.
+fn name_of<D: SectionBytes + Drop>(loaded: &Module<D>) -> &str {
+    match loaded.name() {
+        "" => "a module",
+        name => name,
+    }
+}
+
+/// Returns where an address is in a module: `m+0x100`, or `0x100` in one that is not named.
+fn place_text(alloc: Global, name: &str, relative_address: u32) -> Result<String, AllocError> {
+    let plus = if name.is_empty() { "" } else { "+" };
+    format!(in alloc; "{name}{plus}0x{relative_address:x}")
+}
+
 /// Returns why no module covers an address (AVMA).
 fn reason_text<D: SectionBytes + Drop>(
     alloc: Global,
@@ -33,7 +47,7 @@ fn reason_text<D: SectionBytes + Drop>(
     let Some(loaded) = last else {
         return format!(in alloc; "no module starts at or below 0x{address:x}");
     };
-    let name = loaded.name();
+    let name = name_of(loaded);
     let base = loaded.base_avma();
     match Uncovered::by(last, address) {
         Uncovered::NoModule => format!(in alloc; "no module starts at or below 0x{address:x}"),
@@ -72,22 +86,22 @@ fn finding_text<D: SectionBytes + Drop, A: Sources>(
 where
     A::UnwindRule: DescribeRule,
 {
-    let name = finding.module.name();
-    let relative = finding.relative_address;
+    let place = place_text(alloc, finding.module.name(), finding.relative_address)?;
+    let place = place.as_str();
     let source = finding.source;
     match finding.told {
         Told::Rule(rule) => {
             let rule = Described(rule);
-            format!(in alloc; "{name}+0x{relative:x}: {source}: {rule}")
+            format!(in alloc; "{place}: {source}: {rule}")
         }
         Told::Computed(address) => {
             format!(in alloc;
-                "{name}+0x{relative:x}: {source}: computed: return address 0x{address:x}"
+                "{place}: {source}: computed: return address 0x{address:x}"
             )
         }
         Told::Refused(error) => {
             let rule = Described(A::UnwindRule::fallback_rule());
-            format!(in alloc; "{name}+0x{relative:x}: {source}: {error:?}: fallback: {rule}")
+            format!(in alloc; "{place}: {source}: {error:?}: fallback: {rule}")
         }
     }
 }

@@ -1,10 +1,6 @@
-//! What the notes say: of a module when it is added, and of a frame.
-use crate::note::Note;
-use framehop::{FrameAddress, Module};
-use framehop_explain::pe::Sources;
-use framehop_explain::{
-    DescribeRule, Explanation, UnwindDataKind, frame_text, unwind_data_text,
-};
+//! What the note of a module says, when it is added.
+use framehop::Module;
+use framehop_explain::{Note, UnwindDataKind, unwind_data_text};
 use serde_json::Value;
 use std::alloc::{AllocError, Global};
 
@@ -108,18 +104,4 @@ pub fn module_note(
         note = with_section(alloc, kind, section, note)?;
     }
     Ok(note)
-}
-
-/// Returns the note of a frame: what the module that covers it tells, or why no module does.
-pub fn frame_note<A: Sources>(
-    alloc: Global,
-    modules: &[Module<Vec<u8>>],
-    address: FrameAddress,
-    explanation: &Explanation<'_, Vec<u8>, A>,
-) -> Result<Note, AllocError>
-where
-    A::UnwindRule: DescribeRule,
-{
-    let line = frame_text::<Vec<u8>, A>(alloc, modules, address, explanation)?;
-    Note::new(alloc).with_line(line.as_str())
 }

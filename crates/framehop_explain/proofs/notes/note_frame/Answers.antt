@@ -3,13 +3,12 @@ use Rattle.framehop_core.specs.CodeAddress.{location_of}
 use Rattle.framehop_core.specs.Outcome.{Outcome, answer_of}
 use Rattle.framehop_core.proofs.Callback.{AnswersAs-unchanged}
 use Rattle.framehop.specs.CachedWorld.{step_of}
-use Rattle.framehop.specs.World.{memory_of}
-use Rattle.framehop_explain_program.specs.Frames.{caller_by}
-use Rattle.framehop_explain_program.proofs.frames.note_frame.Goals as goal
+use Rattle.framehop_explain.specs.Callers.{caller_by}
+use Rattle.framehop_explain.proofs.notes.note_frame.Goals as goal
 
 pub returns-clause-caller : goal.returns-clause-caller
 returns-clause-caller g c =
-    let memory = memory_of c.args.memory.now in
+    let memory = g.M.Words.memory c.args.memory.now in
     let answers = AnswersAs-unchanged _ memory _ (λ a r f' call. search rules) in
     let step : Outcome g.row.A-UnwindRegs.Denot = step_of (g.A.Unwinding.unwinding g.P.AllocationPolicy.policy) c.args.unwinder.now memory (location_of c.args.address) c.args.regs in
     let explained = c.in_ok-explanation.ensures.outcome memory answers in

@@ -4,7 +4,7 @@ use Rattle.framehop_core.specs.CodeAddress.{FrameLocation, at_instruction_pointe
 use Rattle.framehop_core.specs.Outcome.{Outcome, answered, root, refused, answer_of, registers_after}
 use Rattle.framehop_core.specs.declared.error.Error.TheVariants.{ReturnAddressIsNull}
 use Rattle.framehop.specs.Walk.{callers, onward, walk_from, frame_before, at_refusal}
-use Rattle.framehop_explain_program.specs.Frames.{caller_by}
+use Rattle.framehop_explain.specs.Callers.{caller_by}
 
 -- the frame that called another
 abbrev pub caller_of : {Regs : Type 0} → (FrameLocation → Regs → Outcome Regs) → FrameLocation × Regs → Option (FrameLocation × Regs)

@@ -1,6 +1,6 @@
 use Rattle.std.proofs.Common.{◌++◌, ◌∷◌, [], arith}
-use Rattle.framehop_explain_program.proofs.NoteLemmas.{note-more}
-use Rattle.framehop_explain_program.proofs.note.Note.with_line.Goals as goal
+use Rattle.framehop_explain.proofs.NoteLemmas.{note-more}
+use Rattle.framehop_explain.proofs.note.Note.with_line.Goals as goal
 
 pub invariant_of-result : goal.invariant_of-result
 invariant_of-result c =

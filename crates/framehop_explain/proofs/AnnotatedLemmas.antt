@@ -2,7 +2,7 @@
 use Rattle.std.proofs.Common.{◌≡◌, ◌∙◌, ℕ, ◌+◌, ◌<◌, ◌≤◌, List, ◌∷◌, ◌++◌, drop, get_or, length, ap, sym, drop-cons, append_assoc, arith}
 use Rattle.std.specs.List.{AllByRecursion}
 use Rattle.std.proofs.Math.ListN.{drop_of_length-le}
-use Rattle.framehop_explain_program.specs.Annotated.{annotated, first_line, after_first_line}
+use Rattle.framehop_explain.specs.Annotated.{annotated, first_line, after_first_line}
 
 -- the next line and its note
 pub annotated-next : (out text note : List ℕ) (notes : List (List ℕ)) (i : ℕ) → i < length notes → note ≡ get_or notes i note

@@ -1,8 +1,8 @@
 //! Notes under the lines of a text.
 ghost use Rattle.std.specs.Prelude.{◌≡◌, ◌<◌, ◌==◌, length, position, IfOk, IfSome, OnOk};
 ghost use Rattle.std.specs.List.{AllByRecursion};
-ghost use Rattle.framehop_explain_program.specs.Note.{IsNote};
-ghost use Rattle.framehop_explain_program.specs.Annotated.{first_line as line_of, after_first_line, annotated};
+ghost use Rattle.framehop_explain.specs.Note.{IsNote};
+ghost use Rattle.framehop_explain.specs.Annotated.{first_line as line_of, after_first_line, annotated};
 
 use crate::note::Note;
 use std::alloc::{AllocError, Global};

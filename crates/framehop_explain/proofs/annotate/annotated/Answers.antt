@@ -1,7 +1,7 @@
 use Rattle.std.proofs.Common.{◌<◌, ◌≤◌, length, rules, arith}
-use Rattle.framehop_explain_program.specs.Note.{IsNote}
-use Rattle.framehop_explain_program.proofs.AnnotatedLemmas.{annotated-next, annotated-end, all-next, all-end}
-use Rattle.framehop_explain_program.proofs.annotate.annotated.Goals as goal
+use Rattle.framehop_explain.specs.Note.{IsNote}
+use Rattle.framehop_explain.proofs.AnnotatedLemmas.{annotated-next, annotated-end, all-next, all-end}
+use Rattle.framehop_explain.proofs.annotate.annotated.Goals as goal
 
 pub loop-note-preserved : goal.loop-note-preserved
 loop-note-preserved c =

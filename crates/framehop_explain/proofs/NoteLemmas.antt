@@ -2,7 +2,7 @@
 use Rattle.std.proofs.Common.{◌≡◌, ◌∙◌, ℕ, List, [], ◌∷◌, ◌++◌, map, ap, append_assoc}
 use Rattle.std.specs.List.{flat_map}
 use Rattle.std.proofs.lemmas.List.{flat_map_more}
-use Rattle.framehop_explain_program.specs.Note.{printable, note_line}
+use Rattle.framehop_explain.specs.Note.{printable, note_line}
 
 pub note-more : (note text : List ℕ) (texts : List (List ℕ)) → note ≡ flat_map note_line texts
     → ((note ++ 32 ∷ 32 ∷ []) ++ map printable text) ++ 10 ∷ [] ≡ flat_map note_line (texts ++ text ∷ [])

@@ -1,6 +1,6 @@
 //! Notes: lines that begin with two blanks.
 ghost use Rattle.std.specs.Prelude.{◌≡◌, ◌++◌, [], map, IfOk, OnOk};
-ghost use Rattle.framehop_explain_program.specs.Note.{IsNote, printable, note_line};
+ghost use Rattle.framehop_explain.specs.Note.{IsNote, printable, note_line};
 
 use std::alloc::{AllocError, Global};
 use std::marker::Model;
@@ -13,7 +13,7 @@ pub struct Note {
 
 impl Model for Note {
     ghost use Rattle.std.specs.Prelude.{ℕ, List};
-    ghost use Rattle.framehop_explain_program.specs.Note.{IsNote};
+    ghost use Rattle.framehop_explain.specs.Note.{IsNote};
 
     ghost Value = { List ℕ };
 

@@ -1,8 +1,8 @@
 use Rattle.std.proofs.Common.{◌≡◌, ◌++◌, drop}
 use Rattle.std.specs.List.{AllByRecursion}
-use Rattle.framehop_explain_program.specs.Annotated.{annotated}
-use Rattle.framehop_explain_program.specs.Note.{IsNote}
-use Rattle.framehop_explain_program.proofs.annotate.annotated.Given as goal
+use Rattle.framehop_explain.specs.Annotated.{annotated}
+use Rattle.framehop_explain.specs.Note.{IsNote}
+use Rattle.framehop_explain.proofs.annotate.annotated.Given as goal
 
 abbrev pub invariant-loop-note : goal.invariant-loop-note
 invariant-loop-note l =
