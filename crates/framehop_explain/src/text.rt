@@ -95,9 +95,7 @@ where
             format!(in alloc; "{place}: {source}: {rule}")
         }
         Told::Computed(address) => {
-            format!(in alloc;
-                "{place}: {source}: computed: return address 0x{address:x}"
-            )
+            format!(in alloc; "{place}: {source}: computed: return address 0x{address:x}")
         }
         Told::Refused(error) => {
             let rule = Described(A::UnwindRule::fallback_rule());

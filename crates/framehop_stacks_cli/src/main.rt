@@ -278,15 +278,7 @@ fn print_core(
 ) -> Result<u8> {
     let mut out = BufWriter::new(rt.alloc(), io::writer(rt))?;
     let mut err = rt.stderr();
-    let written = write_core_stacks(
-        rt.alloc(),
-        bytes,
-        disk,
-        limit,
-        explain,
-        &mut out,
-        &mut err,
-    );
+    let written = write_core_stacks(rt.alloc(), bytes, disk, limit, explain, &mut out, &mut err);
     io::Write::flush(&mut out)?;
     match written {
         Ok(()) => Ok(0),
