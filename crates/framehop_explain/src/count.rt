@@ -3,7 +3,7 @@ ghost use Rattle.std.specs.Prelude.{◌≡◌};
 ghost use Rattle.framehop_cfi.specs.Header.{layout_of};
 ghost use Rattle.framehop_dwarf.specs.Unwinder.{header_bases};
 ghost use Rattle.framehop_macho.specs.UnwindInfo.{shared_lists_of};
-ghost use Rattle.framehop_explain.specs.Count.{rows_in, pages_in, IsIndexCount, IsCountOf};
+ghost use Rattle.framehop_explain.specs.Count.{rows_in, pages_in, IsFramesCount, IsCountOf};
 
 use framehop::Module;
 use framehop::unwind_data::{IndexedFrames, ModuleUnwindDataInternal};
@@ -77,7 +77,7 @@ fn count_rows(eh_frame_hdr: &[u8], base_addresses: &BaseAddresses) -> UnwindData
 
 /// Counts the FDEs of an index.
 fn count_fdes<D: SectionBytes>(frames: &IndexedFrames<D>) -> UnwindDataCount
-    ensures { IsIndexCount frames.now result }
+    ensures { IsFramesCount frames.now frames.now.header result }
 {
     UnwindDataCount::Fdes(frames.index.len())
 }
