@@ -4,7 +4,8 @@
 # PROGRAM is what `rt run` in crates/framehop_stacks_cli builds; one that is not there is passed over, but for the first. What is
 # printed is compared with files of tools/stacks, which come from `perf script --no-inline --ns --show-mmap-events -F
 # comm,pid,tid,time,ip,sym,symoff,dso --symfs .` by tools/stacks/from_perf.py, and for core files from gdb's `thread apply all bt`: the same
-# threads and addresses; with the file of the process, without it, and with another file in its place. Status 0 where all is as it should be.
+# threads and addresses; with the file of the process, without it, and with another file in its place; with --explain under each frame
+# the row that `readelf --debug-dump=frames-interp` has for it. Status 0 where all is as it should be.
 set -u
 tools=$(dirname "$(realpath -- "${BASH_SOURCE[0]}")") || exit 2
 [ $# -ge 1 ] || { sed -n 2p "$0" >&2; exit 2; }
@@ -38,9 +39,12 @@ for program in "$@"; do
     try 0 "$tools/stacks/crash.missing" --root srv crash.core
     try 0 "$tools/stacks/crash.missing" --root "$work/other" crash.core
     try 0 "$tools/stacks/crash.limit" --root . --limit 1 crash.core
+    try 0 "$tools/stacks/crash.explained" --root . --explain crash.core
+    try 0 "$tools/stacks/crash.fallback" --root srv --explain crash.core
     try 1 "$work/nothing" "$work/short.core"
     try 2 "$work/nothing"
     try 2 "$work/nothing" --limit many tiny.data
+    try 2 "$work/nothing" --root . --explain tiny.data
     try 1 "$work/nothing" missing.data
     try 1 "$work/nothing" .
     try 1 "$work/nothing" srv/tiny

@@ -46,7 +46,7 @@ for number, (code, offset, base, count, told, rbp, rsp) in enumerate(PLACES):
     }]
     others = " ".join(f"r{register}=0" for register in range(8, 16))
     lines += [
-        f"new {number}", "add", "  m: compact unwind info without __eh_frame", "step 5000",
+        f"new {number}", "add", "  m: compact unwind info without __eh_frame, 1 page", "step 5000",
         f"  m+0x{0x1000 + offset:x}: {told}",
         f"regs ip=5000 rax=0 rdx=0 rcx=0 rbx=0 rsi=0 rdi=0 rbp={rbp:x} rsp={rsp:x} {others}",
     ]

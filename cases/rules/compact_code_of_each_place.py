@@ -37,7 +37,7 @@ def case(arch, regs, steps):
                 memory = {"base": "100", "words": words}
                 step = {"do": "step", "unwinder": number, "cache": 0, "kind": kind, "address": address}
                 commands.append({**step, "regs": regs, "memory": memory})
-                lines += [f"new {number}", "add", "  m: compact unwind info without __eh_frame", *printed]
+                lines += [f"new {number}", "add", "  m: compact unwind info without __eh_frame, 1 page", *printed]
     head = {"arch": arch, "policy": "both", "caches": 1, "commands": commands}
     return json.dumps(head, separators=(",", ":")), "\n".join(lines) + "\n"
 

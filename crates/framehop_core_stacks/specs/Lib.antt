@@ -6,3 +6,4 @@ pub mod Modules
 pub mod Thread
 pub mod Text
 pub mod Printed
+pub mod Explained

@@ -3,6 +3,7 @@
 
 pub mod dump;
 pub mod error;
+pub mod explain;
 pub mod image;
 pub mod machine;
 pub mod modules;

@@ -1,15 +1,17 @@
 //! From the bytes of a core file to the stacks of its threads.
-ghost use Rattle.std.specs.Prelude.{◌≡◌, ◌⊎◌, Ok, Err, IfErr, OnOk};
+ghost use Rattle.std.specs.Prelude.{◌≡◌, ◌⊎◌, List, ℕ, Ok, Err, IfOk, IfErr, OnOk};
 ghost use Rattle.std.specs.Io.KnownBytes.{Appends};
 ghost use Rattle.framehop_core_file.specs.declared.error.CoreFileError.{CoreFileError};
 ghost use Rattle.framehop_stacks.specs.declared.files.Files.{Files};
 ghost use Rattle.framehop_core_stacks.specs.Dump.{DumpView, dump_view, dump_of};
+ghost use Rattle.framehop_core_stacks.specs.Explained.{IsShown};
 ghost use Rattle.framehop_core_stacks.specs.Modules.{AreFilesOf};
-ghost use Rattle.framehop_core_stacks.specs.Printed.{text_by, text_of};
+ghost use Rattle.framehop_core_stacks.specs.Printed.{blocks_of, text_by, text_of};
 ghost use Rattle.framehop_core_stacks.specs.Refusal.{of_core_file};
 
 use crate::dump::{Dump, read_dump};
 use crate::error::CoreStacksError;
+use crate::explain::explained_text;
 use crate::image::sections_in;
 use crate::machine::Dumped;
 use crate::modules::{DumpModules, map_files, read_files};
@@ -82,6 +84,27 @@ fn write_problems<E: Write>(
     Ok(())
 }
 
+/// Returns the text of all threads, with notes where it is to be explained.
+fn shown_text<U: Dumped>(
+    alloc: Global,
+    dump: &Dump<'_>,
+    files: &Files,
+    process: &Process<U>,
+    limit: u32,
+    explain: bool,
+) -> Result<Vec<u8>, StacksError>
+where
+    U::Cache: Drop,
+    ensures { IfOk result (λ shown. IsShown explain
+        (blocks_of U.step_by U.begins limit process.now.unwinder.modules (dump_view dump.now) files.now process.now.mappings) shown.items) }
+{
+    let text = threads_text(alloc, dump, files, process, limit)?;
+    if explain {
+        return explained_text(alloc, dump, process, limit, text.as_slice());
+    }
+    Ok(text)
+}
+
 /// Writes the stacks of all threads.
 fn write_threads<U: Dumped, M: ModuleMaker<U>, W: Write, E: Write>(
     alloc: Global,
@@ -89,18 +112,20 @@ fn write_threads<U: Dumped, M: ModuleMaker<U>, W: Write, E: Write>(
     dump: &Dump<'_>,
     files: &Files,
     limit: u32,
+    explain: bool,
     out: &mut W,
     err: &mut E,
 ) -> Result<(), CoreStacksError>
 where
     U::Cache: Drop,
     U::Module: Drop,
-    ensures { OnOk result (Appends (W.contents out.old) (W.contents out.new)
-        (text_by U.step_by U.begins limit (M.module_of maker.now) (dump_view dump.now) files.now)) }
+    ensures { OnOk result ((shown : List ℕ)
+        × IsShown explain (text_by U.step_by U.begins limit (M.module_of maker.now) (dump_view dump.now) files.now) shown
+        × Appends (W.contents out.old) (W.contents out.new) shown) }
 {
     let process: Process<U> = map_files(alloc, maker, dump, files)?;
     write_problems(alloc, err, dump, files, process.mappings())?;
-    let text = threads_text(alloc, dump, files, &process, limit)?;
+    let text = shown_text(alloc, dump, files, &process, limit, explain)?;
     out.write_all(text.as_slice())?;
     Ok(())
 }
@@ -111,10 +136,12 @@ fn write_dump<W: Write, E: Write>(
     dump: &Dump<'_>,
     files: &Files,
     limit: u32,
+    explain: bool,
     out: &mut W,
     err: &mut E,
 ) -> Result<(), CoreStacksError>
-    ensures { OnOk result (Appends (W.contents out.old) (W.contents out.new) (text_of limit (dump_view dump.now) files.now)) }
+    ensures { OnOk result ((shown : List ℕ) × IsShown explain (text_of limit (dump_view dump.now) files.now) shown
+        × Appends (W.contents out.old) (W.contents out.new) shown) }
 {
     let maker = DumpModules { dump, files };
     match dump.machine {
@@ -123,17 +150,18 @@ fn write_dump<W: Write, E: Write>(
             DumpModules<'_>,
             W,
             E,
-        >(alloc, &maker, dump, files, limit, out, err),
+        >(alloc, &maker, dump, files, limit, explain, out, err),
         Machine::Aarch64 => write_threads::<
             UnwinderAarch64<Vec<u8>, MayAllocateDuringUnwind>,
             DumpModules<'_>,
             W,
             E,
-        >(alloc, &maker, dump, files, limit, out, err),
+        >(alloc, &maker, dump, files, limit, explain, out, err),
     }
 }
 
-/// Writes the stacks of the threads of a core file to `out`, and to `err` which files were not read.
+/// Writes the stacks of the threads of a core file to `out`, and to `err` which files were not read. Where they are to be
+/// explained, a note under each frame says what its caller came from.
 ///
 /// # Errors
 ///
@@ -144,17 +172,19 @@ pub fn write_core_stacks<S: FileSource, W: Write, E: Write>(
     file: &[u8],
     source: &S,
     limit: u32,
+    explain: bool,
     out: &mut W,
     err: &mut E,
 ) -> Result<(), CoreStacksError>
     ensures printed { OnOk result ((dump : DumpView) × (dump_of file.now ≡ Ok dump)
         × ((files : Files) × AreFilesOf (S.gives source.now) (S.gives_debug source.now) dump files
-        × Appends (W.contents out.old) (W.contents out.new) (text_of limit dump files))) }
+        × ((shown : List ℕ) × IsShown explain (text_of limit dump files) shown
+        × Appends (W.contents out.old) (W.contents out.new) shown))) }
     ensures refused { (refusal : CoreFileError) → dump_of file.now ≡ Err refusal → IfErr result (λ error.
         (error ≡ of_core_file refusal) ⊎ (error ≡ CoreStacksError.Stacks StacksError.OutOfMemory)) }
 {
     let dump = read_dump(alloc, file)?;
     let files = read_files(alloc, &dump, source)?;
-    write_dump(alloc, &dump, &files, limit, out, err)?;
+    write_dump(alloc, &dump, &files, limit, explain, out, err)?;
     Ok(())
 }

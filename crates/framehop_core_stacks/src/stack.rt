@@ -15,6 +15,7 @@ use framehop::session::walk;
 use framehop_core_file::memory::word_at;
 use framehop_core_file::thread::Thread;
 use framehop_elf::program_header::ProgramHeader;
+use framehop_explain::Words;
 use framehop_stacks::error::StacksError;
 use framehop_stacks::stack::Stack;
 use std::alloc::Global;
@@ -26,6 +27,16 @@ fn read_memory(file: &[u8], segments: &[ProgramHeader], address: u64) -> Result<
     match word_at(file, segments, address) {
         Some(word) => Ok(word),
         None => Err(()),
+    }
+}
+
+impl Words for Dump<'_> {
+    ghost use Rattle.framehop_core_stacks.specs.Dump.{dump_view, memory_in};
+
+    ghost memory = { λ dump. memory_in (dump_view dump) };
+
+    fn read(&self, address: u64) -> Result<u64, ()> {
+        read_memory(self.file, self.segments.as_slice(), address)
     }
 }
 

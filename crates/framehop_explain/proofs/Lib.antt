@@ -1,5 +1,8 @@
+pub mod AnnotatedLemmas
+pub mod CallerLemmas
 pub mod CodeLemmas
 pub mod DecidedLemmas
 pub mod FramesLemmas
+pub mod NoteLemmas
 pub mod ToldLemmas
 pub mod UncoveredLemmas

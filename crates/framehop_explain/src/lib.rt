@@ -1,19 +1,32 @@
-//! Where a frame came from, and why: unwind rules as text, what kind of unwind data a module has, and explanations.
+//! Where a frame came from, and why: unwind rules as text, what unwind data a module has, explanations, and notes
+//! under the lines of a text.
 #![tactic(auto)]
 
+pub mod annotate;
 pub mod compact;
+pub mod count;
 pub mod explain;
 pub mod frames;
 pub mod kind;
+pub mod note;
+pub mod notes;
 pub mod pe;
 pub mod rule_text;
 pub mod source;
+pub mod text;
 pub mod told;
 pub mod uncovered;
+pub mod words;
 
+pub use annotate::annotated;
+pub use count::UnwindDataCount;
 pub use explain::{Explanation, Finding, explain_frame};
 pub use kind::UnwindDataKind;
+pub use note::Note;
+pub use notes::{note_frame, note_walk};
 pub use rule_text::{DescribeRule, Described};
 pub use source::{CompactSource, PeSource, RowSource, Source};
+pub use text::{frame_text, unwind_data_text};
 pub use told::Told;
 pub use uncovered::{Uncovered, last_module_by};
+pub use words::Words;

@@ -3,8 +3,8 @@ use Rattle.std.specs.Prelude.{◌≡◌, ℕ, List, Option, Ok}
 use Rattle.std.specs.List.{AllByRecursion}
 use Rattle.std.specs.Io.KnownBytes.{Appends}
 use Rattle.framehop_walk.specs.Answers.{Answers}
-use Rattle.framehop_explain_program.specs.Annotated.{annotated}
-use Rattle.framehop_explain_program.specs.Note.{IsNote}
+use Rattle.framehop_explain.specs.Annotated.{annotated}
+use Rattle.framehop_explain.specs.Note.{IsNote}
 
 -- the answer of `framehop-walk` to these bytes, with notes under its lines
 pub record IsExplained (bytes output : List ℕ) : Type 0 where

@@ -1,6 +1,3 @@
--- What the contracts of this crate cite: notes, the lines that they lie under, and runs of the program.
-pub mod Annotated
+-- What the contracts of this crate cite: answers with notes, and runs of the program.
 pub mod Explained
-pub mod Frames
-pub mod Note
 pub mod Runs

@@ -1,12 +1,10 @@
 //! The notes of a list of commands: what each of its frames came from.
-use crate::frames::{note_frame, note_walk};
-use crate::note::Note;
 use crate::notes::module_note;
 use framehop::session::{Command, Memory};
 use framehop::unwinder::UnwinderInternal;
 use framehop::{AllocationPolicy, FrameAddress, Generations, Module, ModuleListError, Unwinder};
-use framehop_explain::DescribeRule;
 use framehop_explain::pe::Sources;
+use framehop_explain::{DescribeRule, Note, note_frame, note_walk};
 use framehop_walk::Refusal;
 use framehop_walk::commands::read_command;
 use framehop_walk::fields::{list, text};

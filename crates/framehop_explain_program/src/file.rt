@@ -17,7 +17,7 @@ use framehop_elf::section_header::read_section_headers;
 use framehop_elf::unwind_sections::read_unwind_sections;
 use framehop_explain::explain::explain_module;
 use framehop_explain::pe::Sources;
-use framehop_explain::{DescribeRule, Described, RowSource, Source, Told, UnwindDataKind};
+use framehop_explain::{DescribeRule, Described, RowSource, Source, Told, unwind_data_text};
 use std::alloc::{AllocError, Global};
 use thiserror::Error;
 
@@ -250,7 +250,8 @@ where
     A::UnwindRule: DescribeRule,
 {
     let mut out = String::new(alloc);
-    writeln!(out, "{}", UnwindDataKind::of(module))?;
+    let unwind_data = unwind_data_text(alloc, module)?;
+    writeln!(out, "{}", unwind_data.as_str())?;
     for address in addresses {
         push_address::<A>(alloc, module, *address, &mut out)?;
     }
@@ -262,7 +263,7 @@ where
     Ok(out)
 }
 
-/// Returns what an ELF file has to unwind by, as text: the kind of its unwind data; then for each of the addresses
+/// Returns what an ELF file has to unwind by, as text: what unwind data it has; then for each of the addresses
 /// (SVMAs) the FDE, the row and the rule, or without addresses a line for each FDE.
 ///
 /// # Errors

@@ -2,13 +2,10 @@
 //! from; and what an ELF file has to unwind by.
 #![tactic(auto)]
 
-mod annotate;
 mod explainer;
 mod fault;
 mod fields;
 mod file;
-mod frames;
-mod note;
 mod notes;
 mod program;
 mod row_text;

@@ -9,16 +9,14 @@ ghost use Rattle.framehop_walk.specs.declared.refusal.Refusal.TheVariants.{OutOf
 ghost use Rattle.framehop_explain_program.specs.Explained.{IsExplained, IsPrinted};
 ghost use Rattle.framehop_explain_program.specs.Runs.{place_text, problem_line, IsRun};
 
-use crate::annotate::annotated;
 use crate::explainer::notes_of;
 use crate::fault::Fault;
 use crate::fields::{items_of, text_of, wrong_field, wrong_number};
-use crate::note::Note;
 use framehop::aarch64::ArchAarch64;
 use framehop::x86_64::ArchX86_64;
 use framehop::{AllocationPolicy, MayAllocateDuringUnwind, MustNotAllocateDuringUnwind};
-use framehop_explain::DescribeRule;
 use framehop_explain::pe::Sources;
+use framehop_explain::{DescribeRule, Note, annotated};
 use framehop_walk::fields::text;
 use framehop_walk::registers::Registers;
 use framehop_walk::{Input, Output, Refusal, replies_to_value, write_whole};

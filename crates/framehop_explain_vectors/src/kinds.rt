@@ -1,10 +1,11 @@
-//! Kinds of unwind data, and why an index is refused: lengths of entries are those of DWARF 5 section 7.4.
+//! Kinds of unwind data, how much there is, and why an index is refused: lengths of entries are those of DWARF 5 section
+//! 7.4.
 use framehop::{ExplicitModuleSectionInfo, Module};
-use framehop_explain::UnwindDataKind;
+use framehop_explain::unwind_data_text;
 use std::alloc::Global;
 use std::test::Fail;
 
-/// Sections of a module, as hexadecimal digits, and what kind of unwind data it has, in words.
+/// Sections of a module, as hexadecimal digits, and what unwind data it has, in words.
 #[derive(Clone, Copy)]
 struct Kind {
     unwind_info: Option<&'static str>,
@@ -39,7 +40,7 @@ fn kind_text(alloc: Global, kind: &Kind) -> Result<String, Fail> {
     };
     let name = String::from_str(alloc, "m")?;
     let loaded = Module::new(alloc, name, 0x1000..0x2000, 0x1000, info)?;
-    Ok(format!(in alloc; "{}", UnwindDataKind::of(&loaded))?)
+    Ok(unwind_data_text(alloc, &loaded)?)
 }
 
 #[test]
@@ -49,29 +50,29 @@ fn names_each_kind(rt: HostRuntime) -> Result<(), Fail> {
         NO_SECTIONS,
         Kind {
             debug_frame: Some("04000000ffffffff"),
-            want: ".debug_frame with an index",
+            want: ".debug_frame with an index, 0 FDEs",
             ..NO_SECTIONS
         },
         Kind {
             eh_frame: Some(""),
-            want: ".eh_frame with an index",
+            want: ".eh_frame with an index, 0 FDEs",
             ..NO_SECTIONS
         },
         Kind {
             eh_frame: Some(""),
             eh_frame_hdr: Some(""),
-            want: ".eh_frame with .eh_frame_hdr",
+            want: ".eh_frame with .eh_frame_hdr, whose table can't be read (Eof)",
             ..NO_SECTIONS
         },
         Kind {
             unwind_info: Some(""),
-            want: "compact unwind info without __eh_frame",
+            want: "compact unwind info without __eh_frame, whose index can't be read (Eof)",
             ..NO_SECTIONS
         },
         Kind {
             unwind_info: Some(""),
             eh_frame: Some(""),
-            want: "compact unwind info with __eh_frame",
+            want: "compact unwind info with __eh_frame, whose index can't be read (Eof)",
             ..NO_SECTIONS
         },
         // an entry of 5 bytes that has 4, and a reserved length

@@ -210,7 +210,8 @@ def write(sections, text_end, rows):
     text = ",\n  ".join(json.dumps(it, separators=(",", ":")) for it in commands)
     head = f'{{"about":{json.dumps(about)},\n "arch":"x86_64","policy":"both","caches":1,"commands":[\n  '
     (CASES / "pe_of_a_dll.json").write_text(head + text + "\n ]}\n")
-    lines = ["new 0", "add", "  m: PE unwind info", *(line for _, told in rows for line in told)]
+    count = len(sections[".pdata"][1]) // 12
+    lines = ["new 0", "add", f"  m: PE unwind info, {count} functions", *(line for _, told in rows for line in told)]
     (CASES / "pe_of_a_dll.expected").write_text("\n".join(lines) + "\n")
 
 

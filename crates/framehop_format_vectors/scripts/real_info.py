@@ -109,7 +109,9 @@ def write(name, arch, data, functions, end):
         "do": "add", "unwinder": 0, "name": "m", "start": "0", "end": "10000", "base": "0", "base_svma": "0",
         "sections": [section], "segments": [],
     }]
-    lines = ["new 0", "add", "  m: compact unwind info without __eh_frame"]
+    # the last entry of the index is a sentinel; it has one page before that
+    assert int.from_bytes(data[24:28], "little") == 2
+    lines = ["new 0", "add", "  m: compact unwind info without __eh_frame, 1 page"]
     starts = [int(start, 16) for start, _ in functions] + [int(end, 16)]
     for (start, opcode), following in zip(functions, starts[1:]):
         start, opcode = int(start, 16), int(opcode, 16)

@@ -123,6 +123,12 @@ fn command<'a>(alloc: Global) -> Result<Command<'a>> {
             "Print a block for each sample of a recording, with a line for each frame, as for each thread of a core file",
         )
         .action(ArgAction::SetTrue);
+    let explain = Arg::new(alloc, "explain")
+        .long("explain")
+        .help(
+            "Print a note under each frame of a core file: where its caller came from, or why the frame pointer was followed",
+        )
+        .action(ArgAction::SetTrue);
     let files = Arg::new(alloc, "file")
         .value_name("FILE")
         .required(true)
@@ -135,6 +141,7 @@ fn command<'a>(alloc: Global) -> Result<Command<'a>> {
         .arg(root)?
         .arg(debug_dir)?
         .arg(frames)?
+        .arg(explain)?
         .arg(limit)?
         .arg(files)?;
     Ok(command)
@@ -171,9 +178,10 @@ fn run(rt: &HostRuntime) -> Result<u8> {
         root,
         debug_dir,
     };
+    let explain = matches.get_flag("explain");
     let mut status = 0;
     for path in matches.get_strs("file").unwrap_or(&[]) {
-        status = status.max(print_stacks(rt, path, &disk, options)?);
+        status = status.max(print_stacks(rt, path, &disk, options, explain)?);
     }
     Ok(status)
 }
@@ -204,8 +212,14 @@ fn announce(rt: &HostRuntime, path: &str, size: u64) -> Result<()> {
     Ok(())
 }
 
-/// Prints the stacks of a recording, which must be a regular file.
-fn print_stacks(rt: &HostRuntime, path: &str, disk: &Disk<'_>, options: Options) -> Result<u8> {
+/// Prints the stacks of a recording or of a core file, which must be a regular file.
+fn print_stacks(
+    rt: &HostRuntime,
+    path: &str,
+    disk: &Disk<'_>,
+    options: Options,
+    explain: bool,
+) -> Result<u8> {
     let metadata = match fs::metadata(rt, path) {
         Ok(metadata) => metadata,
         Err(error) => {
@@ -220,7 +234,11 @@ fn print_stacks(rt: &HostRuntime, path: &str, disk: &Disk<'_>, options: Options)
     announce(rt, path, metadata.len())?;
     match fs::read(rt, path) {
         Ok(bytes) if bytes.starts_with(b"\x7fELF") => {
-            print_core(rt, path, bytes.as_slice(), disk, options.limit)
+            print_core(rt, path, bytes.as_slice(), disk, options.limit, explain)
+        }
+        Ok(_) if explain => {
+            eprintln!(rt; "framehop-stacks: {path}: only core files are explained")?;
+            Ok(2)
         }
         Ok(bytes) => print_stacks_of(rt, path, bytes.as_slice(), disk, options),
         Err(error) => {
@@ -256,10 +274,11 @@ fn print_core(
     bytes: &[u8],
     disk: &Disk<'_>,
     limit: u32,
+    explain: bool,
 ) -> Result<u8> {
     let mut out = BufWriter::new(rt.alloc(), io::writer(rt))?;
     let mut err = rt.stderr();
-    let written = write_core_stacks(rt.alloc(), bytes, disk, limit, &mut out, &mut err);
+    let written = write_core_stacks(rt.alloc(), bytes, disk, limit, explain, &mut out, &mut err);
     io::Write::flush(&mut out)?;
     match written {
         Ok(()) => Ok(0),

@@ -52,6 +52,13 @@ impl<D: SectionBytes + Drop, P: AllocationPolicy> UnwinderAarch64<D, P> {
     {
         Ok(UnwinderAarch64(UnwinderInternal::new(alloc, generations)?))
     }
+
+    /// Returns the unwinder that this one wraps.
+    pub fn inner(&self) -> &UnwinderInternal<D, ArchAarch64, P>
+        ensures { result.now ≡ self.now }
+    {
+        &self.0
+    }
 }
 
 impl<D: SectionBytes + Drop, P: AllocationPolicy> Unwinder for UnwinderAarch64<D, P> {

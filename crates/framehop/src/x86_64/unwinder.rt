@@ -52,6 +52,13 @@ impl<D: SectionBytes + Drop, P: AllocationPolicy> UnwinderX86_64<D, P> {
     {
         Ok(UnwinderX86_64(UnwinderInternal::new(alloc, generations)?))
     }
+
+    /// Returns the unwinder that this one wraps.
+    pub fn inner(&self) -> &UnwinderInternal<D, ArchX86_64, P>
+        ensures { result.now ≡ self.now }
+    {
+        &self.0
+    }
 }
 
 impl<D: SectionBytes + Drop, P: AllocationPolicy> Unwinder for UnwinderX86_64<D, P> {

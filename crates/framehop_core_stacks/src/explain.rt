@@ -1,0 +1,98 @@
+//! Notes under the lines of the text of a core file: where each frame's caller came from, and why walks ended.
+ghost use Rattle.std.specs.Prelude.{◌≡◌, ◌+◌, length, sum_by, IfOk, OnOk};
+ghost use Rattle.framehop_core_file.specs.Thread.{thread_view};
+ghost use Rattle.framehop_stacks.specs.Stack.{option_stack_view};
+ghost use Rattle.framehop_core_stacks.specs.Dump.{dump_view};
+ghost use Rattle.framehop_core_stacks.specs.Explained.{line_count, end_note, IsExplained};
+ghost use Rattle.framehop_core_stacks.specs.Thread.{thread_stack};
+
+use crate::dump::Dump;
+use crate::machine::Dumped;
+use crate::stack::walk_thread;
+use framehop::session::WalkEnd;
+use framehop_core_file::thread::Thread;
+use framehop_explain::{Note, annotated};
+use framehop_processes::Process;
+use framehop_stacks::error::StacksError;
+use framehop_stacks::stack::Stack;
+use std::alloc::{AllocError, Global};
+
+/// Returns the note of the end of a thread's walk: why it was refused, if it was.
+fn end_note(alloc: Global, walked: &Option<Stack>) -> Result<Note, AllocError>
+    ensures { IfOk result (λ note. note ≡ end_note (option_stack_view walked.now)) }
+{
+    let note = Note::new(alloc);
+    match walked {
+        Some(
+            Stack {
+                end: WalkEnd::Refused(error),
+                ..
+            },
+        ) => {
+            let line = format!(in alloc; "{error}")?;
+            note.with_line(line.as_str())
+        }
+        _ => Ok(note),
+    }
+}
+
+/// Notes what is to be said of each line of a thread's block: nothing of its head, where each frame's caller came from,
+/// why the walk ended, and nothing of the blank line.
+fn note_thread<U: Dumped>(
+    alloc: Global,
+    dump: &Dump<'_>,
+    process: &Process<U>,
+    cache: &mut U::Cache,
+    thread: Thread<'_>,
+    limit: u32,
+    notes: &mut Vec<Note>,
+) -> Result<(), StacksError>
+    ensures { OnOk result (length notes.new.items ≡ length notes.old.items
+        + line_count (thread_stack U.step_by U.begins limit process.now.unwinder.modules (dump_view dump.now) (thread_view thread.entry))) }
+{
+    let unwinder = process.unwinder();
+    notes.push(Note::new(alloc))?;
+    if let Some(start) = U::begin(thread.pac_mask, thread.registers) {
+        unwinder.note_walk(alloc, start.pc, start.regs, dump, limit, notes)?;
+    }
+    let walked = walk_thread(alloc, unwinder, cache, dump, thread, limit)?;
+    notes.push(end_note(alloc, &walked)?)?;
+    notes.push(Note::new(alloc))?;
+    Ok(())
+}
+
+/// Returns a note for each line of the text of all threads.
+fn threads_notes<U: Dumped>(
+    alloc: Global,
+    dump: &Dump<'_>,
+    process: &Process<U>,
+    limit: u32,
+) -> Result<Vec<Note>, StacksError>
+where
+    U::Cache: Drop,
+    ensures { IfOk result (λ notes. length notes.items ≡ sum_by (λ thread. line_count
+        (thread_stack U.step_by U.begins limit process.now.unwinder.modules (dump_view dump.now) (thread_view thread))) dump.now.threads.items) }
+{
+    let mut cache = U::new_cache(alloc)?;
+    let mut notes = Vec::new(alloc);
+    for thread in &dump.threads {
+        note_thread(alloc, dump, process, &mut cache, *thread, limit, &mut notes)?;
+    }
+    Ok(notes)
+}
+
+/// Returns the text of all threads with a note under each frame, which says what its caller came from.
+pub fn explained_text<U: Dumped>(
+    alloc: Global,
+    dump: &Dump<'_>,
+    process: &Process<U>,
+    limit: u32,
+    text: &[u8],
+) -> Result<Vec<u8>, StacksError>
+where
+    U::Cache: Drop,
+    ensures { IfOk result (λ explained. IsExplained text.now explained.items) }
+{
+    let notes = threads_notes(alloc, dump, process, limit)?;
+    Ok(annotated(alloc, text, notes.as_slice())?)
+}

@@ -1,3 +1,0 @@
-pub mod AnnotatedLemmas
-pub mod FrameLemmas
-pub mod NoteLemmas
