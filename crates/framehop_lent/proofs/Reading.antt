@@ -67,15 +67,15 @@ pub record IsRead (f : Reader) (a : ℕ × Unit {0}) (r : Result ℕ (Unit {0}))
   pub place : f'.1.ghost_name ≡ f.1.ghost_name
 
 module _ (calls : Mut Reader (ℕ × Unit {0}) (Result ℕ (Unit {0}))) {old new : Reader} {Holds : Memory → Type 0} (done : Answering calls old new Holds)
-  (each : (f : Reader) (a : ℕ × Unit {0}) (r : Result ℕ (Unit {0})) (f' : Reader) → Called calls f a r f' → IsRead f a r f') where
+    (each : (f : Reader) (a : ℕ × Unit {0}) (r : Result ℕ (Unit {0})) (f' : Reader) → Called calls f a r f' → IsRead f a r f') where
   -- afterwards the callback has the same place
   same-place : old.1.ghost_name ≡ new.1.ghost_name
   same-place =
       let same : Reader → Bool = λ f. old.1.ghost_name == f.1.ghost_name in
       let reads = AnswersWhile-kept calls (λ _. None) (λ f. not (same f)) (λ f. old.1.ghost_name ≡ f.1.ghost_name)
       (λ f a r f' now call.
-          let after : old.1.ghost_name ≡ f'.1.ghost_name = now ∙ sym (each f a r f' call).place in
-          ((λ gone. not-both (same f') (eq-eqb old.1.ghost_name f'.1.ghost_name after) gone), after)) old refl in
+      let after : old.1.ghost_name ≡ f'.1.ghost_name = now ∙ sym (each f a r f' call).place in
+      ((λ gone. not-both (same f') (eq-eqb old.1.ghost_name f'.1.ghost_name after) gone), after)) old refl in
       let never : IsTrue (not (same new)) → ⊥ = λ gone. not-both (same old) (eq-eqb old.1.ghost_name old.1.ghost_name refl) ((done (λ _. None) (λ f. not (same f)) reads).1 gone).0 in
       eqb-true old.1.ghost_name new.1.ghost_name (unless-not (same new) never)
 
@@ -87,16 +87,16 @@ module _ (calls : Mut Reader (ℕ × Unit {0}) (Result ℕ (Unit {0}))) {old new
         let Notes : Reader → Type 0 = λ f. (f.0 ≡ old.0) × IfSome f.1.now (λ asked. told_in old.0.now asked ≡ None) in
         let begun : IfSome old.1.now (λ asked. told_in old.0.now asked ≡ None) = rw none tt in
         ((done memory kept (AnswersWhile-kept calls memory kept Notes (λ f a r f' notes call.
-            let read = each f a r f' call in
-            let one = reads-on old.0.now memory agrees f.1.now a.0 r f'.1.now notes.1 (rw notes.0 at read.gives) (rw notes.0 at read.notes) in
-            ((λ told. let now = one.0 told in (now.0, λ _. now.1)), (read.windows ∙ notes.0, one.1))) old (refl, begun))).1 told).1
+        let read = each f a r f' call in
+        let one = reads-on old.0.now memory agrees f.1.now a.0 r f'.1.now notes.1 (rw notes.0 at read.gives) (rw notes.0 at read.notes) in
+        ((λ told. let now = one.0 told in (now.0, λ _. now.1)), (read.windows ∙ notes.0, one.1))) old (refl, begun))).1 told).1
 
     -- the memory of the windows' words
     over-words : ((address : ℕ) → memory address ≡ words_in old.0.now address) → Holds memory
     over-words same =
         (Answering-over calls done memory (AnswersAs-kept calls memory (λ f. f.0 ≡ old.0) (λ f a r f' now call.
-            let read = each f a r f' call in
-            ((λ _. (rw now at read.gives) ∙ sym (ap reply (same a.0))), read.windows ∙ now)) old refl)).1
+        let read = each f a r f' call in
+        ((λ _. (rw now at read.gives) ∙ sym (ap reply (same a.0))), read.windows ∙ now)) old refl)).1
 
     -- as the windows were read, where a missing word is told of in that place
     pub over-read : (missing : Option ℕ) → old.1.now ≡ None → (old.1.ghost_name ≡ new.1.ghost_name → missing ≡ None → IfSome new.1.now (λ asked. told_in old.0.now asked ≢ None))
