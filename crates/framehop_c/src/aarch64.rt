@@ -1,11 +1,12 @@
 //! The calls for aarch64.
 ghost use Rattle.std.specs.Prelude.{◌≡◌, ◌≢◌, ◌≤◌, ◌<◌, ◌-◌, ◌^◌, ◌+◌, length, drop, true, false, [], None, Some, MatchOption, IfSome, ◌⊎◌, ◌↔◌};
+ghost use Rattle.framehop.specs.Memory.{Memory};
 ghost use Rattle.framehop.specs.Modules.{greatest_end};
 ghost use Rattle.framehop.specs.Fresh.{step};
 ghost use Rattle.framehop.specs.Soundness.{MayRunOut, cache_after, cache_after_lookup};
 ghost use Rattle.framehop.specs.Aarch64.{aarch64, IsSoundAarch64};
 ghost use Rattle.framehop_cache.specs.Cache.{empty_cache};
-ghost use Rattle.framehop_lent.specs.Window.{words_from, words_in, told_in};
+ghost use Rattle.framehop_lent.specs.Window.{words_from, told_in, AgreesWith, IsReadAs};
 ghost use Rattle.framehop_lent.specs.Walk.{BeginsWalk};
 ghost use Rattle.framehop_c.specs.Status.{ok, missing_word, out_of_memory, wrong_handle, generations_exhausted, could_not_read_stack};
 ghost use Rattle.framehop_c.specs.Told.{IsToldWalk, IsToldPart, IsToldUpTo, IsToldStep, IsNullStep, IsNullWalk, IsStats, location_at, is_null_return, module_of};
@@ -347,7 +348,8 @@ fn walk_on_by(
     ensures stays_sound { ForPair unwinder.now cache.old cache.new StaysSound }
     ensures answers { ForPair unwinder.now cache.old cache.new (λ policy unwinder old new.
         is_null_return address is_return_address ≡ false → IsSoundAarch64 policy unwinder old
-        → IsToldUpTo (λ location now. step (aarch64 policy) unwinder.modules location now (words_in windows.now)) (length frames.old)
+        → (memory : Memory) → AgreesWith windows.now memory
+        → IsToldUpTo (λ location now. step (aarch64 policy) unwinder.modules location now memory) (length frames.old)
         (location_at address is_return_address) regs.old result told.new frames.new regs.new) }
 {
     match unwinder {
@@ -410,7 +412,8 @@ pub extern "C" fn framehop_unwinder_aarch64_walk_on(
     ensures stays_sound { ForPair unwinder.old.object cache.old.object cache.new.object StaysSound }
     ensures answers { ForPair unwinder.old.object cache.old.object cache.new.object (λ policy unwinder old new.
         is_null_return address is_return_address ≡ false → IsSoundAarch64 policy unwinder old
-        → IsToldUpTo (λ location now. step (aarch64 policy) unwinder.modules location now (words_in windows.now)) (length frames.old)
+        → (memory : Memory) → AgreesWith windows.now memory
+        → IsToldUpTo (λ location now. step (aarch64 policy) unwinder.modules location now memory) (length frames.old)
         (location_at address is_return_address) (registers_in registers.old) result told.new frames.new (registers_in registers.new)) }
 {
     let mut regs = registers.load();
@@ -459,7 +462,8 @@ fn unwind_frame_by(
     ensures stays_sound { ForPair unwinder.now cache.old cache.new StaysSound }
     ensures answers { ForPair unwinder.now cache.old cache.new (λ policy unwinder old new.
         is_null_return address is_return_address ≡ false → IsSoundAarch64 policy unwinder old → result ≢ out_of_memory
-        → IsToldStep (step (aarch64 policy) unwinder.modules (location_at address is_return_address) regs.old (words_in windows.now))
+        → (memory : Memory) → IsReadAs windows.now told.new.has_missing memory
+        → IsToldStep (step (aarch64 policy) unwinder.modules (location_at address is_return_address) regs.old memory)
         result told.new regs.old regs.new) }
 {
     match unwinder {
@@ -523,7 +527,8 @@ pub extern "C" fn framehop_unwinder_aarch64_unwind_frame(
     ensures stays_sound { ForPair unwinder.old.object cache.old.object cache.new.object StaysSound }
     ensures answers { ForPair unwinder.old.object cache.old.object cache.new.object (λ policy unwinder old new.
         is_null_return address is_return_address ≡ false → IsSoundAarch64 policy unwinder old → result ≢ out_of_memory
-        → IsToldStep (step (aarch64 policy) unwinder.modules (location_at address is_return_address) (registers_in registers.old) (words_in windows.now))
+        → (memory : Memory) → IsReadAs windows.now told.new.has_missing memory
+        → IsToldStep (step (aarch64 policy) unwinder.modules (location_at address is_return_address) (registers_in registers.old) memory)
         result told.new (registers_in registers.old) (registers_in registers.new)) }
 {
     let mut regs = registers.load();

@@ -1,11 +1,12 @@
 //! The calls of an unwinder, with numbers for what they return.
 ghost use Rattle.std.specs.Prelude.{◌≡◌, ◌≢◌, ◌≤◌, ◌^◌, ◌-◌, ◌+◌, ◌<◌, length, drop, true, false, None, MatchOption, ◌⊎◌, IfOk, IfErr};
+ghost use Rattle.framehop.specs.Memory.{Memory};
 ghost use Rattle.framehop.specs.Outcome.{Outcome};
 ghost use Rattle.framehop.specs.CodeAddress.{FrameLocation, location_of};
 ghost use Rattle.framehop.specs.Modules.{UnwinderView, with_module, without_module, has_start};
 ghost use Rattle.framehop.specs.Soundness.{AreApart};
 ghost use Rattle.framehop.specs.Walk.{walk_from, cache_after_walk};
-ghost use Rattle.framehop_lent.specs.Window.{words_from, words_in, told_in};
+ghost use Rattle.framehop_lent.specs.Window.{words_from, told_in, AgreesWith, IsReadAs};
 ghost use Rattle.framehop_lent.specs.Walk.{BeginsWalk};
 ghost use Rattle.framehop_c.specs.Status.{ok, missing_word, out_of_memory, generations_exhausted, wrong_handle, could_not_read_stack};
 ghost use Rattle.framehop_c.specs.Told.{IsToldWalk, IsToldPart, IsToldUpTo, IsToldStep, IsNullStep, IsNullWalk, IsNothing, IsStats, location_at, is_null_return, module_of};
@@ -167,8 +168,8 @@ pub fn unwind_frame<U: Unwinder>(
     ensures stays_sound { (other : UnwinderView) → AreApart (U.unwinder_view unwinder.now) other
         → U.is_sound other cache.old → U.is_sound other cache.new }
     ensures answers { is_null_return address is_return_address ≡ false → U.is_sound (U.unwinder_view unwinder.now) cache.old
-        → result ≢ out_of_memory
-        → IsToldStep (U.step unwinder.now (location_at address is_return_address) regs.old (words_in windows.now)) result step.new regs.old regs.new }
+        → result ≢ out_of_memory → (memory : Memory) → IsReadAs windows.now step.new.has_missing memory
+        → IsToldStep (U.step unwinder.now (location_at address is_return_address) regs.old memory) result step.new regs.old regs.new }
 {
     let Some(frame) = frame_at(address, is_return_address) else {
         *step = FramehopStep::nothing();
@@ -207,8 +208,9 @@ pub fn walk_on_from<U: Unwinder>(
     ensures may_run_out { result ≡ out_of_memory
         → (location : FrameLocation) × (cache : U.Cache) × U.may_run_out unwinder.now cache location }
     ensures unreadable { result ≡ out_of_memory → walk.new.unreadable ≡ 0 }
-    ensures answers { is_null_return address is_return_address ≡ false → U.is_sound (U.unwinder_view unwinder.now) cache.old →
-        let step : FrameLocation → U.UnwindRegs → Outcome U.UnwindRegs = λ location regs. U.step unwinder.now location regs (words_in windows.now) in
+    ensures answers { is_null_return address is_return_address ≡ false → U.is_sound (U.unwinder_view unwinder.now) cache.old
+        → (memory : Memory) → AgreesWith windows.now memory →
+        let step : FrameLocation → U.UnwindRegs → Outcome U.UnwindRegs = λ location regs. U.step unwinder.now location regs memory in
         IsToldUpTo step (length frames.old) (location_at address is_return_address) regs.old result walk.new frames.new regs.new }
 {
     let Some(callee) = frame_at(address, is_return_address) else {

@@ -1,5 +1,5 @@
 -- The memory of stack words that are lent.
-use Rattle.std.specs.Prelude.{ℕ, if◌then◌else◌, nat_le, ◌&&◌, ◌==◌, ◌-◌, ◌/◌, ◌%◌, List, [], ◌∷◌, length, slice_get, Option, Some, None, option_map, Result, Err}
+use Rattle.std.specs.Prelude.{ℕ, ◌≡◌, Bool, true, false, if◌then◌else◌, nat_le, ◌&&◌, ◌==◌, ◌-◌, ◌/◌, ◌%◌, List, [], ◌∷◌, length, slice_get, Option, Some, None, IfSome, option_map, Result, Err}
 use Rattle.framehop.specs.Memory.{Memory}
 use Rattle.framehop_core.specs.declared.error.Error.{Error}
 use Rattle.framehop_core.specs.declared.error.Error.TheVariants.{CouldNotReadStack}
@@ -36,6 +36,16 @@ word_told None = None
 
 abbrev pub words_in : List Window → Memory
 words_in windows address = word_told (told_in windows address)
+
+-- a memory agrees with windows: it has each word that they tell of, and no word where they tell that there is none
+abbrev pub AgreesWith : List Window → Memory → Type 0
+AgreesWith windows memory = (address : ℕ) → IfSome (told_in windows address) (λ word. memory address ≡ word)
+
+-- The memories over which the answer stands that windows led to: where a word was missing, that of their words; where
+-- none was, each that agrees with them, whatever it has elsewhere.
+abbrev pub IsReadAs : List Window → Bool → Memory → Type 0
+IsReadAs windows true memory = (address : ℕ) → memory address ≡ words_in windows address
+IsReadAs windows false memory = AgreesWith windows memory
 
 -- the address, unless something is told of it
 abbrev pub unless_told : Option (Option ℕ) → ℕ → Option ℕ

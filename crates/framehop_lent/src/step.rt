@@ -1,11 +1,12 @@
 //! One step over the words of windows.
 ghost use Rattle.std.specs.Prelude.{◌≡◌, ◌≢◌, Err, None, IfSome, IfNone, MatchResult};
-ghost use Rattle.framehop.specs.Memory.{reply};
+ghost use Rattle.std.specs.Option.{is_some};
+ghost use Rattle.framehop.specs.Memory.{Memory, reply};
 ghost use Rattle.framehop.specs.CodeAddress.{location_of};
 ghost use Rattle.framehop.specs.Outcome.{answer_of, registers_after};
 ghost use Rattle.framehop.specs.Modules.{UnwinderView};
 ghost use Rattle.framehop.specs.Soundness.{AreApart};
-ghost use Rattle.framehop_lent.specs.Window.{told_in, words_in, noted, unreadable_word};
+ghost use Rattle.framehop_lent.specs.Window.{told_in, words_in, noted, unreadable_word, IsReadAs};
 
 use crate::window::{Window, told, word_at};
 use framehop::{Error, FrameAddress, Unwinder};
@@ -55,6 +56,7 @@ fn missing_word(
     answer: Result<Option<u64>, Error>,
 ) -> Option<u64>
     ensures missing { IfSome result (λ asked. told_in windows.now asked ≡ None) }
+    ensures none { result ≡ None → IfSome first_missing (λ address. told_in windows.now address ≢ None) }
     ensures unreadable { result ≡ None → IfSome (unreadable_word answer) (λ address. told_in windows.now address ≢ None) }
 {
     untold(windows, first_missing).or(untold(windows, unreadable(answer)))
@@ -66,7 +68,8 @@ fn missing_word(
 /// `missing` is the first address (AVMA) of a word that was asked for and of which no window
 /// tells, if there is one. Who can read that word adds a window that has it, or an empty window
 /// where it can't be read, and calls again with the registers of before. Where no word is missing,
-/// a word that could not be read is one of which a window tells.
+/// the windows decide: the step is the same over each stack that has what they tell, and a word that
+/// could not be read is one of which a window tells.
 #[inline(always)]
 pub fn step_over<U: Unwinder>(
     unwinder: &U,
@@ -87,7 +90,8 @@ pub fn step_over<U: Unwinder>(
     ensures stays_sound { (other : UnwinderView) → AreApart (U.unwinder_view unwinder.now) other
         → U.is_sound other cache.old → U.is_sound other cache.new }
     ensures answers { U.is_sound (U.unwinder_view unwinder.now) cache.old → result ≢ Err Error.OutOfMemory →
-        let stepping = U.step unwinder.now (location_of address) regs.old (words_in windows.now) in
+        (memory : Memory) → IsReadAs windows.now (is_some missing.new) memory →
+        let stepping = U.step unwinder.now (location_of address) regs.old memory in
         (result ≡ answer_of stepping) × (regs.new ≡ registers_after regs.old stepping) }
 {
     let mut first_missing: Option<u64> = None;

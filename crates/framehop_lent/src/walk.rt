@@ -1,6 +1,6 @@
 //! A walk into a list that a caller lends.
 ghost use Rattle.std.specs.Prelude.{◌≡◌, ◌≢◌, ◌≤◌, ◌-◌, map, length, take, drop, Err, IfErr, MatchResult};
-ghost use Rattle.framehop.specs.Memory.{Answering, reply};
+ghost use Rattle.framehop.specs.Memory.{Memory, Answering, reply};
 ghost use Rattle.framehop.specs.CodeAddress.{FrameLocation, location_of};
 ghost use Rattle.framehop.specs.Outcome.{Outcome};
 ghost use Rattle.framehop.specs.Iterator.{at_frame, next_of, walk_on, cache_on};
@@ -8,7 +8,7 @@ ghost use Rattle.framehop.specs.UnwindIterator.{unwinder_of, progress_in, regs_o
 ghost use Rattle.framehop.specs.Modules.{UnwinderView};
 ghost use Rattle.framehop.specs.Soundness.{AreApart};
 ghost use Rattle.framehop.specs.Walk.{walk_from, cache_after_walk, cache_after_callers};
-ghost use Rattle.framehop_lent.specs.Window.{words_from, words_in, told_in};
+ghost use Rattle.framehop_lent.specs.Window.{words_from, told_in, AgreesWith};
 ghost use Rattle.framehop_lent.specs.Walk.{IsWrittenWalk, BeginsWalk, IsWrittenUpTo, IsCallerOrEnd, IsUntold, WhereEnded};
 
 use crate::step::step_over;
@@ -121,8 +121,8 @@ fn caller_over<U: Unwinder>(
     ensures cached { MatchResult result
         (λ _. cache.new ≡ U.cache_after unwinder.now cache.old (location_of callee))
         (λ stop. WhereEnded stop (λ _. cache.new ≡ U.cache_after unwinder.now cache.old (location_of callee))) }
-    ensures answers { U.is_sound (U.unwinder_view unwinder.now) cache.old →
-        let step : FrameLocation → U.UnwindRegs → Outcome U.UnwindRegs = λ location regs. U.step unwinder.now location regs (words_in windows.now) in
+    ensures answers { U.is_sound (U.unwinder_view unwinder.now) cache.old → (memory : Memory) → AgreesWith windows.now memory →
+        let step : FrameLocation → U.UnwindRegs → Outcome U.UnwindRegs = λ location regs. U.step unwinder.now location regs memory in
         IsCallerOrEnd (next_of step (at_frame (location_of callee)) regs.old) result regs.new }
 {
     let before = *regs;
@@ -144,9 +144,9 @@ fn caller_over<U: Unwinder>(
 /// Walks on from a frame over the words of windows: writes the return addresses (AVMAs) of the
 /// frames that called it, and returns how many they are, and why the walk has stopped.
 ///
-/// Where a word is missing, the registers are those of the last frame that is written. Who can read
-/// that word adds a window that tells of it, and walks on from that frame. It writes at most as many
-/// frames as there is room for.
+/// What is written holds of each stack that has what the windows tell. Where a word is missing, the
+/// registers are those of the last frame that is written. Who can read that word adds a window that
+/// tells of it, and walks on from that frame. It writes at most as many frames as there is room for.
 pub fn walk_on<U: Unwinder>(
     unwinder: &U,
     cache: &mut U::Cache,
@@ -162,8 +162,8 @@ pub fn walk_on<U: Unwinder>(
     ensures missing { IsUntold windows.now result.1 }
     ensures may_run_out { result.1 ≡ WalkStop.Ended (WalkEnd.Refused Error.OutOfMemory)
         → (location : FrameLocation) × (cache : U.Cache) × U.may_run_out unwinder.now cache location }
-    ensures answers { U.is_sound (U.unwinder_view unwinder.now) cache.old →
-        let step : FrameLocation → U.UnwindRegs → Outcome U.UnwindRegs = λ location regs. U.step unwinder.now location regs (words_in windows.now) in
+    ensures answers { U.is_sound (U.unwinder_view unwinder.now) cache.old → (memory : Memory) → AgreesWith windows.now memory →
+        let step : FrameLocation → U.UnwindRegs → Outcome U.UnwindRegs = λ location regs. U.step unwinder.now location regs memory in
         let limit = length frames.old in
         IsWrittenUpTo step limit (location_of callee) regs.old result.0 frames.new result.1 regs.new
         × WhereEnded result.1 (λ _. cache.new ≡ cache_after_callers step (U.cache_after unwinder.now) limit (location_of callee) regs.old cache.old) }

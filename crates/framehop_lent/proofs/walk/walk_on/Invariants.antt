@@ -1,9 +1,10 @@
 use Rattle.std.proofs.Common.{◌≡◌, length, drop}
 use Rattle.framehop.specs.CodeAddress.{location_of}
 use Rattle.framehop.specs.Iterator.{at_frame}
+use Rattle.framehop.specs.Memory.{Memory}
 use Rattle.framehop.specs.Modules.{UnwinderView}
 use Rattle.framehop.specs.Soundness.{AreApart}
-use Rattle.framehop_lent.specs.Window.{words_in}
+use Rattle.framehop_lent.specs.Window.{AgreesWith}
 use Rattle.framehop_lent.proofs.Writing.{WritesOn}
 use Rattle.framehop_lent.proofs.walk.walk_on.Given as goal
 
@@ -14,5 +15,6 @@ invariant-loop-i g l =
     × ((other : UnwinderView) → AreApart (g.U.Unwinder.unwinder_view l.fn.unwinder) other
     → g.U.Unwinder.is_sound other l.fn.cache → g.U.Unwinder.is_sound other l.cache)
     × (g.U.Unwinder.is_sound (g.U.Unwinder.unwinder_view l.fn.unwinder) l.fn.cache
-    → WritesOn (λ location regs. g.U.Unwinder.step l.fn.unwinder location regs (words_in l.fn.windows)) (g.U.Unwinder.cache_after l.fn.unwinder)
+    → (memory : Memory) → AgreesWith l.fn.windows memory
+    → WritesOn (λ location regs. g.U.Unwinder.step l.fn.unwinder location regs memory) (g.U.Unwinder.cache_after l.fn.unwinder)
     l.frames l.i (at_frame (location_of l.callee)) (at_frame (location_of l.fn.callee)) l.regs l.fn.regs l.cache l.fn.cache)
