@@ -1,9 +1,8 @@
 //! Notes under the lines of the text of a core file: where each frame's caller came from, and why walks ended.
 ghost use Rattle.std.specs.Prelude.{◌≡◌, ◌+◌, length, sum_by, IfOk, OnOk};
 ghost use Rattle.framehop_core_file.specs.Thread.{thread_view};
-ghost use Rattle.framehop_stacks.specs.Stack.{option_stack_view};
 ghost use Rattle.framehop_core_stacks.specs.Dump.{dump_view};
-ghost use Rattle.framehop_core_stacks.specs.Explained.{line_count, end_note, IsExplained};
+ghost use Rattle.framehop_core_stacks.specs.Explained.{line_count, IsExplained};
 ghost use Rattle.framehop_core_stacks.specs.Thread.{thread_stack};
 
 use crate::dump::Dump;
@@ -18,9 +17,7 @@ use framehop_stacks::stack::Stack;
 use std::alloc::{AllocError, Global};
 
 /// Returns the note of the end of a thread's walk: why it was refused, if it was.
-fn end_note(alloc: Global, walked: &Option<Stack>) -> Result<Note, AllocError>
-    ensures { IfOk result (λ note. note ≡ end_note (option_stack_view walked.now)) }
-{
+fn end_note(alloc: Global, walked: &Option<Stack>) -> Result<Note, AllocError> {
     let note = Note::new(alloc);
     match walked {
         Some(

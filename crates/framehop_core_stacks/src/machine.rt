@@ -40,7 +40,7 @@ pub trait Dumped: Sampled {
         notes: &mut Vec<Note>,
     ) -> Result<(), AllocError>
         ensures { OnOk result (length notes.new.items ≡ length notes.old.items
-            + length (walk_from (λ location old. step_by (Self.unwinder_view self.now).modules location old (memory_in (dump_view dump.now))) limit pc regs).frames) };
+            + length (walk_from (λ location old. Self.step_by (Self.unwinder_view self.now).modules location old (memory_in (dump_view dump.now))) limit pc regs).frames) };
 }
 
 impl<D: SectionBytes + Drop> Dumped for UnwinderX86_64<D, MayAllocateDuringUnwind> {
