@@ -10,6 +10,7 @@ use framehop_minidump::exception::{context_of, read_exception};
 use framehop_minidump::header::{Header, read_header};
 use framehop_minidump::location::read_located;
 use framehop_minidump::memory::{bytes_at, bytes_from, read_memory, word_at};
+use framehop_minidump::misc_info::read_process_id;
 use framehop_minidump::module::read_modules;
 use framehop_minidump::registers::x86_64_registers;
 use framehop_minidump::stream::{first_stream, read_streams};
@@ -153,6 +154,8 @@ fn reads_header_and_system(rt: HostRuntime) -> Result<(), Fail> {
         read_system_info(file.as_slice(), streams.as_slice()),
         Ok(expected)
     );
+    let process = read_process_id(file.as_slice(), streams.as_slice());
+    assert_eq!(rt; process, Ok(Some(31455)));
     Ok(())
 }
 
