@@ -20,7 +20,7 @@ from pathlib import Path
 
 TOP = Path(__file__).resolve().parent.parent
 NAMED = ["DEFINITIONS.md", "PROVED.md", "CHANGING.md"]
-EXAMPLES = [TOP / f"crates/{name}/src/readme.rt" for name in ("framehop_vectors", "framehop_elf_vectors")]
+EXAMPLES = [TOP / f"crates/{name}/src/readme.rt" for name in ("framehop_vectors", "framehop_elf_vectors", "framehop_minidump_vectors")]
 PATHS = TOP / "crates/framehop_vectors/src/paths.rt"
 FENCE = re.compile(r"^```.*?^```", re.M | re.S)
 WORD = re.compile(r"[^\W\d][\w'-]*")

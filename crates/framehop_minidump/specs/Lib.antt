@@ -5,6 +5,7 @@ pub mod Header
 pub mod Stream
 pub mod List
 pub mod SystemInfo
+pub mod MiscInfo
 pub mod Gathered
 pub mod Memory
 pub mod Thread

@@ -28,6 +28,13 @@ SystemInfoStream = 7
 abbrev pub Memory64ListStream : ℕ
 Memory64ListStream = 9
 
+abbrev pub MiscInfoStream : ℕ
+MiscInfoStream = 15
+
+-- Flags1 of MINIDUMP_MISC_INFO
+abbrev pub MINIDUMP_MISC1_PROCESS_ID : ℕ
+MINIDUMP_MISC1_PROCESS_ID = 1
+
 -- ProcessorArchitecture
 abbrev pub PROCESSOR_ARCHITECTURE_AMD64 : ℕ
 PROCESSOR_ARCHITECTURE_AMD64 = 9

@@ -25,9 +25,8 @@ pub enum MinidumpError {
     /// The list at the offset has another size than its entries.
     #[error("a list of a wrong size at offset {offset}")]
     BadListSize { offset: u64 },
-    /// The list of memory at the offset has a range that ends at an offset of the file that does not fit 64
-    /// bits.
-    #[error("memory beyond the last offset: the list at offset {offset}")]
+    /// The range of memory whose bytes begin at the offset ends at an offset that does not fit 64 bits.
+    #[error("memory beyond the last offset: its bytes begin at offset {offset}")]
     OffsetTooBig { offset: u64 },
     /// The string at the offset has an odd number of bytes.
     #[error("a string of an odd number of bytes at offset {offset}")]

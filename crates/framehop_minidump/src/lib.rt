@@ -10,6 +10,7 @@ pub mod header;
 mod list;
 pub mod location;
 pub mod memory;
+pub mod misc_info;
 pub mod module;
 pub mod registers;
 pub mod stream;

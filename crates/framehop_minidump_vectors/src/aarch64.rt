@@ -8,6 +8,7 @@ use framehop_minidump::codeview::{CodeView, read_codeview};
 use framehop_minidump::exception::{Exception, context_of, read_exception};
 use framehop_minidump::location::read_located;
 use framehop_minidump::memory::{read_memory, word_at};
+use framehop_minidump::misc_info::read_process_id;
 use framehop_minidump::module::read_modules;
 use framehop_minidump::registers::{aarch64_registers, x86_64_registers};
 use framehop_minidump::stream::read_streams;
@@ -174,6 +175,7 @@ fn reads_system_and_threads(rt: HostRuntime) -> Result<(), Fail> {
         platform: 0x8201,
     };
     assert_eq!(rt; read_system_info(file, streams.as_slice()), Ok(system));
+    assert_eq!(rt; read_process_id(file, streams.as_slice()), Ok(None));
     let threads = read_threads(alloc, file, streams.as_slice())?;
     assert_eq!(rt; threads.len(), 3);
     let crashed = threads.get(0).copied().ok_or("no thread")?;

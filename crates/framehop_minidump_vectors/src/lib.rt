@@ -6,6 +6,8 @@ mod aarch64;
 #[cfg(test)]
 mod pieces;
 #[cfg(test)]
+mod readme;
+#[cfg(test)]
 mod refusals;
 #[cfg(test)]
 mod x86_64;

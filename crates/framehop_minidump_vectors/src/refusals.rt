@@ -7,6 +7,7 @@ use framehop_minidump::error::MinidumpError;
 use framehop_minidump::exception::{context_of, read_exception};
 use framehop_minidump::location::read_located;
 use framehop_minidump::memory::{read_memory, word_at};
+use framehop_minidump::misc_info::read_process_id;
 use framehop_minidump::module::read_modules;
 use framehop_minidump::stream::read_streams;
 use framehop_minidump::string::read_string;
@@ -20,6 +21,7 @@ fn read_all(alloc: Global, file: &[u8]) -> Result<Machine, MinidumpError> {
     let streams = read_streams(alloc, file)?;
     let streams = streams.as_slice();
     let system = read_system_info(file, streams)?;
+    read_process_id(file, streams)?;
     let exception = read_exception(file, streams)?;
     let threads = read_threads(alloc, file, streams)?;
     for thread in threads.as_slice() {
@@ -34,9 +36,9 @@ fn read_all(alloc: Global, file: &[u8]) -> Result<Machine, MinidumpError> {
     Ok(system.machine)
 }
 
-/// Changes of the file of x86_64: header and directory, system information, exception, threads and the
+/// Changes of the file of x86_64: header and directory, system information, process, exception, threads and the
 /// registers of one, memory, modules, and the name and the build id of one.
-const CHANGES: [(usize, &[u8], MinidumpError); 16] = [
+const CHANGES: [(usize, &[u8], MinidumpError); 17] = [
     (0, b"N", MinidumpError::NotAMinidump { offset: 0 }),
     (4, &[0x94], MinidumpError::UnknownVersion { offset: 4 }),
     (0xe, &[1], MinidumpError::Eof { offset: 0x10020 }),
@@ -44,6 +46,7 @@ const CHANGES: [(usize, &[u8], MinidumpError); 16] = [
     (0x2b, &[1], MinidumpError::Eof { offset: 0x10000e0 }),
     (0x24, &[23], MinidumpError::ShortStream { offset: 0xe0 }),
     (0xe0, &[5], MinidumpError::UnknownMachine { offset: 0xe0 }),
+    (0x3c, &[11], MinidumpError::ShortStream { offset: 0x292 }),
     (0x9c, &[0xa7], MinidumpError::ShortStream { offset: 0x26f7 }),
     (0x48, &[3], MinidumpError::ShortStream { offset: 0x2aa }),
     (0x2aa, &[3], MinidumpError::BadListSize { offset: 0x2aa }),

@@ -5,12 +5,14 @@
 use crate::pieces::file_of;
 use framehop_cfi::bytes::front;
 use framehop_core::x86_64::Reg;
+use framehop_elf::program_header::ProgramHeader;
 use framehop_minidump::codeview::{CodeView, read_codeview};
 use framehop_minidump::exception::{context_of, read_exception};
 use framehop_minidump::header::{Header, read_header};
 use framehop_minidump::location::read_located;
 use framehop_minidump::memory::{bytes_at, bytes_from, read_memory, word_at};
-use framehop_minidump::module::read_modules;
+use framehop_minidump::misc_info::read_process_id;
+use framehop_minidump::module::{base_avma, read_modules};
 use framehop_minidump::registers::x86_64_registers;
 use framehop_minidump::stream::{first_stream, read_streams};
 use framehop_minidump::string::read_string;
@@ -153,6 +155,8 @@ fn reads_header_and_system(rt: HostRuntime) -> Result<(), Fail> {
         read_system_info(file.as_slice(), streams.as_slice()),
         Ok(expected)
     );
+    let process = read_process_id(file.as_slice(), streams.as_slice());
+    assert_eq!(rt; process, Ok(Some(31455)));
     Ok(())
 }
 
@@ -231,6 +235,27 @@ fn reads_modules(rt: HostRuntime) -> Result<(), Fail> {
             _ => return Err("no build id".into()),
         }
     }
+    Ok(())
+}
+
+#[test]
+fn finds_bases(rt: HostRuntime) -> Result<(), Fail> {
+    let segment = |p_type: u32, p_vaddr: u64| ProgramHeader {
+        p_type,
+        p_flags: 4,
+        p_offset: 0x1b4,
+        p_vaddr,
+        p_paddr: 0,
+        p_filesz: 0,
+        p_memsz: 0,
+        p_align: 0x1000,
+    };
+    // the program's, of which `readelf -l` prints the first segment; a library's; and none
+    let segments = [segment(4, 0), segment(1, 0x4001b4), segment(1, 0x402000)];
+    assert_eq!(rt; base_avma(0x400000, &segments), Some(0));
+    assert_eq!(rt; base_avma(0x7f0000400000, &segments), Some(0x7f0000000000));
+    assert_eq!(rt; base_avma(0x3ff000, &segments), None);
+    assert_eq!(rt; base_avma(0x400000, &[segment(4, 0)]), None);
     Ok(())
 }
 

@@ -1,0 +1,112 @@
+//! The README's example of a minidump, as it is printed there, and a test of it: from the minidump of
+//! `x86_64` to the frames that LLDB prints by `thread backtrace all`.
+use crate::x86_64::dump;
+use framehop::x86_64::{CacheX86_64, UnwindRegsX86_64, UnwinderX86_64};
+use framehop::{ExplicitModuleSectionInfo, Generations, Module, Unwinder};
+use framehop_minidump::exception::{context_of, read_exception};
+use framehop_minidump::location::read_located;
+use framehop_minidump::memory::{MemoryRange, read_memory, word_at};
+use framehop_minidump::registers::x86_64_registers;
+use framehop_minidump::stream::read_streams;
+use framehop_minidump::thread::read_threads;
+use std::alloc::Global;
+use std::test::Fail;
+
+/// The registers of a thread of a minidump. The thread that crashed has those of the exception.
+fn registers_of_thread(alloc: Global, file: &[u8], index: usize) -> Result<UnwindRegsX86_64, Fail> {
+    let streams = read_streams(alloc, file)?;
+    let threads = read_threads(alloc, file, streams.as_slice())?;
+    let exception = read_exception(file, streams.as_slice())?;
+    let thread = threads.get(index).copied().ok_or("no such thread")?;
+    let context = read_located(file, context_of(thread, exception))?;
+    Ok(x86_64_registers(context).ok_or("no registers")?)
+}
+
+/// The frames of its stack, the innermost first, as many as fit, and how many there are. `ranges` is what
+/// `read_memory` gives.
+fn frames_of_stack(
+    file: &[u8],
+    ranges: &[MemoryRange],
+    unwinder: &UnwinderX86_64<Vec<u8>>,
+    cache: &mut CacheX86_64,
+    regs: UnwindRegsX86_64,
+    frames: &mut [u64],
+) -> usize {
+    let mut read_stack = |address: u64| word_at(file, ranges, address).ok_or(());
+    let mut walk = unwinder.iter_frames(regs.ip(), regs, cache, &mut read_stack);
+    for (count, slot) in frames.iter_mut().enumerate() {
+        let Ok(Some(frame)) = walk.next() else {
+            return count;
+        };
+        *slot = frame.address();
+    }
+    frames.len()
+}
+
+/// `.eh_frame` of the program, at the SVMA 0x402000.
+const EH_FRAME: &str =
+    "1400000000000000017a5200017810011b0c070890010000100000001c000000e0efffff550000000000\
+    0000100000003000000021f0ffff0c00000000071000140000004400000019f0ffff1100000000440e10\
+    4c0e0800100000005c00000012f0ffff18000000000000001c0000007000000016f0ffff9c0000000041\
+    0e108302440e2002950e10410e08";
+
+/// The program's module, which is at the address that it states.
+fn program(alloc: Global) -> Result<Module<Vec<u8>>, Fail> {
+    let sections = ExplicitModuleSectionInfo {
+        text_svma: Some(0x401000..0x401126),
+        eh_frame_svma: Some(0x402000..0x40208c),
+        eh_frame: Some(hex::decode(alloc, EH_FRAME)?),
+        ..ExplicitModuleSectionInfo::default()
+    };
+    let name = String::from_str(alloc, "crash")?;
+    Ok(Module::new(alloc, name, 0x400000..0x403000, 0, sections)?)
+}
+
+/// The memory of a minidump.
+fn memory(alloc: Global, file: &[u8]) -> Result<Vec<MemoryRange>, Fail> {
+    let streams = read_streams(alloc, file)?;
+    Ok(read_memory(alloc, file, streams.as_slice())?)
+}
+
+/// An unwinder that has the program's module.
+fn unwinder(alloc: Global) -> Result<UnwinderX86_64<Vec<u8>>, Fail> {
+    let mut generations = Generations::new();
+    let mut unwinder: UnwinderX86_64<Vec<u8>> = UnwinderX86_64::new(alloc, &mut generations)?;
+    let module = program(alloc)?;
+    match unwinder.add_module(module, &mut generations) {
+        Ok(()) => Ok(unwinder),
+        Err(refused) => Err(refused.cause)?,
+    }
+}
+
+/// The frames by the thread: the one that waits, and the one that crashed.
+const FRAMES: [(usize, &[u64]); 2] = [
+    (0, &[0x401088, 0x4010be]),
+    (1, &[0x40104e, 0x40106a, 0x401110, 0x401060]),
+];
+
+#[test]
+fn walks_the_stacks_of_threads(rt: HostRuntime) -> Result<(), Fail> {
+    let alloc = rt.alloc();
+    let file = dump(alloc)?;
+    let ranges = memory(alloc, file.as_slice())?;
+    let unwinder = unwinder(alloc)?;
+    let mut cache = CacheX86_64::new(alloc)?;
+    for (index, expected) in FRAMES {
+        let regs = registers_of_thread(alloc, file.as_slice(), index)?;
+        let mut frames = [0; 8];
+        let count = frames_of_stack(
+            file.as_slice(),
+            ranges.as_slice(),
+            &unwinder,
+            &mut cache,
+            regs,
+            &mut frames,
+        );
+        assert_eq!(rt; count, expected.len());
+        for (frame, address) in frames.iter().zip(expected) {
+            assert_eq!(rt; frame, address);
+        }
+    }
+    Ok(())
+}
