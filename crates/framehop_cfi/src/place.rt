@@ -25,14 +25,15 @@ pub fn place<T: Starts>(table: &T, address: u64) -> usize
     ensures last { AreOrdered (T.starts table.now) → (j : ℕ) → j < length (T.starts table.now) → slice_index (T.starts table.now) j ≤ address → j ≤ result }
 {
     let mut low = 0;
-    let mut high = table.count();
-    while high - low > 1 {
-        let middle = low + (high - low) / 2;
-        if table.start(middle) <= address {
-            low = middle;
-        } else {
-            high = middle;
+    let mut size = table.count();
+    while size > 1 {
+        let half = size / 2;
+        let is_upper = table.start(low + half) <= address;
+        if is_upper {
+            low += half;
         }
+        // A product, so that no branch is made, which a processor could not foresee.
+        size = half + size % 2 * usize::from(is_upper);
     }
     low
 }
