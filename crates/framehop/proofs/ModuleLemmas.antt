@@ -1,10 +1,12 @@
 -- The modules in order of start, around the place of an address.
-use Rattle.std.proofs.Common.{◌≡◌, ℕ, zero, suc, ◌+◌, ◌<◌, ◌≤◌, Bool, true, false, not, List, [], ◌∷◌, length, take, drop, filter, slice_index_or, refl, ap, sym, arith, insert, remove, leb-true, leb-false, eq-eqb, ne_eqb, ◌==◌, ⊎_elim}
-use Rattle.std.proofs.lemmas.Bool.{cases_lt, or_right}
+use Rattle.std.proofs.Common.{◌≡◌, ℕ, zero, suc, ◌+◌, ◌<◌, ◌≤◌, ◌∙◌, Bool, true, false, not, List, [], ◌∷◌, length, take, drop, filter, slice_index, slice_index_or, refl, ap, sym, arith, insert, remove, leb-true, leb-false, le-leb, eq-eqb, ne_eqb, ◌==◌, ⊎_elim}
+use Rattle.std.proofs.lemmas.Bool.{cases_lt, or_right, lt-leb}
+use Rattle.std.proofs.lemmas.List.{get_or-map, get_or_default, length-map}
 use Rattle.std.proofs.lemmas.List.Edits.{get_or-remove_below, get_or-remove_above}
 use Rattle.std.specs.List.Sorted.{IsPartitionPoint}
 use Rattle.std.proofs.lemmas.List.Sorted.{IsNonDecreasingBy-insert}
-use Rattle.framehop.specs.Modules.{ModuleView, AreInOrder, has_start, without_module, starts_by, starting_by, starting_above}
+use Rattle.framehop_cfi.specs.Place.{IsPlace}
+use Rattle.framehop.specs.Modules.{ModuleView, AreInOrder, starts_of, has_start, without_module, starts_by, starting_by, starting_above}
 
 -- ---- a list that a test divides at a place
 
@@ -48,6 +50,75 @@ module _ (address : ℕ) (modules : List ModuleView) (i : ℕ) (point : IsPartit
   pub dropped-starting_above : drop i modules ≡ starting_above address modules
   dropped-starting_above =
       sym (filter-behind (λ m. not (starts_by address m)) modules i (λ k d h. ap not (point.0 k d (omega arith) h)) (λ k d h within. ap not (point.1 k d h within)))
+
+-- ---- the starts of a list
+
+-- the start at an index
+pub start-of : (modules : List ModuleView) (k : ℕ) (d : ModuleView) (e : ℕ) → k < length modules → slice_index_or (starts_of modules) k e ≡ (slice_index_or modules k d).start
+start-of modules k d e within = get_or-map (λ m. m.start) modules k d e within
+
+pub starts_of-inserted : (modules : List ModuleView) (i : ℕ) (m : ModuleView) → starts_of (insert modules i m) ≡ insert (starts_of modules) i m.start
+starts_of-inserted [] zero m = refl
+starts_of-inserted [] (suc i) m = refl
+starts_of-inserted (n ∷ modules) zero m = refl
+starts_of-inserted (n ∷ modules) (suc i) m = ap (λ starts. n.start ∷ starts) (starts_of-inserted modules i m)
+
+pub starts_of-removed : (modules : List ModuleView) (i : ℕ) → starts_of (remove modules i) ≡ remove (starts_of modules) i
+starts_of-removed [] zero = refl
+starts_of-removed [] (suc i) = refl
+starts_of-removed (n ∷ modules) zero = refl
+starts_of-removed (n ∷ modules) (suc i) = ap (λ starts. n.start ∷ starts) (starts_of-removed modules i)
+
+-- The place of an address in the starts, and one more where the start there is at or below it, divides the modules.
+module _ (address : ℕ) (modules : List ModuleView) (place : ℕ) (ordered : AreInOrder modules) (is : IsPlace (starts_of modules) address place) where
+  all-starts : length (starts_of modules) ≡ length modules
+  all-starts = length-map modules (λ m. m.start)
+
+  starts-below : (k : ℕ) (d : ModuleView) → k ≤ place → slice_index (starts_of modules) place ≤ address → starts_by address (slice_index_or modules k d) ≡ true
+  starts-below k d up low =
+      let within : place < length modules = rw (← all-starts) is.within in
+      let risen = ordered k place d up within in
+      let at = start-of modules place d 0 within in
+      le-leb _ _ (omega (arith, risen, at, low))
+
+  starts-above : (k : ℕ) (d : ModuleView) → place + 1 ≤ k → k < length modules → starts_by address (slice_index_or modules k d) ≡ false
+  starts-above k d up within =
+      let next : place + 1 < length modules = omega (arith, up, within) in
+      let risen = ordered (place + 1) k d up within in
+      let at = start-of modules (place + 1) d 0 next in
+      let above = is.above (rw all-starts next) in
+      lt-leb _ _ (omega (arith, risen, at, above))
+
+  first-above : address < slice_index (starts_of modules) place → (k : ℕ) (d : ModuleView) → place ≤ k → k < length modules → starts_by address (slice_index_or modules k d) ≡ false
+  first-above high k d up within =
+      let here : place < length modules = rw (← all-starts) is.within in
+      let risen = ordered place k d up within in
+      let at = start-of modules place d 0 here in
+      lt-leb _ _ (omega (arith, risen, at, high))
+
+  is-first : address < slice_index (starts_of modules) place → place ≡ 0
+  is-first high =
+      ⊎_elim
+      (λ (some : 0 < place). let low = is.below some in absurd (omega (arith, low, high)))
+      (λ (none : place ≤ 0). omega (arith, none))
+      (cases_lt 0 place)
+
+  pub point-of-place : (start n : ℕ) → start ≡ slice_index_or (starts_of modules) place start → (start ≤ address → n ≡ 1) → (address < start → n ≡ 0) → IsPartitionPoint (λ m. starts_by address m ≡ true) (λ m. starts_by address m ≡ false) modules (place + n)
+  point-of-place start n read one none =
+      let at : start ≡ slice_index (starts_of modules) place = read ∙ get_or_default (starts_of modules) place start 0 is.within in
+      ⊎_elim
+      (λ (high : address < start).
+      let above : address < slice_index (starts_of modules) place = rw at at high in
+      let zero = none high in
+      let first = is-first above in
+      (λ k d _ h. absurd (omega (arith, h, zero, first)), λ k d up h. first-above above k d (omega (arith, up, zero)) h))
+      (λ (low : start ≤ address).
+      let below : slice_index (starts_of modules) place ≤ address = rw at at low in
+      let one = one low in
+      (λ k d _ h. starts-below k d (omega (arith, h, one)) below, λ k d up h. starts-above k d (omega (arith, up, one)) h))
+      (cases_lt address start)
+
+-- ---- the list stays in order
 
 -- the list stays in order with a module after those that start by its start
 pub AreInOrder-inserted : (modules : List ModuleView) (i : ℕ) (m : ModuleView) → AreInOrder modules → i ≤ length modules → IsPartitionPoint (λ n. starts_by m.start n ≡ true) (λ n. starts_by m.start n ≡ false) modules i → AreInOrder (insert modules i m)

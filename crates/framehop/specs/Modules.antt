@@ -1,5 +1,5 @@
 -- The modules of an unwinder, in order of start (framehop 0.16.0, `Module` and `Unwinder::add_module`).
-use Rattle.std.specs.Prelude.{◌≡◌, ℕ, ◌+◌, ◌-◌, ◌^◌, ◌<◌, Bool, not, ◌&&◌, ◌||◌, ◌==◌, nat_le, nat_lt, if◌then◌else◌, max, List, [], ◌∷◌, ◌++◌, length, filter, slice_get, Option, Some, None, option_and_then, Result, Ok, Err}
+use Rattle.std.specs.Prelude.{◌≡◌, ℕ, ◌+◌, ◌-◌, ◌^◌, ◌<◌, Bool, not, ◌&&◌, ◌||◌, ◌==◌, nat_le, nat_lt, if◌then◌else◌, max, List, [], ◌∷◌, ◌++◌, map, length, filter, slice_get, Option, Some, None, option_and_then, Result, Ok, Err}
 use Rattle.std.specs.List.{list_any}
 use Rattle.framehop_pe.specs.Sections.{Sections}
 use Rattle.framehop.specs.CallFrames.{CallFrames}
@@ -61,6 +61,10 @@ without_module start [] = []
 without_module start (m ∷ modules) =
     if has_start start modules then m ∷ without_module start modules
     else (if m.start == start then modules else m ∷ modules)
+
+-- the starts of the modules, in their order
+abbrev pub starts_of : List ModuleView → List ℕ
+starts_of modules = map (λ m. m.start) modules
 
 -- the modules are in order of start
 abbrev pub AreInOrder : List ModuleView → Type 0

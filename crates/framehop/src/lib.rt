@@ -6,6 +6,7 @@ pub mod aarch64;
 pub mod cache;
 pub mod dwarf;
 pub mod iterator;
+mod module_list;
 pub mod modules;
 pub mod session;
 pub mod unwind_data;

@@ -21,6 +21,7 @@ ghost use Rattle.framehop.specs.Modules.{ModuleView, UnwinderView, IsMade, AreIn
 
 use crate::cache::{AllocationPolicy, Cache};
 pub use crate::iterator::UnwindIterator;
+use crate::module_list::ModuleList;
 pub use crate::modules::{Module, ModuleListError, UnwinderError};
 use framehop_cache::generations::Generations;
 use framehop_cache::rule_cache::{CacheHandle, CacheResult};
@@ -480,20 +481,18 @@ fn frame_answer<R: UnwindRule>(
 /// The modules of one process, and unwinding by them, for any architecture.
 #[derive(Drop)]
 pub struct UnwinderInternal<D: SectionBytes, A: Unwinding, P: AllocationPolicy> {
-    modules: Vec<Module<D>>,
+    modules: ModuleList<D>,
     modules_generation: u64,
     arch: PhantomData<A>,
     allocation_policy: PhantomData<P>,
 }
 
 impl<D: SectionBytes, A: Unwinding, P: AllocationPolicy> Model for UnwinderInternal<D, A, P> {
-    ghost use Rattle.framehop.specs.Modules.{UnwinderView, AreInOrder};
+    ghost use Rattle.framehop.specs.Modules.{UnwinderView};
 
     ghost Value = { UnwinderView };
 
-    ghost view = { λ u. record { modules = u.modules.items; generation = u.modules_generation } };
-
-    ghost invariant = { λ u. AreInOrder u.modules.items };
+    ghost view = { λ u. record { modules = u.modules; generation = u.modules_generation } };
 }
 
 impl<D: SectionBytes + Drop, A: Unwinding, P: AllocationPolicy> Clone
@@ -521,7 +520,7 @@ impl<D: SectionBytes + Drop, A: Unwinding, P: AllocationPolicy> UnwinderInternal
             return Err(ModuleListError::GenerationsExhausted);
         };
         Ok(UnwinderInternal {
-            modules: Vec::new(alloc),
+            modules: ModuleList::new(alloc),
             modules_generation,
             arch: PhantomData,
             allocation_policy: PhantomData,
@@ -535,51 +534,13 @@ impl<D: SectionBytes + Drop, A: Unwinding, P: AllocationPolicy> UnwinderInternal
         self.modules.as_slice()
     }
 
-    // the place after the modules that start at or below the address
-    fn place_after(&self, address: u64) -> usize
-        ensures within { result ≤ length self.now.modules }
-        ensures point { IsPartitionPoint (λ m. starts_by address m ≡ true) (λ m. starts_by address m ≡ false) self.now.modules result }
-        ensures before { take result self.now.modules ≡ starting_by address self.now.modules }
-        ensures after { drop result self.now.modules ≡ starting_above address self.now.modules }
-    {
-        self.modules
-            .as_slice()
-            .partition_point(|module| module.starts_by(address))
-    }
-
-    // the start of the module at an index
-    fn module_start(&self, index: usize) -> u64
-        requires { index < length self.now.modules }
-        ensures start { (m : ModuleView) → result ≡ (slice_index_or self.now.modules index m).start }
-        ensures ordered { AreInOrder self.now.modules }
-    {
-        self.modules[index].start()
-    }
-
-    // the index of the last module with this start
-    fn last_with_start(&self, start: u64) -> Option<usize>
-        ensures { MatchOption result (has_start start self.now.modules ≡ false)
-            (λ index. (index < length self.now.modules) × (has_start start self.now.modules ≡ true)
-            × (remove self.now.modules index ≡ without_module start self.now.modules)) }
-    {
-        let index = self.place_after(start).checked_sub(1)?;
-        if self.module_start(index) == start {
-            Some(index)
-        } else {
-            None
-        }
-    }
-
     /// The covering module of an address (AVMA), and the relative address.
     pub fn find_module_for_address(&self, address: u64) -> Option<(&Module<D>, u32)>
         ensures { MatchOption result (covering self.now.modules address ≡ None)
             (λ found. (covering self.now.modules address ≡ Some found.0.now)
             × (found.1 ≡ address - found.0.now.base_avma)) }
     {
-        let index = self.place_after(address).checked_sub(1)?;
-        let module = &self.modules[index];
-        let relative_address = module.relative_address(address)?;
-        Some((module, relative_address))
+        self.modules.covering(address)
     }
 
     // looks for the rule of a frame in the cache
@@ -628,7 +589,7 @@ impl<D: SectionBytes + Drop, A: Unwinding, P: AllocationPolicy> UnwinderInternal
             return Ok(FrameAnswer::Rule(A::UnwindRule::fallback_rule()));
         };
         frame_answer(module.unwind_frame::<A, P, F>(
-            *self.modules.allocator(),
+            self.modules.allocator(),
             &mut cache.gimli_unwind_context,
             relative_address,
             is_first_frame,
@@ -731,10 +692,9 @@ impl<D: SectionBytes + Drop, A: Unwinding, P: AllocationPolicy> Unwinder
                 cause: ModuleListError::GenerationsExhausted,
             });
         }
-        let index = self.place_after(module.start());
-        if let Err(refused) = self.modules.insert(index, module) {
+        if let Err(module) = self.modules.insert(module) {
             return Err(RefusedModule {
-                module: refused.value,
+                module,
                 cause: ModuleListError::OutOfMemory,
             });
         }
@@ -749,7 +709,7 @@ impl<D: SectionBytes + Drop, A: Unwinding, P: AllocationPolicy> Unwinder
         module_avma_range_start: u64,
         generations: &mut Generations,
     ) -> Result<(), ModuleListError> {
-        let Some(index) = self.last_with_start(module_avma_range_start) else {
+        let Some(index) = self.modules.last_with_start(module_avma_range_start) else {
             return Ok(());
         };
         let Some(generation) = generations.next() else {
@@ -761,11 +721,7 @@ impl<D: SectionBytes + Drop, A: Unwinding, P: AllocationPolicy> Unwinder
     }
 
     fn max_known_code_address(&self) -> u64 {
-        let mut greatest = 0;
-        for module in self.modules.iter() {
-            greatest = module.end().max(greatest);
-        }
-        greatest
+        self.modules.greatest_end()
     }
 
     #[inline]

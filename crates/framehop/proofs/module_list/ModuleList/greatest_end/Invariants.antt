@@ -1,6 +1,6 @@
 use Rattle.std.proofs.Common.{◌≡◌, max, drop}
 use Rattle.framehop.specs.Modules.{greatest_end}
-use Rattle.framehop.proofs.unwinder.UnwinderInternalUnwinder.max_known_code_address.Given as goal
+use Rattle.framehop.proofs.module_list.ModuleList.greatest_end.Given as goal
 
 abbrev pub invariant-loop-module : goal.invariant-loop-module
 invariant-loop-module g l =

@@ -1,0 +1,160 @@
+//! The modules of an unwinder, in the order of their starts.
+ghost use Rattle.std.specs.Prelude.{◌≡◌, ◌-◌, ◌+◌, ◌<◌, ◌≤◌, IfErr, OnOk, MatchOption, None, Some, Option, true, false, [], length, take, drop, remove};
+ghost use Rattle.std.specs.List.Sorted.{IsPartitionPoint};
+ghost use Rattle.framehop.specs.Modules.{ModuleView, starts_of, starting_by, starting_above, with_module, has_start, without_module, starts_by, covering, greatest_end};
+
+use crate::modules::Module;
+use framehop_cfi::place::{Starts, place};
+use framehop_cfi::section::SectionBytes;
+use std::alloc::{AllocError, Global};
+use std::marker::Model;
+
+/// Modules in the order of their starts. The starts (AVMAs) are in a list of their own, so that a search reads no
+/// module but the one that it finds.
+#[derive(Drop)]
+pub(crate) struct ModuleList<D: SectionBytes> {
+    modules: Vec<Module<D>>,
+    starts: Vec<u64>,
+}
+
+impl<D: SectionBytes> Model for ModuleList<D> {
+    ghost use Rattle.std.specs.Prelude.{◌≡◌, List};
+    ghost use Rattle.framehop.specs.Modules.{ModuleView, AreInOrder, starts_of};
+
+    ghost Value = { List ModuleView };
+
+    ghost view = { λ list. list.modules.items };
+
+    ghost invariant = { λ list. AreInOrder list.modules.items × (list.starts.items ≡ starts_of list.modules.items) };
+}
+
+impl<D: SectionBytes> Starts for ModuleList<D> {
+    ghost use Rattle.framehop.specs.Modules.{starts_of};
+
+    ghost starts = { starts_of };
+
+    fn count(&self) -> usize {
+        self.starts.len()
+    }
+
+    fn start(&self, index: usize) -> u64 {
+        self.starts[index]
+    }
+}
+
+impl<D: SectionBytes + Drop> Clone for ModuleList<D> {
+    ghost is_clone = { λ list copy. copy ≡ list };
+
+    fn clone(&self) -> Result<Self, AllocError> {
+        Ok(ModuleList {
+            modules: self.modules.clone()?,
+            starts: self.starts.clone()?,
+        })
+    }
+}
+
+impl<D: SectionBytes + Drop> ModuleList<D> {
+    /// Returns a list without modules. It takes no memory.
+    pub fn new(alloc: Global) -> Self
+        ensures { result ≡ [] }
+    {
+        ModuleList {
+            modules: Vec::new(alloc),
+            starts: Vec::new(alloc),
+        }
+    }
+
+    /// The modules, in the order of their starts.
+    pub fn as_slice(&self) -> &[Module<D>]
+        ensures { result.now ≡ self.now }
+    {
+        self.modules.as_slice()
+    }
+
+    /// The allocator of the list.
+    pub fn allocator(&self) -> Global {
+        *self.modules.allocator()
+    }
+
+    /// Inserts a module after those that start at or below its start.
+    ///
+    /// # Errors
+    ///
+    /// The module, where an allocation fails. The list is unchanged.
+    pub fn insert(&mut self, module: Module<D>) -> Result<(), Module<D>>
+        ensures inserted { OnOk result (self.new ≡ with_module «module» self.old) }
+        ensures refused { IfErr result (λ back. (back ≡ «module») × (self.new ≡ self.old)) }
+    {
+        let start = module.start();
+        let index = self.place_after(start);
+        if self.starts.insert(index, start).is_err() {
+            return Err(module);
+        }
+        if let Err(refused) = self.modules.insert(index, module) {
+            // Both lists are as they were.
+            self.starts.remove(index);
+            return Err(refused.value);
+        }
+        Ok(())
+    }
+
+    /// Removes the module at an index. It takes no memory.
+    pub fn remove(&mut self, index: usize)
+        requires { index < length self.old }
+        ensures { self.new ≡ remove self.old index }
+    {
+        self.modules.remove(index);
+        self.starts.remove(index);
+    }
+
+    /// The index of the last module with this start (AVMA).
+    pub fn last_with_start(&self, start: u64) -> Option<usize>
+        ensures { MatchOption result (has_start start self.now ≡ false)
+            (λ index. (index < length self.now) × (has_start start self.now ≡ true)
+            × (remove self.now index ≡ without_module start self.now)) }
+    {
+        let index = self.place_after(start).checked_sub(1)?;
+        if self.starts[index] == start {
+            Some(index)
+        } else {
+            None
+        }
+    }
+
+    /// The covering module of an address (AVMA), and the relative address.
+    pub fn covering(&self, address: u64) -> Option<(&Module<D>, u32)>
+        ensures { MatchOption result (covering self.now address ≡ None)
+            (λ found. (covering self.now address ≡ Some found.0.now)
+            × (found.1 ≡ address - found.0.now.base_avma)) }
+    {
+        let index = self.place_after(address).checked_sub(1)?;
+        let module = &self.modules[index];
+        let relative_address = module.relative_address(address)?;
+        Some((module, relative_address))
+    }
+
+    /// The greatest end of a module (AVMA), or 0 without modules.
+    pub fn greatest_end(&self) -> u64
+        ensures { result ≡ greatest_end self.now }
+    {
+        let mut greatest = 0;
+        for module in self.modules.iter() {
+            greatest = module.end().max(greatest);
+        }
+        greatest
+    }
+
+    // the place after the modules that start at or below the address
+    fn place_after(&self, address: u64) -> usize
+        ensures within { result ≤ length self.now }
+        ensures point { IsPartitionPoint (λ m. starts_by address m ≡ true) (λ m. starts_by address m ≡ false) self.now result }
+        ensures before { take result self.now ≡ starting_by address self.now }
+        ensures after { drop result self.now ≡ starting_above address self.now }
+    {
+        if self.starts.is_empty() {
+            return 0;
+        }
+        let last = place(self, address);
+        last + usize::from(self.starts[last] <= address)
+    }
+}
