@@ -17,7 +17,7 @@ ghost use Rattle.framehop_cache.specs.Cache.{found, counted, ways};
 ghost use Rattle.framehop_cache.specs.CacheResult.{result_of, HitRuns};
 ghost use Rattle.framehop.specs.Soundness.{key_of, AreApart, sets_after_miss, MayTakeMemory};
 ghost use Rattle.std.specs.List.Sorted.{IsPartitionPoint};
-ghost use Rattle.framehop.specs.Modules.{ModuleView, UnwinderView, IsMade, AreInOrder, starting_by, starting_above, with_module, has_start, without_module, starts_by, covers, covering, greatest_end};
+ghost use Rattle.framehop.specs.Modules.{ModuleView, UnwinderView, IsMade, AreInOrder, starting_by, starting_above, with_module, has_start, without_module, covering, greatest_end};
 
 use crate::cache::{AllocationPolicy, Cache};
 pub use crate::iterator::UnwindIterator;
