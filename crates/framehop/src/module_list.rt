@@ -1,7 +1,7 @@
 //! The modules of an unwinder, in the order of their starts.
-ghost use Rattle.std.specs.Prelude.{◌≡◌, ◌-◌, ◌+◌, ◌<◌, ◌≤◌, IfErr, OnOk, MatchOption, None, Some, Option, true, false, [], length, take, drop, remove};
+ghost use Rattle.std.specs.Prelude.{◌≡◌, ◌-◌, ◌<◌, ◌≤◌, IfErr, OnOk, MatchOption, None, Some, true, false, [], length, take, drop, remove};
 ghost use Rattle.std.specs.List.Sorted.{IsPartitionPoint};
-ghost use Rattle.framehop.specs.Modules.{ModuleView, starts_of, starting_by, starting_above, with_module, has_start, without_module, starts_by, covering, greatest_end};
+ghost use Rattle.framehop.specs.Modules.{starting_by, starting_above, with_module, has_start, without_module, starts_by, covering, greatest_end};
 
 use crate::modules::Module;
 use framehop_cfi::place::{Starts, place};

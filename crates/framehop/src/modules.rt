@@ -1,6 +1,6 @@
 //! Modules that are loaded in a process, and unwinding by their unwind data.
 ghost use Rattle.std.specs.Prelude.{◌≡◌, ◌≢◌, ◌+◌, ◌-◌, ◌<◌, true, IfOk, IfErr, SomeIff, IsTrue, option_map, ℕ, List, Ok, Err, None, string_bytes, Option};
-ghost use Rattle.framehop.specs.Memory.{Memory, Answering};
+ghost use Rattle.framehop.specs.Memory.{Answering};
 ghost use Rattle.framehop.specs.Unwinding.{Unwinding, answer_by, may_take_memory_by};
 ghost use Rattle.framehop.specs.CallFrames.{frames_with_header, frames_answer, fde_answer, fde_offset_of, fde_may_take_memory};
 ghost use Rattle.framehop_dwarf.specs.MayTakeMemory.{may_take_memory};
@@ -13,7 +13,7 @@ ghost use Rattle.framehop.specs.Answer.{fresh_of};
 ghost use Rattle.framehop_pe.specs.Sections.{sections_of, placed_of};
 ghost use Rattle.framehop.specs.ModuleData.{unwind_data_in};
 ghost use Rattle.framehop.specs.Told.{out_of_memory, TellsAnswer, TellsValues, WritesWithAddress, RuleHas};
-ghost use Rattle.framehop.specs.Modules.{ModuleView, starts_by, covers};
+ghost use Rattle.framehop.specs.Modules.{ModuleView, covers};
 
 use crate::cache::AllocationPolicy;
 use crate::unwind_data::{CompactInfo, IndexedFrames, ModuleUnwindDataInternal};
@@ -252,13 +252,6 @@ impl<D: SectionBytes + Drop> Module<D> {
         ensures { result ≡ self.now.end }
     {
         self.fields.avma_range.end
-    }
-
-    // whether the module starts at or below the address
-    pub(crate) fn starts_by(&self, address: u64) -> bool
-        ensures { result ≡ starts_by address self.now }
-    {
-        self.start() <= address
     }
 
     // the relative address of an address (AVMA) that the module covers

@@ -1,5 +1,5 @@
 //! Unwinders: the modules of a process, and steps by them over a cache.
-ghost use Rattle.std.specs.Prelude.{◌≡◌, ◌≢◌, ◌+◌, ◌-◌, ◌^◌, ◌<◌, ◌↔◌, ◌⊎◌, refl, Bool, true, false, IfOk, IfErr, IfSome, IfNone, IsOk, OnOk, OnSome, IsErrAnd, remove, slice_index_or, MatchOption, MatchResult, IsTrue, ℕ, List, Ok, Err, None, length, take, drop, ◌≤◌, Option, []};
+ghost use Rattle.std.specs.Prelude.{◌≡◌, ◌≢◌, ◌+◌, ◌-◌, ◌^◌, ◌<◌, ◌↔◌, ◌⊎◌, refl, Bool, true, false, IfOk, IfErr, IfSome, IfNone, IsOk, OnOk, OnSome, IsErrAnd, MatchOption, MatchResult, IsTrue, ℕ, List, Ok, Err, None, Option};
 ghost use Rattle.framehop.specs.Memory.{Memory, AnswersAs, Answering};
 ghost use Rattle.framehop.specs.Outcome.{Outcome, answered, answer_of, registers_after};
 ghost use Rattle.framehop.specs.CodeAddress.{FrameLocation, location_of, is_first_frame};
@@ -16,8 +16,7 @@ ghost use Rattle.framehop.specs.Fresh.{fresh, outcome_of};
 ghost use Rattle.framehop_cache.specs.Cache.{found, counted, ways};
 ghost use Rattle.framehop_cache.specs.CacheResult.{result_of, HitRuns};
 ghost use Rattle.framehop.specs.Soundness.{key_of, AreApart, sets_after_miss, MayTakeMemory};
-ghost use Rattle.std.specs.List.Sorted.{IsPartitionPoint};
-ghost use Rattle.framehop.specs.Modules.{ModuleView, UnwinderView, IsMade, AreInOrder, starting_by, starting_above, with_module, has_start, without_module, covering, greatest_end};
+ghost use Rattle.framehop.specs.Modules.{ModuleView, UnwinderView, IsMade, with_module, has_start, without_module, covering, greatest_end};
 
 use crate::cache::{AllocationPolicy, Cache};
 pub use crate::iterator::UnwindIterator;
