@@ -17,7 +17,7 @@ use Rattle.framehop.specs.Told.{out_of_memory, IsDirect, values_in, TellsAnswer,
 use Rattle.framehop.specs.Laws.Meaning.{fresh-covered}
 use Rattle.framehop.proofs.ToldLemmas.{err-same}
 use Rattle.framehop.specs.declared.modules.UnwinderError.{UnwinderError}
-use Rattle.framehop.specs.declared.unwinder.FrameAnswer.{FrameAnswer}
+use Rattle.framehop.specs.declared.frame_answer.FrameAnswer.{FrameAnswer}
 
 -- what the modules give where none covers the address
 pub fresh-uncovered : {R Regs : Type 0} (unwinding : Unwinding R Regs) (modules : List ModuleView) (address : ℕ) (first : Bool) → covering modules address ≡ None → fresh unwinding modules address first ≡ by_rule unwinding.fallback

@@ -13,8 +13,8 @@ use Rattle.framehop_pe.specs.declared.pe.PeUnwinderError.TheVariants.{MissingUnw
 use Rattle.framehop.specs.Answer.{Fresh, by_rule, direct}
 use Rattle.framehop.specs.declared.modules.UnwinderError.{UnwinderError}
 use Rattle.framehop.specs.declared.modules.UnwinderError.TheVariants.{CompactUnwindInfo, Dwarf, Pe, NoDwarfData, NoModuleUnwindData, EhFrameHdrCouldNotFindAddress, DwarfCfiIndexCouldNotFindAddress}
-use Rattle.framehop.specs.declared.unwinder.FrameAnswer.{FrameAnswer}
-use Rattle.framehop.specs.declared.unwinder.FrameAnswer.TheVariants.{Rule, Computed, NotComputed}
+use Rattle.framehop.specs.declared.frame_answer.FrameAnswer.{FrameAnswer}
+use Rattle.framehop.specs.declared.frame_answer.FrameAnswer.TheVariants.{Rule, Computed, NotComputed}
 
 -- out of memory
 abbrev pub out_of_memory : UnwinderError

@@ -115,12 +115,14 @@ impl<R: UnwindRule, P: AllocationPolicy> Cache<R, P> {
         modules_generation: u64,
         is_first_frame: bool,
     ) -> CacheResult<R>
-        ensures answer { let key : Key = record { address = address; generation = modules_generation; is_first_frame = is_first_frame } in
+        ensures answer { let key : Key =
+            record { address = address; generation = modules_generation; is_first_frame = is_first_frame } in
             result ≡ result_of key (found ways self.old.sets key) }
         ensures runnable { HitRuns R.executable result }
         ensures kept { self.new.sets ≡ self.old.sets }
         ensures stats { self.new.stats ≡ counted self.old.stats
-            (found ways self.old.sets (record { address = address; generation = modules_generation; is_first_frame = is_first_frame })) }
+            (found ways self.old.sets
+            (record { address = address; generation = modules_generation; is_first_frame = is_first_frame })) }
     {
         self.rule_cache
             .lookup(address, modules_generation, is_first_frame)
@@ -130,7 +132,8 @@ impl<R: UnwindRule, P: AllocationPolicy> Cache<R, P> {
     #[inline]
     pub(crate) fn insert(&mut self, handle: CacheHandle, unwind_rule: R)
         requires { R.executable unwind_rule ≡ true }
-        ensures { self.new ≡ record self.old { sets = inserted ways self.old.sets (record { key = handle; rule = unwind_rule }) } }
+        ensures { self.new
+            ≡ record self.old { sets = inserted ways self.old.sets (record { key = handle; rule = unwind_rule }) } }
     {
         self.rule_cache.insert(handle, unwind_rule);
     }

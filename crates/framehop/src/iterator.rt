@@ -114,7 +114,8 @@ impl<U: Unwinder, F: FnMut(u64) -> Result<u64, ()>> UnwindIterator<'_, '_, '_, U
         ensures same_unwinder { unwinder_of self.new ≡ unwinder_of self.old }
         ensures same_cache { (cache_of self.new).ghost_name ≡ (cache_of self.old).ghost_name }
         ensures same_callback { (read_stack_of self.new).ghost_name ≡ (read_stack_of self.old).ghost_name }
-        ensures moves { IfOk result (λ answer. IfSome answer (λ frame. (progress_in self.new ≡ at_frame (location_of frame))
+        ensures moves { IfOk result (λ answer. IfSome answer (λ frame.
+            (progress_in self.new ≡ at_frame (location_of frame))
             × Moves U.advances (progress_in self.old) (regs_of self.old) (location_of frame) (regs_of self.new))) }
         ensures no_step { NeedsNoStep (progress_in self.old) (location_answer result) }
         ensures after_error { IfErr result (λ error. (progress_in self.new ≡ progress_in self.old)
@@ -126,14 +127,18 @@ impl<U: Unwinder, F: FnMut(u64) -> Result<u64, ()>> UnwindIterator<'_, '_, '_, U
         ensures stays_sound { (other : UnwinderView) → AreApart (U.unwinder_view (unwinder_of self.old).now) other
             → U.is_sound other (cache_of self.old).now → U.is_sound other (cache_of self.new).now }
         ensures cached { result ≢ Err Error.OutOfMemory → (cache_of self.new).now
-            ≡ cache_after_next (U.cache_after (unwinder_of self.old).now) (progress_in self.old) (cache_of self.old).now }
+            ≡ cache_after_next (U.cache_after (unwinder_of self.old).now) (progress_in self.old)
+            (cache_of self.old).now }
         ensures not_cached { result ≡ Err Error.OutOfMemory → (cache_of self.new).now
-            ≡ cache_after_next (U.cache_after_lookup (unwinder_of self.old).now) (progress_in self.old) (cache_of self.old).now }
+            ≡ cache_after_next (U.cache_after_lookup (unwinder_of self.old).now) (progress_in self.old)
+            (cache_of self.old).now }
         ensures answers { U.is_sound (U.unwinder_view (unwinder_of self.old).now) (cache_of self.old).now
             → Answering F.FnMut (read_stack_of self.old).now (read_stack_of self.new).now (λ memory.
-            let next = next_of (λ location regs. U.step (unwinder_of self.old).now location regs memory) (progress_in self.old) (regs_of self.old) in
+            let next = next_of (λ location regs. U.step (unwinder_of self.old).now location regs memory)
+            (progress_in self.old) (regs_of self.old) in
             result ≢ Err Error.OutOfMemory →
-            (location_answer result ≡ next.answer) × (progress_in self.new ≡ next.progress) × (regs_of self.new ≡ next.regs)) }
+            (location_answer result ≡ next.answer) × (progress_in self.new ≡ next.progress)
+            × (regs_of self.new ≡ next.regs)) }
         ensures means { (memory : Memory) → AnswersAs F.FnMut (read_stack_of self.old).now memory
             → U.is_sound (U.unwinder_view (unwinder_of self.old).now) (cache_of self.old).now
             → IfOk result (λ answer. IfSome answer (λ frame. MeansNext

@@ -5,12 +5,15 @@
 pub mod aarch64;
 pub mod cache;
 pub mod dwarf;
+mod frame_answer;
 pub mod iterator;
 mod module_list;
 pub mod modules;
 pub mod session;
 pub mod unwind_data;
 pub mod unwinder;
+pub mod unwinder_internal;
+pub mod unwinding;
 pub mod x86_64;
 
 pub use cache::{AllocationPolicy, Cache, MayAllocateDuringUnwind, MustNotAllocateDuringUnwind};

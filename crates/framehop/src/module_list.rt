@@ -147,7 +147,8 @@ impl<D: SectionBytes + Drop> ModuleList<D> {
     // the place after the modules that start at or below the address
     fn place_after(&self, address: u64) -> usize
         ensures within { result ≤ length self.now }
-        ensures point { IsPartitionPoint (λ m. starts_by address m ≡ true) (λ m. starts_by address m ≡ false) self.now result }
+        ensures point { IsPartitionPoint (λ m. starts_by address m ≡ true)
+            (λ m. starts_by address m ≡ false) self.now result }
         ensures before { take result self.now ≡ starting_by address self.now }
         ensures after { drop result self.now ≡ starting_above address self.now }
     {

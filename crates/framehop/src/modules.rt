@@ -283,12 +283,15 @@ where
     ensures written { WritesWithAddress (A.step_advances is_first_frame) result regs.old regs.new }
     ensures executable { RuleHas (λ rule. IsTrue (A.UnwindRule.executable rule)) result }
     ensures memory { result ≡ Err out_of_memory → may_take_memory
-        P.policy.rows P.policy.values unwinder.old.section (unwinder.old.base_svma + relative_address) fde_offset ≡ true }
+        P.policy.rows P.policy.values unwinder.old.section (unwinder.old.base_svma + relative_address) fde_offset
+        ≡ true }
     ensures told { result ≢ Err out_of_memory → TellsAnswer
-        (fde_answer A.readers.rows P.policy unwinder.old.section (unwinder.old.base_svma + relative_address) is_first_frame fde_offset) result }
+        (fde_answer A.readers.rows P.policy unwinder.old.section
+        (unwinder.old.base_svma + relative_address) is_first_frame fde_offset) result }
     ensures answers { Answering F.FnMut read_stack.old read_stack.new (λ memory.
         result ≢ Err out_of_memory → TellsValues
-        (fde_answer A.readers.rows P.policy unwinder.old.section (unwinder.old.base_svma + relative_address) is_first_frame fde_offset)
+        (fde_answer A.readers.rows P.policy unwinder.old.section
+        (unwinder.old.base_svma + relative_address) is_first_frame fde_offset)
         regs.old memory result regs.new) }
 {
     match unwinder.unwind_frame_with_fde::<P::GimliEvaluationStorage, F>(
@@ -325,12 +328,17 @@ where
     ensures executable { RuleHas (λ rule. IsTrue (A.UnwindRule.executable rule)) result }
     ensures memory { result ≡ Err out_of_memory → fde_may_take_memory
         P.policy (frames_with_header eh_frame_hdr.now eh_frame.now base_addresses base_svma) relative_address
-        (fde_offset_of (frames_with_header eh_frame_hdr.now eh_frame.now base_addresses base_svma) relative_address) ≡ true }
+        (fde_offset_of (frames_with_header eh_frame_hdr.now eh_frame.now base_addresses base_svma) relative_address)
+        ≡ true }
     ensures told { result ≢ Err out_of_memory → TellsAnswer
-        (frames_answer A.readers.rows P.policy (frames_with_header eh_frame_hdr.now eh_frame.now base_addresses base_svma) relative_address is_first_frame) result }
+        (frames_answer A.readers.rows P.policy
+        (frames_with_header eh_frame_hdr.now eh_frame.now base_addresses base_svma)
+        relative_address is_first_frame) result }
     ensures answers { Answering F.FnMut read_stack.old read_stack.new (λ memory.
         result ≢ Err out_of_memory → TellsValues
-        (frames_answer A.readers.rows P.policy (frames_with_header eh_frame_hdr.now eh_frame.now base_addresses base_svma) relative_address is_first_frame)
+        (frames_answer A.readers.rows P.policy
+        (frames_with_header eh_frame_hdr.now eh_frame.now base_addresses base_svma)
+        relative_address is_first_frame)
         regs.old memory result regs.new) }
 {
     let mut unwinder = DwarfUnwinder::new(
@@ -385,7 +393,8 @@ impl<D: SectionBytes> IndexedFrames<D> {
             (frames_answer A.readers.rows P.policy self.now relative_address is_first_frame) result }
         ensures answers { Answering F.FnMut read_stack.old read_stack.new (λ memory.
             result ≢ Err out_of_memory → TellsValues
-            (frames_answer A.readers.rows P.policy self.now relative_address is_first_frame) regs.old memory result regs.new) }
+            (frames_answer A.readers.rows P.policy self.now relative_address is_first_frame)
+            regs.old memory result regs.new) }
     {
         let Some(fde_offset) = self.fde_offset(relative_address) else {
             return Err(UnwinderError::DwarfCfiIndexCouldNotFindAddress);
@@ -450,12 +459,15 @@ impl<D: SectionBytes> CompactInfo<D> {
         ensures callable { F.IsAlwaysCallable read_stack.new }
         ensures written { WritesWithAddress (A.step_advances is_first_frame) result regs.old regs.new }
         ensures executable { RuleHas (λ rule. IsTrue (A.UnwindRule.executable rule)) result }
-        ensures memory { result ≡ Err out_of_memory → eh_frame_may_take_memory P.policy self.now.frames relative_address fde_offset ≡ true }
+        ensures memory { result ≡ Err out_of_memory
+            → eh_frame_may_take_memory P.policy self.now.frames relative_address fde_offset ≡ true }
         ensures told { result ≢ Err out_of_memory → TellsAnswer
-            (by_info A.readers.rows P.policy self.now.frames relative_address is_first_frame (Ok (NeedDwarf fde_offset))) result }
+            (by_info A.readers.rows P.policy self.now.frames relative_address is_first_frame
+            (Ok (NeedDwarf fde_offset))) result }
         ensures answers { Answering F.FnMut read_stack.old read_stack.new (λ memory.
             result ≢ Err out_of_memory → TellsValues
-            (by_info A.readers.rows P.policy self.now.frames relative_address is_first_frame (Ok (NeedDwarf fde_offset))) regs.old memory result regs.new) }
+            (by_info A.readers.rows P.policy self.now.frames relative_address is_first_frame
+            (Ok (NeedDwarf fde_offset))) regs.old memory result regs.new) }
     {
         let Some(eh_frame) = &self.eh_frame else {
             return Err(UnwinderError::NoDwarfData);
@@ -496,7 +508,8 @@ impl<D: SectionBytes> CompactInfo<D> {
         ensures written { WritesWithAddress (A.step_advances is_first_frame) result regs.old regs.new }
         ensures executable { RuleHas (λ rule. IsTrue (A.UnwindRule.executable rule)) result }
         ensures memory { result ≡ Err out_of_memory → info_may_take_memory
-            P.policy self.now.frames relative_address (unwound A.readers.compact self.now.info relative_address is_first_frame) ≡ true }
+            P.policy self.now.frames relative_address
+            (unwound A.readers.compact self.now.info relative_address is_first_frame) ≡ true }
         ensures told { result ≢ Err out_of_memory → TellsAnswer
             (compact_answer A.readers.compact
             A.readers.rows P.policy self.now relative_address is_first_frame) result }
@@ -536,8 +549,10 @@ where
     ensures written { WritesWithAddress (A.step_advances is_first_frame) result regs.old regs.new }
     ensures executable { RuleHas (λ rule. IsTrue (A.UnwindRule.executable rule)) result }
     ensures memory { result ≢ Err out_of_memory }
-    ensures told { TellsAnswer (fresh_of (A.found (sections_of D.contents sections.entry) relative_address is_first_frame)
-        (λ old memory. A.computed (sections_of D.contents sections.entry) relative_address is_first_frame memory old)) result }
+    ensures told { TellsAnswer
+        (fresh_of (A.found (sections_of D.contents sections.entry) relative_address is_first_frame)
+        (λ old memory. A.computed (sections_of D.contents sections.entry)
+        relative_address is_first_frame memory old)) result }
     ensures answers { Answering F.FnMut read_stack.old read_stack.new (λ memory.
         TellsValues (fresh_of (A.found (sections_of D.contents sections.entry) relative_address is_first_frame)
         (λ old memory. A.computed (sections_of D.contents sections.entry) relative_address is_first_frame memory old))

@@ -50,7 +50,9 @@ pub fn run<D: SectionBytes + Drop, A: Unwinding, P: AllocationPolicy>(
     ensures drawn_at_most { generations.new ≤ generations.old + length commands.items }
     ensures bounded { IfOk result (λ replies. EachReply (IsReplyWithinRise (A.unwinding P.policy))
         (empty_world generations.old) commands.items (map reply_view replies.items)) }
-    ensures means { IfOk result (λ replies. EachReply (IsReplyMeant (λ modules location old memory address new. (step (A.unwinding P.policy) modules location old memory ≡ answered address new)
+    ensures means { IfOk result (λ replies.
+        EachReply (IsReplyMeant (λ modules location old memory address new.
+        (step (A.unwinding P.policy) modules location old memory ≡ answered address new)
         × MeansAt A.readers A.meanings A.UnwindRule.outcome P.policy modules location old memory address new))
         (empty_world generations.old) commands.items (map reply_view replies.items)) }
 {
@@ -88,7 +90,8 @@ where
     ensures refused { IfErr result (λ error. error ≡ SessionError.OutOfMemory) }
     ensures answers { IsSoundAarch64 P.policy unwinder.now cache.old.0
         → Answering F.FnMut read_stack.old read_stack.new (λ memory.
-        IfOk result (λ reply. IsWalkToEnd P.policy unwinder.now memory pc regs (reply_view reply) cache.old cache.new)) }
+        IfOk result (λ reply.
+        IsWalkToEnd P.policy unwinder.now memory pc regs (reply_view reply) cache.old cache.new)) }
 {
     let mut frames = Vec::new(alloc);
     let mut unwinding = unwinder.iter_frames(pc, regs, cache, read_stack);

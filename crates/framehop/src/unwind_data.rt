@@ -119,7 +119,8 @@ impl<D: SectionBytes> Model for IndexedFrames<D> {
       base_svma = f.base_svma;
     } };
 
-    ghost invariant = { λ f. IsIndexOfAll (section_of f.section_type f.base_addresses (D.contents f.section_data)) f.base_svma f.index };
+    ghost invariant = { λ f.
+        IsIndexOfAll (section_of f.section_type f.base_addresses (D.contents f.section_data)) f.base_svma f.index };
 }
 
 impl<D: SectionBytes + Drop> ModuleUnwindDataInternal<D> {
@@ -130,7 +131,8 @@ impl<D: SectionBytes + Drop> ModuleUnwindDataInternal<D> {
         alloc: Global,
         section_info: &mut I,
     ) -> Result<Self, ModuleListError>
-        ensures made { IfOk result (λ made. unwind_data_of D.contents made ≡ unwind_data_in D.contents (I.table section_info.old)) }
+        ensures made { IfOk result (λ made. unwind_data_of D.contents made
+            ≡ unwind_data_in D.contents (I.table section_info.old)) }
         ensures refused { IfErr result (λ error. error ≡ ModuleListError.OutOfMemory) }
     {
         match section_info.section_data(b"__unwind_info") {
@@ -146,7 +148,8 @@ impl<D: SectionBytes + Drop> ModuleUnwindDataInternal<D> {
         alloc: Global,
         section_info: &mut I,
     ) -> Result<Self, ModuleListError>
-        ensures made { IfOk result (λ made. unwind_data_of D.contents made ≡ pdata_data D.contents (I.table section_info.old)) }
+        ensures made { IfOk result (λ made. unwind_data_of D.contents made
+            ≡ pdata_data D.contents (I.table section_info.old)) }
         ensures refused { IfErr result (λ error. error ≡ ModuleListError.OutOfMemory) }
     {
         match section_info.section_data(b".pdata") {
@@ -165,7 +168,8 @@ impl<D: SectionBytes + Drop> ModuleUnwindDataInternal<D> {
         alloc: Global,
         section_info: &mut I,
     ) -> Result<Self, ModuleListError>
-        ensures made { IfOk result (λ made. unwind_data_of D.contents made ≡ call_frame_data D.contents (I.table section_info.old)) }
+        ensures made { IfOk result (λ made. unwind_data_of D.contents made
+            ≡ call_frame_data D.contents (I.table section_info.old)) }
         ensures refused { IfErr result (λ error. error ≡ ModuleListError.OutOfMemory) }
     {
         match data_under(section_info, b".eh_frame", b"__eh_frame") {
@@ -179,7 +183,8 @@ impl<D: SectionBytes + Drop> ModuleUnwindDataInternal<D> {
         alloc: Global,
         section_info: &mut I,
     ) -> Result<Self, ModuleListError>
-        ensures made { IfOk result (λ made. unwind_data_of D.contents made ≡ by_eh_frame D.contents None (I.table section_info.old)) }
+        ensures made { IfOk result (λ made. unwind_data_of D.contents made
+            ≡ by_eh_frame D.contents None (I.table section_info.old)) }
         ensures refused { IfErr result (λ error. error ≡ ModuleListError.OutOfMemory) }
     {
         match section_info.section_data(b".debug_frame") {
@@ -201,7 +206,8 @@ impl<D: SectionBytes + Drop> ModuleUnwindDataInternal<D> {
         eh_frame: D,
         section_info: &mut I,
     ) -> Result<Self, ModuleListError>
-        ensures made { IfOk result (λ made. unwind_data_of D.contents made ≡ with_eh_frame D.contents eh_frame (I.table section_info.old)) }
+        ensures made { IfOk result (λ made. unwind_data_of D.contents made
+            ≡ with_eh_frame D.contents eh_frame (I.table section_info.old)) }
         ensures refused { IfErr result (λ error. error ≡ ModuleListError.OutOfMemory) }
     {
         match data_under(section_info, b".eh_frame_hdr", b"__eh_frame_hdr") {
@@ -223,7 +229,8 @@ impl<D: SectionBytes + Drop> ModuleUnwindDataInternal<D> {
         section_info: &mut I,
     ) -> Result<Self, ModuleListError>
         ensures made { IfOk result (λ made. unwind_data_of D.contents made
-            ≡ with_index (section_in section_type (I.table section_info.old) (D.contents section_data)) (I.table section_info.old).base_svma) }
+            ≡ with_index (section_in section_type (I.table section_info.old) (D.contents section_data))
+            (I.table section_info.old).base_svma) }
         ensures refused { IfErr result (λ error. error ≡ ModuleListError.OutOfMemory) }
     {
         let base_addresses = base_addresses_for_sections(section_info);
@@ -374,7 +381,8 @@ fn data_at_rva_range<D: SectionBytes + Drop, I: ModuleSectionInfo<D>>(
     section_info: &mut I,
     name: &[u8],
 ) -> Option<DataAtRvaRange<D>>
-    ensures found { option_map (placed_data D.contents) result ≡ placed_in D.contents name.now (I.table section_info.old) }
+    ensures found { option_map (placed_data D.contents) result
+        ≡ placed_in D.contents name.now (I.table section_info.old) }
     ensures left { I.table section_info.new ≡ (ask name.now (I.table section_info.old)).left }
 {
     let range = section_info.section_svma_range(name);

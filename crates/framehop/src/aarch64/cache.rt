@@ -30,7 +30,8 @@ impl CacheAarch64<MayAllocateDuringUnwind> {
     /// ```
     pub fn new(alloc: Global) -> Result<Self, AllocError>
         ensures made { IfOk result (λ cache. cache.0 ≡ empty_cache) }
-        ensures sound { IfOk result (λ cache. (policy : Policy) (unwinder : UnwinderView) → IsSoundAarch64 policy unwinder cache.0) }
+        ensures sound { IfOk result (λ cache. (policy : Policy) (unwinder : UnwinderView)
+            → IsSoundAarch64 policy unwinder cache.0) }
     {
         Ok(CacheAarch64(Cache::new(alloc)?))
     }
@@ -44,7 +45,8 @@ impl<P: AllocationPolicy> CacheAarch64<P> {
     /// `AllocError` where an allocation fails.
     pub fn new_in(alloc: Global) -> Result<Self, AllocError>
         ensures made { IfOk result (λ cache. cache.0 ≡ empty_cache) }
-        ensures sound { IfOk result (λ cache. (policy : Policy) (unwinder : UnwinderView) → IsSoundAarch64 policy unwinder cache.0) }
+        ensures sound { IfOk result (λ cache. (policy : Policy) (unwinder : UnwinderView)
+            → IsSoundAarch64 policy unwinder cache.0) }
     {
         Ok(CacheAarch64(Cache::new(alloc)?))
     }

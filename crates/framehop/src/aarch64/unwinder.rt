@@ -92,9 +92,11 @@ impl<D: SectionBytes + Drop, P: AllocationPolicy> Unwinder for UnwinderAarch64<D
 
     ghost may_run_out = { λ u cache location. MayRunOut (aarch64 P.policy) u cache.0 location };
 
-    ghost means = { λ u location old memory address new. aarch64_means P.policy u.modules location old memory address new };
+    ghost means = { λ u location old memory address new.
+        aarch64_means P.policy u.modules location old memory address new };
 
-    ghost step_means = { λ u location old new memory address answers. step-means P.policy u.modules location old new memory address answers };
+    ghost step_means = { λ u location old new memory address answers.
+        step-means P.policy u.modules location old new memory address answers };
 
     fn add_module(
         &mut self,

@@ -52,14 +52,18 @@ pub(crate) fn push_next_frame<U: Unwinder, F: FnMut(u64) -> Result<u64, ()>>(
         → U.is_sound other (cache_of unwinding.old).now → U.is_sound other (cache_of unwinding.new).now }
     ensures refused { IfErr result (λ error. error ≡ SessionError.OutOfMemory) }
     ensures moves { IfOk result (λ end. IfNone end ((frame : FrameAddress)
-        × (frames.new.items ≡ frames.old.items ++ frame ∷ []) × (progress_in unwinding.new ≡ at_frame (location_of frame))
-        × Moves U.advances (progress_in unwinding.old) (regs_of unwinding.old) (location_of frame) (regs_of unwinding.new))) }
+        × (frames.new.items ≡ frames.old.items ++ frame ∷ [])
+        × (progress_in unwinding.new ≡ at_frame (location_of frame))
+        × Moves U.advances (progress_in unwinding.old) (regs_of unwinding.old) (location_of frame)
+        (regs_of unwinding.new))) }
     ensures kept { IfOk result (λ end. IfSome end (λ _. frames.new.items ≡ frames.old.items)) }
-    ensures cached { OnOk result ((cache_of unwinding.new).now ≡ cache_after_next (U.cache_after (unwinder_of unwinding.old).now)
+    ensures cached { OnOk result ((cache_of unwinding.new).now
+        ≡ cache_after_next (U.cache_after (unwinder_of unwinding.old).now)
         (progress_in unwinding.old) (cache_of unwinding.old).now) }
     ensures answers { U.is_sound (U.unwinder_view (unwinder_of unwinding.old).now) (cache_of unwinding.old).now
         → Answering F.FnMut (read_stack_of unwinding.old).now (read_stack_of unwinding.new).now (λ memory.
-        let next = next_of (λ location regs. U.step (unwinder_of unwinding.old).now location regs memory) (progress_in unwinding.old) (regs_of unwinding.old) in
+        let next = next_of (λ location regs. U.step (unwinder_of unwinding.old).now location regs memory)
+        (progress_in unwinding.old) (regs_of unwinding.old) in
         IfOk result (λ end. (option_map end_of end ≡ end_in next.answer)
         × (map location_of frames.new.items ≡ map location_of frames.old.items ++ frames_in next.answer)
         × (progress_in unwinding.new ≡ next.progress) × (regs_of unwinding.new ≡ next.regs))) }
@@ -94,11 +98,13 @@ fn next_frames<U: Unwinder, F: FnMut(u64) -> Result<u64, ()>>(
     ensures answers { U.is_sound (U.unwinder_view (unwinder_of unwinding.old).now) (cache_of unwinding.old).now
         → Answering F.FnMut (read_stack_of unwinding.old).now (read_stack_of unwinding.new).now (λ memory.
         IfOk result (λ walk.
-        let step : FrameLocation → U.UnwindRegs → Outcome U.UnwindRegs = λ location regs. U.step (unwinder_of unwinding.old).now location regs memory in
+        let step : FrameLocation → U.UnwindRegs → Outcome U.UnwindRegs =
+        λ location regs. U.step (unwinder_of unwinding.old).now location regs memory in
         (walk_of walk.0.items walk.1 (regs_of unwinding.new)
         ≡ walk_on step limit (progress_in unwinding.old) (regs_of unwinding.old))
         × ((cache_of unwinding.new).now
-        ≡ cache_on step (U.cache_after (unwinder_of unwinding.old).now) limit (progress_in unwinding.old) (regs_of unwinding.old) (cache_of unwinding.old).now))) }
+        ≡ cache_on step (U.cache_after (unwinder_of unwinding.old).now) limit (progress_in unwinding.old)
+        (regs_of unwinding.old) (cache_of unwinding.old).now))) }
 {
     let mut frames = Vec::new(alloc);
     for _call in 0..limit {
@@ -133,7 +139,8 @@ where
     ensures answers { U.is_sound (U.unwinder_view unwinder.now) cache.old
         → Answering F.FnMut read_stack.old read_stack.new (λ memory.
         IfOk result (λ walk.
-        let step : FrameLocation → U.UnwindRegs → Outcome U.UnwindRegs = λ location before. U.step unwinder.now location before memory in
+        let step : FrameLocation → U.UnwindRegs → Outcome U.UnwindRegs =
+        λ location before. U.step unwinder.now location before memory in
         (walk_of walk.0.items walk.1 walk.2 ≡ walk_from step limit pc regs)
         × (cache.new ≡ cache_after_walk step (U.cache_after unwinder.now) limit pc regs cache.old)
         × IsWalkMeant (λ location before address after. (step location before ≡ answered address after)
@@ -160,7 +167,8 @@ pub(crate) fn walk_stack<D: SectionBytes + Drop, A: Unwinding, P: AllocationPoli
     ensures answers { IsSound (A.unwinding P.policy) unwinder.now cache.old.sets → IfOk result (λ walk.
         let step = step_of (A.unwinding P.policy) unwinder.now (memory_of memory.now) in
         (walk_of walk.0.items walk.1 walk.2 ≡ walk_from step limit pc regs)
-        × (cache.new ≡ cache_after_walk step (cache_after (A.unwinding P.policy) unwinder.now) limit pc regs cache.old)) }
+        × (cache.new ≡ cache_after_walk step
+        (cache_after (A.unwinding P.policy) unwinder.now) limit pc regs cache.old)) }
 {
     let mut read_stack = |address: u64| -> Result<u64, ()>
         ensures { result ≡ reply (memory_of memory.entry.now address) }
@@ -181,7 +189,8 @@ pub(crate) fn step_stack<D: SectionBytes + Drop, A: Unwinding, P: AllocationPoli
 ) -> Result<(Result<Option<u64>, Error>, A::UnwindRegs), SessionError>
     ensures refused { IfErr result (λ error. (error ≡ SessionError.OutOfMemory)
         × MayRunOut (A.unwinding P.policy) unwinder.now cache.old (location_of address)) }
-    ensures cached { OnOk result (cache.new ≡ cache_after (A.unwinding P.policy) unwinder.now cache.old (location_of address)) }
+    ensures cached { OnOk result (cache.new
+        ≡ cache_after (A.unwinding P.policy) unwinder.now cache.old (location_of address)) }
     ensures answers { IsSound (A.unwinding P.policy) unwinder.now cache.old.sets →
         let stepping = step_of (A.unwinding P.policy) unwinder.now (memory_of memory.now) (location_of address) regs in
         IfOk result (λ stepped. (stepped.0 ≡ answer_of stepping) × (stepped.1 ≡ registers_after regs stepping)) }

@@ -30,7 +30,8 @@ impl CacheX86_64<MayAllocateDuringUnwind> {
     /// ```
     pub fn new(alloc: Global) -> Result<Self, AllocError>
         ensures made { IfOk result (λ cache. cache.0 ≡ empty_cache) }
-        ensures sound { IfOk result (λ cache. (policy : Policy) (unwinder : UnwinderView) → IsSoundX86_64 policy unwinder cache.0) }
+        ensures sound { IfOk result (λ cache. (policy : Policy) (unwinder : UnwinderView)
+            → IsSoundX86_64 policy unwinder cache.0) }
     {
         Ok(CacheX86_64(Cache::new(alloc)?))
     }
@@ -50,7 +51,8 @@ impl<P: AllocationPolicy> CacheX86_64<P> {
     /// ```
     pub fn new_in(alloc: Global) -> Result<Self, AllocError>
         ensures made { IfOk result (λ cache. cache.0 ≡ empty_cache) }
-        ensures sound { IfOk result (λ cache. (policy : Policy) (unwinder : UnwinderView) → IsSoundX86_64 policy unwinder cache.0) }
+        ensures sound { IfOk result (λ cache. (policy : Policy) (unwinder : UnwinderView)
+            → IsSoundX86_64 policy unwinder cache.0) }
     {
         Ok(CacheX86_64(Cache::new(alloc)?))
     }

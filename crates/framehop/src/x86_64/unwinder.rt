@@ -91,9 +91,11 @@ impl<D: SectionBytes + Drop, P: AllocationPolicy> Unwinder for UnwinderX86_64<D,
 
     ghost may_run_out = { λ u cache location. MayRunOut (x86_64 P.policy) u cache.0 location };
 
-    ghost means = { λ u location old memory address new. x86_64_means P.policy u.modules location old memory address new };
+    ghost means = { λ u location old memory address new.
+        x86_64_means P.policy u.modules location old memory address new };
 
-    ghost step_means = { λ u location old new memory address answers. step-means P.policy u.modules location old new memory address answers };
+    ghost step_means = { λ u location old new memory address answers.
+        step-means P.policy u.modules location old new memory address answers };
 
     fn add_module(
         &mut self,

@@ -6,7 +6,7 @@ use Rattle.framehop.specs.Soundness.{Extends, MayTakeMemory}
 use Rattle.framehop_core.proofs.Callback.{Answering-so, Answering-over}
 use Rattle.framehop.proofs.SoundnessLemmas.{cache_after-hit, cache_after-miss, cache_after_lookup-miss, missed, step-hit, step-at, fresh-at, Extends-after, Extends-same, IsSound-extended, out-or-not}
 use Rattle.framehop.proofs.MeaningLemmas.{answer-means}
-use Rattle.framehop.proofs.unwinder.UnwinderInternalUnwinder.unwind_frame.Goals as goal
+use Rattle.framehop.proofs.unwinder_internal.UnwinderInternalUnwinder.unwind_frame.Goals as goal
 
 pub returns-in-Hit-clause-cached : goal.returns-in-Hit-clause-cached
 returns-in-Hit-clause-cached g c = λ other.

@@ -3,7 +3,7 @@ use Rattle.framehop.specs.Answer.{Fresh, by_rule}
 use Rattle.framehop.specs.Told.{TellsFresh, TellsFreshValues}
 use Rattle.framehop_core.proofs.Callback.{Answering-so}
 use Rattle.framehop.proofs.AnswerLemmas.{fresh-uncovered, given-fresh, may-take-memory, refused, tells, values}
-use Rattle.framehop.proofs.unwinder.UnwinderInternal.unwind_frame_by_modules.Goals as goal
+use Rattle.framehop.proofs.unwinder_internal.UnwinderInternal.unwind_frame_by_modules.Goals as goal
 
 pub returns-in_default-clause-told : goal.returns-in_default-clause-told
 returns-in_default-clause-told g c =

@@ -2,7 +2,7 @@ use Rattle.std.proofs.Common.{ap, sym, ◌∙◌}
 use Rattle.framehop_core.proofs.Callback.{Answering-then}
 use Rattle.framehop_core.specs.Outcome.{answer_of, registers_after}
 use Rattle.framehop.proofs.AnswerLemmas.{rule-outcome, failed-outcome}
-use Rattle.framehop.proofs.unwinder.UnwinderInternal.unwind_uncached.Goals as goal
+use Rattle.framehop.proofs.unwinder_internal.UnwinderInternal.unwind_uncached.Goals as goal
 
 pub returns-in-Rule-clause-answers : goal.returns-in-Rule-clause-answers
 returns-in-Rule-clause-answers g c =
