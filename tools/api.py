@@ -31,6 +31,7 @@ LIBRARIES = [
     "framehop_elf",
     "framehop_core_file",
     "framehop_minidump",
+    "framehop_flame_graph",
     "framehop_explain",
     "framehop_processes",
     "framehop_stacks",

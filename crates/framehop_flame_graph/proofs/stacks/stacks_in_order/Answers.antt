@@ -1,0 +1,20 @@
+use Rattle.std.proofs.Common.{◌≡◌, ◌∙◌, ap, subst, arith, List, map}
+use Rattle.std.specs.List.Sorted.{IsPermutation}
+use Rattle.std.specs.Ordering.{is_lt, nat_cmp, ordering_then}
+use Rattle.std.proofs.lemmas.List.{take_all}
+use Rattle.std.proofs.lemmas.List.Sorted.{IsPermutation-map}
+use Rattle.framehop_flame_graph.specs.Stacks.{Stacked, viewed, stacks_of}
+use Rattle.framehop_flame_graph.proofs.StackLemmas.{rises-sorted, then_lt, compare_sorted}
+use Rattle.framehop_flame_graph.proofs.stacks.stacks_in_order.Goals as goal
+
+pub returns-clause-same : goal.returns-clause-same
+returns-clause-same c =
+    let moved = IsPermutation-map viewed c.loop-line.stacks.items c.sort.new.self.items c.sort.ensures.permutation in
+    let all : map viewed c.loop-line.stacks.items ≡ stacks_of c.args.lines.now =
+    c.loop-line.invariant ∙ ap stacks_of (take_all c.loop-line.line-index c.args.lines.now (omega arith)) in
+    let P : List Stacked → Type 0 = λ stacks. IsPermutation stacks (map viewed c.sort.new.self.items) in
+    subst P all moved
+
+pub returns-clause-ordered : goal.returns-clause-ordered
+returns-clause-ordered c = rises-sorted (λ x y. is_lt (ordering_then (compare_sorted x y) (nat_cmp x.count y.count)))
+    (λ x y h. then_lt (compare_sorted x y) (nat_cmp x.count y.count) h) c.sort.new.self.items c.in_ok-sort.ensures.sorted

@@ -1,0 +1,9 @@
+use Rattle.std.proofs.Common.{◌≡◌, ◌≤◌, ◌+◌, take, map}
+use Rattle.std.specs.List.{All, filter}
+use Rattle.framehop_flame_graph.specs.Boxes.{boxed}
+use Rattle.framehop_flame_graph.specs.Numbers.{is_shown}
+use Rattle.framehop_flame_graph.proofs.svg.shown_of.Given as goal
+
+abbrev pub invariant-loop-frame : goal.invariant-loop-frame
+invariant-loop-frame l = (map boxed l.shown.items ≡ filter (is_shown l.total) (map boxed (take l.frame-index l.boxes)))
+    × All (λ frame. frame.left + frame.count ≤ l.total) l.shown.items

@@ -1,0 +1,23 @@
+-- Places and widths. They are in hundredths of a pixel, rounded down.
+use Rattle.std.specs.Prelude.{ℕ, Bool, List, ◌++◌, ◌+◌, ◌-◌, ◌*◌, ◌/◌, ◌%◌, codes, nat_le}
+use Rattle.std.specs.Fmt.{decimal}
+use Rattle.framehop_flame_graph.specs.Boxes.{Box}
+
+-- the part of a whole that `part` is of `total`
+abbrev pub share : ℕ → ℕ → ℕ → ℕ
+share part whole total = part * whole / total
+
+-- Where a count lies in a picture of 1,200 pixels.
+abbrev pub edge : ℕ → ℕ → ℕ
+edge total count = share count 120000 total
+
+abbrev pub width_of : ℕ → Box → ℕ
+width_of total box = edge total (box.left + box.count) - edge total box.left
+
+-- A box is drawn if it is a tenth of a pixel wide or more.
+abbrev pub is_shown : ℕ → Box → Bool
+is_shown total box = nat_le 10 (width_of total box)
+
+-- hundredths as a decimal number
+abbrev pub hundredths : ℕ → List ℕ
+hundredths n = decimal (n / 100) ++ codes "." ++ decimal (n / 10 % 10) ++ decimal (n % 10)

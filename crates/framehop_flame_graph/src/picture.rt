@@ -1,0 +1,200 @@
+//! Boxes as an SVG.
+ghost use Rattle.std.specs.Prelude.{◌≡◌, ◌<◌, ◌≤◌, ◌+◌, ◌++◌, ◌^◌, IfOk, OnOk, map};
+ghost use Rattle.std.specs.List.{All};
+ghost use Rattle.std.specs.String.{string_bytes};
+ghost use Rattle.framehop_flame_graph.specs.Boxes.{boxed};
+ghost use Rattle.framehop_flame_graph.specs.Names.{characters_of};
+ghost use Rattle.framehop_flame_graph.specs.Picture.{deepest, title_of, span_of, rectangle_of, label_of, drawn, opening_of, background_of, head_of, picture_of};
+
+use crate::boxes::FrameBox;
+use crate::names::{characters_of, fitting, push_colour, push_cut, push_escaped};
+use crate::numbers::{edge, push_hundredths, share, width_of};
+use std::alloc::{AllocError, Global};
+
+/// Returns how many rows boxes take above the root.
+fn deepest(boxes: &[FrameBox<'_>]) -> usize
+    ensures rows { result ≡ deepest (map boxed boxes.now) }
+    ensures within { All (λ frame. frame.depth ≤ result) boxes.now }
+{
+    let mut rows = 0;
+    for frame in boxes {
+        rows = frame.depth.max(rows);
+    }
+    rows
+}
+
+/// Appends what is shown where the pointer is over a box.
+#[tactic(auto, unfolding(crate::specs::Picture::title_of))]
+fn push_title(
+    alloc: Global,
+    out: &mut String,
+    total: u64,
+    frame: FrameBox<'_>,
+    characters: &[char],
+) -> Result<(), AllocError>
+    requires some { 0 < total }
+    requires within { frame.left + frame.count ≤ total }
+    requires name { characters.now ≡ characters_of frame.name.now }
+    ensures { OnOk result (string_bytes out.new ≡ string_bytes out.old ++ title_of total (boxed frame.entry)) }
+{
+    let count = frame.count;
+    out.push_str("<title>")?;
+    push_escaped(out, characters)?;
+    let text = format!(in alloc; " ({count} samples, ")?;
+    out.push_str(text.as_str())?;
+    push_hundredths(alloc, out, share(count, 10_000, total))?;
+    out.push_str("%)</title>")?;
+    Ok(())
+}
+
+/// Appends where a box begins and how wide it is.
+#[tactic(auto, unfolding(crate::specs::Picture::span_of))]
+fn push_span(
+    alloc: Global,
+    out: &mut String,
+    total: u64,
+    frame: FrameBox<'_>,
+) -> Result<(), AllocError>
+    requires some { 0 < total }
+    requires within { frame.left + frame.count ≤ total }
+    ensures { OnOk result (string_bytes out.new ≡ string_bytes out.old ++ span_of total (boxed frame.entry)) }
+{
+    out.push_str(" x=\"")?;
+    push_hundredths(alloc, out, edge(total, frame.left))?;
+    out.push_str("\" width=\"")?;
+    push_hundredths(alloc, out, width_of(total, frame))?;
+    out.push_str("\"")?;
+    Ok(())
+}
+
+/// Appends the rectangle of a box, of which the top is given in pixels.
+#[tactic(auto, unfolding(crate::specs::Picture::rectangle_of))]
+fn push_rectangle(
+    alloc: Global,
+    out: &mut String,
+    total: u64,
+    top: u128,
+    frame: FrameBox<'_>,
+) -> Result<(), AllocError>
+    requires some { 0 < total }
+    requires within { frame.left + frame.count ≤ total }
+    ensures { OnOk result (string_bytes out.new ≡ string_bytes out.old ++ rectangle_of total top (boxed frame.entry)) }
+{
+    out.push_str("<rect")?;
+    push_span(alloc, out, total, frame)?;
+    let text = format!(in alloc; " y=\"{top}\" height=\"15\" fill=\"")?;
+    out.push_str(text.as_str())?;
+    push_colour(alloc, out, frame.name)?;
+    out.push_str("\"/>")?;
+    Ok(())
+}
+
+/// Appends the name in a box, if three characters fit.
+#[tactic(auto, unfolding(crate::specs::Picture::label_of))]
+fn push_label(
+    alloc: Global,
+    out: &mut String,
+    total: u64,
+    top: u128,
+    frame: FrameBox<'_>,
+    characters: &[char],
+) -> Result<(), AllocError>
+    requires some { 0 < total }
+    requires within { frame.left + frame.count ≤ total }
+    requires top { top < 2 ^ 100 }
+    requires name { characters.now ≡ characters_of frame.name.now }
+    ensures { OnOk result (string_bytes out.new ≡ string_bytes out.old ++ label_of total top (boxed frame.entry)) }
+{
+    let fit = fitting(width_of(total, frame));
+    if fit < 3 {
+        return Ok(());
+    }
+    out.push_str("<text x=\"")?;
+    push_hundredths(alloc, out, edge(total, frame.left) + 300)?;
+    let baseline = top + 12;
+    let text = format!(in alloc; "\" y=\"{baseline}\">")?;
+    out.push_str(text.as_str())?;
+    push_cut(out, characters, fit as usize)?;
+    out.push_str("</text>")?;
+    Ok(())
+}
+
+/// Appends a box in a picture of so many rows above the root.
+#[tactic(auto, unfolding(crate::specs::Picture::drawn))]
+fn push_box(
+    alloc: Global,
+    out: &mut String,
+    total: u64,
+    rows: usize,
+    frame: FrameBox<'_>,
+) -> Result<(), AllocError>
+    requires some { 0 < total }
+    requires within { frame.left + frame.count ≤ total }
+    requires rows { frame.depth ≤ rows }
+    ensures { OnOk result (string_bytes out.new ≡ string_bytes out.old ++ drawn total rows (boxed frame.entry)) }
+{
+    let top = 40 + 16 * (rows - frame.depth) as u128;
+    let characters = characters_of(alloc, frame.name)?;
+    out.push_str("<g>")?;
+    push_title(alloc, out, total, frame, characters.as_slice())?;
+    push_rectangle(alloc, out, total, top, frame)?;
+    push_label(alloc, out, total, top, frame, characters.as_slice())?;
+    out.push_str("</g>\n")?;
+    Ok(())
+}
+
+/// Appends the opening tag of an SVG of a height in pixels.
+#[tactic(auto, unfolding(crate::specs::Picture::opening_of))]
+fn push_opening(alloc: Global, out: &mut String, height: u128) -> Result<(), AllocError>
+    ensures { OnOk result (string_bytes out.new ≡ string_bytes out.old ++ opening_of height) }
+{
+    out.push_str(
+        "<?xml version=\"1.0\" encoding=\"UTF-8\"?>\n<svg xmlns=\"http://www.w3.org/2000/svg\"",
+    )?;
+    let text = format!(in alloc;
+        " width=\"1220\" height=\"{height}\" viewBox=\"-10 0 1220 {height}\""
+    )?;
+    out.push_str(text.as_str())?;
+    out.push_str(" font-family=\"monospace\" font-size=\"12\">\n")?;
+    Ok(())
+}
+
+/// Appends the background of a picture of a height in pixels, and its heading.
+#[tactic(auto, unfolding(crate::specs::Picture::background_of))]
+fn push_background(alloc: Global, out: &mut String, height: u128) -> Result<(), AllocError>
+    ensures { OnOk result (string_bytes out.new ≡ string_bytes out.old ++ background_of height) }
+{
+    let text = format!(in alloc;
+        "<rect x=\"-10\" y=\"0\" width=\"1220\" height=\"{height}\" fill=\"#ffffff\"/>\n"
+    )?;
+    out.push_str(text.as_str())?;
+    out.push_str(
+        "<text x=\"600\" y=\"24\" font-size=\"17\" text-anchor=\"middle\">Flame Graph</text>\n",
+    )?;
+    Ok(())
+}
+
+/// Appends what comes before the boxes, in a picture of so many rows above the root.
+fn push_head(alloc: Global, out: &mut String, rows: usize) -> Result<(), AllocError>
+    ensures { OnOk result (string_bytes out.new ≡ string_bytes out.old ++ head_of rows) }
+{
+    let height = 66 + 16 * rows as u128;
+    push_opening(alloc, out, height)?;
+    push_background(alloc, out, height)
+}
+
+/// Returns boxes, of which counts add up to `total` in all, as an SVG.
+pub fn draw(alloc: Global, total: u64, boxes: &[FrameBox<'_>]) -> Result<String, AllocError>
+    requires some { 0 < total }
+    requires within { All (λ frame. frame.left + frame.count ≤ total) boxes.now }
+    ensures { IfOk result (λ svg. string_bytes svg ≡ picture_of total (map boxed boxes.now)) }
+{
+    let rows = deepest(boxes);
+    let mut out = String::new(alloc);
+    push_head(alloc, &mut out, rows)?;
+    for frame in boxes {
+        push_box(alloc, &mut out, total, rows, *frame)?;
+    }
+    out.push_str("</svg>\n")?;
+    Ok(out)
+}

@@ -1,0 +1,58 @@
+//! A deep stack, and many stacks.
+use framehop_flame_graph::folded::{FoldedLine, read_folded};
+use framehop_flame_graph::svg::flame_graph;
+use std::test::Fail;
+
+/// Returns how many boxes a flame graph has.
+fn boxes_in(svg: &str) -> usize {
+    svg.lines().filter(|line| line.starts_with("<g>")).count()
+}
+
+#[test]
+fn draws_a_stack_of_500_frames(rt: HostRuntime) -> Result<(), Fail> {
+    let alloc = rt.alloc();
+    let mut text = Vec::new(alloc);
+    for _ in 0..499 {
+        text.extend_from_slice(b"frame;")?;
+    }
+    text.extend_from_slice(b"last 3\n")?;
+    let lines = read_folded(alloc, text.as_slice())?;
+    let svg = flame_graph(alloc, lines.as_slice())?;
+    assert_eq!(rt; boxes_in(svg.as_str()), 501);
+    // 16 pixels for each of 501 rows, and 50 for the heading and the margin
+    assert!(rt;
+        svg.as_str().lines().any(|line| line.starts_with(
+            "<rect x=\"-10\" y=\"0\" width=\"1220\" height=\"8066\" "
+        ))
+    );
+    assert!(rt;
+        svg.as_str().lines().any(|line| line.starts_with(
+            "<g><title>last (3 samples, 100.00%)</title><rect x=\"0.00\" width=\"1200.00\" y=\"40\" "
+        ))
+    );
+    assert!(rt;
+        svg.as_str().lines().any(|line| line.starts_with(
+            "<g><title>all (3 samples, 100.00%)</title><rect x=\"0.00\" width=\"1200.00\" y=\"8040\" "
+        ))
+    );
+    Ok(())
+}
+
+#[test]
+fn draws_ten_thousand_stacks(rt: HostRuntime) -> Result<(), Fail> {
+    let alloc = rt.alloc();
+    let mut lines = Vec::new(alloc);
+    for outer in 0u64..100 {
+        for inner in 0u64..100 {
+            let stack = format!(in alloc; "main;outer{outer};a;b;c;d;e;f;g;inner{inner}")?;
+            lines.push(FoldedLine {
+                stack: Vec::from_slice(alloc, stack.as_bytes())?,
+                count: 1,
+            })?;
+        }
+    }
+    let svg = flame_graph(alloc, lines.as_slice())?;
+    // the root, `main`, 100 of each of the next eight frames, and 10,000 at the top, of 0.12 pixels each
+    assert_eq!(rt; boxes_in(svg.as_str()), 10_802);
+    Ok(())
+}

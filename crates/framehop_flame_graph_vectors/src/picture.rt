@@ -1,0 +1,140 @@
+//! Small flame graphs, with places and widths reckoned by hand, and colours by the FNV-1a of another program.
+use framehop_flame_graph::folded::read_folded;
+use framehop_flame_graph::svg::flame_graph;
+use std::alloc::Global;
+use std::test::Fail;
+
+/// Returns the flame graph of folded stacks.
+pub(crate) fn drawn(alloc: Global, text: &[u8]) -> Result<String, Fail> {
+    let lines = read_folded(alloc, text)?;
+    Ok(flame_graph(alloc, lines.as_slice())?)
+}
+
+/// Returns whether a line of a text is this one.
+pub(crate) fn has_line(text: &str, wanted: &str) -> bool {
+    text.lines().any(|line| line == wanted)
+}
+
+/// Three stacks of 10 samples: `all` and `main` are 1,200 pixels wide, and a sample 120. `main;a` comes before
+/// `main;a;b`, and so 3 samples are to the left of `b`.
+const SMALL: &str = "<?xml version=\"1.0\" encoding=\"UTF-8\"?>
+<svg xmlns=\"http://www.w3.org/2000/svg\" width=\"1220\" height=\"114\" viewBox=\"-10 0 1220 114\" font-family=\"monospace\" font-size=\"12\">
+<rect x=\"-10\" y=\"0\" width=\"1220\" height=\"114\" fill=\"#ffffff\"/>
+<text x=\"600\" y=\"24\" font-size=\"17\" text-anchor=\"middle\">Flame Graph</text>
+<g><title>all (10 samples, 100.00%)</title><rect x=\"0.00\" width=\"1200.00\" y=\"88\" height=\"15\" fill=\"rgb(237,106,38)\"/><text x=\"3.00\" y=\"100\">all</text></g>
+<g><title>main (10 samples, 100.00%)</title><rect x=\"0.00\" width=\"1200.00\" y=\"72\" height=\"15\" fill=\"rgb(247,101,15)\"/><text x=\"3.00\" y=\"84\">main</text></g>
+<g><title>a (5 samples, 50.00%)</title><rect x=\"0.00\" width=\"600.00\" y=\"56\" height=\"15\" fill=\"rgb(225,174,8)\"/><text x=\"3.00\" y=\"68\">a</text></g>
+<g><title>b (2 samples, 20.00%)</title><rect x=\"360.00\" width=\"240.00\" y=\"40\" height=\"15\" fill=\"rgb(232,181,9)\"/><text x=\"363.00\" y=\"52\">b</text></g>
+<g><title>c (5 samples, 50.00%)</title><rect x=\"600.00\" width=\"600.00\" y=\"56\" height=\"15\" fill=\"rgb(213,179,27)\"/><text x=\"603.00\" y=\"68\">c</text></g>
+</svg>
+";
+
+#[test]
+fn draws_three_stacks(rt: HostRuntime) -> Result<(), Fail> {
+    let alloc = rt.alloc();
+    let svg = drawn(alloc, b"main;a;b 2\nmain;a 3\nmain;c 5\n")?;
+    assert_eq!(rt; svg.as_str(), SMALL);
+    // in any order, and a stack in two lines
+    let svg = drawn(alloc, b"main;c 1\nmain;a 3\nmain;c 4\nmain;a;b 2\n")?;
+    assert_eq!(rt; svg.as_str(), SMALL);
+    Ok(())
+}
+
+/// Seven samples over 1,200 pixels: the edges are 171.42, 342.85, 514.28, 685.71, 857.14 and 1028.57, rounded
+/// down, and the widths add up to 1,200.
+#[test]
+fn rounds_edges_and_not_widths(rt: HostRuntime) -> Result<(), Fail> {
+    let svg = drawn(rt.alloc(), b"a 1\nb 1\nc 1\nd 1\ne 1\nf 1\ng 1\n")?;
+    for wanted in [
+        "<g><title>a (1 samples, 14.28%)</title><rect x=\"0.00\" width=\"171.42\" y=",
+        "<g><title>b (1 samples, 14.28%)</title><rect x=\"171.42\" width=\"171.43\" y=",
+        "<g><title>c (1 samples, 14.28%)</title><rect x=\"342.85\" width=\"171.43\" y=",
+        "<g><title>d (1 samples, 14.28%)</title><rect x=\"514.28\" width=\"171.43\" y=",
+        "<g><title>e (1 samples, 14.28%)</title><rect x=\"685.71\" width=\"171.43\" y=",
+        "<g><title>f (1 samples, 14.28%)</title><rect x=\"857.14\" width=\"171.43\" y=",
+        "<g><title>g (1 samples, 14.28%)</title><rect x=\"1028.57\" width=\"171.43\" y=",
+    ] {
+        assert!(rt;
+            svg.as_str().lines().any(|line| line.starts_with(wanted)),
+            "{wanted}"
+        );
+    }
+    Ok(())
+}
+
+/// A frame comes before another if its bytes do. By the bytes of the lines, `a-b;x`, in which `-` is before `;`,
+/// would lie between `a` and `a;x`, and the box of `a` would be in two parts.
+#[test]
+fn orders_by_frames(rt: HostRuntime) -> Result<(), Fail> {
+    let svg = drawn(rt.alloc(), b"a 1\na-b;x 2\na;x 1\n")?;
+    for wanted in [
+        "<g><title>a (2 samples, 50.00%)</title><rect x=\"0.00\" width=\"600.00\" y=\"56\"",
+        "<g><title>x (1 samples, 25.00%)</title><rect x=\"300.00\" width=\"300.00\" y=\"40\"",
+        "<g><title>a-b (2 samples, 50.00%)</title><rect x=\"600.00\" width=\"600.00\" y=\"56\"",
+        "<g><title>x (2 samples, 50.00%)</title><rect x=\"600.00\" width=\"600.00\" y=\"40\"",
+    ] {
+        assert!(rt;
+            svg.as_str().lines().any(|line| line.starts_with(wanted)),
+            "{wanted}"
+        );
+    }
+    Ok(())
+}
+
+/// One of 12,000 samples is 0.1 pixels wide, and one of 12,001 less.
+#[test]
+fn leaves_out_narrow_boxes(rt: HostRuntime) -> Result<(), Fail> {
+    let alloc = rt.alloc();
+    let shown = drawn(alloc, b"a;b 1\nz 11999\n")?;
+    assert_eq!(rt;
+        shown
+            .as_str()
+            .lines()
+            .filter(|line| line.starts_with("<g>"))
+            .count(),
+        4
+    );
+    let hidden = drawn(alloc, b"a;b 1\nz 12000\n")?;
+    assert_eq!(rt;
+        hidden
+            .as_str()
+            .lines()
+            .filter(|line| line.starts_with("<g>"))
+            .count(),
+        2
+    );
+    // the rows of boxes that are left out take no room
+    assert!(rt;
+        hidden.as_str().lines().any(|line| line.starts_with(
+            "<g><title>z (12000 samples, 99.99%)</title><rect x=\"0.09\" width=\"1199.91\" y=\"40\""
+        ))
+    );
+    Ok(())
+}
+
+#[test]
+fn refuses_totals(rt: HostRuntime) -> Result<(), Fail> {
+    let alloc = rt.alloc();
+    for (text, wanted) in [
+        (b"".as_slice(), "nothing was counted"),
+        (b"a 0\nb;c 0\n", "nothing was counted"),
+        (
+            b"a 18446744073709551615\nb 1\n",
+            "the counts add up to 2^64 or more",
+        ),
+    ] {
+        let lines = read_folded(alloc, text)?;
+        match flame_graph(alloc, lines.as_slice()) {
+            Ok(_) => panic!(rt; "not refused: {wanted}"),
+            Err(refusal) => assert_eq!(rt; format!(in alloc; "{refusal}")?.as_str(), wanted),
+        }
+    }
+    // the largest total that fits
+    let svg = drawn(alloc, b"a 18446744073709551614\nb 1\n")?;
+    assert!(rt;
+        svg.as_str().lines().any(|line| line.starts_with(
+            "<g><title>all (18446744073709551615 samples, 100.00%)</title><rect x=\"0.00\" width=\"1200.00\" "
+        ))
+    );
+    Ok(())
+}
