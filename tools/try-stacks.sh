@@ -3,9 +3,10 @@
 #
 # PROGRAM is what `rt run` in crates/framehop_stacks_cli builds; one that is not there is passed over, but for the first. What is
 # printed is compared with files of tools/stacks, which come from `perf script --no-inline --ns --show-mmap-events -F
-# comm,pid,tid,time,ip,sym,symoff,dso --symfs .` by tools/stacks/from_perf.py, and for core files from gdb's `thread apply all bt`: the same
-# threads and addresses; with the file of the process, without it, and with another file in its place; with --explain under each frame
-# the row that `readelf --debug-dump=frames-interp` has for it. Status 0 where all is as it should be.
+# comm,pid,tid,time,ip,sym,symoff,dso --symfs .` by tools/stacks/from_perf.py, for core files from gdb's `thread apply all bt`, and for
+# minidumps from LLDB's `thread backtrace all`: the same threads and addresses; with the file of the process, without it, and with
+# another file in its place; with --explain under each frame the row that `readelf --debug-dump=frames-interp` has for it. Status 0
+# where all is as it should be.
 set -u
 tools=$(dirname "$(realpath -- "${BASH_SOURCE[0]}")") || exit 2
 [ $# -ge 1 ] || { sed -n 2p "$0" >&2; exit 2; }
@@ -16,6 +17,7 @@ trap 'rm -rf "$work"' EXIT
 : >"$work/nothing"
 echo '[ShortFile]' >"$work/short"
 head -c 1000 "$data/crash.core" >"$work/short.core"
+head -c 5000 "$data/crash.dmp" >"$work/short.dmp"
 mkdir -p "$work/other/usr/local/bin" && cp "$data/srv/tiny" "$work/other/usr/local/bin/crash"
 failed=0
 
@@ -42,11 +44,22 @@ for program in "$@"; do
     try 0 "$tools/stacks/crash.explained" --root . --explain crash.core
     try 0 "$tools/stacks/crash.fallback" --root srv --explain crash.core
     try 1 "$work/nothing" "$work/short.core"
+    try 0 "$tools/stacks/minidump.stacks" --root . crash.dmp
+    try 0 "$tools/stacks/minidump.limit" --root . --limit 1 crash.dmp
+    try 0 "$tools/stacks/minidump.explained" --root . --explain crash.dmp
+    try 1 "$work/nothing" "$work/short.dmp"
     try 2 "$work/nothing"
     try 2 "$work/nothing" --limit many tiny.data
-    try 2 "$work/nothing" --root . --explain tiny.data
+    try 0 "$tools/stacks/tiny.explained" --root . --explain tiny.data
     try 1 "$work/nothing" missing.data
-    try 1 "$work/nothing" .
+    try 0 "$tools/stacks/both.folded" --root . .
+    try 1 "$work/nothing" --root . srv
+    try 2 "$work/nothing" --svg --frames tiny.data
+    try 2 "$work/nothing" --svg crash.core
+    (cd "$data" && "$program" --root . --svg .) 2>"$work/err" | python3 "$tools/stacks/boxes.py" "$tools/stacks/both.folded" || {
+        echo "$program --svg: other boxes than those of both recordings; error output: $(cat "$work/err")" >&2
+        failed=1
+    }
     try 1 "$work/nothing" srv/tiny
     try 1 "$work/nothing" "$work/short"
     try 1 "$tools/stacks/tiny.limit" --root . --limit 3 missing.data tiny.data

@@ -1,1 +1,3 @@
 mod DumpLemmas
+mod EachLemmas
+mod MinidumpLemmas

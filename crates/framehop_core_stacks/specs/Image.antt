@@ -1,6 +1,5 @@
 -- What the memory of a process has of the files that it had mapped (gABI, chapter 5, "Program Loading"; `core(5)`).
-use Rattle.std.specs.Prelude.{ℕ, ◌+◌, ◌-◌, ◌^◌, nat_lt, nat_eq, min, length, List, [], Bool, ◌&&◌, ◌==◌, if◌then◌else◌, Option, Some, None, option_map, option_and_then, unwrap_or, Result, Ok, Err}
-use Rattle.std.specs.Cmp.Lexicographic.{pointwise}
+use Rattle.std.specs.Prelude.{ℕ, ◌+◌, ◌-◌, ◌^◌, nat_lt, min, length, List, [], Bool, ◌==◌, if◌then◌else◌, Option, Some, None, option_map, option_and_then, unwrap_or, Result}
 use Rattle.std.specs.List.{find}
 use Rattle.std.specs.Result.{result_ok}
 use Rattle.std.specs.declared.ops.Range.{Range}
@@ -8,29 +7,22 @@ use Rattle.framehop_cfi.specs.Bytes.{◌>>=◌}
 use Rattle.framehop_cfi.specs.Header.{layout_of}
 use Rattle.framehop_cfi.specs.Layout.{Layout}
 use Rattle.framehop_cfi.specs.declared.section.ExplicitModuleSectionInfo.{ExplicitModuleSectionInfo}
-use Rattle.framehop_core_file.specs.MappedFile.{MappedFileView}
 use Rattle.framehop_core_file.specs.Memory.{memory_of, memory_from}
 use Rattle.framehop_elf.specs.BuildId.{build_id_of_file}
 use Rattle.framehop_elf.specs.Header.{file_header_of}
 use Rattle.framehop_elf.specs.ProgramHeader.{program_headers_of}
 use Rattle.framehop_elf.specs.declared.error.ElfError.{ElfError}
 use Rattle.framehop_elf.specs.declared.program_header.ProgramHeader.{ProgramHeader}
-use Rattle.framehop_core_stacks.specs.Dump.{DumpView}
+use Rattle.framehop_core_stacks.specs.Dump.{MemoryView}
 use Rattle.framehop_core_stacks.specs.declared.image.CallFrames.{CallFrames}
 
 -- p_type of the segment that has `.eh_frame_hdr` (LSB Core, "Program Header": PT_GNU_EH_FRAME)
 abbrev pub PT_GNU_EH_FRAME : ℕ
 PT_GNU_EH_FRAME = 0x6474e550
 
--- a file of a path is mapped from its first byte on
-abbrev pub is_beginning : List ℕ → MappedFileView → Bool
-is_beginning path mapped = (mapped.offset == 0) && pointwise nat_eq mapped.path path
-
--- the first bytes of a mapped file, as far as memory has them: at its first mapping that has the first byte
-abbrev pub head_in : DumpView → List ℕ → List ℕ
-head_in dump path =
-    unwrap_or (option_and_then (λ mapped. memory_from dump.file dump.segments mapped.start)
-    (find (is_beginning path) dump.files)) []
+-- the bytes from an address on, as far as memory has them
+abbrev pub head_at : MemoryView → ℕ → List ℕ
+head_at memory address = unwrap_or (memory_from memory.file memory.segments address) []
 
 -- the program headers in the first bytes of a file, if they can be read
 unfoldable pub headers_in : List ℕ → Result (List ProgramHeader) ElfError
@@ -46,10 +38,6 @@ segments_in head = unwrap_or (result_ok (headers_in head)) []
 abbrev pub build_id_in : List ℕ → List ProgramHeader → List ℕ
 build_id_in head segments = unwrap_or (build_id_of_file head segments []) []
 
--- the build id that memory has of a mapped file
-abbrev pub build_id_of_path : DumpView → List ℕ → List ℕ
-build_id_of_path dump path = build_id_in (head_in dump path) (segments_in (head_in dump path))
-
 abbrev pub is_eh_frame_header : ProgramHeader → Bool
 is_eh_frame_header segment = segment.p_type == PT_GNU_EH_FRAME
 
@@ -58,13 +46,14 @@ abbrev pub avma_at : ℕ → ℕ → Option ℕ
 avma_at base svma = if nat_lt (base + svma) (2 ^ 64) then Some (base + svma) else None
 
 -- so many bytes there
-abbrev pub memory_at : DumpView → ℕ → ℕ → ℕ → Option (List ℕ)
-memory_at dump base svma size =
-    option_and_then (λ avma. memory_of dump.file dump.segments avma size) (avma_at base svma)
+abbrev pub memory_at : MemoryView → ℕ → ℕ → ℕ → Option (List ℕ)
+memory_at memory base svma size =
+    option_and_then (λ avma. memory_of memory.file memory.segments avma size) (avma_at base svma)
 
 -- the bytes from there on
-abbrev pub memory_after : DumpView → ℕ → ℕ → Option (List ℕ)
-memory_after dump base svma = option_and_then (λ avma. memory_from dump.file dump.segments avma) (avma_at base svma)
+abbrev pub memory_after : MemoryView → ℕ → ℕ → Option (List ℕ)
+memory_after memory base svma =
+    option_and_then (λ avma. memory_from memory.file memory.segments avma) (avma_at base svma)
 
 -- the call frame sections of a file, and where they begin
 pub record CallFramesView : Type 0 where
@@ -82,28 +71,28 @@ call_frames_view c = record {
 }
 
 -- `.eh_frame`, as far as memory has what is after the address that its header tells
-abbrev pub frames_by : DumpView → ℕ → ℕ → List ℕ → Option Layout → Option CallFramesView
-frames_by dump base svma header (Some layout) =
+abbrev pub frames_by : MemoryView → ℕ → ℕ → List ℕ → Option Layout → Option CallFramesView
+frames_by memory base svma header (Some layout) =
     option_map
     (λ frames. record { header_svma = svma; header = header; frames_svma = layout.eh_frame_pointer; frames = frames })
-    (memory_after dump base layout.eh_frame_pointer)
-frames_by dump base svma header None = None
+    (memory_after memory base layout.eh_frame_pointer)
+frames_by memory base svma header None = None
 
 -- after the header, whose pointers count from where it is
-abbrev pub frames_after : DumpView → ℕ → ℕ → Option (List ℕ) → Option CallFramesView
-frames_after dump base svma (Some header) =
-    frames_by dump base svma header
+abbrev pub frames_after : MemoryView → ℕ → ℕ → Option (List ℕ) → Option CallFramesView
+frames_after memory base svma (Some header) =
+    frames_by memory base svma header
     (result_ok (layout_of (record { section = svma; text = 0; «data» = svma }) header))
-frames_after dump base svma None = None
+frames_after memory base svma None = None
 
 -- `.eh_frame_hdr` and `.eh_frame` of a file that lies at a base, if memory has them
-abbrev pub frames_behind : DumpView → ℕ → Option ProgramHeader → Option CallFramesView
-frames_behind dump base (Some segment) =
-    frames_after dump base segment.p_vaddr (memory_at dump base segment.p_vaddr segment.p_memsz)
-frames_behind dump base None = None
+abbrev pub frames_behind : MemoryView → ℕ → Option ProgramHeader → Option CallFramesView
+frames_behind memory base (Some segment) =
+    frames_after memory base segment.p_vaddr (memory_at memory base segment.p_vaddr segment.p_memsz)
+frames_behind memory base None = None
 
-unfoldable pub call_frames_at : DumpView → List ProgramHeader → ℕ → Option CallFramesView
-call_frames_at dump segments base = frames_behind dump base (find is_eh_frame_header segments)
+unfoldable pub call_frames_at : MemoryView → List ProgramHeader → ℕ → Option CallFramesView
+call_frames_at memory segments base = frames_behind memory base (find is_eh_frame_header segments)
 
 -- where bytes are from a stated address on; what ends above the last address ends at it
 abbrev pub range_of : ℕ → List ℕ → Range ℕ
@@ -128,6 +117,6 @@ sections_of found = record {
   text_segment = None;
 }
 
--- the unwind sections of a mapped file that lies at a base, as memory has them
-abbrev pub sections_in : DumpView → List ℕ → ℕ → ExplicitModuleSectionInfo (List ℕ)
-sections_in dump path base = sections_of (call_frames_at dump (segments_in (head_in dump path)) base)
+-- the unwind sections of a file of these first bytes that lies at a base, as memory has them
+abbrev pub sections_in : MemoryView → List ℕ → ℕ → ExplicitModuleSectionInfo (List ℕ)
+sections_in memory head base = sections_of (call_frames_at memory (segments_in head) base)

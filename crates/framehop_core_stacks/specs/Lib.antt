@@ -1,9 +1,10 @@
--- What the contracts of this crate cite: the stacks of the threads of a core file.
+-- What the contracts of this crate cite: the stacks of the threads of core files and minidumps.
 pub mod Refusal
 pub mod Dump
 pub mod Image
+pub mod CoreDump
+pub mod Minidump
 pub mod Modules
 pub mod Thread
 pub mod Text
 pub mod Printed
-pub mod Explained

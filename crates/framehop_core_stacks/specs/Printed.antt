@@ -1,4 +1,4 @@
--- What the program prints of a core file.
+-- What the program prints of a process that is gone.
 use Rattle.std.specs.Prelude.{ℕ, List, map, Option}
 use Rattle.std.specs.List.{flat_map}
 use Rattle.framehop_core.specs.CodeAddress.{FrameLocation}
@@ -14,17 +14,17 @@ use Rattle.framehop.specs.X86_64.{x86_64}
 use Rattle.framehop_processes.specs.declared.mapping.Mapping.{Mapping}
 use Rattle.framehop_stacks.specs.declared.files.Files.{Files}
 use Rattle.framehop_stacks.specs.declared.machine.Start.{Start}
-use Rattle.framehop_core_stacks.specs.Dump.{DumpView}
+use Rattle.framehop_core_stacks.specs.Dump.{RegistersView, DumpView}
 use Rattle.framehop_core_stacks.specs.Modules.{mappings_in, module_at}
 use Rattle.framehop_core_stacks.specs.Text.{thread_text}
 use Rattle.framehop_core_stacks.specs.Thread.{thread_stack, begins_x86_64, begins_aarch64}
 
 module _ {Regs : Type 0} (step_by : List ModuleView → FrameLocation → Regs → Memory → Outcome Regs)
-    (begins : Option ℕ → List ℕ → Option (Start Regs)) (limit : ℕ) where
+    (begins : RegistersView → Option (Start Regs)) (limit : ℕ) where
   -- the blocks of all threads in their order, by modules and by mappings
   abbrev pub blocks_of : List ModuleView → DumpView → Files → List Mapping → List ℕ
   blocks_of modules dump files mappings =
-      flat_map (λ thread. thread_text dump.process files mappings thread
+      flat_map (λ thread. thread_text dump files mappings thread
       (thread_stack step_by begins limit modules dump thread)) dump.threads
 
   -- by the modules of the mappings of the files
@@ -39,6 +39,6 @@ text_on X86_64 limit dump files =
 text_on Aarch64 limit dump files =
     text_by (step (aarch64 with_allocation)) begins_aarch64 limit (module_at dump files) dump files
 
--- what is printed: the stack of each thread, by the memory of the core file and by the files
+-- what is printed: the stack of each thread, by the memory of the process and by the files
 abbrev pub text_of : ℕ → DumpView → Files → List ℕ
 text_of limit dump files = text_on dump.machine limit dump files

@@ -1,57 +1,131 @@
-//! What is read of a core file before its threads are unwound.
-ghost use Rattle.std.specs.Prelude.{◌≡◌, ◌⊎◌, Ok, Err, MatchResult};
-ghost use Rattle.framehop_core_file.specs.declared.error.CoreFileError.{CoreFileError};
-ghost use Rattle.framehop_core_stacks.specs.Dump.{dump_view, dump_of};
+//! What is known of a process that is gone, by a core file or a minidump: its memory, its threads, and the code
+//! that it had mapped.
+ghost use Rattle.std.specs.Prelude.{◌≡◌, find, option_map};
+ghost use Rattle.framehop_core_stacks.specs.Dump.{dump_view, mapped_code_view, is_of_path, head_of};
 
-use framehop_core_file::core_file::{Machine, read_core_file};
-use framehop_core_file::error::CoreFileError;
-use framehop_core_file::mapped_file::{MappedFile, read_mapped_files};
-use framehop_core_file::note::read_notes;
-use framehop_core_file::process::{Process, read_process};
-use framehop_core_file::thread::{Thread, read_threads};
+use framehop_core_file::core_file::Machine;
 use framehop_elf::program_header::ProgramHeader;
-use std::alloc::Global;
 
-/// What was read of a core file.
-#[derive(Drop)]
-pub struct Dump<'a> {
-    /// Its bytes.
-    pub file: &'a [u8],
-    /// The machine on which the process ran.
-    pub machine: Machine,
-    /// Its segments: notes, and the memory of the process.
-    pub segments: Vec<ProgramHeader>,
-    /// The threads of the process.
-    pub threads: Vec<Thread<'a>>,
-    /// The files that it had mapped.
-    pub files: Vec<MappedFile<'a>>,
-    /// The process, if the file tells it.
-    pub process: Option<Process<'a>>,
+/// Which kind of file tells of a process.
+#[derive(Clone, Copy, Debug, PartialEq, Eq)]
+pub enum Kind {
+    /// A core file.
+    CoreFile,
+    /// A minidump.
+    Minidump,
 }
 
-/// Reads a core file.
-///
-/// # Errors
-///
-/// The first refusal of the headers, of the notes, of the threads, of the mapped files and of the process;
-/// `OutOfMemory`.
-#[tactic(auto, unfolding(crate::specs::Dump::dump_of))]
-pub fn read_dump<'a>(alloc: Global, file: &'a [u8]) -> Result<Dump<'a>, CoreFileError>
-    ensures { MatchResult result
-        (λ dump. dump_of file.entry.now ≡ Ok (dump_view dump))
-        (λ error. (error ≡ CoreFileError.OutOfMemory) ⊎ (dump_of file.entry.now ≡ Err error)) }
+/// The memory of a process, as far as a file has it.
+#[derive(Drop)]
+pub struct DumpedMemory<'a> {
+    /// The bytes of the file.
+    pub file: &'a [u8],
+    /// Which of them are where: the segments of type `PT_LOAD`. Others are ignored.
+    pub segments: Vec<ProgramHeader>,
+}
+
+/// The registers of a thread, for its machine.
+#[derive(Clone, Copy, Drop)]
+pub enum Registers<'a> {
+    /// As Linux keeps them: `framehop_core_file::registers` reads them.
+    Kernel {
+        /// Eight bytes for each register.
+        values: &'a [u8],
+        /// The bits of an address of code that are its signature, where they are known.
+        pac_mask: Option<u64>,
+    },
+    /// A context: `framehop_minidump::registers` reads it.
+    Context {
+        /// Its bytes.
+        values: &'a [u8],
+        /// The bits of an address of code that are no signature.
+        code_mask: u64,
+    },
+}
+
+/// Why a thread ended its process.
+#[derive(Clone, Copy, Debug, PartialEq, Eq)]
+pub enum Cause {
+    /// A signal.
+    Signal(u32),
+    /// An exception, of Windows or of macOS.
+    Exception(u32),
+}
+
+/// A thread, as it was when the file was made.
+#[derive(Clone, Copy, Drop)]
+pub struct Thread<'a> {
+    /// Its number.
+    pub tid: u32,
+    /// What ended the process, if it was this thread that got it.
+    pub cause: Option<Cause>,
+    /// Its registers.
+    pub registers: Registers<'a>,
+}
+
+/// Addresses at which code of a file was mapped.
+#[derive(Clone, Copy, Drop)]
+pub struct MappedCode<'a> {
+    /// The first address (AVMA).
+    pub start: u64,
+    /// The address after the last (AVMA).
+    pub end: u64,
+    /// Where the mapping begins in the file, in bytes.
+    pub offset: u64,
+    /// The file's path.
+    pub path: &'a [u8],
+    /// The first bytes of the file, as far as memory has them.
+    pub head: &'a [u8],
+    /// The build id that the file must have, or no bytes.
+    pub build_id: &'a [u8],
+    /// Where the file's SVMA 0 is (AVMA), where that is known before the file is read.
+    pub base: Option<u64>,
+}
+
+/// What is known of a process that is gone.
+#[derive(Drop)]
+pub struct Dump<'a> {
+    /// Which kind of file tells it.
+    pub kind: Kind,
+    /// Its memory.
+    pub memory: DumpedMemory<'a>,
+    /// The machine on which it ran.
+    pub machine: Machine,
+    /// Its threads.
+    pub threads: Vec<Thread<'a>>,
+    /// The code that it had mapped.
+    pub code: Vec<MappedCode<'a>>,
+    /// The name of its program, if the file tells it.
+    pub name: Option<&'a [u8]>,
+    /// Its number, if the file tells it.
+    pub pid: Option<u32>,
+}
+
+/// Returns whether code is of the file of a path.
+fn is_of_path(code: MappedCode<'_>, path: &[u8]) -> bool
+    ensures { result ≡ is_of_path path.now (mapped_code_view code.entry) }
 {
-    let core = read_core_file(alloc, file)?;
-    let notes = read_notes(alloc, file, core.segments.as_slice())?;
-    let threads = read_threads(alloc, core.machine, notes.as_slice())?;
-    let files = read_mapped_files(alloc, notes.as_slice())?;
-    let process = read_process(notes.as_slice())?;
-    Ok(Dump {
-        file,
-        machine: core.machine,
-        segments: core.segments,
-        threads,
-        files,
-        process,
-    })
+    code.path == path
+}
+
+/// Returns the first mapping of code of the file of a path.
+fn code_of_path<'a>(dump: &Dump<'a>, path: &[u8]) -> Option<MappedCode<'a>>
+    ensures { option_map mapped_code_view result ≡ find (is_of_path path.now) (dump_view dump.now).code }
+{
+    for code in &dump.code {
+        if is_of_path(*code, path) {
+            return Some(*code);
+        }
+    }
+    None
+}
+
+/// Returns the first bytes of a file whose code was mapped, as far as memory has them.
+pub fn head_of<'a>(dump: &Dump<'a>, path: &[u8]) -> &'a [u8]
+    ensures { result.now ≡ head_of (dump_view dump.now) path.now }
+{
+    match code_of_path(dump, path) {
+        Some(code) => code.head,
+        None => &[],
+    }
 }

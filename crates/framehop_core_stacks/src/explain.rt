@@ -1,37 +1,18 @@
-//! Notes under the lines of the text of a core file: where each frame's caller came from, and why walks ended.
+//! Notes under the lines of the text of threads: where each frame's caller came from, and why walks ended.
 ghost use Rattle.std.specs.Prelude.{◌≡◌, ◌+◌, length, sum_by, IfOk, OnOk};
-ghost use Rattle.framehop_core_file.specs.Thread.{thread_view};
-ghost use Rattle.framehop_core_stacks.specs.Dump.{dump_view};
-ghost use Rattle.framehop_core_stacks.specs.Explained.{line_count, IsExplained};
+ghost use Rattle.framehop_core_stacks.specs.Dump.{thread_view, dump_view};
 ghost use Rattle.framehop_core_stacks.specs.Thread.{thread_stack};
+ghost use Rattle.framehop_stacks.specs.Explained.{IsExplained};
+ghost use Rattle.framehop_stacks.specs.Stack.{line_count};
 
-use crate::dump::Dump;
+use crate::dump::{Dump, Thread};
 use crate::machine::Dumped;
 use crate::stack::walk_thread;
-use framehop::session::WalkEnd;
-use framehop_core_file::thread::Thread;
 use framehop_explain::{Note, annotated};
 use framehop_processes::Process;
 use framehop_stacks::error::StacksError;
-use framehop_stacks::stack::Stack;
-use std::alloc::{AllocError, Global};
-
-/// Returns the note of the end of a thread's walk: why it was refused, if it was.
-fn end_note(alloc: Global, walked: &Option<Stack>) -> Result<Note, AllocError> {
-    let note = Note::new(alloc);
-    match walked {
-        Some(
-            Stack {
-                end: WalkEnd::Refused(error),
-                ..
-            },
-        ) => {
-            let line = format!(in alloc; "{error}")?;
-            note.with_line(line.as_str())
-        }
-        _ => Ok(note),
-    }
-}
+use framehop_stacks::explain::end_note;
+use std::alloc::Global;
 
 /// Notes what is to be said of each line of a thread's block: nothing of its head, where each frame's caller came from,
 /// why the walk ended, and nothing of the blank line.
@@ -49,7 +30,7 @@ fn note_thread<U: Dumped>(
 {
     let unwinder = process.unwinder();
     notes.push(Note::new(alloc))?;
-    if let Some(start) = U::begin(thread.pac_mask, thread.registers) {
+    if let Some(start) = U::begin(thread.registers) {
         unwinder.note_walk(alloc, start.pc, start.regs, dump, limit, notes)?;
     }
     let walked = walk_thread(alloc, unwinder, cache, dump, thread, limit)?;

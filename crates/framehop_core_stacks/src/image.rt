@@ -1,15 +1,13 @@
 //! What the memory of a process has of the files that it had mapped: their build ids and their unwind data.
 ghost use Rattle.std.specs.Prelude.{◌≡◌, IfOk, find, option_map};
-ghost use Rattle.framehop_core_file.specs.MappedFile.{mapped_file_view};
 ghost use Rattle.framehop_elf.specs.UnwindSections.{sections_view};
-ghost use Rattle.framehop_core_stacks.specs.Dump.{dump_view};
-ghost use Rattle.framehop_core_stacks.specs.Image.{is_beginning, head_in, segments_in, build_id_in, is_eh_frame_header, memory_at, memory_after, call_frames_at, call_frames_view, range_of, sections_of, sections_in};
+ghost use Rattle.framehop_core_stacks.specs.Dump.{memory_view};
+ghost use Rattle.framehop_core_stacks.specs.Image.{head_at, segments_in, build_id_in, is_eh_frame_header, memory_at, memory_after, call_frames_at, call_frames_view, range_of, sections_of, sections_in};
 
-use crate::dump::Dump;
+use crate::dump::DumpedMemory;
 use framehop_cfi::header::TableLayout;
 use framehop_cfi::pointer::SectionBaseAddresses;
 use framehop_cfi::section::ExplicitModuleSectionInfo;
-use framehop_core_file::mapped_file::MappedFile;
 use framehop_core_file::memory::{bytes_at, bytes_from};
 use framehop_elf::build_id::read_build_id;
 use framehop_elf::error::ElfError;
@@ -21,33 +19,11 @@ use std::ops::Range;
 /// `PT_GNU_EH_FRAME`: the segment that has `.eh_frame_hdr`.
 const PT_GNU_EH_FRAME: u32 = 0x6474_e550;
 
-/// Returns whether a file of this path is mapped from its first byte on.
-fn is_beginning(mapped: MappedFile<'_>, path: &[u8]) -> bool
-    ensures { result ≡ is_beginning path.now (mapped_file_view mapped.entry) }
+/// Returns the bytes of memory from an address (AVMA) on, as far as it has them, or none.
+pub fn head_at<'a>(memory: &DumpedMemory<'a>, address: u64) -> &'a [u8]
+    ensures { result.now ≡ head_at (memory_view memory.now) address }
 {
-    mapped.offset == 0 && mapped.path == path
-}
-
-/// Returns the first mapping of a file that has its first byte.
-fn beginning<'a>(dump: &Dump<'a>, path: &[u8]) -> Option<MappedFile<'a>>
-    ensures { option_map mapped_file_view result ≡ find (is_beginning path.now) (dump_view dump.now).files }
-{
-    for mapped in &dump.files {
-        if is_beginning(*mapped, path) {
-            return Some(*mapped);
-        }
-    }
-    None
-}
-
-/// Returns the first bytes of a mapped file, as far as memory has them.
-pub fn head_in<'a>(dump: &Dump<'a>, path: &[u8]) -> &'a [u8]
-    ensures { result.now ≡ head_in (dump_view dump.now) path.now }
-{
-    let Some(mapped) = beginning(dump, path) else {
-        return &[];
-    };
-    match bytes_from(dump.file, dump.segments.as_slice(), mapped.start) {
+    match bytes_from(memory.file, memory.segments.as_slice(), address) {
         Some(head) => head,
         None => &[],
     }
@@ -91,19 +67,19 @@ fn eh_frame_header(segments: &[ProgramHeader]) -> Option<ProgramHeader>
 }
 
 /// Returns so many bytes from an SVMA on of what lies at a base, if memory has them.
-fn memory_at<'a>(dump: &Dump<'a>, base: u64, svma: u64, size: u64) -> Option<&'a [u8]>
-    ensures { option_map (λ bytes. bytes.now) result ≡ memory_at (dump_view dump.now) base svma size }
+fn memory_at<'a>(memory: &DumpedMemory<'a>, base: u64, svma: u64, size: u64) -> Option<&'a [u8]>
+    ensures { option_map (λ bytes. bytes.now) result ≡ memory_at (memory_view memory.now) base svma size }
 {
     let avma = base.checked_add(svma)?;
-    bytes_at(dump.file, dump.segments.as_slice(), avma, size)
+    bytes_at(memory.file, memory.segments.as_slice(), avma, size)
 }
 
 /// Returns the bytes from an SVMA on of what lies at a base, as far as memory has them.
-fn memory_after<'a>(dump: &Dump<'a>, base: u64, svma: u64) -> Option<&'a [u8]>
-    ensures { option_map (λ bytes. bytes.now) result ≡ memory_after (dump_view dump.now) base svma }
+fn memory_after<'a>(memory: &DumpedMemory<'a>, base: u64, svma: u64) -> Option<&'a [u8]>
+    ensures { option_map (λ bytes. bytes.now) result ≡ memory_after (memory_view memory.now) base svma }
 {
     let avma = base.checked_add(svma)?;
-    bytes_from(dump.file, dump.segments.as_slice(), avma)
+    bytes_from(memory.file, memory.segments.as_slice(), avma)
 }
 
 /// The call frame sections of a file, and where they begin (SVMA).
@@ -121,15 +97,15 @@ struct CallFrames<'a> {
 /// Source: LSB Core, "Exception Frames", "The .eh_frame_hdr section".
 #[tactic(auto, unfolding(crate::specs::Image::call_frames_at))]
 fn call_frames_at<'a>(
-    dump: &Dump<'a>,
+    memory: &DumpedMemory<'a>,
     segments: &[ProgramHeader],
     base: u64,
 ) -> Option<CallFrames<'a>>
-    ensures { option_map call_frames_view result ≡ call_frames_at (dump_view dump.now) segments.now base }
+    ensures { option_map call_frames_view result ≡ call_frames_at (memory_view memory.now) segments.now base }
 {
     let segment = eh_frame_header(segments)?;
     let header_svma = segment.p_vaddr;
-    let header = memory_at(dump, base, header_svma, segment.p_memsz)?;
+    let header = memory_at(memory, base, header_svma, segment.p_memsz)?;
     let bases = SectionBaseAddresses {
         section: header_svma,
         text: 0,
@@ -137,7 +113,7 @@ fn call_frames_at<'a>(
     };
     let layout = TableLayout::parse(header, &bases).ok()?;
     let frames_svma = layout.eh_frame_pointer();
-    let frames = memory_after(dump, base, frames_svma)?;
+    let frames = memory_after(memory, base, frames_svma)?;
     Some(CallFrames {
         header_svma,
         header,
@@ -170,17 +146,17 @@ fn sections_of(
     Ok(info)
 }
 
-/// Returns the unwind sections of a file that lies at a base, as memory has them: none where it has not
-/// both `.eh_frame_hdr` and `.eh_frame`.
+/// Returns the unwind sections of a file of these first bytes that lies at a base, as memory has them: none where
+/// it has not both `.eh_frame_hdr` and `.eh_frame`.
 pub fn sections_in(
     alloc: Global,
-    dump: &Dump<'_>,
-    path: &[u8],
+    memory: &DumpedMemory<'_>,
+    head: &[u8],
     base: u64,
 ) -> Result<ExplicitModuleSectionInfo<Vec<u8>>, AllocError>
-    ensures { IfOk result (λ info. sections_view info ≡ sections_in (dump_view dump.now) path.now base) }
+    ensures { IfOk result (λ info. sections_view info ≡ sections_in (memory_view memory.now) head.now base) }
 {
-    let segments = segments_in(alloc, head_in(dump, path))?;
-    let found = call_frames_at(dump, segments.as_slice(), base);
+    let segments = segments_in(alloc, head)?;
+    let found = call_frames_at(memory, segments.as_slice(), base);
     sections_of(alloc, found)
 }

@@ -1,11 +1,14 @@
-//! From a core file to stacks: unwinds each thread of a process that is gone, and writes a block for each.
+//! From a core file or a minidump to stacks: unwinds each thread of a process that is gone, and writes a block for
+//! each.
 #![tactic(auto)]
 
+pub mod core_dump;
 pub mod dump;
 pub mod error;
 pub mod explain;
 pub mod image;
 pub mod machine;
+pub mod minidump;
 pub mod modules;
 pub mod program;
 pub mod stack;

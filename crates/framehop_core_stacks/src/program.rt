@@ -1,19 +1,24 @@
-//! From the bytes of a core file to the stacks of its threads.
+//! From the bytes of a core file or a minidump to the stacks of its threads.
 ghost use Rattle.std.specs.Prelude.{◌≡◌, ◌⊎◌, List, ℕ, Ok, Err, IfOk, IfErr, OnOk};
 ghost use Rattle.std.specs.Io.KnownBytes.{Appends};
 ghost use Rattle.framehop_core_file.specs.declared.error.CoreFileError.{CoreFileError};
+ghost use Rattle.framehop_minidump.specs.declared.error.MinidumpError.{MinidumpError};
 ghost use Rattle.framehop_stacks.specs.declared.files.Files.{Files};
-ghost use Rattle.framehop_core_stacks.specs.Dump.{DumpView, dump_view, dump_of};
-ghost use Rattle.framehop_core_stacks.specs.Explained.{IsShown};
+ghost use Rattle.framehop_core_stacks.specs.CoreDump.{core_dump_of};
+ghost use Rattle.framehop_core_stacks.specs.Dump.{DumpView, dump_view};
+ghost use Rattle.framehop_core_stacks.specs.Minidump.{LoadedView, minidump_of, IsDumpOf};
 ghost use Rattle.framehop_core_stacks.specs.Modules.{AreFilesOf};
 ghost use Rattle.framehop_core_stacks.specs.Printed.{blocks_of, text_by, text_of};
-ghost use Rattle.framehop_core_stacks.specs.Refusal.{of_core_file};
+ghost use Rattle.framehop_core_stacks.specs.Refusal.{of_core_file, of_minidump};
+ghost use Rattle.framehop_stacks.specs.Explained.{IsShown};
 
-use crate::dump::{Dump, read_dump};
+use crate::core_dump::read_core_dump;
+use crate::dump::{Dump, Kind, head_of};
 use crate::error::CoreStacksError;
 use crate::explain::explained_text;
 use crate::image::sections_in;
 use crate::machine::Dumped;
+use crate::minidump::{code_of, dump_in, read_streams_and_modules};
 use crate::modules::{DumpModules, map_files, read_files};
 use crate::text::threads_text;
 use framehop::aarch64::UnwinderAarch64;
@@ -37,27 +42,38 @@ fn is_in_memory(
 ) -> Result<bool, StacksError> {
     for mapping in mappings {
         if mapping.file == number && mapping.has_sections {
-            let info = sections_in(alloc, dump, name, mapping.base_avma)?;
+            let head = head_of(dump, name);
+            let info = sections_in(alloc, &dump.memory, head, mapping.base_avma)?;
             return Ok(info.eh_frame.is_some());
         }
     }
     Ok(false)
 }
 
+/// Returns what a kind of file is called.
+fn kind_name(kind: Kind) -> &'static str {
+    match kind {
+        Kind::CoreFile => "core file",
+        Kind::Minidump => "minidump",
+    }
+}
+
 /// Writes a line for a file of which nothing was read.
 fn write_problem<E: Write>(
     err: &mut E,
+    kind: Kind,
     name: &[u8],
     problem: FileProblem,
     in_memory: bool,
 ) -> Result<(), CoreStacksError> {
+    let kind = kind_name(kind);
     err.write_all(name)?;
     match problem {
-        FileProblem::OtherBuildId => write!(err, ": its build id is not the core file's")?,
+        FileProblem::OtherBuildId => write!(err, ": its build id is not the {kind}'s")?,
         problem => write!(err, ": {problem}")?,
     }
     if in_memory {
-        err.write_all(b"; its unwind data is the core file's")?;
+        write!(err, "; its unwind data is the {kind}'s")?;
     }
     err.write_all(b"\n")?;
     Ok(())
@@ -78,7 +94,7 @@ fn write_problems<E: Write>(
         if let Some(problem) = file.problem {
             let name = file.name.as_slice();
             let in_memory = is_in_memory(alloc, dump, mappings, name, number)?;
-            write_problem(err, name, problem, in_memory)?;
+            write_problem(err, dump.kind, name, problem, in_memory)?;
         }
     }
     Ok(())
@@ -176,14 +192,46 @@ pub fn write_core_stacks<S: FileSource, W: Write, E: Write>(
     out: &mut W,
     err: &mut E,
 ) -> Result<(), CoreStacksError>
-    ensures printed { OnOk result ((dump : DumpView) × (dump_of file.now ≡ Ok dump)
+    ensures printed { OnOk result ((dump : DumpView) × (core_dump_of file.now ≡ Ok dump)
         × ((files : Files) × AreFilesOf (S.gives source.now) (S.gives_debug source.now) dump files
         × ((shown : List ℕ) × IsShown explain (text_of limit dump files) shown
         × Appends (W.contents out.old) (W.contents out.new) shown))) }
-    ensures refused { (refusal : CoreFileError) → dump_of file.now ≡ Err refusal → IfErr result (λ error.
+    ensures refused { (refusal : CoreFileError) → core_dump_of file.now ≡ Err refusal → IfErr result (λ error.
         (error ≡ of_core_file refusal) ⊎ (error ≡ CoreStacksError.Stacks StacksError.OutOfMemory)) }
 {
-    let dump = read_dump(alloc, file)?;
+    let dump = read_core_dump(alloc, file)?;
+    let files = read_files(alloc, &dump, source)?;
+    write_dump(alloc, &dump, &files, limit, explain, out, err)?;
+    Ok(())
+}
+
+/// Writes the stacks of the threads of a minidump to `out`, and to `err` which files were not read, as
+/// [`write_core_stacks`] does of a core file.
+///
+/// # Errors
+///
+/// `Minidump` with the first refusal of the minidump; `Stacks` with `OutOfMemory`, `GenerationsExhausted` and
+/// `CannotWrite`.
+pub fn write_minidump_stacks<S: FileSource, W: Write, E: Write>(
+    alloc: Global,
+    file: &[u8],
+    source: &S,
+    limit: u32,
+    explain: bool,
+    out: &mut W,
+    err: &mut E,
+) -> Result<(), CoreStacksError>
+    ensures printed { OnOk result ((minidump : DumpView × List LoadedView) × (minidump_of file.now ≡ Ok minidump)
+        × ((dump : DumpView) × IsDumpOf (S.gives source.now) minidump dump
+        × ((files : Files) × AreFilesOf (S.gives source.now) (S.gives_debug source.now) dump files
+        × ((shown : List ℕ) × IsShown explain (text_of limit dump files) shown
+        × Appends (W.contents out.old) (W.contents out.new) shown)))) }
+    ensures refused { (refusal : MinidumpError) → minidump_of file.now ≡ Err refusal → IfErr result (λ error.
+        (error ≡ of_minidump refusal) ⊎ (error ≡ CoreStacksError.Stacks StacksError.OutOfMemory)) }
+{
+    let (streams, modules) = read_streams_and_modules(alloc, file)?;
+    let mut dump = dump_in(alloc, file, streams.as_slice(), modules.as_slice())?;
+    dump.code = code_of(alloc, &dump.memory, modules.as_slice(), source)?;
     let files = read_files(alloc, &dump, source)?;
     write_dump(alloc, &dump, &files, limit, explain, out, err)?;
     Ok(())

@@ -4,16 +4,14 @@ ghost use Rattle.framehop.specs.Memory.{reply};
 ghost use Rattle.framehop.specs.Modules.{UnwinderView};
 ghost use Rattle.framehop.specs.Soundness.{AreApart};
 ghost use Rattle.framehop_core_file.specs.Memory.{word_of};
-ghost use Rattle.framehop_core_file.specs.Thread.{thread_view};
 ghost use Rattle.framehop_stacks.specs.Stack.{option_stack_view};
-ghost use Rattle.framehop_core_stacks.specs.Dump.{dump_view};
+ghost use Rattle.framehop_core_stacks.specs.Dump.{thread_view, dump_view};
 ghost use Rattle.framehop_core_stacks.specs.Thread.{thread_stack};
 
-use crate::dump::Dump;
+use crate::dump::{Dump, Thread};
 use crate::machine::Dumped;
 use framehop::session::walk;
 use framehop_core_file::memory::word_at;
-use framehop_core_file::thread::Thread;
 use framehop_elf::program_header::ProgramHeader;
 use framehop_explain::Words;
 use framehop_stacks::error::StacksError;
@@ -36,11 +34,11 @@ impl Words for Dump<'_> {
     ghost memory = { λ dump. memory_in (dump_view dump) };
 
     fn read(&self, address: u64) -> Result<u64, ()> {
-        read_memory(self.file, self.segments.as_slice(), address)
+        read_memory(self.memory.file, self.memory.segments.as_slice(), address)
     }
 }
 
-/// Walks the stack of a thread by at most `limit` frames, over the words of the core file. Returns `None`
+/// Walks the stack of a thread by at most `limit` frames, over the words of memory. Returns `None`
 /// where the thread has not the registers with which a walk begins.
 pub fn walk_thread<U: Dumped>(
     alloc: Global,
@@ -55,11 +53,11 @@ pub fn walk_thread<U: Dumped>(
     ensures walked { U.is_sound (U.unwinder_view unwinder.now) cache.old → IfOk result (λ walked.
         option_stack_view walked ≡ thread_stack U.step_by U.begins limit (U.unwinder_view unwinder.now).modules (dump_view dump.now) (thread_view thread.entry)) }
 {
-    let Some(start) = U::begin(thread.pac_mask, thread.registers) else {
+    let Some(start) = U::begin(thread.registers) else {
         return Ok(None);
     };
-    let file = dump.file;
-    let segments = dump.segments.as_slice();
+    let file = dump.memory.file;
+    let segments = dump.memory.segments.as_slice();
     let mut read_stack = |address: u64| -> Result<u64, ()>
         ensures { result ≡ reply (word_of file.entry.now segments.entry.now address) }
     { read_memory(file, segments, address) };

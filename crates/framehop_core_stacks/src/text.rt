@@ -1,55 +1,50 @@
-//! The threads of a core file as text: a block for each.
+//! The threads of a process as text: a block for each.
 ghost use Rattle.std.specs.Prelude.{◌≡◌, ◌++◌, ℕ, List, [], true, option_map, string_bytes, IfOk, OnOk};
 ghost use Rattle.framehop.specs.Modules.{UnwinderView};
 ghost use Rattle.framehop.specs.Soundness.{AreApart};
-ghost use Rattle.framehop_core_file.specs.Process.{process_view};
-ghost use Rattle.framehop_core_file.specs.Thread.{thread_view};
 ghost use Rattle.framehop_stacks.specs.Samples.{stack_text};
-ghost use Rattle.framehop_core_stacks.specs.Dump.{dump_view};
+ghost use Rattle.framehop_core_stacks.specs.Dump.{thread_view, dump_view};
 ghost use Rattle.framehop_core_stacks.specs.Printed.{blocks_of};
-ghost use Rattle.framehop_core_stacks.specs.Text.{names_text, signal_text, thread_head, thread_text};
+ghost use Rattle.framehop_core_stacks.specs.Text.{name_text, numbers_text, cause_text, thread_head, thread_text};
 ghost use Rattle.framehop_core_stacks.specs.Thread.{thread_stack};
 
-use crate::dump::Dump;
+use crate::dump::{Cause, Dump, Thread};
 use crate::machine::Dumped;
 use crate::stack::walk_thread;
-use framehop_core_file::process::Process as DumpedProcess;
-use framehop_core_file::thread::Thread;
 use framehop_processes::Process;
 use framehop_stacks::error::StacksError;
 use framehop_stacks::files::Files;
 use framehop_stacks::line::{frames_block, push_name, refused_block};
 use std::alloc::Global;
 
-/// Appends the process and the thread of a block.
-fn push_names(
-    alloc: Global,
-    text: &mut Vec<u8>,
-    process: Option<DumpedProcess<'_>>,
-    tid: u32,
-) -> Result<(), StacksError>
-    ensures { OnOk result (text.new.items ≡ text.old.items ++ names_text (option_map process_view process.entry) tid) }
+/// Appends the name of the program.
+fn push_program(text: &mut Vec<u8>, name: Option<&[u8]>) -> Result<(), StacksError>
+    ensures { OnOk result (text.new.items ≡ text.old.items ++ name_text (option_map (λ name. name.now) name.entry)) }
 {
-    let numbers = match process {
-        Some(process) => {
-            push_name(text, process.name)?;
-            let pid = process.pid;
-            format!(in alloc; " {pid}/{tid}")?
-        }
-        None => format!(in alloc; "[unknown] {tid}")?,
-    };
-    text.extend_from_slice(numbers.as_bytes())?;
-    Ok(())
+    match name {
+        Some(name) => push_name(text, name),
+        None => Ok(text.extend_from_slice(b"[unknown]")?),
+    }
 }
 
-/// Returns how the head of a block ends: with the signal of the thread, if it got one.
-fn signal_text(alloc: Global, signal: u16) -> Result<String, StacksError>
-    ensures { IfOk result (λ text. string_bytes text ≡ signal_text signal) }
+/// Returns the numbers of the process and of the thread.
+fn numbers_text(alloc: Global, pid: Option<u32>, tid: u32) -> Result<String, StacksError>
+    ensures { IfOk result (λ text. string_bytes text ≡ numbers_text pid tid) }
 {
-    if signal == 0 {
-        Ok(format!(in alloc; ":\n")?)
-    } else {
-        Ok(format!(in alloc; " signal {signal}:\n")?)
+    match pid {
+        Some(pid) => Ok(format!(in alloc; " {pid}/{tid}")?),
+        None => Ok(format!(in alloc; " {tid}")?),
+    }
+}
+
+/// Returns how the head of a block ends: with the signal or the exception of the thread, if it got one.
+fn cause_text(alloc: Global, cause: Option<Cause>) -> Result<String, StacksError>
+    ensures { IfOk result (λ text. string_bytes text ≡ cause_text cause) }
+{
+    match cause {
+        None => Ok(format!(in alloc; ":\n")?),
+        Some(Cause::Signal(signal)) => Ok(format!(in alloc; " signal {signal}:\n")?),
+        Some(Cause::Exception(code)) => Ok(format!(in alloc; " exception 0x{code:x}:\n")?),
     }
 }
 
@@ -57,15 +52,18 @@ fn signal_text(alloc: Global, signal: u16) -> Result<String, StacksError>
 #[tactic(auto, unfolding(crate::specs::Text::thread_head))]
 fn thread_head(
     alloc: Global,
-    process: Option<DumpedProcess<'_>>,
+    name: Option<&[u8]>,
+    pid: Option<u32>,
     thread: Thread<'_>,
 ) -> Result<Vec<u8>, StacksError>
-    ensures { IfOk result (λ head. head.items ≡ thread_head (option_map process_view process.entry) (thread_view thread.entry)) }
+    ensures { IfOk result (λ head. head.items ≡ thread_head (option_map (λ name. name.now) name.entry) pid (thread_view thread.entry)) }
 {
     let mut head = Vec::new(alloc);
-    push_names(alloc, &mut head, process, thread.tid)?;
-    let signal = signal_text(alloc, thread.signal)?;
-    head.extend_from_slice(signal.as_bytes())?;
+    push_program(&mut head, name)?;
+    let numbers = numbers_text(alloc, pid, thread.tid)?;
+    head.extend_from_slice(numbers.as_bytes())?;
+    let cause = cause_text(alloc, thread.cause)?;
+    head.extend_from_slice(cause.as_bytes())?;
     Ok(head)
 }
 
@@ -105,10 +103,10 @@ fn push_thread<U: Dumped>(
     ensures stays_sound { (other : UnwinderView) → AreApart process.now.unwinder other
         → U.is_sound other cache.old → U.is_sound other cache.new }
     ensures told { U.is_sound process.now.unwinder cache.old → OnOk result (text.new.items ≡ text.old.items
-        ++ thread_text (dump_view dump.now).process files.now process.now.mappings (thread_view thread.entry)
+        ++ thread_text (dump_view dump.now) files.now process.now.mappings (thread_view thread.entry)
         (thread_stack U.step_by U.begins limit process.now.unwinder.modules (dump_view dump.now) (thread_view thread.entry))) }
 {
-    let head = thread_head(alloc, dump.process, thread)?;
+    let head = thread_head(alloc, dump.name, dump.pid, thread)?;
     let lines = thread_lines(alloc, dump, files, process, cache, thread, limit)?;
     text.extend_from_slice(head.as_slice())?;
     text.extend_from_slice(lines.as_slice())?;

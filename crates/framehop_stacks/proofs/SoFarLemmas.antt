@@ -23,7 +23,7 @@ use Rattle.framehop_stacks.proofs.TakenLemmas.{Each-more, AreTaken-more}
 
 -- Of all records from a state on some are left. The state there agrees with the names and the processes, and the samples
 -- before it have their texts, which were taken.
-pub record IsSoFar (files : Files) (IsText : RecordView × State → List ℕ → Type 0) (frames : Bool) (all : List RecordView)
+pub record IsSoFar (files : Files) (IsText : RecordView × State → List ℕ → Type 0) (frames explain : Bool) (all : List RecordView)
     (first : State) (old : Tally) (before : Option (List ℕ)) (rest : List RecordView) (names : Names)
     (processes : BTreeMap ℕ ProcessView) (new : Tally) (after : Option (List ℕ)) : Type 0 where
   pub state : State
@@ -33,17 +33,17 @@ pub record IsSoFar (files : Files) (IsText : RecordView × State → List ℕ �
   pub leads : state_over files rest state ≡ state_over files all first
   pub samples : told ++ samples_from files state rest ≡ samples_from files first all
   pub each : Each IsText told texts
-  pub taken : AreTaken frames texts old new before after
+  pub taken : AreTaken frames explain texts old new before after
 
 module _ (files : Files) (IsText : RecordView × State → List ℕ → Type 0)
     (same_text : (r : RecordView) (state other : State) → ((tid : ℕ) → state.named tid ≡ other.named tid)
     → ((pid : ℕ) → state.mapped pid ≡ other.mapped pid) → (text : List ℕ) → IsText (r, state) text → IsText (r, other) text)
-    (frames : Bool) (all : List RecordView) (first : State) (old : Tally) (before : Option (List ℕ))
+    (frames explain : Bool) (all : List RecordView) (first : State) (old : Tally) (before : Option (List ℕ))
     (r : RecordView) (rest : List RecordView) (names names' : Names) (processes processes' : BTreeMap ℕ ProcessView)
     (new new' : Tally) (after after' : Option (List ℕ))
-    (so : IsSoFar files IsText frames all first old before (r ∷ rest) names processes new after)
+    (so : IsSoFar files IsText frames explain all first old before (r ∷ rest) names processes new after)
     (agrees : Agrees names' processes' (state_after files r (state_in names processes)))
-    (sample : r.kind ≡ PERF_RECORD_SAMPLE → (text : List ℕ) × IsText (r, state_in names processes) text × IsTaken frames text new new' after after')
+    (sample : r.kind ≡ PERF_RECORD_SAMPLE → (text : List ℕ) × IsText (r, state_in names processes) text × IsTaken frames explain text new new' after after')
     (other : r.kind ≢ PERF_RECORD_SAMPLE → (new' ≡ new) × (after' ≡ after)) where
   agrees-on : Agrees names' processes' (state_after files r so.state)
   agrees-on = record {
@@ -51,7 +51,7 @@ module _ (files : Files) (IsText : RecordView × State → List ℕ → Type 0)
     mapped = λ pid. agrees.mapped pid ∙ mapped-same (mapped_in processes) so.state.mapped so.agrees.mapped files r pid;
   }
 
-  step-by : (b : Bool) → (r.kind == PERF_RECORD_SAMPLE) ≡ b → IsSoFar files IsText frames all first old before rest names' processes' new' after'
+  step-by : (b : Bool) → (r.kind == PERF_RECORD_SAMPLE) ≡ b → IsSoFar files IsText frames explain all first old before rest names' processes' new' after'
   step-by true is =
       let one = sample (eqb-true r.kind PERF_RECORD_SAMPLE is) in
       let next = samples_from files (state_after files r so.state) rest in
@@ -66,7 +66,7 @@ module _ (files : Files) (IsText : RecordView × State → List ℕ → Type 0)
         samples = append_assoc so.told ((r, so.state) ∷ []) next ∙ here;
         each = Each-more IsText so.told so.texts (r, so.state) one.0 so.each
             (same_text r (state_in names processes) so.state so.agrees.named so.agrees.mapped one.0 one.1);
-        taken = AreTaken-more frames so.texts one.0 old new new' before after after' so.taken one.2;
+        taken = AreTaken-more frames explain so.texts one.0 old new new' before after after' so.taken one.2;
       }
   step-by false is =
       let none = other (eqb-false r.kind PERF_RECORD_SAMPLE is) in
@@ -79,11 +79,11 @@ module _ (files : Files) (IsText : RecordView × State → List ℕ → Type 0)
         leads = so.leads;
         samples = ap (λ b. so.told ++ cond b ((r, so.state) ∷ next) next) (sym is) ∙ so.samples;
         each = so.each;
-        taken = subst (λ tally. AreTaken frames so.texts old tally before after') (sym none.0)
-            (subst (λ bytes. AreTaken frames so.texts old new before bytes) (sym none.1) so.taken);
+        taken = subst (λ tally. AreTaken frames explain so.texts old tally before after') (sym none.0)
+            (subst (λ bytes. AreTaken frames explain so.texts old new before bytes) (sym none.1) so.taken);
       }
 
-  pub step : IsSoFar files IsText frames all first old before rest names' processes' new' after'
+  pub step : IsSoFar files IsText frames explain all first old before rest names' processes' new' after'
   step = step-by (r.kind == PERF_RECORD_SAMPLE) refl
 
 -- the records that are left at a place, and how many samples there are up to the next

@@ -1,5 +1,5 @@
 -- States that agree lead to states that agree, and a sample has the same text at both.
-use Rattle.std.proofs.Common.{◌≡◌, ℕ, Bool, true, false, cond, List, map, Option, Some, None, Result, Ok, Err, refl, ap, sym, ◌∙◌, subst}
+use Rattle.std.proofs.Common.{◌≡◌, ℕ, Bool, true, false, cond, List, map, Option, Some, None, Result, Ok, Err, refl, ap, ◌∙◌, subst}
 use Rattle.std.specs.Prelude.{◌==◌, ◌||◌}
 use Rattle.framehop_core.specs.CodeAddress.{FrameLocation}
 use Rattle.framehop_core.specs.Memory.{Memory}
@@ -17,7 +17,7 @@ use Rattle.framehop_stacks.specs.Changes.{change_in}
 use Rattle.framehop_stacks.specs.Line.{head_of}
 use Rattle.framehop_stacks.specs.Names.{Named, named_by, named_as_parent, named_after}
 use Rattle.framehop_stacks.specs.Processes.{Mapped, after}
-use Rattle.framehop_stacks.specs.Samples.{State, mapped_by, state_after, IsUserStack, stack_text, IsTextAt}
+use Rattle.framehop_stacks.specs.Samples.{State, mapped_by, IsUserStack, stack_text, IsTextAt}
 use Rattle.framehop_stacks.specs.declared.changes.Change.{Change}
 use Rattle.framehop_stacks.specs.declared.changes.Change.TheVariants.{Map, Begin, Fork}
 use Rattle.framehop_stacks.specs.declared.files.Files.{Files}

@@ -1,5 +1,5 @@
 -- Texts that are taken one after another.
-use Rattle.std.proofs.Common.{◌≡◌, ◌≢◌, ℕ, zero, suc, ◌+◌, Bool, true, false, nat_eq, List, [], ◌∷◌, ◌++◌, Option, Some, None, Result, Ok, Err, OnOk, cond, refl, ap, sym, ◌∙◌, subst, append_assoc, append-nil, arith}
+use Rattle.std.proofs.Common.{◌≡◌, ℕ, zero, suc, ◌+◌, Bool, true, false, nat_eq, List, [], ◌∷◌, ◌++◌, Option, Some, None, Result, Ok, Err, OnOk, cond, refl, ap, sym, ◌∙◌, subst, append-nil, arith}
 use Rattle.std.specs.Prelude.{unwrap_or}
 use Rattle.std.specs.Cmp.Lexicographic.{pointwise, same_text, other_text}
 use Rattle.std.specs.Io.KnownBytes.{Appends}
@@ -8,6 +8,7 @@ use Rattle.std.proofs.lemmas.List.{flat_map_more}
 use Rattle.std.proofs.lemmas.List.Sums.{sum_by_push}
 use Rattle.framehop_stacks.proofs.TallyLemmas.{Appends-twice}
 use Rattle.framehop_stacks.specs.Counts.{CountsOneMore}
+use Rattle.framehop_stacks.specs.Explained.{IsShown}
 use Rattle.framehop_stacks.specs.Samples.{Each, occurrences, more, IsTaken, AreTaken, IsPrinted}
 use Rattle.framehop_stacks.specs.Tally.{entry_of, count_of, text_of, IsInOrderOfBytes}
 use Rattle.framehop_stacks.specs.declared.tally.Tally.{Tally}
@@ -52,32 +53,41 @@ module _ (texts : List (List ℕ)) (text : List ℕ) (old mid new : Tally)
       ∙ ap (more (entry_of old line)) (sym (occurrences-more line texts text (pointwise nat_eq line text) refl))
 
 -- a text that is taken after others
-pub AreTaken-more : (frames : Bool) (texts : List (List ℕ)) (text : List ℕ) (old mid new : Tally) (first before after : Option (List ℕ))
-    → AreTaken frames texts old mid first before → IsTaken frames text mid new before after
-    → AreTaken frames (texts ++ text ∷ []) old new first after
-AreTaken-more true texts text old mid new first before after taken one = (
-  one.0 ∙ taken.0,
-  subst (λ bytes. Appends first after bytes) (flat_map_more (λ t. t) [] texts text)
-      (Appends-twice first before after (flat_map (λ t. t) texts) text taken.1 one.1),
-)
-AreTaken-more false texts text old mid new first before after taken one =
+pub AreTaken-more : (frames explain : Bool) (texts : List (List ℕ)) (text : List ℕ) (old mid new : Tally) (first before after : Option (List ℕ))
+    → AreTaken frames explain texts old mid first before → IsTaken frames explain text mid new before after
+    → AreTaken frames explain (texts ++ text ∷ []) old new first after
+AreTaken-more true explain texts text old mid new first before after taken one =
+    let shown = taken.1.0 in
+    let last = one.1.0 in (
+      one.0 ∙ taken.0,
+      (
+        shown ++ last ∷ [],
+        Each-more (IsShown explain) texts shown text last taken.1.1 one.1.1,
+        subst (λ bytes. Appends first after bytes) (flat_map_more (λ t. t) [] shown last)
+            (Appends-twice first before after (flat_map (λ t. t) shown) last taken.1.2 one.1.2),
+      ),
+    )
+AreTaken-more false explain texts text old mid new first before after taken one =
     (counted-more texts text old mid new taken.0 one.0, one.1 ∙ taken.1)
 
 -- nothing that is taken
-pub AreTaken-none : (frames : Bool) (tally : Tally) (bytes : Option (List ℕ)) → AreTaken frames [] tally tally bytes bytes
-AreTaken-none true tally None = (refl, tt)
-AreTaken-none true tally (Some bytes) = (refl, sym (append-nil bytes))
-AreTaken-none false tally bytes = (λ line. refl, refl)
+pub AreTaken-none : (frames explain : Bool) (tally : Tally) (bytes : Option (List ℕ)) → AreTaken frames explain [] tally tally bytes bytes
+AreTaken-none true explain tally None = (refl, ([], tt, tt))
+AreTaken-none true explain tally (Some bytes) = (refl, ([], tt, sym (append-nil bytes)))
+AreTaken-none false explain tally bytes = (λ line. refl, refl)
 
 -- what is written in the end
-pub printed : (frames : Bool) (texts : List (List ℕ)) (old new : Tally) (first before after : Option (List ℕ))
-    → AreTaken frames texts old new first before → ((line : List ℕ) → entry_of old line ≡ None) → text_of old ≡ []
-    → IsInOrderOfBytes new → Appends before after (text_of new) → IsPrinted frames texts first after
-printed true texts old new first before after taken none empty order written =
-    let blocks = flat_map (λ t. t) texts in
-    let nothing : Appends before after [] = subst (λ bytes. Appends before after bytes) (ap text_of taken.0 ∙ empty) written in
-    subst (λ bytes. Appends first after bytes) (append-nil blocks) (Appends-twice first before after blocks [] taken.1 nothing)
-printed false texts old new first before after taken none empty order written = (
+pub printed : (frames explain : Bool) (texts : List (List ℕ)) (old new : Tally) (first before after : Option (List ℕ))
+    → AreTaken frames explain texts old new first before → ((line : List ℕ) → entry_of old line ≡ None) → text_of old ≡ []
+    → IsInOrderOfBytes new → Appends before after (text_of new) → IsPrinted frames explain texts first after
+printed true explain texts old new first before after taken none empty order written =
+    let blocks = flat_map (λ t. t) taken.1.0 in
+    let nothing : Appends before after [] = subst (λ bytes. Appends before after bytes) (ap text_of taken.0 ∙ empty) written in (
+      taken.1.0,
+      taken.1.1,
+      subst (λ bytes. Appends first after bytes) (append-nil blocks) (Appends-twice first before after blocks [] taken.1.2 nothing),
+    )
+printed false explain texts old new first before after taken none empty order written = (
   new,
   record { order = order; counted = λ line. taken.0 line ∙ ap (λ entry. more entry (occurrences line texts)) (none line) },
   subst (λ bytes. Appends bytes after (text_of new)) taken.1 written,

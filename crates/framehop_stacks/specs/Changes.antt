@@ -17,7 +17,6 @@ use Rattle.framehop_stacks.specs.declared.changes.Change.{Change}
 use Rattle.framehop_stacks.specs.declared.changes.Change.TheVariants.{Map, Begin, Fork}
 use Rattle.framehop_stacks.specs.declared.elf_file.ElfFile.{ElfFile}
 use Rattle.framehop_stacks.specs.declared.files.Files.{Files}
-use Rattle.framehop_stacks.specs.declared.files.RecordedFile.{RecordedFile}
 
 -- the number of a file by its name
 abbrev pub number_in : Files → List ℕ → Option ℕ

@@ -1,5 +1,5 @@
 -- The files that processes map, and the modules of mappings.
-use Rattle.std.specs.Prelude.{◌≡◌, ◌≢◌, ◌⊎◌, ℕ, nat_eq, unwrap_or, option_map, IsSome, List, [], ◌∷◌, ◌++◌, length, codes, Option, Some, None, Bool, true, false, not, ◌&&◌, if◌then◌else◌}
+use Rattle.std.specs.Prelude.{◌≡◌, ◌≢◌, ◌⊎◌, ℕ, nat_eq, unwrap_or, option_map, IsSome, List, [], ◌∷◌, ◌++◌, length, codes, Option, Some, None, Bool, true, false, not, ◌&&◌}
 use Rattle.std.specs.Cmp.Lexicographic.{pointwise}
 use Rattle.std.specs.List.{find, starts_with}
 use Rattle.framehop_recording.specs.BuildIds.{FileBuildIdView}

@@ -11,6 +11,7 @@ pub mod Line
 pub mod Tally
 pub mod Counts
 pub mod Run
+pub mod Explained
 pub mod Recording
 pub mod ElfFiles
 pub mod Samples

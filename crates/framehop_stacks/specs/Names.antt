@@ -1,6 +1,6 @@
 -- The names of threads at a time, and what a record does to them: PERF_RECORD_COMM and PERF_RECORD_FORK of
 -- perf_event.h.
-use Rattle.std.specs.Prelude.{ℕ, List, [], Result, Ok, Err, ◌==◌, if◌then◌else◌, codes}
+use Rattle.std.specs.Prelude.{ℕ, List, Result, Ok, Err, ◌==◌, if◌then◌else◌, codes}
 use Rattle.std.specs.BTreeMap.{get}
 use Rattle.std.specs.Option.{option_map_or}
 use Rattle.std.specs.Ordering.{nat_cmp}

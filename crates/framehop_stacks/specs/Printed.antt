@@ -28,6 +28,6 @@ AreTextsOf recording files frames limit texts =
     (samples_from files beginning (records_in recording.records.items)) texts
 
 -- they are printed
-abbrev pub IsPrintedOf : Recording → Files → Bool → ℕ → Option (List ℕ) → Option (List ℕ) → Type 0
-IsPrintedOf recording files frames limit before after =
-    (texts : List (List ℕ)) × AreTextsOf recording files frames limit texts × IsPrinted frames texts before after
+abbrev pub IsPrintedOf : Recording → Files → Bool → Bool → ℕ → Option (List ℕ) → Option (List ℕ) → Type 0
+IsPrintedOf recording files frames explain limit before after =
+    (texts : List (List ℕ)) × AreTextsOf recording files frames limit texts × IsPrinted frames explain texts before after

@@ -1,5 +1,5 @@
 -- The processes of a recording at a time, and what a change does to them.
-use Rattle.std.specs.Prelude.{ℕ, ◌<◌, ◌≤◌, ◌==◌, if◌then◌else◌, List, [], Option, Some, option_map, unwrap_or, IfSome}
+use Rattle.std.specs.Prelude.{ℕ, ◌<◌, ◌≤◌, ◌==◌, if◌then◌else◌, List, [], option_map, unwrap_or, IfSome}
 use Rattle.std.specs.BTreeMap.{BTreeMap, get}
 use Rattle.std.specs.Ordering.{nat_cmp}
 use Rattle.framehop.specs.Modules.{ModuleView, UnwinderView}

@@ -19,6 +19,7 @@ use Rattle.framehop_recording.specs.Sample.{SampleView, UserView}
 use Rattle.framehop_recording.specs.declared.error.RecordingError.{RecordingError}
 use Rattle.framehop_stacks.specs.Changes.{change_in}
 use Rattle.framehop_stacks.specs.Counts.{CountsOneMore}
+use Rattle.framehop_stacks.specs.Explained.{IsShown}
 use Rattle.framehop_stacks.specs.Line.{line_of, refused_line, frame_label, frame_line, block_of, last_line, head_of}
 use Rattle.framehop_stacks.specs.Names.{Named, named_in, named_after}
 use Rattle.framehop_stacks.specs.Processes.{Mapped, mapped_in, after}
@@ -142,15 +143,21 @@ abbrev pub more : Option ℕ → ℕ → Option ℕ
 more entry zero = entry
 more entry (suc n) = Some (unwrap_or entry 0 + suc n)
 
--- a text is printed, if it is a block, or else counted
-abbrev pub IsTaken : Bool → List ℕ → Tally → Tally → Option (List ℕ) → Option (List ℕ) → Type 0
-IsTaken true text old new before after = (new ≡ old) × Appends before after text
-IsTaken false text old new before after = CountsOneMore old new text × (after ≡ before)
+-- a text is shown, if it is a block, with notes where it is to be explained, or else counted
+abbrev pub IsTaken : Bool → Bool → List ℕ → Tally → Tally → Option (List ℕ) → Option (List ℕ) → Type 0
+IsTaken true explain text old new before after =
+    (new ≡ old) × ((shown : List ℕ) × IsShown explain text shown × Appends before after shown)
+IsTaken false explain text old new before after = CountsOneMore old new text × (after ≡ before)
+
+-- several blocks are shown, one after another
+abbrev pub AreShown : Bool → List (List ℕ) → Option (List ℕ) → Option (List ℕ) → Type 0
+AreShown explain texts before after =
+    (shown : List (List ℕ)) × Each (IsShown explain) texts shown × Appends before after (flat_map (λ text. text) shown)
 
 -- the same of several texts
-abbrev pub AreTaken : Bool → List (List ℕ) → Tally → Tally → Option (List ℕ) → Option (List ℕ) → Type 0
-AreTaken true texts old new before after = (new ≡ old) × Appends before after (flat_map (λ text. text) texts)
-AreTaken false texts old new before after =
+abbrev pub AreTaken : Bool → Bool → List (List ℕ) → Tally → Tally → Option (List ℕ) → Option (List ℕ) → Type 0
+AreTaken true explain texts old new before after = (new ≡ old) × AreShown explain texts before after
+AreTaken false explain texts old new before after =
     ((line : List ℕ) → entry_of new line ≡ more (entry_of old line) (occurrences line texts)) × (after ≡ before)
 
 -- each line among texts, once, in the order of their bytes, with how often it is there
@@ -159,6 +166,6 @@ pub record AreFolded (texts : List (List ℕ)) (tally : Tally) : Type 0 where
   pub counted : (line : List ℕ) → entry_of tally line ≡ more None (occurrences line texts)
 
 -- what is printed of texts: blocks one after another, or folded lines
-abbrev pub IsPrinted : Bool → List (List ℕ) → Option (List ℕ) → Option (List ℕ) → Type 0
-IsPrinted true texts before after = Appends before after (flat_map (λ text. text) texts)
-IsPrinted false texts before after = (tally : Tally) × AreFolded texts tally × Appends before after (text_of tally)
+abbrev pub IsPrinted : Bool → Bool → List (List ℕ) → Option (List ℕ) → Option (List ℕ) → Type 0
+IsPrinted true explain texts before after = AreShown explain texts before after
+IsPrinted false explain texts before after = (tally : Tally) × AreFolded texts tally × Appends before after (text_of tally)

@@ -6,6 +6,7 @@ pub mod changes;
 pub mod counts;
 pub mod elf_file;
 pub mod error;
+pub mod explain;
 pub mod files;
 pub mod line;
 pub mod machine;

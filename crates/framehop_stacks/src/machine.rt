@@ -1,9 +1,10 @@
 //! What differs by the architecture of a recording.
-ghost use Rattle.std.specs.Prelude.{◌≡◌, ℕ, List, Option, IfOk, option_map};
+ghost use Rattle.std.specs.Prelude.{◌≡◌, ◌+◌, ℕ, List, length, Option, IfOk, OnOk, option_map};
 ghost use Rattle.framehop_core.specs.CodeAddress.{FrameLocation};
 ghost use Rattle.framehop_core.specs.Memory.{Memory};
 ghost use Rattle.framehop_core.specs.Outcome.{Outcome};
 ghost use Rattle.framehop.specs.Modules.{ModuleView, UnwinderView};
+ghost use Rattle.framehop.specs.Walk.{walk_from};
 ghost use Rattle.framehop_stacks.specs.declared.machine.Start.{Start};
 
 use framehop::aarch64::{CacheAarch64, UnwindRegsAarch64, UnwinderAarch64};
@@ -12,6 +13,7 @@ use framehop::section::SectionBytes;
 use framehop::x86_64::{CacheX86_64, UnwindRegsX86_64, UnwinderX86_64};
 use framehop::{CacheStats, Unwinder};
 use framehop_core::aarch64::PtrAuthMask;
+use framehop_explain::{Note, Words, note_walk};
 use framehop_processes::ProcessUnwinder;
 use framehop_recording::registers::{aarch64_registers, x86_64_registers};
 use std::alloc::{AllocError, Global};
@@ -46,6 +48,24 @@ pub trait Sampled: ProcessUnwinder {
     fn start(&self, mask: u64, values: &[u8]) -> Option<Start<Self::UnwindRegs>>
         ensures { starts (Self.unwinder_view self.now).modules mask values.now result };
 
+    /// Notes where each frame of a walk came from, over words: the frames from an instruction pointer (AVMA) on, at
+    /// most `limit`.
+    ///
+    /// # Errors
+    ///
+    /// An allocation failed.
+    fn note_walk<M: Words>(
+        &self,
+        alloc: Global,
+        pc: u64,
+        regs: Self::UnwindRegs,
+        words: &M,
+        limit: u32,
+        notes: &mut Vec<Note>,
+    ) -> Result<(), AllocError>
+        ensures { OnOk result (length notes.new.items ≡ length notes.old.items
+            + length (walk_from (λ location old. step_by (Self.unwinder_view self.now).modules location old (M.memory words.now)) limit pc regs).frames) };
+
     // an unwinder steps by the bytes of its modules
     ghost steps_by_modules: { (unwinder : Self) → Self.step unwinder ≡ step_by (Self.unwinder_view unwinder).modules };
 }
@@ -79,6 +99,18 @@ impl<D: SectionBytes + Drop> Sampled for UnwinderX86_64<D, MayAllocateDuringUnwi
             regs,
         })
     }
+
+    fn note_walk<M: Words>(
+        &self,
+        alloc: Global,
+        pc: u64,
+        regs: UnwindRegsX86_64,
+        words: &M,
+        limit: u32,
+        notes: &mut Vec<Note>,
+    ) -> Result<(), AllocError> {
+        note_walk(alloc, self.inner(), pc, regs, words, limit, notes)
+    }
 }
 
 impl<D: SectionBytes + Drop> Sampled for UnwinderAarch64<D, MayAllocateDuringUnwind> {
@@ -110,5 +142,17 @@ impl<D: SectionBytes + Drop> Sampled for UnwinderAarch64<D, MayAllocateDuringUnw
             sp: regs.sp(),
             regs,
         })
+    }
+
+    fn note_walk<M: Words>(
+        &self,
+        alloc: Global,
+        pc: u64,
+        regs: UnwindRegsAarch64,
+        words: &M,
+        limit: u32,
+        notes: &mut Vec<Note>,
+    ) -> Result<(), AllocError> {
+        note_walk(alloc, self.inner(), pc, regs, words, limit, notes)
     }
 }

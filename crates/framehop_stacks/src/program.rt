@@ -55,7 +55,7 @@ where
     ensures printed { OnOk result ((texts : List (List ℕ))
         × Each (IsTextOf (M.module_of maker.now) U.step_by U.starts options.frames options.limit files.now (map attribute_view recording.now.events.attributes.items))
         (samples_from files.now beginning (records_in recording.now.records.items)) texts
-        × IsPrinted options.frames texts (W.contents out.old) (W.contents out.new)) }
+        × IsPrinted options.frames options.explain texts (W.contents out.old) (W.contents out.new)) }
 {
     let mut run: Run<U> = Run::new(alloc)?;
     let ended = run.take_records(alloc, recording, files, maker, options, out);
@@ -85,7 +85,7 @@ fn unwind_recording<W: Write, E: Write>(
     out: &mut W,
     err: &mut E,
 ) -> Result<(), StacksError>
-    ensures { OnOk result (IsPrintedOf recording.now files.now options.frames options.limit (W.contents out.old) (W.contents out.new)) }
+    ensures { OnOk result (IsPrintedOf recording.now files.now options.frames options.explain options.limit (W.contents out.old) (W.contents out.new)) }
 {
     let maker = FileModules { files };
     if is_aarch64(&recording.events) {
@@ -118,7 +118,7 @@ pub fn write_stacks<S: FileSource, W: Write, E: Write>(
     ensures printed { IfOk result (λ refusal. (recording : Recording) × IsReadOf file.now recording × (refusal ≡ recording.refusal)
         × ((files : Files) × AreFilesOf (S.gives source.now) (S.gives_debug source.now)
         (map file_build_id_view recording.build_ids.items) (records_in recording.records.items) files
-        × IsPrintedOf recording files options.frames options.limit (W.contents out.old) (W.contents out.new))) }
+        × IsPrintedOf recording files options.frames options.explain options.limit (W.contents out.old) (W.contents out.new))) }
 {
     let recording = read_recording(alloc, file)?;
     let files = read_files(alloc, &recording, source)?;

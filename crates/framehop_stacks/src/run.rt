@@ -14,13 +14,14 @@ ghost use Rattle.framehop_stacks.specs.Processes.{mapped_in, IsServed};
 ghost use Rattle.framehop_stacks.specs.Recording.{sample_in, records_in};
 ghost use Rattle.framehop_stacks.specs.Run.{AreCounted, MayCount, CountsMore, is_sample, samples_in_kind, sample_refusal};
 ghost use Rattle.framehop_stacks.specs.Samples.{State, StackView, beginning, state_in, state_after, state_over, Agrees, samples_from, no_stack, stack_text, IsUserStack, IsTextAt, IsTextOf, Each, IsTaken, AreTaken};
-ghost use Rattle.framehop_stacks.specs.Stack.{stack_view};
+ghost use Rattle.framehop_stacks.specs.Stack.{stack_view, option_stack_view};
 ghost use Rattle.framehop_stacks.specs.Tally.{entry_of, text_of};
 ghost use Rattle.framehop_stacks.specs.declared.files.Files.{Files};
 
 use crate::changes::change_of;
 use crate::counts::Counts;
 use crate::error::StacksError;
+use crate::explain::{sample_notes, write_block};
 use crate::files::Files;
 use crate::line::{block_head, end_name, folded_line, frames_block, refused_block, refused_line};
 use crate::machine::Sampled;
@@ -28,6 +29,7 @@ use crate::names::Names;
 use crate::processes::Processes;
 use crate::recording::{Recording, sample_of};
 use crate::stack::{Stack, walk_sample};
+use framehop_explain::Note;
 use framehop_processes::{Mapping, ModuleMaker};
 use framehop_recording::error::RecordingError;
 use framehop_recording::events::Events;
@@ -43,6 +45,8 @@ use std::io::Write;
 pub struct Options {
     /// A block for each sample, in the place of folded stacks.
     pub frames: bool,
+    /// Notes under the lines of the blocks: where each frame's caller came from, and why walks ended.
+    pub explain: bool,
     /// The most frames of a stack.
     pub limit: u32,
 }
@@ -85,21 +89,21 @@ fn take_stack<W: Write>(
     name: &[u8],
     head: &[u8],
     stack: &Stack,
+    notes: &[Note],
     options: Options,
     out: &mut W,
 ) -> Result<(), StacksError>
     requires ordered { IsInOrder 0 mappings.now }
     requires room { MayCount options.frames counts.old }
     ensures counted { OnOk result (CountsMore options.frames 1 counts.old counts.new) }
-    ensures taken { OnOk result (IsTaken options.frames
+    ensures taken { OnOk result (IsTaken options.frames options.explain
         (stack_text options.frames files.now name.now head.now mappings.now (stack_view stack.now))
         counts.old.lines counts.new.lines (W.contents out.old) (W.contents out.new)) }
 {
     counts.add_sample(alloc, end_name(stack.end).as_bytes())?;
     if options.frames {
         let block = frames_block(alloc, files, mappings, stack)?;
-        out.write_all(head)?;
-        out.write_all(block.as_slice())?;
+        write_block(alloc, head, block.as_slice(), options.explain, notes, out)?;
     } else {
         let line = folded_line(alloc, files, mappings, name, stack)?;
         counts.add_line(line)?;
@@ -119,20 +123,34 @@ fn take_refused<W: Write>(
 ) -> Result<(), StacksError>
     requires { MayCount options.frames counts.old }
     ensures counted { OnOk result (CountsMore options.frames 1 counts.old counts.new) }
-    ensures taken { OnOk result ((files : Files) (mappings : List Mapping) → IsTaken options.frames
+    ensures taken { OnOk result ((files : Files) (mappings : List Mapping) → IsTaken options.frames options.explain
         (stack_text options.frames files name.now head.now mappings (no_stack why.now))
         counts.old.lines counts.new.lines (W.contents out.old) (W.contents out.new)) }
 {
     counts.add_sample(alloc, why.as_bytes())?;
     if options.frames {
         let block = refused_block(alloc, why)?;
-        out.write_all(head)?;
-        out.write_all(block.as_slice())?;
+        write_block(alloc, head, block.as_slice(), options.explain, &[], out)?;
     } else {
         let line = refused_line(alloc, name, why)?;
         counts.add_line(line)?;
     }
     Ok(())
+}
+
+/// Returns a note for each line of the block of a sample, where it is to be explained, and else none.
+fn notes_of<U: Sampled>(
+    alloc: Global,
+    unwinder: &U,
+    mask: u64,
+    user: UserStack<'_>,
+    walked: &Option<Stack>,
+    options: Options,
+) -> Result<Vec<Note>, StacksError> {
+    if options.frames && options.explain {
+        return Ok(sample_notes(alloc, unwinder, mask, user, walked, options.limit)?);
+    }
+    Ok(Vec::new(alloc))
 }
 
 impl<U: Sampled> Run<U>
@@ -162,6 +180,58 @@ where
         &self.cache
     }
 
+    /// Counts or writes the stack of a sample, whose process is known, or that it has none.
+    fn take_walked<W: Write>(
+        &mut self,
+        alloc: Global,
+        files: &Files,
+        sample: Sample<'_>,
+        walked: &Option<Stack>,
+        notes: &[Note],
+        head: &[u8],
+        options: Options,
+        out: &mut W,
+    ) -> Result<(), StacksError>
+        requires known { IsSome (get nat_cmp self.old.processes.by_pid sample.pid) }
+        requires room { MayCount options.frames self.old.counts }
+        ensures counted { OnOk result (CountsMore options.frames 1 self.old.counts self.new.counts) }
+        ensures processes { self.new.processes ≡ self.old.processes }
+        ensures names { self.new.names ≡ self.old.names }
+        ensures cache { self.new.cache ≡ self.old.cache }
+        ensures taken { OnOk result (IsTaken options.frames options.explain
+            (stack_text options.frames files.now (named_in self.old.names sample.entry.tid) head.now (mapped_in self.old.processes.by_pid sample.entry.pid) (option_stack_view walked.now))
+            self.old.counts.lines self.new.counts.lines (W.contents out.old) (W.contents out.new)) }
+    {
+        let name = self.names.get(sample.tid);
+        match walked {
+            Some(stack) => {
+                let mappings = self.processes.mappings(sample.pid);
+                take_stack(
+                    alloc,
+                    &mut self.counts,
+                    files,
+                    mappings,
+                    name,
+                    head,
+                    stack,
+                    notes,
+                    options,
+                    out,
+                )?;
+            }
+            None => take_refused(
+                alloc,
+                &mut self.counts,
+                name,
+                head,
+                "no-registers",
+                options,
+                out,
+            )?,
+        }
+        Ok(())
+    }
+
     /// Unwinds the stack of a sample, whose process is known.
     fn take_user<W: Write>(
         &mut self,
@@ -185,37 +255,22 @@ where
         ensures told { OnOk result ((module_of : Mapping → ModuleView)
             → IsServed module_of (λ view. U.is_sound view self.old.cache) self.old.processes.by_pid self.old.processes.generations
             → (stack : StackView) × IsUserStack U.step_by U.starts options.limit (map module_of (mapped_in self.old.processes.by_pid sample.entry.pid)) mask (Ok (user_view user.entry)) stack
-            × IsTaken options.frames (stack_text options.frames files.now (named_in self.old.names sample.entry.tid) head.now (mapped_in self.old.processes.by_pid sample.entry.pid) stack)
+            × IsTaken options.frames options.explain (stack_text options.frames files.now (named_in self.old.names sample.entry.tid) head.now (mapped_in self.old.processes.by_pid sample.entry.pid) stack)
             self.old.counts.lines self.new.counts.lines (W.contents out.old) (W.contents out.new)) }
     {
         let unwinder = self.processes.known(sample.pid).unwinder();
         let walked = walk_sample(alloc, unwinder, &mut self.cache, mask, user, options.limit)?;
-        let name = self.names.get(sample.tid);
-        match walked {
-            Some(stack) => {
-                let mappings = self.processes.mappings(sample.pid);
-                take_stack(
-                    alloc,
-                    &mut self.counts,
-                    files,
-                    mappings,
-                    name,
-                    head,
-                    &stack,
-                    options,
-                    out,
-                )?;
-            }
-            None => take_refused(
-                alloc,
-                &mut self.counts,
-                name,
-                head,
-                "no-registers",
-                options,
-                out,
-            )?,
-        }
+        let notes = notes_of(alloc, unwinder, mask, user, &walked, options)?;
+        self.take_walked(
+            alloc,
+            files,
+            sample,
+            &walked,
+            notes.as_slice(),
+            head,
+            options,
+            out,
+        )?;
         Ok(())
     }
 
@@ -239,7 +294,7 @@ where
         ensures told { OnOk result ((module_of : Mapping → ModuleView)
             → IsServed module_of (λ view. U.is_sound view self.old.cache) self.old.processes.by_pid self.old.processes.generations
             → (text : List ℕ) × IsTextAt module_of U.step_by U.starts options.frames options.limit files.now (state_in self.old.names self.old.processes.by_pid) (Ok (sample_view sample.entry, mask)) text
-            × IsTaken options.frames text self.old.counts.lines self.new.counts.lines (W.contents out.old) (W.contents out.new)) }
+            × IsTaken options.frames options.explain text self.old.counts.lines self.new.counts.lines (W.contents out.old) (W.contents out.new)) }
     {
         let name = self.names.get(sample.tid);
         let head = block_head(alloc, name, sample.pid, sample.tid, sample.time)?;
@@ -293,7 +348,7 @@ where
         ensures told { OnOk result ((module_of : Mapping → ModuleView)
             → IsServed module_of (λ view. U.is_sound view self.old.cache) self.old.processes.by_pid self.old.processes.generations
             → (text : List ℕ) × IsTextAt module_of U.step_by U.starts options.frames options.limit files.now (state_in self.old.names self.old.processes.by_pid) (sample_in (map attribute_view events.now.attributes.items) (record_view «record».entry)) text
-            × IsTaken options.frames text self.old.counts.lines self.new.counts.lines (W.contents out.old) (W.contents out.new)) }
+            × IsTaken options.frames options.explain text self.old.counts.lines self.new.counts.lines (W.contents out.old) (W.contents out.new)) }
     {
         match sample_of(events, record) {
             Ok((sample, mask)) => self.take_sample(alloc, files, sample, mask, options, out)?,
@@ -351,7 +406,7 @@ where
         ensures sample { «record».entry.kind ≡ PERF_RECORD_SAMPLE → OnOk result ((text : List ℕ)
             × IsTextOf (M.module_of maker.now) U.step_by U.starts options.frames options.limit files.now (map attribute_view events.now.attributes.items)
             (record_view «record».entry, state_in self.old.names self.old.processes.by_pid) text
-            × IsTaken options.frames text self.old.counts.lines self.new.counts.lines (W.contents out.old) (W.contents out.new)) }
+            × IsTaken options.frames options.explain text self.old.counts.lines self.new.counts.lines (W.contents out.old) (W.contents out.new)) }
         ensures other { «record».entry.kind ≢ PERF_RECORD_SAMPLE → (self.new.counts.lines ≡ self.old.counts.lines) × (out.new ≡ out.old) }
     {
         if record.kind == SAMPLE {
@@ -388,7 +443,7 @@ where
         ensures told { (state : State) → Agrees self.old.names self.old.processes.by_pid state → OnOk result ((texts : List (List ℕ))
             × Each (IsTextOf (M.module_of maker.now) U.step_by U.starts options.frames options.limit files.now (map attribute_view recording.now.events.attributes.items))
             (samples_from files.now state (records_in recording.now.records.items)) texts
-            × AreTaken options.frames texts self.old.counts.lines self.new.counts.lines (W.contents out.old) (W.contents out.new)) }
+            × AreTaken options.frames options.explain texts self.old.counts.lines self.new.counts.lines (W.contents out.old) (W.contents out.new)) }
     {
         for timed in &recording.records {
             self.take_record(

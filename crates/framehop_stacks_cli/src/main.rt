@@ -1,162 +1,41 @@
-//! The program `framehop-stacks`: reads recordings of perf, and prints folded stacks; reads core files, and
-//! prints the stacks of their threads.
+//! The program `framehop-stacks`: reads recordings of perf, and prints folded stacks; reads core files and
+//! minidumps, and prints the stacks of their threads.
 #![tactic(auto)]
 
+mod arguments;
+mod disk;
+
 use anyhow::Result;
-use clap::{Arg, ArgAction, ArgMatches, Command};
+use arguments::{command, options};
+use disk::{Disk, files_at};
 use framehop_core_stacks::error::CoreStacksError;
-use framehop_core_stacks::program::write_core_stacks;
+use framehop_core_stacks::program::{write_core_stacks, write_minidump_stacks};
+use framehop_flame_graph::error::FlameGraphError;
+use framehop_flame_graph::folded::read_folded;
+use framehop_flame_graph::merge::Folded;
+use framehop_flame_graph::svg::flame_graph;
+use framehop_recording::error::RecordingError;
 use framehop_stacks::error::StacksError;
-use framehop_stacks::files::FileSource;
 use framehop_stacks::program::write_stacks;
 use framehop_stacks::run::Options;
-use std::alloc::{AllocError, Global};
-use std::io::BufWriter;
+use std::io::{BufWriter, Write};
 use std::process::ExitCode;
 use std::{env, fs, io};
-
-/// The most frames of a stack, where no limit is asked for.
-const LIMIT: u32 = 512;
-
-/// The size of the largest file that is read for its unwind data and names, in bytes: 4 GiB.
-const LARGEST_FILE: u64 = 0x1_0000_0000;
 
 /// The size from which on a recording is told of before it is read, in bytes: 50 MB.
 const LARGE_RECORDING: u64 = 50_000_000;
 
-/// What the program does.
-const ABOUT: &str =
-    "Unwinds the user stacks of recordings of `perf record --call-graph dwarf`, and prints folded stacks, as flame graph tools read them. Frames of the kernel are not printed. Of a core file, prints the stack of each thread.";
-
-/// The files of a disk.
-#[derive(Drop)]
-struct Disk<'a> {
-    rt: &'a HostRuntime,
-    /// The folder below which the recorded files are.
-    root: &'a str,
-    /// The folder below which debug files are.
-    debug_dir: &'a str,
-}
-
-/// Reads a regular file of at most 4 GiB: a recording may name a device or a pipe, whose bytes don't end.
-fn read_regular(rt: &HostRuntime, path: &str) -> Option<Vec<u8>> {
-    let metadata = fs::metadata(rt, path).ok()?;
-    if !metadata.is_file() || metadata.len() > LARGEST_FILE {
-        return None;
-    }
-    fs::read(rt, path).ok()
-}
-
-/// Returns the path of the debug file of a build id: `.build-id/xx/yyyy.debug` below a folder.
-fn debug_path(alloc: Global, debug_dir: &str, build_id: &[u8]) -> Result<String, AllocError> {
-    let mut path = format!(in alloc; "{debug_dir}/.build-id/")?;
-    for (at, byte) in build_id.iter().enumerate() {
-        if at == 1 {
-            path.push_str("/")?;
-        }
-        write!(path, "{byte:02x}")?;
-    }
-    path.push_str(".debug")?;
-    Ok(path)
-}
-
-impl FileSource for Disk<'_> {
-    // what a disk gives is not known
-    ghost gives = { λ disk name given. Unit {0} };
-
-    ghost gives_debug = { λ disk build_id given. Unit {0} };
-
-    fn read_file(&self, name: &[u8]) -> Option<Vec<u8>> {
-        let name = std::str::from_utf8(name).ok()?;
-        let root = self.root;
-        let path = format!(in self.rt.alloc(); "{root}{name}").ok()?;
-        read_regular(self.rt, path.as_str())
-    }
-
-    fn read_debug_file(&self, build_id: &[u8]) -> Option<Vec<u8>> {
-        let path = debug_path(self.rt.alloc(), self.debug_dir, build_id).ok()?;
-        read_regular(self.rt, path.as_str())
-    }
+/// What is printed of the folded stacks of recordings.
+#[derive(Clone, Copy, PartialEq, Eq)]
+enum Form {
+    /// Their lines.
+    Text,
+    /// A flame graph.
+    Graph,
 }
 
 fn main(rt: HostRuntime) -> Result<ExitCode> {
     Ok(ExitCode::from(run(&rt)?))
-}
-
-/// Returns an argument that has a value.
-fn valued<'a>(
-    alloc: Global,
-    name: &'static str,
-    value: &'static str,
-    help: &'static str,
-) -> Arg<'a> {
-    Arg::new(alloc, name)
-        .long(name)
-        .value_name(value)
-        .help(help)
-        .action(ArgAction::Set)
-}
-
-/// Returns the command line.
-fn command<'a>(alloc: Global) -> Result<Command<'a>> {
-    let root = valued(
-        alloc,
-        "root",
-        "DIR",
-        "Look for the files that were mapped below this folder",
-    );
-    let debug_dir = valued(
-        alloc,
-        "debug-dir",
-        "DIR",
-        "Look for names in the debug files below this folder, as .build-id/xx/yyyy.debug [default: /usr/lib/debug]",
-    );
-    let limit = valued(
-        alloc,
-        "limit",
-        "N",
-        "The most frames of a stack [default: 512]",
-    );
-    let frames = Arg::new(alloc, "frames")
-        .long("frames")
-        .help(
-            "Print a block for each sample of a recording, with a line for each frame, as for each thread of a core file",
-        )
-        .action(ArgAction::SetTrue);
-    let explain = Arg::new(alloc, "explain")
-        .long("explain")
-        .help(
-            "Print a note under each frame of a core file: where its caller came from, or why the frame pointer was followed",
-        )
-        .action(ArgAction::SetTrue);
-    let files = Arg::new(alloc, "file")
-        .value_name("FILE")
-        .required(true)
-        .num_args(1..)
-        .help("Recordings and core files, whose stacks are printed one after another")
-        .action(ArgAction::Append);
-    let command = Command::new(alloc, "framehop-stacks")
-        .version("0.1.0")
-        .about(ABOUT)
-        .arg(root)?
-        .arg(debug_dir)?
-        .arg(frames)?
-        .arg(explain)?
-        .arg(limit)?
-        .arg(files)?;
-    Ok(command)
-}
-
-/// Returns what is asked for, where the limit is a number.
-fn options(matches: &ArgMatches<'_>) -> Option<Options> {
-    let limit = match matches.get_str("limit") {
-        Some(text) => text.parse::<u32>().ok()?,
-        None => LIMIT,
-    };
-    Some(Options {
-        frames: matches.get_flag("frames"),
-        limit,
-    })
 }
 
 /// Runs the program, and returns its status: 0, 1 where a recording can't be read, or 2.
@@ -178,12 +57,65 @@ fn run(rt: &HostRuntime) -> Result<u8> {
         root,
         debug_dir,
     };
-    let explain = matches.get_flag("explain");
-    let mut status = 0;
-    for path in matches.get_strs("file").unwrap_or(&[]) {
-        status = status.max(print_stacks(rt, path, &disk, options, explain)?);
+    let paths = matches.get_strs("file").unwrap_or(&[]);
+    if matches.get_flag("svg") {
+        if options.frames {
+            eprintln!(rt; "framehop-stacks: a flame graph has no blocks of frames")?;
+            return Ok(2);
+        }
+        return print_all(rt, paths, &disk, options, Form::Graph);
     }
-    Ok(status)
+    print_all(rt, paths, &disk, options, Form::Text)
+}
+
+/// Prints the stacks of all files, those of recordings last, where they are folded. Returns the greatest status.
+fn print_all(
+    rt: &HostRuntime,
+    paths: &[&str],
+    disk: &Disk<'_>,
+    options: Options,
+    form: Form,
+) -> Result<u8> {
+    let mut folded = Folded::new(rt.alloc());
+    let mut status = 0;
+    for path in paths {
+        let files = files_at(rt, path)?;
+        if files.is_empty() {
+            eprintln!(rt; "framehop-stacks: {path}: no file in it has a name in .data")?;
+            status = status.max(1);
+        }
+        for file in &files {
+            status = status.max(print_stacks(rt, file, disk, options, form, &mut folded)?);
+        }
+    }
+    if options.frames {
+        return Ok(status);
+    }
+    match print_folded(rt, &folded, form) {
+        Ok(()) => Ok(status),
+        Err(error) => {
+            eprintln!(rt; "framehop-stacks: {error}")?;
+            Ok(status.max(1))
+        }
+    }
+}
+
+/// Prints the folded stacks of all recordings, or draws them.
+fn print_folded(rt: &HostRuntime, folded: &Folded, form: Form) -> Result<(), FlameGraphError> {
+    let alloc = rt.alloc();
+    let mut out = BufWriter::new(alloc, io::writer(rt))?;
+    match form {
+        Form::Text => folded.write(alloc, &mut out)?,
+        Form::Graph => {
+            let mut text = Vec::new(alloc);
+            folded.write(alloc, &mut text)?;
+            let lines = read_folded(alloc, text.as_slice())?;
+            let graph = flame_graph(alloc, lines.as_slice())?;
+            out.write_all(graph.as_bytes())?;
+        }
+    }
+    io::Write::flush(&mut out)?;
+    Ok(())
 }
 
 /// Prints the help, the version or the error of a command line.
@@ -212,13 +144,15 @@ fn announce(rt: &HostRuntime, path: &str, size: u64) -> Result<()> {
     Ok(())
 }
 
-/// Prints the stacks of a recording or of a core file, which must be a regular file.
+/// Prints the stacks of a core file or of a minidump, and of a recording where they are not folded; adds the folded
+/// stacks of a recording to those so far. It must be a regular file.
 fn print_stacks(
     rt: &HostRuntime,
     path: &str,
     disk: &Disk<'_>,
     options: Options,
-    explain: bool,
+    form: Form,
+    folded: &mut Folded,
 ) -> Result<u8> {
     let metadata = match fs::metadata(rt, path) {
         Ok(metadata) => metadata,
@@ -233,14 +167,18 @@ fn print_stacks(
     }
     announce(rt, path, metadata.len())?;
     match fs::read(rt, path) {
-        Ok(bytes) if bytes.starts_with(b"\x7fELF") => {
-            print_core(rt, path, bytes.as_slice(), disk, options.limit, explain)
-        }
-        Ok(_) if explain => {
-            eprintln!(rt; "framehop-stacks: {path}: only core files are explained")?;
+        Ok(bytes) if form == Form::Graph && is_dump(bytes.as_slice()) => {
+            eprintln!(rt; "framehop-stacks: {path}: only recordings are drawn")?;
             Ok(2)
         }
-        Ok(bytes) => print_stacks_of(rt, path, bytes.as_slice(), disk, options),
+        Ok(bytes) if bytes.starts_with(b"\x7fELF") => {
+            print_core(rt, path, bytes.as_slice(), disk, options)
+        }
+        Ok(bytes) if bytes.starts_with(b"MDMP") => {
+            print_minidump(rt, path, bytes.as_slice(), disk, options)
+        }
+        Ok(bytes) if options.frames => print_blocks(rt, path, bytes.as_slice(), disk, options),
+        Ok(bytes) => fold_stacks(rt, path, bytes.as_slice(), disk, options, folded),
         Err(error) => {
             eprintln!(rt; "framehop-stacks: {path}: {error}")?;
             Ok(1)
@@ -248,8 +186,13 @@ fn print_stacks(
     }
 }
 
-/// Prints the stacks of the bytes of a recording.
-fn print_stacks_of(
+/// Returns whether bytes are those of a core file or of a minidump.
+fn is_dump(bytes: &[u8]) -> bool {
+    bytes.starts_with(b"\x7fELF") || bytes.starts_with(b"MDMP")
+}
+
+/// Prints a block for each sample of a recording, by its bytes.
+fn print_blocks(
     rt: &HostRuntime,
     path: &str,
     bytes: &[u8],
@@ -260,6 +203,34 @@ fn print_stacks_of(
     let mut err = rt.stderr();
     let written = write_stacks(rt.alloc(), bytes, disk, options, &mut out, &mut err);
     io::Write::flush(&mut out)?;
+    recording_status(rt, path, written)
+}
+
+/// Adds the folded stacks of a recording, by its bytes, to those so far.
+fn fold_stacks(
+    rt: &HostRuntime,
+    path: &str,
+    bytes: &[u8],
+    disk: &Disk<'_>,
+    options: Options,
+    folded: &mut Folded,
+) -> Result<u8> {
+    let alloc = rt.alloc();
+    let mut text = Vec::new(alloc);
+    let mut err = rt.stderr();
+    let written = write_stacks(alloc, bytes, disk, options, &mut text, &mut err);
+    for line in read_folded(alloc, text.as_slice())? {
+        folded.add(line)?;
+    }
+    recording_status(rt, path, written)
+}
+
+/// Returns the status of a recording, and prints why it gives no stacks, or no more of them.
+fn recording_status(
+    rt: &HostRuntime,
+    path: &str,
+    written: Result<Option<RecordingError>, StacksError>,
+) -> Result<u8> {
     match written {
         Ok(None) => Ok(0),
         Ok(Some(refusal)) => refuse(rt, path, StacksError::Recording(refusal)),
@@ -273,17 +244,52 @@ fn print_core(
     path: &str,
     bytes: &[u8],
     disk: &Disk<'_>,
-    limit: u32,
-    explain: bool,
+    options: Options,
 ) -> Result<u8> {
     let mut out = BufWriter::new(rt.alloc(), io::writer(rt))?;
     let mut err = rt.stderr();
-    let written = write_core_stacks(rt.alloc(), bytes, disk, limit, explain, &mut out, &mut err);
+    let written = write_core_stacks(
+        rt.alloc(),
+        bytes,
+        disk,
+        options.limit,
+        options.explain,
+        &mut out,
+        &mut err,
+    );
     io::Write::flush(&mut out)?;
+    status_of(rt, path, written)
+}
+
+/// Prints the stacks of the threads of a minidump, by its bytes.
+fn print_minidump(
+    rt: &HostRuntime,
+    path: &str,
+    bytes: &[u8],
+    disk: &Disk<'_>,
+    options: Options,
+) -> Result<u8> {
+    let mut out = BufWriter::new(rt.alloc(), io::writer(rt))?;
+    let mut err = rt.stderr();
+    let written = write_minidump_stacks(
+        rt.alloc(),
+        bytes,
+        disk,
+        options.limit,
+        options.explain,
+        &mut out,
+        &mut err,
+    );
+    io::Write::flush(&mut out)?;
+    status_of(rt, path, written)
+}
+
+/// Returns the status for what was written of a core file or a minidump, and prints why it was refused, if it was.
+fn status_of(rt: &HostRuntime, path: &str, written: Result<(), CoreStacksError>) -> Result<u8> {
     match written {
         Ok(()) => Ok(0),
         Err(CoreStacksError::Stacks(error)) => refuse(rt, path, error),
-        Err(CoreStacksError::Core(error)) => {
+        Err(error) => {
             eprintln!(rt; "framehop-stacks: {path}: {error}")?;
             Ok(1)
         }

@@ -1,11 +1,10 @@
-use Rattle.std.proofs.Common.{◌≡◌, ◌<◌, ℕ, length, ap, ◌∙◌, arith}
+use Rattle.std.proofs.Common.{◌<◌, ℕ, length, ap, ◌∙◌, arith}
 use Rattle.std.specs.List.{sum_by}
 use Rattle.std.proofs.lemmas.List.{take_all}
-use Rattle.framehop_core_file.specs.Thread.{thread_view}
-use Rattle.framehop_core_file.specs.declared.thread.Thread.{Thread}
-use Rattle.framehop_core_stacks.specs.Dump.{dump_view}
-use Rattle.framehop_core_stacks.specs.Explained.{line_count}
+use Rattle.framehop_core_stacks.specs.declared.dump.Thread.{Thread}
+use Rattle.framehop_core_stacks.specs.Dump.{thread_view, dump_view}
 use Rattle.framehop_core_stacks.specs.Thread.{thread_stack}
+use Rattle.framehop_stacks.specs.Stack.{line_count}
 use Rattle.framehop_core_stacks.proofs.DumpLemmas.{sum-next}
 use Rattle.framehop_core_stacks.proofs.explain.threads_notes.Goals as goal
 

@@ -1,9 +1,8 @@
 use Rattle.std.proofs.Common.{◌≡◌, length, take}
 use Rattle.std.specs.List.{sum_by}
-use Rattle.framehop_core_file.specs.Thread.{thread_view}
-use Rattle.framehop_core_stacks.specs.Dump.{dump_view}
-use Rattle.framehop_core_stacks.specs.Explained.{line_count}
+use Rattle.framehop_core_stacks.specs.Dump.{thread_view, dump_view}
 use Rattle.framehop_core_stacks.specs.Thread.{thread_stack}
+use Rattle.framehop_stacks.specs.Stack.{line_count}
 use Rattle.framehop_core_stacks.proofs.explain.threads_notes.Given as goal
 
 abbrev pub invariant-loop-thread : goal.invariant-loop-thread

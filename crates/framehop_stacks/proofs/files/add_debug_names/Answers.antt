@@ -1,4 +1,4 @@
-use Rattle.std.proofs.Common.{rules, ◌≡◌, ◌≢◌, [], length, Some, None, refl}
+use Rattle.std.proofs.Common.{rules, ◌≡◌, ◌≢◌, [], Some, None, refl}
 use Rattle.framehop_stacks.proofs.FileLemmas.{debug-given, empty-of_length}
 use Rattle.framehop_stacks.specs.ElfFiles.{debug_tables_of}
 use Rattle.framehop_stacks.specs.Files.{AreDebugTables}

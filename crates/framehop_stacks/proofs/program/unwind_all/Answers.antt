@@ -19,7 +19,7 @@ returns g c =
       printed = on_ok c.take_records-ended.result (λ told. (
         told.0,
         told.1,
-        printed c.args.options.frames told.0 run.counts.lines lines first before after told.2
+        printed c.args.options.frames c.args.options.explain told.0 run.counts.lines lines first before after told.2
             c.in_ok-run.ensures.uncounted c.in_ok-run.ensures.unwritten c.in_ok-write.ensures.ordered c.in_ok-write.ensures.written,
       ))
           (c.take_records-ended.ensures.told beginning c.in_ok-run.ensures.begun);

@@ -2,10 +2,9 @@ use Rattle.std.proofs.Common.{◌≡◌, ◌+◌, ◌<◌, ◌++◌, [], map, ta
 use Rattle.std.specs.List.{count_by}
 use Rattle.std.proofs.lemmas.List.{at_drop_all}
 use Rattle.framehop_recording.specs.Attributes.{attribute_view}
-use Rattle.framehop_recording.specs.Records.{RecordView}
 use Rattle.framehop_stacks.specs.Recording.{records_in, sample_in}
 use Rattle.framehop_stacks.specs.Run.{AreCounted, is_sample}
-use Rattle.framehop_stacks.specs.Samples.{state_over, samples_from, Agrees, Each, IsTextOf, AreTaken}
+use Rattle.framehop_stacks.specs.Samples.{state_over, samples_from, Agrees, Each, IsTextOf}
 use Rattle.framehop_stacks.proofs.SoFarLemmas.{IsSoFar, step, records-left, samples-next}
 use Rattle.framehop_stacks.proofs.StateLemmas.{text-same}
 use Rattle.framehop_stacks.proofs.TakenLemmas.{AreTaken-none}
@@ -23,7 +22,7 @@ loop-timed-init g c = (
     leads = refl;
     samples = refl;
     each = tt;
-    taken = AreTaken-none c.args.options.frames c.args.self.now.counts.lines (g.W.Write.contents c.args.out.now);
+    taken = AreTaken-none c.args.options.frames c.args.options.explain c.args.self.now.counts.lines (g.W.Write.contents c.args.out.now);
   },
 )
 
@@ -48,13 +47,13 @@ loop-timed-preserved g c =
           step c.args.files.now
           (IsTextOf module_of g.U.Sampled.step_by g.U.Sampled.starts c.args.options.frames c.args.options.limit c.args.files.now attributes)
           (λ r state other named mapped. text state other named mapped (sample_in attributes r))
-          c.args.options.frames (records_in records) first c.args.self.now.counts.lines (g.W.Write.contents c.args.out.now)
+          c.args.options.frames c.args.options.explain (records_in records) first c.args.self.now.counts.lines (g.W.Write.contents c.args.out.now)
           _ (records_in (drop (l.timed-index + 1) records)) l.self.names c.take_record.new.self.names
           l.self.processes.by_pid c.take_record.new.self.processes.by_pid l.self.counts.lines c.take_record.new.self.counts.lines
           (g.W.Write.contents l.out) (g.W.Write.contents c.take_record.new.out)
           (subst (λ rest. IsSoFar c.args.files.now
           (IsTextOf module_of g.U.Sampled.step_by g.U.Sampled.starts c.args.options.frames c.args.options.limit c.args.files.now attributes)
-          c.args.options.frames (records_in records) first c.args.self.now.counts.lines (g.W.Write.contents c.args.out.now) rest
+          c.args.options.frames c.args.options.explain (records_in records) first c.args.self.now.counts.lines (g.W.Write.contents c.args.out.now) rest
           l.self.names l.self.processes.by_pid l.self.counts.lines (g.W.Write.contents l.out)) left so)
           after.state after.sample
           (λ kind. let same = after.other kind in (same.0, ap (λ out. g.W.Write.contents out) same.1)),

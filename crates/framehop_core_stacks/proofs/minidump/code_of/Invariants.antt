@@ -1,0 +1,10 @@
+use Rattle.std.proofs.Common.{List, ◌++◌, map, drop}
+use Rattle.framehop_core_stacks.specs.Dump.{MappedCodeView, memory_view, mapped_code_view}
+use Rattle.framehop_core_stacks.specs.Minidump.{loaded_view, AreCodeOf}
+use Rattle.framehop_core_stacks.proofs.minidump.code_of.Given as goal
+
+abbrev pub invariant-loop-module : goal.invariant-loop-module
+invariant-loop-module g l =
+    (rest : List MappedCodeView)
+    → AreCodeOf (g.S.FileSource.gives l.source) (memory_view l.memory) (map loaded_view (drop l.module-index l.modules)) rest
+    → AreCodeOf (g.S.FileSource.gives l.source) (memory_view l.memory) (map loaded_view l.modules) (map mapped_code_view l.code.items ++ rest)

@@ -1,0 +1,97 @@
+//! The command line.
+use anyhow::Result;
+use clap::{Arg, ArgAction, ArgMatches, Command};
+use framehop_stacks::run::Options;
+use std::alloc::Global;
+
+/// The most frames of a stack, where no limit is asked for.
+const LIMIT: u32 = 512;
+
+/// What the program does.
+const ABOUT: &str =
+    "Unwinds the user stacks of recordings of `perf record --call-graph dwarf`, and prints folded stacks, as flame graph tools read them. Frames of the kernel are not printed. Of a core file or a minidump, prints the stack of each thread.";
+
+/// Returns an argument that has a value.
+fn valued<'a>(
+    alloc: Global,
+    name: &'static str,
+    value: &'static str,
+    help: &'static str,
+) -> Arg<'a> {
+    Arg::new(alloc, name)
+        .long(name)
+        .value_name(value)
+        .help(help)
+        .action(ArgAction::Set)
+}
+
+/// Returns the command line.
+pub fn command<'a>(alloc: Global) -> Result<Command<'a>> {
+    let root = valued(
+        alloc,
+        "root",
+        "DIR",
+        "Look for the files that were mapped below this folder",
+    );
+    let debug_dir = valued(
+        alloc,
+        "debug-dir",
+        "DIR",
+        "Look for names in the debug files below this folder, as .build-id/xx/yyyy.debug [default: /usr/lib/debug]",
+    );
+    let limit = valued(
+        alloc,
+        "limit",
+        "N",
+        "The most frames of a stack [default: 512]",
+    );
+    let frames = Arg::new(alloc, "frames")
+        .long("frames")
+        .help(
+            "Print a block for each sample of a recording, with a line for each frame, as for each thread of a core file",
+        )
+        .action(ArgAction::SetTrue);
+    let explain = Arg::new(alloc, "explain")
+        .long("explain")
+        .help(
+            "Print a note under each frame: where its caller came from, or why the frame pointer was followed. Of a recording, print blocks as by --frames",
+        )
+        .action(ArgAction::SetTrue);
+    let svg = Arg::new(alloc, "svg")
+        .long("svg")
+        .help("Print a flame graph of all recordings as an SVG, in the place of folded stacks")
+        .action(ArgAction::SetTrue);
+    let files = Arg::new(alloc, "file")
+        .value_name("FILE")
+        .required(true)
+        .num_args(1..)
+        .help(
+            "Recordings, whose folded stacks are printed together, or folders of recordings with names in .data; core files and minidumps, whose stacks are printed one after another",
+        )
+        .action(ArgAction::Append);
+    let command = Command::new(alloc, "framehop-stacks")
+        .version("0.1.0")
+        .about(ABOUT)
+        .arg(root)?
+        .arg(debug_dir)?
+        .arg(frames)?
+        .arg(explain)?
+        .arg(svg)?
+        .arg(limit)?
+        .arg(files)?;
+    Ok(command)
+}
+
+/// Returns what is asked for, where the limit is a number.
+pub fn options(matches: &ArgMatches<'_>) -> Option<Options> {
+    let limit = match matches.get_str("limit") {
+        Some(text) => text.parse::<u32>().ok()?,
+        None => LIMIT,
+    };
+    let explain = matches.get_flag("explain");
+    Some(Options {
+        frames: explain || matches.get_flag("frames"),
+        explain,
+        limit,
+    })
+}

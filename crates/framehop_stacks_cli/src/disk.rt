@@ -1,0 +1,78 @@
+//! The files of a disk: those that were mapped, and those of a folder.
+use anyhow::Result;
+use framehop_stacks::files::FileSource;
+use std::alloc::{AllocError, Global};
+use std::fs;
+
+/// The size of the largest file that is read for its unwind data and names, in bytes: 4 GiB.
+const LARGEST_FILE: u64 = 0x1_0000_0000;
+
+/// The files of a disk.
+#[derive(Drop)]
+pub struct Disk<'a> {
+    pub rt: &'a HostRuntime,
+    /// The folder below which the recorded files are.
+    pub root: &'a str,
+    /// The folder below which debug files are.
+    pub debug_dir: &'a str,
+}
+
+/// Reads a regular file of at most 4 GiB: a recording may name a device or a pipe, whose bytes don't end.
+fn read_regular(rt: &HostRuntime, path: &str) -> Option<Vec<u8>> {
+    let metadata = fs::metadata(rt, path).ok()?;
+    if !metadata.is_file() || metadata.len() > LARGEST_FILE {
+        return None;
+    }
+    fs::read(rt, path).ok()
+}
+
+/// Returns the path of the debug file of a build id: `.build-id/xx/yyyy.debug` below a folder.
+fn debug_path(alloc: Global, debug_dir: &str, build_id: &[u8]) -> Result<String, AllocError> {
+    let mut path = format!(in alloc; "{debug_dir}/.build-id/")?;
+    for (at, byte) in build_id.iter().enumerate() {
+        if at == 1 {
+            path.push_str("/")?;
+        }
+        write!(path, "{byte:02x}")?;
+    }
+    path.push_str(".debug")?;
+    Ok(path)
+}
+
+impl FileSource for Disk<'_> {
+    // what a disk gives is not known
+    ghost gives = { λ disk name given. Unit {0} };
+
+    ghost gives_debug = { λ disk build_id given. Unit {0} };
+
+    fn read_file(&self, name: &[u8]) -> Option<Vec<u8>> {
+        let name = std::str::from_utf8(name).ok()?;
+        let root = self.root;
+        let path = format!(in self.rt.alloc(); "{root}{name}").ok()?;
+        read_regular(self.rt, path.as_str())
+    }
+
+    fn read_debug_file(&self, build_id: &[u8]) -> Option<Vec<u8>> {
+        let path = debug_path(self.rt.alloc(), self.debug_dir, build_id).ok()?;
+        read_regular(self.rt, path.as_str())
+    }
+}
+
+/// Returns the files that a path stands for: itself or, if it is a folder, those in it whose names end in `.data`, in the
+/// order of their bytes.
+pub fn files_at(rt: &HostRuntime, path: &str) -> Result<Vec<String>> {
+    let alloc = rt.alloc();
+    let mut files = Vec::new(alloc);
+    if !fs::metadata(rt, path).is_ok_and(|metadata| metadata.is_dir()) {
+        files.push(String::from_str(alloc, path)?)?;
+        return Ok(files);
+    }
+    for entry in fs::read_dir(rt, path)? {
+        let entry = entry?;
+        if entry.file_name().ends_with(".data") {
+            files.push(String::from_str(alloc, entry.path().as_str())?)?;
+        }
+    }
+    files.sort()?;
+    Ok(files)
+}
