@@ -87,20 +87,28 @@ impl ModuleMaker<UnwinderAarch64<Vec<u8>>> for Bare {
     }
 }
 
-fn mapping(start: u64, end: u64) -> Result<Mapping, Fail> {
-    match Mapping::new(start, end, start, 0) {
-        Some(mapping) => Ok(mapping),
-        None => Err(Fail::new("a mapping without an address")),
+/// A mapping whose base is its start.
+fn mapping(start: u64, end: u64) -> Mapping {
+    Mapping {
+        start,
+        end,
+        base_avma: start,
+        file: 0,
+        has_sections: true,
     }
 }
 
-// the start, the end and the base of each mapping
-fn ranges(alloc: Global, mappings: &[Mapping]) -> Result<Vec<(u64, u64, u64)>, AllocError> {
-    let mut ranges = Vec::new(alloc);
-    for mapping in mappings {
-        ranges.push((mapping.start, mapping.end, mapping.base_avma))?;
+/// Whether mappings have these starts, ends and bases.
+fn are(mappings: &[Mapping], expected: &[(u64, u64, u64)]) -> bool {
+    if mappings.len() != expected.len() {
+        return false;
     }
-    Ok(ranges)
+    for (mapping, range) in mappings.iter().zip(expected.iter()) {
+        if (mapping.start, mapping.end, mapping.base_avma) != *range {
+            return false;
+        }
+    }
+    true
 }
 
 #[test]
@@ -110,32 +118,28 @@ fn maps_over_older_mappings_on_x86_64(rt: HostRuntime) -> Result<(), Fail> {
     let mut process: Process<UnwinderX86_64<Vec<u8>>> = Process::new(alloc, &mut generations)?;
     assert_eq!(rt; process.unwinder().max_known_code_address(), 0);
 
-    process.map(alloc, &Bare, mapping(0x5000, 0x6000)?, &mut generations)?;
-    process.map(alloc, &Bare, mapping(0x1000, 0x3000)?, &mut generations)?;
-    let sorted = ranges(alloc, process.mappings())?;
-    let expected = [(0x1000, 0x3000, 0x1000), (0x5000, 0x6000, 0x5000)];
-    assert_eq!(rt; sorted.as_slice(), expected.as_slice());
+    process.map(alloc, &Bare, mapping(0x5000, 0x6000), &mut generations)?;
+    process.map(alloc, &Bare, mapping(0x1000, 0x3000), &mut generations)?;
+    let sorted = [(0x1000, 0x3000, 0x1000), (0x5000, 0x6000, 0x5000)];
+    assert!(rt; are(process.mappings(), &sorted));
 
     // the end of the first is overlapped, and the second only touched
-    process.map(alloc, &Bare, mapping(0x2000, 0x5000)?, &mut generations)?;
-    let replaced = ranges(alloc, process.mappings())?;
-    let expected = [
+    process.map(alloc, &Bare, mapping(0x2000, 0x5000), &mut generations)?;
+    let replaced = [
         (0x1000, 0x2000, 0x1000),
         (0x2000, 0x5000, 0x2000),
         (0x5000, 0x6000, 0x5000),
     ];
-    assert_eq!(rt; replaced.as_slice(), expected.as_slice());
+    assert!(rt; are(process.mappings(), &replaced));
     assert_eq!(rt; process.unwinder().max_known_code_address(), 0x6000);
 
     // all but the start of the first is overlapped
     let child = process.clone()?;
-    process.map(alloc, &Bare, mapping(0x1800, 0x8000)?, &mut generations)?;
-    let covered = ranges(alloc, process.mappings())?;
-    let expected = [(0x1000, 0x1800, 0x1000), (0x1800, 0x8000, 0x1800)];
-    assert_eq!(rt; covered.as_slice(), expected.as_slice());
+    process.map(alloc, &Bare, mapping(0x1800, 0x8000), &mut generations)?;
+    let covered = [(0x1000, 0x1800, 0x1000), (0x1800, 0x8000, 0x1800)];
+    assert!(rt; are(process.mappings(), &covered));
     assert_eq!(rt; process.unwinder().max_known_code_address(), 0x8000);
-    let kept = ranges(alloc, child.mappings())?;
-    assert_eq!(rt; kept.as_slice(), replaced.as_slice());
+    assert!(rt; are(child.mappings(), &replaced));
     assert_eq!(rt; child.unwinder().max_known_code_address(), 0x6000);
     Ok(())
 }
@@ -145,16 +149,15 @@ fn keeps_both_sides_of_a_new_mapping(rt: HostRuntime) -> Result<(), Fail> {
     let alloc = rt.alloc();
     let mut generations = Generations::starting_at(10);
     let mut process: Process<UnwinderX86_64<Vec<u8>>> = Process::new(alloc, &mut generations)?;
-    process.map(alloc, &Bare, mapping(0x1000, 0x9000)?, &mut generations)?;
+    process.map(alloc, &Bare, mapping(0x1000, 0x9000), &mut generations)?;
     // a page in the middle: one module goes, and three come
-    process.map(alloc, &Bare, mapping(0x4000, 0x5000)?, &mut generations)?;
-    let parted = ranges(alloc, process.mappings())?;
-    let expected = [
+    process.map(alloc, &Bare, mapping(0x4000, 0x5000), &mut generations)?;
+    let parted = [
         (0x1000, 0x4000, 0x1000),
         (0x4000, 0x5000, 0x4000),
         (0x5000, 0x9000, 0x1000),
     ];
-    assert_eq!(rt; parted.as_slice(), expected.as_slice());
+    assert!(rt; are(process.mappings(), &parted));
     assert_eq!(rt; generations.next(), Some(16));
     Ok(())
 }
@@ -164,13 +167,12 @@ fn stays_as_it_was_at_the_end_of_the_counter_on_aarch64(rt: HostRuntime) -> Resu
     let alloc = rt.alloc();
     let mut generations = Generations::starting_at(0xffff_ffff_ffff_fffb);
     let mut process: Process<UnwinderAarch64<Vec<u8>>> = Process::new(alloc, &mut generations)?;
-    process.map(alloc, &Bare, mapping(0x1000, 0x2000)?, &mut generations)?;
+    process.map(alloc, &Bare, mapping(0x1000, 0x2000), &mut generations)?;
     // two are left, and three are drawn: one module goes, and two come
-    let refused = process.map(alloc, &Bare, mapping(0x1800, 0x2800)?, &mut generations);
+    let refused = process.map(alloc, &Bare, mapping(0x1800, 0x2800), &mut generations);
     assert_eq!(rt; refused, Err(ProcessesError::GenerationsExhausted));
     assert!(rt; generations.is_exhausted());
-    let kept = ranges(alloc, process.mappings())?;
-    assert_eq!(rt; kept.as_slice(), [(0x1000, 0x2000, 0x1000)].as_slice());
+    assert!(rt; are(process.mappings(), &[(0x1000, 0x2000, 0x1000)]));
     assert_eq!(rt; process.unwinder().max_known_code_address(), 0x2000);
     Ok(())
 }
@@ -185,7 +187,7 @@ fn has_no_mapping_without_an_address(rt: HostRuntime) -> Result<(), Fail> {
     let mut process: Process<UnwinderX86_64<Vec<u8>>> = Process::new(alloc, &mut generations)?;
     let empty = Mapping {
         end: 0x1000,
-        ..mapping(0x1000, 0x2000)?
+        ..mapping(0x1000, 0x2000)
     };
     let refused = process.map(alloc, &Bare, empty, &mut generations);
     assert_eq!(rt; refused, Err(ProcessesError::EmptyMapping));

@@ -1,46 +1,48 @@
 //! What a module lends: sections that are given one by one, and each form of their bytes.
 use framehop_cfi::section::{ExplicitModuleSectionInfo, ModuleSectionInfo, SectionBytes};
-use std::alloc::{AllocError, Global};
 use std::boxed::BoxedSlice;
 use std::rc::{Rc, RcSlice};
 use std::test::Fail;
 
+const TEXT: [u8; 1] = [1];
+
+const UNWIND_INFO: [u8; 1] = [2];
+
+const EH_FRAME: [u8; 1] = [3];
+
+const EH_FRAME_HDR: [u8; 1] = [4];
+
+const DEBUG_FRAME: [u8; 1] = [5];
+
+const TEXT_SEGMENT: [u8; 1] = [6];
+
 /// Each section with a range of its own, and data of its own.
-fn every_section(alloc: Global) -> Result<ExplicitModuleSectionInfo<Vec<u8>>, AllocError> {
-    Ok(ExplicitModuleSectionInfo {
+fn every_section() -> ExplicitModuleSectionInfo<&'static [u8]> {
+    ExplicitModuleSectionInfo {
         base_svma: 0x1000,
         text_svma: Some(0x10..0x11),
-        text: Some(vec![in alloc; 1]?),
+        text: Some(&TEXT),
         stubs_svma: Some(0x20..0x22),
         stub_helper_svma: Some(0x30..0x33),
         got_svma: Some(0x40..0x44),
-        unwind_info: Some(vec![in alloc; 2]?),
+        unwind_info: Some(&UNWIND_INFO),
         eh_frame_svma: Some(0x50..0x55),
-        eh_frame: Some(vec![in alloc; 3]?),
+        eh_frame: Some(&EH_FRAME),
         eh_frame_hdr_svma: Some(0x60..0x66),
-        eh_frame_hdr: Some(vec![in alloc; 4]?),
-        debug_frame: Some(vec![in alloc; 5]?),
+        eh_frame_hdr: Some(&EH_FRAME_HDR),
+        debug_frame: Some(&DEBUG_FRAME),
         text_segment_svma: Some(0x70..0x77),
-        text_segment: Some(vec![in alloc; 6]?),
-    })
-}
-
-/// Sections of which only the text has data.
-fn text_only(alloc: Global) -> Result<ExplicitModuleSectionInfo<Vec<u8>>, AllocError> {
-    Ok(ExplicitModuleSectionInfo {
-        text: Some(vec![in alloc; 1]?),
-        ..ExplicitModuleSectionInfo::default()
-    })
+        text_segment: Some(&TEXT_SEGMENT),
+    }
 }
 
 /// The first byte of data.
-fn first_byte(contents: Option<Vec<u8>>) -> Option<u8> {
+fn first_byte(contents: Option<&[u8]>) -> Option<u8> {
     contents?.first().copied()
 }
 
 #[test]
-fn gives_each_section_under_its_names(rt: HostRuntime) -> Result<(), Fail> {
-    let alloc = rt.alloc();
+fn gives_each_section_under_its_names(rt: HostRuntime) {
     for (name, other, range, byte) in [
         ("__text", ".text", Some((0x10, 0x11)), Some(1)),
         ("__stubs", "__stubs", Some((0x20, 0x22)), None),
@@ -57,7 +59,7 @@ fn gives_each_section_under_its_names(rt: HostRuntime) -> Result<(), Fail> {
         ("__debug_frame", ".debug_frame", None, Some(5)),
     ] {
         for (asked, then) in [(name, other), (other, name)] {
-            let mut info = every_section(alloc)?;
+            let mut info = every_section();
             let asked = asked.as_bytes();
             let lies = info.section_svma_range(asked);
             assert_eq!(rt; lies.map(|range| (range.start, range.end)), range);
@@ -69,23 +71,21 @@ fn gives_each_section_under_its_names(rt: HostRuntime) -> Result<(), Fail> {
             assert_eq!(rt; lies.map(|range| (range.start, range.end)), range);
         }
     }
-    Ok(())
 }
 
 #[test]
-fn gives_the_text_segment(rt: HostRuntime) -> Result<(), Fail> {
-    let mut info = every_section(rt.alloc())?;
+fn gives_the_text_segment(rt: HostRuntime) {
+    let mut info = every_section();
     assert_eq!(rt; info.base_svma(), 0x1000);
     assert_eq!(rt; info.segment_svma_range(b"__TEXT"), Some(0x70..0x77));
     assert_eq!(rt; first_byte(info.segment_data(b"__TEXT")), Some(6));
     assert!(rt; info.segment_data(b"__TEXT").is_none());
     assert_eq!(rt; info.segment_svma_range(b"__TEXT"), Some(0x70..0x77));
-    Ok(())
 }
 
 #[test]
-fn knows_no_other_name(rt: HostRuntime) -> Result<(), Fail> {
-    let mut info = every_section(rt.alloc())?;
+fn knows_no_other_name(rt: HostRuntime) {
+    let mut info = every_section();
     for name in [
         ".pdata",
         ".rdata",
@@ -107,14 +107,13 @@ fn knows_no_other_name(rt: HostRuntime) -> Result<(), Fail> {
         assert!(rt; info.segment_data(name.as_bytes()).is_none());
     }
     // nothing was taken
-    assert!(rt; info == every_section(rt.alloc())?);
-    Ok(())
+    assert!(rt; info == every_section());
 }
 
 #[test]
 fn default_gives_nothing(rt: HostRuntime) -> Result<(), Fail> {
     let alloc = rt.alloc();
-    let info: ExplicitModuleSectionInfo<Vec<u8>> = ExplicitModuleSectionInfo::default();
+    let info: ExplicitModuleSectionInfo<&[u8]> = ExplicitModuleSectionInfo::default();
     assert_eq!(rt;
         format!(in alloc; "{info:?}")?.as_str(),
         "ExplicitModuleSectionInfo { base_svma: 0, text_svma: None, text: None, stubs_svma: None, \
@@ -123,7 +122,7 @@ fn default_gives_nothing(rt: HostRuntime) -> Result<(), Fail> {
          text_segment: None }"
     );
     assert_eq!(rt;
-        format!(in alloc; "{:?}", every_section(alloc)?)?.as_str(),
+        format!(in alloc; "{:?}", every_section())?.as_str(),
         "ExplicitModuleSectionInfo { base_svma: 4096, text_svma: Some(16..17), text: Some([1]), \
          stubs_svma: Some(32..34), stub_helper_svma: Some(48..51), got_svma: Some(64..68), \
          unwind_info: Some([2]), eh_frame_svma: Some(80..85), eh_frame: Some([3]), \
@@ -135,10 +134,10 @@ fn default_gives_nothing(rt: HostRuntime) -> Result<(), Fail> {
 
 #[test]
 fn a_clone_equals_its_original(rt: HostRuntime) -> Result<(), Fail> {
-    let info = every_section(rt.alloc())?;
-    let copy = info.clone()?;
-    assert!(rt; copy == info);
-    let nothing: ExplicitModuleSectionInfo<Vec<u8>> = ExplicitModuleSectionInfo::default();
+    let info = every_section();
+    assert!(rt; info.clone()? == info);
+    let nothing: ExplicitModuleSectionInfo<&[u8]> = ExplicitModuleSectionInfo::default();
+    assert!(rt; nothing.clone()? == nothing);
     assert!(rt; nothing != info);
     Ok(())
 }
@@ -146,27 +145,15 @@ fn a_clone_equals_its_original(rt: HostRuntime) -> Result<(), Fail> {
 /// The original keeps its data where that of the clone is taken.
 #[test]
 fn a_clone_has_data_of_its_own(rt: HostRuntime) -> Result<(), Fail> {
-    let text = text_only(rt.alloc())?;
-    let mut copy = text.clone()?;
-    assert!(rt; copy == text);
-    assert_eq!(rt; first_byte(copy.section_data(b".text")), Some(1));
-    let nothing: ExplicitModuleSectionInfo<Vec<u8>> = ExplicitModuleSectionInfo::default();
-    assert!(rt; copy == nothing);
-    assert!(rt; copy != text);
-    Ok(())
-}
-
-#[test]
-fn a_clone_of_lent_bytes_equals_its_original(rt: HostRuntime) -> Result<(), Fail> {
-    let bytes = [1u8, 2, 3];
-    let info: ExplicitModuleSectionInfo<&[u8]> = ExplicitModuleSectionInfo {
-        base_svma: 1,
-        eh_frame: Some(&bytes),
+    let text = ExplicitModuleSectionInfo {
+        text: Some(vec![in rt.alloc(); 1]?),
         ..ExplicitModuleSectionInfo::default()
     };
-    assert!(rt; info.clone()? == info);
-    let nothing: ExplicitModuleSectionInfo<&[u8]> = ExplicitModuleSectionInfo::default();
-    assert!(rt; nothing.clone()? == nothing);
+    let mut copy = text.clone()?;
+    let taken = copy.section_data(b".text");
+    assert!(rt; taken.is_some_and(|bytes| bytes.as_slice() == [1].as_slice()));
+    assert!(rt; text.text.is_some());
+    assert!(rt; copy.text.is_none());
     Ok(())
 }
 
