@@ -4,7 +4,7 @@
 - Each link of a document leads to a file of the repository, to a heading that is there, or to a line that is.
 - Each script or source in backticks is a file of the repository.
 - Each name in backticks of the pages of NAMED is in the sources, the scripts, the edits or a file's name.
-- The Rust of README.md and of the doc comments' examples is in the tests, line by line.
+- The Rust of README.md, of docs/EXAMPLES.md and of the doc comments' examples is in the tests, line by line.
 - No line of a document has more than 100 words, tables and code excepted.
 - The pages of docs/api are those that tools/api.py makes, and that of `framehop` has each name that the tests name there.
 - Each edit of edits/CRATE can be applied, and each promise of DEFINITIONS.md has one that the gate tries.
@@ -114,7 +114,8 @@ def long_lines(text):
 def untested_examples():
     tests = {line.strip() for page in EXAMPLES for line in page.read_text().split("\n")}
     imports = " ".join(tests)
-    for block in re.findall(r"^```rust\n(.*?)^```", (TOP / "README.md").read_text(), re.M | re.S):
+    pages = [TOP / "README.md", TOP / "docs/EXAMPLES.md"]
+    for block in re.findall(r"^```rust\n(.*?)^```", "\n".join(page.read_text() for page in pages), re.M | re.S):
         for line in block.split("\n"):
             if line.startswith("use "):
                 lost = [word for word in WORD.findall(line) if word not in imports]
@@ -208,7 +209,7 @@ def faults():
         if page.name in NAMED:
             checks.append(missing_names(text, known))
         yield from (f"{name}: {fault}" for check in checks for fault in check)
-    yield from (f"README.md: {fault}" for fault in untested_examples())
+    yield from (f"README.md, docs/EXAMPLES.md: {fault}" for fault in untested_examples())
     yield from (f"docs/api: {fault}" for check in (stale_api(), names_not_on_the_page()) for fault in check)
     yield from untested_doc_examples()
     yield from wrong_edits()
