@@ -79,7 +79,14 @@ fn print_all(
     let mut folded = Folded::new(rt.alloc());
     let mut status = 0;
     for path in paths {
-        let files = files_at(rt, path)?;
+        let files = match files_at(rt, path) {
+            Ok(files) => files,
+            Err(error) => {
+                eprintln!(rt; "framehop-stacks: {path}: {error}")?;
+                status = status.max(1);
+                continue;
+            }
+        };
         if files.is_empty() {
             eprintln!(rt; "framehop-stacks: {path}: no file in it has a name in .data")?;
             status = status.max(1);
@@ -95,7 +102,10 @@ fn print_all(
         Ok(()) => Ok(status),
         Err(error) => {
             eprintln!(rt; "framehop-stacks: {error}")?;
-            Ok(status.max(1))
+            match error {
+                FlameGraphError::OutOfMemory => Ok(2),
+                _ => Ok(status.max(1)),
+            }
         }
     }
 }
