@@ -5,7 +5,7 @@ use Rattle.std.proofs.lemmas.List.{get_or-map, get_or_default, length-map}
 use Rattle.std.proofs.lemmas.List.Edits.{get_or-remove_below, get_or-remove_above}
 use Rattle.std.specs.List.Sorted.{IsPartitionPoint}
 use Rattle.std.proofs.lemmas.List.Sorted.{IsNonDecreasingBy-insert}
-use Rattle.framehop_cfi.specs.Place.{IsPlace}
+use Rattle.framehop_bytes.specs.Place.{IsPlace}
 use Rattle.framehop.specs.Modules.{ModuleView, AreInOrder, starts_of, has_start, without_module, starts_by, starting_by, starting_above}
 
 -- ---- a list that a test divides at a place

@@ -2,7 +2,7 @@
 use Rattle.std.specs.Prelude.{ℕ, ◌-◌, ◌^◌, ◌&&◌, nat_le, nat_lt, if◌then◌else◌, List, codes, Option, Some, None, option_map, option_and_then, unwrap_or, Result, Ok, Err}
 use Rattle.std.specs.declared.ops.Range.{Range}
 use Rattle.framehop_cfi.specs.Section.{Section}
-use Rattle.framehop_cfi.specs.SectionTable.{SectionTable, range_of, data_of, without_data}
+use Rattle.framehop_bytes.specs.SectionTable.{SectionTable, range_of, data_of, without_data}
 use Rattle.framehop_cfi.specs.declared.entry.UnwindSectionType.TheVariants.{EhFrame, DebugFrame}
 use Rattle.framehop_dwarf.specs.Bases.{base_addresses_of, section_in}
 use Rattle.framehop_dwarf.specs.Index.{pairs_of}

@@ -1,7 +1,7 @@
 -- The memory that a copy of a stack's bytes is.
 use Rattle.std.specs.Prelude.{ℕ, ◌+◌, ◌-◌, List, length, Some, None, ◌&&◌, nat_le, if◌then◌else◌}
 use Rattle.framehop_core.specs.Memory.{Memory}
-use Rattle.framehop_cfi.specs.Bytes.{le8}
+use Rattle.framehop_bytes.specs.Bytes.{le8}
 
 -- the little-endian word of eight bytes at each address, aligned or not, where the bytes from the base on hold all eight
 abbrev pub memory_of_bytes : ℕ → List ℕ → Memory

@@ -18,9 +18,9 @@ pub mod x86_64;
 
 pub use cache::{AllocationPolicy, Cache, MayAllocateDuringUnwind, MustNotAllocateDuringUnwind};
 pub use framehop_analysis::instruction_analysis;
+pub use framehop_bytes::section;
+pub use framehop_bytes::section::{ExplicitModuleSectionInfo, ModuleSectionInfo, SectionBytes};
 pub use framehop_cache::{CacheStats, Generations, generations, rule_cache};
-pub use framehop_cfi::section;
-pub use framehop_cfi::section::{ExplicitModuleSectionInfo, ModuleSectionInfo, SectionBytes};
 pub use framehop_core::{
     Error, FrameAddress, add_signed, arch, code_address, display_utils, error, unwind_result,
     unwind_rule,

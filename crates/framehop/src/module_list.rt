@@ -4,8 +4,8 @@ ghost use Rattle.std.specs.List.Sorted.{IsPartitionPoint};
 ghost use Rattle.framehop.specs.Modules.{starting_by, starting_above, with_module, has_start, without_module, starts_by, covering, greatest_end};
 
 use crate::modules::Module;
-use framehop_cfi::place::{Starts, place};
-use framehop_cfi::section::SectionBytes;
+use framehop_bytes::place::{Starts, place};
+use framehop_bytes::section::SectionBytes;
 use std::alloc::{AllocError, Global};
 use std::marker::Model;
 

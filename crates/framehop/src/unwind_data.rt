@@ -3,17 +3,17 @@ ghost use Rattle.std.specs.Prelude.{◌≡◌, IfOk, IfErr, codes, option_map, �
 ghost use Rattle.framehop.specs.UnwindData.{unwind_data_of, placed_data};
 ghost use Rattle.framehop.specs.TextData.{text_data};
 ghost use Rattle.framehop.specs.Modules.{compact_info};
-ghost use Rattle.framehop_cfi.specs.SectionTable.{range_of};
+ghost use Rattle.framehop_bytes.specs.SectionTable.{range_of};
 ghost use Rattle.framehop_dwarf.specs.Bases.{base_addresses_of};
 ghost use Rattle.framehop.specs.ModuleData.{ask_either, with_eh_frame, with_index, by_eh_frame, call_frame_data, pdata_data, ask, placed_in, relative_range, range_or_empty, text_or, text_in, with_unwind_info, unwind_data_in};
 ghost use Rattle.framehop_cfi.specs.Section.{section_of};
 ghost use Rattle.framehop_dwarf.specs.Bases.{section_in};
 
 use crate::modules::ModuleListError;
+use framehop_bytes::read_error::ReadError;
+use framehop_bytes::section::{ModuleSectionInfo, SectionBytes};
 use framehop_cfi::entry::UnwindSectionType;
 use framehop_cfi::pointer::BaseAddresses;
-use framehop_cfi::read_error::ReadError;
-use framehop_cfi::section::{ModuleSectionInfo, SectionBytes};
 use framehop_dwarf::bases::{base_addresses_for_ranges, base_addresses_for_sections, range_under};
 use framehop_dwarf::index::{DwarfCfiIndex, DwarfCfiIndexError};
 use framehop_pe::pe::DataAtRvaRange;

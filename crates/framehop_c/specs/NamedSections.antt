@@ -1,8 +1,8 @@
 -- The sections of a module by name, those of PE files before the others.
 use Rattle.std.specs.Prelude.{ℕ, List, [], ◌∷◌, None, codes}
 use Rattle.std.specs.Borrow.{Bor}
-use Rattle.framehop_cfi.specs.SectionTable.{SectionTable}
-use Rattle.framehop_cfi.specs.ExplicitSections.{table_of, under}
+use Rattle.framehop_bytes.specs.SectionTable.{SectionTable}
+use Rattle.framehop_bytes.specs.ExplicitSections.{table_of, under}
 use Rattle.framehop_c.specs.declared.sections.NamedSections.{NamedSections}
 
 abbrev pub named_table : NamedSections → SectionTable (Bor (List ℕ))

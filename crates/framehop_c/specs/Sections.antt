@@ -2,8 +2,8 @@
 use Rattle.std.specs.Prelude.{ℕ, List, [], ◌∷◌, Option, Some, None, if◌then◌else◌, codes}
 use Rattle.std.specs.Borrow.{Bor}
 use Rattle.std.specs.declared.ops.Range.{Range}
-use Rattle.framehop_cfi.specs.SectionTable.{SectionTable}
-use Rattle.framehop_cfi.specs.ExplicitSections.{under}
+use Rattle.framehop_bytes.specs.SectionTable.{SectionTable}
+use Rattle.framehop_bytes.specs.ExplicitSections.{under}
 use Rattle.framehop_c.specs.declared.sections.FramehopSection.{FramehopSection}
 use Rattle.framehop_c.specs.declared.sections.FramehopSections.{FramehopSections}
 

@@ -1,7 +1,7 @@
 -- Running instructions one at a time gives the effects of the whole list.
 use Rattle.std.proofs.Common.{◌≡◌, ◌≢◌, ℕ, zero, suc, ◌+◌, ◌-◌, ◌<◌, ◌≤◌, false, List, [], ◌∷◌, length, Option, Result, Ok, Err, refl, ap, sym, subst, ◌∙◌, arith, inl, inr}
 use Rattle.std.proofs.lemmas.Bool.{lt-leb, le-leb, cases_Bool, cases_lt}
-use Rattle.framehop_cfi.specs.Bytes.{◌>>=◌}
+use Rattle.framehop_bytes.specs.Bytes.{◌>>=◌}
 use Rattle.framehop_cfi.specs.Instruction.{instruction_at}
 use Rattle.framehop_cfi.specs.Row.{Row}
 use Rattle.framehop_cfi.specs.Section.{Section}
@@ -11,8 +11,8 @@ use Rattle.framehop_cfi.specs.RowMeaning.{Stands, Lists, Ends, HasEffect, AreRow
 use Rattle.framehop_cfi.specs.declared.storage.StorageLimits.{StorageLimits}
 use Rattle.framehop_cfi.specs.declared.entry.FrameDescriptionEntry.{FrameDescriptionEntry}
 use Rattle.framehop_cfi.specs.declared.instruction.CallFrameInstruction.{CallFrameInstruction}
-use Rattle.framehop_cfi.specs.declared.read_error.ReadError.{ReadError}
-use Rattle.framehop_cfi.specs.declared.read_error.ReadError.TheVariants.{OutOfMemory}
+use Rattle.framehop_bytes.specs.declared.read_error.ReadError.{ReadError}
+use Rattle.framehop_bytes.specs.declared.read_error.ReadError.TheVariants.{OutOfMemory}
 use Rattle.framehop_cfi.specs.Outcome.{Becomes}
 use Rattle.std.specs.Prelude.{OnOk, IfErr}
 use Rattle.framehop_cfi.proofs.Forward.{instruction-forward}

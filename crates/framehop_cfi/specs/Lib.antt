@@ -1,27 +1,21 @@
 -- What the contracts of this crate cite: from bytes to entries, instructions, rows and the header's table.
 pub mod Augmentation
 pub mod AugmentationMeaning
-pub mod ByCode
-pub mod Bytes
 pub mod Context
 pub mod Entries
 pub mod Entry
 pub mod EntryMeaning
-pub mod ExplicitSections
 pub mod Header
 pub mod Instruction
 pub mod Layout
 pub mod Leb128
 pub mod Outcome
-pub mod Place
 pub mod Pointer
 pub mod Raw
-pub mod Refusal
 pub mod Row
 pub mod RowAt
 pub mod RowMeaning
 pub mod RowRoom
 pub mod Section
-pub mod SectionTable
 pub mod EntryExtent
 pub mod TableRows

@@ -1,6 +1,6 @@
 -- The row of an address: the instructions of a CIE, and those of an FDE up to the address (DWARF 5 section 6.4.3).
 use Rattle.std.specs.Prelude.{ℕ, zero, suc, ◌+◌, ◌*◌, ◌^◌, Bool, false, List, [], length, take, Option, Some, None, Result, Ok, Err, nat_le, nat_lt, ◌&&◌, if◌then◌else◌}
-use Rattle.framehop_cfi.specs.Bytes.{◌>>=◌}
+use Rattle.framehop_bytes.specs.Bytes.{◌>>=◌}
 use Rattle.framehop_cfi.specs.Instruction.{instruction_at}
 use Rattle.framehop_cfi.specs.Section.{Section}
 use Rattle.framehop_cfi.specs.TableRows.{TableRows, effect}
@@ -11,8 +11,8 @@ use Rattle.framehop_cfi.specs.declared.entry.CommonInformationEntry.{CommonInfor
 use Rattle.framehop_cfi.specs.declared.entry.FrameDescriptionEntry.{FrameDescriptionEntry}
 use Rattle.framehop_cfi.specs.declared.instruction.CallFrameInstruction.{CallFrameInstruction}
 use Rattle.framehop_cfi.specs.declared.instruction.CallFrameInstruction.TheVariants.{SetLoc, AdvanceLoc}
-use Rattle.framehop_cfi.specs.declared.read_error.ReadError.{ReadError}
-use Rattle.framehop_cfi.specs.declared.read_error.ReadError.TheVariants.{InvalidContext, NumberTooBig, NoRow}
+use Rattle.framehop_bytes.specs.declared.read_error.ReadError.{ReadError}
+use Rattle.framehop_bytes.specs.declared.read_error.ReadError.TheVariants.{InvalidContext, NumberTooBig, NoRow}
 
 -- a list of instructions: its bytes, how they are read, and the address that is looked for (none in a CIE)
 pub record InstructionList : Type 0 where

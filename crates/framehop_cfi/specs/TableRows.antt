@@ -1,6 +1,6 @@
 -- What call frame instructions do to a row (DWARF 5 sections 6.4.2 and 6.4.3).
 use Rattle.std.specs.Prelude.{ℕ, ◌-◌, Bool, false, List, [], ◌∷◌, ◌++◌, length, take, slice_get, Option, Some, None, Result, Ok, Err, ℤ, nat_le, if◌then◌else◌}
-use Rattle.framehop_cfi.specs.Bytes.{◌>>=◌}
+use Rattle.framehop_bytes.specs.Bytes.{◌>>=◌}
 use Rattle.framehop_cfi.specs.Row.{Row, rule_of, with_rule, without_rule}
 use Rattle.framehop_cfi.specs.declared.rule.Register.{Register}
 use Rattle.framehop_cfi.specs.declared.rule.CfaRule.{CfaRule}
@@ -9,8 +9,8 @@ use Rattle.framehop_cfi.specs.declared.rule.RegisterRule.{RegisterRule}
 use Rattle.framehop_cfi.specs.declared.storage.StorageLimits.{StorageLimits}
 use Rattle.framehop_cfi.specs.declared.instruction.CallFrameInstruction.{CallFrameInstruction}
 use Rattle.framehop_cfi.specs.declared.instruction.CallFrameInstruction.TheVariants.{Nop, NegateRaState, ArgsSize, SetLoc, AdvanceLoc, SetRule, Restore, RememberState, RestoreState, DefCfa, DefCfaRegister, DefCfaOffset}
-use Rattle.framehop_cfi.specs.declared.read_error.ReadError.{ReadError}
-use Rattle.framehop_cfi.specs.declared.read_error.ReadError.TheVariants.{InvalidContext, TooManyRows, NothingRemembered}
+use Rattle.framehop_bytes.specs.declared.read_error.ReadError.{ReadError}
+use Rattle.framehop_bytes.specs.declared.read_error.ReadError.TheVariants.{InvalidContext, TooManyRows, NothingRemembered}
 
 -- what the instructions work on: the row, those that were remembered (the latest last), and, in an FDE, the row that
 -- the CIE left

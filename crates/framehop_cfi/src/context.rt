@@ -7,14 +7,14 @@ ghost use Rattle.framehop_cfi.specs.RowMeaning.{IsRowAt};
 ghost use Rattle.framehop_cfi.specs.RowRoom.{needs_room, list_needs_room, row_needs_room};
 ghost use Rattle.framehop_cfi.specs.RowAt.{location_after, risen, is_beyond, run_from, rows_at, row_at, start, begun, covers};
 
-use crate::bytes::front;
 use crate::entry::{CommonInformationEntry, FrameDescriptionEntry, UnwindSection};
 use crate::instruction::CallFrameInstruction;
 use crate::pointer::SectionBaseAddresses;
-use crate::read_error::ReadError;
 use crate::row::UnwindTableRow;
 use crate::rule::{CfaRule, Register, RegisterRule};
 use crate::storage::UnwindContextStorage;
+use framehop_bytes::bytes::front;
+use framehop_bytes::read_error::ReadError;
 use std::alloc::{AllocError, Global};
 use std::marker::Model;
 use std::mem;

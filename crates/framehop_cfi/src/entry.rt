@@ -5,11 +5,11 @@ ghost use Rattle.framehop_cfi.specs.Section.{section_of};
 ghost use Rattle.framehop_cfi.specs.Entry.{eh_frame_id, debug_frame_id, id_at, head_at, cie_at, fde_at, cie_fields, fde_fields, sizes_at, sizes_of, return_register_at, alignments_at, skipped_at, is_known_version, versioned_fields, fde_range};
 
 use crate::augmentation::{find_terminator, read_counted};
-use crate::bytes::{front, read_u8, read_u32, read_u64};
 use crate::extent::{EntryExtent, read_extent};
 use crate::leb128::{read_sleb128, read_uleb128};
 use crate::pointer::{BaseAddresses, DW_EH_PE_INDIRECT, SectionBaseAddresses, read_raw_pointer};
-use crate::read_error::ReadError;
+use framehop_bytes::bytes::{front, read_u8, read_u32, read_u64};
+use framehop_bytes::read_error::ReadError;
 use std::marker::Model;
 
 /// Which of the two call frame sections the bytes are.

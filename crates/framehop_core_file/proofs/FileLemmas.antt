@@ -1,6 +1,6 @@
 -- Mapped files that are read one by one.
 use Rattle.std.proofs.Common.{◌≡◌, ℕ, List, [], ◌∷◌, ◌++◌, Ok, Err, ap, ◌∙◌}
-use Rattle.framehop_cfi.specs.Bytes.{◌>>=◌}
+use Rattle.framehop_bytes.specs.Bytes.{◌>>=◌}
 use Rattle.framehop_core_file.specs.declared.error.CoreFileError.{CoreFileError}
 use Rattle.framehop_core_file.specs.MappedFile.{MappedFileView, path_at, mapped_file_of, files_of}
 

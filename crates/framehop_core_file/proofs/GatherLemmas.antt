@@ -3,7 +3,7 @@ use Rattle.std.proofs.Common.{◌≡◌, ℕ, suc, ◌+◌, ◌-◌, ◌<◌, Li
 use Rattle.std.proofs.Math.Seq.{drop-cons, take-length}
 use Rattle.std.proofs.lemmas.List.{map-append, length-drop}
 use Rattle.std.specs.declared.alloc.Global.{Global}
-use Rattle.framehop_cfi.specs.Bytes.{◌>>=◌}
+use Rattle.framehop_bytes.specs.Bytes.{◌>>=◌}
 use Rattle.framehop_core_file.specs.declared.error.CoreFileError.{CoreFileError}
 use Rattle.framehop_core_file.specs.declared.error.CoreFileError.TheVariants.{OutOfMemory}
 use Rattle.framehop_core_file.specs.Refusal.{IsErrorOf}

@@ -1,6 +1,6 @@
 -- Notes that are read one by one.
 use Rattle.std.proofs.Common.{◌≡◌, ℕ, zero, suc, ◌+◌, ◌-◌, ◌<◌, ◌≤◌, List, [], ◌∷◌, ◌++◌, length, drop, Ok, Err, refl, ap, sym, ◌∙◌, arith}
-use Rattle.framehop_cfi.specs.Bytes.{◌>>=◌}
+use Rattle.framehop_bytes.specs.Bytes.{◌>>=◌}
 use Rattle.framehop_elf.specs.declared.program_header.ProgramHeader.{ProgramHeader}
 use Rattle.framehop_core_file.specs.declared.error.CoreFileError.{CoreFileError}
 use Rattle.framehop_core_file.specs.Note.{PlacedView, placed_at, notes_after, notes_in, notes_size, notes_of_segment, notes_among}

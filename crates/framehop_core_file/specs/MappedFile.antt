@@ -3,7 +3,7 @@
 use Rattle.std.specs.Prelude.{ℕ, ◌+◌, ◌*◌, ◌^◌, List, [], ◌∷◌, length, take, drop, Bool, Option, Some, None, Result, Ok, Err, nat_lt, if◌then◌else◌}
 use Rattle.std.specs.List.{find}
 use Rattle.std.specs.Simd.{first_chunks}
-use Rattle.framehop_cfi.specs.Bytes.{◌>>=◌, le8}
+use Rattle.framehop_bytes.specs.Bytes.{◌>>=◌, le8}
 use Rattle.framehop_elf.specs.Section.{string_of}
 use Rattle.framehop_core_file.specs.Numbers.{CORE, NT_FILE}
 use Rattle.framehop_core_file.specs.Note.{PlacedView, is_of}

@@ -1,7 +1,7 @@
 -- The memory of a process, as far as a core file has it (gABI, chapter 5, "Program Header": PT_LOAD; `core(5)`).
 use Rattle.std.specs.Prelude.{ℕ, ◌+◌, ◌-◌, List, length, take, drop, Bool, Option, option_map, ◌&&◌, ◌==◌, nat_le}
 use Rattle.std.specs.List.{find}
-use Rattle.framehop_cfi.specs.Bytes.{le8}
+use Rattle.framehop_bytes.specs.Bytes.{le8}
 use Rattle.framehop_elf.specs.Numbers.{PT_LOAD}
 use Rattle.framehop_elf.specs.declared.program_header.ProgramHeader.{ProgramHeader}
 

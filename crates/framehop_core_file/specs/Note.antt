@@ -1,7 +1,7 @@
 -- The notes of a core file (gABI, chapter 5, "Note Section"): those of its segments of type PT_NOTE, in their order.
 use Rattle.std.specs.Prelude.{ℕ, zero, suc, ◌+◌, ◌-◌, List, [], ◌∷◌, ◌++◌, length, Bool, Option, Some, None, nat_eq, nat_lt, ◌&&◌, ◌==◌, Result, Ok, Err, if◌then◌else◌}
 use Rattle.std.specs.Cmp.Lexicographic.{pointwise}
-use Rattle.framehop_cfi.specs.Bytes.{◌>>=◌}
+use Rattle.framehop_bytes.specs.Bytes.{◌>>=◌}
 use Rattle.framehop_elf.specs.Numbers.{PT_NOTE}
 use Rattle.framehop_elf.specs.Bytes.{block_at}
 use Rattle.framehop_elf.specs.Note.{NoteView, note_view, note_at}

@@ -1,7 +1,7 @@
 -- The process: the note of "CORE" of type NT_PRPSINFO, `struct elf_prpsinfo` of include/linux/elfcore.h.
 use Rattle.std.specs.Prelude.{ℕ, List, length, take, drop, Bool, Option, Some, None, Result, Ok, Err, ◌==◌, if◌then◌else◌}
 use Rattle.std.specs.List.{find}
-use Rattle.framehop_cfi.specs.Bytes.{le4}
+use Rattle.framehop_bytes.specs.Bytes.{le4}
 use Rattle.framehop_elf.specs.Section.{string_of}
 use Rattle.framehop_core_file.specs.Numbers.{CORE, NT_PRPSINFO, PRPSINFO_SIZE, PRPSINFO_PID, PRPSINFO_FNAME}
 use Rattle.framehop_core_file.specs.Note.{PlacedView, is_of}

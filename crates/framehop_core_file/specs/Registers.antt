@@ -1,6 +1,6 @@
 -- The registers of a thread, in the order in which the kernel keeps them.
 use Rattle.std.specs.Prelude.{ℕ, ◌-◌, ◌^◌, List, length, Option, Some, None, nat_le, if◌then◌else◌}
-use Rattle.framehop_cfi.specs.Bytes.{le8}
+use Rattle.framehop_bytes.specs.Bytes.{le8}
 use Rattle.framehop_core.specs.X86_64.Registers.{Registers as RegistersX86_64}
 use Rattle.framehop_core.specs.Aarch64.Registers.{Registers as RegistersAarch64, strip_ptr_auth}
 

@@ -1,7 +1,7 @@
 -- The threads of a process: notes of "CORE" of type NT_PRSTATUS, `struct elf_prstatus` of include/linux/elfcore.h.
 use Rattle.std.specs.Prelude.{ℕ, List, [], ◌∷◌, length, take, drop, Bool, not, Option, Some, None, Result, Ok, Err, ◌==◌, if◌then◌else◌}
 use Rattle.std.specs.List.{find, before_first}
-use Rattle.framehop_cfi.specs.Bytes.{◌>>=◌, le2, le4, le8}
+use Rattle.framehop_bytes.specs.Bytes.{◌>>=◌, le2, le4, le8}
 use Rattle.framehop_core_file.specs.Numbers.{CORE, LINUX, NT_PRSTATUS, NT_ARM_PAC_MASK, PR_CURSIG, PR_PID, PR_REG, PAC_MASK_SIZE, INSN_MASK}
 use Rattle.framehop_core_file.specs.Note.{PlacedView, is_of}
 use Rattle.framehop_core_file.specs.declared.core_file.Machine.{Machine}

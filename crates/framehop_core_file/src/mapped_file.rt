@@ -7,7 +7,7 @@ ghost use Rattle.framehop_core_file.specs.MappedFile.{mapped_file_view, path_at,
 use crate::error::CoreFileError;
 use crate::gathered::pushed;
 use crate::note::{PlacedNote, first_of};
-use framehop_cfi::bytes::front;
+use framehop_bytes::bytes::front;
 use framehop_elf::bytes::{back, u64_at};
 use framehop_elf::section::string_at;
 use std::alloc::Global;

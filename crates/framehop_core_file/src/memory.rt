@@ -2,7 +2,7 @@
 ghost use Rattle.std.specs.Prelude.{◌≡◌, IfSome, true, find, option_map, length};
 ghost use Rattle.framehop_core_file.specs.Memory.{dumped, has, memory_of, memory_from, word_of};
 
-use framehop_cfi::bytes::front;
+use framehop_bytes::bytes::front;
 use framehop_elf::bytes::{back, u64_at};
 use framehop_elf::program_header::ProgramHeader;
 

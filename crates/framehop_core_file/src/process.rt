@@ -5,7 +5,7 @@ ghost use Rattle.framehop_core_file.specs.Process.{process_view, process_of};
 
 use crate::error::CoreFileError;
 use crate::note::{PlacedNote, first_of};
-use framehop_cfi::bytes::front;
+use framehop_bytes::bytes::front;
 use framehop_elf::bytes::{back, u32_at};
 use framehop_elf::section::string_at;
 

@@ -9,7 +9,7 @@ use crate::core_file::Machine;
 use crate::error::CoreFileError;
 use crate::gathered::pushed;
 use crate::note::{PlacedNote, is_of};
-use framehop_cfi::bytes::front;
+use framehop_bytes::bytes::front;
 use framehop_elf::bytes::{back, u16_at, u32_at, u64_at};
 use std::alloc::Global;
 

@@ -1,7 +1,7 @@
 //! Each refusal once, of the two core files with a few other bytes.
 use crate::pieces::change;
 use crate::{aarch64, x86_64};
-use framehop_cfi::bytes::front;
+use framehop_bytes::bytes::front;
 use framehop_core_file::core_file::{Machine, read_core_file};
 use framehop_core_file::error::CoreFileError;
 use framehop_core_file::mapped_file::read_mapped_files;

@@ -2,7 +2,7 @@
 //! and the bytes of vector registers and of the vdso are 0. The expected values are those that `readelf -ln`
 //! and gdb's `info registers`, `info proc mappings`, `backtrace` and `x/gx` print.
 use crate::pieces::file_of;
-use framehop_cfi::bytes::front;
+use framehop_bytes::bytes::front;
 use framehop_core::x86_64::Reg;
 use framehop_core_file::core_file::{Machine, read_core_file};
 use framehop_core_file::mapped_file::read_mapped_files;

@@ -5,7 +5,7 @@ use Rattle.std.specs.List.{find, suffix_len}
 use Rattle.std.proofs.lemmas.Grind.{common_steps}
 use Rattle.std.proofs.lemmas.List.{map-append, take_more}
 use Rattle.std.proofs.lemmas.List.Sums.{fold-append, suffix_len_is}
-use Rattle.framehop_cfi.specs.Bytes.{◌>>=◌, le8}
+use Rattle.framehop_bytes.specs.Bytes.{◌>>=◌, le8}
 use Rattle.framehop_core_file.specs.Memory as core_file
 use Rattle.framehop_elf.specs.declared.program_header.ProgramHeader.{ProgramHeader}
 use Rattle.framehop_minidump.specs.Memory as minidump

@@ -3,7 +3,7 @@ use Rattle.std.specs.Prelude.{ℕ, ◌+◌, ◌-◌, List, [], ◌∷◌, map, B
 use Rattle.std.specs.Cmp.Lexicographic.{pointwise}
 use Rattle.std.specs.List.{find, flat_map}
 use Rattle.std.specs.Option.{is_some}
-use Rattle.framehop_cfi.specs.Bytes.{◌>>=◌}
+use Rattle.framehop_bytes.specs.Bytes.{◌>>=◌}
 use Rattle.framehop_core_file.specs.CoreFile.{core_file_of}
 use Rattle.framehop_core_file.specs.MappedFile.{MappedFileView, mapped_files_of}
 use Rattle.framehop_core_file.specs.Note.{notes_of}

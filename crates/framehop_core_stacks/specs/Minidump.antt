@@ -2,7 +2,7 @@
 use Rattle.std.specs.Prelude.{◌≡◌, ℕ, ◌+◌, ◌-◌, ◌^◌, max, min, List, [], ◌∷◌, ◌++◌, map, Bool, true, false, ◌||◌, ◌==◌, if◌then◌else◌, Option, Some, None, Result, Ok}
 use Rattle.std.specs.Int.Count.{count_leading_zeros}
 use Rattle.std.specs.List.{after_last, flat_map, fold}
-use Rattle.framehop_cfi.specs.Bytes.{◌>>=◌}
+use Rattle.framehop_bytes.specs.Bytes.{◌>>=◌}
 use Rattle.framehop_core_file.specs.declared.core_file.Machine.{Machine}
 use Rattle.framehop_core_file.specs.declared.core_file.Machine.TheVariants as dumped
 use Rattle.framehop_elf.specs.Numbers.{PT_LOAD}

@@ -1,7 +1,7 @@
 -- The files whose code a process had mapped, and the modules of their mappings.
 use Rattle.std.specs.Prelude.{◌≡◌, ℕ, ◌-◌, List, [], ◌∷◌, Bool, true, false, nat_lt, if◌then◌else◌, Option, Some, None, slice_get}
-use Rattle.framehop_cfi.specs.ExplicitSections.{table_of}
-use Rattle.framehop_cfi.specs.declared.section.ExplicitModuleSectionInfo.{ExplicitModuleSectionInfo}
+use Rattle.framehop_bytes.specs.ExplicitSections.{table_of}
+use Rattle.framehop_bytes.specs.declared.section.ExplicitModuleSectionInfo.{ExplicitModuleSectionInfo}
 use Rattle.framehop_elf.specs.Segment.{base_of}
 use Rattle.framehop_elf.specs.declared.program_header.ProgramHeader.{ProgramHeader}
 use Rattle.framehop.specs.ModuleData.{unwind_data_in}

@@ -5,9 +5,9 @@ ghost use Rattle.framehop_core_stacks.specs.Dump.{memory_view};
 ghost use Rattle.framehop_core_stacks.specs.Image.{head_at, segments_in, build_id_in, is_eh_frame_header, memory_at, memory_after, call_frames_at, call_frames_view, range_of, sections_of, sections_in};
 
 use crate::dump::DumpedMemory;
+use framehop_bytes::section::ExplicitModuleSectionInfo;
 use framehop_cfi::header::TableLayout;
 use framehop_cfi::pointer::SectionBaseAddresses;
-use framehop_cfi::section::ExplicitModuleSectionInfo;
 use framehop_core_file::memory::{bytes_at, bytes_from};
 use framehop_elf::build_id::read_build_id;
 use framehop_elf::error::ElfError;

@@ -1,10 +1,10 @@
 -- Why the length of an entry can't be read.
 use Rattle.std.proofs.Common.{◌≡◌, ℕ, ◌+◌, Bool, true, false, List, length, Result, Ok, Err, subst, leb, ltb, ◌==◌, if◌then◌else◌}
-use Rattle.framehop_cfi.specs.Bytes.{◌>>=◌, le4, le8, u32_at, u64_at}
+use Rattle.framehop_bytes.specs.Bytes.{◌>>=◌, le4, le8, u32_at, u64_at}
 use Rattle.framehop_cfi.specs.EntryExtent.{held, long_extent, extent_at}
 use Rattle.framehop_cfi.specs.declared.extent.EntryExtent.{EntryExtent}
-use Rattle.framehop_cfi.specs.declared.read_error.ReadError.{ReadError}
-use Rattle.framehop_cfi.specs.declared.read_error.ReadError.TheVariants.{Eof, BadLength}
+use Rattle.framehop_bytes.specs.declared.read_error.ReadError.{ReadError}
+use Rattle.framehop_bytes.specs.declared.read_error.ReadError.TheVariants.{Eof, BadLength}
 use Rattle.framehop_dwarf.specs.declared.index.DwarfCfiIndexError.TheVariants.{Gimli}
 use Rattle.framehop_dwarf.specs.Index.{IsIndexRefusal, reserved_length, cut_off}
 

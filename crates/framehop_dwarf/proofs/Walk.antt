@@ -5,14 +5,14 @@ use Rattle.std.proofs.lemmas.Bool.Decides.{nat_tests}
 use Rattle.framehop_cfi.specs.Entry.{fde_at}
 use Rattle.framehop_cfi.specs.declared.entry.FrameDescriptionEntry.{FrameDescriptionEntry}
 use Rattle.std.proofs.lemmas.List.{append-nil, map_push}
-use Rattle.framehop_cfi.specs.Bytes.{◌>>=◌}
+use Rattle.framehop_bytes.specs.Bytes.{◌>>=◌}
 use Rattle.framehop_cfi.specs.EntryExtent.{extent_at, is_zero_length}
 use Rattle.framehop_cfi.specs.Section.{Section}
 use Rattle.framehop_cfi.specs.Entries.{Cut, cut_from, cut, after_zero}
 use Rattle.framehop_cfi.specs.declared.extent.EntryExtent.{EntryExtent}
 use Rattle.framehop_cfi.specs.declared.entry.UnwindSectionType.{UnwindSectionType}
 use Rattle.framehop_cfi.specs.declared.entry.UnwindSectionType.TheVariants.{EhFrame, DebugFrame}
-use Rattle.framehop_cfi.specs.declared.read_error.ReadError.{ReadError}
+use Rattle.framehop_bytes.specs.declared.read_error.ReadError.{ReadError}
 use Rattle.framehop_dwarf.specs.declared.index.DwarfCfiIndexError.{DwarfCfiIndexError}
 use Rattle.framehop_dwarf.specs.declared.index.DwarfCfiIndexError.TheVariants.{Gimli}
 use Rattle.framehop_dwarf.specs.Index.{pair_at, pair_if_read, pairs_at, pairs_of, unless_refused, pair_of_key}

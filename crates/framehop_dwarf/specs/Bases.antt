@@ -2,7 +2,7 @@
 use Rattle.std.specs.Prelude.{ℕ, List, codes, Option, Some, None}
 use Rattle.std.specs.Option.{option_or}
 use Rattle.std.specs.declared.ops.Range.{Range}
-use Rattle.framehop_cfi.specs.SectionTable.{Entry, SectionTable, range_of}
+use Rattle.framehop_bytes.specs.SectionTable.{Entry, SectionTable, range_of}
 use Rattle.framehop_cfi.specs.Section.{Section, section_of}
 use Rattle.framehop_cfi.specs.declared.entry.UnwindSectionType.{UnwindSectionType}
 use Rattle.framehop_cfi.specs.declared.pointer.BaseAddresses.{BaseAddresses}

@@ -2,8 +2,8 @@
 ghost use Rattle.std.specs.Prelude.{◌≡◌};
 ghost use Rattle.framehop_dwarf.specs.Bases.{start_of, base_addresses, range_under, base_addresses_of};
 
+use framehop_bytes::section::ModuleSectionInfo;
 use framehop_cfi::pointer::BaseAddresses;
-use framehop_cfi::section::ModuleSectionInfo;
 use std::ops::Range;
 
 /// Returns the starts of the sections that pointers count from, as SVMAs; 0 for one that is not there.

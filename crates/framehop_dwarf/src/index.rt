@@ -6,19 +6,19 @@ ghost use Rattle.framehop_cfi.specs.Entry.{cie_at, head_at, fde_of_head};
 ghost use Rattle.framehop_dwarf.specs.Index.{pair_of, pair_if_read, pair_at, pairs_of, pair_of_key, fde_offset_for, IsFdeFor, IsKnown, IsIndexOf, IsIndexOfAll, IsIndexRefusal, HasNoIndex};
 ghost use Rattle.framehop_dwarf.specs.Blocks.{last_start, halvings, IsAscending, AreBelow, AreFrom, IsCountBelow, IsBlockShift, AreBlocks, IsSearched, IsLookedAt, IsWithinDigits};
 ghost use Rattle.framehop_dwarf.specs.declared.index.DwarfCfiIndexError.TheVariants.{Gimli};
-ghost use Rattle.framehop_cfi.specs.declared.read_error.ReadError.TheVariants.{OutOfMemory};
+ghost use Rattle.framehop_bytes.specs.declared.read_error.ReadError.TheVariants.{OutOfMemory};
 ghost use Rattle.framehop_dwarf.specs.Bases.{section_in};
 ghost use Rattle.framehop_cfi.specs.declared.entry.UnwindSectionType.TheVariants.{EhFrame, DebugFrame};
 ghost use Rattle.framehop_cfi.specs.declared.entry.EntryHead.TheVariants.{Fde};
 
 use crate::bases::base_addresses_for_sections;
+use framehop_bytes::read_error::ReadError;
+use framehop_bytes::section::ModuleSectionInfo;
 use framehop_cfi::entry::{
     CommonInformationEntry, EntryHead, FrameDescriptionEntry, UnwindSection, UnwindSectionType,
 };
 use framehop_cfi::extent::{EntryExtent, read_extent};
 use framehop_cfi::pointer::BaseAddresses;
-use framehop_cfi::read_error::ReadError;
-use framehop_cfi::section::ModuleSectionInfo;
 use std::alloc::{AllocError, Global};
 use std::marker::Model;
 use thiserror::Error;

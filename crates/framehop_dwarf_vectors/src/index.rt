@@ -5,9 +5,9 @@ use crate::sections::{
     CUT_DEBUG_FRAME, DEBUG_FRAME, FOUR_FDES, GREAT_LENGTH, ONE_FDE, OTHER_AUGMENTATION, OTHER_CIE,
     OTHER_VERSION, RESERVED_LENGTH, TWO_FDES, at,
 };
+use framehop_bytes::read_error::ReadError;
+use framehop_bytes::section::ModuleSectionInfo;
 use framehop_cfi::entry::UnwindSectionType;
-use framehop_cfi::read_error::ReadError;
-use framehop_cfi::section::ModuleSectionInfo;
 use framehop_dwarf::index::{DwarfCfiIndex, DwarfCfiIndexError};
 use std::alloc::Global;
 use std::ops::Range;

@@ -1,5 +1,5 @@
 //! The value of a register by a rule, and expressions that do not lie in the bytes.
-use framehop_cfi::read_error::ReadError;
+use framehop_bytes::read_error::ReadError;
 use framehop_cfi::rule::{Expression, Register, RegisterRule};
 use framehop_cfi::storage::StoreOnHeap;
 use framehop_core::x86_64::UnwindRegsX86_64;

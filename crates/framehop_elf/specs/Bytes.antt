@@ -1,7 +1,7 @@
 -- Blocks of a file, and tables, whose entries have one size and lie one after another.
 use Rattle.std.specs.Prelude.{◌≡◌, ℕ, ◌+◌, ◌*◌, List, length, take, drop, Result, Ok, Err, nat_le, if◌then◌else◌}
 use Rattle.std.specs.Simd.{first_chunks}
-use Rattle.framehop_cfi.specs.Bytes.{◌>>=◌}
+use Rattle.framehop_bytes.specs.Bytes.{◌>>=◌}
 use Rattle.framehop_elf.specs.declared.error.ElfError.{ElfError}
 use Rattle.framehop_elf.specs.declared.error.ElfError.TheVariants.{Eof, OutOfMemory}
 

@@ -1,6 +1,6 @@
 -- The ELF header (gABI, chapter 4, "ELF Header").
 use Rattle.std.specs.Prelude.{ℕ, List, slice_index, not, Result, Ok, Err, ◌==◌, if◌then◌else◌}
-use Rattle.framehop_cfi.specs.Bytes.{◌>>=◌, le2, le4, le8}
+use Rattle.framehop_bytes.specs.Bytes.{◌>>=◌, le2, le4, le8}
 use Rattle.framehop_elf.specs.Numbers.{ELFMAG, ELFCLASS64, ELFDATA2LSB, EV_CURRENT}
 use Rattle.framehop_elf.specs.Bytes.{block_at}
 use Rattle.framehop_elf.specs.declared.error.ElfError.{ElfError}

@@ -1,6 +1,6 @@
 -- Program headers (gABI, chapter 5, "Program Header").
 use Rattle.std.specs.Prelude.{ℕ, List, map, Result, Ok, Err, not, ◌&&◌, ◌==◌, if◌then◌else◌}
-use Rattle.framehop_cfi.specs.Bytes.{◌>>=◌, le4, le8}
+use Rattle.framehop_bytes.specs.Bytes.{◌>>=◌, le4, le8}
 use Rattle.framehop_elf.specs.Numbers.{PN_XNUM}
 use Rattle.framehop_elf.specs.Bytes.{table_at}
 use Rattle.framehop_elf.specs.SectionHeader.{first_section_of}

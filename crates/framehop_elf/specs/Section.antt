@@ -2,7 +2,7 @@
 use Rattle.std.specs.Prelude.{ℕ, List, [], drop, Option, Some, None, bit_and, not, nat_eq, Result, Ok, Err, ◌==◌, if◌then◌else◌}
 use Rattle.std.specs.List.{before_first, find, slice_get}
 use Rattle.std.specs.Cmp.Lexicographic.{pointwise}
-use Rattle.framehop_cfi.specs.Bytes.{◌>>=◌}
+use Rattle.framehop_bytes.specs.Bytes.{◌>>=◌}
 use Rattle.framehop_elf.specs.Numbers.{SHN_UNDEF, SHN_XINDEX, SHT_NOBITS, SHF_COMPRESSED}
 use Rattle.framehop_elf.specs.Bytes.{block_at}
 use Rattle.framehop_elf.specs.SectionHeader.{first_section_of}

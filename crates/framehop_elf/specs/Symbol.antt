@@ -1,7 +1,7 @@
 -- Symbols of functions (gABI, chapter 4, "Symbol Table").
 use Rattle.std.specs.Prelude.{ℕ, ◌+◌, ◌-◌, ◌/◌, ◌%◌, List, [], ◌∷◌, length, map, filter, Bool, not, Option, Some, None, option_map, option_and_then, unwrap_or, slice_get, Result, Ok, Err, slice_index, nat_le, nat_lt, ◌&&◌, ◌||◌, ◌==◌, if◌then◌else◌}
 use Rattle.std.specs.Simd.{first_chunks}
-use Rattle.framehop_cfi.specs.Bytes.{◌>>=◌, le2, le4, le8}
+use Rattle.framehop_bytes.specs.Bytes.{◌>>=◌, le2, le4, le8}
 use Rattle.framehop_elf.specs.Numbers.{SHN_UNDEF, STT_FUNC, STT_GNU_IFUNC}
 use Rattle.framehop_elf.specs.Section.{contents_of}
 use Rattle.framehop_elf.specs.declared.error.ElfError.{ElfError}

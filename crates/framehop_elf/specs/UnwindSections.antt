@@ -3,7 +3,7 @@ use Rattle.std.specs.Prelude.{ℕ, ◌+◌, ◌-◌, ◌^◌, ◌==◌, if◌the
 use Rattle.std.specs.Result.{result_ok}
 use Rattle.std.specs.declared.alloc.Global.{Global}
 use Rattle.std.specs.declared.ops.Range.{Range}
-use Rattle.framehop_cfi.specs.declared.section.ExplicitModuleSectionInfo.{ExplicitModuleSectionInfo}
+use Rattle.framehop_bytes.specs.declared.section.ExplicitModuleSectionInfo.{ExplicitModuleSectionInfo}
 use Rattle.framehop_elf.specs.Numbers.{SHT_NOBITS}
 use Rattle.framehop_elf.specs.Section.{contents_of, section_called}
 use Rattle.framehop_elf.specs.declared.section_header.SectionHeader.{SectionHeader}

@@ -1,15 +1,15 @@
 //! Blocks and tables of a file, and the numbers of an entry.
 ghost use Rattle.std.specs.Prelude.{◌≡◌, ◌+◌, ◌*◌, ◌≤◌, Ok, Err, MatchResult, IfOk, length, drop};
-ghost use Rattle.framehop_cfi.specs.Bytes.{le2, le4, le8};
+ghost use Rattle.framehop_bytes.specs.Bytes.{le2, le4, le8};
 ghost use Rattle.framehop_elf.specs.Bytes.{block_at};
 
 use crate::error::ElfError;
-use framehop_cfi::bytes;
-use framehop_cfi::bytes::front;
+use framehop_bytes::bytes;
+use framehop_bytes::bytes::front;
 
 /// Returns the number of two bytes at an offset.
 #[inline]
-#[tactic(auto, unfolding(framehop_cfi::specs::Bytes::u16_at))]
+#[tactic(auto, unfolding(framehop_bytes::specs::Bytes::u16_at))]
 pub fn u16_at(entry: &[u8], at: usize) -> u16
     requires { at + 2 ≤ length entry.now }
     ensures { result ≡ le2 entry.now at }
@@ -19,7 +19,7 @@ pub fn u16_at(entry: &[u8], at: usize) -> u16
 
 /// Returns the number of four bytes at an offset.
 #[inline]
-#[tactic(auto, unfolding(framehop_cfi::specs::Bytes::u32_at))]
+#[tactic(auto, unfolding(framehop_bytes::specs::Bytes::u32_at))]
 pub fn u32_at(entry: &[u8], at: usize) -> u32
     requires { at + 4 ≤ length entry.now }
     ensures { result ≡ le4 entry.now at }
@@ -29,7 +29,7 @@ pub fn u32_at(entry: &[u8], at: usize) -> u32
 
 /// Returns the number of eight bytes at an offset.
 #[inline]
-#[tactic(auto, unfolding(framehop_cfi::specs::Bytes::u64_at))]
+#[tactic(auto, unfolding(framehop_bytes::specs::Bytes::u64_at))]
 pub fn u64_at(entry: &[u8], at: usize) -> u64
     requires { at + 8 ≤ length entry.now }
     ensures { result ≡ le8 entry.now at }

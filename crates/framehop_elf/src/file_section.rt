@@ -8,8 +8,8 @@ use crate::bytes::back;
 use crate::error::ElfError;
 use crate::section::{read_contents, size_in_file};
 use crate::section_header::SectionHeader;
-use framehop_cfi::bytes::front;
-use framehop_cfi::section::SectionBytes;
+use framehop_bytes::bytes::front;
+use framehop_bytes::section::SectionBytes;
 use std::rc::Rc;
 
 /// What a section of a file holds. Many sections share the bytes of one file.

@@ -7,7 +7,7 @@ use crate::bytes::{back, read_block};
 use crate::error::ElfError;
 use crate::header::FileHeader;
 use crate::section_header::{SectionHeader, read_first_section};
-use framehop_cfi::bytes::front;
+use framehop_bytes::bytes::front;
 
 /// `SHT_NOBITS`: a section that takes no space in the file.
 const SHT_NOBITS: u32 = 8;

@@ -6,7 +6,7 @@ ghost use Rattle.framehop_elf.specs.UnwindSections.{range_in, stored_in, stored_
 use crate::error::ElfError;
 use crate::section::{read_contents, section_by_name};
 use crate::section_header::SectionHeader;
-use framehop_cfi::section::ExplicitModuleSectionInfo;
+use framehop_bytes::section::ExplicitModuleSectionInfo;
 use std::alloc::Global;
 use std::ops::Range;
 

@@ -15,7 +15,7 @@ use crate::text::frame_text;
 use crate::words::Words;
 use framehop::unwinder::UnwinderInternal;
 use framehop::{AllocationPolicy, Error, FrameAddress, Module};
-use framehop_cfi::section::SectionBytes;
+use framehop_bytes::section::SectionBytes;
 use std::alloc::{AllocError, Global};
 
 /// Returns the note of a frame: what the module that covers it tells, or why no module does.

@@ -7,7 +7,7 @@ use crate::rule_text::{DescribeRule, Described};
 use crate::told::Told;
 use crate::uncovered::{Uncovered, last_module_by};
 use framehop::{FrameAddress, Module};
-use framehop_cfi::section::SectionBytes;
+use framehop_bytes::section::SectionBytes;
 use framehop_core::unwind_rule::UnwindRule;
 use std::alloc::{AllocError, Global};
 

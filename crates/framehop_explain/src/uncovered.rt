@@ -5,7 +5,7 @@ ghost use Rattle.framehop.specs.Modules.{last_of, starting_by};
 ghost use Rattle.framehop_explain.specs.Uncovered.{uncovered_by};
 
 use framehop::Module;
-use framehop_cfi::section::SectionBytes;
+use framehop_bytes::section::SectionBytes;
 
 /// Why the last module that starts at or below an address does not cover it.
 #[derive(Clone, Copy, Debug, PartialEq, Eq)]

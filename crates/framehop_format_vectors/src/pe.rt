@@ -1,6 +1,6 @@
 //! What only calls of `unwind_frame` show: which words of the stack are read, and in which order; that no memory is asked
 //! for; which section has the bytes of an address. Rules, and what is refused, are cases: `cases/rules/pe_*.json`.
-use framehop_cfi::section::SectionBytes;
+use framehop_bytes::section::SectionBytes;
 use framehop_core::unwind_result::UnwindResult;
 use framehop_core::x86_64::{ArchX86_64, UnwindRegsX86_64, UnwindRuleX86_64};
 use framehop_pe::pe::{DataAtRvaRange, PeSections, PeUnwinderError, PeUnwinding};

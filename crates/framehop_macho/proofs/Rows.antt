@@ -6,7 +6,7 @@ use Rattle.std.proofs.lemmas.List.{get_or_append_left, get_or-append-add}
 use Rattle.std.proofs.lemmas.List.FromFn.{length-map-range_with_len, get_or-map-range_with_len}
 use Rattle.std.proofs.lemmas.Nat.{and_mask}
 use Rattle.std.proofs.lemmas.Option.{slice_get-get_or, slice_get_past, slice_get_within, get_or_from_slice_get}
-use Rattle.framehop_cfi.specs.Bytes.{le4}
+use Rattle.framehop_bytes.specs.Bytes.{le4}
 use Rattle.framehop_macho.specs.Table.{column, index_starts, regular_starts, compressed_starts, opcodes_of}
 use Rattle.framehop_macho.specs.UnwindInfo.{opcode_by_number, found_opcode}
 use Rattle.framehop_macho.specs.declared.unwind_info.error.CompactReadError.TheVariants.{BadEncodingIndex}

@@ -1,8 +1,8 @@
 -- Tables of fixed rows inside the bytes of `__unwind_info`, and the row of an address in one.
 use Rattle.std.specs.Prelude.{◌≡◌, ◌<◌, ◌≤◌, ℕ, ◌+◌, ◌*◌, ◌/◌, ◌%◌, ◌^◌, ◌&&◌, nat_le, nat_lt, List, length, map, take, drop, slice_index, slice_get, if◌then◌else◌, Option, Some, None, IfSome, Result, Ok, Err}
 use Rattle.std.specs.List.{range_with_len}
-use Rattle.framehop_cfi.specs.Bytes.{le4}
-use Rattle.framehop_cfi.specs.Place.{place_of}
+use Rattle.framehop_bytes.specs.Bytes.{le4}
+use Rattle.framehop_bytes.specs.Place.{place_of}
 use Rattle.framehop_macho.specs.declared.unwind_info.error.CompactReadError.{CompactReadError}
 use Rattle.framehop_macho.specs.declared.unwind_info.error.CompactReadError.TheVariants.{Eof}
 use Rattle.framehop_macho.specs.declared.unwind_info.table.Row.{Row}

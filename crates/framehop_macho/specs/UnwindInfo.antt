@@ -1,6 +1,6 @@
 -- The section `__unwind_info` (Apple, mach-o/compact_unwind_encoding.h): which function an address is in.
 use Rattle.std.specs.Prelude.{◌≡◌, ◌⊎◌, ℕ, ◌≤◌, ◌<◌, ◌+◌, ◌-◌, ◌*◌, ◌/◌, ◌^◌, ◌==◌, nat_le, nat_lt, List, ◌++◌, length, slice_get, if◌then◌else◌, Option, Some, None, Result, Ok, Err, unwrap_or}
-use Rattle.framehop_cfi.specs.Bytes.{◌>>=◌, le2, le4}
+use Rattle.framehop_bytes.specs.Bytes.{◌>>=◌, le2, le4}
 use Rattle.framehop_macho.specs.Table.{part_of, index_starts, regular_starts, compressed_starts, opcodes_of, row_of, IsBefore}
 use Rattle.framehop_macho.specs.declared.unwind_info.error.CompactReadError.{CompactReadError}
 use Rattle.framehop_macho.specs.declared.unwind_info.error.CompactReadError.TheVariants.{Eof, BadVersion, BadPageKind, BadEncodingIndex, AddressTooBig}

@@ -1,14 +1,14 @@
 -- Compact unwind info on x86_64 (Apple, compact_unwind_encoding.h, UNWIND_X86_64_..): opcodes and their rules.
 use Rattle.std.specs.Prelude.{ℕ, ◌+◌, ◌-◌, ◌*◌, ◌/◌, ◌%◌, ◌^◌, ◌==◌, ◌&&◌, nat_eq, nat_le, nat_lt, pos, ◌-ℤ◌, Bool, true, false, List, [], ◌∷◌, length, if◌then◌else◌, Option, Some, None, Result, Ok, Err}
 use Rattle.std.specs.List.{starts_with}
-use Rattle.framehop_cfi.specs.Bytes.{le4}
+use Rattle.framehop_bytes.specs.Bytes.{le4}
 use Rattle.framehop_core.specs.declared.x86_64.unwind_rule.UnwindRuleX86_64.{UnwindRuleX86_64}
 use Rattle.framehop_core.specs.declared.x86_64.unwind_rule.UnwindRuleX86_64.TheVariants.{JustReturn, OffsetSp, OffsetSpAndRestoreBp, UseFramePointer}
 use Rattle.framehop_core.specs.Bits.{bits_at}
 use Rattle.framehop_analysis.specs.X86_64.Analysed.{analysed}
 use Rattle.framehop_macho.specs.Answer.{Answer, exec_rule, rule_or}
 use Rattle.framehop_macho.specs.SavedRegisters.{saved_registers, bp_position}
-use Rattle.framehop_cfi.specs.Bytes.{◌>>=◌}
+use Rattle.framehop_bytes.specs.Bytes.{◌>>=◌}
 use Rattle.framehop_macho.specs.declared.macho.CompactUnwindInfoUnwinderError.{CompactUnwindInfoUnwinderError}
 use Rattle.framehop_macho.specs.declared.macho.CompactUnwindInfoUnwinderError.TheVariants.{FunctionHasNoInfo, BpOffsetDoesNotFit, BadOpcodeKind, NoTextBytesToLookUpIndirectStackOffset, IndirectStackOffsetOutOfBounds, StackAdjustOverflow, StackSizeDoesNotFit, InvalidFrameless}
 use Rattle.framehop_macho.specs.declared.macho.CuiUnwindResult.TheVariants.{ExecRule, NeedDwarf}

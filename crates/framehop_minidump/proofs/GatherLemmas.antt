@@ -2,7 +2,7 @@
 use Rattle.std.proofs.Common.{◌≡◌, ℕ, suc, ◌+◌, ◌^◌, ◌<◌, Bool, true, false, List, [], ◌∷◌, ◌++◌, drop, length, Option, Some, None, Result, Ok, Err, Vec, refl, ap, sym, ◌∙◌, get_or, nat_lt, if◌then◌else◌, arith}
 use Rattle.std.proofs.Math.Seq.{drop-cons}
 use Rattle.std.specs.declared.alloc.Global.{Global}
-use Rattle.framehop_cfi.specs.Bytes.{◌>>=◌, le8}
+use Rattle.framehop_bytes.specs.Bytes.{◌>>=◌, le8}
 use Rattle.framehop_minidump.specs.declared.error.MinidumpError.{MinidumpError}
 use Rattle.framehop_minidump.specs.declared.error.MinidumpError.TheVariants.{OffsetTooBig}
 use Rattle.framehop_minidump.specs.declared.memory.MemoryRange.{MemoryRange}

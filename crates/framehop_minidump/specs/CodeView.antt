@@ -1,6 +1,6 @@
 -- Which file a module is of: MDCVInfoPDB70 and MDCVInfoELF of Breakpad's minidump_format.h.
 use Rattle.std.specs.Prelude.{ℕ, List, length, take, drop, Option, Some, None, Result, Ok, Err, nat_lt, ◌==◌, if◌then◌else◌}
-use Rattle.framehop_cfi.specs.Bytes.{◌>>=◌, le4}
+use Rattle.framehop_bytes.specs.Bytes.{◌>>=◌, le4}
 use Rattle.framehop_elf.specs.Section.{string_of}
 use Rattle.framehop_minidump.specs.Numbers.{RSDS, MD_CVINFOELF_SIGNATURE}
 use Rattle.framehop_minidump.specs.Location.{located}

@@ -1,6 +1,6 @@
 -- Why a minidump was made: MINIDUMP_EXCEPTION_STREAM, of 168 bytes, in which MINIDUMP_EXCEPTION is at 8.
 use Rattle.std.specs.Prelude.{ℕ, List, length, Option, Some, None, not, Result, Ok, Err, nat_lt, ◌&&◌, ◌==◌, if◌then◌else◌}
-use Rattle.framehop_cfi.specs.Bytes.{◌>>=◌, le4, le8}
+use Rattle.framehop_bytes.specs.Bytes.{◌>>=◌, le4, le8}
 use Rattle.framehop_minidump.specs.Numbers.{ExceptionStream, EXCEPTION_SIZE}
 use Rattle.framehop_minidump.specs.Location.{location_at, located}
 use Rattle.framehop_minidump.specs.Stream.{stream_of}

@@ -1,6 +1,6 @@
 -- The header of a minidump: MINIDUMP_HEADER, of 32 bytes.
 use Rattle.std.specs.Prelude.{ℕ, List, not, Result, Ok, Err, ◌==◌, if◌then◌else◌}
-use Rattle.framehop_cfi.specs.Bytes.{◌>>=◌, le2, le4}
+use Rattle.framehop_bytes.specs.Bytes.{◌>>=◌, le2, le4}
 use Rattle.framehop_minidump.specs.Numbers.{MINIDUMP_SIGNATURE, MINIDUMP_VERSION}
 use Rattle.framehop_minidump.specs.Location.{block_at}
 use Rattle.framehop_minidump.specs.declared.error.MinidumpError.{MinidumpError}

@@ -1,7 +1,7 @@
 -- Blocks of a file, and entries of one size that lie one after another.
 use Rattle.std.specs.Prelude.{◌≡◌, ℕ, ◌+◌, ◌/◌, List, length, take, drop, Result, Ok, Err, nat_le, if◌then◌else◌}
 use Rattle.std.specs.Simd.{first_chunks}
-use Rattle.framehop_cfi.specs.Bytes.{le4}
+use Rattle.framehop_bytes.specs.Bytes.{le4}
 use Rattle.framehop_minidump.specs.declared.error.MinidumpError.{MinidumpError}
 use Rattle.framehop_minidump.specs.declared.error.MinidumpError.TheVariants.{Eof, OutOfMemory}
 use Rattle.framehop_minidump.specs.declared.location.Location.{Location}

@@ -1,7 +1,7 @@
 -- The memory of a process, as far as a minidump has it: MINIDUMP_MEMORY_LIST and MINIDUMP_MEMORY64_LIST.
 use Rattle.std.specs.Prelude.{ℕ, ◌+◌, ◌-◌, ◌*◌, ◌^◌, List, [], ◌∷◌, ◌++◌, map, length, take, drop, Bool, Option, Some, None, option_map, Result, Ok, Err, nat_le, nat_lt, ◌&&◌, ◌==◌, if◌then◌else◌}
 use Rattle.std.specs.List.{find}
-use Rattle.framehop_cfi.specs.Bytes.{◌>>=◌, le4, le8}
+use Rattle.framehop_bytes.specs.Bytes.{◌>>=◌, le4, le8}
 use Rattle.framehop_minidump.specs.Numbers.{MemoryListStream, Memory64ListStream, MEMORY_DESCRIPTOR_SIZE}
 use Rattle.framehop_minidump.specs.Location.{located, entries_in}
 use Rattle.framehop_minidump.specs.Stream.{stream_of}

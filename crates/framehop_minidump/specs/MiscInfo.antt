@@ -1,6 +1,6 @@
 -- Which process it was: MINIDUMP_MISC_INFO.
 use Rattle.std.specs.Prelude.{ℕ, List, length, Option, Some, None, bit_and, Result, Ok, Err, nat_lt, ◌==◌, if◌then◌else◌}
-use Rattle.framehop_cfi.specs.Bytes.{◌>>=◌, le4}
+use Rattle.framehop_bytes.specs.Bytes.{◌>>=◌, le4}
 use Rattle.framehop_minidump.specs.Numbers.{MiscInfoStream, MINIDUMP_MISC1_PROCESS_ID}
 use Rattle.framehop_minidump.specs.Location.{located}
 use Rattle.framehop_minidump.specs.Stream.{stream_of}

@@ -1,7 +1,7 @@
 -- The modules of a process: MINIDUMP_MODULE, of 108 bytes.
 use Rattle.std.specs.Prelude.{ℕ, ◌-◌, ◌%◌, List, map, Bool, Option, Some, None, option_and_then, Result, Ok, nat_le, ◌==◌, if◌then◌else◌}
 use Rattle.std.specs.List.{find}
-use Rattle.framehop_cfi.specs.Bytes.{◌>>=◌, le4, le8}
+use Rattle.framehop_bytes.specs.Bytes.{◌>>=◌, le4, le8}
 use Rattle.framehop_elf.specs.Numbers.{PT_LOAD}
 use Rattle.framehop_elf.specs.declared.program_header.ProgramHeader.{ProgramHeader}
 use Rattle.framehop_minidump.specs.Numbers.{ModuleListStream, MODULE_SIZE}

@@ -1,6 +1,6 @@
 -- The registers of a thread: CONTEXT of x64 and ARM64_NT_CONTEXT of winnt.h, and Breakpad's contexts of the same forms.
 use Rattle.std.specs.Prelude.{ℕ, List, length, Bool, Option, Some, None, bit_and, nat_le, ◌&&◌, ◌||◌, ◌==◌, if◌then◌else◌}
-use Rattle.framehop_cfi.specs.Bytes.{le4, le8}
+use Rattle.framehop_bytes.specs.Bytes.{le4, le8}
 use Rattle.framehop_core.specs.X86_64.Registers.{Registers as RegistersX86_64}
 use Rattle.framehop_core.specs.Aarch64.Registers.{Registers as RegistersAarch64, strip_ptr_auth}
 use Rattle.framehop_minidump.specs.Numbers.{CONTEXT_AMD64_FLAGS, CONTEXT_ARM64_CONTROL, MD_CONTEXT_ARM64_INTEGER_OLD}

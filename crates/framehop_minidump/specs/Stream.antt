@@ -1,7 +1,7 @@
 -- The streams of a minidump: MINIDUMP_DIRECTORY, of 12 bytes.
 use Rattle.std.specs.Prelude.{ℕ, ◌*◌, List, map, Option, Result, Ok, ◌==◌}
 use Rattle.std.specs.List.{find}
-use Rattle.framehop_cfi.specs.Bytes.{◌>>=◌, le4}
+use Rattle.framehop_bytes.specs.Bytes.{◌>>=◌, le4}
 use Rattle.framehop_minidump.specs.Numbers.{DIRECTORY_SIZE}
 use Rattle.framehop_minidump.specs.Location.{block_at, location_at, entries_in}
 use Rattle.framehop_minidump.specs.Header.{header_of}

@@ -2,7 +2,7 @@
 use Rattle.std.specs.Prelude.{ℕ, ◌+◌, ◌%◌, List, map, not, Result, Ok, Err, ◌==◌, if◌then◌else◌}
 use Rattle.std.specs.Char.Utf16.{utf16_lossy_chars}
 use Rattle.std.specs.Str.{encode_utf8_all}
-use Rattle.framehop_cfi.specs.Bytes.{◌>>=◌, le2, le4}
+use Rattle.framehop_bytes.specs.Bytes.{◌>>=◌, le2, le4}
 use Rattle.framehop_minidump.specs.Location.{block_at, entries_in}
 use Rattle.framehop_minidump.specs.declared.error.MinidumpError.{MinidumpError}
 use Rattle.framehop_minidump.specs.declared.error.MinidumpError.TheVariants.{OddString}

@@ -1,6 +1,6 @@
 -- The threads of a process: MINIDUMP_THREAD, of 48 bytes.
 use Rattle.std.specs.Prelude.{ℕ, List, map, Result, Ok}
-use Rattle.framehop_cfi.specs.Bytes.{◌>>=◌, le4, le8}
+use Rattle.framehop_bytes.specs.Bytes.{◌>>=◌, le4, le8}
 use Rattle.framehop_minidump.specs.Numbers.{ThreadListStream, THREAD_SIZE}
 use Rattle.framehop_minidump.specs.Location.{location_at, entries_in}
 use Rattle.framehop_minidump.specs.List.{list_of}

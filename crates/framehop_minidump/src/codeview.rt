@@ -4,7 +4,7 @@ ghost use Rattle.framehop_minidump.specs.CodeView.{codeview_view, codeview_in, c
 
 use crate::error::MinidumpError;
 use crate::location::{Location, read_located};
-use framehop_cfi::bytes::front;
+use framehop_bytes::bytes::front;
 use framehop_elf::bytes::{back, u32_at};
 use framehop_elf::section::string_at;
 

@@ -3,7 +3,7 @@ ghost use Rattle.std.specs.Prelude.{◌≡◌, ◌+◌, ◌≤◌, Ok, Err, Matc
 ghost use Rattle.framehop_minidump.specs.Location.{block_at, location_at, located};
 
 use crate::error::MinidumpError;
-use framehop_cfi::bytes::front;
+use framehop_bytes::bytes::front;
 use framehop_elf::bytes::{back, u32_at};
 
 /// Where a part of the file is: `MINIDUMP_LOCATION_DESCRIPTOR`.

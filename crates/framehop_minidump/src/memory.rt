@@ -10,7 +10,7 @@ use crate::gathered::pushed;
 use crate::list::read_list;
 use crate::location::read_located;
 use crate::stream::{Stream, first_stream};
-use framehop_cfi::bytes::front;
+use framehop_bytes::bytes::front;
 use framehop_elf::bytes::{back, u32_at, u64_at};
 use std::alloc::{AllocError, Global};
 

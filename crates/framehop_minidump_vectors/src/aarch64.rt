@@ -2,7 +2,7 @@
 //! that it is made of; LLDB 19.1 prints the same registers, threads, memory and build ids, and the name of
 //! each module but the third, whose name is not UTF-16.
 use crate::pieces::file_of;
-use framehop_cfi::bytes::front;
+use framehop_bytes::bytes::front;
 use framehop_core::aarch64::{PtrAuthMask, UnwindRegsAarch64};
 use framehop_minidump::codeview::{CodeView, read_codeview};
 use framehop_minidump::exception::{Exception, context_of, read_exception};

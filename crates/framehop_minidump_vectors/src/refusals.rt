@@ -1,7 +1,7 @@
 //! Each refusal once, of the two minidumps with a few other bytes.
 use crate::pieces::change;
 use crate::{aarch64, x86_64};
-use framehop_cfi::bytes::front;
+use framehop_bytes::bytes::front;
 use framehop_minidump::codeview::read_codeview;
 use framehop_minidump::error::MinidumpError;
 use framehop_minidump::exception::{context_of, read_exception};

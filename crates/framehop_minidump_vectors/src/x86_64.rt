@@ -3,7 +3,7 @@
 //! that Linux has in `/proc` are 0. The expected values are those that LLDB printed of the process:
 //! `register read`, `thread list`, `thread backtrace all` and `image list`.
 use crate::pieces::file_of;
-use framehop_cfi::bytes::front;
+use framehop_bytes::bytes::front;
 use framehop_core::x86_64::Reg;
 use framehop_elf::program_header::ProgramHeader;
 use framehop_minidump::codeview::{CodeView, read_codeview};

@@ -1,6 +1,6 @@
 -- Chains read info by info.
 use Rattle.std.proofs.Common.{◌≡◌, ℕ, zero, suc, ◌-◌, ◌<◌, List, [], ◌∷◌, Option, Some, None, Result, Ok, Err, refl, ap, sym, ◌∙◌, subst, arith}
-use Rattle.framehop_cfi.specs.Bytes.{◌>>=◌}
+use Rattle.framehop_bytes.specs.Bytes.{◌>>=◌}
 use Rattle.framehop_pe.specs.Info.{Info}
 use Rattle.framehop_pe.specs.Chain.{info_at, chained_infos, infos_from, or_end}
 use Rattle.framehop_pe.specs.Sections.{Sections}

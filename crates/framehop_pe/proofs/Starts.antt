@@ -4,8 +4,8 @@ use Rattle.std.specs.Option.{option_and_then}
 use Rattle.std.proofs.lemmas.List.{get_or-drop, length-drop}
 use Rattle.std.proofs.lemmas.List.FromFn.{length-map-range_with_len, get_or-map-range_with_len}
 use Rattle.std.proofs.lemmas.Bool.Decides.{nat_tests}
-use Rattle.framehop_cfi.specs.Bytes.{le4}
-use Rattle.framehop_cfi.specs.Place.{place_of}
+use Rattle.framehop_bytes.specs.Bytes.{le4}
+use Rattle.framehop_bytes.specs.Place.{place_of}
 use Rattle.framehop_pe.specs.FunctionTable.{starts_of, function_at, function_of, covers}
 use Rattle.framehop_pe.specs.declared.unwind_info.function_table.RuntimeFunction.{RuntimeFunction}
 

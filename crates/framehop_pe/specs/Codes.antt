@@ -1,7 +1,7 @@
 -- The codes of unwind info (Microsoft, "x64 exception handling", struct UNWIND_CODE), and what undoes them.
 use Rattle.std.specs.Prelude.{ℕ, zero, suc, ◌+◌, ◌-◌, ◌*◌, ◌/◌, ◌%◌, Bool, true, false, ◌==◌, nat_le, if◌then◌else◌, List, [], ◌∷◌, length, slice_index, Option, Some, None, option_map, option_and_then}
-use Rattle.framehop_cfi.specs.ByCode.{by_code}
-use Rattle.framehop_cfi.specs.Bytes.{le2, le4}
+use Rattle.framehop_bytes.specs.ByCode.{by_code}
+use Rattle.framehop_bytes.specs.Bytes.{le2, le4}
 use Rattle.framehop_core.specs.declared.x86_64.unwindregs.Reg.{Reg}
 use Rattle.framehop_core.specs.declared.x86_64.unwindregs.Reg.TheVariants.{RSP}
 use Rattle.framehop_pe.specs.Register.{register_of}

@@ -2,7 +2,7 @@
 use Rattle.std.specs.Prelude.{ℕ, zero, suc, ◌+◌, ◌-◌, ◌/◌, ◌%◌, ℤ, pos, negsuc, ◌+ℤ◌, Bool, true, false, ◌==◌, ◌&&◌, nat_le, nat_lt, if◌then◌else◌, List, [], ◌∷◌, ◌++◌, length, drop, map, slice_index, option_to_list, Option, Some, None}
 use Rattle.std.specs.Int.{cast_signed, w8, w32}
 use Rattle.std.specs.Option.{option_or}
-use Rattle.framehop_cfi.specs.Bytes.{le4}
+use Rattle.framehop_bytes.specs.Bytes.{le4}
 use Rattle.framehop_core.specs.declared.x86_64.unwindregs.Reg.{Reg}
 use Rattle.framehop_core.specs.X86_64.RuleOfOperations.{register_eq}
 use Rattle.framehop_pe.specs.Register.{register_of}

@@ -1,6 +1,6 @@
 -- A frame of a function with x64 unwind info (Microsoft, "x64 exception handling", "Unwind procedure").
 use Rattle.std.specs.Prelude.{ℕ, ◌-◌, Bool, true, false, nat_le, if◌then◌else◌, List, [], length, take, map, Option, Some, None, option_map, Result, Ok, Err}
-use Rattle.framehop_cfi.specs.Bytes.{◌>>=◌}
+use Rattle.framehop_bytes.specs.Bytes.{◌>>=◌}
 use Rattle.framehop_core.specs.Memory.{Memory}
 use Rattle.framehop_core.specs.X86_64.Registers.{Registers}
 use Rattle.framehop_core.specs.X86_64.RuleOfOperations.{rule_of_operations}

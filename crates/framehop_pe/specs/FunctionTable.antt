@@ -1,8 +1,8 @@
 -- The function table of a PE module (Microsoft, "x64 exception handling", struct RUNTIME_FUNCTION).
 use Rattle.std.specs.Prelude.{ℕ, ◌*◌, ◌/◌, ◌&&◌, nat_le, nat_lt, List, length, map, if◌then◌else◌, Option, Some, None, option_and_then, drop}
 use Rattle.std.specs.List.{range_with_len}
-use Rattle.framehop_cfi.specs.Bytes.{le4}
-use Rattle.framehop_cfi.specs.Place.{place_of}
+use Rattle.framehop_bytes.specs.Bytes.{le4}
+use Rattle.framehop_bytes.specs.Place.{place_of}
 use Rattle.framehop_pe.specs.declared.unwind_info.function_table.RuntimeFunction.{RuntimeFunction}
 
 -- an entry at the front of bytes: three numbers of four bytes

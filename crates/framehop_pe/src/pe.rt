@@ -7,7 +7,7 @@ ghost use Rattle.framehop_pe.specs.declared.pe.PeUnwinderError.{PeUnwinderError}
 ghost use Rattle.framehop_pe.specs.Sections.{Sections, sections_of, placed_of, bytes_at, unwind_info_at, text_at};
 
 pub use crate::unwind_info::state::UnwindState;
-use framehop_cfi::section::SectionBytes;
+use framehop_bytes::section::SectionBytes;
 use framehop_core::arch::Arch;
 use framehop_core::unwind_result::UnwindResult;
 use framehop_core::unwind_rule::UnwindRule;

@@ -36,7 +36,7 @@ use Rattle.std.specs.List.{list_any, list_all}
 use Rattle.std.proofs.lemmas.Bool.Decides.{nat_tests, eqb_tells}
 use Rattle.std.proofs.lemmas.List.{length-map}
 use Rattle.std.proofs.lemmas.List.Folds.{list_all-map}
-use Rattle.framehop_cfi.specs.Bytes.{le8}
+use Rattle.framehop_bytes.specs.Bytes.{le8}
 use Rattle.framehop_recording.specs.Bytes.{offsets, word_at, has_bit}
 use Rattle.framehop_recording.specs.Attributes.{attribute_view}
 use Rattle.framehop_recording.specs.Events.{id_fields, is_like, are_told_apart}

@@ -2,7 +2,7 @@
 use Rattle.std.proofs.Common.{◌≡◌, ℕ, ◌+◌, ◌*◌, ◌≤◌, Bool, true, false, not, cond, ◌&&◌, ◌==◌, nat_le, List, [], ◌∷◌, length, Some, None, option_and_then, Result, Ok, Err, refl, ap, sym, ◌∙◌, arith}
 use Rattle.std.specs.Result.{result_unwrap_or}
 use Rattle.std.proofs.lemmas.Bool.{leb-true, le-leb}
-use Rattle.framehop_cfi.specs.Bytes.{◌>>=◌, le8}
+use Rattle.framehop_bytes.specs.Bytes.{◌>>=◌, le8}
 use Rattle.framehop_recording.specs.Numbers.{PERF_SAMPLE_IDENTIFIER, PERF_SAMPLE_IP, PERF_SAMPLE_TID, PERF_SAMPLE_TIME, PERF_RECORD_SAMPLE}
 use Rattle.framehop_recording.specs.Bytes.{sized_at, u32_at, u64_at, word_at, has_bit}
 use Rattle.framehop_recording.specs.Attributes.{AttributeView}

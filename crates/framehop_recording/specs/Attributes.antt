@@ -1,6 +1,6 @@
 -- The events of a recording: `perf_file_attr` of perf.data-file-format.txt, and in it `perf_event_attr` of perf_event.h.
 use Rattle.std.specs.Prelude.{ℕ, ◌+◌, ◌-◌, ◌/◌, List, Bool, not, Result, Ok, Err, nat_lt, ◌==◌, if◌then◌else◌}
-use Rattle.framehop_cfi.specs.Bytes.{◌>>=◌}
+use Rattle.framehop_bytes.specs.Bytes.{◌>>=◌}
 use Rattle.framehop_recording.specs.Fields.{ATTR_SIZE, ATTR_SAMPLE_TYPE, ATTR_FLAGS, ATTR_SAMPLE_REGS_USER}
 use Rattle.framehop_recording.specs.Bytes.{u32_at, u64_at, block_at, offsets, each_of, has_bit}
 use Rattle.framehop_recording.specs.Numbers.{SAMPLE_ID_ALL}

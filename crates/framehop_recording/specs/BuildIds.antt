@@ -1,7 +1,7 @@
 -- The build ids of the files that were mapped: the section of HEADER_BUILD_ID of perf.data-file-format.txt, and in
 -- it `perf_record_header_build_id` of perf's event.h.
 use Rattle.std.specs.Prelude.{ℕ, ◌+◌, ◌-◌, ◌*◌, ◌^◌, ◌%◌, List, [], take, drop, bit_and, count_ones, Option, Some, None, Result, Ok, Err, if◌then◌else◌}
-use Rattle.framehop_cfi.specs.Bytes.{◌>>=◌}
+use Rattle.framehop_bytes.specs.Bytes.{◌>>=◌}
 use Rattle.framehop_recording.specs.Numbers.{HEADER_BUILD_ID, PERF_RECORD_MISC_BUILD_ID_SIZE}
 use Rattle.framehop_recording.specs.Fields.{BUILD_ID_PID, BUILD_ID_BUILD_ID, BUILD_ID_SIZE, BUILD_ID_FILENAME}
 use Rattle.framehop_recording.specs.Bytes.{u32_at, block_at, each_of, has_bit}

@@ -1,6 +1,6 @@
 -- What is read at an offset of bytes, with the offset after it, or the refusal to give where the bytes end before it.
 use Rattle.std.specs.Prelude.{◌≡◌, ℕ, zero, suc, ◌+◌, ◌-◌, ◌*◌, List, [], ◌∷◌, length, take, drop, Bool, not, bit_and, ◌==◌, Option, Some, None, Result, Ok, Err, nat_le, if◌then◌else◌}
-use Rattle.framehop_cfi.specs.Bytes.{◌>>=◌, le2, le4, le8}
+use Rattle.framehop_bytes.specs.Bytes.{◌>>=◌, le2, le4, le8}
 use Rattle.framehop_recording.specs.declared.error.RecordingError.{RecordingError}
 use Rattle.framehop_recording.specs.declared.error.RecordingError.TheVariants.{OutOfMemory}
 

@@ -1,7 +1,7 @@
 -- Which event a record belongs to, and when it was made: PERF_RECORD_SAMPLE and `struct sample_id` of perf_event.h.
 use Rattle.std.specs.Prelude.{ℕ, ◌+◌, ◌*◌, List, [], ◌∷◌, ◌/◌, length, Bool, true, not, bit_and, ◌==◌, ◌&&◌, ◌||◌, Option, Some, None, option_and_then, slice_get, sum_by, Result, Ok, Err, nat_lt, if◌then◌else◌}
 use Rattle.std.specs.List.{count_by, list_any, list_all, position_from}
-use Rattle.framehop_cfi.specs.Bytes.{◌>>=◌, le8}
+use Rattle.framehop_bytes.specs.Bytes.{◌>>=◌, le8}
 use Rattle.framehop_recording.specs.Numbers.{PERF_RECORD_SAMPLE, PERF_RECORD_USER_TYPE_START, PERF_SAMPLE_IP, PERF_SAMPLE_TID, PERF_SAMPLE_TIME, PERF_SAMPLE_ADDR, PERF_SAMPLE_ID, PERF_SAMPLE_STREAM_ID, PERF_SAMPLE_CPU, PERF_SAMPLE_PERIOD, PERF_SAMPLE_IDENTIFIER, NO_TIME}
 use Rattle.framehop_recording.specs.Bytes.{word_at, word_from_end, offsets, has_bit}
 use Rattle.framehop_recording.specs.Attributes.{AttributeView, attributes_of}

@@ -1,7 +1,7 @@
 -- The mappings of files into processes: PERF_RECORD_MMAP and PERF_RECORD_MMAP2 of perf_event.h.
 use Rattle.std.specs.Prelude.{ℕ, List, [], ◌%◌, take, drop, Bool, not, Result, Ok, Err, ◌==◌, if◌then◌else◌}
 use Rattle.std.specs.List.{before_first}
-use Rattle.framehop_cfi.specs.Bytes.{◌>>=◌}
+use Rattle.framehop_bytes.specs.Bytes.{◌>>=◌}
 use Rattle.framehop_recording.specs.Numbers.{PERF_RECORD_MMAP, PERF_RECORD_MMAP2, PERF_RECORD_MISC_MMAP_DATA, PERF_RECORD_MISC_MMAP_BUILD_ID}
 use Rattle.framehop_recording.specs.Fields.{MMAP_PID, MMAP_ADDR, MMAP_LEN, MMAP_PGOFF, MMAP_FILENAME, MMAP2_BUILD_ID_SIZE, MMAP2_BUILD_ID, MMAP2_FILENAME}
 use Rattle.framehop_recording.specs.Bytes.{u32_at, u64_at, block_at, has_bit}

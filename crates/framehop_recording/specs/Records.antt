@@ -1,7 +1,7 @@
 -- The records of a recording: each begins with `perf_event_header` of perf_event.h, its kind, its flags and its size,
 -- which counts these eight bytes.
 use Rattle.std.specs.Prelude.{ℕ, zero, suc, ◌+◌, ◌-◌, List, [], ◌∷◌, length, map, take, drop, Bool, ◌||◌, Option, Some, None, Result, Ok, Err, nat_lt, ◌==◌, if◌then◌else◌}
-use Rattle.framehop_cfi.specs.Bytes.{◌>>=◌}
+use Rattle.framehop_bytes.specs.Bytes.{◌>>=◌}
 use Rattle.framehop_recording.specs.Numbers.{PERF_RECORD_AUXTRACE, PERF_RECORD_COMPRESSED, PERF_RECORD_COMPRESSED2}
 use Rattle.framehop_recording.specs.Bytes.{u16_at, u32_at, u64_at, block_at}
 use Rattle.framehop_recording.specs.declared.error.RecordingError.{RecordingError}

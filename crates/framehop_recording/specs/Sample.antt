@@ -1,6 +1,6 @@
 -- The fields of PERF_RECORD_SAMPLE (9), in the order of perf_event.h.
 use Rattle.std.specs.Prelude.{ℕ, ◌*◌, List, Bool, not, ◌&&◌, ◌||◌, count_ones, Option, None, Result, Ok, Err, ◌==◌, if◌then◌else◌}
-use Rattle.framehop_cfi.specs.Bytes.{◌>>=◌}
+use Rattle.framehop_bytes.specs.Bytes.{◌>>=◌}
 use Rattle.framehop_recording.specs.Numbers.{PERF_RECORD_SAMPLE, PERF_SAMPLE_IP, PERF_SAMPLE_TID, PERF_SAMPLE_TIME, PERF_SAMPLE_ADDR, PERF_SAMPLE_READ, PERF_SAMPLE_CALLCHAIN, PERF_SAMPLE_ID, PERF_SAMPLE_CPU, PERF_SAMPLE_PERIOD, PERF_SAMPLE_STREAM_ID, PERF_SAMPLE_RAW, PERF_SAMPLE_BRANCH_STACK, PERF_SAMPLE_REGS_USER, PERF_SAMPLE_STACK_USER, PERF_SAMPLE_IDENTIFIER, PERF_SAMPLE_REGS_ABI_NONE, PERF_SAMPLE_REGS_ABI_32, PERF_SAMPLE_REGS_ABI_64}
 use Rattle.framehop_recording.specs.Bytes.{Reading, u32_at, u64_at, block_at, has_bit}
 use Rattle.framehop_recording.specs.Attributes.{AttributeView}

@@ -1,7 +1,7 @@
 -- Processes and threads, and lost records: PERF_RECORD_COMM, PERF_RECORD_EXIT, PERF_RECORD_FORK, PERF_RECORD_LOST and
 -- PERF_RECORD_LOST_SAMPLES of perf_event.h.
 use Rattle.std.specs.Prelude.{ℕ, List, drop, Bool, ◌||◌, Result, Ok, Err, ◌==◌, if◌then◌else◌}
-use Rattle.framehop_cfi.specs.Bytes.{◌>>=◌}
+use Rattle.framehop_bytes.specs.Bytes.{◌>>=◌}
 use Rattle.framehop_recording.specs.Numbers.{PERF_RECORD_LOST, PERF_RECORD_COMM, PERF_RECORD_EXIT, PERF_RECORD_FORK, PERF_RECORD_LOST_SAMPLES, PERF_RECORD_MISC_COMM_EXEC, PERF_RECORD_MISC_FORK_EXEC}
 use Rattle.framehop_recording.specs.Fields.{COMM_PID, COMM_TID, COMM_COMM, FORK_PID, FORK_PPID, FORK_TID, FORK_PTID, FORK_TIME, LOST_LOST, LOST_SAMPLES_LOST}
 use Rattle.framehop_recording.specs.Bytes.{u32_at, u64_at, has_bit}

@@ -10,7 +10,7 @@ use crate::error::RecordingError;
 use crate::header::{Header, Section, read_section};
 use crate::mapping::text;
 use crate::records::{Record, read_records};
-use framehop_cfi::bytes::front;
+use framehop_bytes::bytes::front;
 use std::alloc::Global;
 
 /// HEADER_BUILD_ID among the features of the header.

@@ -3,8 +3,8 @@ ghost use Rattle.std.specs.Prelude.{◌≡◌, ◌+◌, ◌^◌, ◌<◌, ◌≤
 ghost use Rattle.framehop_recording.specs.Bytes.{u16_at, u32_at, u64_at, word_at, word_from_end, block_at};
 
 use crate::error::RecordingError;
-use framehop_cfi::bytes;
-use framehop_cfi::bytes::front;
+use framehop_bytes::bytes;
+use framehop_bytes::bytes::front;
 
 /// Returns the bytes from an offset on, or none where there are fewer.
 #[inline]
@@ -19,7 +19,7 @@ pub(crate) fn back(bytes: &[u8], start: usize) -> &[u8]
 
 /// Reads a number of two bytes, or returns the refusal where the bytes end before it.
 #[inline]
-#[tactic(auto, unfolding(crate::specs::Bytes::u16_at, framehop_cfi::specs::Bytes::u16_at))]
+#[tactic(auto, unfolding(crate::specs::Bytes::u16_at, framehop_bytes::specs::Bytes::u16_at))]
 pub(crate) fn read_u16(
     bytes: &[u8],
     at: usize,
@@ -35,7 +35,7 @@ pub(crate) fn read_u16(
 
 /// Reads a number of four bytes, or returns the refusal where the bytes end before it.
 #[inline]
-#[tactic(auto, unfolding(crate::specs::Bytes::u32_at, framehop_cfi::specs::Bytes::u32_at))]
+#[tactic(auto, unfolding(crate::specs::Bytes::u32_at, framehop_bytes::specs::Bytes::u32_at))]
 pub(crate) fn read_u32(
     bytes: &[u8],
     at: usize,
@@ -51,7 +51,7 @@ pub(crate) fn read_u32(
 
 /// Reads a number of eight bytes, or returns the refusal where the bytes end before it.
 #[inline]
-#[tactic(auto, unfolding(crate::specs::Bytes::u64_at, framehop_cfi::specs::Bytes::u64_at))]
+#[tactic(auto, unfolding(crate::specs::Bytes::u64_at, framehop_bytes::specs::Bytes::u64_at))]
 pub(crate) fn read_u64(
     bytes: &[u8],
     at: usize,
@@ -67,7 +67,7 @@ pub(crate) fn read_u64(
 
 /// Returns the number of eight bytes at an offset, if the bytes have it.
 #[inline]
-#[tactic(auto, unfolding(framehop_cfi::specs::Bytes::u64_at))]
+#[tactic(auto, unfolding(framehop_bytes::specs::Bytes::u64_at))]
 pub(crate) fn word(bytes: &[u8], at: usize) -> Option<u64>
     ensures { result ≡ word_at bytes.now at }
 {

@@ -4,7 +4,7 @@ ghost use Rattle.std.specs.List.{list_any, list_all};
 ghost use Rattle.std.specs.Ordering.{nat_cmp};
 ghost use Rattle.std.specs.BTreeMap.{get};
 ghost use Rattle.std.proofs.Props.{props};
-ghost use Rattle.framehop_cfi.specs.Bytes.{le8};
+ghost use Rattle.framehop_bytes.specs.Bytes.{le8};
 ghost use Rattle.framehop_recording.specs.Bytes.{offsets};
 ghost use Rattle.framehop_recording.specs.Attributes.{attribute_view, attributes_of};
 ghost use Rattle.framehop_recording.specs.declared.error.RecordingError.{RecordingError};

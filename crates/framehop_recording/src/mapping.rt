@@ -7,7 +7,7 @@ use crate::bytes::{back, read_block, read_u32, read_u64};
 use crate::error::RecordingError;
 use crate::kind::{MMAP, MMAP2};
 use crate::records::Record;
-use framehop_cfi::bytes::front;
+use framehop_bytes::bytes::front;
 
 /// PERF_RECORD_MISC_MMAP_DATA.
 const MMAP_DATA: u16 = 0x2000;

@@ -6,7 +6,7 @@ use crate::bytes::{back, read_block, read_u16, read_u32, read_u64};
 use crate::error::RecordingError;
 use crate::header::Section;
 use crate::kind::{AUXTRACE, COMPRESSED, COMPRESSED2};
-use framehop_cfi::bytes::front;
+use framehop_bytes::bytes::front;
 use std::alloc::Global;
 
 /// A record: `perf_event_header`, and what is after it.

@@ -1,7 +1,7 @@
 -- What is read of a recording before its samples are unwound.
 use Rattle.std.specs.Prelude.{◌≡◌, ℕ, ◌^◌, List, [], map, Bool, Option, Some, None, option_and_then, slice_get, Result, Ok, Err}
 use Rattle.std.specs.List.{list_any}
-use Rattle.framehop_cfi.specs.Bytes.{◌>>=◌}
+use Rattle.framehop_bytes.specs.Bytes.{◌>>=◌}
 use Rattle.framehop_recording.specs.Attributes.{AttributeView, attribute_view}
 use Rattle.framehop_recording.specs.BuildIds.{FileBuildIdView, file_build_id_view, build_ids_of}
 use Rattle.framehop_recording.specs.Bytes.{has_bit}

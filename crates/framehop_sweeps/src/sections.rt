@@ -1,6 +1,6 @@
 //! The sections of the worked examples, and modules that have them.
 ghost use Rattle.std.specs.Prelude.{[], ◌∷◌, None, codes};
-ghost use Rattle.framehop_cfi.specs.ExplicitSections.{under};
+ghost use Rattle.framehop_bytes.specs.ExplicitSections.{under};
 
 use framehop::section::ExplicitModuleSectionInfo;
 use framehop::{Module, ModuleListError, ModuleSectionInfo};

@@ -1,5 +1,5 @@
 //! What a module lends: sections that are given one by one, and each form of their bytes.
-use framehop_cfi::section::{ExplicitModuleSectionInfo, ModuleSectionInfo, SectionBytes};
+use framehop_bytes::section::{ExplicitModuleSectionInfo, ModuleSectionInfo, SectionBytes};
 use std::boxed::BoxedSlice;
 use std::rc::{Rc, RcSlice};
 use std::test::Fail;

@@ -1,8 +1,8 @@
 //! Section tables for the tests.
 ghost use Rattle.std.specs.Prelude.{◌≡◌, [], ◌∷◌, None, codes};
-ghost use Rattle.framehop_cfi.specs.ExplicitSections.{under};
+ghost use Rattle.framehop_bytes.specs.ExplicitSections.{under};
 
-use framehop_cfi::section::ModuleSectionInfo;
+use framehop_bytes::section::ModuleSectionInfo;
 use std::ops::Range;
 
 /// A module that tells of no section.

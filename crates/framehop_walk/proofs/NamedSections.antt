@@ -37,7 +37,7 @@ use Rattle.std.specs.List.{position_or_len, position, find}
 use Rattle.std.specs.Option.{option_map}
 use Rattle.std.specs.Global.{Global}
 use Rattle.std.specs.declared.vec.Vec.{Vec}
-use Rattle.framehop_cfi.specs.SectionTable.{Entry, entry_of, range_of, data_of, without_data}
+use Rattle.framehop_bytes.specs.SectionTable.{Entry, entry_of, range_of, data_of, without_data}
 use Rattle.framehop_walk.specs.Sections.{entry_view, entries_view, is_named}
 use Rattle.framehop_walk.specs.declared.sections.Section.{Section}
 

@@ -11,7 +11,7 @@ use Rattle.std.proofs.lemmas.Slice.Eq.{bytes_eq-Decides}
 use Rattle.std.proofs.lemmas.Map.Text.{is_eq-slice_cmp}
 use Rattle.serde_json.specs.Data.{Data}
 use Rattle.serde_json.specs.Find.{as_str}
-use Rattle.framehop_cfi.specs.SectionTable.{Entry, SectionTable, is_called}
+use Rattle.framehop_bytes.specs.SectionTable.{Entry, SectionTable, is_called}
 use Rattle.framehop_walk.specs.Refusals.{Reading, and_then, bad_field, reading_of}
 use Rattle.framehop_walk.specs.Fields.{field_as, address}
 use Rattle.framehop_walk.specs.Commands.{read_module}

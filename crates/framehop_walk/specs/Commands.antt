@@ -6,7 +6,7 @@ use Rattle.std.specs.declared.vec.Vec.{Vec}
 use Rattle.serde_json.specs.Data.{Data}
 use Rattle.serde_json.specs.Find.{as_str, as_array}
 use Rattle.framehop_core.specs.CodeAddress.{FrameLocation, location_of, at_instruction_pointer, at_return_address}
-use Rattle.framehop_cfi.specs.SectionTable.{SectionTable}
+use Rattle.framehop_bytes.specs.SectionTable.{SectionTable}
 use Rattle.framehop.specs.Modules.{ModuleView}
 use Rattle.framehop.specs.ModuleData.{unwind_data_in}
 use Rattle.framehop.specs.declared.session.Memory.{Memory}

@@ -12,7 +12,7 @@ use Rattle.std.specs.declared.ops.Range.{Range}
 use Rattle.hex.specs.Hex.{decode_of}
 use Rattle.serde_json.specs.Data.{Data, Items, no_items, item}
 use Rattle.serde_json.specs.Find.{as_str, as_array}
-use Rattle.framehop_cfi.specs.SectionTable.{Entry, SectionTable, is_called}
+use Rattle.framehop_bytes.specs.SectionTable.{Entry, SectionTable, is_called}
 use Rattle.framehop_walk.specs.Refusals.{Reading, and_then, bad_field}
 use Rattle.framehop_walk.specs.Fields.{field_as, optional_field_as, address, each}
 use Rattle.framehop_walk.specs.declared.sections.Section.{Section}

@@ -3,7 +3,7 @@
 ghost use Rattle.std.specs.Prelude.{◌≡◌};
 ghost use Rattle.std.specs.List.{position, find};
 ghost use Rattle.std.specs.Option.{option_copied};
-ghost use Rattle.framehop_cfi.specs.SectionTable.{range_of, data_of, without_data};
+ghost use Rattle.framehop_bytes.specs.SectionTable.{range_of, data_of, without_data};
 ghost use Rattle.framehop_walk.specs.Sections.{entries_view, is_named};
 
 use crate::sections::Section;

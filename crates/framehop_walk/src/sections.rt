@@ -1,6 +1,6 @@
 //! The sections and segments of a module, read from JSON.
 ghost use Rattle.std.specs.Prelude.{◌≡◌, ◌≢◌, IfOk, IfErr, Ok, Err, ℕ, List, [], ◌∷◌, ◌++◌, map, codes, option_map};
-ghost use Rattle.framehop_cfi.specs.SectionTable.{Entry};
+ghost use Rattle.framehop_bytes.specs.SectionTable.{Entry};
 ghost use Rattle.serde_json.specs.View.{view, items_view};
 ghost use Rattle.framehop_walk.specs.Refusals.{told, reading_of};
 ghost use Rattle.framehop_walk.specs.Fields.{optional_field_as, each};
@@ -11,7 +11,7 @@ ghost use Rattle.hex.specs.declared.error.FromHexError.TheVariants.{OutOfMemory}
 use crate::fields::{hexadecimal, hexadecimal_value, list, text};
 use crate::lookup::{range_under, take_bytes};
 use crate::refusal::Refusal;
-use framehop_cfi::section::ModuleSectionInfo;
+use framehop_bytes::section::ModuleSectionInfo;
 use hex::FromHexError;
 use serde_json::Value;
 use std::alloc::Global;

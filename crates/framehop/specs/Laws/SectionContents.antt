@@ -4,7 +4,7 @@ use Rattle.std.specs.Prelude.{option_and_then}
 use Rattle.std.specs.Option.{option_or}
 use Rattle.std.specs.declared.ops.Range.{Range}
 use Rattle.framehop_cfi.specs.Section.{section_of}
-use Rattle.framehop_cfi.specs.SectionTable.{Entry, SectionTable, is_called, entry_of, range_of, data_of, without_data}
+use Rattle.framehop_bytes.specs.SectionTable.{Entry, SectionTable, is_called, entry_of, range_of, data_of, without_data}
 use Rattle.framehop_cfi.specs.declared.entry.UnwindSectionType.{UnwindSectionType}
 use Rattle.framehop_cfi.specs.declared.entry.UnwindSectionType.TheVariants.{EhFrame, DebugFrame}
 use Rattle.framehop_cfi.specs.declared.pointer.BaseAddresses.{BaseAddresses}

@@ -4,8 +4,8 @@ ghost use Rattle.framehop.specs.Memory.{reply};
 ghost use Rattle.framehop.specs.World.{memory_of};
 
 use crate::unwinder::Module;
+use framehop_bytes::section::SectionBytes;
 use framehop_cache::rule_cache::CacheStats;
-use framehop_cfi::section::SectionBytes;
 use framehop_core::{Error, FrameAddress};
 
 /// The stack words of a step or a walk: word `i` is at the address (AVMA) `base + 8 * i`, and

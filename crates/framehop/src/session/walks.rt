@@ -17,15 +17,15 @@ ghost use Rattle.framehop.specs.Outcome.{Outcome, answered, answer_of, registers
 use crate::cache::{AllocationPolicy, Cache};
 use crate::session::commands::{Memory, SessionError, WalkEnd};
 use crate::unwinder::{UnwindIterator, Unwinder, UnwinderInternal, Unwinding};
-use framehop_cfi::bytes::read_u64;
-use framehop_cfi::section::SectionBytes;
+use framehop_bytes::bytes::read_u64;
+use framehop_bytes::section::SectionBytes;
 use framehop_core::{Error, FrameAddress};
 use std::alloc::Global;
 
 /// Reads the stack word at an address (AVMA), aligned or not, from a copy of the stack's bytes that
 /// begins at the address `base`. It is refused where one of its eight bytes is not among them.
 #[inline]
-#[tactic(auto, unfolding(framehop_cfi::specs::Bytes::u64_at))]
+#[tactic(auto, unfolding(framehop_bytes::specs::Bytes::u64_at))]
 pub fn read_word(base: u64, bytes: &[u8], address: u64) -> Result<u64, ()>
     ensures { result ≡ reply (memory_of_bytes base bytes.now address) }
 {

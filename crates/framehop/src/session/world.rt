@@ -9,8 +9,8 @@ use crate::cache::{AllocationPolicy, Cache};
 use crate::session::commands::{Command, Memory, Reply, SessionError};
 use crate::session::walks::{step_stack, walk_stack};
 use crate::unwinder::{Module, ModuleListError, Unwinder, UnwinderInternal, Unwinding};
+use framehop_bytes::section::SectionBytes;
 use framehop_cache::generations::Generations;
-use framehop_cfi::section::SectionBytes;
 use framehop_core::FrameAddress;
 use std::alloc::Global;
 

@@ -1,11 +1,11 @@
 //! Tables of fixed rows inside the bytes of `__unwind_info`, read in place.
 ghost use Rattle.std.specs.Prelude.{◌≡◌, ◌+◌, ◌≤◌, Ok, Err, MatchResult, MatchOption, length};
-ghost use Rattle.framehop_cfi.specs.Bytes.{le2, le4};
+ghost use Rattle.framehop_bytes.specs.Bytes.{le2, le4};
 ghost use Rattle.framehop_macho.specs.Table.{part_of, index_starts, regular_starts, compressed_starts, row_of, IsRow, IsBefore};
 ghost use Rattle.framehop_macho.specs.UnwindInfo.{opcode_by_number};
 
 use super::error::CompactReadError;
-use framehop_cfi::place::{Starts, place};
+use framehop_bytes::place::{Starts, place};
 
 /// Reads a number of two bytes.
 #[inline(always)]

@@ -2,7 +2,7 @@
 use Rattle.std.specs.Prelude.{ℕ, zero, suc, ◌-◌, Bool, true, false, List, ◌∷◌, ◌++◌, length, take, nat_le, cond, Option, Some, None, Result, Ok, Err, IfErr}
 use Rattle.std.specs.List.{flat_map}
 use Rattle.std.specs.Option.{ok_or}
-use Rattle.framehop_cfi.specs.Bytes.{◌>>=◌}
+use Rattle.framehop_bytes.specs.Bytes.{◌>>=◌}
 use Rattle.framehop_core.specs.declared.x86_64.unwindregs.Reg.{Reg}
 use Rattle.framehop_pe.specs.Answer.{IsMissingStackData}
 use Rattle.framehop_pe.specs.Chain.{header_at, info_of_header, info_at, chained_infos, first_of, all_of, operations_from}

@@ -1,7 +1,7 @@
 //! aarch64 has unwind info of another form, which is not read yet (framehop 0.16.0,
 //! `aarch64/pe.rs`).
 use crate::pe::{PeSections, PeUnwinderError, PeUnwinding};
-use framehop_cfi::section::SectionBytes;
+use framehop_bytes::section::SectionBytes;
 use framehop_core::aarch64::{ArchAarch64, UnwindRegsAarch64, UnwindRuleAarch64};
 use framehop_core::unwind_result::UnwindResult;
 

@@ -11,7 +11,7 @@ ghost use Rattle.framehop_pe.specs.Operations.{left_infos, left_operations};
 use super::info::{FrameRegister, PrologInfo, UnwindCodes, UnwindInfo};
 use super::operation::UnwindOperation;
 use crate::pe::{PeSections, PeUnwinderError};
-use framehop_cfi::section::SectionBytes;
+use framehop_bytes::section::SectionBytes;
 
 /// How many infos may be chained to the first one.
 const MAX_CHAINED_INFOS: u8 = 32;

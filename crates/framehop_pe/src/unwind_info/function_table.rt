@@ -2,7 +2,7 @@
 ghost use Rattle.std.specs.Prelude.{◌≡◌, ◌<◌, ◌*◌, ◌/◌, drop, length};
 ghost use Rattle.framehop_pe.specs.FunctionTable.{function_at, function_of, starts_of};
 
-use framehop_cfi::place::{Starts, place};
+use framehop_bytes::place::{Starts, place};
 
 /// An entry of the function table.
 #[derive(Clone, Copy, Debug, PartialEq, Eq)]

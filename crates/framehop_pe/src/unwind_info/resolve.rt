@@ -11,7 +11,7 @@ use super::info::FrameRegister;
 use super::operation::UnwindOperation;
 use super::state::{UnwindState, pop_word};
 use crate::pe::PeUnwinderError;
-use framehop_cfi::section::SectionBytes;
+use framehop_bytes::section::SectionBytes;
 use framehop_core::x86_64::Reg;
 use std::ops::ControlFlow;
 

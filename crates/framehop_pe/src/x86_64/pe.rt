@@ -18,7 +18,7 @@ use crate::unwind_info::info::UnwindInfo;
 use crate::unwind_info::operation::UnwindOperation;
 use crate::unwind_info::resolve::resolve_operations;
 use crate::unwind_info::state::UnwindState;
-use framehop_cfi::section::SectionBytes;
+use framehop_bytes::section::SectionBytes;
 use framehop_core::unwind_result::UnwindResult;
 use framehop_core::x86_64::{ArchX86_64, OffsetOrPop, Reg, UnwindRegsX86_64, UnwindRuleX86_64};
 

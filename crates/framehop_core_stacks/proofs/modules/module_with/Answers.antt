@@ -1,7 +1,7 @@
 use Rattle.std.proofs.Common.{ℕ, [], sym, ap, ◌∙◌}
 use Rattle.std.specs.Global.{Global}
 use Rattle.std.specs.declared.vec.Vec.{Vec}
-use Rattle.framehop_cfi.specs.ExplicitSections.{table_of}
+use Rattle.framehop_bytes.specs.ExplicitSections.{table_of}
 use Rattle.framehop.specs.Laws.SectionContents.{data-of_bytes}
 use Rattle.framehop.specs.Modules.{ModuleView, UnwindData}
 use Rattle.framehop_core_stacks.proofs.modules.module_with.Goals as goal

@@ -2,7 +2,7 @@ use Rattle.std.proofs.Common.{◌≡◌, ◌-◌, ◌/◌, ◌≤◌, ℕ, lengt
 use Rattle.std.specs.List.{list_any}
 use Rattle.std.specs.Ordering.{nat_cmp}
 use Rattle.std.specs.BTreeMap.{get}
-use Rattle.framehop_cfi.specs.Bytes.{le8}
+use Rattle.framehop_bytes.specs.Bytes.{le8}
 use Rattle.framehop_recording.specs.Bytes.{offsets}
 use Rattle.framehop_recording.proofs.events.add_ids.Given as goal
 

@@ -1,7 +1,7 @@
 use Rattle.std.proofs.Common.{◌≡◌, ◌∙◌, sym, true, false, rules, Err}
 use Rattle.std.specs.List.{list_any}
 use Rattle.serde_json.specs.View.{view}
-use Rattle.framehop_cfi.specs.SectionTable.{is_called}
+use Rattle.framehop_bytes.specs.SectionTable.{is_called}
 use Rattle.framehop_walk.specs.Refusals.{refusal_text}
 use Rattle.framehop_walk.proofs.Tables.{read_section-new, read_section-twice, read_section-refused, names-after, present, absent}
 use Rattle.framehop_walk.proofs.sections.read_section.Goals as goal

@@ -1,6 +1,6 @@
 use Rattle.std.proofs.Common.{sym, ◌∙◌, ap}
 use Rattle.framehop_cfi.specs.Header.{Header, fde_offset_in, fde_offset_by}
-use Rattle.framehop_cfi.specs.Place.{place_of}
+use Rattle.framehop_bytes.specs.Place.{place_of}
 use Rattle.framehop_cfi.specs.Header.{starts_of}
 use Rattle.framehop_cfi.proofs.header.EhFrameHdr.fde_offset_for_address.Goals as goal
 

@@ -1,7 +1,7 @@
 -- What stands at an offset of a section: little-endian numbers, each with the offset after it.
 use Rattle.std.specs.Prelude.{ℕ, ◌+◌, ◌*◌, List, length, slice_index, Result, Ok, Err, nat_le, if◌then◌else◌}
-use Rattle.framehop_cfi.specs.declared.read_error.ReadError.{ReadError}
-use Rattle.framehop_cfi.specs.declared.read_error.ReadError.TheVariants.{Eof}
+use Rattle.framehop_bytes.specs.declared.read_error.ReadError.{ReadError}
+use Rattle.framehop_bytes.specs.declared.read_error.ReadError.TheVariants.{Eof}
 
 -- read one thing, then what comes after it; the first refusal stands
 infixl 10 ◌>>=◌

@@ -1,7 +1,7 @@
 use Rattle.std.proofs.Common.{◌≡◌, ℕ, zero, suc, ◌+◌, ◌-◌, ◌*◌, ◌/◌, ◌%◌, ◌<◌, ◌≤◌, true, false, List, length, slice_index, nat_le, le-leb, arith, refl, sym, ◌∙◌, rules}
-use Rattle.framehop_cfi.specs.Place.{place_of, halved}
-use Rattle.framehop_cfi.proofs.place.place.Goals as goal
-use Rattle.framehop_cfi.proofs.place.place.Goals.{then-is_upper, else-is_upper}
+use Rattle.framehop_bytes.specs.Place.{place_of, halved}
+use Rattle.framehop_bytes.proofs.place.place.Goals as goal
+use Rattle.framehop_bytes.proofs.place.place.Goals.{then-is_upper, else-is_upper}
 
 pub loop-size-init : goal.loop-size-init
 unfolding place_of

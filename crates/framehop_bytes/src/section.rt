@@ -4,8 +4,8 @@ ghost use Rattle.std.specs.Box.{boxed_slice_items};
 ghost use Rattle.std.specs.Rc.{rc_slice_items};
 ghost use Rattle.std.specs.List.{list_any};
 ghost use Rattle.std.specs.Cmp.Lexicographic.{pointwise};
-ghost use Rattle.framehop_cfi.specs.SectionTable.{SectionTable, range_of, data_of, without_data};
-ghost use Rattle.framehop_cfi.specs.ExplicitSections.{table_of, ClonesEqual, IsCloneBy, IsDataCloneBy};
+ghost use Rattle.framehop_bytes.specs.SectionTable.{SectionTable, range_of, data_of, without_data};
+ghost use Rattle.framehop_bytes.specs.ExplicitSections.{table_of, ClonesEqual, IsCloneBy, IsDataCloneBy};
 
 use std::alloc::AllocError;
 use std::boxed::BoxedSlice;

@@ -2,8 +2,8 @@
 use Rattle.std.specs.Prelude.{◌≡◌, ⊤, ℕ, List, [], ◌∷◌, Option, Some, None, codes}
 use Rattle.std.specs.List.{AllZip}
 use Rattle.std.specs.declared.ops.Range.{Range}
-use Rattle.framehop_cfi.specs.SectionTable.{Entry, SectionTable}
-use Rattle.framehop_cfi.specs.declared.section.ExplicitModuleSectionInfo.{ExplicitModuleSectionInfo}
+use Rattle.framehop_bytes.specs.SectionTable.{Entry, SectionTable}
+use Rattle.framehop_bytes.specs.declared.section.ExplicitModuleSectionInfo.{ExplicitModuleSectionInfo}
 
 -- the entry under these names
 abbrev pub under : {D : Type 0} → List (List ℕ) → Option (Range ℕ) → Option D → Entry D

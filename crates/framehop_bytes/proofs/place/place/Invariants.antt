@@ -1,6 +1,6 @@
 use Rattle.std.proofs.Common.{◌≡◌, ℕ, ◌+◌, ◌<◌, ◌≤◌, length, slice_index}
-use Rattle.framehop_cfi.specs.Place.{halved, place_of}
-use Rattle.framehop_cfi.proofs.place.place.Given as goal
+use Rattle.framehop_bytes.specs.Place.{halved, place_of}
+use Rattle.framehop_bytes.proofs.place.place.Given as goal
 
 abbrev pub invariant-loop-size : goal.invariant-loop-size
 invariant-loop-size g l =

@@ -1,6 +1,6 @@
 //! A place in a table of starts, found by halving in place.
 ghost use Rattle.std.specs.Prelude.{◌≡◌, ◌<◌, ◌≤◌, ℕ, List, length, slice_index};
-ghost use Rattle.framehop_cfi.specs.Place.{place_of, IsPlace, AreOrdered};
+ghost use Rattle.framehop_bytes.specs.Place.{place_of, IsPlace, AreOrdered};
 
 /// A table whose rows begin at addresses.
 pub trait Starts {

@@ -3,8 +3,8 @@
 //! A reader is given the section's bytes and an offset into them, and returns what is there
 //! with the offset after it. It reads nothing past the end of the bytes that it is given.
 ghost use Rattle.std.specs.Prelude.{◌≡◌, ◌≢◌, Err, IfErr, ◌<◌, IfOk, take};
-ghost use Rattle.framehop_cfi.specs.Refusal.{IsSliceRefusal};
-ghost use Rattle.framehop_cfi.specs.Bytes.{u8_at, u16_at, u32_at, u64_at};
+ghost use Rattle.framehop_bytes.specs.Refusal.{IsSliceRefusal};
+ghost use Rattle.framehop_bytes.specs.Bytes.{u8_at, u16_at, u32_at, u64_at};
 
 use crate::read_error::ReadError;
 
