@@ -3,6 +3,7 @@ use Rattle.std.proofs.Common.{◌≡◌, ◌≢◌, ℕ, ◌-◌, Bool, true, Li
 use Rattle.std.specs.Option.{unwrap_or}
 use Rattle.std.proofs.lemmas.Bool.{MatchBool-at_true, MatchBool-at_false}
 use Rattle.framehop_core.specs.Memory.{Memory}
+use Rattle.framehop_core.specs.Step.{IfRule, WritesWithAddress}
 use Rattle.framehop_core.specs.declared.error.Error.{Error}
 use Rattle.framehop_core.specs.declared.error.Error.TheVariants.{OutOfMemory as NoMemory}
 use Rattle.framehop_core.specs.declared.unwind_result.UnwindResult.{UnwindResult}
@@ -13,7 +14,7 @@ use Rattle.framehop.specs.Policy.{Policy}
 use Rattle.framehop.specs.Unwinding.{Unwinding, Readers, answer_by, may_take_memory_by}
 use Rattle.framehop.specs.Soundness.{MayTakeMemory}
 use Rattle.framehop.specs.Fresh.{fresh, outcome_of}
-use Rattle.framehop.specs.Told.{out_of_memory, IsDirect, values_in, TellsAnswer, TellsValues, WritesWithAddress, RuleHas, TellsFresh, TellsFreshValues, WritesComputed, AnswerHas, no_memory, no_values, nothing, IsAnswerOf}
+use Rattle.framehop.specs.Told.{out_of_memory, IsDirect, values_in, TellsAnswer, TellsValues, TellsFresh, TellsFreshValues, WritesComputed, AnswerHas, no_memory, no_values, nothing, IsAnswerOf}
 use Rattle.framehop.specs.Laws.Meaning.{fresh-covered}
 use Rattle.framehop.proofs.ToldLemmas.{err-same}
 use Rattle.framehop.specs.declared.modules.UnwinderError.{UnwinderError}
@@ -43,7 +44,7 @@ error-is : {A : Type 0} (error : UnwinderError) → error ≢ out_of_memory → 
 error-is error some e = some (err-same error out_of_memory e)
 
 module _ {R : Type 0} (fallback : R) where
-  pub has : (P : R → Type 0) (told : Result (UnwindResult R) UnwinderError) (result : Result (FrameAnswer R) Error) → IsAnswerOf fallback told result → RuleHas P told → P fallback → IfOk result (AnswerHas P)
+  pub has : (P : R → Type 0) (told : Result (UnwindResult R) UnwinderError) (result : Result (FrameAnswer R) Error) → IsAnswerOf fallback told result → IfRule told P → P fallback → IfOk result (AnswerHas P)
   has P (Ok (ExecRule rule)) result is holds default = rw is holds
   has P (Ok (Uncacheable address)) result is holds default = rw is tt
   has P (Err error) result (no_memory out is) holds default = rw is tt

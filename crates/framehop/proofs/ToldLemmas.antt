@@ -4,7 +4,8 @@ use Rattle.std.specs.Prelude.{MatchBool}
 use Rattle.framehop_core.specs.Memory.{Memory}
 use Rattle.framehop_core.specs.declared.unwind_result.UnwindResult.{UnwindResult}
 use Rattle.framehop_core.specs.declared.unwind_result.UnwindResult.TheVariants.{ExecRule, Uncacheable}
-use Rattle.framehop_dwarf.specs.Told.{no_memory, IsOfValues, TellsFound, TellsDirect}
+use Rattle.framehop_core.specs.Step.{TellsFound, WritesWithAddress, KeptWithoutAddress}
+use Rattle.framehop_dwarf.specs.Told.{out_of_memory, IsOfValues, TellsDirect}
 use Rattle.framehop_cfi.specs.Section.{Section}
 use Rattle.framehop_cfi.specs.declared.storage.StorageLimits.{StorageLimits}
 use Rattle.framehop_dwarf.specs.Unwinder.{Reading, unread, uncovered, by_row, reading_of, found_by, direct_by}
@@ -14,10 +15,10 @@ use Rattle.framehop.specs.Policy.{Policy}
 use Rattle.framehop.specs.Answer.{Fresh, by_rule, values_of, fresh_of}
 use Rattle.framehop.specs.CallFrames.{RowReader, answer_of_reading, fde_answer}
 use Rattle.framehop.specs.Unwinding.{Readers}
-use Rattle.framehop_pe.specs.Answer.{IsMissingStackData, TellsFound as PeTellsFound, IsComputed, KeptUnlessDirect}
+use Rattle.framehop_pe.specs.Answer.{IsMissingStackData, IsComputed}
 use Rattle.framehop_pe.specs.declared.pe.PeUnwinderError.{PeUnwinderError}
 use Rattle.framehop_pe.specs.declared.pe.PeUnwinderError.TheVariants.{MissingUnwindInfoData, MissingInstructionData, MissingStackData, UnwindInfoParseError, Aarch64Unsupported}
-use Rattle.framehop.specs.Told.{is_of_row_values, is_of_pe_values, TellsAnswer, TellsValues, WritesWithAddress}
+use Rattle.framehop.specs.Told.{is_of_row_values, is_of_pe_values, TellsAnswer, TellsValues}
 use Rattle.framehop.specs.declared.modules.UnwinderError.{UnwinderError}
 use Rattle.framehop.specs.declared.modules.UnwinderError.TheVariants.{Dwarf, Pe}
 
@@ -34,7 +35,7 @@ pub rows-are : {Rule Regs : Type 0} (readers readers' : Readers Rule Regs) → r
 rows-are readers readers' same = ap (λ w. w.rows) same
 
 -- the refusals of values, but for out of memory
-values-refused : (error : DwarfUnwinderError) → error ≢ no_memory → IsOfValues error → is_of_row_values error ≡ true
+values-refused : (error : DwarfUnwinderError) → error ≢ out_of_memory → IsOfValues error → is_of_row_values error ≡ true
 values-refused (FdeFromOffsetFailed e) some of = absurd of
 values-refused (UnwindInfoForAddressFailed e) some of = absurd (some (ap UnwindInfoForAddressFailed of))
 values-refused StackPointerMovedBackwards some of = refl
@@ -56,13 +57,13 @@ module _ {Rule Regs : Type 0} (reader : RowReader Rule Regs) (policy : Policy) (
   Gives reading = answer_of_reading reader policy bytes first reading
 
   abbrev Finds : Reading → Result (UnwindResult Rule) DwarfUnwinderError → Type 0
-  Finds reading result = TellsFound (found_by reader.translated reader.uncovered reading) result
+  Finds reading result = TellsFound IsOfValues (found_by reader.translated reader.uncovered reading) result
 
-  row-err-told : (translated : Option Rule) (compute : Regs → Memory → Result (ℕ × Regs) DwarfUnwinderError) (error : DwarfUnwinderError) → error ≢ no_memory → TellsFound (Ok translated) (Err error) → TellsAnswer (fresh_of (Ok translated) compute) (Err (Dwarf error))
+  row-err-told : (translated : Option Rule) (compute : Regs → Memory → Result (ℕ × Regs) DwarfUnwinderError) (error : DwarfUnwinderError) → error ≢ out_of_memory → TellsFound IsOfValues (Ok translated) (Err error) → TellsAnswer (fresh_of (Ok translated) compute) (Err (Dwarf error))
   row-err-told (Some rule) compute error some told = cc
   row-err-told None compute error some told = where-true _ (is_of_row_values error) (values-refused error some told) tt
 
-  pub err-told : (reading : Reading) (error : DwarfUnwinderError) → error ≢ no_memory → Finds reading (Err error) → TellsAnswer (Gives reading) (Err (Dwarf error))
+  pub err-told : (reading : Reading) (error : DwarfUnwinderError) → error ≢ out_of_memory → Finds reading (Err error) → TellsAnswer (Gives reading) (Err (Dwarf error))
   unfolding error-in
   err-told (unread e) error some told =
       let same : error ≡ FdeFromOffsetFailed e = ap (error-in error) told in
@@ -70,20 +71,32 @@ module _ {Rule Regs : Type 0} (reader : RowReader Rule Regs) (policy : Policy) (
   err-told uncovered error some told = cc
   err-told (by_row row) error some told = row-err-told (reader.translated row) _ error some told
 
+  row-ok-told : (translated : Option Rule) (compute : Regs → Memory → Result (ℕ × Regs) DwarfUnwinderError) (found : UnwindResult Rule) → TellsFound IsOfValues (Ok translated) (Ok found) → TellsAnswer (fresh_of (Ok translated) compute) (Ok found)
+  row-ok-told (Some rule) compute (ExecRule other) told = let same : other ≡ rule = cc in ap (λ r. Some (by_rule r)) (sym same)
+  row-ok-told (Some rule) compute (Uncacheable address) told = cc
+  row-ok-told None compute (ExecRule rule) told = absurd told
+  row-ok-told None compute (Uncacheable address) told = tt
+
+  pub ok-told : (reading : Reading) (found : UnwindResult Rule) → Finds reading (Ok found) → TellsAnswer (Gives reading) (Ok found)
+  ok-told (unread e) found told = cc
+  ok-told uncovered (ExecRule other) told = let same : other ≡ reader.uncovered = cc in ap (λ r. Some (by_rule r)) (sym same)
+  ok-told uncovered (Uncacheable address) told = cc
+  ok-told (by_row row) found told = row-ok-told (reader.translated row) _ found told
+
   module _ (memory : Memory) (old new : Regs) where
     abbrev Computes : Reading → Result (ℕ × Regs) DwarfUnwinderError
     Computes reading = direct_by (λ row. reader.direct bytes policy.values memory row first old) reading
 
-    row-err-values : (translated : Option Rule) (compute : Regs → Memory → Result (ℕ × Regs) DwarfUnwinderError) (error : DwarfUnwinderError) → TellsFound (Ok translated) (Err error) → compute old memory ≡ Err error → TellsValues (fresh_of (Ok translated) compute) old memory (Err (Dwarf error)) new
+    row-err-values : (translated : Option Rule) (compute : Regs → Memory → Result (ℕ × Regs) DwarfUnwinderError) (error : DwarfUnwinderError) → TellsFound IsOfValues (Ok translated) (Err error) → compute old memory ≡ Err error → TellsValues (fresh_of (Ok translated) compute) old memory (Err (Dwarf error)) new
     row-err-values (Some rule) compute error told is = cc
     row-err-values None compute error told is = either-way (is_of_row_values error) (ap values_of is)
 
-    pub err-values : (reading : Reading) (error : DwarfUnwinderError) → error ≢ no_memory → Finds reading (Err error) → TellsDirect {R = Rule} (Computes reading) (Err error) new → TellsValues (Gives reading) old memory (Err (Dwarf error)) new
+    pub err-values : (reading : Reading) (error : DwarfUnwinderError) → error ≢ out_of_memory → Finds reading (Err error) → TellsDirect {R = Rule} (Computes reading) (Err error) new → TellsValues (Gives reading) old memory (Err (Dwarf error)) new
     err-values (unread e) error some told is = either-way (is_of_row_values error) refl
     err-values uncovered error some told is = cc
     err-values (by_row row) error some told is = row-err-values (reader.translated row) _ error told (is some)
 
-    row-ok-values : (translated : Option Rule) (compute : Regs → Memory → Result (ℕ × Regs) DwarfUnwinderError) (address : ℕ) → TellsFound (Ok translated) (Ok (Uncacheable address)) → compute old memory ≡ Ok (address, new) → TellsValues (fresh_of (Ok translated) compute) old memory (Ok (Uncacheable address)) new
+    row-ok-values : (translated : Option Rule) (compute : Regs → Memory → Result (ℕ × Regs) DwarfUnwinderError) (address : ℕ) → TellsFound IsOfValues (Ok translated) (Ok (Uncacheable address)) → compute old memory ≡ Ok (address, new) → TellsValues (fresh_of (Ok translated) compute) old memory (Ok (Uncacheable address)) new
     row-ok-values (Some rule) compute address told is = cc
     row-ok-values None compute address told is = ap values_of is
 
@@ -118,7 +131,7 @@ as_pe (Ok found) = Ok found
 as_pe (Err error) = Err (Pe error)
 
 module _ {Rule Regs : Type 0} where
-  pub pe-told : (found : Result (Option Rule) PeUnwinderError) (compute : Regs → Memory → Result (ℕ × Regs) PeUnwinderError) (result : Result (UnwindResult Rule) PeUnwinderError) → IfErr found (λ error. IsMissingStackData error → ⊥) → PeTellsFound found result → TellsAnswer (fresh_of found compute) (as_pe result)
+  pub pe-told : (found : Result (Option Rule) PeUnwinderError) (compute : Regs → Memory → Result (ℕ × Regs) PeUnwinderError) (result : Result (UnwindResult Rule) PeUnwinderError) → IfErr found (λ error. IsMissingStackData error → ⊥) → TellsFound IsMissingStackData found result → TellsAnswer (fresh_of found compute) (as_pe result)
   pe-told (Err error) compute (Ok found) bytes told = cc
   pe-told (Err error) compute (Err other) bytes told =
       let same : other ≡ error = err-same other error told in
@@ -130,7 +143,7 @@ module _ {Rule Regs : Type 0} where
   pe-told (Ok None) compute (Ok (Uncacheable address)) bytes told = tt
   pe-told (Ok None) compute (Err error) bytes told = where-true _ (is_of_pe_values error) (pe-values-refused error told) tt
 
-  pub pe-values : (found : Result (Option Rule) PeUnwinderError) (compute : Regs → Memory → Result (ℕ × Regs) PeUnwinderError) (result : Result (UnwindResult Rule) PeUnwinderError) (old new : Regs) (memory : Memory) → IfErr found (λ error. IsMissingStackData error → ⊥) → PeTellsFound found result → IsComputed (compute old memory) result new → TellsValues (fresh_of found compute) old memory (as_pe result) new
+  pub pe-values : (found : Result (Option Rule) PeUnwinderError) (compute : Regs → Memory → Result (ℕ × Regs) PeUnwinderError) (result : Result (UnwindResult Rule) PeUnwinderError) (old new : Regs) (memory : Memory) → IfErr found (λ error. IsMissingStackData error → ⊥) → TellsFound IsMissingStackData found result → IsComputed (compute old memory) result new → TellsValues (fresh_of found compute) old memory (as_pe result) new
   pe-values found compute (Ok (ExecRule rule)) old new memory bytes told is = tt
   pe-values (Err error) compute (Ok (Uncacheable address)) old new memory bytes told is = cc
   pe-values (Ok (Some rule)) compute (Ok (Uncacheable address)) old new memory bytes told is = cc
@@ -140,7 +153,7 @@ module _ {Rule Regs : Type 0} where
   pe-values (Ok None) compute (Err error) old new memory bytes told is = either-way (is_of_pe_values error) (ap values_of is)
 
   -- registers are written only with values that are computed
-  pub pe-written : (Advances : Regs → Regs → Type 0) (found : Result (Option Rule) PeUnwinderError) (result : Result (UnwindResult Rule) PeUnwinderError) (old new : Regs) → PeTellsFound found result → KeptUnlessDirect result old new → (found ≡ Ok None → Advances old new) → WritesWithAddress Advances (as_pe result) old new
+  pub pe-written : (Advances : Regs → Regs → Type 0) (found : Result (Option Rule) PeUnwinderError) (result : Result (UnwindResult Rule) PeUnwinderError) (old new : Regs) → TellsFound IsMissingStackData found result → KeptWithoutAddress result old new → (found ≡ Ok None → Advances old new) → WritesWithAddress Advances (as_pe result) old new
   pe-written Advances found (Ok (ExecRule rule)) old new told kept advance = kept
   pe-written Advances (Err error) (Ok (Uncacheable address)) old new told kept advance = cc
   pe-written Advances (Ok (Some rule)) (Ok (Uncacheable address)) old new told kept advance = cc
@@ -152,15 +165,19 @@ module _ {Rule Regs : Type 0} where
 -- the same of the FDE at an offset, by the limits of a policy
 module _ {Rule Regs : Type 0} (reader : RowReader Rule Regs) (policy : Policy) (section : Section) (address : ℕ) (first : Bool) (offset : ℕ) (rows : Option StorageLimits) (values : Option ℕ) (same_rows : policy.rows ≡ rows) (same_values : policy.values ≡ values) where
   abbrev Found : Result (UnwindResult Rule) DwarfUnwinderError → Type 0
-  Found result = TellsFound (found_by reader.translated reader.uncovered (reading_of rows section address offset)) result
+  Found result = TellsFound IsOfValues (found_by reader.translated reader.uncovered (reading_of rows section address offset)) result
 
-  same-found : (result : Result (UnwindResult Rule) DwarfUnwinderError) → Found result → TellsFound (found_by reader.translated reader.uncovered (reading_of policy.rows section address offset)) result
+  same-found : (result : Result (UnwindResult Rule) DwarfUnwinderError) → Found result → TellsFound IsOfValues (found_by reader.translated reader.uncovered (reading_of policy.rows section address offset)) result
   same-found result told =
-      subst (λ (limits : Option StorageLimits). TellsFound (found_by reader.translated reader.uncovered (reading_of limits section address offset)) result) (sym same_rows) told
+      subst (λ (limits : Option StorageLimits). TellsFound IsOfValues (found_by reader.translated reader.uncovered (reading_of limits section address offset)) result) (sym same_rows) told
 
-  pub fde-err-told : (error : DwarfUnwinderError) → error ≢ no_memory → Found (Err error) → TellsAnswer (fde_answer reader policy section address first offset) (Err (Dwarf error))
+  pub fde-err-told : (error : DwarfUnwinderError) → error ≢ out_of_memory → Found (Err error) → TellsAnswer (fde_answer reader policy section address first offset) (Err (Dwarf error))
   unfolding fde_answer
   fde-err-told error some told = err-told reader policy section.bytes first _ error some (same-found (Err error) told)
+
+  pub fde-ok-told : (found : UnwindResult Rule) → Found (Ok found) → TellsAnswer (fde_answer reader policy section address first offset) (Ok found)
+  unfolding fde_answer
+  fde-ok-told found told = ok-told reader policy section.bytes first _ found (same-found (Ok found) told)
 
   module _ (memory : Memory) (old new : Regs) where
     abbrev Direct : Option StorageLimits → Option ℕ → Result (ℕ × Regs) DwarfUnwinderError
@@ -171,7 +188,7 @@ module _ {Rule Regs : Type 0} (reader : RowReader Rule Regs) (policy : Policy) (
         subst (λ (limits : Option StorageLimits). TellsDirect {R = Rule} (Direct limits policy.values) result new) (sym same_rows)
         (subst (λ (most : Option ℕ). TellsDirect {R = Rule} (Direct rows most) result new) (sym same_values) told)
 
-    pub fde-err-values : (error : DwarfUnwinderError) → error ≢ no_memory → Found (Err error) → TellsDirect {R = Rule} (Direct rows values) (Err error) new → TellsValues (fde_answer reader policy section address first offset) old memory (Err (Dwarf error)) new
+    pub fde-err-values : (error : DwarfUnwinderError) → error ≢ out_of_memory → Found (Err error) → TellsDirect {R = Rule} (Direct rows values) (Err error) new → TellsValues (fde_answer reader policy section address first offset) old memory (Err (Dwarf error)) new
     unfolding fde_answer
     fde-err-values error some told is =
         err-values reader policy section.bytes first memory old new _ error some (same-found (Err error) told) (same-direct (Err error) is)

@@ -1,6 +1,7 @@
 -- What unwinding by the data of a module has told, against what the data gives.
 use Rattle.std.specs.Prelude.{◌≡◌, ◌≢◌, ℕ, Bool, true, false, MatchBool, Option, Some, None, Result, Ok, Err}
-use Rattle.framehop_core.specs.Memory.{Memory}
+use Rattle.std.specs.Fn.{Mut}
+use Rattle.framehop_core.specs.Memory.{Memory, Answering}
 use Rattle.framehop_core.specs.declared.unwind_result.UnwindResult.{UnwindResult}
 use Rattle.framehop_core.specs.declared.unwind_result.UnwindResult.TheVariants.{ExecRule, Uncacheable}
 use Rattle.framehop_bytes.specs.declared.read_error.ReadError.TheVariants.{OutOfMemory}
@@ -73,18 +74,14 @@ TellsValues answer old memory (Ok (Uncacheable address)) new = values_in answer 
 TellsValues answer old memory (Err error) new =
     MatchBool (is_of_values error) (values_in answer old memory ≡ None) (Unit {0})
 
--- registers are written only with an address that is computed, and advance then
-abbrev pub WritesWithAddress : {Rule Regs E : Type 0} → (Regs → Regs → Type 0) → Result (UnwindResult Rule) E → Regs
-    → Regs → Type 0
-WritesWithAddress Advances (Ok (ExecRule rule)) old new = new ≡ old
-WritesWithAddress Advances (Ok (Uncacheable address)) old new = Advances old new
-WritesWithAddress Advances (Err error) old new = new ≡ old
-
--- a fact of the rule that is told
-abbrev pub RuleHas : {Rule E : Type 0} → (Rule → Type 0) → Result (UnwindResult Rule) E → Type 0
-RuleHas P (Ok (ExecRule rule)) = P rule
-RuleHas P (Ok (Uncacheable address)) = Unit {0}
-RuleHas P (Err error) = Unit {0}
+-- A frame is unwound by what the unwind data gives: it is told whatever the callback replies, and the values are those
+-- over a memory as which the callback answers. Where memory ran out, nothing is told.
+abbrev pub UnwindsBy : {Rule Regs Callback : Type 0} → Option (Fresh Rule Regs) → Regs
+    → Result (UnwindResult Rule) UnwinderError → Regs → Mut Callback (ℕ × Unit {0}) (Result ℕ (Unit {0}))
+    → Callback → Callback → Type 0
+UnwindsBy answer old result new calls callback called =
+    (result ≢ Err out_of_memory → TellsAnswer answer result)
+    × Answering calls callback called (λ memory. result ≢ Err out_of_memory → TellsValues answer old memory result new)
 
 -- ---- with the fallback rule where there is nothing
 

@@ -118,7 +118,7 @@ impl<R: UnwindRule, P: AllocationPolicy> Cache<R, P> {
         ensures answer { let key : Key =
             record { address = address; generation = modules_generation; is_first_frame = is_first_frame } in
             result ≡ result_of key (found ways self.old.sets key) }
-        ensures runnable { HitRuns R.executable result }
+        ensures executable { HitRuns R.executable result }
         ensures kept { self.new.sets ≡ self.old.sets }
         ensures stats { self.new.stats ≡ counted self.old.stats
             (found ways self.old.sets

@@ -1,18 +1,18 @@
 //! Modules that are loaded in a process, and unwinding by their unwind data.
 ghost use Rattle.std.specs.Prelude.{◌≡◌, ◌≢◌, ◌+◌, ◌-◌, ◌<◌, true, IfOk, IfErr, SomeIff, IsTrue, option_map, ℕ, List, Ok, Err, None, string_bytes, Option};
-ghost use Rattle.framehop.specs.Memory.{Answering};
+ghost use Rattle.framehop_core.specs.Step.{IfRule, WritesWithAddress};
 ghost use Rattle.framehop.specs.Unwinding.{Unwinding, answer_by, may_take_memory_by};
 ghost use Rattle.framehop.specs.CallFrames.{frames_with_header, frames_answer, fde_answer, fde_offset_of, fde_may_take_memory};
 ghost use Rattle.framehop_dwarf.specs.MayTakeMemory.{may_take_memory};
 ghost use Rattle.framehop.specs.UnwindData.{unwind_data_of, placed_data};
 ghost use Rattle.framehop.specs.Compact.{by_info, compact_answer, eh_frame_may_take_memory, info_may_take_memory};
-ghost use Rattle.framehop_macho.specs.Answer.{IfExecRule};
+ghost use Rattle.framehop_macho.specs.Answer.{IfRule as IfCompactRule};
 ghost use Rattle.framehop_macho.specs.Unwinder.{unwound};
 ghost use Rattle.framehop_macho.specs.declared.macho.CuiUnwindResult.TheVariants.{NeedDwarf};
 ghost use Rattle.framehop.specs.Answer.{fresh_of};
 ghost use Rattle.framehop_pe.specs.Sections.{sections_of, placed_of};
 ghost use Rattle.framehop.specs.ModuleData.{unwind_data_in};
-ghost use Rattle.framehop.specs.Told.{out_of_memory, TellsAnswer, TellsValues, WritesWithAddress, RuleHas};
+ghost use Rattle.framehop.specs.Told.{out_of_memory, UnwindsBy};
 ghost use Rattle.framehop.specs.Modules.{ModuleView, covers};
 
 use crate::cache::AllocationPolicy;
@@ -267,7 +267,7 @@ impl<D: SectionBytes + Drop> Module<D> {
 
 /// Unwinds a frame by the FDE at an offset.
 #[tactic(auto, unfolding(crate::specs::CallFrames::fde_answer))]
-fn unwind_frame_with_fde<A: Unwinding, P: AllocationPolicy, F>(
+fn unwind_by_fde<A: Unwinding, P: AllocationPolicy, F>(
     unwinder: &mut DwarfUnwinder<'_, A, P::GimliUnwindContextStorage>,
     alloc: Global,
     relative_address: u32,
@@ -281,18 +281,14 @@ where
     requires { F.IsAlwaysCallable read_stack.old }
     ensures callable { F.IsAlwaysCallable read_stack.new }
     ensures written { WritesWithAddress (A.step_advances is_first_frame) result regs.old regs.new }
-    ensures executable { RuleHas (λ rule. IsTrue (A.UnwindRule.executable rule)) result }
+    ensures executable { IfRule result (λ rule. IsTrue (A.UnwindRule.executable rule)) }
     ensures memory { result ≡ Err out_of_memory → may_take_memory
         P.policy.rows P.policy.values unwinder.old.section (unwinder.old.base_svma + relative_address) fde_offset
         ≡ true }
-    ensures told { result ≢ Err out_of_memory → TellsAnswer
-        (fde_answer A.readers.rows P.policy unwinder.old.section
-        (unwinder.old.base_svma + relative_address) is_first_frame fde_offset) result }
-    ensures answers { Answering F.FnMut read_stack.old read_stack.new (λ memory.
-        result ≢ Err out_of_memory → TellsValues
+    ensures unwound { UnwindsBy
         (fde_answer A.readers.rows P.policy unwinder.old.section
         (unwinder.old.base_svma + relative_address) is_first_frame fde_offset)
-        regs.old memory result regs.new) }
+        regs.old result regs.new F.FnMut read_stack.old read_stack.new }
 {
     match unwinder.unwind_frame_with_fde::<P::GimliEvaluationStorage, F>(
         alloc,
@@ -308,7 +304,7 @@ where
 }
 
 /// Unwinds a frame by `.eh_frame` and its table of FDEs.
-fn unwind_frame_by_header<A: Unwinding, P: AllocationPolicy, F>(
+fn unwind_by_header<A: Unwinding, P: AllocationPolicy, F>(
     eh_frame_hdr: &[u8],
     eh_frame: &[u8],
     base_addresses: BaseAddresses,
@@ -325,21 +321,16 @@ where
     requires { F.IsAlwaysCallable read_stack.old }
     ensures callable { F.IsAlwaysCallable read_stack.new }
     ensures written { WritesWithAddress (A.step_advances is_first_frame) result regs.old regs.new }
-    ensures executable { RuleHas (λ rule. IsTrue (A.UnwindRule.executable rule)) result }
+    ensures executable { IfRule result (λ rule. IsTrue (A.UnwindRule.executable rule)) }
     ensures memory { result ≡ Err out_of_memory → fde_may_take_memory
         P.policy (frames_with_header eh_frame_hdr.now eh_frame.now base_addresses base_svma) relative_address
         (fde_offset_of (frames_with_header eh_frame_hdr.now eh_frame.now base_addresses base_svma) relative_address)
         ≡ true }
-    ensures told { result ≢ Err out_of_memory → TellsAnswer
-        (frames_answer A.readers.rows P.policy
-        (frames_with_header eh_frame_hdr.now eh_frame.now base_addresses base_svma)
-        relative_address is_first_frame) result }
-    ensures answers { Answering F.FnMut read_stack.old read_stack.new (λ memory.
-        result ≢ Err out_of_memory → TellsValues
+    ensures unwound { UnwindsBy
         (frames_answer A.readers.rows P.policy
         (frames_with_header eh_frame_hdr.now eh_frame.now base_addresses base_svma)
         relative_address is_first_frame)
-        regs.old memory result regs.new) }
+        regs.old result regs.new F.FnMut read_stack.old read_stack.new }
 {
     let mut unwinder = DwarfUnwinder::new(
         eh_frame,
@@ -350,7 +341,7 @@ where
         base_svma,
     );
     match unwinder.get_fde_offset_for_relative_address(relative_address) {
-        Some(fde_offset) => unwind_frame_with_fde::<A, P, F>(
+        Some(fde_offset) => unwind_by_fde::<A, P, F>(
             &mut unwinder,
             alloc,
             relative_address,
@@ -372,7 +363,7 @@ impl<D: SectionBytes> IndexedFrames<D> {
     }
 
     /// Unwinds a frame by the section.
-    fn unwind_frame<A: Unwinding, P: AllocationPolicy, F>(
+    fn unwind_by_index<A: Unwinding, P: AllocationPolicy, F>(
         &self,
         alloc: Global,
         unwind_context: &mut UnwindContext<P::GimliUnwindContextStorage>,
@@ -386,15 +377,12 @@ impl<D: SectionBytes> IndexedFrames<D> {
         requires { F.IsAlwaysCallable read_stack.old }
         ensures callable { F.IsAlwaysCallable read_stack.new }
         ensures written { WritesWithAddress (A.step_advances is_first_frame) result regs.old regs.new }
-        ensures executable { RuleHas (λ rule. IsTrue (A.UnwindRule.executable rule)) result }
+        ensures executable { IfRule result (λ rule. IsTrue (A.UnwindRule.executable rule)) }
         ensures memory { result ≡ Err out_of_memory → fde_may_take_memory
             P.policy self.now relative_address (fde_offset_of self.now relative_address) ≡ true }
-        ensures told { result ≢ Err out_of_memory → TellsAnswer
-            (frames_answer A.readers.rows P.policy self.now relative_address is_first_frame) result }
-        ensures answers { Answering F.FnMut read_stack.old read_stack.new (λ memory.
-            result ≢ Err out_of_memory → TellsValues
+        ensures unwound { UnwindsBy
             (frames_answer A.readers.rows P.policy self.now relative_address is_first_frame)
-            regs.old memory result regs.new) }
+            regs.old result regs.new F.FnMut read_stack.old read_stack.new }
     {
         let Some(fde_offset) = self.fde_offset(relative_address) else {
             return Err(UnwinderError::DwarfCfiIndexCouldNotFindAddress);
@@ -407,7 +395,7 @@ impl<D: SectionBytes> IndexedFrames<D> {
             self.base_addresses,
             self.base_svma,
         );
-        unwind_frame_with_fde::<A, P, F>(
+        unwind_by_fde::<A, P, F>(
             &mut unwinder,
             alloc,
             relative_address,
@@ -421,13 +409,13 @@ impl<D: SectionBytes> IndexedFrames<D> {
 
 impl<D: SectionBytes> CompactInfo<D> {
     /// What the info gives: a rule, or the offset of an FDE.
-    pub fn unwind_frame_by_info<A: Unwinding>(
+    pub fn rule_or_fde_offset<A: Unwinding>(
         &self,
         relative_address: u32,
         is_first_frame: bool,
     ) -> Result<CuiUnwindResult<A::UnwindRule>, CompactUnwindInfoUnwinderError>
         ensures says { result ≡ unwound A.readers.compact self.now.info relative_address is_first_frame }
-        ensures executable { IfExecRule result (λ rule. IsTrue (A.UnwindRule.executable rule)) }
+        ensures executable { IfCompactRule result (λ rule. IsTrue (A.UnwindRule.executable rule)) }
     {
         let text = match &self.text {
             Some(text) => Some(TextBytes::new(text.offset_from_base, text.bytes.bytes())),
@@ -443,7 +431,7 @@ impl<D: SectionBytes> CompactInfo<D> {
     }
 
     // unwinds a frame by the FDE that the info names
-    fn unwind_frame_by_eh_frame<A: Unwinding, P: AllocationPolicy, F>(
+    fn unwind_by_eh_frame<A: Unwinding, P: AllocationPolicy, F>(
         &self,
         alloc: Global,
         unwind_context: &mut UnwindContext<P::GimliUnwindContextStorage>,
@@ -458,16 +446,13 @@ impl<D: SectionBytes> CompactInfo<D> {
         requires { F.IsAlwaysCallable read_stack.old }
         ensures callable { F.IsAlwaysCallable read_stack.new }
         ensures written { WritesWithAddress (A.step_advances is_first_frame) result regs.old regs.new }
-        ensures executable { RuleHas (λ rule. IsTrue (A.UnwindRule.executable rule)) result }
+        ensures executable { IfRule result (λ rule. IsTrue (A.UnwindRule.executable rule)) }
         ensures memory { result ≡ Err out_of_memory
             → eh_frame_may_take_memory P.policy self.now.frames relative_address fde_offset ≡ true }
-        ensures told { result ≢ Err out_of_memory → TellsAnswer
+        ensures unwound { UnwindsBy
             (by_info A.readers.rows P.policy self.now.frames relative_address is_first_frame
-            (Ok (NeedDwarf fde_offset))) result }
-        ensures answers { Answering F.FnMut read_stack.old read_stack.new (λ memory.
-            result ≢ Err out_of_memory → TellsValues
-            (by_info A.readers.rows P.policy self.now.frames relative_address is_first_frame
-            (Ok (NeedDwarf fde_offset))) regs.old memory result regs.new) }
+            (Ok (NeedDwarf fde_offset)))
+            regs.old result regs.new F.FnMut read_stack.old read_stack.new }
     {
         let Some(eh_frame) = &self.eh_frame else {
             return Err(UnwinderError::NoDwarfData);
@@ -480,7 +465,7 @@ impl<D: SectionBytes> CompactInfo<D> {
             self.base_addresses,
             self.base_svma,
         );
-        unwind_frame_with_fde::<A, P, F>(
+        unwind_by_fde::<A, P, F>(
             &mut unwinder,
             alloc,
             relative_address,
@@ -492,7 +477,7 @@ impl<D: SectionBytes> CompactInfo<D> {
     }
 
     /// Unwinds a frame by the info.
-    fn unwind_frame<A: Unwinding, P: AllocationPolicy, F>(
+    fn unwind_by_info<A: Unwinding, P: AllocationPolicy, F>(
         &self,
         alloc: Global,
         unwind_context: &mut UnwindContext<P::GimliUnwindContextStorage>,
@@ -506,21 +491,18 @@ impl<D: SectionBytes> CompactInfo<D> {
         requires { F.IsAlwaysCallable read_stack.old }
         ensures callable { F.IsAlwaysCallable read_stack.new }
         ensures written { WritesWithAddress (A.step_advances is_first_frame) result regs.old regs.new }
-        ensures executable { RuleHas (λ rule. IsTrue (A.UnwindRule.executable rule)) result }
+        ensures executable { IfRule result (λ rule. IsTrue (A.UnwindRule.executable rule)) }
         ensures memory { result ≡ Err out_of_memory → info_may_take_memory
             P.policy self.now.frames relative_address
             (unwound A.readers.compact self.now.info relative_address is_first_frame) ≡ true }
-        ensures told { result ≢ Err out_of_memory → TellsAnswer
+        ensures unwound { UnwindsBy
             (compact_answer A.readers.compact
-            A.readers.rows P.policy self.now relative_address is_first_frame) result }
-        ensures answers { Answering F.FnMut read_stack.old read_stack.new (λ memory.
-            result ≢ Err out_of_memory → TellsValues
-            (compact_answer A.readers.compact
-            A.readers.rows P.policy self.now relative_address is_first_frame) regs.old memory result regs.new) }
+            A.readers.rows P.policy self.now relative_address is_first_frame)
+            regs.old result regs.new F.FnMut read_stack.old read_stack.new }
     {
-        match self.unwind_frame_by_info::<A>(relative_address, is_first_frame) {
+        match self.rule_or_fde_offset::<A>(relative_address, is_first_frame) {
             Ok(CuiUnwindResult::ExecRule(rule)) => Ok(UnwindResult::ExecRule(rule)),
-            Ok(CuiUnwindResult::NeedDwarf(fde_offset)) => self.unwind_frame_by_eh_frame::<A, P, F>(
+            Ok(CuiUnwindResult::NeedDwarf(fde_offset)) => self.unwind_by_eh_frame::<A, P, F>(
                 alloc,
                 unwind_context,
                 relative_address,
@@ -535,7 +517,7 @@ impl<D: SectionBytes> CompactInfo<D> {
 }
 
 /// Unwinds a frame by the unwind info of a PE module.
-fn unwind_frame_by_pe<D: SectionBytes, A: Unwinding, F>(
+fn unwind_by_pe<D: SectionBytes, A: Unwinding, F>(
     sections: PeSections<'_, D>,
     relative_address: u32,
     is_first_frame: bool,
@@ -547,16 +529,13 @@ where
     requires { F.IsAlwaysCallable read_stack.old }
     ensures callable { F.IsAlwaysCallable read_stack.new }
     ensures written { WritesWithAddress (A.step_advances is_first_frame) result regs.old regs.new }
-    ensures executable { RuleHas (λ rule. IsTrue (A.UnwindRule.executable rule)) result }
+    ensures executable { IfRule result (λ rule. IsTrue (A.UnwindRule.executable rule)) }
     ensures memory { result ≢ Err out_of_memory }
-    ensures told { TellsAnswer
+    ensures unwound { UnwindsBy
         (fresh_of (A.found (sections_of D.contents sections.entry) relative_address is_first_frame)
         (λ old memory. A.computed (sections_of D.contents sections.entry)
-        relative_address is_first_frame memory old)) result }
-    ensures answers { Answering F.FnMut read_stack.old read_stack.new (λ memory.
-        TellsValues (fresh_of (A.found (sections_of D.contents sections.entry) relative_address is_first_frame)
-        (λ old memory. A.computed (sections_of D.contents sections.entry) relative_address is_first_frame memory old))
-        regs.old memory result regs.new) }
+        relative_address is_first_frame memory old))
+        regs.old result regs.new F.FnMut read_stack.old read_stack.new }
 {
     match <A as PeUnwinding>::unwind_frame(
         sections,
@@ -585,7 +564,7 @@ impl<D: SectionBytes> Module<D> {
     /// of a hit is short.
     #[tactic(auto, unfolding(crate::specs::Unwinding::answer_by, crate::specs::Unwinding::may_take_memory_by))]
     #[inline(never)]
-    pub(crate) fn unwind_frame<A: Unwinding, P: AllocationPolicy, F>(
+    pub(crate) fn unwind_by_data<A: Unwinding, P: AllocationPolicy, F>(
         &self,
         alloc: Global,
         unwind_context: &mut UnwindContext<P::GimliUnwindContextStorage>,
@@ -599,14 +578,12 @@ impl<D: SectionBytes> Module<D> {
         requires { F.IsAlwaysCallable read_stack.old }
         ensures callable { F.IsAlwaysCallable read_stack.new }
         ensures written { WritesWithAddress (A.step_advances is_first_frame) result regs.old regs.new }
-        ensures executable { RuleHas (λ rule. IsTrue (A.UnwindRule.executable rule)) result }
+        ensures executable { IfRule result (λ rule. IsTrue (A.UnwindRule.executable rule)) }
         ensures memory { result ≡ Err out_of_memory → may_take_memory_by
             A.readers P.policy self.now relative_address is_first_frame ≡ true }
-        ensures told { result ≢ Err out_of_memory → TellsAnswer
-            (answer_by A.readers P.policy self.now relative_address is_first_frame) result }
-        ensures answers { Answering F.FnMut read_stack.old read_stack.new (λ memory.
-            result ≢ Err out_of_memory → TellsValues
-            (answer_by A.readers P.policy self.now relative_address is_first_frame) regs.old memory result regs.new) }
+        ensures unwound { UnwindsBy
+            (answer_by A.readers P.policy self.now relative_address is_first_frame)
+            regs.old result regs.new F.FnMut read_stack.old read_stack.new }
     {
         match &*self.fields.unwind_data {
             ModuleUnwindDataInternal::EhFrameHdrAndEhFrame {
@@ -614,7 +591,7 @@ impl<D: SectionBytes> Module<D> {
                 eh_frame,
                 base_addresses,
                 base_svma,
-            } => unwind_frame_by_header::<A, P, F>(
+            } => unwind_by_header::<A, P, F>(
                 eh_frame_hdr.bytes(),
                 eh_frame.bytes(),
                 *base_addresses,
@@ -627,7 +604,7 @@ impl<D: SectionBytes> Module<D> {
                 read_stack,
             ),
             ModuleUnwindDataInternal::CompactUnwindInfoAndEhFrame(compact) =>
-                compact.unwind_frame::<A, P, F>(
+                compact.unwind_by_info::<A, P, F>(
                     alloc,
                     unwind_context,
                     relative_address,
@@ -635,7 +612,7 @@ impl<D: SectionBytes> Module<D> {
                     regs,
                     read_stack,
                 ),
-            ModuleUnwindDataInternal::DwarfCfiIndexAndFrames(frames) => frames.unwind_frame::<
+            ModuleUnwindDataInternal::DwarfCfiIndexAndFrames(frames) => frames.unwind_by_index::<
                 A,
                 P,
                 F,
@@ -652,7 +629,7 @@ impl<D: SectionBytes> Module<D> {
                 rdata,
                 xdata,
                 text,
-            } => unwind_frame_by_pe::<D, A, F>(
+            } => unwind_by_pe::<D, A, F>(
                 PeSections {
                     pdata,
                     rdata: lent(rdata),

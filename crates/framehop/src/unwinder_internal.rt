@@ -99,7 +99,7 @@ impl<D: SectionBytes + Drop, A: Unwinding, P: AllocationPolicy> UnwinderInternal
     ) -> CacheResult<A::UnwindRule>
         ensures answer { result ≡ result_of (key_of self.now (location_of address))
             (found ways cache.old.sets (key_of self.now (location_of address))) }
-        ensures runnable { HitRuns A.UnwindRule.executable result }
+        ensures executable { HitRuns A.UnwindRule.executable result }
         ensures kept { cache.new.sets ≡ cache.old.sets }
         ensures stats { cache.new.stats
             ≡ counted cache.old.stats (found ways cache.old.sets (key_of self.now (location_of address))) }
@@ -113,7 +113,7 @@ impl<D: SectionBytes + Drop, A: Unwinding, P: AllocationPolicy> UnwinderInternal
 
     // unwinds a frame by the unwind data of the module that covers it, else by the fallback rule
     #[inline(always)]
-    fn unwind_frame_by_modules<F>(
+    fn unwind_by_modules<F>(
         &self,
         lookup_address: u64,
         is_first_frame: bool,
@@ -141,7 +141,7 @@ impl<D: SectionBytes + Drop, A: Unwinding, P: AllocationPolicy> UnwinderInternal
         let Some((module, relative_address)) = self.find_module_for_address(lookup_address) else {
             return Ok(FrameAnswer::Rule(A::UnwindRule::fallback_rule()));
         };
-        frame_answer(module.unwind_frame::<A, P, F>(
+        frame_answer(module.unwind_by_data::<A, P, F>(
             self.modules.allocator(),
             &mut cache.gimli_unwind_context,
             relative_address,
@@ -184,13 +184,7 @@ impl<D: SectionBytes + Drop, A: Unwinding, P: AllocationPolicy> UnwinderInternal
             is_first_frame regs.old memory in
             (result ≡ answer_of outcome) × (regs.new ≡ registers_after regs.old outcome)) }
     {
-        match self.unwind_frame_by_modules(
-            lookup_address,
-            is_first_frame,
-            regs,
-            cache,
-            read_stack,
-        )? {
+        match self.unwind_by_modules(lookup_address, is_first_frame, regs, cache, read_stack)? {
             FrameAnswer::Rule(rule) => {
                 cache.insert(handle, rule);
                 rule.exec(is_first_frame, regs, read_stack)

@@ -64,7 +64,7 @@ impl<R: UnwindRule> RuleCache<R> {
     ) -> CacheResult<R>
         ensures answer { let key : Key = record { address = address; generation = modules_generation; is_first_frame = is_first_frame } in
             result ≡ result_of key (found ways self.old.sets key) }
-        ensures runnable { HitRuns R.executable result }
+        ensures executable { HitRuns R.executable result }
         ensures kept { self.new.sets ≡ self.old.sets }
         ensures stats { self.new.stats ≡ counted self.old.stats
             (found ways self.old.sets (record { address = address; generation = modules_generation; is_first_frame = is_first_frame })) }
@@ -105,7 +105,7 @@ impl<R: UnwindRule> RuleCache<R> {
     ) -> Option<R>
         ensures answer { result ≡ rule_of
             (found ways self.old.sets (record { address = address; generation = modules_generation; is_first_frame = is_first_frame })) }
-        ensures runnable { IfSome result (λ rule. R.executable rule ≡ true) }
+        ensures executable { IfSome result (λ rule. R.executable rule ≡ true) }
         ensures kept { self.new.sets ≡ self.old.sets }
         ensures stats { self.new.stats ≡ counted self.old.stats
             (found ways self.old.sets (record { address = address; generation = modules_generation; is_first_frame = is_first_frame })) }
@@ -204,7 +204,7 @@ impl<R: UnwindRule> CacheSet<R> {
     fn find_newest(&self, address: u64, modules_generation: u64, is_first_frame: bool) -> Option<R>
         ensures answer { let key : Key = record { address = address; generation = modules_generation; is_first_frame = is_first_frame } in
             IfSome result (λ rule. rule_found (find (λ entry. same_key entry.key key) (entries_of self.now)) ≡ Some rule) }
-        ensures runnable { IsSet R.executable self.now → IfSome result (λ rule. R.executable rule ≡ true) }
+        ensures executable { IsSet R.executable self.now → IfSome result (λ rule. R.executable rule ≡ true) }
     {
         self.newest
             .find(address, modules_generation, is_first_frame)
@@ -215,7 +215,7 @@ impl<R: UnwindRule> CacheSet<R> {
     fn find(&self, address: u64, modules_generation: u64, is_first_frame: bool) -> Option<R>
         ensures answer { let key : Key = record { address = address; generation = modules_generation; is_first_frame = is_first_frame } in
             result ≡ rule_found (find (λ entry. same_key entry.key key) (entries_of self.now)) }
-        ensures runnable { IsSet R.executable self.now → IfSome result (λ rule. R.executable rule ≡ true) }
+        ensures executable { IsSet R.executable self.now → IfSome result (λ rule. R.executable rule ≡ true) }
     {
         match self
             .newest
@@ -257,7 +257,7 @@ impl<R: UnwindRule> CacheSet<R> {
     /// replaced, else the older one is dropped.
     #[inline(always)]
     fn insert(&mut self, entry: CacheEntry<R>, is_first_frame: bool)
-        requires runnable { R.executable entry.unwind_rule ≡ true }
+        requires executable { R.executable entry.unwind_rule ≡ true }
         requires set { IsSet R.executable self.old }
         ensures stored { entries_of self.new ≡ inserted_in ways (entry_of is_first_frame entry) (entries_of self.old) }
         ensures set { IsSet R.executable self.new }

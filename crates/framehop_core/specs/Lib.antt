@@ -6,6 +6,7 @@ pub mod Memory
 pub mod CodeAddress
 pub mod Outcome
 pub mod Runs
+pub mod Step
 pub mod Aarch64
 pub mod X86_64
 -- Lemmas that the traits' laws and other crates import: a reader of the contracts can pass them.

@@ -10,7 +10,7 @@ use Rattle.framehop_cfi.specs.declared.storage.StorageLimits.{StorageLimits}
 use Rattle.framehop_cfi.specs.declared.entry.FrameDescriptionEntry.{FrameDescriptionEntry}
 use Rattle.framehop_bytes.specs.declared.read_error.ReadError.{ReadError}
 use Rattle.framehop_bytes.specs.declared.read_error.ReadError.TheVariants.{NoRow}
-use Rattle.framehop_dwarf.specs.Told.{no_memory}
+use Rattle.framehop_dwarf.specs.Told.{out_of_memory}
 use Rattle.framehop_cfi.specs.declared.dwarf_error.DwarfUnwinderError.{DwarfUnwinderError}
 use Rattle.framehop_cfi.specs.declared.dwarf_error.DwarfUnwinderError.TheVariants.{FdeFromOffsetFailed, UnwindInfoForAddressFailed}
 use Rattle.framehop_cfi.specs.Header.{Header, layout_of, fde_offset_in}
@@ -82,4 +82,4 @@ abbrev pub HasFound : Result Bool DwarfUnwinderError → Row → Reading → Typ
 HasFound (Ok true) row reading = reading ≡ by_row row
 HasFound (Ok false) row reading = reading ≡ uncovered
 HasFound (Err error) row reading =
-    error ≢ no_memory → (e : ReadError) × (error ≡ FdeFromOffsetFailed e) × (reading ≡ unread e)
+    error ≢ out_of_memory → (e : ReadError) × (error ≡ FdeFromOffsetFailed e) × (reading ≡ unread e)

@@ -2,8 +2,9 @@
 ghost use Rattle.std.specs.Prelude.{◌≡◌, ◌≢◌, ◌^◌, ℕ, Bool, true, IsTrue, List, Option, Result, Ok, Err, Some, None, IfOk, IfErr, OnErr, pos, negsuc, ◌+ℤ◌, ◌≤ℤ◌, option_and_then};
 ghost use Rattle.framehop_core.specs.Memory.{Memory, Answering};
 ghost use Rattle.framehop_core.specs.Outcome.{answered};
+ghost use Rattle.framehop_core.specs.Step.{IfRule, IfAddress, WritesWithAddress, TellsFound};
 ghost use Rattle.framehop_cfi.specs.Row.{Row};
-ghost use Rattle.framehop_dwarf.specs.Told.{no_memory, NeedsNoStack, TellsFound, WritesWithAddress, TellsDirect, IsRule, IsMeant, RuleHas, AdvancesWithAddress};
+ghost use Rattle.framehop_dwarf.specs.Told.{out_of_memory, IsOfValues, NeedsNoStack, TellsDirect};
 ghost use Rattle.framehop_cfi.specs.declared.dwarf_error.DwarfUnwinderError.{DwarfUnwinderError as DwarfRefusal};
 ghost use Rattle.framehop_dwarf.specs.Units.{units_of, signed_units_of};
 ghost use Rattle.framehop_dwarf.specs.Direct.{sum_of, cfa_of, register_of};
@@ -61,24 +62,23 @@ pub trait DwarfUnwinding: Arch {
         F: FnMut(u64) -> Result<u64, ()>,
         requires { F.IsAlwaysCallable read_stack.old }
         ensures callable { F.IsAlwaysCallable read_stack.new }
-        ensures found { TellsFound (Ok (translated unwind_info.now)) result }
-        ensures kept { WritesWithAddress result regs.old regs.new }
-        ensures unread { RuleHas (λ rule. read_stack.new ≡ read_stack.old) result }
+        ensures found { TellsFound IsOfValues (Ok (translated unwind_info.now)) result }
+        ensures written { WritesWithAddress (ascends is_first_frame) result regs.old regs.new }
+        ensures unread { IfRule result (λ rule. read_stack.new ≡ read_stack.old) }
         ensures unread_refused { IfErr result (λ error. NeedsNoStack error → read_stack.new ≡ read_stack.old) }
-        ensures runnable { RuleHas (λ rule. IsTrue (Self.UnwindRule.executable rule)) result }
-        ensures ascends { AdvancesWithAddress (ascends is_first_frame) result regs.old regs.new }
-        ensures memory { result ≡ Err no_memory → (E.Stack.limit ≡ None) × (has_expression unwind_info.now ≡ true) }
-        ensures means { (rule : Self.UnwindRule) (first : Bool) (old new : Self.UnwindRegs) (memory : Memory) (address : ℕ)
-            → IsRule rule result → Self.UnwindRule.outcome rule first old memory ≡ answered address new
-            → row_means section.now memory unwind_info.now first old address new }
+        ensures executable { IfRule result (λ rule. IsTrue (Self.UnwindRule.executable rule)) }
+        ensures memory { result ≡ Err out_of_memory → (E.Stack.limit ≡ None) × (has_expression unwind_info.now ≡ true) }
+        ensures means { IfRule result (λ rule. (first : Bool) (old new : Self.UnwindRegs) (memory : Memory) (address : ℕ)
+            → Self.UnwindRule.outcome rule first old memory ≡ answered address new
+            → row_means section.now memory unwind_info.now first old address new) }
         ensures answers { Answering F.FnMut read_stack.old read_stack.new (λ memory.
             TellsDirect (direct section.now E.Stack.limit memory unwind_info.now is_first_frame regs.old) result regs.new
-            × IsMeant (columns_mean section.now E.Stack.limit memory unwind_info.now is_first_frame regs.old) result regs.new) };
+            × IfAddress result (λ address. columns_mean section.now E.Stack.limit memory unwind_info.now is_first_frame regs.old address regs.new)) };
 
     /// Returns the rule of an address that no row covers.
     fn rule_if_uncovered_by_fde() -> Self::UnwindRule
         ensures rule { result ≡ uncovered }
-        ensures runnable { IsTrue (Self.UnwindRule.executable result) };
+        ensures executable { IsTrue (Self.UnwindRule.executable result) };
 
     // where the rule of a row answers an address, the step is what the row means
     ghost rule_means: { (section : List ℕ) (memory : Memory) (row : Row) (rule : Self.UnwindRule) (first : Bool) (old new : Self.UnwindRegs) (address : ℕ)

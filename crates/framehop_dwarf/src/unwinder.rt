@@ -7,7 +7,8 @@ ghost use Rattle.framehop_dwarf.specs.MayTakeMemory.{needs_room_by, may_take_mem
 ghost use Rattle.framehop_dwarf.specs.Unwinder.{header_bases, HasHeader, fde_offset_for, reading_of, IsReading, HasFound, found_by, direct_by, OfRow};
 ghost use Rattle.framehop_core.specs.Memory.{Memory, Answering};
 ghost use Rattle.framehop_core.specs.Outcome.{answered};
-ghost use Rattle.framehop_dwarf.specs.Told.{no_memory, NeedsNoStack, TellsFound, WritesWithAddress, TellsDirect, IsRule, IsMeant, RuleHas, AdvancesWithAddress};
+ghost use Rattle.framehop_core.specs.Step.{IfRule, IfAddress, WritesWithAddress, TellsFound};
+ghost use Rattle.framehop_dwarf.specs.Told.{out_of_memory, IsOfValues, NeedsNoStack, TellsDirect};
 
 use crate::dwarf::{DwarfUnwinderError, DwarfUnwinding};
 use crate::evaluation::EvaluationStorage;
@@ -101,7 +102,7 @@ pub fn find_row<S: UnwindContextStorage>(
     unwind_context: &mut UnwindContext<S>,
 ) -> Result<bool, DwarfUnwinderError>
     ensures found { HasFound result unwind_context.new.row (reading_of S.limits section.now (base_svma + rel_lookup_address) fde_offset) }
-    ensures memory { result ≡ Err no_memory → (S.limits ≡ None) × (needs_room_by section.now (base_svma + rel_lookup_address) (fde_at section.now fde_offset) ≡ true) }
+    ensures memory { result ≡ Err out_of_memory → (S.limits ≡ None) × (needs_room_by section.now (base_svma + rel_lookup_address) (fde_at section.now fde_offset) ≡ true) }
 {
     let fde = match section.fde_from_offset(fde_offset as usize) {
         Ok(fde) => fde,
@@ -148,19 +149,18 @@ impl<'a, A: DwarfUnwinding, S: UnwindContextStorage> DwarfUnwinder<'a, A, S> {
         ensures section { self.new.section ≡ self.old.section }
         ensures header { self.new.eh_frame_hdr ≡ self.old.eh_frame_hdr }
         ensures base { self.new.base_svma ≡ self.old.base_svma }
-        ensures kept { WritesWithAddress result regs.old regs.new }
-        ensures unread { RuleHas (λ rule. read_stack.new ≡ read_stack.old) result }
+        ensures written { WritesWithAddress (A.ascends is_first_frame) result regs.old regs.new }
+        ensures unread { IfRule result (λ rule. read_stack.new ≡ read_stack.old) }
         ensures unread_refused { IfErr result (λ error. NeedsNoStack error → read_stack.new ≡ read_stack.old) }
-        ensures found { result ≢ Err no_memory → TellsFound (found_by A.translated A.uncovered (reading_of S.limits self.old.section (self.old.base_svma + rel_lookup_address) fde_offset)) result }
-        ensures runnable { RuleHas (λ rule. IsTrue (A.UnwindRule.executable rule)) result }
-        ensures ascends { AdvancesWithAddress (A.ascends is_first_frame) result regs.old regs.new }
-        ensures memory { result ≡ Err no_memory → may_take_memory S.limits E.Stack.limit self.old.section (self.old.base_svma + rel_lookup_address) fde_offset ≡ true }
-        ensures means { OfRow (λ row. (rule : A.UnwindRule) (first : Bool) (old new : A.UnwindRegs) (memory : Memory) (address : ℕ)
-            → IsRule rule result → A.UnwindRule.outcome rule first old memory ≡ answered address new
-            → A.row_means self.old.section.bytes memory row first old address new) (reading_of S.limits self.old.section (self.old.base_svma + rel_lookup_address) fde_offset) }
+        ensures found { result ≢ Err out_of_memory → TellsFound IsOfValues (found_by A.translated A.uncovered (reading_of S.limits self.old.section (self.old.base_svma + rel_lookup_address) fde_offset)) result }
+        ensures executable { IfRule result (λ rule. IsTrue (A.UnwindRule.executable rule)) }
+        ensures memory { result ≡ Err out_of_memory → may_take_memory S.limits E.Stack.limit self.old.section (self.old.base_svma + rel_lookup_address) fde_offset ≡ true }
+        ensures means { OfRow (λ row. IfRule result (λ rule. (first : Bool) (old new : A.UnwindRegs) (memory : Memory) (address : ℕ)
+            → A.UnwindRule.outcome rule first old memory ≡ answered address new
+            → A.row_means self.old.section.bytes memory row first old address new)) (reading_of S.limits self.old.section (self.old.base_svma + rel_lookup_address) fde_offset) }
         ensures answers { Answering F.FnMut read_stack.old read_stack.new (λ memory.
             TellsDirect (direct_by (λ row. A.direct self.old.section.bytes E.Stack.limit memory row is_first_frame regs.old) (reading_of S.limits self.old.section (self.old.base_svma + rel_lookup_address) fde_offset)) result regs.new
-            × OfRow (λ row. IsMeant (A.columns_mean self.old.section.bytes E.Stack.limit memory row is_first_frame regs.old) result regs.new) (reading_of S.limits self.old.section (self.old.base_svma + rel_lookup_address) fde_offset)) }
+            × OfRow (λ row. IfAddress result (λ address. A.columns_mean self.old.section.bytes E.Stack.limit memory row is_first_frame regs.old address regs.new)) (reading_of S.limits self.old.section (self.old.base_svma + rel_lookup_address) fde_offset)) }
         ensures reading { IsReading S.limits self.old.section (self.old.base_svma + rel_lookup_address) fde_offset (reading_of S.limits self.old.section (self.old.base_svma + rel_lookup_address) fde_offset) }
     {
         let found = find_row(

@@ -180,7 +180,7 @@ where
         (unwound A.readers.compact info.now.info relative_address is_first_frame))) }
 {
     let place = place_of::<D, A>(info, relative_address, is_first_frame);
-    match info.unwind_frame_by_info::<A>(relative_address, is_first_frame) {
+    match info.rule_or_fde_offset::<A>(relative_address, is_first_frame) {
         Ok(CuiUnwindResult::ExecRule(rule)) => Ok((Source::Compact(place), Told::Rule(rule))),
         Ok(CuiUnwindResult::NeedDwarf(fde_offset)) => explain_by_eh_frame::<D, A, P, F>(
             info,

@@ -1,6 +1,6 @@
 //! What the unwind data of a module tells for a frame.
 ghost use Rattle.std.specs.Prelude.{◌≡◌, ◌≢◌, IfOk, OnOk, Err};
-ghost use Rattle.framehop_dwarf.specs.Told.{no_memory};
+ghost use Rattle.framehop_dwarf.specs.Told.{out_of_memory};
 ghost use Rattle.framehop_explain.specs.Told.{of_dwarf, of_pe};
 
 use framehop::UnwinderError;
@@ -26,7 +26,7 @@ pub fn told_by_dwarf<R>(
     answer: Result<UnwindResult<R>, DwarfUnwinderError>,
 ) -> Result<Told<R>, AllocError>
     ensures told { IfOk result (λ told. told ≡ of_dwarf answer) }
-    ensures whole { OnOk result (answer ≢ Err no_memory) }
+    ensures whole { OnOk result (answer ≢ Err out_of_memory) }
 {
     match answer {
         Ok(UnwindResult::ExecRule(rule)) => Ok(Told::Rule(rule)),

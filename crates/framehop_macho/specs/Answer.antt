@@ -14,10 +14,10 @@ exec_rule (Ok rule) = Ok (ExecRule rule)
 exec_rule (Err error) = Err error
 
 -- a fact of the rule, where one is returned
-abbrev pub IfExecRule : {Rule E : Type 0} → Result (CuiUnwindResult Rule) E → (Rule → Type 0) → Type 0
-IfExecRule (Ok (ExecRule rule)) P = P rule
-IfExecRule (Ok (NeedDwarf _)) P = Unit {0}
-IfExecRule (Err _) P = Unit {0}
+abbrev pub IfRule : {Rule E : Type 0} → Result (CuiUnwindResult Rule) E → (Rule → Type 0) → Type 0
+IfRule (Ok (ExecRule rule)) P = P rule
+IfRule (Ok (NeedDwarf _)) P = Unit {0}
+IfRule (Err _) P = Unit {0}
 
 -- the rule that a code analysis finds, or another answer where it finds none
 abbrev pub rule_or : {Rule : Type 0} → Option Rule → (otherwise : Answer Rule) → Answer Rule

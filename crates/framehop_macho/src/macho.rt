@@ -2,7 +2,7 @@
 ghost use Rattle.std.specs.Prelude.{◌≡◌, ◌≤◌, ◌-◌, ℕ, IfOk, IfSome, option_map, List, length, ◌⊎◌, Bool, true, IsTrue, Some, None, Ok, Err, Result, Option};
 ghost use Rattle.std.specs.Option.{ForSome, option_copied};
 ghost use Rattle.framehop_analysis.specs.Answer.{Does};
-ghost use Rattle.framehop_macho.specs.Answer.{Answer, IfExecRule};
+ghost use Rattle.framehop_macho.specs.Answer.{Answer, IfRule};
 ghost use Rattle.framehop_macho.specs.UnwindInfo.{function_of, Covers, HasNoFunction};
 ghost use Rattle.framehop_macho.specs.Unwinder.{text_of, module_of, code_between, code_of, is_in, function_for, unwound_in, unwound_by, unwound};
 ghost use Rattle.framehop_macho.specs.declared.macho.CuiUnwindResult.{CuiUnwindResult};
@@ -122,14 +122,14 @@ pub trait CompactUnwindInfoUnwinding: InstructionAnalysis {
     ) -> Result<CuiUnwindResult<Self::UnwindRule>, CompactUnwindInfoUnwinderError>
         requires { ForSome function_bytes (λ code. address_offset_within_function ≤ length code.now) }
         ensures says { result ≡ says function is_first_frame address_offset_within_function (option_copied function_bytes.entry) }
-        ensures executable { IfExecRule result (λ rule. IsTrue (Self.UnwindRule.executable rule)) };
+        ensures executable { IfRule result (λ rule. IsTrue (Self.UnwindRule.executable rule)) };
 
     /// Returns the rule at an offset of `__stub_helper`, in bytes, for a first frame.
     fn rule_for_stub_helper(
         offset: u32,
     ) -> Result<CuiUnwindResult<Self::UnwindRule>, CompactUnwindInfoUnwinderError>
         ensures says { result ≡ Ok (ExecRule (helper_rule offset)) }
-        ensures executable { IfExecRule result (λ rule. IsTrue (Self.UnwindRule.executable rule)) };
+        ensures executable { IfRule result (λ rule. IsTrue (Self.UnwindRule.executable rule)) };
 
     ghost says_by_code: { (function : Function) (code : List ℕ) (offset : ℕ) (rule : Self.UnwindRule) → by_code function code offset ≡ Some rule
         → says function true offset (Some code) ≡ Ok (ExecRule rule) };
@@ -252,7 +252,7 @@ impl<'a, A: CompactUnwindInfoUnwinding> CompactUnwindInfoUnwinder<'a, A> {
           helper_rule = A.helper_rule;
           says = A.says;
         }) (module_of self.now) rel_lookup_address is_first_frame }
-        ensures executable { IfExecRule result (λ rule. IsTrue (A.UnwindRule.executable rule)) }
+        ensures executable { IfRule result (λ rule. IsTrue (A.UnwindRule.executable rule)) }
     {
         if is_in(self.stubs_range, rel_lookup_address) {
             if !is_first_frame {
@@ -283,7 +283,7 @@ impl<'a, A: CompactUnwindInfoUnwinding> CompactUnwindInfoUnwinder<'a, A> {
           helper_rule = A.helper_rule;
           says = A.says;
         }) (module_of self.now) address is_first_frame (function_of (module_of self.now).unwind_info address) }
-        ensures executable { IfExecRule result (λ rule. IsTrue (A.UnwindRule.executable rule)) }
+        ensures executable { IfRule result (λ rule. IsTrue (A.UnwindRule.executable rule)) }
     {
         match find_function(self.unwind_info_data, address) {
             Ok(Some(function)) => {
@@ -323,7 +323,7 @@ fn unwind_frame_of_function<A: CompactUnwindInfoUnwinding>(
       helper_rule = A.helper_rule;
       says = A.says;
     }) (option_map text_of text_bytes.entry) address is_first_frame function }
-    ensures executable { IfExecRule result (λ rule. IsTrue (A.UnwindRule.executable rule)) }
+    ensures executable { IfRule result (λ rule. IsTrue (A.UnwindRule.executable rule)) }
 {
     if is_first_frame && address == function.start_address {
         return Ok(CuiUnwindResult::ExecRule(A::UnwindRule::rule_for_function_start()));

@@ -12,19 +12,6 @@ abbrev pub IsMissingStackData : PeUnwinderError → Type 0
 IsMissingStackData (MissingStackData _) = Unit {0}
 IsMissingStackData _ = ⊥
 
--- no rule is returned: a return address, or the error of the stack
-abbrev pub IsNoRule : {Rule : Type 0} → Result (UnwindResult Rule) PeUnwinderError → Type 0
-IsNoRule (Ok (ExecRule _)) = ⊥
-IsNoRule (Ok (Uncacheable _)) = Unit {0}
-IsNoRule (Err error) = IsMissingStackData error
-
--- What is returned, by what the bytes give: a refusal and a rule as they are, and where there is none, no rule.
-abbrev pub TellsFound :
-    {Rule : Type 0} → Result (Option Rule) PeUnwinderError → Result (UnwindResult Rule) PeUnwinderError → Type 0
-TellsFound (Err error) result = result ≡ Err error
-TellsFound (Ok (Some rule)) result = result ≡ Ok (ExecRule rule)
-TellsFound (Ok None) result = IsNoRule result
-
 -- Where no rule is returned: the return address and the caller's registers, or the error, are the computed ones.
 abbrev pub IsComputed :
     {Rule Regs E : Type 0} → Result (ℕ × Regs) E → Result (UnwindResult Rule) E → Regs → Type 0
@@ -39,15 +26,3 @@ abbrev pub Simulates :
 Simulates {Rule} {Regs} outcome computed rule =
     (first : Bool) (old new : Regs) (memory : Memory) (address : ℕ)
     → outcome rule first old memory ≡ answered address new → computed memory old ≡ Ok (address, new)
-
--- the registers are as they were, but where a return address is returned
-abbrev pub KeptUnlessDirect : {Rule Regs E : Type 0} → Result (UnwindResult Rule) E → Regs → Regs → Type 0
-KeptUnlessDirect (Ok (ExecRule _)) old new = new ≡ old
-KeptUnlessDirect (Ok (Uncacheable _)) old new = Unit {0}
-KeptUnlessDirect (Err _) old new = new ≡ old
-
--- a fact of the rule, where one is returned
-abbrev pub IfRule : {Rule E : Type 0} → Result (UnwindResult Rule) E → (Rule → Type 0) → Type 0
-IfRule (Ok (ExecRule rule)) P = P rule
-IfRule (Ok (Uncacheable _)) P = Unit {0}
-IfRule (Err _) P = Unit {0}

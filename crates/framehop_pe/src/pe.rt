@@ -2,7 +2,8 @@
 //! (framehop 0.16.0, `pe.rs`).
 ghost use Rattle.std.specs.Prelude.{◌≡◌, ℕ, Bool, IsTrue, Option, Some, None, Result, Ok, MatchOption, MatchResult, IfErr};
 ghost use Rattle.framehop_core.specs.Memory.{Memory, Answering};
-ghost use Rattle.framehop_pe.specs.Answer.{IsMissingStackData, TellsFound, IsComputed, Simulates, KeptUnlessDirect, IfRule};
+ghost use Rattle.framehop_core.specs.Step.{IfRule, KeptWithoutAddress, TellsFound};
+ghost use Rattle.framehop_pe.specs.Answer.{IsMissingStackData, IsComputed, Simulates};
 ghost use Rattle.framehop_pe.specs.declared.pe.PeUnwinderError.{PeUnwinderError};
 ghost use Rattle.framehop_pe.specs.Sections.{Sections, sections_of, placed_of, bytes_at, unwind_info_at, text_at};
 
@@ -147,10 +148,10 @@ pub trait PeUnwinding: Arch {
         D: SectionBytes,
         requires { F.IsAlwaysCallable read_stack.old }
         ensures callable { F.IsAlwaysCallable read_stack.new }
-        ensures kept { KeptUnlessDirect result regs.old regs.new }
+        ensures written { KeptWithoutAddress result regs.old regs.new }
         ensures unread { IfRule result (λ _. read_stack.new ≡ read_stack.old) }
         ensures unread_refused { IfErr result (λ error. (¬ IsMissingStackData error) → read_stack.new ≡ read_stack.old) }
-        ensures found { TellsFound (found (sections_of D.contents sections.entry) address is_first_frame) result }
+        ensures found { TellsFound IsMissingStackData (found (sections_of D.contents sections.entry) address is_first_frame) result }
         ensures refusal { IfErr (found (sections_of D.contents sections.entry) address is_first_frame) (λ error. ¬ IsMissingStackData error) }
         ensures executable { IfRule result (λ rule. IsTrue (Self.UnwindRule.executable rule)) }
         ensures simulation { IfRule result (Simulates Self.UnwindRule.outcome (computed (sections_of D.contents sections.entry) address is_first_frame)) }

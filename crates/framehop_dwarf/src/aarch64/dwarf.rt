@@ -3,7 +3,7 @@
 ghost use Rattle.std.specs.Prelude.{◌≡◌, ◌^◌, ◌<◌, ◌||◌, true, None, IfErr, OnOk, OnErr, Ok, Err};
 ghost use Rattle.framehop_core.specs.Memory.{Memory, Answering};
 ghost use Rattle.framehop_dwarf.specs.Aarch64.{translated_by, by_sp, by_fp, by_saved, beside_fp, with_fp, with_fp_kept, with_lr, or_kept, stepped, scope_of, direct_by, translated, direct_of, Ascends};
-ghost use Rattle.framehop_dwarf.specs.Told.{no_memory, NeedsNoStack, Has, IsOfValues};
+ghost use Rattle.framehop_dwarf.specs.Told.{out_of_memory, NeedsNoStack, Has, IsOfValues};
 ghost use Rattle.framehop_dwarf.specs.MayTakeMemory.{is_cfa_expression, is_some_expression, has_expression};
 
 use crate::dwarf::{
@@ -122,7 +122,7 @@ where
     ensures refused { IfErr result IsOfValues }
     ensures unread { IfErr result (λ error. NeedsNoStack error → read_stack.new ≡ read_stack.old) }
     ensures ascends { OnOk result (Ascends is_first_frame regs.old regs.new) }
-    ensures memory { result ≡ Err no_memory → (E.Stack.limit ≡ None) × (has_expression unwind_info.now ≡ true) }
+    ensures memory { result ≡ Err out_of_memory → (E.Stack.limit ≡ None) × (has_expression unwind_info.now ≡ true) }
     ensures answers { Answering F.FnMut read_stack.old read_stack.new (λ memory.
         Has (direct_of section.now E.Stack.limit memory unwind_info.now is_first_frame regs.old) result regs.new) }
 {
@@ -349,7 +349,7 @@ where
     ensures refused { IfErr result IsOfValues }
     ensures unread { IfErr result (λ error. NeedsNoStack error → read_stack.new ≡ read_stack.old) }
     ensures ascends { OnOk result (Ascends is_first_frame regs.old regs.new) }
-    ensures memory { result ≡ Err no_memory → (E.Stack.limit ≡ None)
+    ensures memory { result ≡ Err out_of_memory → (E.Stack.limit ≡ None)
         × ((is_cfa_expression cfa_rule || is_some_expression fp_rule || is_some_expression lr_rule) ≡ true) }
     ensures answers { Answering F.FnMut read_stack.old read_stack.new (λ memory.
         Has (direct_by (scope_of section.now E.Stack.limit regs.old) memory cfa_rule fp_rule lr_rule is_first_frame regs.old) result regs.new) }

@@ -4,7 +4,7 @@ ghost use Rattle.std.specs.Prelude.{◌≡◌, ◌≢◌, ◌||◌, true, None, 
 ghost use Rattle.framehop_core.specs.Memory.{Memory, Answering};
 ghost use Rattle.framehop_core.specs.X86_64.Rules.{is_executable};
 ghost use Rattle.framehop_dwarf.specs.X86_64.{translated_by, by_cfa, by_sp, by_bp, with_bp, with_offsets, below, or_below, scope_of, stepped, direct_by, translated, direct_of};
-ghost use Rattle.framehop_dwarf.specs.Told.{no_memory, NeedsNoStack, Has, IsOfValues};
+ghost use Rattle.framehop_dwarf.specs.Told.{out_of_memory, NeedsNoStack, Has, IsOfValues};
 ghost use Rattle.framehop_dwarf.specs.MayTakeMemory.{is_cfa_expression, is_some_expression, has_expression};
 
 use crate::dwarf::{
@@ -98,7 +98,7 @@ impl DwarfUnwinding for ArchX86_64 {
 #[tactic(auto, unfolding(crate::specs::X86_64::translated))]
 fn rule_of_row<S: UnwindContextStorage>(unwind_info: &UnwindTableRow<S>) -> Option<UnwindRuleX86_64>
     ensures exact { result ≡ translated unwind_info.now }
-    ensures runnable { IfSome result (λ rule. is_executable rule ≡ true) }
+    ensures executable { IfSome result (λ rule. is_executable rule ≡ true) }
 {
     let bp_rule = unwind_info.register(RBP);
     let ra_rule = unwind_info.register(RA);
@@ -122,7 +122,7 @@ where
     ensures kept { OnErr result (regs.new ≡ regs.old) }
     ensures refused { IfErr result IsOfValues }
     ensures unread { IfErr result (λ error. NeedsNoStack error → read_stack.new ≡ read_stack.old) }
-    ensures memory { result ≡ Err no_memory → (E.Stack.limit ≡ None) × (has_expression unwind_info.now ≡ true) }
+    ensures memory { result ≡ Err out_of_memory → (E.Stack.limit ≡ None) × (has_expression unwind_info.now ≡ true) }
     ensures answers { Answering F.FnMut read_stack.old read_stack.new (λ memory.
         Has (direct_of section.now E.Stack.limit memory unwind_info.now is_first_frame regs.old) result regs.new) }
 {
@@ -147,7 +147,7 @@ fn translate_with_bp(
     bp_rule: Option<RegisterRule>,
 ) -> Option<UnwindRuleX86_64>
     ensures exact { result ≡ with_bp sp_offset_by_8 offset bp_rule }
-    ensures runnable { IfSome result (λ rule. is_executable rule ≡ true) }
+    ensures executable { IfSome result (λ rule. is_executable rule ≡ true) }
 {
     let Some(bp_rule) = bp_rule else {
         return Some(UnwindRuleX86_64::OffsetSp { sp_offset_by_8 });
@@ -169,7 +169,7 @@ fn translate_with_bp(
 /// Returns the rule of a row whose CFA is rsp plus an offset in bytes.
 fn translate_by_sp(offset: i64, bp_rule: Option<RegisterRule>) -> Option<UnwindRuleX86_64>
     ensures exact { result ≡ by_sp offset bp_rule }
-    ensures runnable { IfSome result (λ rule. is_executable rule ≡ true) }
+    ensures executable { IfSome result (λ rule. is_executable rule ≡ true) }
 {
     match units_of(8, offset) {
         Some(sp_offset_by_8) => translate_with_bp(sp_offset_by_8, offset, bp_rule),
@@ -181,7 +181,7 @@ fn translate_by_sp(offset: i64, bp_rule: Option<RegisterRule>) -> Option<UnwindR
 /// from the CFA.
 fn translate_with_offsets(offset: i64, bp_offset: i64) -> Option<UnwindRuleX86_64>
     ensures exact { result ≡ with_offsets offset bp_offset }
-    ensures runnable { IfSome result (λ rule. is_executable rule ≡ true) }
+    ensures executable { IfSome result (λ rule. is_executable rule ≡ true) }
 {
     let sp_offset_from_bp_by_8 = units_of(8, offset)?;
     let bp_storage_offset_from_bp_by_8 = words_of_sum(offset, bp_offset)?;
@@ -194,7 +194,7 @@ fn translate_with_offsets(offset: i64, bp_offset: i64) -> Option<UnwindRuleX86_6
 /// Returns the rule of a row whose CFA is rbp plus an offset in bytes.
 fn translate_by_bp(offset: i64, bp_rule: Option<RegisterRule>) -> Option<UnwindRuleX86_64>
     ensures exact { result ≡ by_bp offset bp_rule }
-    ensures runnable { IfSome result (λ rule. is_executable rule ≡ true) }
+    ensures executable { IfSome result (λ rule. is_executable rule ≡ true) }
 {
     match bp_rule {
         Some(RegisterRule::Offset(bp_offset)) if offset == 16 && bp_offset == -16 => {
@@ -208,7 +208,7 @@ fn translate_by_bp(offset: i64, bp_rule: Option<RegisterRule>) -> Option<UnwindR
 /// Returns the rule of a row whose return address is the word below the CFA.
 fn translate_by_cfa(cfa_rule: CfaRule, bp_rule: Option<RegisterRule>) -> Option<UnwindRuleX86_64>
     ensures exact { result ≡ by_cfa cfa_rule bp_rule }
-    ensures runnable { IfSome result (λ rule. is_executable rule ≡ true) }
+    ensures executable { IfSome result (λ rule. is_executable rule ≡ true) }
 {
     match cfa_rule {
         CfaRule::RegisterAndOffset { register, offset } => {
@@ -231,7 +231,7 @@ fn translate_into_unwind_rule(
     ra_rule: Option<RegisterRule>,
 ) -> Option<UnwindRuleX86_64>
     ensures exact { result ≡ translated_by cfa_rule bp_rule ra_rule }
-    ensures runnable { IfSome result (λ rule. is_executable rule ≡ true) }
+    ensures executable { IfSome result (λ rule. is_executable rule ≡ true) }
 {
     let Some(ra_rule) = ra_rule else {
         return Some(UnwindRuleX86_64::EndOfStack);
@@ -279,7 +279,7 @@ fn step_to(
     ensures kept { OnErr result (regs.new ≡ regs.old) }
     ensures refused { IfErr result IsOfValues }
     ensures late { IfErr result (λ error. NeedsNoStack error → ⊥) }
-    ensures memory { result ≢ Err no_memory }
+    ensures memory { result ≢ Err out_of_memory }
     ensures answers { Has (stepped is_first_frame regs.old cfa new_bp return_address) result regs.new }
 {
     if cfa == regs.sp() && return_address == regs.ip() {
@@ -312,7 +312,7 @@ where
     ensures kept { OnErr result (regs.new ≡ regs.old) }
     ensures refused { IfErr result IsOfValues }
     ensures unread { IfErr result (λ error. NeedsNoStack error → read_stack.new ≡ read_stack.old) }
-    ensures memory { result ≡ Err no_memory → (E.Stack.limit ≡ None)
+    ensures memory { result ≡ Err out_of_memory → (E.Stack.limit ≡ None)
         × ((is_cfa_expression cfa_rule || is_some_expression bp_rule || is_some_expression ra_rule) ≡ true) }
     ensures answers { Answering F.FnMut read_stack.old read_stack.new (λ memory.
         Has (direct_by (scope_of section.now E.Stack.limit regs.old) memory cfa_rule bp_rule ra_rule is_first_frame regs.old) result regs.new) }

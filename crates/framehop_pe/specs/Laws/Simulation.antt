@@ -29,7 +29,8 @@ use Rattle.framehop_pe.specs.declared.unwind_info.epilog.FunctionEpilogInstructi
 use Rattle.framehop_core.specs.declared.unwind_result.UnwindResult.{UnwindResult}
 use Rattle.framehop_core.specs.declared.unwind_result.UnwindResult.TheVariants.{ExecRule, Uncacheable}
 use Rattle.framehop_core.specs.Laws.Basics.{pos-same, ok-same}
-use Rattle.framehop_pe.specs.Answer.{TellsFound, Simulates, IfRule}
+use Rattle.framehop_core.specs.Step.{IfRule, TellsFound}
+use Rattle.framehop_pe.specs.Answer.{IsMissingStackData, Simulates}
 use Rattle.framehop_pe.specs.Frame.{Way, by_epilog, by_codes, WayOrRefusal, offsets_and_pops, returned, along, way_at, rule_along, found_of, computed_of, found_at, computed_at}
 use Rattle.framehop_pe.specs.Sections.{Sections}
 use Rattle.framehop_pe.specs.declared.pe.PeUnwinderError.{PeUnwinderError}
@@ -486,7 +487,7 @@ found-way (Err error) rule e = cc
 
 -- what holds of a rule that is found holds of one that is returned
 returned-rule : {Rule : Type 0} (P : Rule → Type 0) (found : Result (Option Rule) PeUnwinderError)
-    (result : Result (UnwindResult Rule) PeUnwinderError) → TellsFound found result
+    (result : Result (UnwindResult Rule) PeUnwinderError) → TellsFound IsMissingStackData found result
     → ((rule : Rule) → found ≡ Ok (Some rule) → P rule) → IfRule result P
 returned-rule P (Err error) result h all = subst (λ r. IfRule r P) (sym h) tt
 returned-rule P (Ok (Some rule)) result h all = subst (λ r. IfRule r P) (sym h) (all rule refl)
@@ -495,14 +496,14 @@ returned-rule P (Ok None) (Ok (Uncacheable address)) h all = tt
 returned-rule P (Ok None) (Err error) h all = tt
 
 pub found-executable : (told : WayOrRefusal) (result : Result (UnwindResult UnwindRuleX86_64) PeUnwinderError)
-    → TellsFound (found_of told) result → IfRule result (λ rule. IsTrue (is_executable rule))
+    → TellsFound IsMissingStackData (found_of told) result → IfRule result (λ rule. IsTrue (is_executable rule))
 found-executable told result h =
     returned-rule (λ rule. IsTrue (is_executable rule)) (found_of told) result h (λ rule e.
     let p = (found-way told rule e).2 in
     IsRuleOf-executable p.0 p.1 rule p.3)
 
 pub found-simulated : (told whole : WayOrRefusal) (result : Result (UnwindResult UnwindRuleX86_64) PeUnwinderError)
-    → whole ≡ told → TellsFound (found_of told) result → IfRule result (Simulates outcome (computed_of whole))
+    → whole ≡ told → TellsFound IsMissingStackData (found_of told) result → IfRule result (Simulates outcome (computed_of whole))
 found-simulated told whole result same h =
     returned-rule (Simulates outcome (computed_of whole)) (found_of told) result h
     (λ rule e first old new memory address answers.
@@ -515,10 +516,10 @@ unfolding rule_of_operations rule_of
 leaf-rule = refl
 
 pub leaf-found : (whole : WayOrRefusal) → whole ≡ Ok (by_codes [])
-    → TellsFound (found_of whole) (Ok (ExecRule JustReturn))
+    → TellsFound IsMissingStackData (found_of whole) (Ok (ExecRule JustReturn))
 leaf-found whole same =
     let found : found_of whole ≡ Ok (Some JustReturn) = ap found_of same ∙ ap Ok leaf-rule in
-    subst (λ f. TellsFound f (Ok (ExecRule JustReturn))) (sym found) refl
+    subst (λ f. TellsFound IsMissingStackData f (Ok (ExecRule JustReturn))) (sym found) refl
 
 pub leaf-simulated : (whole : WayOrRefusal) → whole ≡ Ok (by_codes [])
     → Simulates outcome (computed_of whole) JustReturn
@@ -533,4 +534,4 @@ unfolding found_at computed_at
 rule-simulates sections address first rule found =
     let told = way_at sections address first in
     found-simulated told told (Ok (ExecRule rule)) refl
-    (subst (λ f. TellsFound f (Ok (ExecRule rule))) (sym found) refl)
+    (subst (λ f. TellsFound IsMissingStackData f (Ok (ExecRule rule))) (sym found) refl)

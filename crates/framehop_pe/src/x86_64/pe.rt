@@ -2,7 +2,8 @@
 ghost use Rattle.std.specs.Prelude.{◌≡◌, ◌<◌, Some, None, Ok, Err, MatchResult, IfErr, option_map, map};
 ghost use Rattle.framehop_core.specs.Memory.{Answering};
 ghost use Rattle.framehop_core.specs.X86_64.RuleOfOperations.{rule_of_operations};
-ghost use Rattle.framehop_pe.specs.Answer.{TellsFound, IsComputed, KeptUnlessDirect, IfRule, IsMissingStackData};
+ghost use Rattle.framehop_core.specs.Step.{IfRule, KeptWithoutAddress, TellsFound};
+ghost use Rattle.framehop_pe.specs.Answer.{IsComputed, IsMissingStackData};
 ghost use Rattle.framehop_pe.specs.Sections.{sections_of};
 ghost use Rattle.framehop_pe.specs.Info.{shown};
 ghost use Rattle.framehop_pe.specs.Operations.{left_operations};
@@ -151,10 +152,10 @@ where
     D: SectionBytes,
     requires { F.IsAlwaysCallable read_stack.old }
     ensures callable { F.IsAlwaysCallable read_stack.new }
-    ensures kept { KeptUnlessDirect result regs.old regs.new }
+    ensures written { KeptWithoutAddress result regs.old regs.new }
     ensures unread { IfRule result (λ _. read_stack.new ≡ read_stack.old) }
     ensures unread_refused { IfErr result (λ error. (¬ IsMissingStackData error) → read_stack.new ≡ read_stack.old) }
-    ensures found { TellsFound (Ok (rule_along (by_codes (left_operations D.contents operations.entry)))) result }
+    ensures found { TellsFound IsMissingStackData (Ok (rule_along (by_codes (left_operations D.contents operations.entry)))) result }
     ensures answers { Answering F.FnMut read_stack.old read_stack.new (λ memory.
         IsComputed (along (by_codes (left_operations D.contents operations.entry)) memory regs.old) result regs.new) }
 {
@@ -178,10 +179,10 @@ fn unwind_epilog<F: FnMut(u64) -> Result<u64, ()>>(
 ) -> Result<UnwindResult<UnwindRuleX86_64>, PeUnwinderError>
     requires { F.IsAlwaysCallable read_stack.old }
     ensures callable { F.IsAlwaysCallable read_stack.new }
-    ensures kept { KeptUnlessDirect result regs.old regs.new }
+    ensures written { KeptWithoutAddress result regs.old regs.new }
     ensures unread { IfRule result (λ _. read_stack.new ≡ read_stack.old) }
     ensures unread_refused { IfErr result (λ error. (¬ IsMissingStackData error) → read_stack.new ≡ read_stack.old) }
-    ensures found { TellsFound (Ok (rule_along (by_epilog frame_register (left_instructions instructions.entry)))) result }
+    ensures found { TellsFound IsMissingStackData (Ok (rule_along (by_epilog frame_register (left_instructions instructions.entry)))) result }
     ensures answers { Answering F.FnMut read_stack.old read_stack.new (λ memory.
         IsComputed (along (by_epilog frame_register (left_instructions instructions.entry)) memory regs.old) result regs.new) }
 {
@@ -259,10 +260,10 @@ where
     D: SectionBytes,
     requires { F.IsAlwaysCallable read_stack.old }
     ensures callable { F.IsAlwaysCallable read_stack.new }
-    ensures kept { KeptUnlessDirect result regs.old regs.new }
+    ensures written { KeptWithoutAddress result regs.old regs.new }
     ensures unread { IfRule result (λ _. read_stack.new ≡ read_stack.old) }
     ensures unread_refused { IfErr result (λ error. (¬ IsMissingStackData error) → read_stack.new ≡ read_stack.old) }
-    ensures found { TellsFound (found_of (codes_way (sections_of D.contents sections.now) function (shown info.entry) address)) result }
+    ensures found { TellsFound IsMissingStackData (found_of (codes_way (sections_of D.contents sections.now) function (shown info.entry) address)) result }
     ensures answers { Answering F.FnMut read_stack.old read_stack.new (λ memory.
         IsComputed (computed_of (codes_way (sections_of D.contents sections.now) function (shown info.entry) address) memory regs.old) result regs.new) }
 {
@@ -289,10 +290,10 @@ where
     D: SectionBytes,
     requires { F.IsAlwaysCallable read_stack.old }
     ensures callable { F.IsAlwaysCallable read_stack.new }
-    ensures kept { KeptUnlessDirect result regs.old regs.new }
+    ensures written { KeptWithoutAddress result regs.old regs.new }
     ensures unread { IfRule result (λ _. read_stack.new ≡ read_stack.old) }
     ensures unread_refused { IfErr result (λ error. (¬ IsMissingStackData error) → read_stack.new ≡ read_stack.old) }
-    ensures found { TellsFound (found_of (way_of is_first_frame (sections_of D.contents sections.now) function address)) result }
+    ensures found { TellsFound IsMissingStackData (found_of (way_of is_first_frame (sections_of D.contents sections.now) function address)) result }
     ensures answers { Answering F.FnMut read_stack.old read_stack.new (λ memory.
         IsComputed (computed_of (way_of is_first_frame (sections_of D.contents sections.now) function address) memory regs.old) result regs.new) }
 {
