@@ -1,6 +1,6 @@
 //! The unwinder cache, and the policies that say whether unwinding may take memory.
 ghost use Rattle.std.specs.Prelude.{◌≡◌, Bool, true, false, refl, IfOk};
-ghost use Rattle.framehop_cache.specs.Cache.{Key, counted, empty_cache, found, inserted, ways};
+ghost use Rattle.framehop_cache.specs.Cache.{key_of, counted, empty_cache, found, inserted, ways};
 ghost use Rattle.framehop_cache.specs.CacheResult.{result_of, HitRuns};
 ghost use Rattle.framehop.specs.Modules.{UnwinderView};
 ghost use Rattle.framehop.specs.Policy.{Policy, IsLimited, with_allocation, without_allocation};
@@ -115,14 +115,12 @@ impl<R: UnwindRule, P: AllocationPolicy> Cache<R, P> {
         modules_generation: u64,
         is_first_frame: bool,
     ) -> CacheResult<R>
-        ensures answer { let key : Key =
-            record { address = address; generation = modules_generation; is_first_frame = is_first_frame } in
-            result ≡ result_of key (found ways self.old.sets key) }
+        ensures answer { result ≡ result_of (key_of address modules_generation is_first_frame)
+            (found ways self.old.sets (key_of address modules_generation is_first_frame)) }
         ensures executable { HitRuns R.executable result }
         ensures kept { self.new.sets ≡ self.old.sets }
         ensures stats { self.new.stats ≡ counted self.old.stats
-            (found ways self.old.sets
-            (record { address = address; generation = modules_generation; is_first_frame = is_first_frame })) }
+            (found ways self.old.sets (key_of address modules_generation is_first_frame)) }
     {
         self.rule_cache
             .lookup(address, modules_generation, is_first_frame)

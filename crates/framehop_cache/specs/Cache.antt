@@ -12,6 +12,11 @@ pub record Key : Type 0 where
   pub generation : ℕ
   pub is_first_frame : Bool
 
+-- the key of these
+abbrev pub key_of : (address generation : ℕ) → (is_first_frame : Bool) → Key
+key_of address generation is_first_frame =
+    record { address = address; generation = generation; is_first_frame = is_first_frame }
+
 -- a stored rule
 pub record Entry (R : Type 0) : Type 0 where
   pub key : Key

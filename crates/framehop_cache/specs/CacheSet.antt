@@ -1,6 +1,6 @@
 -- A set of the cache in memory, as its entries with the newest first.
-use Rattle.std.specs.Prelude.{◌≡◌, Bool, true, false, List, [], ◌∷◌, ◌++◌, Option, Some, None, ⊤}
-use Rattle.framehop_cache.specs.Cache.{Entry, same_key}
+use Rattle.std.specs.Prelude.{◌≡◌, Bool, true, false, List, [], ◌∷◌, ◌++◌, find, Option, Some, None, ⊤}
+use Rattle.framehop_cache.specs.Cache.{Key, Entry, same_key}
 use Rattle.framehop_cache.specs.declared.rule_cache.CacheEntry.{CacheEntry}
 use Rattle.framehop_cache.specs.declared.rule_cache.CacheSet.{CacheSet}
 use Rattle.framehop_cache.specs.declared.rule_cache.Slot.{Slot}
@@ -27,6 +27,10 @@ entries_of set = entries_of_slot set.newest ++ entries_of_slot set.older
 abbrev pub rule_found : {R : Type 0} → Option (Entry R) → Option R
 rule_found None = None
 rule_found (Some entry) = Some entry.rule
+
+-- the rule that is stored under a key, if there is one
+abbrev pub rule_under : {R : Type 0} → Key → List (Entry R) → Option R
+rule_under key entries = rule_found (find (λ entry. same_key entry.key key) entries)
 
 -- the rules of all entries can be run
 abbrev pub AllRun : {R : Type 0} → (R → Bool) → List (Entry R) → Type 0

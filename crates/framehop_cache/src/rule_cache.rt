@@ -1,9 +1,9 @@
 //! The cache of unwind rules by address, generation and kind of frame, and its counts.
-ghost use Rattle.std.specs.Prelude.{◌≡◌, ◌^◌, ◌-◌, ◌+◌, ◌∷◌, [], ◌==◌, nat_le, min, true, IfOk, IfSome, Some, length, find};
+ghost use Rattle.std.specs.Prelude.{◌≡◌, ◌^◌, ◌-◌, ◌+◌, ◌∷◌, [], ◌==◌, nat_le, min, true, IfOk, IfSome, Some, length};
 ghost use Rattle.std.specs.List.{list_any};
-ghost use Rattle.framehop_cache.specs.Cache.{Key, counted, empty_cache, no_stats, found, inserted, inserted_in, misses_of, same_key, total_of, set_number, ways};
+ghost use Rattle.framehop_cache.specs.Cache.{key_of, counted, empty_cache, no_stats, found, inserted, inserted_in, misses_of, total_of, set_number, ways};
 ghost use Rattle.framehop_cache.specs.CacheResult.{result_of, rule_of, HitRuns};
-ghost use Rattle.framehop_cache.specs.CacheSet.{entry_of, entries_of_slot, entries_of, rule_found, IsSet};
+ghost use Rattle.framehop_cache.specs.CacheSet.{entry_of, entries_of_slot, entries_of, rule_under, IsSet};
 
 use framehop_core::unwind_rule::UnwindRule;
 use std::alloc::{AllocError, Global};
@@ -62,12 +62,12 @@ impl<R: UnwindRule> RuleCache<R> {
         modules_generation: u64,
         is_first_frame: bool,
     ) -> CacheResult<R>
-        ensures answer { let key : Key = record { address = address; generation = modules_generation; is_first_frame = is_first_frame } in
-            result ≡ result_of key (found ways self.old.sets key) }
+        ensures answer { result ≡ result_of (key_of address modules_generation is_first_frame)
+            (found ways self.old.sets (key_of address modules_generation is_first_frame)) }
         ensures executable { HitRuns R.executable result }
         ensures kept { self.new.sets ≡ self.old.sets }
         ensures stats { self.new.stats ≡ counted self.old.stats
-            (found ways self.old.sets (record { address = address; generation = modules_generation; is_first_frame = is_first_frame })) }
+            (found ways self.old.sets (key_of address modules_generation is_first_frame)) }
         ensures total { total_of self.new.stats ≡ min (total_of self.old.stats + 1) (2 ^ 64 - 1) }
     {
         let number = (address % CACHE_SET_COUNT as u64) as u16;
@@ -104,11 +104,11 @@ impl<R: UnwindRule> RuleCache<R> {
         is_first_frame: bool,
     ) -> Option<R>
         ensures answer { result ≡ rule_of
-            (found ways self.old.sets (record { address = address; generation = modules_generation; is_first_frame = is_first_frame })) }
+            (found ways self.old.sets (key_of address modules_generation is_first_frame)) }
         ensures executable { IfSome result (λ rule. R.executable rule ≡ true) }
         ensures kept { self.new.sets ≡ self.old.sets }
         ensures stats { self.new.stats ≡ counted self.old.stats
-            (found ways self.old.sets (record { address = address; generation = modules_generation; is_first_frame = is_first_frame })) }
+            (found ways self.old.sets (key_of address modules_generation is_first_frame)) }
         ensures total { total_of self.new.stats ≡ min (total_of self.old.stats + 1) (2 ^ 64 - 1) }
     {
         let number = (address % CACHE_SET_COUNT as u64) as u16;
@@ -202,8 +202,7 @@ impl<R: UnwindRule> CacheSet<R> {
     /// The rule of the newest entry, if that is stored under a key.
     #[inline(always)]
     fn find_newest(&self, address: u64, modules_generation: u64, is_first_frame: bool) -> Option<R>
-        ensures answer { let key : Key = record { address = address; generation = modules_generation; is_first_frame = is_first_frame } in
-            IfSome result (λ rule. rule_found (find (λ entry. same_key entry.key key) (entries_of self.now)) ≡ Some rule) }
+        ensures answer { IfSome result (λ rule. rule_under (key_of address modules_generation is_first_frame) (entries_of self.now) ≡ Some rule) }
         ensures executable { IsSet R.executable self.now → IfSome result (λ rule. R.executable rule ≡ true) }
     {
         self.newest
@@ -213,8 +212,7 @@ impl<R: UnwindRule> CacheSet<R> {
     /// The rule that is stored under a key.
     #[inline(always)]
     fn find(&self, address: u64, modules_generation: u64, is_first_frame: bool) -> Option<R>
-        ensures answer { let key : Key = record { address = address; generation = modules_generation; is_first_frame = is_first_frame } in
-            result ≡ rule_found (find (λ entry. same_key entry.key key) (entries_of self.now)) }
+        ensures answer { result ≡ rule_under (key_of address modules_generation is_first_frame) (entries_of self.now) }
         ensures executable { IsSet R.executable self.now → IfSome result (λ rule. R.executable rule ≡ true) }
     {
         match self
@@ -298,8 +296,7 @@ impl<R: UnwindRule> Slot<R> {
     /// The rule that is stored under a key.
     #[inline(always)]
     fn find(&self, address: u64, modules_generation: u64, is_first_frame: bool) -> Option<R>
-        ensures { let key : Key = record { address = address; generation = modules_generation; is_first_frame = is_first_frame } in
-            result ≡ rule_found (find (λ entry. same_key entry.key key) (entries_of_slot self.now)) }
+        ensures { result ≡ rule_under (key_of address modules_generation is_first_frame) (entries_of_slot self.now) }
     {
         let (entry, is_entry_of_first_frame) = match self {
             Slot::Empty => return None,

@@ -152,16 +152,25 @@ impl<'a, A: DwarfUnwinding, S: UnwindContextStorage> DwarfUnwinder<'a, A, S> {
         ensures written { WritesWithAddress (A.ascends is_first_frame) result regs.old regs.new }
         ensures unread { IfRule result (λ rule. read_stack.new ≡ read_stack.old) }
         ensures unread_refused { IfErr result (λ error. NeedsNoStack error → read_stack.new ≡ read_stack.old) }
-        ensures found { result ≢ Err out_of_memory → TellsFound IsOfValues (found_by A.translated A.uncovered (reading_of S.limits self.old.section (self.old.base_svma + rel_lookup_address) fde_offset)) result }
+        ensures reading { IsReading S.limits self.old.section (self.old.base_svma + rel_lookup_address) fde_offset
+            (reading_of S.limits self.old.section (self.old.base_svma + rel_lookup_address) fde_offset) }
+        ensures found { result ≢ Err out_of_memory → TellsFound IsOfValues (found_by A.translated A.uncovered
+            (reading_of S.limits self.old.section (self.old.base_svma + rel_lookup_address) fde_offset)) result }
         ensures executable { IfRule result (λ rule. IsTrue (A.UnwindRule.executable rule)) }
-        ensures memory { result ≡ Err out_of_memory → may_take_memory S.limits E.Stack.limit self.old.section (self.old.base_svma + rel_lookup_address) fde_offset ≡ true }
-        ensures means { OfRow (λ row. IfRule result (λ rule. (first : Bool) (old new : A.UnwindRegs) (memory : Memory) (address : ℕ)
+        ensures memory { result ≡ Err out_of_memory → may_take_memory S.limits E.Stack.limit self.old.section
+            (self.old.base_svma + rel_lookup_address) fde_offset ≡ true }
+        ensures means { OfRow (λ row. IfRule result (λ rule.
+            (first : Bool) (old new : A.UnwindRegs) (memory : Memory) (address : ℕ)
             → A.UnwindRule.outcome rule first old memory ≡ answered address new
-            → A.row_means self.old.section.bytes memory row first old address new)) (reading_of S.limits self.old.section (self.old.base_svma + rel_lookup_address) fde_offset) }
+            → A.row_means self.old.section.bytes memory row first old address new))
+            (reading_of S.limits self.old.section (self.old.base_svma + rel_lookup_address) fde_offset) }
         ensures answers { Answering F.FnMut read_stack.old read_stack.new (λ memory.
-            TellsDirect (direct_by (λ row. A.direct self.old.section.bytes E.Stack.limit memory row is_first_frame regs.old) (reading_of S.limits self.old.section (self.old.base_svma + rel_lookup_address) fde_offset)) result regs.new
-            × OfRow (λ row. IfAddress result (λ address. A.columns_mean self.old.section.bytes E.Stack.limit memory row is_first_frame regs.old address regs.new)) (reading_of S.limits self.old.section (self.old.base_svma + rel_lookup_address) fde_offset)) }
-        ensures reading { IsReading S.limits self.old.section (self.old.base_svma + rel_lookup_address) fde_offset (reading_of S.limits self.old.section (self.old.base_svma + rel_lookup_address) fde_offset) }
+            TellsDirect (direct_by
+            (λ row. A.direct self.old.section.bytes E.Stack.limit memory row is_first_frame regs.old)
+            (reading_of S.limits self.old.section (self.old.base_svma + rel_lookup_address) fde_offset)) result regs.new
+            × OfRow (λ row. IfAddress result (λ address.
+            A.columns_mean self.old.section.bytes E.Stack.limit memory row is_first_frame regs.old address regs.new))
+            (reading_of S.limits self.old.section (self.old.base_svma + rel_lookup_address) fde_offset)) }
     {
         let found = find_row(
             &self.section,
