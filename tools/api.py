@@ -20,6 +20,7 @@ LIBRARIES = [
     "framehop_core",
     "framehop_analysis",
     "framehop_cache",
+    "framehop_bytes",
     "framehop_cfi",
     "framehop_dwarf",
     "framehop_macho",
