@@ -10,20 +10,21 @@ use Rattle.framehop_minidump.specs.declared.error.MinidumpError.{MinidumpError}
 use Rattle.framehop_minidump.specs.declared.error.MinidumpError.TheVariants.{ShortCodeView}
 use Rattle.framehop_minidump.specs.declared.location.Location.{Location}
 
--- a record by its values: the GUID, the age and the path of a program database, or a build id
+-- a record by its values: the GUID, the age and the path of a program database, and both of the first together; or a
+-- build id
 pub data CodeViewView : Type 0 where
-  of_pdb : List ℕ → ℕ → List ℕ → CodeViewView
+  of_pdb : List ℕ → ℕ → List ℕ → List ℕ → CodeViewView
   of_elf : List ℕ → CodeViewView
 
 abbrev pub codeview_view : CodeView → CodeViewView
-codeview_view (Pdb guid age path) = of_pdb guid.now age path.now
+codeview_view (Pdb guid age path guid_and_age) = of_pdb guid.now age path.now guid_and_age.now
 codeview_view (Elf build_id) = of_elf build_id.now
 
 -- "RSDS", Signature, Age and PdbFileName, which ends with a 0
 abbrev pub pdb_in : ℕ → List ℕ → Result (Option CodeViewView) MinidumpError
 pdb_in offset bytes =
     if nat_lt (length bytes) 24 then Err (ShortCodeView offset)
-    else Ok (Some (of_pdb (take 16 (drop 4 bytes)) (le4 bytes 20) (string_of bytes 24)))
+    else Ok (Some (of_pdb (take 16 (drop 4 bytes)) (le4 bytes 20) (string_of bytes 24) (take 20 (drop 4 bytes))))
 
 -- "LEpB" and the build id; other records are passed over
 unfoldable pub codeview_in : ℕ → List ℕ → Result (Option CodeViewView) MinidumpError

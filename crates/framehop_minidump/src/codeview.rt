@@ -28,6 +28,8 @@ pub enum CodeView<'a> {
         age: u32,
         /// Its path, without the 0 after it.
         path: &'a [u8],
+        /// The GUID and the age, 20 bytes as they are in the file: what the module's file must have in common with it.
+        guid_and_age: &'a [u8],
     },
     /// An ELF file, by Breakpad.
     Elf {
@@ -52,6 +54,7 @@ fn codeview_in<'a>(offset: u64, bytes: &'a [u8]) -> Result<Option<CodeView<'a>>,
             guid: front(back(bytes, 4), 16),
             age: u32_at(bytes, 20),
             path: string_at(bytes, 24),
+            guid_and_age: front(back(bytes, 4), 20),
         })),
         ELF => Ok(Some(CodeView::Elf {
             build_id: back(bytes, 4),
