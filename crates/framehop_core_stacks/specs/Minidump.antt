@@ -26,8 +26,8 @@ use Rattle.framehop_minidump.specs.declared.stream.Stream.{Stream}
 use Rattle.framehop_minidump.specs.declared.system_info.Machine.{Machine as SystemMachine}
 use Rattle.framehop_minidump.specs.declared.system_info.Machine.TheVariants as system
 use Rattle.framehop_minidump.specs.declared.thread.Thread.{Thread}
-use Rattle.framehop_stacks.specs.ElfFiles.{is_another}
-use Rattle.framehop_stacks.specs.Files.{is_path}
+use Rattle.framehop_stacks.specs.ObjectFiles.{is_another}
+use Rattle.framehop_stacks.specs.Files.{is_unix_path, is_windows_path}
 use Rattle.framehop_core_stacks.specs.Dump.{MemoryView, ThreadView, MappedCodeView, DumpView, of_context}
 use Rattle.framehop_core_stacks.specs.Image.{head_at, segments_in, build_id_in}
 use Rattle.framehop_core_stacks.specs.declared.dump.Cause.{Cause as WhyEnded}
@@ -115,16 +115,18 @@ last_address modules = fold (λ last m. max last (min (m.base + m.size) (2 ^ 64 
 abbrev pub mask_up_to : ℕ → ℕ
 mask_up_to address = if address == 0 then 2 ^ 64 - 1 else 2 ^ (64 - count_leading_zeros 64 address) - 1
 
-abbrev pub build_id_by : Option CodeViewView → List ℕ
-build_id_by (Some (of_elf build_id)) = build_id
-build_id_by (Some (of_pdb guid age path)) = []
-build_id_by None = []
+-- what the file of a name must have in common with its module: the build id of an ELF file, and of one with a name of
+-- Windows the GUID and the age of its program database (for an ELF file Breakpad makes these up)
+abbrev pub build_id_by : List ℕ → Option CodeViewView → List ℕ
+build_id_by name (Some (of_elf build_id)) = build_id
+build_id_by name (Some (of_pdb guid age path guid_and_age)) = if is_windows_path name then guid_and_age else []
+build_id_by name None = []
 
 unfoldable pub loaded_in : List ℕ → Module → Result LoadedView MinidumpError
 loaded_in file m = do
   name ← string_of file m.name
   codeview ← codeview_of file m.codeview
-  Ok (record { base = m.base; size = m.size; name = name; build_id = build_id_by codeview })
+  Ok (record { base = m.base; size = m.size; name = name; build_id = build_id_by name codeview })
 
 -- the modules of a file
 unfoldable pub modules_in : List ℕ → List Stream → Result (List LoadedView) MinidumpError
@@ -186,6 +188,10 @@ abbrev pub or_else : List ProgramHeader → List ProgramHeader → List ProgramH
 or_else [] others = others
 or_else (segment ∷ segments) others = segment ∷ segments
 
+-- the base of a PE file, which has a name of Windows, is its first address
+abbrev pub base_by_name : LoadedView → Option ℕ
+base_by_name m = if is_windows_path m.name then Some m.base else None
+
 -- all addresses of a module, as where nothing says which have code
 abbrev pub whole : List ℕ → LoadedView → MappedCodeView
 whole head m = record {
@@ -195,7 +201,7 @@ whole head m = record {
   path = m.name;
   head = head;
   build_id = m.build_id;
-  base = None;
+  base = base_by_name m;
 }
 
 -- those of a segment that may be executed, by where the stated address 0 is; an address above the last is the last
@@ -224,7 +230,7 @@ code_of memory m given =
     code_by head m (or_else (segments_given m.build_id given) (segments_in head))
 
 module _ (gives : List ℕ → Option (List ℕ) → Type 0) where
-  -- a file is asked for only by a path
+  -- a file is asked for only by a path of Unix
   abbrev pub IsGivenIf : Bool → List ℕ → Option (List ℕ) → Type 0
   IsGivenIf true name given = gives name given
   IsGivenIf false name given = given ≡ None
@@ -232,7 +238,7 @@ module _ (gives : List ℕ → Option (List ℕ) → Type 0) where
   -- the code of a module, by what is given of its file
   abbrev pub IsCodeOf : MemoryView → LoadedView → List MappedCodeView → Type 0
   IsCodeOf memory m code =
-      (given : Option (List ℕ)) × IsGivenIf (is_path m.name) m.name given × (code ≡ code_of memory m given)
+      (given : Option (List ℕ)) × IsGivenIf (is_unix_path m.name) m.name given × (code ≡ code_of memory m given)
 
   -- that of modules, one after another
   abbrev pub AreCodeOf : MemoryView → List LoadedView → List MappedCodeView → Type 0

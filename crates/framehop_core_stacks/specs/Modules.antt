@@ -8,9 +8,9 @@ use Rattle.framehop.specs.ModuleData.{unwind_data_in}
 use Rattle.framehop.specs.Modules.{ModuleView}
 use Rattle.framehop_processes.specs.Mappings.{with_mapping}
 use Rattle.framehop_processes.specs.declared.mapping.Mapping.{Mapping}
-use Rattle.framehop_stacks.specs.Changes.{number_in, elf_in}
+use Rattle.framehop_stacks.specs.Changes.{number_in, object_in}
 use Rattle.framehop_stacks.specs.Files.{placed_at, IsWithoutFiles, IsAdded}
-use Rattle.framehop_stacks.specs.declared.elf_file.ElfFile.{ElfFile}
+use Rattle.framehop_stacks.specs.declared.object_file.ObjectFile.{ObjectFile}
 use Rattle.framehop_stacks.specs.declared.files.Files.{Files}
 use Rattle.framehop_stacks.specs.declared.files.RecordedFile.{RecordedFile}
 use Rattle.framehop_core_stacks.specs.Dump.{MappedCodeView, DumpView, head_of}
@@ -32,8 +32,8 @@ abbrev pub base_by : List ProgramHeader → MappedCodeView → Option ℕ
 base_by segments code = base_of segments 4096 code.offset (code.end - code.start) code.start
 
 -- by what was read of the file, or else by its first bytes in memory
-abbrev pub base_with : MappedCodeView → Option ElfFile → Option ℕ
-base_with code (Some elf) = base_by elf.segments.items code
+abbrev pub base_with : MappedCodeView → Option ObjectFile → Option ℕ
+base_with code (Some object) = base_by object.segments.items code
 base_with code None = base_by (segments_in code.head) code
 
 -- unless it is known
@@ -42,7 +42,7 @@ base_unless (Some known) base = Some known
 base_unless None base = base
 
 abbrev pub base_in : Files → ℕ → MappedCodeView → Option ℕ
-base_in files number code = base_unless code.base (base_with code (elf_in files number))
+base_in files number code = base_unless code.base (base_with code (object_in files number))
 
 -- with unwind data where the base is known; else its relative addresses are offsets of the file
 abbrev pub mapping_based : MappedCodeView → ℕ → Option ℕ → Mapping
@@ -93,13 +93,13 @@ abbrev pub sections_by : DumpView → Option RecordedFile → ℕ → ExplicitMo
 sections_by dump (Some file) base = sections_in dump.memory (head_of dump file.name.items) base
 sections_by dump None base = sections_of None
 
-abbrev pub loaded_by : DumpView → Files → Mapping → Option ElfFile → ModuleView
-loaded_by dump files mapping (Some elf) = elf.«module»
+abbrev pub loaded_by : DumpView → Files → Mapping → Option ObjectFile → ModuleView
+loaded_by dump files mapping (Some object) = object.«module»
 loaded_by dump files mapping None =
     module_with (sections_by dump (slice_get files.list.items mapping.file) mapping.base_avma)
 
 abbrev pub loaded_with : Bool → DumpView → Files → Mapping → ModuleView
-loaded_with true dump files mapping = loaded_by dump files mapping (elf_in files mapping.file)
+loaded_with true dump files mapping = loaded_by dump files mapping (object_in files mapping.file)
 loaded_with false dump files mapping = module_with (sections_of None)
 
 -- The module of a mapping: by what was read of the file, or else by what memory has of it. One without sections has no

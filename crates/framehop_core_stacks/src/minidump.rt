@@ -3,14 +3,13 @@ ghost use Rattle.std.specs.Prelude.{◌≡◌, ◌⊎◌, ◌++◌, ◌∷◌, [
 ghost use Rattle.std.specs.List.{flat_map};
 ghost use Rattle.framehop_core_stacks.specs.Dump.{MappedCodeView, memory_view, thread_view, mapped_code_view, dump_view, words_in};
 ghost use Rattle.framehop_core_stacks.specs.Image.{segments_in};
-ghost use Rattle.framehop_core_stacks.specs.Minidump.{each, segment_of, machine_of, signal_of, cause_by, cause_of, last_address, mask_up_to, thread_in, loaded_view, build_id_by, loaded_in, streams_and_modules_of, separator, file_name, program_name, dump_in, segments_given, or_else, whole, segment_code, code_with, code_by, code_of, IsGivenIf, IsCodeOf, AreCodeOf};
+ghost use Rattle.framehop_core_stacks.specs.Minidump.{each, segment_of, machine_of, signal_of, cause_by, cause_of, last_address, mask_up_to, thread_in, loaded_view, build_id_by, loaded_in, streams_and_modules_of, separator, file_name, program_name, dump_in, segments_given, or_else, base_by_name, whole, segment_code, code_with, code_by, code_of, IsGivenIf, IsCodeOf, AreCodeOf};
 ghost use Rattle.framehop_elf.specs.Segment.{is_code};
 ghost use Rattle.framehop_elf.specs.UnwindSections.{bytes_in};
 ghost use Rattle.framehop_minidump.specs.CodeView.{codeview_view};
 ghost use Rattle.framehop_minidump.specs.Memory.{word_of};
 ghost use Rattle.framehop_minidump.specs.declared.error.MinidumpError.{MinidumpError};
-ghost use Rattle.framehop_stacks.specs.ElfFiles.{is_another};
-ghost use Rattle.framehop_stacks.specs.Files.{is_path};
+ghost use Rattle.framehop_stacks.specs.Files.{is_unix_path};
 
 use crate::dump::{Cause, Dump, DumpedMemory, Kind, MappedCode, Registers, Thread};
 use crate::image::{build_id_in, head_at, segments_in};
@@ -28,7 +27,8 @@ use framehop_minidump::string::read_string;
 use framehop_minidump::system_info::{Machine as SystemMachine, read_system_info};
 use framehop_minidump::thread::{Thread as ListedThread, read_threads};
 use framehop_stacks::error::StacksError;
-use framehop_stacks::files::FileSource;
+use framehop_stacks::files::{FileSource, is_unix_path, is_windows_path};
+use framehop_stacks::object_file::is_another;
 use std::alloc::{AllocError, Global};
 
 /// `PT_LOAD`.
@@ -63,12 +63,14 @@ pub struct LoadedModule {
     pub build_id: Vec<u8>,
 }
 
-/// Returns the build id of an ELF file that a CodeView record has, or no bytes.
-fn build_id_by<'a>(codeview: Option<CodeView<'a>>) -> &'a [u8]
-    ensures { result.now ≡ build_id_by (option_map codeview_view codeview.entry) }
+/// Returns what the file of a name must have in common with its module: the build id of an ELF file, and of a file
+/// with a name of Windows the GUID and the age of its program database. No bytes, else.
+fn build_id_by<'a>(name: &[u8], codeview: Option<CodeView<'a>>) -> &'a [u8]
+    ensures { result.now ≡ build_id_by name.now (option_map codeview_view codeview.entry) }
 {
     match codeview {
         Some(CodeView::Elf { build_id }) => build_id,
+        Some(CodeView::Pdb { guid_and_age, .. }) if is_windows_path(name) => guid_and_age,
         _ => &[],
     }
 }
@@ -82,7 +84,7 @@ fn loaded_in(alloc: Global, file: &[u8], module: Module) -> Result<LoadedModule,
 {
     let name = read_string(alloc, file, module.name)?;
     let codeview = read_codeview(file, module.codeview)?;
-    let Ok(build_id) = Vec::from_slice(alloc, build_id_by(codeview)) else {
+    let Ok(build_id) = Vec::from_slice(alloc, build_id_by(name.as_bytes(), codeview)) else {
         return Err(MinidumpError::OutOfMemory);
     };
     Ok(LoadedModule {
@@ -364,20 +366,6 @@ pub fn dump_in<'a>(
     })
 }
 
-/// Returns whether a name is a path: LLDB calls the vdso `[vdso](0x7fff..)`, and on Windows a path begins with a drive.
-fn is_path(name: &[u8]) -> bool
-    ensures { result ≡ is_path name.now }
-{
-    name.starts_with(b"/") && !name.starts_with(b"//")
-}
-
-/// Returns whether a build id that a file must have is another than the one that it has.
-fn is_another(wanted: &[u8], found: &[u8]) -> bool
-    ensures { result ≡ is_another wanted.now found.now }
-{
-    !wanted.is_empty() && found != wanted
-}
-
 /// Returns the segments of a file that is given, if it has the build id that it must have: none, else.
 fn segments_given(
     alloc: Global,
@@ -397,13 +385,13 @@ fn segments_given(
     Ok(segments)
 }
 
-/// Returns the file of a module, if it is given. Only a path is asked for.
+/// Returns the file of a module, if it is given. Only a path of Unix is asked for: no other file is an ELF file.
 fn file_of<S: FileSource>(source: &S, module: &LoadedModule) -> Option<Vec<u8>>
-    ensures { IsGivenIf (S.gives source.now) (is_path (loaded_view «module».now).name)
+    ensures { IsGivenIf (S.gives source.now) (is_unix_path (loaded_view «module».now).name)
         (loaded_view «module».now).name (bytes_in result) }
 {
     let name = module.name.as_slice();
-    if !is_path(name) {
+    if !is_unix_path(name) {
         return None;
     }
     source.read_file(name)
@@ -433,6 +421,16 @@ fn is_code(segment: ProgramHeader) -> bool
     segment.p_type == PT_LOAD && segment.p_flags & PF_X != 0
 }
 
+/// Returns where the base of a PE file is (AVMA), if the module has a name of Windows: it is the first address.
+fn base_by_name(module: &LoadedModule) -> Option<u64>
+    ensures { result ≡ base_by_name (loaded_view «module».now) }
+{
+    if is_windows_path(module.name.as_slice()) {
+        return Some(module.base);
+    }
+    None
+}
+
 /// Returns all addresses of a module as mapped code.
 fn whole<'a>(module: &'a LoadedModule, head: &'a [u8]) -> MappedCode<'a>
     ensures { mapped_code_view result ≡ whole head.entry.now (loaded_view «module».entry.now) }
@@ -444,7 +442,7 @@ fn whole<'a>(module: &'a LoadedModule, head: &'a [u8]) -> MappedCode<'a>
         path: module.name.as_slice(),
         head,
         build_id: module.build_id.as_slice(),
-        base: None,
+        base: base_by_name(module),
     }
 }
 

@@ -69,9 +69,9 @@ fn base_in(
     if let Some(base) = code.base {
         return Ok(Some(base));
     }
-    if let Some(elf) = files.elf(number) {
+    if let Some(object) = files.object(number) {
         let size = code.end.saturating_sub(code.start);
-        return Ok(elf.base(code.offset, size, code.start));
+        return Ok(object.base(code.offset, size, code.start));
     }
     base_in_memory(alloc, code)
 }
@@ -175,8 +175,8 @@ impl DumpModules<'_> {
             let info = ExplicitModuleSectionInfo::default();
             return placed_at(&module_with(alloc, info)?, mapping);
         }
-        match self.files.elf(mapping.file) {
-            Some(elf) => placed_at(elf.module(), mapping),
+        match self.files.object(mapping.file) {
+            Some(object) => placed_at(object.module(), mapping),
             None => self.module_in_memory(alloc, mapping),
         }
     }

@@ -26,9 +26,9 @@ use framehop::cache::MayAllocateDuringUnwind;
 use framehop::x86_64::UnwinderX86_64;
 use framehop_core_file::core_file::Machine;
 use framehop_processes::{Mapping, ModuleMaker, Process};
-use framehop_stacks::elf_file::FileProblem;
 use framehop_stacks::error::StacksError;
 use framehop_stacks::files::{FileSource, Files};
+use framehop_stacks::object_file::FileProblem;
 use std::alloc::Global;
 use std::io::Write;
 

@@ -2,9 +2,9 @@
 use Rattle.std.proofs.Common.{◌≡◌, ◌≢◌, ℕ, Bool, List, [], ◌∷◌, ◌++◌, length, map, Option, refl, ap, arith}
 use Rattle.std.specs.Prelude.{◌||◌}
 use Rattle.std.specs.List.{list_any}
-use Rattle.framehop_stacks.specs.ElfFiles.{Listed, AreTables}
+use Rattle.framehop_stacks.specs.ObjectFiles.{Listed, AreTables}
 use Rattle.framehop_stacks.specs.Files.{AreDebugTables, debug_tables_in}
-use Rattle.framehop_stacks.specs.declared.elf_file.Symbols.{Symbols}
+use Rattle.framehop_stacks.specs.declared.object_file.Symbols.{Symbols}
 
 pub AreTables-append : (xs ys : List Listed) (ss ts : List Symbols) → AreTables xs ss → AreTables ys ts → AreTables (xs ++ ys) (ss ++ ts)
 AreTables-append [] ys [] ts first second = second

@@ -15,7 +15,7 @@ use Rattle.framehop_recording.specs.declared.error.RecordingError.{RecordingErro
 use Rattle.framehop_recording.specs.declared.tasks.Task.{Task}
 use Rattle.framehop_stacks.specs.declared.changes.Change.{Change}
 use Rattle.framehop_stacks.specs.declared.changes.Change.TheVariants.{Map, Begin, Fork}
-use Rattle.framehop_stacks.specs.declared.elf_file.ElfFile.{ElfFile}
+use Rattle.framehop_stacks.specs.declared.object_file.ObjectFile.{ObjectFile}
 use Rattle.framehop_stacks.specs.declared.files.Files.{Files}
 
 -- the number of a file by its name
@@ -23,8 +23,8 @@ abbrev pub number_in : Files → List ℕ → Option ℕ
 number_in files name = get_by (λ key. slice_cmp nat_cmp name key.items) files.numbers
 
 -- what was read of the file of a number
-abbrev pub elf_in : Files → ℕ → Option ElfFile
-elf_in files number = option_and_then (λ file. file.elf) (slice_get files.list.items number)
+abbrev pub object_in : Files → ℕ → Option ObjectFile
+object_in files number = option_and_then (λ file. file.object) (slice_get files.list.items number)
 
 -- a mapping of a process's code: those of the kernel are of the process 2^32 - 1
 abbrev pub is_of_code : MappingView → Bool
@@ -45,8 +45,8 @@ end_of_mapping m = min (m.start + m.size) (2 ^ 64 - 1)
 
 -- where the file's stated address 0 is, if the mapping is of an executable segment of a file that was read (4,096 is the size
 -- of a page)
-abbrev pub base_in : Option ElfFile → MappingView → Option ℕ
-base_in elf m = option_and_then (λ elf. base_of elf.segments.items 4096 m.offset m.size m.start) elf
+abbrev pub base_in : Option ObjectFile → MappingView → Option ℕ
+base_in object m = option_and_then (λ object. base_of object.segments.items 4096 m.offset m.size m.start) object
 
 -- with the unwind data and the names of the file; else its relative addresses are offsets of the file
 abbrev pub mapping_based : MappingView → ℕ → Option ℕ → Mapping
@@ -59,7 +59,7 @@ mapping_based m file None =
 abbrev pub maps_numbered : Files → MappingView → ℕ → Option Change
 maps_numbered files m file =
     if nat_le (end_of_mapping m) m.start then None
-    else Some (Map m.pid (mapping_based m file (base_in (elf_in files file) m)))
+    else Some (Map m.pid (mapping_based m file (base_in (object_in files file) m)))
 
 abbrev pub maps_file : Files → MappingView → Option Change
 maps_file files m = if is_of_code m then option_and_then (maps_numbered files m) (number_in files m.name) else None

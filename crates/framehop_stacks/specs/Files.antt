@@ -1,5 +1,5 @@
 -- The files that processes map, and the modules of mappings.
-use Rattle.std.specs.Prelude.{◌≡◌, ◌≢◌, ◌⊎◌, ℕ, nat_eq, unwrap_or, option_map, IsSome, List, [], ◌∷◌, ◌++◌, length, codes, Option, Some, None, Bool, true, false, not, ◌&&◌}
+use Rattle.std.specs.Prelude.{◌≡◌, ◌≢◌, ◌⊎◌, ℕ, nat_eq, unwrap_or, option_map, IsSome, List, [], ◌∷◌, ◌++◌, length, codes, Option, Some, None, Bool, true, false, not, ◌&&◌, ◌||◌}
 use Rattle.std.specs.Cmp.Lexicographic.{pointwise}
 use Rattle.std.specs.List.{find, starts_with}
 use Rattle.framehop_recording.specs.BuildIds.{FileBuildIdView}
@@ -7,11 +7,11 @@ use Rattle.framehop_recording.specs.Mapping.{MappingView}
 use Rattle.framehop_recording.specs.Records.{RecordView}
 use Rattle.framehop.specs.Modules.{ModuleView}
 use Rattle.framehop_processes.specs.declared.mapping.Mapping.{Mapping}
-use Rattle.framehop_stacks.specs.Changes.{elf_in, number_in, code_mapping_in}
-use Rattle.framehop_stacks.specs.ElfFiles.{Listed, problem_of, debug_tables_of, IsKeptOf}
-use Rattle.framehop_stacks.specs.declared.elf_file.ElfFile.{ElfFile}
-use Rattle.framehop_stacks.specs.declared.elf_file.FileProblem.{FileProblem}
-use Rattle.framehop_stacks.specs.declared.elf_file.FileProblem.TheVariants.{NotRead}
+use Rattle.framehop_stacks.specs.Changes.{object_in, number_in, code_mapping_in}
+use Rattle.framehop_stacks.specs.ObjectFiles.{Listed, problem_of, debug_tables_of, IsKeptOf}
+use Rattle.framehop_stacks.specs.declared.object_file.ObjectFile.{ObjectFile}
+use Rattle.framehop_stacks.specs.declared.object_file.FileProblem.{FileProblem}
+use Rattle.framehop_stacks.specs.declared.object_file.FileProblem.TheVariants.{NotRead}
 use Rattle.framehop_stacks.specs.declared.files.Files.{Files}
 use Rattle.framehop_stacks.specs.declared.files.RecordedFile.{RecordedFile}
 
@@ -21,21 +21,33 @@ placed_at loaded mapping =
     record loaded { start = mapping.start; end = mapping.end; base_avma = mapping.base_avma }
 
 -- that of a file; one without unwind data where nothing was read of it
-abbrev pub loaded_of : ModuleView → Option ElfFile → ModuleView
-loaded_of bare (Some elf) = elf.«module»
+abbrev pub loaded_of : ModuleView → Option ObjectFile → ModuleView
+loaded_of bare (Some object) = object.«module»
 loaded_of bare None = bare
 
 abbrev pub loaded_with : Bool → Files → Mapping → ModuleView
-loaded_with true files mapping = loaded_of files.bare (elf_in files mapping.file)
+loaded_with true files mapping = loaded_of files.bare (object_in files mapping.file)
 loaded_with false files mapping = files.bare
 
 -- the module of a mapping: one without sections has no unwind data
 abbrev pub module_at : Files → Mapping → ModuleView
 module_at files mapping = placed_at (loaded_with mapping.has_sections files mapping) mapping
 
--- a path: perf calls memory that is no file `[vdso]`, `//anon` and the like
-abbrev pub is_path : List ℕ → Bool
-is_path name = starts_with nat_eq name (codes "/") && not (starts_with nat_eq name (codes "//"))
+-- a path of Unix: perf calls memory that is no file `[vdso]`, `//anon` and the like
+abbrev pub is_unix_path : List ℕ → Bool
+is_unix_path name = starts_with nat_eq name (codes "/") && not (starts_with nat_eq name (codes "//"))
+
+-- a path of Windows: after its drive, or from a root on
+abbrev pub has_drive : List ℕ → Bool
+has_drive [] = false
+has_drive (drive ∷ rest) = starts_with nat_eq rest (codes ":\\")
+
+abbrev pub is_windows_path : List ℕ → Bool
+is_windows_path name = has_drive name || starts_with nat_eq name (codes "\\")
+
+-- a path of either
+unfoldable pub is_path : List ℕ → Bool
+is_path name = is_unix_path name || is_windows_path name
 
 -- why nothing is kept of a file that is given or not
 abbrev pub IsProblem : Option (List ℕ) → List ℕ → FileProblem → Type 0
@@ -72,27 +84,27 @@ module _ (gives gives_debug : List ℕ → Option (List ℕ) → Type 0) where
       (given : Option (List ℕ)) × gives_debug (byte ∷ bytes) given × (tables ≡ debug_tables_in (byte ∷ bytes) given)
 
   -- a file that is kept, with its debug names, by what is given of both
-  abbrev pub IsKept : List ℕ → List ℕ → ElfFile → Type 0
-  IsKept name wanted elf =
+  abbrev pub IsKept : List ℕ → List ℕ → ObjectFile → Type 0
+  IsKept name wanted object =
       (bytes : List ℕ) × gives name (Some bytes) × (problem_of bytes wanted ≡ None)
-      × ((debug : List Listed) × AreDebugTables elf.build_id.items debug × IsKeptOf bytes debug elf)
+      × ((debug : List Listed) × AreDebugTables object.build_id.items debug × IsKeptOf bytes debug object)
 
   -- or else why nothing is
-  abbrev pub IsLoaded : List ℕ → List ℕ → Option ElfFile → Option FileProblem → Type 0
-  IsLoaded name wanted (Some elf) None = IsKept name wanted elf
+  abbrev pub IsLoaded : List ℕ → List ℕ → Option ObjectFile → Option FileProblem → Type 0
+  IsLoaded name wanted (Some object) None = IsKept name wanted object
   IsLoaded name wanted None (Some problem) = (given : Option (List ℕ)) × gives name given × IsProblem given wanted problem
   IsLoaded name wanted None None = ⊥
-  IsLoaded name wanted (Some elf) (Some problem) = ⊥
+  IsLoaded name wanted (Some object) (Some problem) = ⊥
 
   -- only a path is read
-  abbrev pub IsLoadedIf : Bool → List ℕ → List ℕ → Option ElfFile → Option FileProblem → Type 0
-  IsLoadedIf true name wanted elf problem = IsLoaded name wanted elf problem
-  IsLoadedIf false name wanted elf problem = (elf ≡ None) × (problem ≡ None)
+  abbrev pub IsLoadedIf : Bool → List ℕ → List ℕ → Option ObjectFile → Option FileProblem → Type 0
+  IsLoadedIf true name wanted object problem = IsLoaded name wanted object problem
+  IsLoadedIf false name wanted object problem = (object ≡ None) × (problem ≡ None)
 
   -- a file of a name, of which a build id is wanted, is what the source gives
   pub record IsFileOf (name wanted : List ℕ) (file : RecordedFile) : Type 0 where
     pub called : file.name.items ≡ name
-    pub loaded : IsLoadedIf (is_path name) name wanted file.elf file.problem
+    pub loaded : IsLoadedIf (is_path name) name wanted file.object file.problem
 
   -- a file is the next of all, under its name
   pub record IsNext (name wanted : List ℕ) (old new : Files) : Type 0 where

@@ -13,6 +13,6 @@ pub mod Counts
 pub mod Run
 pub mod Explained
 pub mod Recording
-pub mod ElfFiles
+pub mod ObjectFiles
 pub mod Samples
 pub mod Printed

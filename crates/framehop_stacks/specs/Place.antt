@@ -5,8 +5,8 @@ use Rattle.framehop_elf.specs.Section.{string_of}
 use Rattle.framehop_elf.specs.Symbol.{symbol_for}
 use Rattle.framehop_elf.specs.declared.symbol.Symbol.{Symbol}
 use Rattle.framehop_processes.specs.declared.mapping.Mapping.{Mapping}
-use Rattle.framehop_stacks.specs.declared.elf_file.ElfFile.{ElfFile}
-use Rattle.framehop_stacks.specs.declared.elf_file.Symbols.{Symbols}
+use Rattle.framehop_stacks.specs.declared.object_file.ObjectFile.{ObjectFile}
+use Rattle.framehop_stacks.specs.declared.object_file.Symbols.{Symbols}
 use Rattle.framehop_stacks.specs.declared.files.Files.{Files}
 use Rattle.framehop_stacks.specs.declared.files.RecordedFile.{RecordedFile}
 use Rattle.framehop_stacks.specs.declared.place.Place.{Place}
@@ -54,15 +54,15 @@ abbrev pub place_named : List ℕ → ℕ → Option (List ℕ × ℕ) → Place
 place_named file svma (Some function) = in_function file function.0 function.1
 place_named file svma None = in_file file svma
 
-abbrev pub place_in_elf : Bool → List ℕ → Option ElfFile → ℕ → PlaceView
-place_in_elf true file (Some elf) svma = place_named file svma (function_at elf.symbols.items svma)
-place_in_elf true file None svma = in_file file svma
-place_in_elf false file elf svma = in_file file svma
+abbrev pub place_in_object : Bool → List ℕ → Option ObjectFile → ℕ → PlaceView
+place_in_object true file (Some object) svma = place_named file svma (function_at object.symbols.items svma)
+place_in_object true file None svma = in_file file svma
+place_in_object false file object svma = in_file file svma
 
 -- by the names of the file, where the mapping has its sections
 abbrev pub place_in_file : Option RecordedFile → Mapping → ℕ → PlaceView
 place_in_file (Some file) mapping address =
-    place_in_elf mapping.has_sections file.name.items file.elf (address - mapping.base_avma)
+    place_in_object mapping.has_sections file.name.items file.object (address - mapping.base_avma)
 place_in_file None mapping address = unmapped
 
 abbrev pub place_mapped : Files → Option Mapping → ℕ → PlaceView

@@ -2,7 +2,7 @@
 ghost use Rattle.std.specs.Prelude.{◌≡◌, option_map};
 ghost use Rattle.framehop_recording.specs.Mapping.{mapping_view};
 ghost use Rattle.framehop_recording.specs.Records.{record_view};
-ghost use Rattle.framehop_stacks.specs.Changes.{elf_in, is_of_code, base_in, mapping_based, code_mapping_in, maps_file, forks_process, change_in};
+ghost use Rattle.framehop_stacks.specs.Changes.{object_in, is_of_code, base_in, mapping_based, code_mapping_in, maps_file, forks_process, change_in};
 
 use crate::files::Files;
 use framehop_processes::Mapping;
@@ -53,10 +53,10 @@ fn is_of_code(mapping: &RecordedMapping<'_>) -> bool
 
 /// Returns where the stated address 0 of a mapped file is (AVMA), if it is known.
 fn base_of(files: &Files, mapping: &RecordedMapping<'_>, file: u32) -> Option<u64>
-    ensures { result ≡ base_in (elf_in files.now file) (mapping_view mapping.now) }
+    ensures { result ≡ base_in (object_in files.now file) (mapping_view mapping.now) }
 {
-    let elf = files.elf(file)?;
-    elf.base(mapping.offset, mapping.size, mapping.start)
+    let object = files.object(file)?;
+    object.base(mapping.offset, mapping.size, mapping.start)
 }
 
 /// Returns the mapping of a file that has a number.

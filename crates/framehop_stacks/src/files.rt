@@ -2,18 +2,17 @@
 ghost use Rattle.std.specs.Prelude.{◌≡◌, ◌⊎◌, ℕ, List, [], Option, Some, None, Ok, IsSome, IfOk, IfErr, OnOk, option_map, option_copied, slice_get};
 ghost use Rattle.framehop_elf.specs.UnwindSections.{bytes_in};
 ghost use Rattle.framehop_elf.specs.declared.error.ElfError.{ElfError};
-ghost use Rattle.framehop_stacks.specs.Changes.{number_in, elf_in};
-ghost use Rattle.framehop_stacks.specs.ElfFiles.{Listed, problem_of, IsKeptOf};
-ghost use Rattle.framehop_stacks.specs.Files.{module_at, placed_at, is_path, IsProblem, AreDebugTables, IsFileOf, IsNext, IsAdded, IsWithoutFiles};
-ghost use Rattle.framehop_stacks.specs.declared.elf_file.FileProblem.{FileProblem};
+ghost use Rattle.framehop_stacks.specs.Changes.{number_in, object_in};
+ghost use Rattle.framehop_stacks.specs.ObjectFiles.{Listed, problem_of, IsOutOfMemory, IsKeptOf};
+ghost use Rattle.framehop_stacks.specs.Files.{module_at, placed_at, is_unix_path, has_drive, is_windows_path, is_path, IsProblem, AreDebugTables, IsFileOf, IsNext, IsAdded, IsWithoutFiles};
+ghost use Rattle.framehop_stacks.specs.declared.object_file.FileProblem.{FileProblem};
 
-use crate::elf_file::{ElfFile, FileProblem};
 use crate::error::StacksError;
+use crate::object_file::{FileProblem, ObjectFile};
 use framehop::Module;
 use framehop::aarch64::UnwinderAarch64;
 use framehop::section::ExplicitModuleSectionInfo;
 use framehop::x86_64::UnwinderX86_64;
-use framehop_elf::error::ElfError;
 use framehop_processes::{Mapping, ModuleMaker};
 use std::alloc::{AllocError, Global};
 use std::collections::BTreeMap;
@@ -41,7 +40,7 @@ pub struct RecordedFile {
     /// Its name, as the recording has it.
     pub name: Vec<u8>,
     /// What was read of it.
-    pub elf: Option<ElfFile>,
+    pub object: Option<ObjectFile>,
     /// Why nothing was read of it. The vdso and other memory that is no file have no problem.
     pub problem: Option<FileProblem>,
 }
@@ -54,27 +53,53 @@ pub struct Files {
     bare: Module<Vec<u8>>,
 }
 
-/// Returns whether a name is a path: perf calls memory that is no file `[vdso]`, `//anon` and the like.
-fn is_path(name: &[u8]) -> bool
-    ensures { result ≡ is_path name.now }
+/// Returns whether a name is a path of Unix: perf calls memory that is no file `[vdso]`, `//anon` and the like, and
+/// LLDB calls the vdso `[vdso](0x7fff..)`.
+pub fn is_unix_path(name: &[u8]) -> bool
+    ensures { result ≡ is_unix_path name.now }
 {
     name.starts_with(b"/") && !name.starts_with(b"//")
 }
 
+/// Returns whether a name begins with a drive of Windows.
+fn has_drive(name: &[u8]) -> bool
+    ensures { result ≡ has_drive name.now }
+{
+    match name.split_first() {
+        Some((_, rest)) => rest.starts_with(b":\\"),
+        None => false,
+    }
+}
+
+/// Returns whether a name is a path of Windows: after its drive, or from a root on.
+pub fn is_windows_path(name: &[u8]) -> bool
+    ensures { result ≡ is_windows_path name.now }
+{
+    has_drive(name) || name.starts_with(b"\\")
+}
+
+/// Returns whether a name is a path.
+#[tactic(auto, unfolding(crate::specs::Files::is_path))]
+fn is_path(name: &[u8]) -> bool
+    ensures { result ≡ is_path name.now }
+{
+    is_unix_path(name) || is_windows_path(name)
+}
+
 /// Reads a file from its source.
-fn read_elf<S: FileSource>(
+fn read_object<S: FileSource>(
     alloc: Global,
     source: &S,
     name: &[u8],
     build_id: &[u8],
-) -> Result<ElfFile, FileProblem>
-    ensures kept { IfOk result (λ elf. (bytes : List ℕ) × S.gives source.now name.now (Some bytes)
-        × (problem_of bytes build_id.now ≡ None) × IsKeptOf bytes [] elf) }
-    ensures refused { IfErr result (λ problem. (problem ≡ FileProblem.Elf ElfError.OutOfMemory)
+) -> Result<ObjectFile, FileProblem>
+    ensures kept { IfOk result (λ object. (bytes : List ℕ) × S.gives source.now name.now (Some bytes)
+        × (problem_of bytes build_id.now ≡ None) × IsKeptOf bytes [] object) }
+    ensures refused { IfErr result (λ problem. IsOutOfMemory problem
         ⊎ ((given : Option (List ℕ)) × S.gives source.now name.now given × IsProblem given build_id.now problem)) }
 {
     match source.read_file(name) {
-        Some(bytes) => ElfFile::new(alloc, bytes.as_slice(), build_id),
+        Some(bytes) => ObjectFile::new(alloc, bytes.as_slice(), build_id),
         None => Err(FileProblem::NotRead),
     }
 }
@@ -83,18 +108,18 @@ fn read_elf<S: FileSource>(
 fn add_debug_names<S: FileSource>(
     alloc: Global,
     source: &S,
-    elf: &mut ElfFile,
+    object: &mut ObjectFile,
 ) -> Result<(), StacksError>
-    ensures kept { (file : List ℕ) → IsKeptOf file [] elf.old → OnOk result ((debug : List Listed)
-        × AreDebugTables (S.gives source.now) (S.gives_debug source.now) elf.new.build_id.items debug × IsKeptOf file debug elf.new) }
+    ensures kept { (file : List ℕ) → IsKeptOf file [] object.old → OnOk result ((debug : List Listed)
+        × AreDebugTables (S.gives source.now) (S.gives_debug source.now) object.new.build_id.items debug × IsKeptOf file debug object.new) }
 {
-    if elf.build_id().is_empty() {
+    if object.build_id().is_empty() {
         return Ok(());
     }
-    let Some(bytes) = source.read_debug_file(elf.build_id()) else {
+    let Some(bytes) = source.read_debug_file(object.build_id()) else {
         return Ok(());
     };
-    match elf.add_debug_names(alloc, bytes.as_slice()) {
+    match object.add_debug_names(alloc, bytes.as_slice()) {
         Ok(()) => Ok(()),
         Err(_) => Err(StacksError::OutOfMemory),
     }
@@ -111,17 +136,21 @@ fn load<S: FileSource>(
 {
     let mut file = RecordedFile {
         name: Vec::from_slice(alloc, name)?,
-        elf: None,
+        object: None,
         problem: None,
     };
     if is_path(name) {
-        match read_elf(alloc, source, name, build_id) {
-            Ok(mut elf) => {
-                add_debug_names(alloc, source, &mut elf)?;
-                file.elf = Some(elf);
+        match read_object(alloc, source, name, build_id) {
+            Ok(mut object) => {
+                add_debug_names(alloc, source, &mut object)?;
+                file.object = Some(object);
             }
-            Err(FileProblem::Elf(ElfError::OutOfMemory)) => return Err(StacksError::OutOfMemory),
-            Err(problem) => file.problem = Some(problem),
+            Err(problem) => {
+                if problem.is_out_of_memory() {
+                    return Err(StacksError::OutOfMemory);
+                }
+                file.problem = Some(problem);
+            }
         }
     }
     Ok(file)
@@ -192,11 +221,11 @@ impl Files {
     }
 
     /// Returns what was read of the file of a number.
-    pub fn elf(&self, number: u32) -> Option<&ElfFile>
-        ensures { option_copied result ≡ elf_in self.now number }
+    pub fn object(&self, number: u32) -> Option<&ObjectFile>
+        ensures { option_copied result ≡ object_in self.now number }
     {
         match self.get(number) {
-            Some(file) => file.elf.as_ref(),
+            Some(file) => file.object.as_ref(),
             None => None,
         }
     }
@@ -209,8 +238,8 @@ impl Files {
         if !mapping.has_sections {
             return placed_at(&self.bare, mapping);
         }
-        match self.elf(mapping.file) {
-            Some(elf) => placed_at(elf.module(), mapping),
+        match self.object(mapping.file) {
+            Some(object) => placed_at(object.module(), mapping),
             None => placed_at(&self.bare, mapping),
         }
     }

@@ -4,13 +4,14 @@
 
 pub mod changes;
 pub mod counts;
-pub mod elf_file;
 pub mod error;
 pub mod explain;
 pub mod files;
 pub mod line;
 pub mod machine;
 pub mod names;
+pub mod object_file;
+mod pe_file;
 pub mod place;
 pub mod processes;
 pub mod program;

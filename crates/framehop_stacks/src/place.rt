@@ -2,10 +2,10 @@
 ghost use Rattle.std.specs.Prelude.{◌≡◌, true, Some, slice_get};
 ghost use Rattle.std.specs.List.{find};
 ghost use Rattle.framehop_processes.specs.Mappings.{IsInOrder};
-ghost use Rattle.framehop_stacks.specs.Place.{place_view, starting_by, has_address, place_at, place_in_elf, place_in_file};
+ghost use Rattle.framehop_stacks.specs.Place.{place_view, starting_by, has_address, place_at, place_in_object, place_in_file};
 
-use crate::elf_file::ElfFile;
 use crate::files::{Files, RecordedFile};
+use crate::object_file::ObjectFile;
 use framehop_processes::Mapping;
 
 /// Where an address is.
@@ -51,10 +51,10 @@ fn mapping_at(mappings: &[Mapping], address: u64) -> Option<Mapping>
 }
 
 /// Returns where an address (SVMA) of an ELF file is.
-fn place_in_elf<'a>(file: &'a [u8], elf: &'a ElfFile, svma: u64) -> Place<'a>
-    ensures { place_view result ≡ place_in_elf true file.entry.now (Some elf.entry.now) svma }
+fn place_in_object<'a>(file: &'a [u8], object: &'a ObjectFile, svma: u64) -> Place<'a>
+    ensures { place_view result ≡ place_in_object true file.entry.now (Some object.entry.now) svma }
 {
-    match elf.function_at(svma) {
+    match object.function_at(svma) {
         Some((name, offset)) => Place::Function { file, name, offset },
         None => Place::File {
             file,
@@ -70,8 +70,8 @@ fn place_in_file<'a>(file: &'a RecordedFile, mapping: Mapping, address: u64) -> 
     let name = file.name.as_slice();
     let svma = address.saturating_sub(mapping.base_avma);
     if mapping.has_sections {
-        if let Some(elf) = &file.elf {
-            return place_in_elf(name, elf, svma);
+        if let Some(object) = &file.object {
+            return place_in_object(name, object, svma);
         }
     }
     Place::File {

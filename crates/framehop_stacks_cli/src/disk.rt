@@ -1,6 +1,6 @@
 //! The files of a disk: those that were mapped, and those of a folder.
 use anyhow::Result;
-use framehop_stacks::files::FileSource;
+use framehop_stacks::files::{FileSource, is_windows_path};
 use std::alloc::{AllocError, Global};
 use std::fs;
 
@@ -39,6 +39,26 @@ fn debug_path(alloc: Global, debug_dir: &str, build_id: &[u8]) -> Result<String,
     Ok(path)
 }
 
+impl Disk<'_> {
+    /// Reads the file of a path of Windows: the path without its drive below the root, or else the file's name in the
+    /// root.
+    fn read_windows_file(&self, name: &str) -> Option<Vec<u8>> {
+        let mut below = String::from_str(self.rt.alloc(), self.root).ok()?;
+        let mut beside = "";
+        for part in name.split('\\').skip(1) {
+            below.push_str("/").ok()?;
+            below.push_str(part).ok()?;
+            beside = part;
+        }
+        if let Some(bytes) = read_regular(self.rt, below.as_str()) {
+            return Some(bytes);
+        }
+        let root = self.root;
+        let path = format!(in self.rt.alloc(); "{root}/{beside}").ok()?;
+        read_regular(self.rt, path.as_str())
+    }
+}
+
 impl FileSource for Disk<'_> {
     // what a disk gives is not known
     ghost gives = { λ disk name given. Unit {0} };
@@ -46,7 +66,11 @@ impl FileSource for Disk<'_> {
     ghost gives_debug = { λ disk build_id given. Unit {0} };
 
     fn read_file(&self, name: &[u8]) -> Option<Vec<u8>> {
+        let is_windows = is_windows_path(name);
         let name = std::str::from_utf8(name).ok()?;
+        if is_windows {
+            return self.read_windows_file(name);
+        }
         let root = self.root;
         let path = format!(in self.rt.alloc(); "{root}{name}").ok()?;
         read_regular(self.rt, path.as_str())

@@ -6,7 +6,7 @@ use Rattle.framehop_elf.specs.UnwindSections.{unwind_sections_of, sections_view}
 use Rattle.framehop.specs.Laws.SectionContents.{data-of_bytes}
 use Rattle.framehop.specs.ModuleData.{unwind_data_in}
 use Rattle.framehop.specs.Modules.{ModuleView, UnwindData}
-use Rattle.framehop_stacks.proofs.elf_file.module_in.Goals as goal
+use Rattle.framehop_stacks.proofs.object_file.module_in.Goals as goal
 
 with_data : UnwindData → ModuleView
 with_data found = record { name = []; start = 0; end = 0; base_avma = 0; unwind_data = found }

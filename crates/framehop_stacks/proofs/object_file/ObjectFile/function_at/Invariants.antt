@@ -1,6 +1,6 @@
 use Rattle.std.proofs.Common.{◌≡◌, drop}
 use Rattle.framehop_stacks.specs.Place.{function_at}
-use Rattle.framehop_stacks.proofs.elf_file.ElfFile.function_at.Given as goal
+use Rattle.framehop_stacks.proofs.object_file.ObjectFile.function_at.Given as goal
 
 abbrev pub invariant-loop-symbols : goal.invariant-loop-symbols
 invariant-loop-symbols l =

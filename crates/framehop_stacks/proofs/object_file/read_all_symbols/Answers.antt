@@ -1,6 +1,6 @@
 use Rattle.std.proofs.Common.{[]}
-use Rattle.framehop_stacks.specs.ElfFiles.{AreTables}
-use Rattle.framehop_stacks.proofs.elf_file.read_all_symbols.Goals as goal
+use Rattle.framehop_stacks.specs.ObjectFiles.{AreTables}
+use Rattle.framehop_stacks.proofs.object_file.read_all_symbols.Goals as goal
 
 pub returns-clause-kept : goal.returns-clause-kept
 returns-clause-kept c =

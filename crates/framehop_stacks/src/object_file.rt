@@ -1,12 +1,13 @@
-//! A file that processes map: where it is loaded, its unwind data and its symbols.
-ghost use Rattle.std.specs.Prelude.{◌≡◌, ◌⊎◌, ℕ, List, [], ◌++◌, Some, None, Ok, Err, IfOk, IfErr, OnOk, MatchResult, option_map, option_to_list};
+//! A file that processes map, an ELF file or a PE file: where it is loaded, its unwind data and its symbols.
+ghost use Rattle.std.specs.Prelude.{◌≡◌, ◌⊎◌, ◌↔◌, IsTrue, ℕ, List, [], ◌++◌, Some, None, Ok, Err, IfOk, IfErr, OnOk, MatchResult, option_map, option_to_list};
 ghost use Rattle.framehop_elf.specs.Segment.{base_of};
 ghost use Rattle.framehop_elf.specs.Symbol.{symbol_for};
 ghost use Rattle.framehop_elf.specs.declared.error.ElfError.{ElfError};
-ghost use Rattle.framehop_stacks.specs.ElfFiles.{Listed, headers_view, headers_of, build_id_in, is_another, problem_of, symbols_in, symbols_called, tables_of, debug_tables_of, IsTable, AreTables, module_in, IsKeptOf};
+ghost use Rattle.framehop_stacks.specs.ObjectFiles.{Contents, Listed, headers_view, headers_of, build_id_in, is_another, problem_by, problem_of, symbols_in, symbols_called, tables_of, debug_tables_of, IsTable, AreTables, module_in, elf_contents_of, pe_contents_of, IsOutOfMemory, IsKeptBy, IsKeptOf};
 ghost use Rattle.framehop_stacks.specs.Place.{option_named, function_at};
-ghost use Rattle.framehop_stacks.specs.declared.elf_file.FileProblem.{FileProblem};
+ghost use Rattle.framehop_stacks.specs.declared.object_file.FileProblem.{FileProblem};
 
+use crate::pe_file;
 use framehop::Module;
 use framehop_elf::build_id::read_build_id;
 use framehop_elf::error::ElfError;
@@ -17,6 +18,7 @@ use framehop_elf::section_header::{SectionHeader, read_section_headers};
 use framehop_elf::segment::base_avma;
 use framehop_elf::symbol::{Symbol, SymbolTable, read_function_symbols, read_symbol_names};
 use framehop_elf::unwind_sections::read_unwind_sections;
+use framehop_pe_file::error::PeError;
 use std::alloc::{AllocError, Global};
 use thiserror::Error;
 
@@ -45,12 +47,12 @@ impl Symbols {
 
 /// A file that processes map: its segments, its functions, and its unwind data, which is read once.
 #[derive(Drop)]
-pub struct ElfFile {
+pub struct ObjectFile {
     segments: Vec<ProgramHeader>,
     symbols: Vec<Symbols>,
     /// At no address. The modules of mappings share its unwind data.
     module: Module<Vec<u8>>,
-    /// No bytes where it has none.
+    /// Its build id, or the GUID and the age of its program database: no bytes where it has none.
     build_id: Vec<u8>,
 }
 
@@ -63,13 +65,26 @@ pub enum FileProblem {
     /// It is no ELF file that can be read.
     #[error("{0}")]
     Elf(ElfError),
+    /// It is a PE file that can't be read.
+    #[error("{0}")]
+    Pe(PeError),
     /// Its build id differs from the recording's.
     #[error("its build id is not the recording's")]
     OtherBuildId,
 }
 
+impl FileProblem {
+    /// Returns whether memory ran out.
+    pub(crate) fn is_out_of_memory(self) -> bool
+        ensures { IsTrue result ↔ IsOutOfMemory self }
+    {
+        self == FileProblem::Elf(ElfError::OutOfMemory)
+            || self == FileProblem::Pe(PeError::OutOfMemory)
+    }
+}
+
 impl From<ElfError> for FileProblem {
-    ghost use Rattle.framehop_stacks.specs.declared.elf_file.FileProblem.TheVariants.{Elf};
+    ghost use Rattle.framehop_stacks.specs.declared.object_file.FileProblem.TheVariants.{Elf};
 
     ghost from_gives = { λ value error. error ≡ Elf value };
 
@@ -78,9 +93,19 @@ impl From<ElfError> for FileProblem {
     }
 }
 
+impl From<PeError> for FileProblem {
+    ghost use Rattle.framehop_stacks.specs.declared.object_file.FileProblem.TheVariants.{Pe};
+
+    ghost from_gives = { λ value error. error ≡ Pe value };
+
+    fn from(value: PeError) -> Self {
+        FileProblem::Pe(value)
+    }
+}
+
 impl From<AllocError> for FileProblem {
     ghost use Rattle.framehop_elf.specs.declared.error.ElfError.TheVariants.{OutOfMemory};
-    ghost use Rattle.framehop_stacks.specs.declared.elf_file.FileProblem.TheVariants.{Elf};
+    ghost use Rattle.framehop_stacks.specs.declared.object_file.FileProblem.TheVariants.{Elf};
 
     ghost from_gives = { λ value error. error ≡ Elf OutOfMemory };
 
@@ -99,7 +124,7 @@ struct Headers<'a> {
 }
 
 /// Reads the segments and the sections of a file.
-#[tactic(auto, unfolding(crate::specs::ElfFiles::headers_of))]
+#[tactic(auto, unfolding(crate::specs::ObjectFiles::headers_of))]
 fn read_headers<'a>(alloc: Global, file: &'a [u8]) -> Result<Headers<'a>, ElfError>
     ensures { MatchResult result
         (λ headers. headers_of file.entry.now ≡ Ok (headers_view headers))
@@ -132,7 +157,7 @@ fn build_id_in<'a>(file: &'a [u8], headers: &Headers<'_>) -> &'a [u8]
 }
 
 /// Returns whether a build id that is wanted is another.
-fn is_another(wanted: &[u8], found: &[u8]) -> bool
+pub fn is_another(wanted: &[u8], found: &[u8]) -> bool
     ensures { result ≡ is_another wanted.now found.now }
 {
     !wanted.is_empty() && found != wanted
@@ -151,7 +176,7 @@ fn kept_symbols(alloc: Global, functions: Vec<Symbol>, names: &[u8]) -> Result<S
 }
 
 /// Reads the symbols of a section, if the file has it. They count as absent where they can't be read.
-#[tactic(auto, unfolding(crate::specs::ElfFiles::symbols_of))]
+#[tactic(auto, unfolding(crate::specs::ObjectFiles::symbols_of))]
 fn read_symbols(
     alloc: Global,
     file: &[u8],
@@ -250,33 +275,72 @@ fn module_in(alloc: Global, file: &[u8], headers: &Headers<'_>) -> Result<Module
     }
 }
 
-impl ElfFile {
-    /// Reads a file. Where a build id is wanted, the file's must be the same.
+/// Reads an ELF file. Where a build id is wanted, the file's must be the same.
+fn read_elf(alloc: Global, bytes: &[u8], wanted: &[u8]) -> Result<ObjectFile, FileProblem>
+    ensures kept { IfOk result (λ object. (contents : Contents) × (elf_contents_of bytes.now ≡ Ok contents)
+        × IsKeptBy contents [] object) }
+    ensures wanted { IfOk result (λ _. problem_by wanted.now (elf_contents_of bytes.now) ≡ None) }
+    ensures refused { IfErr result (λ problem. IsOutOfMemory problem
+        ⊎ (problem_by wanted.now (elf_contents_of bytes.now) ≡ Some problem)) }
+{
+    let headers = read_headers(alloc, bytes)?;
+    let found = build_id_in(bytes, &headers);
+    if is_another(wanted, found) {
+        return Err(FileProblem::OtherBuildId);
+    }
+    let symbols = read_all_symbols(alloc, bytes, &headers)?;
+    let module = module_in(alloc, bytes, &headers)?;
+    let build_id = Vec::from_slice(alloc, found)?;
+    Ok(ObjectFile {
+        segments: headers.segments,
+        symbols,
+        module,
+        build_id,
+    })
+}
+
+/// Reads a PE file. Where the GUID and the age of a program database are wanted, the file's must be the same.
+fn read_pe(alloc: Global, bytes: &[u8], wanted: &[u8]) -> Result<ObjectFile, FileProblem>
+    ensures kept { IfOk result (λ object. (contents : Contents) × (pe_contents_of bytes.now ≡ Ok contents)
+        × IsKeptBy contents [] object) }
+    ensures wanted { IfOk result (λ _. problem_by wanted.now (pe_contents_of bytes.now) ≡ None) }
+    ensures refused { IfErr result (λ problem. IsOutOfMemory problem
+        ⊎ (problem_by wanted.now (pe_contents_of bytes.now) ≡ Some problem)) }
+{
+    let (header, sections) = pe_file::read_headers(alloc, bytes)?;
+    let found = pe_file::identity_in(bytes, header, sections.as_slice());
+    if is_another(wanted, found) {
+        return Err(FileProblem::OtherBuildId);
+    }
+    let module = pe_file::module_in(alloc, bytes, header, sections.as_slice())?;
+    let segments = pe_file::segments_of(alloc, sections.as_slice())?;
+    let build_id = Vec::from_slice(alloc, found)?;
+    Ok(ObjectFile {
+        segments,
+        symbols: Vec::new(alloc),
+        module,
+        build_id,
+    })
+}
+
+impl ObjectFile {
+    /// Reads an ELF file or a PE file. Where a build id is wanted, the file's must be the same; that of a PE file
+    /// is the GUID and the age of its program database.
     ///
     /// # Errors
     ///
     /// `OtherBuildId`, and the refusals of the file's headers and of its section names; `OutOfMemory`. A section
     /// that can't be read counts as absent.
     pub fn new(alloc: Global, bytes: &[u8], wanted: &[u8]) -> Result<Self, FileProblem>
-        ensures kept { IfOk result (λ elf. IsKeptOf bytes.now [] elf) }
+        ensures kept { IfOk result (λ object. IsKeptOf bytes.now [] object) }
         ensures wanted { IfOk result (λ _. problem_of bytes.now wanted.now ≡ None) }
-        ensures refused { IfErr result (λ problem. (problem ≡ FileProblem.Elf ElfError.OutOfMemory)
+        ensures refused { IfErr result (λ problem. IsOutOfMemory problem
             ⊎ (problem_of bytes.now wanted.now ≡ Some problem)) }
     {
-        let headers = read_headers(alloc, bytes)?;
-        let found = build_id_in(bytes, &headers);
-        if is_another(wanted, found) {
-            return Err(FileProblem::OtherBuildId);
+        if pe_file::is_pe(bytes) {
+            return read_pe(alloc, bytes, wanted);
         }
-        let symbols = read_all_symbols(alloc, bytes, &headers)?;
-        let module = module_in(alloc, bytes, &headers)?;
-        let build_id = Vec::from_slice(alloc, found)?;
-        Ok(ElfFile {
-            segments: headers.segments,
-            symbols,
-            module,
-            build_id,
-        })
+        read_elf(alloc, bytes, wanted)
     }
 
     /// Takes the functions of the file's debug file, which are asked before its own: nothing where it can't be

@@ -1,7 +1,7 @@
 use Rattle.std.proofs.Common.{rules, [], ◌∷◌, option_to_list}
 use Rattle.framehop_stacks.proofs.FileLemmas.{AreTables-append}
-use Rattle.framehop_stacks.specs.ElfFiles.{headers_view, symbols_called, AreTables}
-use Rattle.framehop_stacks.proofs.elf_file.push_symbols.Goals as goal
+use Rattle.framehop_stacks.specs.ObjectFiles.{headers_view, symbols_called, AreTables}
+use Rattle.framehop_stacks.proofs.object_file.push_symbols.Goals as goal
 
 pub returns-clause-kept : goal.returns-clause-kept
 returns-clause-kept c = λ listed tables.
