@@ -1,0 +1,25 @@
+//! Blocks of a file.
+ghost use Rattle.std.specs.Prelude.{◌≡◌, Ok, Err, MatchResult, IfOk, length};
+ghost use Rattle.framehop_pe_file.specs.Block.{block_at};
+
+use crate::error::PeError;
+use framehop_bytes::bytes::front;
+use framehop_elf::bytes::back;
+
+/// Returns so many bytes from an offset of the file on.
+///
+/// # Errors
+///
+/// `Eof` where the file ends before them.
+pub(crate) fn read_block(file: &[u8], offset: u64, size: u64) -> Result<&[u8], PeError>
+    ensures exact { MatchResult result
+        (λ block. block_at file.entry.now offset size ≡ Ok block.now)
+        (λ error. block_at file.entry.now offset size ≡ Err error) }
+    ensures whole { IfOk result (λ block. length block.now ≡ size) }
+{
+    let length = file.len() as u64;
+    if offset > length || size > length - offset {
+        return Err(PeError::Eof { offset });
+    }
+    Ok(front(back(file, offset), size as usize))
+}
