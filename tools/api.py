@@ -30,6 +30,7 @@ LIBRARIES = [
     "framehop_c",
     "framehop_recording",
     "framehop_elf",
+    "framehop_pe_file",
     "framehop_core_file",
     "framehop_minidump",
     "framehop_flame_graph",
