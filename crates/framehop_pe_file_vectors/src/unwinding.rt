@@ -75,19 +75,6 @@ fn cuts_and_leaves_out_sections(rt: HostRuntime) -> Result<(), Fail> {
     Ok(())
 }
 
-#[test]
-fn copies_what_an_unwinder_needs(rt: HostRuntime) -> Result<(), Fail> {
-    let program = hex::decode(rt.alloc(), PROGRAM)?;
-    let file = program.as_slice();
-    let header = read_file_header(file)?;
-    let headers = read_section_headers(rt.alloc(), file, header)?;
-    let mut info = read_unwind_sections(rt.alloc(), file, header, headers.as_slice())?;
-    let text = info.section_data(b".text").ok_or("no .text")?;
-    // `ret` of `inner`
-    assert_eq!(rt; text.get(3).copied(), Some(0xc3));
-    Ok(())
-}
-
 /// The stack of the first instruction of `inner`, which `outer` called, which `start` did: the return addresses are
 /// 0x28 bytes apart by `sub rsp, 0x28`, and after them is what Windows leaves there for `start`.
 const STACK: [u64; 13] = [
@@ -109,11 +96,12 @@ const STACK: [u64; 13] = [
 /// The walk's addresses, each within the instruction that called.
 const ADDRESSES: [u64; 3] = [0x7ff600001000, 0x7ff60000100c, 0x7ff600001022];
 
-/// A module of the program, which is loaded at an address (AVMA).
-fn module_of_file(alloc: Global, file: &[u8], base: u64) -> Result<Module<&[u8]>, Fail> {
+/// A module of a PE file, of which it has copies, and which is loaded at an address (AVMA).
+fn module_of_file(alloc: Global, file: &[u8], base: u64) -> Result<Module<Vec<u8>>, Fail> {
     let header = read_file_header(file)?;
+    let headers = read_section_headers(alloc, file, header)?;
+    let sections = read_unwind_sections(alloc, file, header, headers.as_slice())?;
     let end = base.wrapping_add(u64::from(header.size_of_image));
-    let sections = unwind_sections(alloc, file)?;
     let name = String::from_str(alloc, "small.exe")?;
     Ok(Module::new(alloc, name, base..end, base, sections)?)
 }
@@ -124,7 +112,7 @@ fn walks_through_a_file(rt: HostRuntime) -> Result<(), Fail> {
     let program = hex::decode(alloc, PROGRAM)?;
     let mut generations = Generations::new();
     let mut cache = CacheX86_64::new(alloc)?;
-    let mut unwinder: UnwinderX86_64<&[u8]> = UnwinderX86_64::new(alloc, &mut generations)?;
+    let mut unwinder: UnwinderX86_64<Vec<u8>> = UnwinderX86_64::new(alloc, &mut generations)?;
     let module = module_of_file(alloc, program.as_slice(), 0x7ff600000000)?;
     if let Err(refused) = unwinder.add_module(module, &mut generations) {
         return Err(refused.cause)?;
