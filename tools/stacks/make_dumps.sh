@@ -107,5 +107,36 @@ linux() {
     for name in null_pointer overflow; do crashes "$name" "$programs/$name"; done
 }
 
+# ---- aarch64
+
+# A process below qemu-user that crashes, and its core file, judged by gdb with the files of the cross compiler's C library. qemu's core
+# file does not say which files were mapped: PLAIN says whether it stays so. crashes_below_qemu NAME PROGRAM PLAIN
+crashes_below_qemu() {
+    local folder=$work/$1
+    rm -rf "$folder" && mkdir "$folder" || return
+    (cd "$folder" && ulimit -c unlimited && qemu-aarch64 -s 65536 -L "$sysroot" "$2" >maps || true) 2>/dev/null
+    mv "$folder"/qemu_*.core "$cases/$1.core" || { complain "$1: no core file"; return; }
+    rm -rf "$folder"/core*
+    [ "$3" = plain ] && cp "$cases/$1.core" "$work/$1.plain"
+    python3 "$tools/judges/aarch64/with_files.py" "$cases/$1.core" "$folder/maps"
+    {
+        echo "# judge: $(gdb-multiarch --version | head -n 1), $(qemu-aarch64 --version | head -n 1)"
+        gdb-multiarch -batch -nx -ex "set sysroot /" -ex "set solib-search-path $sysroot/lib" -ex "file $2" -ex "core-file $cases/$1.core" \
+            -x "$tools/judges/frames_gdb.py" 2>/dev/null | of_script
+    } >"$cases/$1.core.frames"
+    [ "$3" = plain ] && mv "$work/$1.plain" "$cases/$1.core"
+}
+
+aarch64() {
+    local sources=$tools/judges/aarch64 compile=aarch64-linux-gnu-gcc
+    $compile -O2 -fomit-frame-pointer -o "$programs/aarch64_c" "$sources/c.c" || exit 1
+    $compile -O2 -o "$programs/aarch64_frame_pointers" "$sources/c.c" || exit 1
+    $compile -O2 -static -fomit-frame-pointer -o "$programs/aarch64_static" "$sources/c.c" || exit 1
+    $compile -O2 -pthread -fomit-frame-pointer -o "$programs/aarch64_threads" "$sources/threads.c" || exit 1
+    for name in c frame_pointers static threads; do crashes_below_qemu "aarch64_$name" "$programs/aarch64_$name" files; done
+    cp "$programs/aarch64_frame_pointers" "$programs/aarch64_plain"
+    crashes_below_qemu aarch64_plain "$programs/aarch64_plain" plain
+}
+
 for part in "$@"; do "$part"; done
 exit "$failed"

@@ -5,14 +5,14 @@ static pthread_barrier_t all;
 static pthread_mutex_t mutex = PTHREAD_MUTEX_INITIALIZER, other = PTHREAD_MUTEX_INITIALIZER;
 static pthread_cond_t condition = PTHREAD_COND_INITIALIZER;
 static volatile unsigned long count;
-static NOINLINE int waits_for_mutex(int n) { return n > 0 ? waits_for_mutex(n - 1) + 1 : pthread_mutex_lock(&mutex); }
+static NOINLINE int waits_for_mutex(int n) { return n > 0 ? (waits_for_mutex(n - 1) * 3) ^ n : pthread_mutex_lock(&mutex); }
 static NOINLINE int waits_for_condition(int n) {
-    if (n > 0) return waits_for_condition(n - 1) + 1;
+    if (n > 0) return (waits_for_condition(n - 1) * 3) ^ n;
     pthread_mutex_lock(&other);
     return pthread_cond_wait(&condition, &other);
 }
 static NOINLINE int runs(int n) {
-    if (n > 0) return runs(n - 1) + 1;
+    if (n > 0) return (runs(n - 1) * 3) ^ n;
     while (running) count++;
     return (int)count;
 }
