@@ -138,5 +138,35 @@ aarch64() {
     crashes_below_qemu aarch64_plain "$programs/aarch64_plain" plain
 }
 
+# ---- Windows
+
+# Runs a program in C:\judges below wine. It writes its minidump, and prints its frames: runs_below_wine NAME CASE
+runs_below_wine() {
+    local folder=$WINEPREFIX/drive_c/judges
+    (cd "$folder" && rm -f "$1.dmp" && timeout 120 "$wine" "C:\\judges\\$1.exe" >"$work/$2.out" 2>"$work/$2.err") || complain "$1: status $?: $(tail -n 1 "$work/$2.err")"
+    mv "$folder/$1.dmp" "$cases/$2.dmp" || return
+    {
+        echo "# judge: RtlVirtualUnwind of $("$wine" --version)"
+        echo "# root: $WINEPREFIX/drive_c"
+        tr -d '\r' <"$work/$2.out"
+    } >"$cases/$2.dmp.frames"
+}
+
+windows() {
+    local sources=$tools/judges/windows name
+    export WINEPREFIX=${WINEPREFIX:-$top/wine} WINEDEBUG=-all
+    mkdir -p "$WINEPREFIX" && "$wine" wineboot -i >/dev/null 2>&1
+    mkdir -p "$WINEPREFIX/drive_c/judges" || exit 1
+    for name in nest crash small; do
+        x86_64-w64-mingw32-gcc -O2 -Wall -Wextra -fno-builtin -nostdlib -s -Wl,-e,start -Wl,--no-insert-timestamp \
+            -o "$WINEPREFIX/drive_c/judges/$name.exe" "$sources/$name.c" -lkernel32 -ldbghelp -lntdll -lmsvcrt || exit 1
+    done
+    for number in 1 2 3; do runs_below_wine nest "windows_nest_$number"; done
+    runs_below_wine crash windows_crash
+    runs_below_wine small windows_small
+    python3 "$sources/shrink_minidump.py" "$cases/windows_small.dmp.frames" "$cases/windows_small.dmp" "$work/small.dmp" &&
+        cp "$cases/windows_small.dmp.frames" "$cases/windows_shrunk.dmp.frames" && mv "$work/small.dmp" "$cases/windows_shrunk.dmp"
+}
+
 for part in "$@"; do "$part"; done
 exit "$failed"
