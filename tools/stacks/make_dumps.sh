@@ -49,8 +49,8 @@ judge_core() {
     } >"$cases/$1.core.frames"
 }
 
-# Lets LLDB write a minidump with the stacks, and asks it for the frames: judge_minidump NAME COMMAND.., which stop the process. After a crash LLDB
-# goes on with the commands of -k only.
+# Lets LLDB write a minidump with the stacks, and asks it for the frames: judge_minidump NAME COMMAND.., which stop the process. After a
+# crash LLDB goes on with the commands of -k only.
 judge_minidump() {
     local name=$1 commands=() command
     shift
@@ -65,6 +65,14 @@ judge_minidump() {
         $lldb --no-lldbinit -b "${commands[@]}" -k quit 2>"$work/$name.lldb" | of_script
     } >"$cases/$name.dmp.frames"
     [ -s "$cases/$name.dmp" ] || complain "$name: no minidump: $(tail -n 1 "$work/$name.lldb")"
+}
+
+# Asks LLDB for the frames that it has of a minidump without its process: judge_minidump_itself NAME
+judge_minidump_itself() {
+    {
+        echo "# judge: $($lldb --version | head -n 1), of the minidump"
+        $lldb --no-lldbinit -b -o "target create --core $cases/$1.dmp" -o "command script import $tools/judges/frames_lldb.py" 2>/dev/null | of_script
+    } >"$cases/$1.dmp.frames"
 }
 
 # A process that waits: gdb's gcore takes its core file, and then LLDB its minidump: waits NAME PROGRAM [ARGUMENT..]
@@ -85,13 +93,13 @@ waits() {
     kill -KILL "$process" 2>/dev/null
 }
 
-# A process that crashes: the kernel writes its core file, and LLDB stops another one: crashes NAME PROGRAM
+# A process that crashes: the kernel writes its core file, and LLDB stops another one: crashes NAME
 crashes() {
-    local folder=$work/$1
+    local folder=$work/$1 program=$programs/$1
     rm -rf "$folder" && mkdir "$folder" || return
-    (cd "$folder" && ulimit -c unlimited && ulimit -s 128 && "$2" || true) >/dev/null 2>&1
-    mv "$folder"/core* "$cases/$1.core" && judge_core "$1" "$2" || complain "$1: no core file"
-    (ulimit -s 128 && judge_minidump "$1" "target create $2" "process launch")
+    (cd "$folder" && ulimit -c unlimited && ulimit -s 128 && "$program" || true) >/dev/null 2>&1
+    mv "$folder"/core* "$cases/$1.core" && judge_core "$1" "$program" || complain "$1: no core file"
+    (ulimit -s 128 && judge_minidump "$1" "target create $program" "process launch")
 }
 
 linux() {
@@ -104,7 +112,10 @@ linux() {
     gcc -O2 -pthread -o "$programs/four_threads" "$sources/four_threads.c" || exit 1
     for name in c cxx_destructor cxx_catch static no_tables system_call signal four_threads; do waits "$name" "$programs/$name"; done
     waits python "$(realpath -- "$python")" "$sources/python.py"
-    for name in null_pointer overflow; do crashes "$name" "$programs/$name"; done
+    crashes null_pointer
+    crashes overflow
+    # LLDB's minidumps have nothing of a stack that is full, in each of its styles
+    judge_minidump_itself overflow
 }
 
 # ---- aarch64
