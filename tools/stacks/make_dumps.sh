@@ -109,8 +109,9 @@ linux() {
     for name in cxx_destructor cxx_catch; do g++ -O2 -o "$programs/$name" "$sources/$name.cc" || exit 1; done
     gcc -O2 -static -o "$programs/static" "$sources/c.c" || exit 1
     gcc -O2 -fomit-frame-pointer -fno-asynchronous-unwind-tables -o "$programs/no_tables" "$sources/no_tables.c" || exit 1
+    gcc -O2 -g -fomit-frame-pointer -fno-asynchronous-unwind-tables -o "$programs/debug_frame" "$sources/no_tables.c" || exit 1
     gcc -O2 -pthread -o "$programs/four_threads" "$sources/four_threads.c" || exit 1
-    for name in c cxx_destructor cxx_catch static no_tables system_call signal four_threads; do waits "$name" "$programs/$name"; done
+    for name in c cxx_destructor cxx_catch static no_tables debug_frame system_call signal four_threads; do waits "$name" "$programs/$name"; done
     waits python "$(realpath -- "$python")" "$sources/python.py"
     crashes null_pointer
     crashes overflow

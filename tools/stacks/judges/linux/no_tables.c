@@ -1,5 +1,6 @@
-// Compiled with -fomit-frame-pointer and -fno-asynchronous-unwind-tables: this file's functions have no unwind data, and rbp is theirs
-// to use. What is to be expected: a walk by unwind data ends at the first of them or goes wrong from there; gdb reads their prologues.
+// Compiled with -fomit-frame-pointer and -fno-asynchronous-unwind-tables: this file's functions have no .eh_frame, and use rbp as any other
+// register. A walk by .eh_frame is expected to end in the first of them, or one frame later by what lies where rbp points. Debuggers read
+// the functions' instructions, or with -g their .debug_frame.
 #include "stop.h"
 static NOINLINE int third(volatile int *at) {
     stop();
