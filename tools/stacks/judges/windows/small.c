@@ -1,11 +1,12 @@
-// Windows, for a stored test: all frames are in this program, since the stacks of its three threads begin with a return address 0. One
-// runs in a loop below frames of all kinds, one in a prologue, between its pushes, and one crashes by a write through a null pointer.
+// Windows, for a stored test: all frames are in this program, since the stacks of its four threads begin with a return address 0. One
+// runs in a loop below frames of all kinds, one in a prologue, between its pushes, one is in an epilogue, between its pops, and one crashes
+// by a write through a null pointer.
 #include "judge.h"
 
 volatile int running = 1;
 static volatile int zero, ready;
 static volatile int *volatile nowhere;
-static HANDLE threads[3];
+static HANDLE threads[4];
 static MINIDUMP_EXCEPTION_INFORMATION exception;
 
 static NOINLINE int spins(int n) {
@@ -63,6 +64,39 @@ __asm__(".seh_proc prologue\n"
         ".seh_endproc\n");
 int above_prologue(int n) { return prologue() + n; }
 
+// An epilogue: a thread that runs in the loop is put between the pops.
+int epilogue(void);
+extern char between_pops[];
+__asm__(".seh_proc epilogue\n"
+        "epilogue:\n"
+        "push %rbx\n"
+        ".seh_pushreg %rbx\n"
+        "push %rsi\n"
+        ".seh_pushreg %rsi\n"
+        "sub $40, %rsp\n"
+        ".seh_stackalloc 40\n"
+        ".seh_endprologue\n"
+        "1: cmpl $0, running(%rip)\n"
+        "jne 1b\n"
+        "xor %eax, %eax\n"
+        "add $40, %rsp\n"
+        "pop %rsi\n"
+        "between_pops:\n"
+        "pop %rbx\n"
+        "ret\n"
+        ".seh_endproc\n");
+int above_epilogue(int n) { return epilogue() + n; }
+static void put_between_pops(HANDLE thread) {
+    static CONTEXT context;
+    SuspendThread(thread);
+    context.ContextFlags = CONTEXT_FULL;
+    GetThreadContext(thread, &context);
+    context.Rip = (DWORD64)between_pops;
+    context.Rsi = *(DWORD64 *)(context.Rsp + 40);
+    context.Rsp += 48;
+    SetThreadContext(thread, &context);
+}
+
 static NOINLINE int crash(int n) { return *nowhere = n; }
 int above_crash(int n) {
     volatile char room[40];
@@ -79,6 +113,7 @@ int above_crash(int n) {
                   "jmp " #function "\n")
 BEGINS(begins_saves, saves);
 BEGINS(begins_prologue, above_prologue);
+BEGINS(begins_epilogue, above_epilogue);
 BEGINS(begins_crash, above_crash);
 
 static DWORD WINAPI writes(void *unused) {
@@ -90,7 +125,8 @@ static DWORD WINAPI writes(void *unused) {
 static LONG WINAPI handler(EXCEPTION_POINTERS *pointers) {
     exception.ThreadId = GetCurrentThreadId();
     exception.ExceptionPointers = pointers;
-    for (int at = 0; at < 2; at++) print_stopped(threads[at]);
+    put_between_pops(threads[2]);
+    for (int at = 0; at < 3; at++) print_stopped(threads[at]);
     print_frames(exception.ThreadId, pointers->ContextRecord);
     WaitForSingleObject(CreateThread(0, 0, writes, 0, 0, 0), INFINITE);
     return EXCEPTION_CONTINUE_SEARCH;
@@ -100,9 +136,10 @@ void start(void) {
     AddVectoredExceptionHandler(1, handler);
     threads[0] = CreateThread(0, 0, begins_saves, (void *)1, 0, 0);
     threads[1] = CreateThread(0, 0, begins_prologue, (void *)2, 0, 0);
+    threads[2] = CreateThread(0, 0, begins_epilogue, (void *)3, 0, 0);
     while (!ready) Sleep(1);
     Sleep(200);
-    threads[2] = CreateThread(0, 0, begins_crash, (void *)3, 0, 0);
-    WaitForSingleObject(threads[2], INFINITE);
+    threads[3] = CreateThread(0, 0, begins_crash, (void *)4, 0, 0);
+    WaitForSingleObject(threads[3], INFINITE);
     ExitProcess(1);
 }
