@@ -140,7 +140,7 @@ crashes_below_qemu() {
 }
 
 aarch64() {
-    local sources=$tools/judges/aarch64 compile=aarch64-linux-gnu-gcc
+    local sources=$tools/judges/aarch64 compile=aarch64-linux-gnu-gcc name
     $compile -O2 -fomit-frame-pointer -o "$programs/aarch64_c" "$sources/c.c" || exit 1
     $compile -O2 -o "$programs/aarch64_frame_pointers" "$sources/c.c" || exit 1
     $compile -O2 -static -fomit-frame-pointer -o "$programs/aarch64_static" "$sources/c.c" || exit 1
@@ -165,7 +165,7 @@ runs_below_wine() {
 }
 
 windows() {
-    local sources=$tools/judges/windows name
+    local sources=$tools/judges/windows name number
     export WINEPREFIX=${WINEPREFIX:-$top/wine} WINEDEBUG=-all
     mkdir -p "$WINEPREFIX" && "$wine" wineboot -i >/dev/null 2>&1
     mkdir -p "$WINEPREFIX/drive_c/judges" || exit 1
@@ -180,5 +180,10 @@ windows() {
         cp "$cases/windows_small.dmp.frames" "$cases/windows_shrunk.dmp.frames" && mv "$work/small.dmp" "$cases/windows_shrunk.dmp"
 }
 
-for part in "$@"; do "$part"; done
+for part in "$@"; do
+    case $part in
+    linux | aarch64 | windows) "$part" ;;
+    *) complain "there is no part $part" ;;
+    esac
+done
 exit "$failed"
