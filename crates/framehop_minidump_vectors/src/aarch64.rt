@@ -232,7 +232,15 @@ fn reads_modules(rt: HostRuntime) -> Result<(), Fail> {
     let library = modules.get(1).copied().ok_or("no second module")?;
     assert_eq!(rt; (library.base, library.size), (0xffffa0000000, 0x1000));
     assert_eq!(rt; (library.checksum, library.time), (0x102, 2));
-    let Some(CodeView::Pdb { guid, age, path }) = read_codeview(file, library.codeview)? else {
+    let Some(
+        CodeView::Pdb {
+            guid,
+            age,
+            path,
+            ..
+        },
+    ) = read_codeview(file, library.codeview)?
+    else {
         return Err("no program database".into());
     };
     // the GUID 01234567-89ab-cdef-f0f1-f2f3f4f5f6f7

@@ -54,7 +54,7 @@ pub struct Files {
 }
 
 /// Returns whether a name is a path of Unix: perf calls memory that is no file `[vdso]`, `//anon` and the like, and
-/// LLDB calls the vdso `[vdso](0x7fff..)`.
+/// LLDB adds an address in brackets to that of the vdso.
 pub fn is_unix_path(name: &[u8]) -> bool
     ensures { result ≡ is_unix_path name.now }
 {

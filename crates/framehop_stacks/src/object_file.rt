@@ -308,13 +308,13 @@ fn read_pe(alloc: Global, bytes: &[u8], wanted: &[u8]) -> Result<ObjectFile, Fil
         ⊎ (problem_by wanted.now (pe_contents_of bytes.now) ≡ Some problem)) }
 {
     let (header, sections) = pe_file::read_headers(alloc, bytes)?;
-    let found = pe_file::identity_in(bytes, header, sections.as_slice());
-    if is_another(wanted, found) {
+    let identity = pe_file::identity_in(bytes, header, sections.as_slice());
+    if is_another(wanted, identity) {
         return Err(FileProblem::OtherBuildId);
     }
     let module = pe_file::module_in(alloc, bytes, header, sections.as_slice())?;
     let segments = pe_file::segments_of(alloc, sections.as_slice())?;
-    let build_id = Vec::from_slice(alloc, found)?;
+    let build_id = Vec::from_slice(alloc, identity)?;
     Ok(ObjectFile {
         segments,
         symbols: Vec::new(alloc),
