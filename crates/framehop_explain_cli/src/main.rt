@@ -16,7 +16,7 @@ use std::{env, fs, io};
 const ABOUT: &str =
     "Carries out the commands of framehop-walk and prints its replies, with a note under each module and each frame: the kind of unwind data, and where the frame came from.";
 
-/// The size of the largest ELF file that is read, in bytes: 4 GiB.
+/// The size of the largest file that is read, in bytes: 4 GiB.
 const LARGEST_FILE: u64 = 0x1_0000_0000;
 
 fn main(rt: HostRuntime) -> Result<ExitCode> {
@@ -28,17 +28,17 @@ fn command<'a>(alloc: Global) -> Result<Command<'a>> {
     let elf = Arg::new(alloc, "elf")
         .long("elf")
         .help(
-            "Print what an ELF file has to unwind by: all its functions, or the row and the rule of addresses",
+            "Print what an ELF file or a PE file has to unwind by: all its functions, or the row and the rule of addresses",
         )
         .action(ArgAction::SetTrue);
     let file = Arg::new(alloc, "file")
         .value_name("FILE")
-        .help("Commands in JSON [default: standard input]; with --elf an ELF file")
+        .help("Commands in JSON [default: standard input]; with --elf an ELF file or a PE file")
         .action(ArgAction::Set);
     let addresses = Arg::new(alloc, "address")
         .value_name("ADDRESS")
         .num_args(0..)
-        .help("Addresses that the ELF file states, in hexadecimal")
+        .help("Addresses that the ELF file states, or RVAs of the PE file, in hexadecimal")
         .action(ArgAction::Append);
     let command = Command::new(alloc, "framehop-explain")
         .version("0.1.0")
@@ -99,7 +99,7 @@ fn read_regular(rt: &HostRuntime, path: &str) -> io::Result<Option<Vec<u8>>> {
     Ok(Some(fs::read(rt, path)?))
 }
 
-/// Prints what an ELF file has to unwind by.
+/// Prints what an ELF file or a PE file has to unwind by.
 fn print_file(rt: &HostRuntime, path: &str, texts: &[&str]) -> Result<u8> {
     let Some(addresses) = parse_addresses(rt.alloc(), texts)? else {
         eprintln!(rt; "framehop-explain: an address is no hexadecimal number of 64 bits")?;

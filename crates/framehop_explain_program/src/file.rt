@@ -1,4 +1,4 @@
-//! What an ELF file has to unwind by: the functions of its table, and for an address its row and its rule.
+//! What an ELF file or a PE file has to unwind by: the functions of its table, and for an address its row and its rule.
 use crate::row_text::{RegisterNames, push_row};
 use framehop::aarch64::{ArchAarch64, UnwindRegsAarch64};
 use framehop::cache::MayAllocateDuringUnwind;
@@ -18,6 +18,10 @@ use framehop_elf::unwind_sections::read_unwind_sections;
 use framehop_explain::explain::explain_module;
 use framehop_explain::pe::Sources;
 use framehop_explain::{DescribeRule, Described, RowSource, Source, Told, unwind_data_text};
+use framehop_pe::unwind_info::function_table::RuntimeFunction;
+use framehop_pe_file::error::PeError;
+use framehop_pe_file::header::Machine as PeMachine;
+use framehop_pe_file::{header, section_header, unwind_sections};
 use std::alloc::{AllocError, Global};
 use thiserror::Error;
 
@@ -33,6 +37,9 @@ pub enum FileProblem {
     /// It is no ELF file that can be read.
     #[error("{0}")]
     Elf(ElfError),
+    /// It is a PE file that can't be read.
+    #[error("{0}")]
+    Pe(PeError),
     /// It is for another machine than x86_64 and aarch64.
     #[error("machine {0}: neither x86_64 nor aarch64")]
     OtherMachine(u16),
@@ -44,6 +51,12 @@ pub enum FileProblem {
 impl From<ElfError> for FileProblem {
     fn from(value: ElfError) -> Self {
         FileProblem::Elf(value)
+    }
+}
+
+impl From<PeError> for FileProblem {
+    fn from(value: PeError) -> Self {
+        FileProblem::Pe(value)
     }
 }
 
@@ -77,14 +90,40 @@ impl Machine for ArchAarch64 {
     }
 }
 
-/// Reads a file as a module: addresses in it are the stated ones (SVMAs).
-fn read_module(alloc: Global, file: &[u8]) -> Result<(u16, Module<Vec<u8>>), FileProblem> {
+/// Reads an ELF file as a module: addresses in it are the stated ones (SVMAs).
+fn read_elf(alloc: Global, file: &[u8]) -> Result<(u16, Module<Vec<u8>>), FileProblem> {
     let header = read_file_header(file)?;
     let headers = read_section_headers(alloc, file, header)?;
     let names = read_section_names(file, header, headers.as_slice())?;
     let sections = read_unwind_sections(alloc, file, headers.as_slice(), names)?;
     let module = Module::new(alloc, String::new(alloc), 0..u64::MAX, 0, sections)?;
     Ok((header.e_machine, module))
+}
+
+/// Returns the number by which ELF files name the machine of a PE file, or that of the PE file itself.
+fn elf_machine(machine: PeMachine) -> u16 {
+    match machine {
+        PeMachine::X86_64 => EM_X86_64,
+        PeMachine::Aarch64 => EM_AARCH64,
+        PeMachine::Other(number) => number,
+    }
+}
+
+/// Reads a PE file as a module: addresses in it are relative to the base of the image (RVAs).
+fn read_pe(alloc: Global, file: &[u8]) -> Result<(u16, Module<Vec<u8>>), FileProblem> {
+    let header = header::read_file_header(file)?;
+    let headers = section_header::read_section_headers(alloc, file, header)?;
+    let sections = unwind_sections::read_unwind_sections(alloc, file, header, headers.as_slice())?;
+    let module = Module::new(alloc, String::new(alloc), 0..u64::MAX, 0, sections)?;
+    Ok((elf_machine(header.machine), module))
+}
+
+/// Reads a file as a module: a PE file begins with "MZ".
+fn read_module(alloc: Global, file: &[u8]) -> Result<(u16, Module<Vec<u8>>), FileProblem> {
+    if file.starts_with(b"MZ") {
+        return read_pe(alloc, file);
+    }
+    read_elf(alloc, file)
 }
 
 /// The call frame section of a module, if it unwinds by one.
@@ -141,6 +180,30 @@ fn push_functions(section: &UnwindSection<'_>, out: &mut String) -> Result<(), A
         at = span.end;
     }
     Ok(())
+}
+
+/// Appends a line for each function of a PE module, in the order of its table.
+fn push_pe_functions(pdata: &[u8], out: &mut String) -> Result<(), AllocError> {
+    let (entries, _) = pdata.as_chunks::<12>();
+    for entry in entries {
+        if let Some(function) = RuntimeFunction::parse(entry) {
+            let (start, end) = (function.begin_address, function.end_address);
+            let info = function.unwind_info_address;
+            writeln!(out, "0x{start:x}..0x{end:x}: unwind info 0x{info:x}")?;
+        }
+    }
+    Ok(())
+}
+
+/// Appends a line for each function that a module's unwind data has.
+fn push_all_functions(module: &Module<Vec<u8>>, out: &mut String) -> Result<(), AllocError> {
+    if let ModuleUnwindDataInternal::PeUnwindInfo { pdata, .. } = module.unwind_data() {
+        return push_pe_functions(pdata.as_slice(), out);
+    }
+    match call_frames(module) {
+        Some(section) => push_functions(&section, out),
+        None => Ok(()),
+    }
 }
 
 /// Appends the range of the FDE at an offset, and its row for an address.
@@ -255,20 +318,19 @@ where
     for address in addresses {
         push_address::<A>(alloc, module, *address, &mut out)?;
     }
-    if addresses.is_empty()
-        && let Some(section) = call_frames(module)
-    {
-        push_functions(&section, &mut out)?;
+    if addresses.is_empty() {
+        push_all_functions(module, &mut out)?;
     }
     Ok(out)
 }
 
-/// Returns what an ELF file has to unwind by, as text: what unwind data it has; then for each of the addresses
-/// (SVMAs) the FDE, the row and the rule, or without addresses a line for each FDE.
+/// Returns what an ELF file or a PE file has to unwind by, as text: what unwind data it has; then for each of the
+/// addresses (SVMAs of an ELF file, RVAs of a PE file) the FDE, the row and the rule, or without addresses a line for
+/// each function that it has unwind data of.
 ///
 /// # Errors
 ///
-/// `Elf` where the bytes are no file that can be read, `OtherMachine` and `OutOfMemory`.
+/// `Elf` or `Pe` where the bytes are no file that can be read, `OtherMachine` and `OutOfMemory`.
 pub fn explain_file(alloc: Global, file: &[u8], addresses: &[u64]) -> Result<String, FileProblem> {
     let (machine, module) = read_module(alloc, file)?;
     match machine {
