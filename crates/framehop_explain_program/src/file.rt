@@ -4,7 +4,7 @@ use framehop::aarch64::{ArchAarch64, UnwindRegsAarch64};
 use framehop::cache::MayAllocateDuringUnwind;
 use framehop::unwind_data::ModuleUnwindDataInternal;
 use framehop::x86_64::{ArchX86_64, UnwindRegsX86_64};
-use framehop::{Module, ModuleListError};
+use framehop::{Module, ModuleListError, UnwinderError};
 use framehop_cfi::context::UnwindContext;
 use framehop_cfi::entry::{EntryHead, UnwindSection, UnwindSectionType};
 use framehop_cfi::extent::read_extent;
@@ -18,6 +18,7 @@ use framehop_elf::unwind_sections::read_unwind_sections;
 use framehop_explain::explain::explain_module;
 use framehop_explain::pe::Sources;
 use framehop_explain::{DescribeRule, Described, RowSource, Source, Told, unwind_data_text};
+use framehop_pe::pe::PeUnwinderError;
 use framehop_pe::unwind_info::function_table::RuntimeFunction;
 use framehop_pe_file::error::PeError;
 use framehop_pe_file::header::Machine as PeMachine;
@@ -260,7 +261,9 @@ fn push_told<R: DescribeRule>(
 ) -> Result<(), AllocError> {
     match told {
         Told::Rule(rule) => writeln!(out, "  rule {}", Described(rule)),
-        Told::Refused(error) if !is_row(source) => writeln!(out, "  no rule: {error:?}"),
+        Told::Refused(error) if !is_computed(source, error) => {
+            writeln!(out, "  no rule: {error:?}")
+        }
         _ => writeln!(
             out,
             "  no rule: the frame is computed from its registers and its stack"
@@ -277,6 +280,15 @@ fn is_row(source: Source) -> bool {
             ..
         }
     )
+}
+
+/// Whether a frame is computed from its registers and its stack, where the stack can't be read.
+fn is_computed(source: Source, error: UnwinderError) -> bool {
+    is_row(source)
+        || matches!(
+            error,
+            UnwinderError::Pe(PeUnwinderError::MissingStackData(_))
+        )
 }
 
 /// Appends what a module tells of an address.
