@@ -136,7 +136,7 @@ impl<R: UnwindRule, P: AllocationPolicy> Cache<R, P> {
         self.rule_cache.insert(handle, unwind_rule);
     }
 
-    /// The counts of the lookups.
+    /// Returns the counts of the lookups.
     pub fn stats(&self) -> CacheStats
         ensures { result ≡ self.now.stats }
     {

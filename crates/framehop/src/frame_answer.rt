@@ -73,7 +73,7 @@ pub(crate) enum FrameAnswer<R> {
     NotComputed,
 }
 
-/// A module's answer, with the fallback rule where the module's bytes give none
+/// Returns a module's answer, with the fallback rule where the module's bytes give none
 pub(crate) fn frame_answer<R: UnwindRule>(
     told: Result<UnwindResult<R>, UnwinderError>,
 ) -> Result<FrameAnswer<R>, Error>

@@ -58,7 +58,7 @@ impl<'u, 'c, 'r, U: Unwinder, F: FnMut(u64) -> Result<u64, ()>> UnwindIterator<'
     ghost use Rattle.framehop.specs.Iterator.{before};
     ghost use Rattle.framehop.specs.UnwindIterator.{unwinder_of, progress_in, regs_of, cache_of, read_stack_of};
 
-    /// An iterator from the instruction pointer (AVMA) on. [`Unwinder::iter_frames`] is the usual
+    /// Returns an iterator from the instruction pointer (AVMA) on. [`Unwinder::iter_frames`] is the usual
     /// way to make one.
     pub fn new(
         unwinder: &'u U,
@@ -171,7 +171,7 @@ impl<U: Unwinder, F: FnMut(u64) -> Result<u64, ()>> UnwindIterator<'_, '_, '_, U
         }
     }
 
-    /// The registers of the frame at which the iterator is.
+    /// Returns the registers of the frame at which the iterator is.
     pub fn regs(&self) -> &U::UnwindRegs
         ensures { result.now ≡ regs_of self.now }
     {

@@ -64,14 +64,14 @@ impl<D: SectionBytes + Drop> ModuleList<D> {
         }
     }
 
-    /// The modules, in the order of their starts.
+    /// Returns the modules, in the order of their starts.
     pub fn as_slice(&self) -> &[Module<D>]
         ensures { result.now ≡ self.now }
     {
         self.modules.as_slice()
     }
 
-    /// The allocator of the list.
+    /// Returns the allocator of the list.
     pub fn allocator(&self) -> Global {
         *self.modules.allocator()
     }
@@ -107,7 +107,7 @@ impl<D: SectionBytes + Drop> ModuleList<D> {
         self.starts.remove(index);
     }
 
-    /// The index of the last module with this start (AVMA).
+    /// Returns the index of the last module with this start (AVMA).
     pub fn last_with_start(&self, start: u64) -> Option<usize>
         ensures { MatchOption result (has_start start self.now ≡ false)
             (λ index. (index < length self.now) × (has_start start self.now ≡ true)
@@ -121,7 +121,7 @@ impl<D: SectionBytes + Drop> ModuleList<D> {
         }
     }
 
-    /// The covering module of an address (AVMA), and the relative address.
+    /// Returns the covering module of an address (AVMA), and the relative address.
     pub fn covering(&self, address: u64) -> Option<(&Module<D>, u32)>
         ensures { MatchOption result (covering self.now address ≡ None)
             (λ found. (covering self.now address ≡ Some found.0.now)
@@ -133,7 +133,7 @@ impl<D: SectionBytes + Drop> ModuleList<D> {
         Some((module, relative_address))
     }
 
-    /// The greatest end of a module (AVMA), or 0 without modules.
+    /// Returns the greatest end of a module (AVMA), or 0 without modules.
     pub fn greatest_end(&self) -> u64
         ensures { result ≡ greatest_end self.now }
     {

@@ -188,7 +188,7 @@ impl<D: SectionBytes + Drop> Module<D> {
         }
     }
 
-    /// The same module at other addresses (AVMAs), from `avma_range.start` to below `avma_range.end`,
+    /// Returns the same module at other addresses (AVMAs), from `avma_range.start` to below `avma_range.end`,
     /// with its relative address 0 at `base_avma`. It shares the unwind data, and no index is made
     /// anew.
     pub fn placed_at(&self, avma_range: Range<u64>, base_avma: u64) -> Result<Self, AllocError>
@@ -211,7 +211,7 @@ impl<D: SectionBytes + Drop> Module<D> {
         })
     }
 
-    /// The module's addresses (AVMAs).
+    /// Returns the module's addresses (AVMAs).
     pub fn avma_range(&self) -> Range<u64>
         ensures start { result.start ≡ self.now.start }
         ensures end { result.end ≡ self.now.end }
@@ -219,21 +219,21 @@ impl<D: SectionBytes + Drop> Module<D> {
         self.fields.avma_range.start..self.fields.avma_range.end
     }
 
-    /// The address (AVMA) of the module's relative address 0.
+    /// Returns the address (AVMA) of the module's relative address 0.
     pub fn base_avma(&self) -> u64
         ensures { result ≡ self.now.base_avma }
     {
         self.fields.base_avma
     }
 
-    /// The module's name.
+    /// Returns the module's name.
     pub fn name(&self) -> &str
         ensures { result.now ≡ self.now.name }
     {
         self.fields.name.as_str()
     }
 
-    /// The module's unwind data.
+    /// Returns the module's unwind data.
     pub fn unwind_data(&self) -> &ModuleUnwindDataInternal<D>
         ensures { unwind_data_of D.contents result.now ≡ self.now.unwind_data }
     {
@@ -355,7 +355,7 @@ where
 }
 
 impl<D: SectionBytes> IndexedFrames<D> {
-    /// The offset of the FDE for a relative address, if there is one.
+    /// Returns the offset of the FDE for a relative address, if there is one.
     pub fn fde_offset(&self, relative_address: u32) -> Option<u32>
         ensures { result ≡ fde_offset_of self.now relative_address }
     {
@@ -408,7 +408,7 @@ impl<D: SectionBytes> IndexedFrames<D> {
 }
 
 impl<D: SectionBytes> CompactInfo<D> {
-    /// What the info gives: a rule, or the offset of an FDE.
+    /// Returns what the info gives: a rule, or the offset of an FDE.
     pub fn rule_or_fde_offset<A: Unwinding>(
         &self,
         relative_address: u32,
@@ -549,7 +549,7 @@ where
     }
 }
 
-/// The data of a section that a module may not have, lent.
+/// Returns the data of a section that a module may not have, lent.
 pub fn lent<D>(section: &Option<DataAtRvaRange<D>>) -> Option<&DataAtRvaRange<D>>
     ensures { (contents : D → List ℕ) → placed_of contents result ≡ option_map (placed_data contents) section.now }
 {

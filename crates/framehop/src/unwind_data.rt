@@ -124,7 +124,7 @@ impl<D: SectionBytes> Model for IndexedFrames<D> {
 }
 
 impl<D: SectionBytes + Drop> ModuleUnwindDataInternal<D> {
-    /// The unwind data of a module with these sections: the first that there is. Each name is asked
+    /// Returns the unwind data of a module with these sections: the first that there is. Each name is asked
     /// at most once, and its data is taken out. Fails only with `OutOfMemory`.
     #[tactic(auto, unfolding(crate::specs::ModuleData::unwind_data_in))]
     pub(crate) fn new<I: ModuleSectionInfo<D>>(

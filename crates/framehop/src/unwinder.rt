@@ -131,7 +131,7 @@ pub trait Unwinder: Clone {
             × (self.new ≡ self.old)
             × (generations.new ≡ generations.old)) };
 
-    /// The greatest end of a module (AVMA), or 0 without modules. It serves to guess a mask for
+    /// Returns the greatest end of a module (AVMA), or 0 without modules. It serves to guess a mask for
     /// pointer authentication.
     fn max_known_code_address(&self) -> u64
         ensures { result ≡ greatest_end (unwinder_view self.now).modules };

@@ -58,7 +58,7 @@ impl<D: SectionBytes + Drop, A: Unwinding, P: AllocationPolicy> Clone
 }
 
 impl<D: SectionBytes + Drop, A: Unwinding, P: AllocationPolicy> UnwinderInternal<D, A, P> {
-    /// An unwinder without modules, of the next generation. It takes no memory, and is refused
+    /// Returns an unwinder without modules, of the next generation. It takes no memory, and is refused
     /// only at the counter's end.
     pub fn new(alloc: Global, generations: &mut Generations) -> Result<Self, ModuleListError>
         ensures { IsMade result generations.old generations.new }
@@ -74,14 +74,14 @@ impl<D: SectionBytes + Drop, A: Unwinding, P: AllocationPolicy> UnwinderInternal
         })
     }
 
-    /// The modules, in the order of their starts.
+    /// Returns the modules, in the order of their starts.
     pub fn modules(&self) -> &[Module<D>]
         ensures { result.now ≡ self.now.modules }
     {
         self.modules.as_slice()
     }
 
-    /// The covering module of an address (AVMA), and the relative address.
+    /// Returns the covering module of an address (AVMA), and the relative address.
     pub fn find_module_for_address(&self, address: u64) -> Option<(&Module<D>, u32)>
         ensures { MatchOption result (covering self.now.modules address ≡ None)
             (λ found. (covering self.now.modules address ≡ Some found.0.now)

@@ -36,7 +36,7 @@ pub struct FramehopRegistersAarch64 {
 }
 
 impl FramehopRegistersAarch64 {
-    /// The registers as the unwinder takes them.
+    /// Returns the registers as the unwinder takes them.
     fn load(&self) -> UnwindRegsAarch64
         ensures { result ≡ registers_in self.now }
     {

@@ -43,7 +43,7 @@ pub struct FramehopStep {
 }
 
 impl FramehopWalk {
-    /// What a walk tells before its first frame.
+    /// Returns what a walk tells before its first frame.
     pub fn nothing() -> FramehopWalk
         ensures count { result.frame_count ≡ 0 }
         ensures unreadable { result.unreadable ≡ 0 }
@@ -56,7 +56,7 @@ impl FramehopWalk {
 }
 
 impl FramehopStep {
-    /// What a step tells that has asked for no word and found no address.
+    /// Returns what a step tells that has asked for no word and found no address.
     pub fn nothing() -> FramehopStep
         ensures { IsNothing result }
     {
@@ -129,7 +129,7 @@ pub fn walk<U: Unwinder>(
     status
 }
 
-/// The frame at an address, unless it is the return address 0.
+/// Returns the frame at an address, unless it is the return address 0.
 fn frame_at(address: u64, is_return_address: bool) -> Option<FrameAddress>
     ensures { MatchOption result (is_null_return address is_return_address ≡ true)
         (λ frame. (is_null_return address is_return_address ≡ false)

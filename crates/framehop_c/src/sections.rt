@@ -19,7 +19,7 @@ pub struct FramehopSection {
 }
 
 impl FramehopSection {
-    /// The addresses (SVMAs), if they are known.
+    /// Returns the addresses (SVMAs), if they are known.
     fn range(&self) -> Option<Range<u64>>
         ensures { result ≡ range_in self.now }
     {
@@ -30,7 +30,7 @@ impl FramehopSection {
         }
     }
 
-    /// The bytes, if they are at hand.
+    /// Returns the bytes, if they are at hand.
     fn bytes(&self) -> Option<&'static [u8]>
         ensures { result ≡ bytes_in self.now }
     {
@@ -123,7 +123,7 @@ impl ModuleSectionInfo<&'static [u8]> for NamedSections {
 }
 
 impl FramehopSections {
-    /// The sections by name.
+    /// Returns the sections by name.
     pub fn named(&self) -> NamedSections
         ensures { named_table result ≡ table_in self.now }
     {

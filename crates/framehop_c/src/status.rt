@@ -43,7 +43,7 @@ pub const FRAMEHOP_INTEGER_OVERFLOW: i32 = -13;
 /// A frame has the return address 0.
 pub const FRAMEHOP_RETURN_ADDRESS_IS_NULL: i32 = -14;
 
-/// The number of a refusal to change the modules.
+/// Returns the number of a refusal to change the modules.
 pub fn list_error_status(error: ModuleListError) -> i32
     ensures { result ≡ status_of_list_error error }
 {
@@ -53,7 +53,7 @@ pub fn list_error_status(error: ModuleListError) -> i32
     }
 }
 
-/// The number of a refusal to unwind a frame.
+/// Returns the number of a refusal to unwind a frame.
 pub fn error_status(error: Error) -> i32
     ensures status { result ≡ status_of_error error }
     ensures memory { (result ≡ out_of_memory) ↔ (error ≡ Error.OutOfMemory) }
@@ -69,7 +69,7 @@ pub fn error_status(error: Error) -> i32
     }
 }
 
-/// The address (AVMA) of the stack word that could not be read, or 0 after another refusal.
+/// Returns the address (AVMA) of the stack word that could not be read, or 0 after another refusal.
 pub fn error_address(error: Error) -> u64
     ensures { result ≡ unreadable_in error }
 {
@@ -79,7 +79,7 @@ pub fn error_address(error: Error) -> u64
     }
 }
 
-/// The number of the end of a walk, and the address of the word that could not be read, or 0.
+/// Returns the number of the end of a walk, and the address of the word that could not be read, or 0.
 pub fn end_status(end: WalkEnd) -> (i32, u64)
     ensures status { result.0 ≡ status_of_end (end_of end) }
     ensures memory { (result.0 ≡ out_of_memory) ↔ (end ≡ WalkEnd.Refused Error.OutOfMemory) }
@@ -94,7 +94,7 @@ pub fn end_status(end: WalkEnd) -> (i32, u64)
     }
 }
 
-/// The number of why a walk over windows has stopped, and the address of the word that could not be
+/// Returns the number of why a walk over windows has stopped, and the address of the word that could not be
 /// read or is missing, or 0.
 pub fn stop_status(stop: WalkStop) -> (i32, u64)
     ensures status { result.0 ≡ status_of_stop stop }
@@ -110,7 +110,7 @@ pub fn stop_status(stop: WalkStop) -> (i32, u64)
     }
 }
 
-/// The number of what a step returned.
+/// Returns the number of what a step returned.
 pub fn answer_status(answer: Result<Option<u64>, Error>) -> i32
     ensures status { result ≡ status_of_answer answer }
     ensures memory { (result ≡ out_of_memory) ↔ (answer ≡ Err Error.OutOfMemory) }
@@ -123,7 +123,7 @@ pub fn answer_status(answer: Result<Option<u64>, Error>) -> i32
     }
 }
 
-/// The return address (AVMA) that a step returned, or 0.
+/// Returns the return address (AVMA) that a step returned, or 0.
 pub fn answered_address(answer: Result<Option<u64>, Error>) -> u64
     ensures { result ≡ address_in answer }
 {
@@ -133,7 +133,7 @@ pub fn answered_address(answer: Result<Option<u64>, Error>) -> u64
     }
 }
 
-/// The address (AVMA) of the stack word that a step could not read, or 0.
+/// Returns the address (AVMA) of the stack word that a step could not read, or 0.
 pub fn refused_address(answer: Result<Option<u64>, Error>) -> u64
     ensures { result ≡ unreadable_after answer }
 {

@@ -48,7 +48,7 @@ pub struct FramehopRegistersX86_64 {
 }
 
 impl FramehopRegistersX86_64 {
-    /// The registers as the unwinder takes them.
+    /// Returns the registers as the unwinder takes them.
     fn load(&self) -> UnwindRegsX86_64
         ensures { result ≡ registers_in self.now }
     {

@@ -19,21 +19,21 @@ impl Model for Generations {
 }
 
 impl Generations {
-    /// A counter that starts at 0.
+    /// Returns a counter that starts at 0.
     pub fn new() -> Self
         ensures { result ≡ 0 }
     {
         Generations { next: 0 }
     }
 
-    /// A counter that starts at the number.
+    /// Returns a counter that starts at the number.
     pub fn starting_at(next: u64) -> Self
         ensures { result ≡ next }
     {
         Generations { next }
     }
 
-    /// The next generation. At 2^64 - 1 the counter is at its end, and returns `None` for good.
+    /// Returns the next generation. At 2^64 - 1 the counter is at its end, and returns `None` for good.
     pub fn next(&mut self) -> Option<u64>
         ensures { MatchOption result ((self.old ≡ 2 ^ 64 - 1) × (self.new ≡ self.old))
             (λ generation. (self.old < 2 ^ 64 - 1) × (generation ≡ self.old) × (self.new ≡ self.old + 1)) }
@@ -46,7 +46,7 @@ impl Generations {
         Some(generation)
     }
 
-    /// Whether the counter is at its end.
+    /// Returns whether the counter is at its end.
     pub fn is_exhausted(&self) -> bool
         ensures answer { IsTrue result ↔ (self.now ≡ 2 ^ 64 - 1) }
         ensures within { self.now < 2 ^ 64 }

@@ -156,7 +156,7 @@ impl<R: UnwindRule> RuleCache<R> {
         self.sets[set as usize].insert(entry, is_first_frame);
     }
 
-    /// A snapshot of the counts.
+    /// Returns a snapshot of the counts.
     pub fn stats(&self) -> CacheStats
         ensures { result ≡ self.now.stats }
     {
@@ -199,7 +199,7 @@ struct CacheSet<R> {
 }
 
 impl<R: UnwindRule> CacheSet<R> {
-    /// The rule of the newest entry, if that is stored under a key.
+    /// Returns the rule of the newest entry, if that is stored under a key.
     #[inline(always)]
     fn find_newest(&self, address: u64, modules_generation: u64, is_first_frame: bool) -> Option<R>
         ensures answer { IfSome result (λ rule. rule_under (key_of address modules_generation is_first_frame) (entries_of self.now) ≡ Some rule) }
@@ -209,7 +209,7 @@ impl<R: UnwindRule> CacheSet<R> {
             .find(address, modules_generation, is_first_frame)
     }
 
-    /// The rule that is stored under a key.
+    /// Returns the rule that is stored under a key.
     #[inline(always)]
     fn find(&self, address: u64, modules_generation: u64, is_first_frame: bool) -> Option<R>
         ensures answer { result ≡ rule_under (key_of address modules_generation is_first_frame) (entries_of self.now) }
@@ -224,7 +224,7 @@ impl<R: UnwindRule> CacheSet<R> {
         }
     }
 
-    /// Whether the set has no entry.
+    /// Returns whether the set has no entry.
     #[inline(always)]
     fn is_empty(&self) -> bool
         requires { IsSet R.executable self.now }
@@ -233,7 +233,7 @@ impl<R: UnwindRule> CacheSet<R> {
         matches!(self.newest, Slot::Empty)
     }
 
-    /// Whether the set has no room without dropping an entry.
+    /// Returns whether the set has no room without dropping an entry.
     #[inline(always)]
     fn is_full(&self) -> bool
         requires { IsSet R.executable self.now }
@@ -242,7 +242,7 @@ impl<R: UnwindRule> CacheSet<R> {
         !matches!(self.older, Slot::Empty)
     }
 
-    /// Whether an entry has the generation.
+    /// Returns whether an entry has the generation.
     #[inline(always)]
     fn has_generation(&self, modules_generation: u64) -> bool
         ensures { result ≡ list_any (λ entry. entry.key.generation == modules_generation) (entries_of self.now) }
@@ -281,7 +281,7 @@ enum Slot<R> {
 }
 
 impl<R: UnwindRule> Slot<R> {
-    /// The slot that holds the entry of a frame that is a first one, or a caller's.
+    /// Returns the slot that holds the entry of a frame that is a first one, or a caller's.
     #[inline(always)]
     fn new(entry: CacheEntry<R>, is_first_frame: bool) -> Self
         ensures { entries_of_slot result ≡ entry_of is_first_frame entry ∷ [] }
@@ -293,7 +293,7 @@ impl<R: UnwindRule> Slot<R> {
         }
     }
 
-    /// The rule that is stored under a key.
+    /// Returns the rule that is stored under a key.
     #[inline(always)]
     fn find(&self, address: u64, modules_generation: u64, is_first_frame: bool) -> Option<R>
         ensures { result ≡ rule_under (key_of address modules_generation is_first_frame) (entries_of_slot self.now) }
@@ -313,7 +313,7 @@ impl<R: UnwindRule> Slot<R> {
         }
     }
 
-    /// Whether the slot holds an entry of the generation.
+    /// Returns whether the slot holds an entry of the generation.
     #[inline(always)]
     fn has_generation(&self, modules_generation: u64) -> bool
         ensures { result ≡ list_any (λ entry. entry.key.generation == modules_generation) (entries_of_slot self.now) }
@@ -360,21 +360,21 @@ impl CacheStats {
         Default::default()
     }
 
-    /// The number of lookups.
+    /// Returns the number of lookups.
     pub fn total(&self) -> u64
         ensures { result ≡ total_of self.now }
     {
         self.hits().saturating_add(self.misses())
     }
 
-    /// The number of hits.
+    /// Returns the number of hits.
     pub fn hits(&self) -> u64
         ensures { result ≡ self.now.hit_count }
     {
         self.hit_count
     }
 
-    /// The number of misses.
+    /// Returns the number of misses.
     pub fn misses(&self) -> u64
         ensures { result ≡ misses_of self.now }
     {

@@ -42,7 +42,7 @@ fn first_zero(bytes: &[u8]) -> Option<usize>
     bytes.iter().position(|byte| *byte == 0)
 }
 
-/// Data whose length stands before it: where it begins, and where it ends.
+/// Returns data whose length stands before it: where it begins, and where it ends.
 #[tactic(auto, unfolding(crate::specs::Augmentation::counted_at))]
 pub fn read_counted(bytes: &[u8], at: usize) -> Result<(usize, usize), ReadError>
     ensures exact { result ≡ counted_at bytes.now at }

@@ -19,14 +19,14 @@ pub enum FrameAddress {
 }
 
 impl FrameAddress {
-    /// The frame address of an instruction pointer (AVMA).
+    /// Returns the frame address of an instruction pointer (AVMA).
     pub fn from_instruction_pointer(ip: u64) -> Self
         ensures { location_of result ≡ at_instruction_pointer ip }
     {
         FrameAddress::InstructionPointer(ip)
     }
 
-    /// The frame address of a return address (AVMA), or `None` if that is 0.
+    /// Returns the frame address of a return address (AVMA), or `None` if that is 0.
     pub fn from_return_address(return_address: u64) -> Option<Self>
         ensures { MatchOption result (return_address ≡ 0)
             (λ frame. location_of frame ≡ at_return_address return_address) }
@@ -34,7 +34,7 @@ impl FrameAddress {
         Some(FrameAddress::ReturnAddress(NonZeroU64::new(return_address)?))
     }
 
-    /// The raw address (AVMA).
+    /// Returns the raw address (AVMA).
     pub fn address(self) -> u64
         ensures { result ≡ address_of (location_of self) }
     {
@@ -44,7 +44,7 @@ impl FrameAddress {
         }
     }
 
-    /// The address (AVMA) at which unwind information or debug information is to be looked up.
+    /// Returns the address (AVMA) at which unwind information or debug information is to be looked up.
     ///
     /// For an instruction pointer that is the address itself. For a return address it is the byte
     /// before it, which lies inside the call instruction: the call can be the last instruction of
@@ -58,7 +58,7 @@ impl FrameAddress {
         }
     }
 
-    /// Whether this address is a return address.
+    /// Returns whether this address is a return address.
     pub fn is_return_address(self) -> bool
         ensures { result ≡ is_return_address (location_of self) }
     {

@@ -60,19 +60,19 @@ pub trait UnwindRule: Copy + fmt::Debug {
             (result ≡ answer_of (outcome self is_first_frame regs.old memory))
             × (regs.new ≡ registers_after regs.old (outcome self is_first_frame regs.old memory))) };
 
-    /// The rule inside stub functions.
+    /// Returns the rule inside stub functions.
     fn rule_for_stub_functions() -> Self
         ensures { result ≡ stub_rule };
 
-    /// The rule at the first instruction of a function.
+    /// Returns the rule at the first instruction of a function.
     fn rule_for_function_start() -> Self
         ensures { result ≡ function_start_rule };
 
-    /// The rule where no unwind information is found.
+    /// Returns the rule where no unwind information is found.
     fn fallback_rule() -> Self
         ensures { result ≡ fallback };
 
-    /// Whether `exec` may be called.
+    /// Returns whether `exec` may be called.
     fn executable(self) -> bool
         ensures { result ≡ executable self };
 
@@ -144,7 +144,7 @@ pub fn read_stack_word<F: FnMut(u64) -> Result<u64, ()>>(
     }
 }
 
-/// The address at this many bytes above another. `IntegerOverflow` where it does not fit 64 bits.
+/// Returns the address at this many bytes above another. `IntegerOverflow` where it does not fit 64 bits.
 #[inline(always)]
 pub(crate) fn offset_address(base: u64, offset: u64) -> Result<u64, Error>
     ensures address { result ≡ address_at (above base offset) }
@@ -153,7 +153,7 @@ pub(crate) fn offset_address(base: u64, offset: u64) -> Result<u64, Error>
     base.checked_add(offset).ok_or(Error::IntegerOverflow)
 }
 
-/// The address at this many words of 8 bytes from another. `IntegerOverflow` where it does not
+/// Returns the address at this many words of 8 bytes from another. `IntegerOverflow` where it does not
 /// fit 64 bits.
 #[inline(always)]
 pub(crate) fn address_beside(base: u64, offset_by_8: i16) -> Result<u64, Error>

@@ -46,7 +46,7 @@ pub struct Explanation<'a, D: SectionBytes, A: Arch> {
     pub regs: A::UnwindRegs,
 }
 
-/// Whether an allocation failed.
+/// Returns whether an allocation failed.
 fn is_out_of_memory(outcome: &Result<Option<u64>, Error>) -> bool
     ensures { MatchBool result (outcome.now ≡ Err Error.OutOfMemory) (outcome.now ≢ Err Error.OutOfMemory) }
 {
@@ -56,7 +56,7 @@ fn is_out_of_memory(outcome: &Result<Option<u64>, Error>) -> bool
     }
 }
 
-/// The unwind info of a PE module, lent.
+/// Returns the unwind info of a PE module, lent.
 fn lent_sections<'a, D: SectionBytes>(
     pdata: &'a D,
     rdata: &'a Option<DataAtRvaRange<D>>,

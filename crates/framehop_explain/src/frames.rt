@@ -19,7 +19,7 @@ use framehop_dwarf::dwarf::DwarfUnwinderError;
 use framehop_dwarf::unwinder::{DwarfUnwinder, find_row};
 use std::alloc::{AllocError, Global};
 
-/// What the FDE at an offset has for an address.
+/// Returns what the FDE at an offset has for an address.
 pub fn row_of<S: UnwindContextStorage>(
     section: &UnwindSection,
     base_svma: u64,
@@ -43,7 +43,7 @@ pub fn row_of<S: UnwindContextStorage>(
     }
 }
 
-/// What the FDE at an offset tells for a frame.
+/// Returns what the FDE at an offset tells for a frame.
 pub fn told_by_fde<A: Unwinding, P: AllocationPolicy, F>(
     unwinder: &mut DwarfUnwinder<'_, A, P::GimliUnwindContextStorage>,
     alloc: Global,
@@ -73,7 +73,7 @@ where
     ))
 }
 
-/// The FDE at an offset, and what it tells for a frame.
+/// Returns the FDE at an offset, and what it tells for a frame.
 pub fn explain_fde<A: Unwinding, P: AllocationPolicy, F>(
     unwinder: &mut DwarfUnwinder<'_, A, P::GimliUnwindContextStorage>,
     alloc: Global,

@@ -23,7 +23,7 @@ impl Model for Note {
 }
 
 impl Note {
-    /// A note without lines.
+    /// Returns a note without lines.
     pub fn new(alloc: Global) -> Self
         ensures { result ≡ [] }
     {
@@ -32,7 +32,7 @@ impl Note {
         }
     }
 
-    /// The same note with a further line. A control character of its text becomes a question mark.
+    /// Returns the same note with a further line. A control character of its text becomes a question mark.
     pub fn with_line(self, text: &str) -> Result<Self, AllocError>
         ensures { IfOk result (λ note. note ≡ self ++ note_line text.now) }
     {
@@ -43,7 +43,7 @@ impl Note {
         Ok(Note { bytes })
     }
 
-    /// The bytes of the lines.
+    /// Returns the bytes of the lines.
     pub fn bytes(&self) -> &[u8]
         ensures exact { result.now ≡ self.now }
         ensures lines { IsNote self.now }

@@ -33,7 +33,7 @@ pub trait Sources: Unwinding {
     // whether the code of a function with this opcode of compact unwind info is looked at
     ghost is_analysed: { ℕ → Bool };
 
-    /// Whether the code of a function with this opcode of compact unwind info is looked at, in a
+    /// Returns whether the code of a function with this opcode of compact unwind info is looked at, in a
     /// first frame.
     fn is_analysed(opcode: u32) -> bool
         ensures { result ≡ is_analysed opcode };

@@ -42,8 +42,8 @@ impl fmt::Display for Place {
     }
 }
 
-/// Where a register lies that is stored at an offset from a base, in words of 8 bytes, when the CFA is at another offset
-/// from the same base, in bytes.
+/// Returns where a register lies that is stored at an offset from a base, in words of 8 bytes, when the CFA is at
+/// another offset from the same base, in bytes.
 fn stored(name: &'static str, offset_by_8: i16, cfa_offset: u32) -> Place
     requires { cfa_offset < 2 ^ 20 }
 {
@@ -53,7 +53,7 @@ fn stored(name: &'static str, offset_by_8: i16, cfa_offset: u32) -> Place
     }
 }
 
-/// The name of a register of x86_64.
+/// Returns the name of a register of x86_64.
 fn register_name(register: Reg) -> &'static str {
     match register {
         Reg::RAX => "rax",

@@ -21,7 +21,7 @@ pub enum Told<R> {
     Refused(UnwinderError),
 }
 
-/// What call frame information tells, or that an allocation failed.
+/// Returns what call frame information tells, or that an allocation failed.
 pub fn told_by_dwarf<R>(
     answer: Result<UnwindResult<R>, DwarfUnwinderError>,
 ) -> Result<Told<R>, AllocError>
@@ -38,7 +38,7 @@ pub fn told_by_dwarf<R>(
     }
 }
 
-/// What PE unwind info tells.
+/// Returns what PE unwind info tells.
 pub fn told_by_pe<R>(answer: Result<UnwindResult<R>, PeUnwinderError>) -> Told<R>
     ensures { result ≡ of_pe answer }
 {

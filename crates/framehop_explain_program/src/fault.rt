@@ -79,7 +79,7 @@ pub struct Fault {
 }
 
 impl Fault {
-    /// A field that is missing or wrong.
+    /// Returns a field that is missing or wrong.
     pub fn of(field: &'static str, cause: Cause) -> Self {
         Fault {
             command: None,
@@ -90,7 +90,7 @@ impl Fault {
         }
     }
 
-    /// An item of a list that is wrong.
+    /// Returns an item of a list that is wrong.
     pub fn of_item(field: &'static str, item: usize, cause: Cause) -> Self {
         Fault {
             command: None,
@@ -101,7 +101,7 @@ impl Fault {
         }
     }
 
-    /// The same fault, in a field that is an object or in an item of one that is a list.
+    /// Returns the same fault, in a field that is an object or in an item of one that is a list.
     pub fn below(self, name: &'static str, item: Option<usize>) -> Self {
         Fault {
             parent: Some(Parent { name, item }),
@@ -109,7 +109,7 @@ impl Fault {
         }
     }
 
-    /// The same fault, in a command.
+    /// Returns the same fault, in a command.
     pub fn in_command(self, command: usize) -> Self {
         Fault {
             command: Some(command),

@@ -49,7 +49,7 @@ fn cause_of(kind: Kind, value: &Value) -> Option<Cause> {
     }
 }
 
-/// Whether a list is a start and an end.
+/// Returns whether a list is a start and an end.
 fn is_range(items: &[Value]) -> bool {
     match items {
         [start, end] => hexadecimal_value(start).is_some() && hexadecimal_value(end).is_some(),

@@ -75,7 +75,7 @@ impl From<ModuleListError> for FileProblem {
 
 /// An architecture whose files are explained.
 trait Machine: Sources + RegisterNames {
-    /// Registers that are all 0: what a file tells does not depend on them.
+    /// Returns registers that are all 0: what a file tells does not depend on them.
     fn no_registers() -> Self::UnwindRegs;
 }
 
@@ -127,7 +127,7 @@ fn read_module(alloc: Global, file: &[u8]) -> Result<(u16, Module<Vec<u8>>), Fil
     read_elf(alloc, file)
 }
 
-/// The call frame section of a module, if it unwinds by one.
+/// Returns the call frame section of a module, if it unwinds by one.
 fn call_frames(module: &Module<Vec<u8>>) -> Option<UnwindSection<'_>> {
     match module.unwind_data() {
         ModuleUnwindDataInternal::DwarfCfiIndexAndFrames(frames) => Some(UnwindSection::new(
@@ -271,7 +271,7 @@ fn push_told<R: DescribeRule>(
     }
 }
 
-/// Whether a row is the source.
+/// Returns whether a row is the source.
 fn is_row(source: Source) -> bool {
     matches!(
         source,
@@ -282,7 +282,7 @@ fn is_row(source: Source) -> bool {
     )
 }
 
-/// Whether a frame is computed from its registers and its stack, where the stack can't be read.
+/// Returns whether a frame is computed from its registers and its stack, where the stack can't be read.
 fn is_computed(source: Source, error: UnwinderError) -> bool {
     is_row(source)
         || matches!(

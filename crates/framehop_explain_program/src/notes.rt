@@ -4,7 +4,7 @@ use framehop_explain::{Note, UnwindDataKind, unwind_data_text};
 use serde_json::Value;
 use std::alloc::{AllocError, Global};
 
-/// Whether unwinding asks for a section of this name.
+/// Returns whether unwinding asks for a section of this name.
 fn is_section(name: &str) -> bool {
     matches!(
         name,
@@ -27,7 +27,7 @@ fn is_section(name: &str) -> bool {
     )
 }
 
-/// Whether unwinding by data of this kind counts on where the section of this name is.
+/// Returns whether unwinding by data of this kind counts on where the section of this name is.
 fn needs_svma(kind: UnwindDataKind, name: &str) -> bool {
     match kind {
         UnwindDataKind::Pe => matches!(name, ".xdata" | ".rdata" | ".text"),
@@ -42,7 +42,7 @@ fn needs_svma(kind: UnwindDataKind, name: &str) -> bool {
     }
 }
 
-/// What becomes of a section that does not say where it is.
+/// Returns what becomes of a section that does not say where it is.
 fn without_svma(kind: UnwindDataKind) -> &'static str {
     match kind {
         UnwindDataKind::Pe => "so its data is not used",

@@ -11,7 +11,7 @@ ghost use Rattle.framehop_lent.specs.Window.{told_in, words_in, noted, unreadabl
 use crate::window::{Window, told, word_at};
 use framehop::{Error, FrameAddress, Unwinder};
 
-/// The address (AVMA), if there is one and no window tells of it.
+/// Returns the address (AVMA), if there is one and no window tells of it.
 fn untold(windows: &[Window<'_>], asked: Option<u64>) -> Option<u64>
     ensures some { IfSome result (λ address. told_in windows.now address ≡ None) }
     ensures none { result ≡ None → IfSome asked (λ address. told_in windows.now address ≢ None) }
@@ -23,7 +23,7 @@ fn untold(windows: &[Window<'_>], asked: Option<u64>) -> Option<u64>
     Some(address)
 }
 
-/// The address (AVMA) of the stack word that a step could not read, if that is why it was refused.
+/// Returns the address (AVMA) of the stack word that a step could not read, if that is why it was refused.
 fn unreadable(answer: Result<Option<u64>, Error>) -> Option<u64>
     ensures { result ≡ unreadable_word answer }
 {
@@ -33,7 +33,7 @@ fn unreadable(answer: Result<Option<u64>, Error>) -> Option<u64>
     }
 }
 
-/// What the windows tell of an address (AVMA). The first one of which they tell nothing is noted.
+/// Returns what the windows tell of an address (AVMA). The first one of which they tell nothing is noted.
 #[inline(never)]
 fn look_up(windows: &[Window<'_>], first_missing: &mut Option<u64>, address: u64) -> Result<u64, ()>
     ensures reads { result ≡ reply (words_in windows.now address) }
@@ -48,7 +48,7 @@ fn look_up(windows: &[Window<'_>], first_missing: &mut Option<u64>, address: u64
     }
 }
 
-/// The first word (AVMA) that was asked for and of which no window tells, if there is one.
+/// Returns the first word (AVMA) that was asked for and of which no window tells, if there is one.
 #[inline(never)]
 fn missing_word(
     windows: &[Window<'_>],

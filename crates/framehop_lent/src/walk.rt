@@ -102,7 +102,7 @@ pub fn walk_into<U: Unwinder>(
     walked
 }
 
-/// The caller of a frame over the words of windows, or why there is none. The registers become the
+/// Returns the caller of a frame over the words of windows, or why there is none. The registers become the
 /// caller's; where a word is missing, they are as before.
 #[inline(always)]
 fn caller_over<U: Unwinder>(

@@ -12,7 +12,7 @@ pub struct Window<'a> {
     pub words: &'a [u64],
 }
 
-/// The stack word at an address (AVMA), where word `i` is at `base + 8 * i`, and no other address
+/// Returns the stack word at an address (AVMA), where word `i` is at `base + 8 * i`, and no other address
 /// can be read.
 #[inline(always)]
 pub fn word_at(base: u64, words: &[u64], address: u64) -> Result<u64, ()>
@@ -28,7 +28,7 @@ pub fn word_at(base: u64, words: &[u64], address: u64) -> Result<u64, ()>
 }
 
 impl Window<'_> {
-    /// What the window tells of an address (AVMA): its word there, or that it can't be read, or
+    /// Returns what the window tells of an address (AVMA): its word there, or that it can't be read, or
     /// nothing (`None`).
     #[inline(always)]
     pub fn told(&self, address: u64) -> Option<Result<u64, ()>>
@@ -48,7 +48,7 @@ impl Window<'_> {
     }
 }
 
-/// What the first window that tells of an address (AVMA) tells of it, or `None` if none does.
+/// Returns what the first window that tells of an address (AVMA) tells of it, or `None` if none does.
 pub fn told(windows: &[Window<'_>], address: u64) -> Option<Result<u64, ()>>
     ensures { result ≡ option_map reply (told_in windows.now address) }
 {

@@ -341,7 +341,7 @@ pub fn code_of_function(text_bytes: Option<TextBytes<'_>>, function: Function) -
     text_bytes?.code_between(function.start_address, function.end_address)
 }
 
-/// Whether an address lies in a range, whose second address is the one after its end.
+/// Returns whether an address lies in a range, whose second address is the one after its end.
 pub fn is_in(range: (u32, u32), address: u32) -> bool
     ensures { result ≡ is_in range address }
 {

@@ -17,7 +17,7 @@ pub struct Mapping {
 }
 
 impl Mapping {
-    /// A mapping, with the unwind sections of its file. There is none without an address: where the
+    /// Returns a mapping, with the unwind sections of its file. There is none without an address: where the
     /// end does not lie above the start.
     pub fn new(start: u64, end: u64, base_avma: u64, file: u32) -> Option<Self>
         ensures { MatchOption result (end ≤ start)

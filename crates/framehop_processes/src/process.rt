@@ -43,7 +43,7 @@ impl<U: ProcessUnwinder> Clone for Process<U> {
 }
 
 impl<U: ProcessUnwinder> Process<U> {
-    /// A process without mappings. Its unwinder has the next generation.
+    /// Returns a process without mappings. Its unwinder has the next generation.
     pub fn new(alloc: Global, generations: &mut Generations) -> Result<Self, ProcessesError>
         ensures made { IfOk result (λ made.
             (made ≡ record { mappings = []; unwinder = record { modules = []; generation = generations.old } })
@@ -113,7 +113,7 @@ impl<U: ProcessUnwinder> Process<U> {
         Ok(())
     }
 
-    /// The mappings, in order of start.
+    /// Returns the mappings, in order of start.
     pub fn mappings(&self) -> &[Mapping]
         ensures value { result.now ≡ self.now.mappings }
         ensures ordered { IsInOrder 0 self.now.mappings }
@@ -121,7 +121,7 @@ impl<U: ProcessUnwinder> Process<U> {
         self.mappings.as_slice()
     }
 
-    /// The unwinder, which has the modules of the mappings.
+    /// Returns the unwinder, which has the modules of the mappings.
     pub fn unwinder(&self) -> &U
         ensures { U.unwinder_view result.now ≡ self.now.unwinder }
     {

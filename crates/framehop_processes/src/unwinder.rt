@@ -13,7 +13,7 @@ use std::alloc::Global;
 /// An unwinder that can begin without modules, and whose clone has the same modules under the same
 /// generation.
 pub trait ProcessUnwinder: Unwinder + Drop {
-    /// An unwinder without modules, of the next generation. It takes no memory, and is refused
+    /// Returns an unwinder without modules, of the next generation. It takes no memory, and is refused
     /// only at the counter's end.
     fn without_modules(
         alloc: Global,

@@ -40,21 +40,32 @@ fn debug_path(alloc: Global, debug_dir: &str, build_id: &[u8]) -> Result<String,
 }
 
 impl Disk<'_> {
-    /// Reads the file of a path of Windows: the path without its drive below the root, or else the file's name in the
-    /// root.
-    fn read_windows_file(&self, name: &str) -> Option<Vec<u8>> {
-        let mut below = String::from_str(self.rt.alloc(), self.root).ok()?;
-        let mut beside = "";
+    /// Returns where the file of a path of Windows is, by the path after its drive.
+    fn path_below_root(&self, name: &str) -> Result<String, AllocError> {
+        let mut path = String::from_str(self.rt.alloc(), self.root)?;
         for part in name.split('\\').skip(1) {
-            below.push_str("/").ok()?;
-            below.push_str(part).ok()?;
-            beside = part;
+            path.push_str("/")?;
+            path.push_str(part)?;
         }
-        if let Some(bytes) = read_regular(self.rt, below.as_str()) {
+        Ok(path)
+    }
+
+    /// Returns where the file of a path of Windows is, by its name only.
+    fn path_in_root(&self, name: &str) -> Result<String, AllocError> {
+        let root = self.root;
+        match name.rsplit_once('\\') {
+            Some((_, file)) => format!(in self.rt.alloc(); "{root}/{file}"),
+            None => format!(in self.rt.alloc(); "{root}/{name}"),
+        }
+    }
+
+    /// Reads the file of a path of Windows: by the path after its drive below the root, or else by its name in the root.
+    fn read_windows_file(&self, name: &str) -> Option<Vec<u8>> {
+        let path = self.path_below_root(name).ok()?;
+        if let Some(bytes) = read_regular(self.rt, path.as_str()) {
             return Some(bytes);
         }
-        let root = self.root;
-        let path = format!(in self.rt.alloc(); "{root}/{beside}").ok()?;
+        let path = self.path_in_root(name).ok()?;
         read_regular(self.rt, path.as_str())
     }
 }

@@ -51,7 +51,7 @@ where
     }
 }
 
-/// The path of the file that the arguments name, none for standard input.
+/// Returns the path of the file that the arguments name, none for standard input.
 fn input_path(mut arguments: Args) -> Result<Option<String>, Refusal>
     ensures path { reading_of (option_map (λ path. string_bytes path)) result
         ≡ path_named (map (λ argument. string_bytes argument) (into_iter_items arguments)) }

@@ -24,7 +24,7 @@ pub fn field<'v>(object: &'v Value, name: &'static str) -> Result<&'v Value, Ref
     }
 }
 
-/// A field that is a text.
+/// Returns a field that is a text.
 #[tactic(auto, unfolding(crate::specs::Fields::field_as))]
 pub fn text<'v>(object: &'v Value, name: &'static str) -> Result<&'v str, Refusal>
     ensures { reading_of (λ text. text.now) result ≡ field_as as_str name.entry.now (view object.entry.now) }
@@ -35,7 +35,7 @@ pub fn text<'v>(object: &'v Value, name: &'static str) -> Result<&'v str, Refusa
     }
 }
 
-/// A field that is a list.
+/// Returns a field that is a list.
 #[tactic(auto, unfolding(crate::specs::Fields::field_as))]
 pub fn list<'v>(object: &'v Value, name: &'static str) -> Result<&'v Vec<Value>, Refusal>
     ensures { reading_of (λ list. items_view list.now.items) result
@@ -47,7 +47,7 @@ pub fn list<'v>(object: &'v Value, name: &'static str) -> Result<&'v Vec<Value>,
     }
 }
 
-/// A field that is an object.
+/// Returns a field that is an object.
 #[tactic(auto, unfolding(crate::specs::Fields::field_as))]
 pub fn group<'v>(object: &'v Value, name: &'static str) -> Result<&'v Value, Refusal>
     ensures { reading_of (λ value. view value.now) result
@@ -60,7 +60,7 @@ pub fn group<'v>(object: &'v Value, name: &'static str) -> Result<&'v Value, Ref
     Ok(inner)
 }
 
-/// A whole number below 2^64.
+/// Returns a whole number below 2^64.
 #[tactic(auto, unfolding(crate::specs::Fields::field_as))]
 pub fn count(object: &Value, name: &'static str) -> Result<u64, Refusal>
     ensures { told result ≡ field_as whole_number name.entry.now (view object.now) }
@@ -71,14 +71,14 @@ pub fn count(object: &Value, name: &'static str) -> Result<u64, Refusal>
     }
 }
 
-/// The number of an unwinder or a cache.
+/// Returns the number of an unwinder or a cache.
 pub fn number(object: &Value, name: &'static str) -> Result<usize, Refusal>
     ensures { told result ≡ field_as whole_number name.entry.now (view object.now) }
 {
     Ok(count(object, name)? as usize)
 }
 
-/// An address, a register or a word: a text of hexadecimal digits.
+/// Returns an address, a register or a word: a text of hexadecimal digits.
 #[tactic(auto, unfolding(crate::specs::Fields::field_as))]
 pub fn hexadecimal(object: &Value, name: &'static str) -> Result<u64, Refusal>
     ensures { told result ≡ field_as address name.entry.now (view object.now) }
@@ -89,7 +89,7 @@ pub fn hexadecimal(object: &Value, name: &'static str) -> Result<u64, Refusal>
     }
 }
 
-/// An address that may be left out.
+/// Returns an address that may be left out.
 #[tactic(auto, unfolding(crate::specs::Fields::optional_field_as))]
 pub fn optional_hexadecimal(object: &Value, name: &'static str) -> Result<Option<u64>, Refusal>
     ensures { told result ≡ optional_field_as address name.entry.now (view object.now) }
@@ -103,7 +103,7 @@ pub fn optional_hexadecimal(object: &Value, name: &'static str) -> Result<Option
     }
 }
 
-/// The number of a text of hexadecimal digits.
+/// Returns the number of a text of hexadecimal digits.
 #[tactic(auto, unfolding(crate::specs::Fields::address))]
 pub fn hexadecimal_value(value: &Value) -> Option<u64>
     ensures { result ≡ address (view value.now) }
@@ -114,7 +114,7 @@ pub fn hexadecimal_value(value: &Value) -> Option<u64>
     }
 }
 
-/// The number of 1 to 16 hexadecimal digits, of either case.
+/// Returns the number of 1 to 16 hexadecimal digits, of either case.
 fn parse_hexadecimal(digits: &str) -> Option<u64>
     ensures { SomeIff result (IsNumeral 16 digits.now × (length digits.now ≤ 16))
         (digits_value 16 digits.now) }
@@ -126,7 +126,7 @@ fn parse_hexadecimal(digits: &str) -> Option<u64>
     u64::from_str_radix(digits, 16).ok()
 }
 
-/// Whether a number is in the value, at any depth, that is not whole or does not fit 64 bits.
+/// Returns whether a number is in the value, at any depth, that is not whole or does not fit 64 bits.
 #[cycle(has_bad_number)]
 pub fn has_bad_number(value: &Value) -> bool
     ensures { result ≡ has_bad_number (view value.now) }

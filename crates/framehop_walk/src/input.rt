@@ -33,7 +33,7 @@ impl<R: Read> Input<R> {
         }
     }
 
-    /// Whether a read has failed.
+    /// Returns whether a read has failed.
     pub fn has_failed(&self) -> bool
         ensures { result ≡ self.now.has_failed }
     {

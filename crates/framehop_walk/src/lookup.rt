@@ -27,7 +27,7 @@ fn section_of<'s>(name: &[u8], sections: &'s [Section]) -> Option<&'s Section>
         .find(|section| section.name.as_bytes() == name)
 }
 
-/// Where the section of that name lies, as SVMAs.
+/// Returns where the section of that name lies, as SVMAs.
 pub fn range_under(name: &[u8], sections: &[Section]) -> Option<Range<u64>>
     ensures { result ≡ range_of name.now (entries_view sections.now) }
 {

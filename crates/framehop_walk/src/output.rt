@@ -37,7 +37,7 @@ impl<W: Write> Output<W> {
         }
     }
 
-    /// Whether a write or a flush has failed.
+    /// Returns whether a write or a flush has failed.
     pub fn has_failed(&self) -> bool
         ensures { result ≡ self.now.has_failed }
     {

@@ -270,7 +270,7 @@ fn run_commands<A: Registers, P: AllocationPolicy>(
     Ok(print_replies::<A>(alloc, verbs, &replies)?)
 }
 
-/// The lines of the replies to commands of these verbs.
+/// Returns the lines of the replies to commands of these verbs.
 fn print_replies<A: Registers>(
     alloc: Global,
     verbs: &Vec<&str>,

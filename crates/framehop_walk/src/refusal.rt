@@ -55,7 +55,7 @@ impl fmt::Display for Refusal {
 impl error::Error for Refusal {}
 
 impl Refusal {
-    /// The text of the error line, after the program's name, and the name of a field that ends it.
+    /// Returns the text of the error line, after the program's name, and the name of a field that ends it.
     #[tactic(auto, unfolding(crate::specs::Refusals::bad_field))]
     pub fn text(self) -> (&'static str, &'static str)
         ensures { refusal_text self ≡ result.0.now ++ result.1.now }
@@ -74,7 +74,7 @@ impl Refusal {
         }
     }
 
-    /// The exit status of the refused run: 2 where the machine was too small for it, else 1.
+    /// Returns the exit status of the refused run: 2 where the machine was too small for it, else 1.
     pub fn status(self) -> u8
         ensures { result ≡ refusal_status self }
     {

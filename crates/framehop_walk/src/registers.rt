@@ -89,7 +89,7 @@ fn read_named_registers(regs: &Value, read: &mut UnwindRegsX86_64) -> Result<(),
     read_register("rdi", Reg::RDI, regs, read)
 }
 
-/// The same of the registers that have numbers.
+/// Returns the same of the registers that have numbers.
 #[tactic(auto, unfolding(crate::specs::Registers::read_numbered))]
 fn read_numbered_registers(regs: &Value, read: &mut UnwindRegsX86_64) -> Result<(), Refusal>
     ensures { reading_of (λ _. read.new) result ≡ read_numbered (view regs.now) read.old }

@@ -18,7 +18,7 @@ use std::alloc::Global;
 use std::collections::BTreeSet;
 use std::ops::Range;
 
-/// The bytes of a section, which the input gives as pairs of hexadecimal digits of either case.
+/// Returns the bytes of a section, which the input gives as pairs of hexadecimal digits of either case.
 pub fn section_bytes(alloc: Global, text: &str) -> Result<Vec<u8>, FromHexError>
     ensures ok { IfOk result (λ bytes. decode_of text.now ≡ Ok bytes.items) }
     ensures err { IfErr result (λ e. e ≢ OutOfMemory → decode_of text.now ≡ Err e) }
@@ -150,7 +150,7 @@ fn range_value(value: &Value) -> Option<Range<u64>>
     two_addresses(value.as_array()?)
 }
 
-/// A list of a start and an end.
+/// Returns a list of a start and an end.
 fn two_addresses(items: &Vec<Value>) -> Option<Range<u64>>
     ensures { result ≡ two (items_view items.now.items) }
 {

@@ -51,7 +51,7 @@ impl<P: AllocationPolicy> CacheAarch64<P> {
         Ok(CacheAarch64(Cache::new(alloc)?))
     }
 
-    /// The counts of the lookups.
+    /// Returns the counts of the lookups.
     pub fn stats(&self) -> CacheStats
         ensures { result ≡ self.now.0.stats }
     {

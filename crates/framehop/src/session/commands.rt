@@ -17,7 +17,7 @@ pub struct Memory {
 }
 
 impl Memory {
-    /// The stack word at the address (AVMA).
+    /// Returns the stack word at the address (AVMA).
     pub fn read(&self, address: u64) -> Result<u64, ()>
         ensures { result ≡ reply (memory_of self.now address) }
     {

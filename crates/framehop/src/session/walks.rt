@@ -81,7 +81,7 @@ pub(crate) fn push_next_frame<U: Unwinder, F: FnMut(u64) -> Result<u64, ()>>(
     }
 }
 
-/// The next frames of an iterator, at most so many, and how the walk ended.
+/// Returns the next frames of an iterator, at most so many, and how the walk ended.
 fn next_frames<U: Unwinder, F: FnMut(u64) -> Result<u64, ()>>(
     alloc: Global,
     unwinding: &mut UnwindIterator<'_, '_, '_, U, F>,

@@ -57,7 +57,7 @@ impl<P: AllocationPolicy> CacheX86_64<P> {
         Ok(CacheX86_64(Cache::new(alloc)?))
     }
 
-    /// The counts of the lookups.
+    /// Returns the counts of the lookups.
     pub fn stats(&self) -> CacheStats
         ensures { result ≡ self.now.0.stats }
     {

@@ -208,7 +208,7 @@ pub fn run_rules<F: FnMut(u64) -> Result<u64, ()>>(
     unwind_rule::run_rules(rules, regs, read_stack)
 }
 
-/// The step by the frame pointer, `(sp, fp, lr) = (fp + 16, *fp, *(fp + 8))`, where both the frame
+/// Returns the step by the frame pointer, `(sp, fp, lr) = (fp + 16, *fp, *(fp + 8))`, where both the frame
 /// pointer and the stack pointer must rise.
 ///
 /// `bl` puts the return address into lr. A function with a frame pointer lowers sp, stores fp and lr
@@ -242,7 +242,7 @@ fn exec_frame_pointer<F: FnMut(u64) -> Result<u64, ()>>(
     finish_at_frame_pointer(is_first_frame, regs, new_sp, new_lr, new_fp)
 }
 
-/// The same step from a frame that is not the first, where only the stack pointer must rise.
+/// Returns the same step from a frame that is not the first, where only the stack pointer must rise.
 fn exec_frame_record<F: FnMut(u64) -> Result<u64, ()>>(
     regs: &mut UnwindRegsAarch64,
     read_stack: &mut F,
@@ -266,7 +266,7 @@ fn exec_frame_record<F: FnMut(u64) -> Result<u64, ()>>(
     finish(false, regs, new_sp, new_lr, new_fp)
 }
 
-/// The last step of a rule that goes by a frame pointer: the caller's frame pointer is 0 at the
+/// Returns the last step of a rule that goes by a frame pointer: the caller's frame pointer is 0 at the
 /// root, and otherwise it and the stack pointer lie above the callee's.
 #[inline(always)]
 fn finish_at_frame_pointer(
@@ -289,7 +289,7 @@ fn finish_at_frame_pointer(
     finish(is_first_frame, regs, new_sp, new_lr, new_fp)
 }
 
-/// The last step of each rule: writes the caller's registers and returns the stripped return
+/// Returns the last step of each rule: writes the caller's registers and returns the stripped return
 /// address, unless that is 0 (the root) or a caller frame keeps its stack pointer.
 #[inline(always)]
 fn finish(

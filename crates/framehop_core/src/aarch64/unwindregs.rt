@@ -40,14 +40,14 @@ impl Model for UnwindRegsAarch64 {
 pub struct PtrAuthMask(pub u64);
 
 impl PtrAuthMask {
-    /// A mask with all bits, which strips nothing.
+    /// Returns a mask with all bits, which strips nothing.
     pub fn new_no_strip() -> Self
         ensures { result.0 ≡ 2 ^ 64 - 1 }
     {
         Self(u64::MAX)
     }
 
-    /// A mask for a hash of 24 bits above an address of 40 bits, as macOS arm64e appears to use.
+    /// Returns a mask for a hash of 24 bits above an address of 40 bits, as macOS arm64e appears to use.
     ///
     /// There it can be applied to every pointer: one without a hash has zeros in the top 24 bits.
     pub fn new_24_40() -> Self
@@ -65,7 +65,7 @@ impl PtrAuthMask {
         Self(u64::MAX.checked_shr(address.leading_zeros()).unwrap_or(0))
     }
 
-    /// The pointer without the bits that the mask lacks.
+    /// Returns the pointer without the bits that the mask lacks.
     #[inline(always)]
     pub fn strip_ptr_auth(&self, ptr: u64) -> u64
         ensures bitwise { result ≡ strip_ptr_auth self.now.0 ptr }
@@ -118,7 +118,7 @@ impl UnwindRegsAarch64 {
         }
     }
 
-    /// The mask that strips the value of lr.
+    /// Returns the mask that strips the value of lr.
     #[inline(always)]
     pub fn lr_mask(&self) -> PtrAuthMask
         ensures { result.0 ≡ self.now.lr_mask }
@@ -126,7 +126,7 @@ impl UnwindRegsAarch64 {
         self.lr_mask
     }
 
-    /// The stack pointer.
+    /// Returns the stack pointer.
     #[inline(always)]
     pub fn sp(&self) -> u64
         ensures { result ≡ self.now.sp }
@@ -142,7 +142,7 @@ impl UnwindRegsAarch64 {
         self.sp = sp;
     }
 
-    /// The frame pointer (x29).
+    /// Returns the frame pointer (x29).
     #[inline(always)]
     pub fn fp(&self) -> u64
         ensures { result ≡ self.now.fp }
@@ -158,7 +158,7 @@ impl UnwindRegsAarch64 {
         self.fp = fp;
     }
 
-    /// The link register (x30), stripped.
+    /// Returns the link register (x30), stripped.
     #[inline(always)]
     pub fn lr(&self) -> u64
         ensures value { result ≡ self.now.lr }

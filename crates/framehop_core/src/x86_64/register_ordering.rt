@@ -18,7 +18,7 @@ const ENCODE_REGISTERS: [Reg; 8] = [
     Reg::R15,
 ];
 
-/// Whether `decode` may be asked for the ordering of this many registers with this number: the
+/// Returns whether `decode` may be asked for the ordering of this many registers with this number: the
 /// count is at most 8, and the number below 40320.
 pub fn is_ordering(count: u8, encoded_ordering: u16) -> bool
     ensures { result ≡ is_ordering count encoded_ordering }
@@ -26,7 +26,7 @@ pub fn is_ordering(count: u8, encoded_ordering: u16) -> bool
     count <= 8 && encoded_ordering < 40320
 }
 
-/// The ordering of this many registers that has this number. A count above 8 counts as 8.
+/// Returns the ordering of this many registers that has this number. A count above 8 counts as 8.
 pub fn decode(count: u8, encoded_ordering: u16) -> ArrayVec<Reg, 8>
     ensures { result.items ≡ ordering count encoded_ordering }
 {
@@ -45,7 +45,7 @@ pub fn decode(count: u8, encoded_ordering: u16) -> ArrayVec<Reg, 8>
     registers
 }
 
-/// The number of registers and the least number of their ordering, or `None` where a register
+/// Returns the number of registers and the least number of their ordering, or `None` where a register
 /// is in the list twice, or is not one of the eight that can be ordered.
 pub fn encode(registers: &[Reg]) -> Option<(u8, u16)>
     ensures exact { IsSome result ↔ IsArrangement registers.now }
@@ -77,7 +77,7 @@ fn exchange(registers: &mut [Reg], place: usize, digit: usize)
     }
 }
 
-/// The first place of a register in a list.
+/// Returns the first place of a register in a list.
 fn position_of(registers: &[Reg], register: Reg) -> Option<usize>
     ensures { MatchOption result (All (λ r. r ≢ register) registers.now)
         (λ place. (place < length registers.now)

@@ -80,7 +80,7 @@ pub enum OffsetOrPop {
 }
 
 impl UnwindRuleX86_64 {
-    /// The rule that does these operations: at most one offset first, then only pops, of distinct
+    /// Returns the rule that does these operations: at most one offset first, then only pops, of distinct
     /// registers among the eight that can be ordered. Other operations have no rule. At most ten
     /// operations are read, so the iterator need not end.
     pub fn for_sequence_of_offset_or_pop<I>(operations: I) -> Option<Self>
@@ -107,7 +107,7 @@ impl UnwindRuleX86_64 {
     }
 }
 
-/// The next operation. A loop that calls this does not ask that the iterator ends.
+/// Returns the next operation. A loop that calls this does not ask that the iterator ends.
 fn next_operation<I>(operations: &mut I) -> Option<OffsetOrPop>
 where
     I: Iterator<Item = OffsetOrPop> + Drop,
@@ -118,7 +118,7 @@ where
     operations.next()
 }
 
-/// The offset and the registers of operations that are at most one offset, then at most 8 pops.
+/// Returns the offset and the registers of operations that are at most one offset, then at most 8 pops.
 fn offset_and_pops<I>(mut operations: I) -> Option<(u16, ArrayVec<Reg, 8>)>
 where
     I: Iterator<Item = OffsetOrPop> + Drop,
@@ -303,7 +303,7 @@ pub fn run_rules<F: FnMut(u64) -> Result<u64, ()>>(
     unwind_rule::run_rules(rules, regs, read_stack)
 }
 
-/// The step by the frame pointer, `(sp, bp) = (bp + 16, *bp)`, where the stack pointer must rise.
+/// Returns the step by the frame pointer, `(sp, bp) = (bp + 16, *bp)`, where the stack pointer must rise.
 ///
 /// `call` pushes the return address. A function that is compiled with frame pointers begins with
 /// `push rbp` and `mov rbp, rsp`, and ends with `pop rbp` and `ret`, so that in its body the stack
@@ -341,7 +341,7 @@ fn exec_frame_pointer<F: FnMut(u64) -> Result<u64, ()>>(
     finish(regs, read_stack, new_sp, new_bp)
 }
 
-/// The step by the frame pointer with other offsets from it, in units of 8 bytes, where the stack pointer
+/// Returns the step by the frame pointer with other offsets from it, in units of 8 bytes, where the stack pointer
 /// must rise.
 fn exec_frame_pointer_with_offsets<F: FnMut(u64) -> Result<u64, ()>>(
     regs: &mut UnwindRegsX86_64,
@@ -396,7 +396,7 @@ fn read_bp_beside<F: FnMut(u64) -> Result<u64, ()>>(
     }
 }
 
-/// The step by pops, the first one at the address (AVMA). It stands apart, since it copies all
+/// Returns the step by pops, the first one at the address (AVMA). It stands apart, since it copies all
 /// registers and the other rules need few.
 #[inline(never)]
 fn exec_pops<F: FnMut(u64) -> Result<u64, ()>>(
@@ -445,7 +445,7 @@ fn pop_registers<F: FnMut(u64) -> Result<u64, ()>>(
     Ok(())
 }
 
-/// The last step of each rule but pops: reads the return address and writes the caller's registers,
+/// Returns the last step of each rule but pops: reads the return address and writes the caller's registers,
 /// unless the address is 0 (the root) or the step would give the same frame again.
 #[inline(always)]
 fn finish<F: FnMut(u64) -> Result<u64, ()>>(
@@ -472,7 +472,7 @@ fn finish<F: FnMut(u64) -> Result<u64, ()>>(
     Ok(Some(address))
 }
 
-/// The last step after pops: as `finish`, with the caller's registers but for ip.
+/// Returns the last step after pops: as `finish`, with the caller's registers but for ip.
 #[inline(always)]
 fn finish_with<F: FnMut(u64) -> Result<u64, ()>>(
     regs: &mut UnwindRegsX86_64,
@@ -519,7 +519,7 @@ fn read_return_address<F: FnMut(u64) -> Result<u64, ()>>(
     Ok(Some(address))
 }
 
-/// The address of the word below a stack pointer. `IntegerOverflow` where that lies below 0.
+/// Returns the address of the word below a stack pointer. `IntegerOverflow` where that lies below 0.
 #[inline(always)]
 fn word_below(sp: u64) -> Result<u64, Error>
     ensures { result ≡ address_at (pos sp -ℤ pos 8) }

@@ -99,7 +99,7 @@ impl UnwindRegsX86_64 {
         regs
     }
 
-    /// The value of a general register.
+    /// Returns the value of a general register.
     #[inline(always)]
     pub fn get(&self, reg: Reg) -> u64
         ensures { result ≡ register self.now reg }
@@ -116,7 +116,7 @@ impl UnwindRegsX86_64 {
         self.regs[place] = value;
     }
 
-    /// The instruction pointer, rip.
+    /// Returns the instruction pointer, rip.
     #[inline(always)]
     pub fn ip(&self) -> u64
         ensures { result ≡ self.now.ip }
@@ -132,7 +132,7 @@ impl UnwindRegsX86_64 {
         self.ip = ip;
     }
 
-    /// The stack pointer, rsp.
+    /// Returns the stack pointer, rsp.
     #[inline(always)]
     pub fn sp(&self) -> u64
         ensures { result ≡ self.now.rsp }
@@ -148,7 +148,7 @@ impl UnwindRegsX86_64 {
         self.set(Reg::RSP, sp)
     }
 
-    /// The frame pointer, rbp.
+    /// Returns the frame pointer, rbp.
     #[inline(always)]
     pub fn bp(&self) -> u64
         ensures { result ≡ self.now.rbp }

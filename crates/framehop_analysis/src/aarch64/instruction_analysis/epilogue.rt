@@ -173,7 +173,7 @@ fn detect_epilogue(text_bytes: &[u8], pc_offset: usize) -> Option<UnwindRuleAarc
     detector.rule()
 }
 
-/// Whether everything has been restored before the pc, and what follows is a tail call.
+/// Returns whether everything has been restored before the pc, and what follows is a tail call.
 fn is_restored(text_bytes: &[u8], pc_offset: usize) -> bool
     requires { pc_offset ≤ length text_bytes.now }
     ensures { IsTrue result ↔ IsRestored text_bytes.now pc_offset }
@@ -181,7 +181,7 @@ fn is_restored(text_bytes: &[u8], pc_offset: usize) -> bool
     is_in_auth_tail_call(text_bytes, pc_offset) || is_at_tail_call(text_bytes, pc_offset)
 }
 
-/// Whether the pc is at a branch after an instruction that moves sp.
+/// Returns whether the pc is at a branch after an instruction that moves sp.
 ///
 /// The branch could lead to a place inside the function. It is taken for a tail call where the
 /// instruction before it looks like one of an epilogue.
@@ -203,14 +203,14 @@ fn is_at_tail_call(text_bytes: &[u8], pc_offset: usize) -> bool
     }
 }
 
-/// Whether the instruction moves sp as one of an epilogue does.
+/// Returns whether the instruction moves sp as one of an epilogue does.
 fn instruction_adjusts_stack_pointer(word: u32) -> bool
     ensures { result ≡ moves_sp word }
 {
     (is_load(word) && is_indexed(word)) || is_add_sp(word)
 }
 
-/// Whether the pc is inside an authenticated tail call, after any number of its words.
+/// Returns whether the pc is inside an authenticated tail call, after any number of its words.
 fn is_in_auth_tail_call(text_bytes: &[u8], pc_offset: usize) -> bool
     ensures { IsTrue result ↔ IsInsideCall text_bytes.now pc_offset }
 {
@@ -227,7 +227,7 @@ fn is_in_auth_tail_call(text_bytes: &[u8], pc_offset: usize) -> bool
     false
 }
 
-/// Whether the instruction can be in an authenticated tail call after so many others.
+/// Returns whether the instruction can be in an authenticated tail call after so many others.
 fn is_word_of_auth_tail_call(word: u32, before: usize) -> bool
     ensures { result ≡ is_call_word before word }
 {
@@ -242,7 +242,7 @@ fn is_word_of_auth_tail_call(word: u32, before: usize) -> bool
     }
 }
 
-/// Whether the pc is inside an authenticated tail call, after so many of its words.
+/// Returns whether the pc is inside an authenticated tail call, after so many of its words.
 fn is_in_auth_tail_call_after(text_bytes: &[u8], pc_offset: usize, before: usize) -> bool
     requires { before < 6 }
     ensures { IsTrue result ↔ IsInsideCallAfter text_bytes.now pc_offset before }
@@ -328,7 +328,7 @@ fn restoring_word_at(text_bytes: &[u8], at: usize) -> Option<u32>
     }
 }
 
-/// Whether an epilogue that has moved sp by so many bytes ends at the offset: by a return, by a
+/// Returns whether an epilogue that has moved sp by so many bytes ends at the offset: by a return, by a
 /// branch where sp has moved, which is taken for a tail call, or by an authenticated tail call.
 fn is_end(text_bytes: &[u8], at: usize, moved: i128) -> bool
     ensures { IsTrue result

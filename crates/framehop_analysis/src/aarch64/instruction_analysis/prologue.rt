@@ -31,14 +31,14 @@ fn detect_prologue(slice_from_start: &[u8], slice_to_end: &[u8]) -> Option<Unwin
     rule_of_sp_offset(sp_offset)
 }
 
-/// Whether the instruction is expected in a prologue.
+/// Returns whether the instruction is expected in a prologue.
 fn is_expected_in_prologue(word: u32) -> bool
     ensures { result ≡ is_prologue_word word }
 {
     is_pacibsp(word) || is_store(word) || is_sub_sp(word) || is_add_fp(word)
 }
 
-/// Whether the instruction stores a pair of registers to the stack and leaves sp.
+/// Returns whether the instruction stores a pair of registers to the stack and leaves sp.
 fn is_plain_store(word: u32) -> bool
     ensures { result ≡ is_plain_store word }
 {

@@ -17,7 +17,7 @@ pub fn word_at(bytes: &[u8], at: usize) -> Option<u32>
     Some(u32::from_le_bytes([bytes[at], bytes[at + 1], bytes[at + 2], bytes[at + 3]]))
 }
 
-/// Whether the slice has this instruction word at the offset (in bytes).
+/// Returns whether the slice has this instruction word at the offset (in bytes).
 #[inline]
 pub fn has_word(bytes: &[u8], at: usize, word: u32) -> bool
     ensures value { IsTrue result ↔ (word_at bytes.now at ≡ Some word) }
@@ -29,7 +29,7 @@ pub fn has_word(bytes: &[u8], at: usize, word: u32) -> bool
     }
 }
 
-/// Whether the word is `stp` of two 64-bit registers to an address from sp, in any of the three
+/// Returns whether the word is `stp` of two 64-bit registers to an address from sp, in any of the three
 /// addressing modes.
 #[inline]
 pub fn is_store(word: u32) -> bool
@@ -40,7 +40,7 @@ pub fn is_store(word: u32) -> bool
         && (word >> 5) & 0b11111 == 31
 }
 
-/// Whether the word is `ldp` of two 64-bit registers from an address from sp, in any of the three
+/// Returns whether the word is `ldp` of two 64-bit registers from an address from sp, in any of the three
 /// addressing modes.
 #[inline]
 pub fn is_load(word: u32) -> bool
@@ -51,7 +51,7 @@ pub fn is_load(word: u32) -> bool
         && (word >> 5) & 0b11111 == 31
 }
 
-/// Whether a pair access writes its address back to sp, before the access or after it.
+/// Returns whether a pair access writes its address back to sp, before the access or after it.
 #[inline]
 pub fn is_indexed(word: u32) -> bool
     ensures { result ≡ is_indexed word }
@@ -59,7 +59,7 @@ pub fn is_indexed(word: u32) -> bool
     (word >> 23) & 0b11 != 0b10
 }
 
-/// Whether a pair access is post-indexed: it begins at sp as it is, and moves sp afterwards.
+/// Returns whether a pair access is post-indexed: it begins at sp as it is, and moves sp afterwards.
 #[inline]
 pub fn is_post_indexed(word: u32) -> bool
     ensures { result ≡ (addressing word == 1) }
@@ -94,7 +94,7 @@ pub fn pair_offset(word: u32) -> i128
     if imm7 < 64 { imm7 * 8 } else { imm7 * 8 - 1024 }
 }
 
-/// Whether the word is `sub sp, sp, #imm`.
+/// Returns whether the word is `sub sp, sp, #imm`.
 #[inline]
 pub fn is_sub_sp(word: u32) -> bool
     ensures { result ≡ is_sub_sp word }
@@ -102,7 +102,7 @@ pub fn is_sub_sp(word: u32) -> bool
     (word >> 23) & 0b111111111 == 0b110100010 && (word >> 5) & 0b11111 == 31 && word & 0b11111 == 31
 }
 
-/// Whether the word is `add sp, sp, #imm`.
+/// Returns whether the word is `add sp, sp, #imm`.
 #[inline]
 pub fn is_add_sp(word: u32) -> bool
     ensures { result ≡ is_add_sp word }
@@ -110,7 +110,7 @@ pub fn is_add_sp(word: u32) -> bool
     (word >> 23) & 0b111111111 == 0b100100010 && (word >> 5) & 0b11111 == 31 && word & 0b11111 == 31
 }
 
-/// Whether the word is `add x29, sp, #imm`, of which `mov x29, sp` is the case with 0.
+/// Returns whether the word is `add x29, sp, #imm`, of which `mov x29, sp` is the case with 0.
 #[inline]
 pub fn is_add_fp(word: u32) -> bool
     ensures { result ≡ is_add_fp word }
@@ -133,7 +133,7 @@ pub fn immediate(word: u32) -> i128
     }
 }
 
-/// Whether the word is `pacibsp`, which signs lr.
+/// Returns whether the word is `pacibsp`, which signs lr.
 #[inline]
 pub fn is_pacibsp(word: u32) -> bool
     ensures { result ≡ is_pacibsp word }
@@ -141,7 +141,7 @@ pub fn is_pacibsp(word: u32) -> bool
     word == 0xd503237f
 }
 
-/// Whether the word is `ret`, or `retab`, which authenticates lr as it returns.
+/// Returns whether the word is `ret`, or `retab`, which authenticates lr as it returns.
 #[inline]
 pub fn is_return(word: u32) -> bool
     ensures { result ≡ is_return word }
@@ -149,7 +149,7 @@ pub fn is_return(word: u32) -> bool
     word == 0xd65f03c0 || word == 0xd65f0fff
 }
 
-/// Whether the word is `b`.
+/// Returns whether the word is `b`.
 #[inline]
 pub fn is_b(word: u32) -> bool
     ensures { result ≡ is_b word }
@@ -157,7 +157,7 @@ pub fn is_b(word: u32) -> bool
     word >> 26 == 0b000101
 }
 
-/// Whether the word is `br xN`.
+/// Returns whether the word is `br xN`.
 #[inline]
 pub fn is_br(word: u32) -> bool
     ensures { result ≡ is_br word }
@@ -165,7 +165,7 @@ pub fn is_br(word: u32) -> bool
     word & 0xff_ff_fc_1f == 0xd6_1f_00_00
 }
 
-/// Whether the word is `braa xN, x16`.
+/// Returns whether the word is `braa xN, x16`.
 #[inline]
 pub fn is_braa(word: u32) -> bool
     ensures { result ≡ is_braa word }
@@ -173,7 +173,7 @@ pub fn is_braa(word: u32) -> bool
     word & 0xff_ff_fc_00 == 0xd7_1f_08_00 && word & 0b11111 == 16
 }
 
-/// Whether the word is `mov x16, #imm`.
+/// Returns whether the word is `mov x16, #imm`.
 #[inline]
 pub fn is_mov(word: u32) -> bool
     ensures { result ≡ is_mov word }

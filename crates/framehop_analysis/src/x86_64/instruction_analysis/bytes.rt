@@ -13,7 +13,7 @@ pub fn byte_at(bytes: &[u8], at: usize) -> Option<u8>
     bytes.get(at).copied()
 }
 
-/// Whether the byte is one of the REX prefixes `40` and `41`, which `push` and `pop` can have.
+/// Returns whether the byte is one of the REX prefixes `40` and `41`, which `push` and `pop` can have.
 #[inline]
 pub fn is_prefix(byte: u8) -> bool
     ensures { result ≡ is_prefix byte }
@@ -21,7 +21,7 @@ pub fn is_prefix(byte: u8) -> bool
     byte & 0xfe == 0x40
 }
 
-/// Whether the byte is the opcode of a `push` of a register.
+/// Returns whether the byte is the opcode of a `push` of a register.
 #[inline]
 pub fn is_push(byte: u8) -> bool
     ensures { result ≡ is_push byte }
@@ -29,7 +29,7 @@ pub fn is_push(byte: u8) -> bool
     byte & 0xf8 == 0x50
 }
 
-/// Whether the byte is the opcode of a `pop` of a register.
+/// Returns whether the byte is the opcode of a `pop` of a register.
 #[inline]
 pub fn is_pop_opcode(byte: u8) -> bool
     ensures { result ≡ is_pop_opcode byte }

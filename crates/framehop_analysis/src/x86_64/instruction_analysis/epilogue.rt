@@ -76,14 +76,14 @@ fn pop_at(text_bytes: &[u8], at: usize) -> Option<(usize, bool)>
     None
 }
 
-/// Whether the byte is the opcode of a pop of one of the first eight registers but rsp.
+/// Returns whether the byte is the opcode of a pop of one of the first eight registers but rsp.
 fn is_plain_pop(byte: u8) -> bool
     ensures { result ≡ is_plain_pop byte }
 {
     is_pop_opcode(byte) && byte != 0x5c
 }
 
-/// Whether the epilogue ends at the offset, after so many pops from the pc on.
+/// Returns whether the epilogue ends at the offset, after so many pops from the pc on.
 fn is_end(text_bytes: &[u8], pc_offset: usize, at: usize, pops: usize) -> bool
     requires { pc_offset ≤ length text_bytes.now }
     ensures { IsTrue result ↔ IsEnd text_bytes.now pc_offset at pops }
@@ -100,7 +100,7 @@ fn is_end(text_bytes: &[u8], pc_offset: usize, at: usize, pops: usize) -> bool
     is_jump(opcode) && follows_pop(text_bytes, pc_offset, pops)
 }
 
-/// Whether the byte is taken for the first one of a `jmp`. `FF` also begins `call`, `push` and others,
+/// Returns whether the byte is taken for the first one of a `jmp`. `FF` also begins `call`, `push` and others,
 /// which the next byte would tell apart.
 fn is_jump(opcode: u8) -> bool
     ensures { result ≡ is_jump opcode }
@@ -108,7 +108,7 @@ fn is_jump(opcode: u8) -> bool
     opcode == 0xeb || opcode == 0xe9 || opcode == 0xff
 }
 
-/// Whether what is before the end looks like a pop: one that has been counted, or the byte before
+/// Returns whether what is before the end looks like a pop: one that has been counted, or the byte before
 /// the pc, which may also be the last byte of a longer instruction.
 fn follows_pop(text_bytes: &[u8], pc_offset: usize, pops: usize) -> bool
     requires { pc_offset ≤ length text_bytes.now }

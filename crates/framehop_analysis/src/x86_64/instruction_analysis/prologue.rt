@@ -95,7 +95,7 @@ fn push_before(text_bytes: &[u8], end: usize) -> Option<usize>
     }
 }
 
-/// Whether `push rbp; mov rbp, rsp` is before the offset.
+/// Returns whether `push rbp; mov rbp, rsp` is before the offset.
 fn is_frame_set_up_before(text_bytes: &[u8], at: usize) -> bool
     requires { at ≤ length text_bytes.now }
     ensures { IsTrue result ↔ IsFrameSetUpBefore text_bytes.now at }
@@ -107,7 +107,7 @@ fn is_frame_set_up_before(text_bytes: &[u8], at: usize) -> bool
         && text_bytes[at - 1] == 0xe5
 }
 
-/// Whether the instruction at the pc is expected in a prologue.
+/// Returns whether the instruction at the pc is expected in a prologue.
 fn is_next_instruction_expected_in_prologue(text_bytes: &[u8], pc_offset: usize) -> bool
     requires { pc_offset ≤ length text_bytes.now }
     ensures { IsTrue result ↔ IsNext text_bytes.now pc_offset }
@@ -122,7 +122,7 @@ fn is_next_instruction_expected_in_prologue(text_bytes: &[u8], pc_offset: usize)
     )
 }
 
-/// Whether an instruction that is expected in a prologue begins with these bytes.
+/// Returns whether an instruction that is expected in a prologue begins with these bytes.
 fn begins_prologue(a: u8, b: u8, c: u8) -> bool
     ensures { result ≡ begins_prologue a b c }
 {
