@@ -18,7 +18,7 @@ use framehop_elf::error::ElfError;
 use framehop_elf::header::{FileHeader, read_file_header};
 use framehop_elf::program_header::{ProgramHeader, read_program_headers};
 use framehop_elf::section::{read_contents, read_section_names, section_by_name, string_at};
-use framehop_elf::section_header::read_section_headers;
+use framehop_elf::section_header::{SectionHeader, read_section_headers};
 use framehop_elf::segment::{base_avma, svma_of_file_offset};
 use framehop_elf::symbol::{SymbolTable, read_function_symbols, read_symbol_names};
 use framehop_elf::unwind_sections::read_unwind_sections;
@@ -81,88 +81,165 @@ const LOADED: ProgramHeader = ProgramHeader {
     p_align: 0x1000,
 };
 
+/// Refuses what does not hold.
+pub(crate) fn holds(is_held: bool) -> Result<(), Fail> {
+    if is_held {
+        Ok(())
+    } else {
+        Err(Fail::from("another value"))
+    }
+}
+
+/// A file, and its headers.
+#[derive(Drop)]
+struct Headers {
+    file: Vec<u8>,
+    header: FileHeader,
+    segments: Vec<ProgramHeader>,
+    sections: Vec<SectionHeader>,
+}
+
+/// Reads the headers of a file.
+fn read_headers(alloc: Global, file: Vec<u8>) -> Result<Headers, ElfError> {
+    let header = read_file_header(file.as_slice())?;
+    let segments = read_program_headers(alloc, file.as_slice(), header)?;
+    let sections = read_section_headers(alloc, file.as_slice(), header)?;
+    Ok(Headers {
+        file,
+        header,
+        segments,
+        sections,
+    })
+}
+
+/// Writes bytes into a file at offsets, or gives nothing where there is no such offset.
+fn change(file: &mut [u8], bytes: &[(usize, u8)]) -> Option<()> {
+    for (offset, byte) in bytes {
+        *file.get_mut(*offset)? = *byte;
+    }
+    Some(())
+}
+
+/// The program with other bytes at offsets.
+fn changed(alloc: Global, bytes: &[(usize, u8)]) -> Result<Vec<u8>, Fail> {
+    let mut program = hex::decode(alloc, PROGRAM)?;
+    change(program.as_mut_slice(), bytes).ok_or("no such byte")?;
+    Ok(program)
+}
+
+/// The headers of the program with other bytes at offsets.
+fn read_changed(alloc: Global, bytes: &[(usize, u8)]) -> Result<Headers, Fail> {
+    Ok(read_headers(alloc, changed(alloc, bytes)?)?)
+}
+
+/// Whether these are the program's segments.
+fn are_segments(segments: &[ProgramHeader]) -> bool {
+    let [loaded, note, _] = segments else {
+        return false;
+    };
+    *loaded == LOADED
+        && note.p_offset == 0xe8
+        && svma_of_file_offset(segments, 0x1000, 0, 0x1000) == Some(0x400000)
+        && base_avma(segments, 0x1000, 0, 0x1000, 0x5400000) == Some(0x5000000)
+        && base_avma(segments, 0x1000, 0x184, 0x1000, 0x5400000).is_none()
+}
+
+/// Whether the program has its section `.eh_frame`, and none whose name is shorter.
+fn has_eh_frame(file: &[u8], header: FileHeader, sections: &[SectionHeader]) -> bool {
+    let Ok(names) = read_section_names(file, header, sections) else {
+        return false;
+    };
+    let Some(eh_frame) = section_by_name(sections, names, b".eh_frame") else {
+        return false;
+    };
+    let Ok(contents) = read_contents(file, eh_frame) else {
+        return false;
+    };
+    (eh_frame.sh_type, eh_frame.sh_addr) == (1, 0x400130)
+        && (eh_frame.sh_offset, eh_frame.sh_size) == (0x130, 0x54)
+        && contents.first().copied() == Some(0x14)
+        && section_by_name(sections, names, b".eh_fram").is_none()
+}
+
+/// Whether the program has its header, its segments and that section.
+fn is_program(alloc: Global) -> Result<bool, Fail> {
+    let read = read_changed(alloc, &[])?;
+    let sections = read.sections.as_slice();
+    Ok(
+        read.header == HEADER
+            && are_segments(read.segments.as_slice())
+            && has_eh_frame(read.file.as_slice(), read.header, sections),
+    )
+}
+
 #[test]
 fn reads_a_program(rt: HostRuntime) -> Result<(), Fail> {
-    let alloc = rt.alloc();
-    let program = hex::decode(alloc, PROGRAM)?;
-    let file = program.as_slice();
-    let header = read_file_header(file)?;
-    assert_eq!(rt; header, HEADER);
-    let segments = read_program_headers(alloc, file, header)?;
-    assert_eq!(rt; segments.len(), 3);
-    assert_eq!(rt; segments.get(0).copied(), Some(LOADED));
-    assert_eq!(rt; segments.get(1).map(|note| note.p_offset), Some(0xe8));
-    assert_eq!(rt;
-        svma_of_file_offset(&segments, 0x1000, 0, 0x1000),
-        Some(0x400000)
-    );
-    assert_eq!(rt;
-        base_avma(&segments, 0x1000, 0, 0x1000, 0x5400000),
-        Some(0x5000000)
-    );
-    assert_eq!(rt;
-        base_avma(&segments, 0x1000, 0x184, 0x1000, 0x5400000),
-        None
-    );
-    let sections = read_section_headers(alloc, file, header)?;
-    let sections = sections.as_slice();
-    let names = read_section_names(file, header, sections)?;
-    let eh_frame = section_by_name(sections, names, b".eh_frame").ok_or("no .eh_frame")?;
-    assert_eq!(rt;
-        (
-            eh_frame.sh_type,
-            eh_frame.sh_addr,
-            eh_frame.sh_offset,
-            eh_frame.sh_size
-        ),
-        (1, 0x400130, 0x130, 0x54)
-    );
-    assert_eq!(rt; section_by_name(sections, names, b".eh_fram"), None);
-    let contents = read_contents(file, eh_frame)?;
-    assert_eq!(rt; contents.first().copied(), Some(0x14));
-    Ok(())
+    holds(is_program(rt.alloc())?)
+}
+
+/// Whether the program with other bytes at offsets has its build id.
+fn has_build_id(alloc: Global, bytes: &[(usize, u8)]) -> Result<bool, Fail> {
+    let mut build_id = [0; 20];
+    hex::decode_to_slice(BUILD_ID, &mut build_id)?;
+    let read = read_changed(alloc, bytes)?;
+    let segments = read.segments.as_slice();
+    let found = read_build_id(read.file.as_slice(), segments, read.sections.as_slice());
+    Ok(found == Some(build_id.as_slice()))
 }
 
 #[test]
 fn reads_the_build_id(rt: HostRuntime) -> Result<(), Fail> {
     let alloc = rt.alloc();
-    let build_id = hex::decode(alloc, BUILD_ID)?;
-    // also where no segment has it, and where only the section of notes is lost
-    let changes: [&[(usize, u8)]; 3] = [&[], &[(120, 0)], &[(764, 0)]];
-    for bytes in changes {
-        let program = changed(alloc, bytes)?;
-        let file = program.as_slice();
-        let header = read_file_header(file)?;
-        let segments = read_program_headers(alloc, file, header)?;
-        let sections = read_section_headers(alloc, file, header)?;
-        let found = read_build_id(file, segments.as_slice(), sections.as_slice());
-        assert_eq!(rt; found, Some(build_id.as_slice()));
-    }
-    Ok(())
+    holds(has_build_id(alloc, &[])?)?;
+    // where no segment has it
+    holds(has_build_id(alloc, &[(120, 0)])?)?;
+    // where only the section of notes is lost
+    holds(has_build_id(alloc, &[(764, 0)])?)
+}
+
+/// Where the program's `.text` and `.eh_frame` are, and how many bytes are lent of the latter; nothing where
+/// there is also a range of `.got`, or `.debug_frame`.
+fn unwind_sections(
+    alloc: Global,
+    file: &[u8],
+    header: FileHeader,
+    sections: &[SectionHeader],
+) -> Result<Option<[Option<u64>; 5]>, ElfError> {
+    let names = read_section_names(file, header, sections)?;
+    let info = read_unwind_sections(alloc, file, sections, names)?;
+    let text = info.text_svma.as_ref();
+    let eh_frame = info.eh_frame_svma.as_ref();
+    let found = [
+        text.map(|text| text.start),
+        text.map(|text| text.end),
+        eh_frame.map(|eh_frame| eh_frame.start),
+        eh_frame.map(|eh_frame| eh_frame.end),
+        info.eh_frame.as_ref().map(|contents| contents.len() as u64),
+    ];
+    Ok(if info.got_svma.is_none() && info.debug_frame.is_none() {
+        Some(found)
+    } else {
+        None
+    })
+}
+
+/// The same of the program with another byte at an offset.
+fn sections_with(alloc: Global, byte: (usize, u8)) -> Result<Option<[Option<u64>; 5]>, Fail> {
+    let read = read_changed(alloc, &[byte])?;
+    let sections = read.sections.as_slice();
+    Ok(unwind_sections(alloc, read.file.as_slice(), read.header, sections)?)
 }
 
 #[test]
 fn reads_what_an_unwinder_needs(rt: HostRuntime) -> Result<(), Fail> {
     let alloc = rt.alloc();
-    // then .eh_frame has SHF_COMPRESSED, and then it is SHT_NOBITS
-    for (bytes, size) in [((0, 0x7f), Some(0x54)), ((897, 8), None), ((892, 8), None)] {
-        let program = changed(alloc, &[bytes])?;
-        let file = program.as_slice();
-        let header = read_file_header(file)?;
-        let sections = read_section_headers(alloc, file, header)?;
-        let sections = sections.as_slice();
-        let names = read_section_names(file, header, sections)?;
-        let info = read_unwind_sections(alloc, file, sections, names)?;
-        assert_eq!(rt; info.text_svma, Some(0x40010c..0x40012d));
-        assert_eq!(rt;
-            info.eh_frame_svma,
-            size.map(|size| 0x400130..0x400130 + size)
-        );
-        let contents = info.eh_frame.map(|contents| contents.len() as u64);
-        assert_eq!(rt; contents, size);
-        assert!(rt; info.got_svma.is_none() && info.debug_frame.is_none());
-    }
-    Ok(())
+    let [start, end] = [Some(0x40010c), Some(0x40012d)];
+    let whole = [start, end, Some(0x400130), Some(0x400184), Some(0x54)];
+    holds(sections_with(alloc, (0, 0x7f))? == Some(whole))?;
+    // .eh_frame has SHF_COMPRESSED, and then it is SHT_NOBITS
+    let none = [start, end, None, None, None];
+    holds(sections_with(alloc, (897, 8))? == Some(none))?;
+    holds(sections_with(alloc, (892, 8))? == Some(none))
 }
 
 /// The names of functions by addresses.
@@ -177,38 +254,50 @@ const NAMES: [(u64, Option<&str>); 8] = [
     (0x40012d, None),
 ];
 
+/// Whether the functions of a table have their names.
+fn have_names(symbols: &SymbolTable, strings: &[u8]) -> bool {
+    for (svma, name) in NAMES {
+        let found = symbols.symbol_for(svma);
+        let found = found.map(|symbol| string_at(strings, symbol.st_name));
+        if found != name.map(|name| name.as_bytes()) {
+            return false;
+        }
+    }
+    true
+}
+
+/// Whether the functions of a file have their names.
+fn has_functions(
+    alloc: Global,
+    file: &[u8],
+    header: FileHeader,
+    sections: &[SectionHeader],
+) -> Result<bool, ElfError> {
+    let names = read_section_names(file, header, sections)?;
+    let Some(table) = section_by_name(sections, names, b".symtab") else {
+        return Ok(false);
+    };
+    let strings = read_symbol_names(file, sections, table)?;
+    let symbols = SymbolTable::new(read_function_symbols(alloc, file, sections, table)?)?;
+    Ok(have_names(&symbols, strings))
+}
+
+/// The same of the program with other bytes at offsets.
+fn has_functions_with(alloc: Global, bytes: &[(usize, u8)]) -> Result<bool, Fail> {
+    let read = read_changed(alloc, bytes)?;
+    let sections = read.sections.as_slice();
+    Ok(has_functions(alloc, read.file.as_slice(), read.header, sections)?)
+}
+
 #[test]
 fn finds_functions(rt: HostRuntime) -> Result<(), Fail> {
     let alloc = rt.alloc();
-    // also where `_start` has no size: it ends with `.text`, at the same address; and where `outer` is
-    // of type STT_GNU_IFUNC
-    let changes: [&[(usize, u8)]; 4] = [&[], &[(480, 0)], &[(516, 0x1a)], &IN_FIRST_SECTION];
-    for bytes in changes {
-        let program = changed(alloc, bytes)?;
-        let file = program.as_slice();
-        let header = read_file_header(file)?;
-        let sections = read_section_headers(alloc, file, header)?;
-        let sections = sections.as_slice();
-        let names = read_section_names(file, header, sections)?;
-        let table = section_by_name(sections, names, b".symtab").ok_or("no .symtab")?;
-        let strings = read_symbol_names(file, sections, table)?;
-        let symbols = SymbolTable::new(read_function_symbols(alloc, file, sections, table)?)?;
-        for (svma, name) in NAMES {
-            let found = symbols.symbol_for(svma);
-            let found = found.map(|symbol| string_at(strings, symbol.st_name));
-            assert_eq!(rt; found, name.map(|name| name.as_bytes()));
-        }
-    }
-    Ok(())
-}
-
-/// The program with other bytes at offsets.
-fn changed(alloc: Global, bytes: &[(usize, u8)]) -> Result<Vec<u8>, Fail> {
-    let mut program = hex::decode(alloc, PROGRAM)?;
-    for (offset, byte) in bytes {
-        *program.get_mut(*offset).ok_or("no such byte")? = *byte;
-    }
-    Ok(program)
+    holds(has_functions_with(alloc, &[])?)?;
+    holds(has_functions_with(alloc, &IN_FIRST_SECTION)?)?;
+    // `_start` has no size: it ends with `.text`, at the same address
+    holds(has_functions_with(alloc, &[(480, 0)])?)?;
+    // `outer` is of type STT_GNU_IFUNC
+    holds(has_functions_with(alloc, &[(516, 0x1a)])?)
 }
 
 /// e_shnum 0, e_phnum PN_XNUM and e_shstrndx SHN_XINDEX, and in the first section header sh_size, sh_info
@@ -224,63 +313,86 @@ const IN_FIRST_SECTION: [(usize, u8); 8] = [
     (736, 6),
 ];
 
+/// Whether the file header has none of the three numbers, and there are as many segments and sections.
+fn counts_in_the_first_section(alloc: Global) -> Result<bool, Fail> {
+    let read = read_changed(alloc, &IN_FIRST_SECTION)?;
+    let header = read.header;
+    Ok(
+        (header.e_shnum, header.e_phnum, header.e_shstrndx) == (0, 0xffff, 0xffff)
+            && (read.segments.len(), read.sections.len()) == (3, 7),
+    )
+}
+
 #[test]
 fn reads_numbers_in_the_first_section(rt: HostRuntime) -> Result<(), Fail> {
-    let alloc = rt.alloc();
-    let program = changed(alloc, &IN_FIRST_SECTION)?;
-    let file = program.as_slice();
+    holds(counts_in_the_first_section(rt.alloc())?)
+}
+
+/// How many segments a file has.
+fn segment_count(alloc: Global, file: &[u8]) -> Result<usize, ElfError> {
     let header = read_file_header(file)?;
-    assert_eq!(rt;
-        (header.e_shnum, header.e_phnum, header.e_shstrndx),
-        (0, 0xffff, 0xffff)
-    );
-    assert_eq!(rt; read_program_headers(alloc, file, header)?.len(), 3);
+    Ok(read_program_headers(alloc, file, header)?.len())
+}
+
+/// How many sections a file has.
+fn section_count(alloc: Global, file: &[u8]) -> Result<usize, ElfError> {
+    let header = read_file_header(file)?;
+    Ok(read_section_headers(alloc, file, header)?.len())
+}
+
+/// How many bytes the names of its sections have.
+fn names_size(alloc: Global, file: &[u8]) -> Result<usize, ElfError> {
+    let header = read_file_header(file)?;
     let sections = read_section_headers(alloc, file, header)?;
-    assert_eq!(rt; sections.len(), 7);
+    Ok(read_section_names(file, header, sections.as_slice())?.len())
+}
+
+/// The three of the program with another byte at an offset.
+fn sizes(alloc: Global, byte: (usize, u8)) -> Result<[Result<usize, ElfError>; 3], Fail> {
+    let program = changed(alloc, &[byte])?;
+    let file = program.as_slice();
+    Ok([
+        segment_count(alloc, file),
+        section_count(alloc, file),
+        names_size(alloc, file),
+    ])
+}
+
+/// Whether the program with another byte at an offset has these sizes.
+fn has_sizes(
+    alloc: Global,
+    byte: (usize, u8),
+    expected: [Result<usize, ElfError>; 3],
+) -> Result<(), Fail> {
+    holds(sizes(alloc, byte)? == expected)
+}
+
+/// A byte at an offset by which the file is refused as a whole.
+const BROKEN: [(usize, u8, ElfError); 4] = [
+    (0, 0, ElfError::NotElf { offset: 0 }),
+    (4, 1, ElfError::NotClass64 { offset: 4 }),
+    (5, 2, ElfError::NotLittleEndian { offset: 5 }),
+    (6, 0, ElfError::UnknownVersion { offset: 6 }),
+];
+
+#[test]
+fn refuses_what_is_broken(rt: HostRuntime) -> Result<(), Fail> {
+    for (offset, byte, refusal) in BROKEN {
+        has_sizes(rt.alloc(), (offset, byte), [Err(refusal); 3])?;
+    }
     Ok(())
 }
 
 #[test]
-fn refuses_what_is_broken(rt: HostRuntime) -> Result<(), Fail> {
+fn refuses_a_part_that_is_broken(rt: HostRuntime) -> Result<(), Fail> {
     let alloc = rt.alloc();
-    for (offset, byte, refusal) in [
-        (0, 0, ElfError::NotElf { offset: 0 }),
-        (4, 1, ElfError::NotClass64 { offset: 4 }),
-        (5, 2, ElfError::NotLittleEndian { offset: 5 }),
-        (6, 0, ElfError::UnknownVersion { offset: 6 }),
-    ] {
-        let program = changed(alloc, &[(offset, byte)])?;
-        assert_eq!(rt; read_file_header(program.as_slice()).err(), Some(refusal));
-    }
     // e_shoff is outside the file: the program headers are still read
-    let program = changed(alloc, &[(41, 0xff)])?;
-    let file = program.as_slice();
-    let header = read_file_header(file)?;
-    let refusal = ElfError::Eof { offset: 0xffb8 };
-    assert_eq!(rt;
-        read_section_headers(alloc, file, header).err(),
-        Some(refusal)
-    );
-    assert_eq!(rt; read_program_headers(alloc, file, header)?.len(), 3);
+    let beyond = Err(ElfError::Eof { offset: 0xffb8 });
+    has_sizes(alloc, (41, 0xff), [Ok(3), beyond, beyond])?;
     // so are the section headers where e_phentsize is another
-    let program = changed(alloc, &[(54, 55)])?;
-    let file = program.as_slice();
-    let header = read_file_header(file)?;
-    let refusal = ElfError::BadEntrySize { offset: 54 };
-    assert_eq!(rt;
-        read_program_headers(alloc, file, header).err(),
-        Some(refusal)
-    );
-    assert_eq!(rt; read_section_headers(alloc, file, header)?.len(), 7);
+    let odd = Err(ElfError::BadEntrySize { offset: 54 });
+    has_sizes(alloc, (54, 55), [odd, Ok(7), Ok(0x3e)])?;
     // e_shstrndx names no section
-    let program = changed(alloc, &[(62, 7)])?;
-    let file = program.as_slice();
-    let header = read_file_header(file)?;
-    let sections = read_section_headers(alloc, file, header)?;
-    let refusal = ElfError::NoSuchSection { offset: 62 };
-    assert_eq!(rt;
-        read_section_names(file, header, sections.as_slice()).err(),
-        Some(refusal)
-    );
-    Ok(())
+    let no_names = Err(ElfError::NoSuchSection { offset: 62 });
+    has_sizes(alloc, (62, 7), [Ok(3), Ok(7), no_names])
 }

@@ -1,7 +1,7 @@
 //! The README's example of an ELF file, as it is printed there.
-use crate::program::PROGRAM;
+use crate::program::{PROGRAM, holds};
 use framehop::x86_64::{CacheX86_64, UnwindRegsX86_64, UnwinderX86_64};
-use framehop::{Generations, Module, Unwinder};
+use framehop::{Error, Generations, Module, Unwinder};
 use framehop_elf::header::read_file_header;
 use framehop_elf::section::read_section_names;
 use framehop_elf::section_header::read_section_headers;
@@ -29,29 +29,45 @@ fn module_of_file(alloc: Global, file: &[u8], base: u64) -> Result<Module<Vec<u8
 /// addresses, and what the kernel leaves there for `_start`, which no function called.
 const STACK: [u64; 3] = [0x10400115, 0x10400123, 0];
 
-#[test]
-fn walks_through_a_file(rt: HostRuntime) -> Result<(), Fail> {
-    let alloc = rt.alloc();
+/// An unwinder that has the program's module.
+fn unwinder(alloc: Global) -> Result<UnwinderX86_64<Vec<u8>>, Fail> {
     let program = hex::decode(alloc, PROGRAM)?;
-    let mut generations = Generations::new();
-    let mut cache = CacheX86_64::new(alloc)?;
-    let mut unwinder: UnwinderX86_64<Vec<u8>> = UnwinderX86_64::new(alloc, &mut generations)?;
     let module = module_of_file(alloc, program.as_slice(), 0x10000000)?;
-    if let Err(refused) = unwinder.add_module(module, &mut generations) {
-        return Err(refused.cause)?;
+    let mut generations = Generations::new();
+    let mut unwinder: UnwinderX86_64<Vec<u8>> = UnwinderX86_64::new(alloc, &mut generations)?;
+    match unwinder.add_module(module, &mut generations) {
+        Ok(()) => Ok(unwinder),
+        Err(refused) => Err(refused.cause)?,
     }
+}
+
+/// The addresses of what five calls of an iterator over the stack give; 0 where there is no frame.
+fn addresses(
+    unwinder: &UnwinderX86_64<Vec<u8>>,
+    cache: &mut CacheX86_64,
+) -> Result<[u64; 5], Error> {
     let mut read_stack = |address: u64| STACK.get((address / 8) as usize).copied().ok_or(());
     // no frame pointer: the rows of `.eh_frame` lead on
     let regs = UnwindRegsX86_64::new(0x1040010c, 0, 1);
-    let mut walk = unwinder.iter_frames(regs.ip(), regs, &mut cache, &mut read_stack);
-    for address in [0x1040010c, 0x10400114, 0x10400122] {
-        let frame = walk.next()?;
-        assert_eq!(rt;
-            frame.map(|frame| frame.address_for_lookup()),
-            Some(address)
-        );
+    let mut walk = unwinder.iter_frames(regs.ip(), regs, cache, &mut read_stack);
+    let mut addresses = [0; 5];
+    for address in &mut addresses {
+        if let Some(frame) = walk.next()? {
+            *address = frame.address_for_lookup();
+        }
     }
-    let end = walk.next()?;
-    assert_eq!(rt; end, None);
-    Ok(())
+    Ok(addresses)
+}
+
+/// Whether the frames of the stack are found, and then its root.
+fn finds_the_frames(alloc: Global) -> Result<bool, Fail> {
+    let unwinder = unwinder(alloc)?;
+    let mut cache = CacheX86_64::new(alloc)?;
+    let frames = [0x1040010c, 0x10400114, 0x10400122, 0, 0];
+    Ok(addresses(&unwinder, &mut cache) == Ok(frames))
+}
+
+#[test]
+fn walks_through_a_file(rt: HostRuntime) -> Result<(), Fail> {
+    holds(finds_the_frames(rt.alloc())?)
 }

@@ -1,20 +1,19 @@
 //! A minidump of aarch64 that was made by hand: `scripts/made_up_aarch64.py`. The expected values are those
 //! that it is made of; LLDB 19.1 prints the same registers, threads, memory and build ids, and the name of
 //! each module but the third, whose name is not UTF-16.
-use crate::pieces::file_of;
+use crate::pieces::{Dump, file_of, holds, read_dump};
+use crate::x86_64::{has_words, is_string};
 use framehop_bytes::bytes::front;
 use framehop_core::aarch64::{PtrAuthMask, UnwindRegsAarch64};
 use framehop_minidump::codeview::{CodeView, read_codeview};
 use framehop_minidump::exception::{Exception, context_of, read_exception};
 use framehop_minidump::location::read_located;
-use framehop_minidump::memory::{read_memory, word_at};
 use framehop_minidump::misc_info::read_process_id;
-use framehop_minidump::module::read_modules;
+use framehop_minidump::module::Module;
 use framehop_minidump::registers::{aarch64_registers, x86_64_registers};
-use framehop_minidump::stream::read_streams;
-use framehop_minidump::string::read_string;
+use framehop_minidump::stream::Stream;
 use framehop_minidump::system_info::{Machine, SystemInfo, read_system_info};
-use framehop_minidump::thread::{Thread, read_threads};
+use framehop_minidump::thread::Thread;
 use std::alloc::Global;
 use std::test::Fail;
 
@@ -96,9 +95,14 @@ pub(crate) const PIECES: [(usize, &str); 14] = [
     (0x101b, "c0ffff0000003000000401000004000000c80e"),
 ];
 
-/// The minidump.
+/// The bytes of the minidump.
 pub(crate) fn dump(alloc: Global) -> Result<Vec<u8>, Fail> {
     file_of(alloc, SIZE, &PIECES)
+}
+
+/// The minidump, and what it lists.
+fn whole(alloc: Global) -> Result<Dump, Fail> {
+    Ok(read_dump(alloc, dump(alloc)?)?)
 }
 
 /// Returns the bytes of a thread's context: that of the exception if it is of the thread, or its own.
@@ -107,9 +111,9 @@ fn context<'a>(
     threads: &[Thread],
     index: usize,
     exception: Option<Exception>,
-) -> Result<&'a [u8], Fail> {
-    let thread = threads.get(index).copied().ok_or("no such thread")?;
-    Ok(read_located(file, context_of(thread, exception))?)
+) -> Option<&'a [u8]> {
+    let thread = threads.get(index).copied()?;
+    read_located(file, context_of(thread, exception)).ok()
 }
 
 /// Registers by the thread, whether the exception counts, and the mask: pc, lr, sp and x29. The first thread
@@ -140,118 +144,155 @@ const REGISTERS: [(usize, bool, u64, [u64; 4]); 3] = [
     ),
 ];
 
-#[test]
-fn reads_registers(rt: HostRuntime) -> Result<(), Fail> {
-    let alloc = rt.alloc();
-    let file = dump(alloc)?;
-    let file = file.as_slice();
-    let streams = read_streams(alloc, file)?;
-    let threads = read_threads(alloc, file, streams.as_slice())?;
-    let exception = read_exception(file, streams.as_slice())?;
-    for (index, counts, mask, [pc, lr, sp, fp]) in REGISTERS {
-        let mask = PtrAuthMask(mask);
-        let exception = if counts { exception } else { None };
-        let context = context(file, threads.as_slice(), index, exception)?;
-        let read = aarch64_registers(mask, context).ok_or("no registers")?;
-        let expected = UnwindRegsAarch64::new_with_ptr_auth_mask(mask, lr, sp, fp);
-        assert!(rt; read == (pc, expected));
-        assert!(rt; aarch64_registers(mask, front(context, 0x110)).is_some());
-        assert!(rt; aarch64_registers(mask, front(context, 0x10f)).is_none());
-        assert!(rt; x86_64_registers(context).is_none());
+/// Whether a context has these registers, with all its bytes and with the least that are needed.
+fn has_registers(context: &[u8], mask: u64, [pc, lr, sp, fp]: [u64; 4]) -> bool {
+    let mask = PtrAuthMask(mask);
+    let expected = UnwindRegsAarch64::new_with_ptr_auth_mask(mask, lr, sp, fp);
+    aarch64_registers(mask, context) == Some((pc, expected))
+        && aarch64_registers(mask, front(context, 0x110)).is_some()
+        && aarch64_registers(mask, front(context, 0x10f)).is_none()
+        && x86_64_registers(context).is_none()
+}
+
+/// Whether the third thread has no registers.
+fn has_none(file: &[u8], threads: &[Thread], exception: Option<Exception>) -> bool {
+    match context(file, threads, 2, exception) {
+        Some(none) => aarch64_registers(PtrAuthMask::new_no_strip(), none).is_none(),
+        None => false,
     }
-    let none = context(file, threads.as_slice(), 2, exception)?;
-    assert!(rt; aarch64_registers(PtrAuthMask::new_no_strip(), none).is_none());
-    Ok(())
+}
+
+/// Whether the threads have their registers.
+fn have_registers(file: &[u8], threads: &[Thread], exception: Option<Exception>) -> bool {
+    for (index, counts, mask, registers) in REGISTERS {
+        let exception = if counts { exception } else { None };
+        match context(file, threads, index, exception) {
+            Some(context) if has_registers(context, mask, registers) => {}
+            _ => return false,
+        }
+    }
+    has_none(file, threads, exception)
+}
+
+/// Whether those of the minidump do.
+fn has_all_registers(alloc: Global) -> Result<bool, Fail> {
+    let dump = whole(alloc)?;
+    let file = dump.file.as_slice();
+    let exception = read_exception(file, dump.streams.as_slice())?;
+    Ok(have_registers(file, dump.threads.as_slice(), exception))
 }
 
 #[test]
-fn reads_system_and_threads(rt: HostRuntime) -> Result<(), Fail> {
-    let alloc = rt.alloc();
-    let file = dump(alloc)?;
-    let file = file.as_slice();
-    let streams = read_streams(alloc, file)?;
+fn reads_registers(rt: HostRuntime) -> Result<(), Fail> {
+    holds(has_all_registers(rt.alloc())?)
+}
+
+/// Whether the system is this one, and the process has no number.
+fn has_system(file: &[u8], streams: &[Stream]) -> bool {
     let system = SystemInfo {
         machine: Machine::Aarch64,
         platform: 0x8201,
     };
-    assert_eq!(rt; read_system_info(file, streams.as_slice()), Ok(system));
-    assert_eq!(rt; read_process_id(file, streams.as_slice()), Ok(None));
-    let threads = read_threads(alloc, file, streams.as_slice())?;
-    assert_eq!(rt; threads.len(), 3);
-    let crashed = threads.get(0).copied().ok_or("no thread")?;
-    assert_eq!(rt; (crashed.tid, crashed.teb), (501, 0x700001f5));
-    // the second thread's stack is in no list of memory
-    let second = threads.get(1).copied().ok_or("no second thread")?;
-    let word = word_at(file, &[second.stack], 0xfffff0000878);
-    assert_eq!(rt; word, Some(0x6000000f));
-    Ok(())
+    read_system_info(file, streams) == Ok(system) && read_process_id(file, streams) == Ok(None)
+}
+
+/// Whether there are three threads, of which the second's stack is in no list of memory.
+fn has_threads(file: &[u8], threads: &[Thread]) -> bool {
+    let [crashed, second, _] = threads else {
+        return false;
+    };
+    (crashed.tid, crashed.teb) == (501, 0x700001f5)
+        && has_words(file, &[second.stack], &[(0xfffff0000878, Some(0x6000000f))])
+}
+
+/// Whether the minidump has both.
+fn is_described(alloc: Global) -> Result<bool, Fail> {
+    let dump = whole(alloc)?;
+    let file = dump.file.as_slice();
+    Ok(has_system(file, dump.streams.as_slice()) && has_threads(file, dump.threads.as_slice()))
+}
+
+#[test]
+fn reads_system_and_threads(rt: HostRuntime) -> Result<(), Fail> {
+    holds(is_described(rt.alloc())?)
+}
+
+/// Words by their addresses, in three ranges of both lists.
+const WORDS: [(u64, Option<u64>); 9] = [
+    (0xfffff0000000, Some(0x50000000)),
+    (0xfffff00000f8, Some(0x5000001f)),
+    (0xfffff0000100, None),
+    (0xaaaa00000000, Some(0xa000)),
+    (0xaaaa00000018, Some(0xa003)),
+    (0xaaaa00000019, None),
+    (0xaaaa00010008, Some(0xb001)),
+    (0xaaaa0000fff8, None),
+    (0xfffff0000800, None),
+];
+
+/// Whether the minidump has them.
+fn has_all_words(alloc: Global) -> Result<bool, Fail> {
+    let dump = whole(alloc)?;
+    let ranges = dump.ranges.as_slice();
+    Ok(ranges.len() == 3 && has_words(dump.file.as_slice(), ranges, &WORDS))
 }
 
 #[test]
 fn reads_both_lists_of_memory(rt: HostRuntime) -> Result<(), Fail> {
-    let alloc = rt.alloc();
-    let file = dump(alloc)?;
-    let file = file.as_slice();
-    let streams = read_streams(alloc, file)?;
-    let ranges = read_memory(alloc, file, streams.as_slice())?;
-    assert_eq!(rt; ranges.len(), 3);
-    for (address, word) in [
-        (0xfffff0000000, Some(0x50000000)),
-        (0xfffff00000f8, Some(0x5000001f)),
-        (0xfffff0000100, None),
-        (0xaaaa00000000, Some(0xa000)),
-        (0xaaaa00000018, Some(0xa003)),
-        (0xaaaa00000019, None),
-        (0xaaaa00010008, Some(0xb001)),
-        (0xaaaa0000fff8, None),
-        (0xfffff0000800, None),
-    ] {
-        assert_eq!(rt; word_at(file, ranges.as_slice(), address), word);
+    holds(has_all_words(rt.alloc())?)
+}
+
+/// The names of the modules.
+const NAMES: [&str; 4] = [
+    "/usr/bin/gr\u{f6}\u{df}e",
+    "C:\\\u{1d11e}.dll",
+    "a\u{fffd}b",
+    "",
+];
+
+/// Whether the modules have their names.
+fn have_names(alloc: Global, file: &[u8], modules: &[Module]) -> bool {
+    for (module, name) in modules.iter().zip(NAMES) {
+        if !is_string(alloc, file, module.name, name) {
+            return false;
+        }
     }
-    Ok(())
+    modules.len() == 4
+}
+
+/// Whether a module has the program database.
+fn has_database(file: &[u8], module: Module) -> bool {
+    // the GUID 01234567-89ab-cdef-f0f1-f2f3f4f5f6f7
+    let expected = b"\x67\x45\x23\x01\xab\x89\xef\xcd\xf0\xf1\xf2\xf3\xf4\xf5\xf6\xf7";
+    match read_codeview(file, module.codeview) {
+        Ok(Some(CodeView::Pdb { guid, age, path, .. })) => {
+            guid == expected.as_slice() && age == 3 && path == b"c:\\made\\up.pdb".as_slice()
+        }
+        _ => false,
+    }
+}
+
+/// Whether the second module is the library, and the last two have a record of another kind, and none.
+fn have_records(file: &[u8], modules: &[Module]) -> bool {
+    let [_, library, third, last] = modules else {
+        return false;
+    };
+    (library.base, library.size) == (0xffffa0000000, 0x1000)
+        && (library.checksum, library.time) == (0x102, 2)
+        && has_database(file, *library)
+        && matches!(read_codeview(file, third.codeview), Ok(None))
+        && matches!(read_codeview(file, last.codeview), Ok(None))
+}
+
+/// Whether the minidump has them.
+fn has_all_modules(alloc: Global) -> Result<bool, Fail> {
+    let dump = whole(alloc)?;
+    let file = dump.file.as_slice();
+    let modules = dump.modules.as_slice();
+    Ok(have_names(alloc, file, modules) && have_records(file, modules))
 }
 
 #[test]
 fn reads_modules(rt: HostRuntime) -> Result<(), Fail> {
-    let alloc = rt.alloc();
-    let file = dump(alloc)?;
-    let file = file.as_slice();
-    let streams = read_streams(alloc, file)?;
-    let modules = read_modules(alloc, file, streams.as_slice())?;
-    let names = [
-        "/usr/bin/gr\u{f6}\u{df}e",
-        "C:\\\u{1d11e}.dll",
-        "a\u{fffd}b",
-        "",
-    ];
-    assert_eq!(rt; modules.len(), 4);
-    for (module, name) in modules.iter().zip(names) {
-        let read = read_string(alloc, file, module.name)?;
-        assert_eq!(rt; read.as_str(), name);
-    }
-    let library = modules.get(1).copied().ok_or("no second module")?;
-    assert_eq!(rt; (library.base, library.size), (0xffffa0000000, 0x1000));
-    assert_eq!(rt; (library.checksum, library.time), (0x102, 2));
-    let Some(
-        CodeView::Pdb {
-            guid,
-            age,
-            path,
-            ..
-        },
-    ) = read_codeview(file, library.codeview)?
-    else {
-        return Err("no program database".into());
-    };
-    // the GUID 01234567-89ab-cdef-f0f1-f2f3f4f5f6f7
-    assert_eq!(rt;
-        guid,
-        b"\x67\x45\x23\x01\xab\x89\xef\xcd\xf0\xf1\xf2\xf3\xf4\xf5\xf6\xf7".as_slice()
-    );
-    assert_eq!(rt; (age, path), (3, b"c:\\made\\up.pdb".as_slice()));
-    // a record of another kind, and none
-    for module in modules.iter().skip(2) {
-        assert!(rt; read_codeview(file, module.codeview)?.is_none());
-    }
-    Ok(())
+    holds(has_all_modules(rt.alloc())?)
 }

@@ -1,6 +1,34 @@
-//! Files that are mostly 0, as `scripts/pieces.py` prints them.
+//! Files that are mostly 0, as `scripts/pieces.py` prints them, and what is read of them.
+use framehop_minidump::error::MinidumpError;
+use framehop_minidump::memory::{MemoryRange, read_memory};
+use framehop_minidump::module::{Module, read_modules};
+use framehop_minidump::stream::{Stream, read_streams};
+use framehop_minidump::thread::{Thread, read_threads};
 use std::alloc::Global;
 use std::test::Fail;
+
+/// Refuses what does not hold.
+pub(crate) fn holds(is_held: bool) -> Result<(), Fail> {
+    if is_held {
+        Ok(())
+    } else {
+        Err(Fail::from("another value"))
+    }
+}
+
+/// Decodes hexadecimal digits into a file at an offset, or gives nothing where they are none or do not fit.
+fn put(file: &mut [u8], offset: usize, digits: &str) -> Option<()> {
+    let end = offset.checked_add(digits.len() / 2)?;
+    hex::decode_to_slice(digits, file.get_mut(offset..end)?).ok()
+}
+
+/// Decodes these pieces into a file, in hexadecimal digits by their offsets.
+fn put_all(file: &mut [u8], pieces: &[(usize, &str)]) -> Option<()> {
+    for (offset, digits) in pieces {
+        put(file, *offset, *digits)?;
+    }
+    Some(())
+}
 
 /// Returns the file of a size whose bytes are 0 but for these pieces, in hexadecimal digits by their
 /// offsets.
@@ -9,28 +37,41 @@ pub(crate) fn file_of(
     size: usize,
     pieces: &[(usize, &str)],
 ) -> Result<Vec<u8>, Fail> {
-    let mut file = Vec::new(alloc);
-    for (offset, digits) in pieces {
-        for _ in file.len()..*offset {
-            file.push(0)?;
-        }
-        let piece = hex::decode(alloc, *digits)?;
-        for byte in piece.as_slice() {
-            file.push(*byte)?;
-        }
-    }
-    for _ in file.len()..size {
-        file.push(0)?;
-    }
+    let mut file = vec![in alloc; 0; size]?;
+    put_all(file.as_mut_slice(), pieces).ok_or("no such piece")?;
     Ok(file)
 }
 
-/// Writes these bytes into a file at an offset.
-pub(crate) fn change(file: &mut Vec<u8>, offset: usize, bytes: &[u8]) -> Result<(), Fail> {
-    let mut at = offset;
-    for byte in bytes {
-        *file.get_mut(at).ok_or("no such byte")? = *byte;
-        at += 1;
+/// Writes these bytes into a file at an offset, or gives nothing where they do not fit.
+pub(crate) fn change(file: &mut [u8], offset: usize, bytes: &[u8]) -> Option<()> {
+    let end = offset.checked_add(bytes.len())?;
+    for (old, byte) in file.get_mut(offset..end)?.iter_mut().zip(bytes) {
+        *old = *byte;
     }
-    Ok(())
+    Some(())
+}
+
+/// A minidump, and what it lists.
+#[derive(Drop)]
+pub(crate) struct Dump {
+    pub(crate) file: Vec<u8>,
+    pub(crate) streams: Vec<Stream>,
+    pub(crate) threads: Vec<Thread>,
+    pub(crate) ranges: Vec<MemoryRange>,
+    pub(crate) modules: Vec<Module>,
+}
+
+/// Reads what a minidump lists.
+pub(crate) fn read_dump(alloc: Global, file: Vec<u8>) -> Result<Dump, MinidumpError> {
+    let streams = read_streams(alloc, file.as_slice())?;
+    let threads = read_threads(alloc, file.as_slice(), streams.as_slice())?;
+    let ranges = read_memory(alloc, file.as_slice(), streams.as_slice())?;
+    let modules = read_modules(alloc, file.as_slice(), streams.as_slice())?;
+    Ok(Dump {
+        file,
+        streams,
+        threads,
+        ranges,
+        modules,
+    })
 }

@@ -1,5 +1,6 @@
 //! The README's example of a minidump, as it is printed there, and a test of it: from the minidump of
 //! `x86_64` to the frames that LLDB prints by `thread backtrace all`.
+use crate::pieces::holds;
 use crate::x86_64::dump;
 use framehop::x86_64::{CacheX86_64, UnwindRegsX86_64, UnwinderX86_64};
 use framehop::{ExplicitModuleSectionInfo, Generations, Module, Unwinder};
@@ -85,28 +86,57 @@ const FRAMES: [(usize, &[u64]); 2] = [
     (1, &[0x40104e, 0x40106a, 0x401110, 0x401060]),
 ];
 
-#[test]
-fn walks_the_stacks_of_threads(rt: HostRuntime) -> Result<(), Fail> {
-    let alloc = rt.alloc();
-    let file = dump(alloc)?;
-    let ranges = memory(alloc, file.as_slice())?;
-    let unwinder = unwinder(alloc)?;
-    let mut cache = CacheX86_64::new(alloc)?;
-    for (index, expected) in FRAMES {
-        let regs = registers_of_thread(alloc, file.as_slice(), index)?;
-        let mut frames = [0; 8];
-        let count = frames_of_stack(
-            file.as_slice(),
-            ranges.as_slice(),
-            &unwinder,
-            &mut cache,
-            regs,
-            &mut frames,
-        );
-        assert_eq!(rt; count, expected.len());
-        for (frame, address) in frames.iter().zip(expected) {
-            assert_eq!(rt; frame, address);
+/// Whether these are the frames of a thread.
+fn are_frames(
+    file: &[u8],
+    ranges: &[MemoryRange],
+    unwinder: &UnwinderX86_64<Vec<u8>>,
+    cache: &mut CacheX86_64,
+    regs: UnwindRegsX86_64,
+    expected: &[u64],
+) -> bool {
+    let mut frames = [0; 8];
+    let count = frames_of_stack(file, ranges, unwinder, cache, regs, &mut frames);
+    for (frame, address) in frames.iter().zip(expected) {
+        if frame != address {
+            return false;
         }
     }
-    Ok(())
+    count == expected.len()
+}
+
+/// Whether these are the frames of each thread.
+fn are_frames_of_threads(
+    alloc: Global,
+    file: &[u8],
+    ranges: &[MemoryRange],
+    unwinder: &UnwinderX86_64<Vec<u8>>,
+    cache: &mut CacheX86_64,
+) -> Result<bool, Fail> {
+    for (index, expected) in FRAMES {
+        let regs = registers_of_thread(alloc, file, index)?;
+        if !are_frames(file, ranges, unwinder, cache, regs, expected) {
+            return Ok(false);
+        }
+    }
+    Ok(true)
+}
+
+/// Whether the minidump's frames are found by an unwinder that has the program.
+fn finds_the_frames(alloc: Global, file: &[u8]) -> Result<bool, Fail> {
+    let ranges = memory(alloc, file)?;
+    let unwinder = unwinder(alloc)?;
+    let mut cache = CacheX86_64::new(alloc)?;
+    are_frames_of_threads(alloc, file, ranges.as_slice(), &unwinder, &mut cache)
+}
+
+/// The same of the minidump of `x86_64`.
+fn finds_the_frames_of_the_dump(alloc: Global) -> Result<bool, Fail> {
+    let file = dump(alloc)?;
+    finds_the_frames(alloc, file.as_slice())
+}
+
+#[test]
+fn walks_the_stacks_of_threads(rt: HostRuntime) -> Result<(), Fail> {
+    holds(finds_the_frames_of_the_dump(rt.alloc())?)
 }

@@ -1,39 +1,91 @@
 //! Each refusal once, of the two minidumps with a few other bytes.
-use crate::pieces::change;
+use crate::pieces::{change, holds, read_dump};
 use crate::{aarch64, x86_64};
 use framehop_bytes::bytes::front;
 use framehop_minidump::codeview::read_codeview;
 use framehop_minidump::error::MinidumpError;
-use framehop_minidump::exception::{context_of, read_exception};
+use framehop_minidump::exception::{Exception, context_of, read_exception};
 use framehop_minidump::location::read_located;
-use framehop_minidump::memory::{read_memory, word_at};
+use framehop_minidump::memory::{MemoryRange, read_memory};
 use framehop_minidump::misc_info::read_process_id;
-use framehop_minidump::module::read_modules;
-use framehop_minidump::stream::read_streams;
+use framehop_minidump::module::{Module, read_modules};
+use framehop_minidump::stream::{Stream, read_streams};
 use framehop_minidump::string::read_string;
 use framehop_minidump::system_info::{Machine, read_system_info};
-use framehop_minidump::thread::read_threads;
+use framehop_minidump::thread::{Thread, read_threads};
 use std::alloc::Global;
 use std::test::Fail;
 
-/// Reads all that a minidump says of its process.
-fn read_all(alloc: Global, file: &[u8]) -> Result<Machine, MinidumpError> {
-    let streams = read_streams(alloc, file)?;
-    let streams = streams.as_slice();
-    let system = read_system_info(file, streams)?;
-    read_process_id(file, streams)?;
-    let exception = read_exception(file, streams)?;
-    let threads = read_threads(alloc, file, streams)?;
-    for thread in threads.as_slice() {
+/// Reads the registers' bytes of each thread.
+fn read_contexts(
+    file: &[u8],
+    threads: &[Thread],
+    exception: Option<Exception>,
+) -> Result<(), MinidumpError> {
+    for thread in threads {
         read_located(file, context_of(*thread, exception))?;
     }
-    read_memory(alloc, file, streams)?;
-    let modules = read_modules(alloc, file, streams)?;
-    for module in modules.as_slice() {
+    Ok(())
+}
+
+/// Reads the name and the file of each module.
+fn read_files(alloc: Global, file: &[u8], modules: &[Module]) -> Result<(), MinidumpError> {
+    for module in modules {
         read_string(alloc, file, module.name)?;
         read_codeview(file, module.codeview)?;
     }
+    Ok(())
+}
+
+/// Reads all that the streams of a minidump say of its process.
+fn read_process(alloc: Global, file: &[u8], streams: &[Stream]) -> Result<Machine, MinidumpError> {
+    let system = read_system_info(file, streams)?;
+    read_process_id(file, streams)?;
+    let exception = read_exception(file, streams)?;
+    read_contexts(
+        file,
+        read_threads(alloc, file, streams)?.as_slice(),
+        exception,
+    )?;
+    read_memory(alloc, file, streams)?;
+    read_files(alloc, file, read_modules(alloc, file, streams)?.as_slice())?;
     Ok(system.machine)
+}
+
+/// Reads all that a minidump says of its process.
+fn read_all(alloc: Global, file: &[u8]) -> Result<Machine, MinidumpError> {
+    read_process(alloc, file, read_streams(alloc, file)?.as_slice())
+}
+
+/// Reads all of a minidump with these bytes at an offset.
+fn read_changed(
+    alloc: Global,
+    file: &[u8],
+    offset: usize,
+    bytes: &[u8],
+) -> Result<Machine, MinidumpError> {
+    let Ok(mut changed) = file.to_vec(alloc) else {
+        return Err(MinidumpError::OutOfMemory);
+    };
+    match change(changed.as_mut_slice(), offset, bytes) {
+        Some(()) => read_all(alloc, changed.as_slice()),
+        None => Ok(Machine::X86_64),
+    }
+}
+
+/// Whether a minidump is read, and with each of these changes it is refused so.
+fn refuses_each(
+    alloc: Global,
+    file: &[u8],
+    machine: Machine,
+    changes: &[(usize, &[u8], MinidumpError)],
+) -> bool {
+    for (offset, bytes, refusal) in changes {
+        if read_changed(alloc, file, *offset, *bytes) != Err(*refusal) {
+            return false;
+        }
+    }
+    read_all(alloc, file) == Ok(machine)
 }
 
 /// Changes of the file of x86_64: header and directory, system information, process, exception, threads and the
@@ -72,61 +124,85 @@ const CHANGES_OF_AARCH64: [(usize, &[u8], MinidumpError); 5] = [
     (0xf8c, &[23], MinidumpError::ShortCodeView { offset: 0xe80 }),
 ];
 
+/// Whether the file of x86_64 is refused so with each of its changes.
+fn refuses_x86_64(alloc: Global) -> Result<bool, Fail> {
+    let file = x86_64::dump(alloc)?;
+    Ok(refuses_each(alloc, file.as_slice(), Machine::X86_64, &CHANGES))
+}
+
+/// Whether that of aarch64 is.
+fn refuses_aarch64(alloc: Global) -> Result<bool, Fail> {
+    let file = aarch64::dump(alloc)?;
+    Ok(refuses_each(
+        alloc,
+        file.as_slice(),
+        Machine::Aarch64,
+        &CHANGES_OF_AARCH64,
+    ))
+}
+
 #[test]
 fn refuses_what_is_broken(rt: HostRuntime) -> Result<(), Fail> {
-    let alloc = rt.alloc();
+    holds(refuses_x86_64(rt.alloc())?)?;
+    holds(refuses_aarch64(rt.alloc())?)
+}
+
+/// Whether a file is refused where it is cut off: in the header, in the directory, and in the last stream, the list
+/// of memory.
+fn refuses_each_end(alloc: Global, file: &[u8]) -> bool {
+    for (end, offset) in [(0, 0), (31, 0), (0xaf, 0x20), (0x3662, 0x363f)] {
+        if read_all(alloc, front(file, end)) != Err(MinidumpError::Eof { offset }) {
+            return false;
+        }
+    }
+    true
+}
+
+/// Whether the file of x86_64 is.
+fn refuses_cut_off(alloc: Global) -> Result<bool, Fail> {
     let file = x86_64::dump(alloc)?;
-    assert_eq!(rt; read_all(alloc, file.as_slice()), Ok(Machine::X86_64));
-    for (offset, bytes, refusal) in CHANGES {
-        let mut file = x86_64::dump(alloc)?;
-        change(&mut file, offset, bytes)?;
-        assert_eq!(rt; read_all(alloc, file.as_slice()), Err(refusal));
-    }
-    let file = aarch64::dump(alloc)?;
-    assert_eq!(rt; read_all(alloc, file.as_slice()), Ok(Machine::Aarch64));
-    for (offset, bytes, refusal) in CHANGES_OF_AARCH64 {
-        let mut file = aarch64::dump(alloc)?;
-        change(&mut file, offset, bytes)?;
-        assert_eq!(rt; read_all(alloc, file.as_slice()), Err(refusal));
-    }
-    Ok(())
+    Ok(refuses_each_end(alloc, file.as_slice()))
 }
 
 #[test]
 fn refuses_what_is_cut_off(rt: HostRuntime) -> Result<(), Fail> {
-    let alloc = rt.alloc();
-    let file = x86_64::dump(alloc)?;
-    let file = file.as_slice();
-    // in the header, in the directory, and in the last stream, the list of memory
-    for (end, offset) in [(0, 0), (31, 0), (0xaf, 0x20), (0x3662, 0x363f)] {
-        let refusal = MinidumpError::Eof { offset };
-        assert_eq!(rt; read_all(alloc, front(file, end)), Err(refusal));
-    }
-    Ok(())
+    holds(refuses_cut_off(rt.alloc())?)
+}
+
+/// Makes the exception a second stream of system information, and moves a range of the second list to the
+/// address of the first's, longer.
+fn repeat_streams(file: &mut [u8]) -> Option<()> {
+    change(file, 0x38, &[7])?;
+    change(file, 0xe08, &[0, 0, 0, 0xf0, 0xff, 0xff, 0, 0])?;
+    change(file, 0xe10, &[0x10, 1])
+}
+
+/// Words of the ranges: the first of the first range, what only the second has (at 0xed0 is the number of
+/// modules), and none.
+const WORDS_OF_BOTH: [(u64, Option<u64>); 3] = [
+    (0xfffff0000000, Some(0x50000000)),
+    (0xfffff0000108, Some(4)),
+    (0xfffff0000109, None),
+];
+
+/// Whether the first of two streams, and of two ranges, is taken.
+fn takes_the_first(file: &[u8], streams: &[Stream], ranges: &[MemoryRange]) -> bool {
+    let system = read_system_info(file, streams);
+    system.is_ok_and(|system| system.machine == Machine::Aarch64)
+        && read_exception(file, streams) == Ok(None)
+        && x86_64::has_words(file, ranges, &WORDS_OF_BOTH)
+}
+
+/// Whether it is so in the file of aarch64 with its changes.
+fn takes_the_first_of_aarch64(alloc: Global) -> Result<bool, Fail> {
+    let mut file = aarch64::dump(alloc)?;
+    repeat_streams(file.as_mut_slice()).ok_or("no such byte")?;
+    let dump = read_dump(alloc, file)?;
+    let ranges = dump.ranges.as_slice();
+    Ok(takes_the_first(dump.file.as_slice(), dump.streams.as_slice(), ranges))
 }
 
 #[test]
 fn takes_the_first_of_two(rt: HostRuntime) -> Result<(), Fail> {
-    let alloc = rt.alloc();
-    let mut file = aarch64::dump(alloc)?;
-    // the exception is made a second stream of system information
-    change(&mut file, 0x38, &[7])?;
-    let streams = read_streams(alloc, file.as_slice())?;
-    let system = read_system_info(file.as_slice(), streams.as_slice())?;
-    assert_eq!(rt; system.machine, Machine::Aarch64);
-    assert_eq!(rt;
-        read_exception(file.as_slice(), streams.as_slice()),
-        Ok(None)
-    );
-    // a range of the second list is moved to the address of the first's, and is longer
-    change(&mut file, 0xe08, &[0, 0, 0, 0xf0, 0xff, 0xff, 0, 0])?;
-    change(&mut file, 0xe10, &[0x10, 1])?;
-    let ranges = read_memory(alloc, file.as_slice(), streams.as_slice())?;
-    let ranges = ranges.as_slice();
-    let word = word_at(file.as_slice(), ranges, 0xfffff0000000);
-    assert_eq!(rt; word, Some(0x50000000));
-    // what only that has: at 0xed0 is the number of modules
-    assert_eq!(rt; word_at(file.as_slice(), ranges, 0xfffff0000108), Some(4));
-    assert_eq!(rt; word_at(file.as_slice(), ranges, 0xfffff0000109), None);
-    Ok(())
+    holds(takes_the_first_of_aarch64(rt.alloc())?)
 }

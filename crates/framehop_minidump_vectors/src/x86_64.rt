@@ -2,22 +2,22 @@
 //! stack`) for the program of `framehop_core_file_vectors/scripts/crash.c`. The bytes of the streams of text
 //! that Linux has in `/proc` are 0. The expected values are those that LLDB printed of the process:
 //! `register read`, `thread list`, `thread backtrace all` and `image list`.
-use crate::pieces::file_of;
+use crate::pieces::{Dump, file_of, holds, read_dump};
 use framehop_bytes::bytes::front;
-use framehop_core::x86_64::Reg;
+use framehop_core::x86_64::{Reg, UnwindRegsX86_64};
 use framehop_elf::program_header::ProgramHeader;
 use framehop_minidump::codeview::{CodeView, read_codeview};
-use framehop_minidump::exception::{context_of, read_exception};
+use framehop_minidump::exception::{Exception, context_of, read_exception};
 use framehop_minidump::header::{Header, read_header};
 use framehop_minidump::location::read_located;
-use framehop_minidump::memory::{bytes_at, bytes_from, read_memory, word_at};
+use framehop_minidump::memory::{MemoryRange, bytes_at, bytes_from, word_at};
 use framehop_minidump::misc_info::read_process_id;
-use framehop_minidump::module::{base_avma, read_modules};
+use framehop_minidump::module::{Module, base_avma};
 use framehop_minidump::registers::x86_64_registers;
-use framehop_minidump::stream::{first_stream, read_streams};
+use framehop_minidump::stream::{Stream, first_stream};
 use framehop_minidump::string::read_string;
 use framehop_minidump::system_info::{Machine, SystemInfo, read_system_info};
-use framehop_minidump::thread::read_threads;
+use framehop_minidump::thread::Thread;
 use std::alloc::Global;
 use std::test::Fail;
 
@@ -103,9 +103,14 @@ pub(crate) const PIECES: [(usize, &str); 24] = [
     ),
 ];
 
-/// The minidump.
+/// The bytes of the minidump.
 pub(crate) fn dump(alloc: Global) -> Result<Vec<u8>, Fail> {
     file_of(alloc, SIZE, &PIECES)
+}
+
+/// The minidump, and what it lists.
+fn whole(alloc: Global) -> Result<Dump, Fail> {
+    Ok(read_dump(alloc, dump(alloc)?)?)
 }
 
 /// What LLDB prints of the registers of the thread that crashed.
@@ -128,76 +133,109 @@ const REGISTERS: [(Reg, u64); 16] = [
     (Reg::R15, 0xf0f1),
 ];
 
-#[test]
-fn reads_header_and_system(rt: HostRuntime) -> Result<(), Fail> {
-    let alloc = rt.alloc();
-    let file = dump(alloc)?;
+/// Whether the directory has the stream of `/proc/cpuinfo` at its place, and none of number 9.
+fn has_cpuinfo(streams: &[Stream]) -> bool {
+    let Some(first) = first_stream(streams, 0x47670003) else {
+        return false;
+    };
+    (first.location.size, first.location.offset) == (0x1344, 0x8ae)
+        && first_stream(streams, 9).is_none()
+}
+
+/// Whether a minidump has this header, machine and process.
+fn has_header_and_system(file: &[u8], streams: &[Stream]) -> bool {
     // 25 November 2026, 09:17:52 UTC
-    let expected = Header {
+    let header = Header {
         stream_count: 12,
         directory: 0x20,
         time: 0x6b06a7c0,
     };
-    assert_eq!(rt; read_header(file.as_slice()), Ok(expected));
-    let streams = read_streams(alloc, file.as_slice())?;
-    assert_eq!(rt; streams.len(), 12);
-    let first = first_stream(streams.as_slice(), 0x47670003).ok_or("no cpuinfo")?;
-    assert_eq!(rt;
-        (first.location.size, first.location.offset),
-        (0x1344, 0x8ae)
-    );
-    assert_eq!(rt; first_stream(streams.as_slice(), 9), None);
-    let expected = SystemInfo {
+    let system = SystemInfo {
         machine: Machine::X86_64,
         platform: 0x8201,
     };
-    assert_eq!(rt;
-        read_system_info(file.as_slice(), streams.as_slice()),
-        Ok(expected)
-    );
-    let process = read_process_id(file.as_slice(), streams.as_slice());
-    assert_eq!(rt; process, Ok(Some(31455)));
-    Ok(())
+    read_header(file) == Ok(header)
+        && read_system_info(file, streams) == Ok(system)
+        && read_process_id(file, streams) == Ok(Some(31455))
+}
+
+/// Whether the minidump has them, and twelve streams.
+fn is_described(alloc: Global) -> Result<bool, Fail> {
+    let dump = whole(alloc)?;
+    let streams = dump.streams.as_slice();
+    Ok(
+        streams.len() == 12
+            && has_cpuinfo(streams)
+            && has_header_and_system(dump.file.as_slice(), streams),
+    )
+}
+
+#[test]
+fn reads_header_and_system(rt: HostRuntime) -> Result<(), Fail> {
+    holds(is_described(rt.alloc())?)
+}
+
+/// The registers of a thread: those of the exception, if it is of the thread.
+fn registers(file: &[u8], thread: Thread, exception: Exception) -> Option<UnwindRegsX86_64> {
+    let context = read_located(file, context_of(thread, Some(exception))).ok()?;
+    if x86_64_registers(front(context, 0xff)).is_some() {
+        return None;
+    }
+    if x86_64_registers(front(context, 0x100)).is_none() {
+        return None;
+    }
+    x86_64_registers(context)
+}
+
+/// Whether the thread that crashed has its registers, and its stack.
+fn is_crashed(file: &[u8], thread: Thread, exception: Exception) -> bool {
+    let Some(registers) = registers(file, thread, exception) else {
+        return false;
+    };
+    for (register, value) in REGISTERS {
+        if registers.get(register) != value {
+            return false;
+        }
+    }
+    // the stack reaches from the 128 bytes below rsp to its end
+    thread.tid == 31455
+        && registers.ip() == 0x40104e
+        && (thread.stack.start, thread.stack.size) == (0x7fffffffed58, 0x2a8)
+}
+
+/// Whether the thread that waits has its registers.
+fn is_waiting(file: &[u8], thread: Thread, exception: Exception) -> bool {
+    let Some(registers) = registers(file, thread, exception) else {
+        return false;
+    };
+    (thread.tid, thread.teb) == (31458, 0)
+        && (registers.ip(), registers.sp(), registers.bp()) == (0x401088, 0x403488, 0)
+}
+
+/// Whether a minidump has these threads and this exception.
+fn has_threads(file: &[u8], streams: &[Stream], threads: &[Thread]) -> bool {
+    let Ok(Some(exception)) = read_exception(file, streams) else {
+        return false;
+    };
+    let [waiting, crashed] = threads else {
+        return false;
+    };
+    // SIGSEGV
+    (exception.tid, exception.code, exception.address) == (31455, 11, 0x40104e)
+        && is_waiting(file, *waiting, exception)
+        && is_crashed(file, *crashed, exception)
+}
+
+/// Whether the minidump has them.
+fn has_both_threads(alloc: Global) -> Result<bool, Fail> {
+    let dump = whole(alloc)?;
+    let threads = dump.threads.as_slice();
+    Ok(has_threads(dump.file.as_slice(), dump.streams.as_slice(), threads))
 }
 
 #[test]
 fn reads_threads(rt: HostRuntime) -> Result<(), Fail> {
-    let alloc = rt.alloc();
-    let file = dump(alloc)?;
-    let file = file.as_slice();
-    let streams = read_streams(alloc, file)?;
-    let threads = read_threads(alloc, file, streams.as_slice())?;
-    assert_eq!(rt; threads.len(), 2);
-    let exception = read_exception(file, streams.as_slice())?.ok_or("no exception")?;
-    // SIGSEGV
-    assert_eq!(rt;
-        (exception.tid, exception.code, exception.address),
-        (31455, 11, 0x40104e)
-    );
-    let waiting = threads.get(0).copied().ok_or("no thread")?;
-    assert_eq!(rt; (waiting.tid, waiting.teb), (31458, 0));
-    let context = read_located(file, context_of(waiting, Some(exception)))?;
-    let registers = x86_64_registers(context).ok_or("no registers")?;
-    assert_eq!(rt;
-        (registers.ip(), registers.sp(), registers.bp()),
-        (0x401088, 0x403488, 0)
-    );
-    let crashed = threads.get(1).copied().ok_or("no second thread")?;
-    assert_eq!(rt; crashed.tid, 31455);
-    let context = read_located(file, context_of(crashed, Some(exception)))?;
-    let registers = x86_64_registers(context).ok_or("no registers")?;
-    assert_eq!(rt; registers.ip(), 0x40104e);
-    for (register, value) in REGISTERS {
-        assert_eq!(rt; registers.get(register), value);
-    }
-    // the stack reaches from the 128 bytes below rsp to its end
-    assert_eq!(rt;
-        (crashed.stack.start, crashed.stack.size),
-        (0x7fffffffed58, 0x2a8)
-    );
-    assert!(rt; x86_64_registers(front(context, 0xff)).is_none());
-    assert!(rt; x86_64_registers(front(context, 0x100)).is_some());
-    Ok(())
+    holds(has_both_threads(rt.alloc())?)
 }
 
 /// The modules: first address, size in the file's segments, name.
@@ -212,35 +250,58 @@ const BUILD_IDS: [&str; 2] = [
     "33876398737cab5446426103634a9c4cb686983b",
 ];
 
-#[test]
-fn reads_modules(rt: HostRuntime) -> Result<(), Fail> {
-    let alloc = rt.alloc();
-    let file = dump(alloc)?;
-    let file = file.as_slice();
-    let streams = read_streams(alloc, file)?;
-    let modules = read_modules(alloc, file, streams.as_slice())?;
-    assert_eq!(rt; modules.len(), 2);
-    for (module, (base, size, name)) in modules.iter().zip(MODULES) {
-        assert_eq!(rt;
-            (module.base, module.size, module.time),
-            (base, size, 0x6b06a7c0)
-        );
-        let read = read_string(alloc, file, module.name)?;
-        assert_eq!(rt; read.as_str(), name);
+/// Whether the string at an offset is this one.
+pub(crate) fn is_string(alloc: Global, file: &[u8], offset: u32, expected: &str) -> bool {
+    match read_string(alloc, file, offset) {
+        Ok(read) => read.as_str() == expected,
+        Err(_) => false,
     }
-    for (module, build_id) in modules.iter().zip(BUILD_IDS) {
-        let expected = hex::decode(alloc, build_id)?;
-        match read_codeview(file, module.codeview)? {
-            Some(CodeView::Elf { build_id }) => assert_eq!(rt; build_id, expected.as_slice()),
-            _ => return Err("no build id".into()),
+}
+
+/// Whether the build id of a module is this one, in hexadecimal digits.
+fn has_build_id(file: &[u8], module: Module, digits: &str) -> bool {
+    let mut expected = [0; 20];
+    if hex::decode_to_slice(digits, &mut expected).is_err() {
+        return false;
+    }
+    match read_codeview(file, module.codeview) {
+        Ok(Some(CodeView::Elf { build_id })) => build_id == expected.as_slice(),
+        _ => false,
+    }
+}
+
+/// Whether a minidump has these modules.
+fn has_modules(alloc: Global, file: &[u8], modules: &[Module]) -> bool {
+    for (module, (base, size, name)) in modules.iter().zip(MODULES) {
+        if (module.base, module.size, module.time) != (base, size, 0x6b06a7c0) {
+            return false;
+        }
+        if !is_string(alloc, file, module.name, name) {
+            return false;
         }
     }
-    Ok(())
+    for (module, digits) in modules.iter().zip(BUILD_IDS) {
+        if !has_build_id(file, *module, digits) {
+            return false;
+        }
+    }
+    modules.len() == 2
+}
+
+/// Whether the minidump has them.
+fn has_both_modules(alloc: Global) -> Result<bool, Fail> {
+    let dump = whole(alloc)?;
+    Ok(has_modules(alloc, dump.file.as_slice(), dump.modules.as_slice()))
 }
 
 #[test]
-fn finds_bases(rt: HostRuntime) -> Result<(), Fail> {
-    let segment = |p_type: u32, p_vaddr: u64| ProgramHeader {
+fn reads_modules(rt: HostRuntime) -> Result<(), Fail> {
+    holds(has_both_modules(rt.alloc())?)
+}
+
+/// A segment at an address.
+const fn segment(p_type: u32, p_vaddr: u64) -> ProgramHeader {
+    ProgramHeader {
         p_type,
         p_flags: 4,
         p_offset: 0x1b4,
@@ -249,14 +310,22 @@ fn finds_bases(rt: HostRuntime) -> Result<(), Fail> {
         p_filesz: 0,
         p_memsz: 0,
         p_align: 0x1000,
-    };
-    // the program's, of which `readelf -l` prints the first segment; a library's; and none
+    }
+}
+
+/// Whether these bases are found: the program's, of which `readelf -l` prints the first segment; a library's; and
+/// none.
+fn are_bases() -> bool {
     let segments = [segment(4, 0), segment(1, 0x4001b4), segment(1, 0x402000)];
-    assert_eq!(rt; base_avma(0x400000, &segments), Some(0));
-    assert_eq!(rt; base_avma(0x7f0000400000, &segments), Some(0x7f0000000000));
-    assert_eq!(rt; base_avma(0x3ff000, &segments), None);
-    assert_eq!(rt; base_avma(0x400000, &[segment(4, 0)]), None);
-    Ok(())
+    base_avma(0x400000, &segments) == Some(0)
+        && base_avma(0x7f0000400000, &segments) == Some(0x7f0000000000)
+        && base_avma(0x3ff000, &segments).is_none()
+        && base_avma(0x400000, &[segment(4, 0)]).is_none()
+}
+
+#[test]
+fn finds_bases(rt: HostRuntime) {
+    assert!(rt; are_bases());
 }
 
 /// Words by their addresses: the return addresses of LLDB's `thread backtrace all`, on both stacks; and none
@@ -273,32 +342,51 @@ const WORDS: [(u64, Option<u64>); 9] = [
     (u64::MAX, None),
 ];
 
+/// Whether these words are read at these addresses.
+pub(crate) fn has_words(file: &[u8], ranges: &[MemoryRange], words: &[(u64, Option<u64>)]) -> bool {
+    for (address, word) in words {
+        if word_at(file, ranges, *address) != *word {
+            return false;
+        }
+    }
+    true
+}
+
+/// Whether there is the whole stack of the thread that crashed, and no byte more.
+fn has_stack(file: &[u8], ranges: &[MemoryRange]) -> bool {
+    match bytes_at(file, ranges, 0x7fffffffed58, 0x2a8) {
+        Some(stack) => stack.len() == 0x2a8
+            && bytes_at(file, ranges, 0x7fffffffed58, 0x2a9).is_none(),
+        None => false,
+    }
+}
+
+/// Whether the program's name is the last on its stack.
+fn has_name(file: &[u8], ranges: &[MemoryRange]) -> bool {
+    match bytes_from(file, ranges, 0x7fffffffefe3) {
+        Some(name) => front(name, 21) == b"/usr/local/bin/crash\0".as_slice(),
+        None => false,
+    }
+}
+
+/// Whether a file has these two ranges of memory, and fewer bytes where it is cut off.
+fn has_memory(file: &[u8], ranges: &[MemoryRange]) -> bool {
+    let cut = front(file, 0x2a47 + 0x88);
+    let words = [(0x403488, Some(0x4010be)), (0x403489, None)];
+    ranges.len() == 2
+        && has_words(file, ranges, &WORDS)
+        && has_stack(file, ranges)
+        && has_name(file, ranges)
+        && has_words(cut, ranges, &words)
+}
+
+/// Whether the minidump has them.
+fn has_both_ranges(alloc: Global) -> Result<bool, Fail> {
+    let dump = whole(alloc)?;
+    Ok(has_memory(dump.file.as_slice(), dump.ranges.as_slice()))
+}
+
 #[test]
 fn reads_memory(rt: HostRuntime) -> Result<(), Fail> {
-    let alloc = rt.alloc();
-    let file = dump(alloc)?;
-    let file = file.as_slice();
-    let streams = read_streams(alloc, file)?;
-    let ranges = read_memory(alloc, file, streams.as_slice())?;
-    assert_eq!(rt; ranges.len(), 2);
-    for (address, word) in WORDS {
-        assert_eq!(rt; word_at(file, ranges.as_slice(), address), word);
-    }
-    let stack = bytes_at(file, ranges.as_slice(), 0x7fffffffed58, 0x2a8);
-    assert_eq!(rt; stack.map(|stack| stack.len()), Some(0x2a8));
-    assert_eq!(rt;
-        bytes_at(file, ranges.as_slice(), 0x7fffffffed58, 0x2a9),
-        None
-    );
-    // the program's name is the last on its stack
-    let name = bytes_from(file, ranges.as_slice(), 0x7fffffffefe3);
-    assert_eq!(rt;
-        name.map(|name| front(name, 21)),
-        Some(b"/usr/local/bin/crash\0".as_slice())
-    );
-    // where the file is cut off, there are fewer bytes
-    let cut = front(file, 0x2a47 + 0x88);
-    assert_eq!(rt; word_at(cut, ranges.as_slice(), 0x403488), Some(0x4010be));
-    assert_eq!(rt; word_at(cut, ranges.as_slice(), 0x403489), None);
-    Ok(())
+    holds(has_both_ranges(rt.alloc())?)
 }

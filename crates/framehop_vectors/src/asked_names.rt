@@ -2,11 +2,8 @@
 use crate::sections::ExplicitPeSections;
 use framehop::Module;
 use framehop::section::{ExplicitModuleSectionInfo, ModuleSectionInfo};
-use framehop_walk::section_bytes;
 use std::alloc::Global;
 use std::ops::Range;
-use std::process::Abort;
-use std::test::Fail;
 
 /// The names of sections and segments that a module may be asked for.
 const NAMES: [&str; 17] = [
@@ -91,7 +88,7 @@ struct Counting<'a, I> {
     asked: &'a mut Asked,
 }
 
-impl<I: ModuleSectionInfo<Vec<u8>>> ModuleSectionInfo<Vec<u8>> for Counting<'_, I> {
+impl<I: ModuleSectionInfo<&'static [u8]>> ModuleSectionInfo<&'static [u8]> for Counting<'_, I> {
     ghost table = { λ s. I.table s.info };
 
     fn base_svma(&self) -> u64 {
@@ -103,7 +100,7 @@ impl<I: ModuleSectionInfo<Vec<u8>>> ModuleSectionInfo<Vec<u8>> for Counting<'_, 
         self.info.section_svma_range(name)
     }
 
-    fn section_data(&mut self, name: &[u8]) -> Option<Vec<u8>> {
+    fn section_data(&mut self, name: &[u8]) -> Option<&'static [u8]> {
         self.asked.section_data.add(name);
         self.info.section_data(name)
     }
@@ -113,69 +110,67 @@ impl<I: ModuleSectionInfo<Vec<u8>>> ModuleSectionInfo<Vec<u8>> for Counting<'_, 
         self.info.segment_svma_range(name)
     }
 
-    fn segment_data(&mut self, name: &[u8]) -> Option<Vec<u8>> {
+    fn segment_data(&mut self, name: &[u8]) -> Option<&'static [u8]> {
         self.asked.segment_data.add(name);
         self.info.segment_data(name)
     }
 }
 
 /// What a new module asks for.
-fn asked_for<I: ModuleSectionInfo<Vec<u8>> + Drop>(alloc: Global, info: I) -> Result<Asked, Fail> {
+fn asked_for<I: ModuleSectionInfo<&'static [u8]> + Drop>(alloc: Global, info: I) -> Option<Asked> {
     let mut asked = Asked::new();
-    let name = String::from_str(alloc, "m")?;
     let counting = Counting {
         info,
         asked: &mut asked,
     };
-    let _module: Module<Vec<u8>> = Module::new(alloc, name, 0..0x4000, 0, counting)?;
-    Ok(asked)
+    match Module::new(alloc, String::new(alloc), 0..0x4000, 0, counting) {
+        Ok(_module) => {}
+        Err(_) => return None,
+    }
+    Some(asked)
 }
 
-/// A new module asks once for the data and for the range of each of these sections, and for nothing else.
-fn asks_for_sections<I: ModuleSectionInfo<Vec<u8>> + Drop, R: Abort>(
-    rt: &R,
+/// Whether a new module asks once for the data and for the range of each of these sections and segments, and for
+/// nothing else.
+fn asks_for<I: ModuleSectionInfo<&'static [u8]> + Drop>(
     alloc: Global,
     info: I,
     section_data: &[&str],
     section_ranges: &[&str],
-) -> Result<(), Fail> {
+    segments: &[&str],
+) -> bool {
     let want = Asked {
         section_ranges: Counts::once(section_ranges),
         section_data: Counts::once(section_data),
-        segment_ranges: Counts::new(),
-        segment_data: Counts::new(),
+        segment_ranges: Counts::once(segments),
+        segment_data: Counts::once(segments),
     };
-    assert!(rt; asked_for(alloc, info)? == want);
-    Ok(())
-}
-
-/// The same of a module with compact unwind info, which asks once for the range and the data of `__TEXT` too.
-fn asks_for_sections_and_text<R: Abort>(
-    rt: &R,
-    alloc: Global,
-    info: ExplicitModuleSectionInfo<Vec<u8>>,
-    section_data: &[&str],
-    section_ranges: &[&str],
-) -> Result<(), Fail> {
-    let want = Asked {
-        section_ranges: Counts::once(section_ranges),
-        section_data: Counts::once(section_data),
-        segment_ranges: Counts::once(&["__TEXT"]),
-        segment_data: Counts::once(&["__TEXT"]),
-    };
-    assert!(rt; asked_for(alloc, info)? == want);
-    Ok(())
+    asked_for(alloc, info) == Some(want)
 }
 
 /// A CIE and an FDE.
-const EH_FRAME: &str = "1400000000000000017a5200017810011b0c070890010000\
-     180000001c000000e0efffff2000000000410e108602430d0600000000000000";
+const EH_FRAME: Option<&[u8]> = Some(
+    b"\x14\x00\x00\x00\x00\x00\x00\x00\x01\x7a\x52\x00\x01\x78\x10\x01\x1b\x0c\x07\x08\
+      \x90\x01\x00\x00\x18\x00\x00\x00\x1c\x00\x00\x00\xe0\xef\xff\xff\x20\x00\x00\x00\
+      \x00\x41\x0e\x10\x86\x02\x43\x0d\x06\x00\x00\x00\x00\x00\x00\x00",
+);
 
-const EH_FRAME_HDR: &str = "011b033bfcefffff0100000000e0ffff18f0ffff";
+const EH_FRAME_HDR: Option<&[u8]> = Some(
+    b"\x01\x1b\x03\x3b\xfc\xef\xff\xff\x01\x00\x00\x00\x00\xe0\xff\xff\x18\xf0\xff\xff",
+);
 
 /// A CIE and an FDE.
-const DEBUG_FRAME: &str = "10000000ffffffff040008000178100c07089001\
-     1c0000000000000000100000000000002000000000000000410e108602000000";
+const DEBUG_FRAME: Option<&[u8]> = Some(
+    b"\x10\x00\x00\x00\xff\xff\xff\xff\x04\x00\x08\x00\x01\x78\x10\x0c\x07\x08\x90\x01\
+      \x1c\x00\x00\x00\x00\x00\x00\x00\x00\x10\x00\x00\x00\x00\x00\x00\x20\x00\x00\x00\
+      \x00\x00\x00\x00\x41\x0e\x10\x86\x02\x00\x00\x00",
+);
+
+/// A version that is cut off.
+const UNWIND_INFO: Option<&[u8]> = Some(b"\x01");
+
+/// An instruction that returns.
+const CODE: Option<&[u8]> = Some(b"\xc3");
 
 /// The sections that base addresses are taken of, each by its first name.
 const FIRST_NAMES: [&str; 4] = ["__eh_frame", "__eh_frame_hdr", "__text", "__got"];
@@ -192,16 +187,8 @@ const BOTH_NAMES: [&str; 8] = [
     ".got",
 ];
 
-/// The bytes of a section, where there is one.
-fn bytes_of(alloc: Global, digits: &str) -> Result<Option<Vec<u8>>, Fail> {
-    if digits.is_empty() {
-        return Ok(None);
-    }
-    Ok(Some(section_bytes(alloc, digits)?))
-}
-
 /// Sections with the ranges that base addresses are taken of, or without them.
-fn with_ranges(has_ranges: bool) -> ExplicitModuleSectionInfo<Vec<u8>> {
+fn with_ranges(has_ranges: bool) -> ExplicitModuleSectionInfo<&'static [u8]> {
     if !has_ranges {
         return ExplicitModuleSectionInfo::default();
     }
@@ -214,86 +201,90 @@ fn with_ranges(has_ranges: bool) -> ExplicitModuleSectionInfo<Vec<u8>> {
     }
 }
 
-/// Gives `.eh_frame`, `.eh_frame_hdr` and `.debug_frame` their bytes.
-fn give_call_frames(
+/// Whether a module with these sections asks for the data, and for the base addresses by their ranges.
+fn asks_for_call_frames(
     alloc: Global,
-    info: &mut ExplicitModuleSectionInfo<Vec<u8>>,
-    [eh_frame, eh_frame_hdr, debug_frame]: [&str; 3],
-) -> Result<(), Fail> {
-    info.eh_frame = bytes_of(alloc, eh_frame)?;
-    info.eh_frame_hdr = bytes_of(alloc, eh_frame_hdr)?;
-    info.debug_frame = bytes_of(alloc, debug_frame)?;
-    Ok(())
-}
-
-/// `.eh_frame` with its header, without it, and with an FDE that is cut off, and `.debug_frame`: the data, and
-/// then, by the ranges, the base addresses.
-#[test]
-fn asks_for_call_frame_sections(rt: HostRuntime) -> Result<(), Fail> {
-    let alloc = rt.alloc();
-    for (eh_frame, eh_frame_hdr, debug_frame, section_data) in [
-        (
-            EH_FRAME,
-            EH_FRAME_HDR,
-            DEBUG_FRAME,
-            ["__unwind_info", ".pdata", ".eh_frame", ".eh_frame_hdr"].as_slice(),
-        ),
-        (
-            EH_FRAME,
-            "",
-            DEBUG_FRAME,
-            [
-                "__unwind_info",
-                ".pdata",
-                ".eh_frame",
-                ".eh_frame_hdr",
-                "__eh_frame_hdr",
-            ]
-            .as_slice(),
-        ),
-        (
-            "14",
-            "",
-            DEBUG_FRAME,
-            [
-                "__unwind_info",
-                ".pdata",
-                ".eh_frame",
-                ".eh_frame_hdr",
-                "__eh_frame_hdr",
-            ]
-            .as_slice(),
-        ),
-        (
-            "",
-            EH_FRAME_HDR,
-            DEBUG_FRAME,
-            [
-                "__unwind_info",
-                ".pdata",
-                ".eh_frame",
-                "__eh_frame",
-                ".debug_frame",
-            ]
-            .as_slice(),
-        ),
+    eh_frame: Option<&'static [u8]>,
+    eh_frame_hdr: Option<&'static [u8]>,
+    section_data: &[&str],
+) -> bool {
+    for (has_ranges, section_ranges) in [
+        (true, FIRST_NAMES.as_slice()),
+        (false, BOTH_NAMES.as_slice()),
     ] {
-        for (has_ranges, section_ranges) in [
-            (true, FIRST_NAMES.as_slice()),
-            (false, BOTH_NAMES.as_slice()),
-        ] {
-            let mut info = with_ranges(has_ranges);
-            give_call_frames(alloc, &mut info, [eh_frame, eh_frame_hdr, debug_frame])?;
-            asks_for_sections(&rt, alloc, info, section_data, section_ranges)?;
+        let info = ExplicitModuleSectionInfo {
+            eh_frame,
+            eh_frame_hdr,
+            debug_frame: DEBUG_FRAME,
+            ..with_ranges(has_ranges)
+        };
+        if !asks_for(alloc, info, section_data, section_ranges, &[]) {
+            return false;
         }
     }
-    Ok(())
+    true
 }
 
-/// A module without unwind data is asked for no range.
+/// `.eh_frame`, its header, and the sections whose data is asked for: with the header, without it, with an FDE that
+/// is cut off, and only with the header.
+const CALL_FRAMES: [(Option<&[u8]>, Option<&[u8]>, &[&str]); 4] = [
+    (
+        EH_FRAME,
+        EH_FRAME_HDR,
+        &["__unwind_info", ".pdata", ".eh_frame", ".eh_frame_hdr"],
+    ),
+    (
+        EH_FRAME,
+        None,
+        &[
+            "__unwind_info",
+            ".pdata",
+            ".eh_frame",
+            ".eh_frame_hdr",
+            "__eh_frame_hdr",
+        ],
+    ),
+    (
+        Some(b"\x14"),
+        None,
+        &[
+            "__unwind_info",
+            ".pdata",
+            ".eh_frame",
+            ".eh_frame_hdr",
+            "__eh_frame_hdr",
+        ],
+    ),
+    (
+        None,
+        EH_FRAME_HDR,
+        &[
+            "__unwind_info",
+            ".pdata",
+            ".eh_frame",
+            "__eh_frame",
+            ".debug_frame",
+        ],
+    ),
+];
+
+/// Whether all of them do, beside `.debug_frame`.
+fn asks_for_all_call_frames(alloc: Global) -> bool {
+    for (eh_frame, eh_frame_hdr, section_data) in CALL_FRAMES {
+        if !asks_for_call_frames(alloc, eh_frame, eh_frame_hdr, section_data) {
+            return false;
+        }
+    }
+    true
+}
+
 #[test]
-fn asks_for_the_data_of_each_kind(rt: HostRuntime) -> Result<(), Fail> {
-    let alloc = rt.alloc();
+fn asks_for_call_frame_sections(rt: HostRuntime) {
+    assert!(rt; asks_for_all_call_frames(rt.alloc()));
+}
+
+/// Whether a module without unwind data is asked for no range.
+fn asks_for_no_range(alloc: Global, has_ranges: bool) -> bool {
     let section_data = [
         "__unwind_info",
         ".pdata",
@@ -301,134 +292,143 @@ fn asks_for_the_data_of_each_kind(rt: HostRuntime) -> Result<(), Fail> {
         "__eh_frame",
         ".debug_frame",
     ];
-    for has_ranges in [false, true] {
-        let info = with_ranges(has_ranges);
-        asks_for_sections(&rt, alloc, info, &section_data, &[])?;
+    asks_for(alloc, with_ranges(has_ranges), &section_data, &[], &[])
+}
+
+#[test]
+fn asks_for_the_data_of_each_kind(rt: HostRuntime) {
+    assert!(rt; asks_for_no_range(rt.alloc(), false));
+    assert!(rt; asks_for_no_range(rt.alloc(), true));
+}
+
+/// The sections whose ranges a module with compact unwind info asks for.
+const COMPACT_RANGES: [&str; 6] = [
+    "__eh_frame",
+    "__eh_frame_hdr",
+    "__text",
+    "__got",
+    "__stubs",
+    "__stub_helper",
+];
+
+/// Whether a module with compact unwind info, with and without `.eh_frame`, asks for these data.
+fn asks_for_compact(
+    alloc: Global,
+    segment_end: Option<u64>,
+    text_segment: Option<&'static [u8]>,
+    section_data: &[&str],
+) -> bool {
+    for eh_frame in [None, EH_FRAME] {
+        let info = ExplicitModuleSectionInfo {
+            unwind_info: UNWIND_INFO,
+            eh_frame,
+            debug_frame: DEBUG_FRAME,
+            text: CODE,
+            text_segment_svma: match segment_end {
+                Some(end) => Some(0..end),
+                None => None,
+            },
+            text_segment,
+            ..with_ranges(true)
+        };
+        if !asks_for(alloc, info, section_data, &COMPACT_RANGES, &["__TEXT"]) {
+            return false;
+        }
     }
-    Ok(())
+    true
+}
+
+/// The end of `__TEXT`, its data, and the sections whose data is asked for.
+const COMPACT: [(Option<u64>, Option<&[u8]>, &[&str]); 5] = [
+    (None, None, &["__unwind_info", "__eh_frame", "__text"]),
+    (None, CODE, &["__unwind_info", "__eh_frame", "__text"]),
+    (
+        Some(0x4000),
+        None,
+        &["__unwind_info", "__eh_frame", "__text"],
+    ),
+    (Some(0x4000), CODE, &["__unwind_info", "__eh_frame"]),
+    // the range does not fit 32 bits
+    (Some(0x100000000), CODE, &["__unwind_info", "__eh_frame"]),
+];
+
+/// Whether each does.
+fn asks_for_each_compact(alloc: Global) -> bool {
+    for (segment_end, text_segment, section_data) in COMPACT {
+        if !asks_for_compact(alloc, segment_end, text_segment, section_data) {
+            return false;
+        }
+    }
+    true
 }
 
 /// Compact unwind info asks for no unwind data but `__eh_frame`, and for the code of `__text` where `__TEXT` lacks
 /// its data or its range.
 #[test]
-fn asks_for_the_sections_of_compact_unwind_info(rt: HostRuntime) -> Result<(), Fail> {
-    let alloc = rt.alloc();
-    for (segment_svma, segment, section_data) in [
-        (
-            None,
-            "",
-            ["__unwind_info", "__eh_frame", "__text"].as_slice(),
-        ),
-        (
-            None,
-            "c3",
-            ["__unwind_info", "__eh_frame", "__text"].as_slice(),
-        ),
-        (
-            Some((0, 0x4000)),
-            "",
-            ["__unwind_info", "__eh_frame", "__text"].as_slice(),
-        ),
-        (
-            Some((0, 0x4000)),
-            "c3",
-            ["__unwind_info", "__eh_frame"].as_slice(),
-        ),
-        // the range does not fit 32 bits
-        (
-            Some((0, 0x100000000)),
-            "c3",
-            ["__unwind_info", "__eh_frame"].as_slice(),
-        ),
-    ] {
-        for eh_frame in ["", EH_FRAME] {
-            let info = ExplicitModuleSectionInfo {
-                unwind_info: bytes_of(alloc, "01")?,
-                eh_frame: bytes_of(alloc, eh_frame)?,
-                debug_frame: bytes_of(alloc, DEBUG_FRAME)?,
-                text: bytes_of(alloc, "c3")?,
-                text_segment_svma: segment_svma.map(|(start, end)| start..end),
-                text_segment: bytes_of(alloc, segment)?,
-                ..with_ranges(true)
-            };
-            let section_ranges = [
-                "__eh_frame",
-                "__eh_frame_hdr",
-                "__text",
-                "__got",
-                "__stubs",
-                "__stub_helper",
-            ];
-            asks_for_sections_and_text(&rt, alloc, info, section_data, &section_ranges)?;
-        }
-    }
-    Ok(())
+fn asks_for_the_sections_of_compact_unwind_info(rt: HostRuntime) {
+    assert!(rt; asks_for_each_compact(rt.alloc()));
+}
+
+/// Whether a module with compact unwind info and without ranges asks for each range by both names.
+fn asks_for_no_code(alloc: Global, text: Option<&'static [u8]>) -> bool {
+    let info = ExplicitModuleSectionInfo {
+        unwind_info: UNWIND_INFO,
+        text,
+        ..ExplicitModuleSectionInfo::default()
+    };
+    let section_ranges = [
+        "__eh_frame",
+        ".eh_frame",
+        "__eh_frame_hdr",
+        ".eh_frame_hdr",
+        "__text",
+        ".text",
+        "__got",
+        ".got",
+        "__stubs",
+        "__stub_helper",
+    ];
+    let section_data = ["__unwind_info", "__eh_frame"];
+    asks_for(alloc, info, &section_data, &section_ranges, &["__TEXT"])
 }
 
 /// Without a range of `__text` its data is not asked for.
 #[test]
-fn asks_for_no_code_without_its_range(rt: HostRuntime) -> Result<(), Fail> {
-    let alloc = rt.alloc();
-    for text in ["", "c3"] {
-        let info = ExplicitModuleSectionInfo {
-            unwind_info: bytes_of(alloc, "01")?,
-            text: bytes_of(alloc, text)?,
-            ..ExplicitModuleSectionInfo::default()
-        };
-        let section_ranges = [
-            "__eh_frame",
-            ".eh_frame",
-            "__eh_frame_hdr",
-            ".eh_frame_hdr",
-            "__text",
-            ".text",
-            "__got",
-            ".got",
-            "__stubs",
-            "__stub_helper",
-        ];
-        asks_for_sections_and_text(
-            &rt,
-            alloc,
-            info,
-            &["__unwind_info", "__eh_frame"],
-            &section_ranges,
-        )?;
-    }
-    Ok(())
+fn asks_for_no_code_without_its_range(rt: HostRuntime) {
+    assert!(rt; asks_for_no_code(rt.alloc(), None));
+    assert!(rt; asks_for_no_code(rt.alloc(), CODE));
 }
 
-/// The sections of a PE module, with the ranges and the data of the three beside `.pdata` or without them.
-fn pe_sections(
-    alloc: Global,
-    has_ranges: bool,
-    has_data: bool,
-) -> Result<ExplicitPeSections, Fail> {
-    let digits = if has_data { "00" } else { "" };
-    Ok(ExplicitPeSections {
-        pdata: bytes_of(alloc, "00")?,
-        rdata_svma: has_ranges.then(|| 0x1000..0x1001),
-        rdata: bytes_of(alloc, digits)?,
-        xdata_svma: has_ranges.then(|| 0x2000..0x2001),
-        xdata: bytes_of(alloc, digits)?,
-        text_svma: has_ranges.then(|| 0x3000..0x3001),
-        text: bytes_of(alloc, digits)?,
-    })
+/// A range of one byte, or none.
+fn range_if(is_there: bool, start: u64) -> Option<Range<u64>> {
+    if is_there {
+        Some(start..start.saturating_add(1))
+    } else {
+        None
+    }
+}
+
+/// Whether a PE module asks for the sections beside `.pdata`, with their ranges and their data or without them.
+fn asks_for_pe(alloc: Global, has_ranges: bool, contents: Option<&'static [u8]>) -> bool {
+    let info = ExplicitPeSections {
+        pdata: CODE,
+        rdata_svma: range_if(has_ranges, 0x1000),
+        rdata: contents,
+        xdata_svma: range_if(has_ranges, 0x2000),
+        xdata: contents,
+        text_svma: range_if(has_ranges, 0x3000),
+        text: contents,
+    };
+    let section_data = ["__unwind_info", ".pdata", ".rdata", ".xdata", ".text"];
+    let section_ranges = [".rdata", ".xdata", ".text"];
+    asks_for(alloc, info, &section_data, &section_ranges, &[])
 }
 
 /// The sections beside `.pdata` are asked for whatever the others have.
 #[test]
-fn asks_for_the_sections_of_a_pe_module(rt: HostRuntime) -> Result<(), Fail> {
-    let alloc = rt.alloc();
-    for (has_ranges, has_data) in [(false, false), (false, true), (true, false), (true, true)] {
-        let info = pe_sections(alloc, has_ranges, has_data)?;
-        asks_for_sections(
-            &rt,
-            alloc,
-            info,
-            &["__unwind_info", ".pdata", ".rdata", ".xdata", ".text"],
-            &[".rdata", ".xdata", ".text"],
-        )?;
+fn asks_for_the_sections_of_a_pe_module(rt: HostRuntime) {
+    for has_ranges in [false, true] {
+        assert!(rt; asks_for_pe(rt.alloc(), has_ranges, None));
+        assert!(rt; asks_for_pe(rt.alloc(), has_ranges, CODE));
     }
-    Ok(())
 }

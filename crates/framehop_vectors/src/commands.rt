@@ -1,5 +1,5 @@
 //! What sessions draw from the counter of generations.
-use crate::readme::module;
+use crate::unwinders::{holds, module};
 use framehop::aarch64::{ArchAarch64, UnwindRegsAarch64};
 use framehop::session::{Command, SessionError, run};
 use framehop::{Generations, MayAllocateDuringUnwind};
@@ -10,51 +10,52 @@ type Commands = Vec<Command<Vec<u8>, UnwindRegsAarch64>>;
 
 /// A removal of nothing, a module, a clone, and the removal of its module.
 fn changes(alloc: Global) -> Result<Commands, Fail> {
-    let mut commands = Vec::new(alloc);
-    commands.push(Command::New)?;
-    commands.push(Command::Remove {
-        unwinder: 0,
-        start: 0x100000,
-    })?;
-    commands.push(Command::Add {
-        unwinder: 0,
-        module: module(alloc, "mybinary", 0x100000, 0x200000)?,
-    })?;
-    commands.push(Command::Clone { unwinder: 0 })?;
-    commands.push(Command::Remove {
-        unwinder: 1,
-        start: 0x100000,
-    })?;
-    Ok(commands)
+    let module = module(alloc, "mybinary", 0x100000, 0x200000)?;
+    Ok(vec![in alloc;
+        Command::New,
+        Command::Remove {
+            unwinder: 0,
+            start: 0x100000,
+        },
+        Command::Add {
+            unwinder: 0,
+            module,
+        },
+        Command::Clone { unwinder: 0 },
+        Command::Remove {
+            unwinder: 1,
+            start: 0x100000,
+        },
+    ]?)
+}
+
+/// How many replies a session of these changes has, or why it is refused, and the generation after it.
+fn carried_out(
+    alloc: Global,
+    first: u64,
+) -> Result<(Result<usize, SessionError>, Option<u64>), Fail> {
+    let commands = changes(alloc)?;
+    let mut generations = Generations::starting_at(first);
+    let count = match run::<Vec<u8>, ArchAarch64, MayAllocateDuringUnwind>(
+        alloc,
+        commands,
+        1,
+        &mut generations,
+    ) {
+        Ok(replies) => Ok(replies.len()),
+        Err(refused) => Err(refused),
+    };
+    Ok((count, generations.next()))
 }
 
 /// Each change draws one; a clone has its original's, and a removal of nothing draws none.
 #[test]
 fn draws_a_generation_for_each_change(rt: HostRuntime) -> Result<(), Fail> {
-    let alloc = rt.alloc();
-    let mut generations = Generations::new();
-    let replies = run::<Vec<u8>, ArchAarch64, MayAllocateDuringUnwind>(
-        alloc,
-        changes(alloc)?,
-        1,
-        &mut generations,
-    )?;
-    assert_eq!(rt; replies.len(), 5);
-    assert_eq!(rt; generations.next(), Some(3));
-    Ok(())
+    holds(carried_out(rt.alloc(), 0)? == (Ok(5), Some(3)))
 }
 
 #[test]
 fn refuses_at_the_end_of_the_counter(rt: HostRuntime) -> Result<(), Fail> {
-    let alloc = rt.alloc();
-    let mut generations = Generations::starting_at(0xfffffffffffffffe);
-    let refused = run::<Vec<u8>, ArchAarch64, MayAllocateDuringUnwind>(
-        alloc,
-        changes(alloc)?,
-        1,
-        &mut generations,
-    );
-    assert_eq!(rt; refused.err(), Some(SessionError::GenerationsExhausted));
-    assert_eq!(rt; generations.next(), None);
-    Ok(())
+    let refused = Err(SessionError::GenerationsExhausted);
+    holds(carried_out(rt.alloc(), 0xfffffffffffffffe)? == (refused, None))
 }

@@ -22,6 +22,8 @@ mod stack_bytes;
 #[cfg(test)]
 mod texts;
 #[cfg(test)]
+mod unwinders;
+#[cfg(test)]
 mod walk;
 #[cfg(test)]
 mod x86_64;

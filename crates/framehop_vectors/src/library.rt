@@ -1,103 +1,84 @@
 //! The library on aarch64: an iterator, steps, and the list of modules.
-use crate::readme::{module, read_stack};
 use crate::sections::NoSections;
+use crate::unwinders::{Aarch64, holds, module, read_stack};
 use framehop::aarch64::{CacheAarch64, UnwindRegsAarch64, UnwinderAarch64};
 use framehop::unwinder::{ModuleListError, Unwinder};
-use framehop::{
-    AllocationPolicy, FrameAddress, Generations, MayAllocateDuringUnwind, Module,
-    MustNotAllocateDuringUnwind,
-};
+use framehop::{Error, FrameAddress, Generations, Module};
+use std::alloc::Global;
 use std::test::Fail;
 
 /// The step of the stack's first frame, with the address of its caller.
-fn first_caller<P: AllocationPolicy>(
-    unwinder: &UnwinderAarch64<Vec<u8>, P>,
-    cache: &mut CacheAarch64<P>,
-) -> Result<Option<u64>, Fail> {
+fn first_caller(
+    unwinder: &UnwinderAarch64<Vec<u8>>,
+    cache: &mut CacheAarch64,
+) -> Result<Option<u64>, Error> {
     let mut read = |address| read_stack(address);
     let mut regs = UnwindRegsAarch64::new(0x1004e0830, 0x10, 0x20);
     let place = FrameAddress::from_instruction_pointer(0x1005252c0);
-    Ok(unwinder.unwind_frame(place, &mut regs, cache, &mut read)?)
+    unwinder.unwind_frame(place, &mut regs, cache, &mut read)
 }
 
 /// What five calls of an iterator over the stack return, and the registers after them.
 fn frames(
     unwinder: &UnwinderAarch64<Vec<u8>>,
     cache: &mut CacheAarch64,
-) -> Result<([Option<FrameAddress>; 5], UnwindRegsAarch64), Fail> {
+) -> ([Result<Option<FrameAddress>, Error>; 5], UnwindRegsAarch64) {
     let mut read = |address| read_stack(address);
     let regs = UnwindRegsAarch64::new(0x1004e0830, 0x10, 0x20);
     let mut frames = unwinder.iter_frames(0x1005252c0, regs, cache, &mut read);
-    let found = [
-        frames.next()?,
-        frames.next()?,
-        frames.next()?,
-        frames.next()?,
-        frames.next()?,
+    let mut found = [Ok(None); 5];
+    for call in &mut found {
+        *call = frames.next();
+    }
+    (found, *frames.regs())
+}
+
+/// Whether the iterator finds the frames of the stack, and after them `None`.
+fn finds_the_frames(unwinder: &UnwinderAarch64<Vec<u8>>, cache: &mut CacheAarch64) -> bool {
+    let (found, regs) = frames(unwinder, cache);
+    let want = [
+        Ok(Some(FrameAddress::from_instruction_pointer(0x1005252c0))),
+        Ok(FrameAddress::from_return_address(0x1004fcdc4)),
+        Ok(FrameAddress::from_return_address(0x100528a28)),
+        Ok(None),
+        Ok(None),
     ];
-    Ok((found, *frames.regs()))
+    found == want && (regs.lr(), regs.sp(), regs.fp()) == (0x100528a28, 0x50, 0x70)
 }
 
-/// The frames of the stack, and after them `None`.
-fn frames_of_the_stack() -> [Option<FrameAddress>; 5] {
-    [
-        Some(FrameAddress::from_instruction_pointer(0x1005252c0)),
-        FrameAddress::from_return_address(0x1004fcdc4),
-        FrameAddress::from_return_address(0x100528a28),
-        None,
-        None,
-    ]
-}
-
-#[test]
-fn names_a_module(rt: HostRuntime) -> Result<(), Fail> {
-    let binary = module(rt.alloc(), "mybinary", 0x1003fc000, 0x100634000)?;
-    assert_eq!(rt; binary.name(), "mybinary");
-    assert_eq!(rt; binary.avma_range(), 0x1003fc000..0x100634000);
-    assert_eq!(rt; binary.base_avma(), 0x1003fc000);
-    Ok(())
+/// Whether an iterator finds them by a new unwinder with a module, each of which the new cache misses.
+fn misses_each_frame(alloc: Global) -> Result<bool, Fail> {
+    let binary = module(alloc, "mybinary", 0x1003fc000, 0x100634000)?;
+    let mut made = Aarch64::new(alloc, 0)?;
+    let is_found = made.adds(binary) && finds_the_frames(&made.unwinder, &mut made.cache);
+    let stats = made.cache.stats();
+    Ok(is_found && (stats.hits(), stats.misses()) == (0, 3))
 }
 
 #[test]
 fn walks_with_an_iterator(rt: HostRuntime) -> Result<(), Fail> {
-    let alloc = rt.alloc();
-    let mut generations = Generations::new();
-    let mut cache = CacheAarch64::<MayAllocateDuringUnwind>::new(alloc)?;
-    let mut unwinder: UnwinderAarch64<Vec<u8>> = UnwinderAarch64::new(alloc, &mut generations)?;
-    let binary = module(alloc, "mybinary", 0x1003fc000, 0x100634000)?;
-    assert!(rt; unwinder.add_module(binary, &mut generations).is_ok());
-    let (found, regs) = frames(&unwinder, &mut cache)?;
-    assert_eq!(rt; found, frames_of_the_stack());
-    assert_eq!(rt;
-        (regs.lr(), regs.sp(), regs.fp()),
-        (0x100528a28, 0x50, 0x70)
-    );
-    assert_eq!(rt; (cache.stats().hits(), cache.stats().misses()), (0, 3));
-    Ok(())
+    holds(misses_each_frame(rt.alloc())?)
 }
 
-#[test]
-fn steps_where_no_memory_may_be_taken(rt: HostRuntime) -> Result<(), Fail> {
-    let alloc = rt.alloc();
-    let mut generations = Generations::new();
-    let mut cache = CacheAarch64::<MustNotAllocateDuringUnwind>::new_in(alloc)?;
-    let unwinder: UnwinderAarch64<Vec<u8>, MustNotAllocateDuringUnwind> = UnwinderAarch64::new(
-        alloc,
-        &mut generations,
-    )?;
-    for hits in [0, 1] {
-        assert_eq!(rt; first_caller(&unwinder, &mut cache)?, Some(0x1004fcdc4));
-        assert_eq!(rt; cache.stats().hits(), hits);
+/// Adds a module: whether the greatest code address is then this one.
+fn raises_the_greatest(
+    unwinder: &mut UnwinderAarch64<Vec<u8>>,
+    generations: &mut Generations,
+    module: Module<Vec<u8>>,
+    greatest: u64,
+) -> bool {
+    match unwinder.add_module(module, generations) {
+        Ok(()) => unwinder.max_known_code_address() == greatest,
+        Err(_refused) => false,
     }
-    Ok(())
 }
 
-#[test]
-fn tells_the_greatest_code_address(rt: HostRuntime) -> Result<(), Fail> {
-    let alloc = rt.alloc();
-    let mut generations = Generations::new();
-    let mut unwinder: UnwinderAarch64<Vec<u8>> = UnwinderAarch64::new(alloc, &mut generations)?;
-    assert_eq!(rt; unwinder.max_known_code_address(), 0);
+/// Adds modules of these ranges: whether each has the greatest code address beside it.
+fn raise_the_greatest(
+    alloc: Global,
+    unwinder: &mut UnwinderAarch64<Vec<u8>>,
+    generations: &mut Generations,
+) -> Result<bool, Fail> {
     for (start, end, greatest) in [
         (5, 5, 5),
         (10, 20, 20),
@@ -105,112 +86,153 @@ fn tells_the_greatest_code_address(rt: HostRuntime) -> Result<(), Fail> {
         (20, 30, 60),
         (10, 70, 70),
     ] {
-        assert!(rt;
-            unwinder
-                .add_module(module(alloc, "m", start, end)?, &mut generations)
-                .is_ok()
-        );
-        assert_eq!(rt; unwinder.max_known_code_address(), greatest);
+        let module = module(alloc, "m", start, end)?;
+        if !raises_the_greatest(unwinder, generations, module, greatest) {
+            return Ok(false);
+        }
     }
-    // the last one that starts at 10 is the one that ends at 70
+    Ok(true)
+}
+
+/// Whether the greatest code address is 0 at first, and goes down where a module is removed, but not in a clone: the
+/// last one that starts at 10 is the one that ends at 70.
+fn lowers_the_greatest(alloc: Global) -> Result<bool, Fail> {
+    let mut generations = Generations::new();
+    let mut unwinder: UnwinderAarch64<Vec<u8>> = UnwinderAarch64::new(alloc, &mut generations)?;
+    let is_none = unwinder.max_known_code_address() == 0;
+    let is_raised = raise_the_greatest(alloc, &mut unwinder, &mut generations)?;
     let copy = unwinder.clone()?;
     unwinder.remove_module(10, &mut generations)?;
-    assert_eq!(rt; unwinder.max_known_code_address(), 60);
-    assert_eq!(rt; copy.max_known_code_address(), 70);
-    Ok(())
+    let are_lowered = (
+        unwinder.max_known_code_address(),
+        copy.max_known_code_address(),
+    ) == (60, 70);
+    Ok(is_none && is_raised && are_lowered)
+}
+
+#[test]
+fn tells_the_greatest_code_address(rt: HostRuntime) -> Result<(), Fail> {
+    holds(lowers_the_greatest(rt.alloc())?)
+}
+
+/// Adds a hundred modules from the greatest start down: whether the greatest address stays.
+fn adds_a_hundred(alloc: Global, made: &mut Aarch64) -> Result<bool, Fail> {
+    for number in 0..100u64 {
+        let start = 0x100000 - number * 0x1000;
+        let added = module(alloc, "m", start, start + 0x1000)?;
+        if !made.adds(added) || made.unwinder.max_known_code_address() != 0x101000 {
+            return Ok(false);
+        }
+    }
+    Ok(true)
+}
+
+/// Removes them in the same order: whether the greatest address goes down.
+fn removes_a_hundred(made: &mut Aarch64) -> bool {
+    for number in 0..100u64 {
+        if made.unwinder.max_known_code_address() != 0x101000 - number * 0x1000 {
+            return false;
+        }
+        let start = 0x100000 - number * 0x1000;
+        if made
+            .unwinder
+            .remove_module(start, &mut made.generations)
+            .is_err()
+        {
+            return false;
+        }
+    }
+    made.unwinder.max_known_code_address() == 0
+}
+
+/// Whether both go well, and draw a generation for each module.
+fn changes_a_hundred(alloc: Global) -> Result<bool, Fail> {
+    let mut made = Aarch64::new(alloc, 0)?;
+    let are_added = adds_a_hundred(alloc, &mut made)?;
+    Ok(are_added && removes_a_hundred(&mut made) && made.generations.next() == Some(201))
 }
 
 #[test]
 fn holds_a_hundred_modules(rt: HostRuntime) -> Result<(), Fail> {
-    let alloc = rt.alloc();
-    let mut generations = Generations::new();
-    let mut unwinder: UnwinderAarch64<Vec<u8>> = UnwinderAarch64::new(alloc, &mut generations)?;
-    for number in 0..100u64 {
-        // from the greatest start down
-        let start = 0x100000 - number * 0x1000;
-        let added = module(alloc, "m", start, start + 0x1000)?;
-        assert!(rt; unwinder.add_module(added, &mut generations).is_ok());
-        assert_eq!(rt; unwinder.max_known_code_address(), 0x101000);
-    }
-    for number in 0..100u64 {
-        assert_eq!(rt;
-            unwinder.max_known_code_address(),
-            0x101000 - number * 0x1000
-        );
-        unwinder.remove_module(0x100000 - number * 0x1000, &mut generations)?;
-    }
-    assert_eq!(rt; unwinder.max_known_code_address(), 0);
-    assert_eq!(rt; generations.next(), Some(201));
-    Ok(())
+    holds(changes_a_hundred(rt.alloc())?)
 }
 
-#[test]
-fn clones_a_module_of_another_base(rt: HostRuntime) -> Result<(), Fail> {
-    let alloc = rt.alloc();
+/// Whether a module has the name, the range and the base of the library.
+fn is_library(module: &Module<Vec<u8>>) -> bool {
+    let range = module.avma_range();
+    module.name() == "library"
+        && (range.start, range.end, module.base_avma()) == (0x9000, 0xa000, 0x8000)
+}
+
+/// Whether the library and its clone have them.
+fn clones_the_library(alloc: Global) -> Result<bool, Fail> {
     let name = String::from_str(alloc, "library")?;
     let sections = NoSections { base_svma: 0x4000 };
     let library: Module<Vec<u8>> = Module::new(alloc, name, 0x9000..0xa000, 0x8000, sections)?;
     let copy = library.clone()?;
-    assert_eq!(rt;
-        (copy.avma_range(), copy.base_avma()),
-        (0x9000..0xa000, 0x8000)
-    );
-    assert_eq!(rt; copy.name(), "library");
-    Ok(())
+    Ok(is_library(&library) && is_library(&copy))
+}
+
+#[test]
+fn clones_a_module_of_another_base(rt: HostRuntime) -> Result<(), Fail> {
+    holds(clones_the_library(rt.alloc())?)
+}
+
+/// Whether a module comes back where the counter is at its end, and the unwinder has none.
+fn gives_back(
+    unwinder: &mut UnwinderAarch64<Vec<u8>>,
+    generations: &mut Generations,
+    binary: Module<Vec<u8>>,
+) -> bool {
+    match unwinder.add_module(binary, generations) {
+        Ok(()) => false,
+        Err(refused) => {
+            refused.cause == ModuleListError::GenerationsExhausted
+                && refused.module.name() == "mybinary"
+                && unwinder.max_known_code_address() == 0
+                && unwinder.remove_module(0x1003fc000, generations).is_ok()
+        }
+    }
+}
+
+/// Whether it is so with a new unwinder that has drawn the last generation, which still steps.
+fn steps_without_a_generation(alloc: Global) -> Result<bool, Fail> {
+    let binary = module(alloc, "mybinary", 0x1003fc000, 0x100634000)?;
+    let mut made = Aarch64::new(alloc, 0xfffffffffffffffe)?;
+    Ok(
+        made.generations.is_exhausted()
+            && gives_back(&mut made.unwinder, &mut made.generations, binary)
+            && first_caller(&made.unwinder, &mut made.cache) == Ok(Some(0x1004fcdc4)),
+    )
 }
 
 #[test]
 fn gives_a_module_back_at_the_end_of_the_counter(rt: HostRuntime) -> Result<(), Fail> {
-    let alloc = rt.alloc();
-    let mut generations = Generations::starting_at(0xfffffffffffffffe);
-    let mut cache = CacheAarch64::<MayAllocateDuringUnwind>::new(alloc)?;
-    let mut unwinder: UnwinderAarch64<Vec<u8>> = UnwinderAarch64::new(alloc, &mut generations)?;
-    assert!(rt; generations.is_exhausted());
+    holds(steps_without_a_generation(rt.alloc())?)
+}
+
+/// Makes an unwinder, a cache and a module, and then steps and walks, or does not: whether the frames are found.
+/// The last allocation is this function's own.
+fn makes(alloc: Global, is_stepped: bool) -> Result<bool, Fail> {
     let binary = module(alloc, "mybinary", 0x1003fc000, 0x100634000)?;
-    match unwinder.add_module(binary, &mut generations) {
-        Ok(()) => assert!(rt; false, "a module without a generation"),
-        Err(refused) => {
-            assert_eq!(rt; refused.cause, ModuleListError::GenerationsExhausted);
-            assert_eq!(rt; refused.module.name(), "mybinary");
-        }
-    }
-    assert_eq!(rt; unwinder.max_known_code_address(), 0);
-    assert!(rt;
-        unwinder
-            .remove_module(0x1003fc000, &mut generations)
-            .is_ok()
-    );
-    assert_eq!(rt; first_caller(&unwinder, &mut cache)?, Some(0x1004fcdc4));
-    Ok(())
+    let mut made = Aarch64::new(alloc, 0)?;
+    let is_added = made.adds(binary);
+    let is_found = !is_stepped
+        || first_caller(&made.unwinder, &mut made.cache) == Ok(Some(0x1004fcdc4))
+            && first_caller(&made.unwinder, &mut made.cache) == Ok(Some(0x1004fcdc4))
+            && finds_the_frames(&made.unwinder, &mut made.cache);
+    let _last: Vec<u8> = Vec::with_capacity(alloc, 1)?;
+    Ok(is_added && is_found)
 }
 
 /// Steps and the calls of an iterator ask for no memory: this test and the next ask for it as often,
 /// which `scripts/count-requests.sh` shows by refusing one request after another.
 #[test]
 fn requests_of_the_makers(rt: HostRuntime) -> Result<(), Fail> {
-    let alloc = rt.alloc();
-    let mut generations = Generations::new();
-    let _cache = CacheAarch64::<MayAllocateDuringUnwind>::new(alloc)?;
-    let mut unwinder: UnwinderAarch64<Vec<u8>> = UnwinderAarch64::new(alloc, &mut generations)?;
-    let binary = module(alloc, "mybinary", 0x1003fc000, 0x100634000)?;
-    assert!(rt; unwinder.add_module(binary, &mut generations).is_ok());
-    let _last: Vec<u8> = Vec::with_capacity(alloc, 1)?;
-    Ok(())
+    holds(makes(rt.alloc(), false)?)
 }
 
 #[test]
 fn requests_of_the_makers_and_steps(rt: HostRuntime) -> Result<(), Fail> {
-    let alloc = rt.alloc();
-    let mut generations = Generations::new();
-    let mut cache = CacheAarch64::<MayAllocateDuringUnwind>::new(alloc)?;
-    let mut unwinder: UnwinderAarch64<Vec<u8>> = UnwinderAarch64::new(alloc, &mut generations)?;
-    let binary = module(alloc, "mybinary", 0x1003fc000, 0x100634000)?;
-    assert!(rt; unwinder.add_module(binary, &mut generations).is_ok());
-    for _step in 0..2u32 {
-        assert_eq!(rt; first_caller(&unwinder, &mut cache)?, Some(0x1004fcdc4));
-    }
-    let (found, _regs) = frames(&unwinder, &mut cache)?;
-    assert_eq!(rt; found, frames_of_the_stack());
-    let _last: Vec<u8> = Vec::with_capacity(alloc, 1)?;
-    Ok(())
+    holds(makes(rt.alloc(), true)?)
 }

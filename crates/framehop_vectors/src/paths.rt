@@ -38,8 +38,8 @@ use framehop::x86_64::unwind_rule::{OffsetOrPop, UnwindRuleX86_64};
 use framehop::x86_64::unwinder::UnwinderX86_64;
 use framehop::x86_64::unwindregs::{Reg, UnwindRegsX86_64};
 use framehop::{Generations, aarch64, generations, x86_64};
+use std::alloc::Global;
 use std::marker::PhantomData;
-use std::test::Fail;
 
 /// Names a type.
 fn named<T>() {}
@@ -88,8 +88,8 @@ fn resolves<S: UnwindState>() {
     named::<(S, FunctionEpilogInstruction, UnwindOperation, OffsetOrPop)>();
 }
 
-#[test]
-fn each_item_has_its_path(rt: HostRuntime) -> Result<(), Fail> {
+/// Names each item.
+fn name_each() {
     unwinds::<ArchAarch64>();
     unwinds::<ArchX86_64>();
     runs::<UnwindRuleAarch64, UnwindRegsAarch64>();
@@ -140,29 +140,30 @@ fn each_item_has_its_path(rt: HostRuntime) -> Result<(), Fail> {
         ),
     >();
     named::<(FrameAddress, HexNum<u64>)>();
-    assert_eq!(rt; checked_add_signed(5u32, -6), None);
-    assert_eq!(rt; wrapping_add_signed(5u64, -6), u64::MAX);
-    Ok(())
 }
 
-#[test]
-fn calls_of_the_crates_below(rt: HostRuntime) -> Result<(), Fail> {
-    let alloc = rt.alloc();
+/// Whether sums are checked and wrap.
+fn adds() -> bool {
+    checked_add_signed(5u32, -6).is_none() && wrapping_add_signed(5u64, -6) == u64::MAX
+}
+
+/// Whether an ordering of registers is decoded.
+fn decodes() -> bool {
     let registers = [Reg::RBX, Reg::RBP];
     let (count, ordering) = encode(&registers).unwrap_or((0, 0));
-    assert_eq!(rt; decode(count, ordering).as_slice(), registers.as_slice());
+    decode(count, ordering).as_slice() == registers.as_slice()
+}
+
+/// Whether the rule of a CFA and that of a register are evaluated.
+fn evaluates(alloc: Global) -> bool {
     let regs = UnwindRegsAarch64::new(0x1004e0830, 0x20, 0x30);
     let cfa = CfaRule::RegisterAndOffset {
         register: Register(31),
         offset: 16,
     };
-    assert_eq!(rt;
-        eval_cfa_rule::<UnwindRegsAarch64, StoreOnHeap>(alloc, &[], &cfa, &regs),
-        Ok(Some(0x30))
-    );
     let mut read = |address: u64| -> Result<u64, ()> { Ok(address) };
-    assert_eq!(rt;
-        eval_register_rule::<UnwindRegsAarch64, StoreOnStack, _>(
+    eval_cfa_rule::<UnwindRegsAarch64, StoreOnHeap>(alloc, &[], &cfa, &regs) == Ok(Some(0x30))
+        && eval_register_rule::<UnwindRegsAarch64, StoreOnStack, _>(
             alloc,
             &[],
             Some(RegisterRule::Offset(-8)),
@@ -170,24 +171,25 @@ fn calls_of_the_crates_below(rt: HostRuntime) -> Result<(), Fail> {
             7,
             &regs,
             &mut read,
-        ),
-        Ok(Some(0x28))
-    );
-    assert_eq!(rt;
-        aarch64::instruction_analysis::unwind_rule_from_detected_prologue(&[], &[]),
-        None
-    );
-    assert_eq!(rt;
-        aarch64::instruction_analysis::unwind_rule_from_detected_epilogue(&[], 0),
-        None
-    );
-    assert_eq!(rt;
-        x86_64::instruction_analysis::unwind_rule_from_detected_prologue(&[0xc3], 0),
-        None
-    );
-    assert_eq!(rt;
-        x86_64::instruction_analysis::unwind_rule_from_detected_epilogue(&[0xc3], 0),
-        Some(UnwindRuleX86_64::JustReturn)
-    );
-    Ok(())
+        ) == Ok(Some(0x28))
+}
+
+/// Whether code without a prologue or an epilogue has no rule, and a return has one.
+fn analyses() -> bool {
+    let returned = x86_64::instruction_analysis::unwind_rule_from_detected_epilogue(&[0xc3], 0);
+    aarch64::instruction_analysis::unwind_rule_from_detected_prologue(&[], &[]).is_none()
+        && aarch64::instruction_analysis::unwind_rule_from_detected_epilogue(&[], 0).is_none()
+        && x86_64::instruction_analysis::unwind_rule_from_detected_prologue(&[0xc3], 0).is_none()
+        && returned == Some(UnwindRuleX86_64::JustReturn)
+}
+
+#[test]
+fn each_item_has_its_path(rt: HostRuntime) {
+    name_each();
+    assert!(rt; adds());
+}
+
+#[test]
+fn calls_of_the_crates_below(rt: HostRuntime) {
+    assert!(rt; decodes() && evaluates(rt.alloc()) && analyses());
 }

@@ -1,5 +1,7 @@
 //! What a module lends: sections that are given one by one, and each form of their bytes.
+use crate::unwinders::holds;
 use framehop_bytes::section::{ExplicitModuleSectionInfo, ModuleSectionInfo, SectionBytes};
+use std::alloc::{AllocError, Global};
 use std::boxed::BoxedSlice;
 use std::rc::{Rc, RcSlice};
 use std::test::Fail;
@@ -41,35 +43,47 @@ fn first_byte(contents: Option<&[u8]>) -> Option<u8> {
     contents?.first().copied()
 }
 
+/// The two names of each section, its range, and its first byte.
+const SECTIONS: [(&str, &str, Option<(u64, u64)>, Option<u8>); 8] = [
+    ("__text", ".text", Some((0x10, 0x11)), Some(1)),
+    ("__stubs", "__stubs", Some((0x20, 0x22)), None),
+    ("__stub_helper", "__stub_helper", Some((0x30, 0x33)), None),
+    ("__got", ".got", Some((0x40, 0x44)), None),
+    ("__unwind_info", "__unwind_info", None, Some(2)),
+    ("__eh_frame", ".eh_frame", Some((0x50, 0x55)), Some(3)),
+    (
+        "__eh_frame_hdr",
+        ".eh_frame_hdr",
+        Some((0x60, 0x66)),
+        Some(4),
+    ),
+    ("__debug_frame", ".debug_frame", None, Some(5)),
+];
+
+/// Where a section of this name is.
+fn range_of(info: &mut ExplicitModuleSectionInfo<&'static [u8]>, name: &str) -> Option<(u64, u64)> {
+    match info.section_svma_range(name.as_bytes()) {
+        Some(range) => Some((range.start, range.end)),
+        None => None,
+    }
+}
+
+/// Whether a section has this range and this first byte, and then its data is gone under both names, while the range
+/// stays.
+fn is_given(asked: &str, then: &str, range: Option<(u64, u64)>, byte: Option<u8>) -> bool {
+    let mut info = every_section();
+    range_of(&mut info, asked) == range
+        && first_byte(info.section_data(asked.as_bytes())) == byte
+        && info.section_data(asked.as_bytes()).is_none()
+        && info.section_data(then.as_bytes()).is_none()
+        && range_of(&mut info, then) == range
+}
+
 #[test]
 fn gives_each_section_under_its_names(rt: HostRuntime) {
-    for (name, other, range, byte) in [
-        ("__text", ".text", Some((0x10, 0x11)), Some(1)),
-        ("__stubs", "__stubs", Some((0x20, 0x22)), None),
-        ("__stub_helper", "__stub_helper", Some((0x30, 0x33)), None),
-        ("__got", ".got", Some((0x40, 0x44)), None),
-        ("__unwind_info", "__unwind_info", None, Some(2)),
-        ("__eh_frame", ".eh_frame", Some((0x50, 0x55)), Some(3)),
-        (
-            "__eh_frame_hdr",
-            ".eh_frame_hdr",
-            Some((0x60, 0x66)),
-            Some(4),
-        ),
-        ("__debug_frame", ".debug_frame", None, Some(5)),
-    ] {
-        for (asked, then) in [(name, other), (other, name)] {
-            let mut info = every_section();
-            let asked = asked.as_bytes();
-            let lies = info.section_svma_range(asked);
-            assert_eq!(rt; lies.map(|range| (range.start, range.end)), range);
-            assert_eq!(rt; first_byte(info.section_data(asked)), byte);
-            // the data is gone under both names, and the range stays
-            assert!(rt; info.section_data(asked).is_none());
-            assert!(rt; info.section_data(then.as_bytes()).is_none());
-            let lies = info.section_svma_range(then.as_bytes());
-            assert_eq!(rt; lies.map(|range| (range.start, range.end)), range);
-        }
+    for (name, other, range, byte) in SECTIONS {
+        assert!(rt; is_given(name, other, range, byte));
+        assert!(rt; is_given(other, name, range, byte));
     }
 }
 
@@ -110,77 +124,111 @@ fn knows_no_other_name(rt: HostRuntime) {
     assert!(rt; info == every_section());
 }
 
+/// Whether sections have this text.
+fn prints(alloc: Global, info: &ExplicitModuleSectionInfo<&'static [u8]>, text: &str) -> bool {
+    match format!(in alloc; "{info:?}") {
+        Ok(printed) => printed.as_str() == text,
+        Err(_) => false,
+    }
+}
+
+/// The text of no sections.
+const NOTHING: &str =
+    "ExplicitModuleSectionInfo { base_svma: 0, text_svma: None, text: None, stubs_svma: None, \
+     stub_helper_svma: None, got_svma: None, unwind_info: None, eh_frame_svma: None, eh_frame: None, \
+     eh_frame_hdr_svma: None, eh_frame_hdr: None, debug_frame: None, text_segment_svma: None, \
+     text_segment: None }";
+
+/// The text of each section.
+const EVERYTHING: &str =
+    "ExplicitModuleSectionInfo { base_svma: 4096, text_svma: Some(16..17), text: Some([1]), \
+     stubs_svma: Some(32..34), stub_helper_svma: Some(48..51), got_svma: Some(64..68), \
+     unwind_info: Some([2]), eh_frame_svma: Some(80..85), eh_frame: Some([3]), \
+     eh_frame_hdr_svma: Some(96..102), eh_frame_hdr: Some([4]), debug_frame: Some([5]), \
+     text_segment_svma: Some(112..119), text_segment: Some([6]) }";
+
 #[test]
-fn default_gives_nothing(rt: HostRuntime) -> Result<(), Fail> {
+fn default_gives_nothing(rt: HostRuntime) {
     let alloc = rt.alloc();
-    let info: ExplicitModuleSectionInfo<&[u8]> = ExplicitModuleSectionInfo::default();
-    assert_eq!(rt;
-        format!(in alloc; "{info:?}")?.as_str(),
-        "ExplicitModuleSectionInfo { base_svma: 0, text_svma: None, text: None, stubs_svma: None, \
-         stub_helper_svma: None, got_svma: None, unwind_info: None, eh_frame_svma: None, eh_frame: None, \
-         eh_frame_hdr_svma: None, eh_frame_hdr: None, debug_frame: None, text_segment_svma: None, \
-         text_segment: None }"
-    );
-    assert_eq!(rt;
-        format!(in alloc; "{:?}", every_section())?.as_str(),
-        "ExplicitModuleSectionInfo { base_svma: 4096, text_svma: Some(16..17), text: Some([1]), \
-         stubs_svma: Some(32..34), stub_helper_svma: Some(48..51), got_svma: Some(64..68), \
-         unwind_info: Some([2]), eh_frame_svma: Some(80..85), eh_frame: Some([3]), \
-         eh_frame_hdr_svma: Some(96..102), eh_frame_hdr: Some([4]), debug_frame: Some([5]), \
-         text_segment_svma: Some(112..119), text_segment: Some([6]) }"
-    );
-    Ok(())
+    assert!(rt; prints(alloc, &ExplicitModuleSectionInfo::default(), NOTHING));
+    assert!(rt; prints(alloc, &every_section(), EVERYTHING));
+}
+
+/// Whether a clone has the same sections.
+fn equals_its_clone(info: &ExplicitModuleSectionInfo<&'static [u8]>) -> bool {
+    match info.clone() {
+        Ok(copy) => copy == *info,
+        Err(_) => false,
+    }
 }
 
 #[test]
-fn a_clone_equals_its_original(rt: HostRuntime) -> Result<(), Fail> {
-    let info = every_section();
-    assert!(rt; info.clone()? == info);
-    let nothing: ExplicitModuleSectionInfo<&[u8]> = ExplicitModuleSectionInfo::default();
-    assert!(rt; nothing.clone()? == nothing);
-    assert!(rt; nothing != info);
-    Ok(())
+fn a_clone_equals_its_original(rt: HostRuntime) {
+    let nothing = ExplicitModuleSectionInfo::default();
+    assert!(rt; equals_its_clone(&every_section()));
+    assert!(rt; equals_its_clone(&nothing));
+    assert!(rt; nothing != every_section());
 }
 
-/// The original keeps its data where that of the clone is taken.
-#[test]
-fn a_clone_has_data_of_its_own(rt: HostRuntime) -> Result<(), Fail> {
-    let text = ExplicitModuleSectionInfo {
-        text: Some(vec![in rt.alloc(); 1]?),
+/// The code of sections that have only that.
+fn code_of(info: &mut ExplicitModuleSectionInfo<Vec<u8>>) -> Option<u8> {
+    let taken = info.section_data(b".text")?;
+    taken.first().copied()
+}
+
+/// Whether sections keep their data where that of their clone is taken.
+fn keeps_its_data(alloc: Global) -> Result<bool, AllocError> {
+    let mut info = ExplicitModuleSectionInfo {
+        text: Some(vec![in alloc; 1]?),
         ..ExplicitModuleSectionInfo::default()
     };
-    let mut copy = text.clone()?;
-    let taken = copy.section_data(b".text");
-    assert!(rt; taken.is_some_and(|bytes| bytes.as_slice() == [1].as_slice()));
-    assert!(rt; text.text.is_some());
-    assert!(rt; copy.text.is_none());
-    Ok(())
+    let mut copy = info.clone()?;
+    Ok(
+        code_of(&mut copy) == Some(1)
+            && code_of(&mut copy).is_none()
+            && code_of(&mut info) == Some(1),
+    )
 }
 
-/// The bytes that are lent, if they are the same twice.
-fn lent_twice<D: SectionBytes>(section: &D) -> Option<&[u8]> {
-    let first = section.bytes();
-    if section.bytes() == first {
-        Some(first)
-    } else {
-        None
-    }
+#[test]
+fn a_clone_has_data_of_its_own(rt: HostRuntime) -> Result<(), Fail> {
+    holds(keeps_its_data(rt.alloc())?)
+}
+
+/// The bytes 1 to 3.
+const BYTES: &[u8] = &[1, 2, 3];
+
+/// Whether the same bytes are lent twice.
+fn lends<D: SectionBytes>(section: &D) -> bool {
+    section.bytes() == BYTES && section.bytes() == BYTES
+}
+
+/// Whether bytes that are owned, and then boxed, are lent.
+fn lends_owned(alloc: Global) -> Result<bool, AllocError> {
+    let owned = BYTES.to_vec(alloc)?;
+    let are_lent = lends(&owned);
+    let boxed: BoxedSlice<u8> = owned.into_boxed_slice();
+    Ok(are_lent && lends(&boxed))
+}
+
+/// Whether bytes that are shared are lent by each that has them.
+fn lends_shared(alloc: Global) -> Result<bool, AllocError> {
+    let shared: Rc<Vec<u8>> = Rc::new(alloc, BYTES.to_vec(alloc)?)?;
+    let other = shared.clone()?;
+    Ok(lends(&shared) && lends(&other))
+}
+
+/// Whether a slice that is shared is lent.
+fn lends_shared_slice(alloc: Global) -> Result<bool, AllocError> {
+    let shared: RcSlice<u8> = RcSlice::from_slice(alloc, BYTES)?;
+    Ok(lends(&shared))
 }
 
 #[test]
 fn lends_the_same_bytes_each_time(rt: HostRuntime) -> Result<(), Fail> {
     let alloc = rt.alloc();
-    let bytes: &[u8] = &[1, 2, 3];
-    assert_eq!(rt; lent_twice(&bytes), Some(bytes));
-    let owned = bytes.to_vec(alloc)?;
-    assert_eq!(rt; lent_twice(&owned), Some(bytes));
-    let boxed: BoxedSlice<u8> = owned.into_boxed_slice();
-    assert_eq!(rt; lent_twice(&boxed), Some(bytes));
-    let shared_slice: RcSlice<u8> = RcSlice::from_slice(alloc, bytes)?;
-    assert_eq!(rt; lent_twice(&shared_slice), Some(bytes));
-    let shared: Rc<Vec<u8>> = Rc::new(alloc, bytes.to_vec(alloc)?)?;
-    let other = shared.clone()?;
-    assert_eq!(rt; lent_twice(&shared), Some(bytes));
-    assert_eq!(rt; lent_twice(&other), Some(bytes));
-    Ok(())
+    holds(lends(&BYTES))?;
+    holds(lends_owned(alloc)?)?;
+    holds(lends_shared(alloc)?)?;
+    holds(lends_shared_slice(alloc)?)
 }

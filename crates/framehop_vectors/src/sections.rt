@@ -38,16 +38,16 @@ impl ModuleSectionInfo<Vec<u8>> for NoSections {
 /// The sections of a PE module. The base is 0.
 #[derive(Drop)]
 pub struct ExplicitPeSections {
-    pub pdata: Option<Vec<u8>>,
+    pub pdata: Option<&'static [u8]>,
     pub rdata_svma: Option<Range<u64>>,
-    pub rdata: Option<Vec<u8>>,
+    pub rdata: Option<&'static [u8]>,
     pub xdata_svma: Option<Range<u64>>,
-    pub xdata: Option<Vec<u8>>,
+    pub xdata: Option<&'static [u8]>,
     pub text_svma: Option<Range<u64>>,
-    pub text: Option<Vec<u8>>,
+    pub text: Option<&'static [u8]>,
 }
 
-impl ModuleSectionInfo<Vec<u8>> for ExplicitPeSections {
+impl ModuleSectionInfo<&'static [u8]> for ExplicitPeSections {
     ghost table = { λ s. record {
       base_svma = 0;
       sections =
@@ -75,7 +75,7 @@ impl ModuleSectionInfo<Vec<u8>> for ExplicitPeSections {
         }
     }
 
-    fn section_data(&mut self, name: &[u8]) -> Option<Vec<u8>> {
+    fn section_data(&mut self, name: &[u8]) -> Option<&'static [u8]> {
         if name == b".pdata".as_slice() {
             self.pdata.take()
         } else if name == b".rdata".as_slice() {
@@ -93,7 +93,7 @@ impl ModuleSectionInfo<Vec<u8>> for ExplicitPeSections {
         None
     }
 
-    fn segment_data(&mut self, _name: &[u8]) -> Option<Vec<u8>> {
+    fn segment_data(&mut self, _name: &[u8]) -> Option<&'static [u8]> {
         None
     }
 }

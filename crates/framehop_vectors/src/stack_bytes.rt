@@ -1,83 +1,114 @@
 //! Words and walks over copies of a stack's bytes.
-use crate::readme::STACK;
-use framehop::aarch64::{CacheAarch64, UnwindRegsAarch64, UnwinderAarch64};
-use framehop::session::{WalkEnd, read_word, walk};
-use framehop::x86_64::{CacheX86_64, UnwindRegsX86_64, UnwinderX86_64};
-use framehop::{FrameAddress, Generations, MayAllocateDuringUnwind};
+use crate::unwinders::{Aarch64, STACK, X86_64, holds};
+use framehop::aarch64::UnwindRegsAarch64;
+use framehop::session::{SessionError, WalkEnd, read_word, walk};
+use framehop::x86_64::UnwindRegsX86_64;
+use framehop::{FrameAddress, MayAllocateDuringUnwind, Unwinder};
 use std::alloc::Global;
 use std::test::Fail;
 
 /// The little-endian bytes of a stack's words.
-fn bytes_of(alloc: Global, words: &[u64]) -> Result<Vec<u8>, Fail> {
-    let mut bytes = Vec::new(alloc);
-    for word in words {
-        for byte in word.to_le_bytes() {
-            bytes.push(byte)?;
+fn bytes_of(words: &[u64; 16]) -> [u8; 128] {
+    let mut bytes = [0; 128];
+    for (index, byte) in bytes.iter_mut().enumerate() {
+        let word = words.get(index / 8).copied().unwrap_or(0);
+        *byte = word.to_le_bytes()[index % 8];
+    }
+    bytes
+}
+
+/// Words by the address of the bytes 0 to 9, and their own.
+const WORDS: [(u64, u64, Result<u64, ()>); 5] = [
+    (0x1003, 0x1003, Ok(0x0706050403020100)),
+    (0x1003, 0x1005, Ok(0x0908070605040302)),
+    (0x1003, 0x1006, Err(())),
+    (0x1003, 0x1002, Err(())),
+    (u64::MAX, u64::MAX, Ok(0x0706050403020100)),
+];
+
+/// Whether the words are read.
+fn reads_words() -> bool {
+    let bytes = [0, 1, 2, 3, 4, 5, 6, 7, 8, 9];
+    for (base, address, word) in WORDS {
+        if read_word(base, &bytes, address) != word {
+            return false;
         }
     }
-    Ok(bytes)
+    true
 }
 
 #[test]
-fn reads_words_at_any_address(rt: HostRuntime) -> Result<(), Fail> {
-    let bytes = [0, 1, 2, 3, 4, 5, 6, 7, 8, 9];
-    assert_eq!(rt; read_word(0x1003, &bytes, 0x1003), Ok(0x0706050403020100));
-    assert_eq!(rt; read_word(0x1003, &bytes, 0x1005), Ok(0x0908070605040302));
-    assert_eq!(rt; read_word(0x1003, &bytes, 0x1006), Err(()));
-    assert_eq!(rt; read_word(0x1003, &bytes, 0x1002), Err(()));
-    assert_eq!(rt;
-        read_word(u64::MAX, &bytes, u64::MAX),
-        Ok(0x0706050403020100)
-    );
-    Ok(())
+fn reads_words_at_any_address(rt: HostRuntime) {
+    assert!(rt; reads_words());
 }
 
-#[test]
-fn walks_over_bytes_on_aarch64(rt: HostRuntime) -> Result<(), Fail> {
-    let alloc = rt.alloc();
-    let mut generations = Generations::new();
-    let mut cache = CacheAarch64::<MayAllocateDuringUnwind>::new(alloc)?;
-    let unwinder: UnwinderAarch64<Vec<u8>> = UnwinderAarch64::new(alloc, &mut generations)?;
-    let stack = bytes_of(alloc, &STACK)?;
-    let mut read_stack = |address| read_word(0, stack.as_slice(), address);
-    let regs = UnwindRegsAarch64::new(0x1004e0830, 0x10, 0x20);
-    let pc = 0x1005252c0;
-    let (frames, end, regs) = walk(alloc, &unwinder, &mut cache, pc, regs, &mut read_stack, 10)?;
-    let want = [
-        Some(FrameAddress::from_instruction_pointer(0x1005252c0)),
-        FrameAddress::from_return_address(0x1004fcdc4),
-        FrameAddress::from_return_address(0x100528a28),
-    ];
+/// The first four frames of a walk over bytes, how it ends, and the registers after it.
+fn walked<U: Unwinder>(
+    alloc: Global,
+    unwinder: &U,
+    cache: &mut U::Cache,
+    start: (u64, U::UnwindRegs),
+    bytes: &[u8],
+    limit: u32,
+) -> Result<([Option<FrameAddress>; 4], WalkEnd, U::UnwindRegs), SessionError> {
+    let mut read_stack = |address| read_word(0, bytes, address);
+    let (pc, regs) = start;
+    let (frames, end, regs) = walk(alloc, unwinder, cache, pc, regs, &mut read_stack, limit)?;
     let found = [
         frames.get(0).copied(),
         frames.get(1).copied(),
         frames.get(2).copied(),
+        frames.get(3).copied(),
     ];
-    assert_eq!(rt; (frames.len(), found, end), (3, want, WalkEnd::Root));
-    assert_eq!(rt;
-        (regs.lr(), regs.sp(), regs.fp()),
-        (0x100528a28, 0x50, 0x70)
-    );
-    Ok(())
+    Ok((found, end, regs))
+}
+
+/// Whether a walk on aarch64 comes to the root.
+fn comes_to_the_root(alloc: Global) -> Result<bool, Fail> {
+    let start = (0x1005252c0, UnwindRegsAarch64::new(0x1004e0830, 0x10, 0x20));
+    let bytes = bytes_of(&STACK);
+    let mut made = Aarch64::new(alloc, 0)?;
+    let walked = walked(alloc, &made.unwinder, &mut made.cache, start, &bytes, 10)?;
+    let (found, end, regs) = walked;
+    let frames = [
+        Some(FrameAddress::from_instruction_pointer(0x1005252c0)),
+        FrameAddress::from_return_address(0x1004fcdc4),
+        FrameAddress::from_return_address(0x100528a28),
+        None,
+    ];
+    Ok(
+        found == frames
+            && end == WalkEnd::Root
+            && (regs.lr(), regs.sp(), regs.fp()) == (0x100528a28, 0x50, 0x70),
+    )
+}
+
+#[test]
+fn walks_over_bytes_on_aarch64(rt: HostRuntime) -> Result<(), Fail> {
+    holds(comes_to_the_root(rt.alloc())?)
+}
+
+/// Whether a walk on x86_64 comes to its limit.
+fn comes_to_the_limit(alloc: Global) -> Result<bool, Fail> {
+    let start = (0x100400, UnwindRegsX86_64::new(0x100400, 0x10, 0x20));
+    let bytes = bytes_of(&crate::x86_64::STACK);
+    let mut made = X86_64::<MayAllocateDuringUnwind>::new(alloc)?;
+    let walked = walked(alloc, &made.unwinder, &mut made.cache, start, &bytes, 2)?;
+    let (found, end, regs) = walked;
+    let frames = [
+        Some(FrameAddress::from_instruction_pointer(0x100400)),
+        FrameAddress::from_return_address(0x100200),
+        None,
+        None,
+    ];
+    Ok(
+        found == frames
+            && end == WalkEnd::Limit
+            && regs == UnwindRegsX86_64::new(0x100200, 0x30, 0x40),
+    )
 }
 
 #[test]
 fn walks_over_bytes_on_x86_64(rt: HostRuntime) -> Result<(), Fail> {
-    let alloc = rt.alloc();
-    let mut generations = Generations::new();
-    let mut cache = CacheX86_64::<MayAllocateDuringUnwind>::new(alloc)?;
-    let unwinder: UnwinderX86_64<Vec<u8>> = UnwinderX86_64::new(alloc, &mut generations)?;
-    let stack = bytes_of(alloc, &crate::x86_64::STACK)?;
-    let mut read_stack = |address| read_word(0, stack.as_slice(), address);
-    let regs = UnwindRegsX86_64::new(0x100400, 0x10, 0x20);
-    let pc = 0x100400;
-    let (frames, end, regs) = walk(alloc, &unwinder, &mut cache, pc, regs, &mut read_stack, 2)?;
-    let want = [
-        Some(FrameAddress::from_instruction_pointer(0x100400)),
-        FrameAddress::from_return_address(0x100200),
-    ];
-    let found = [frames.get(0).copied(), frames.get(1).copied()];
-    assert_eq!(rt; (frames.len(), found, end), (2, want, WalkEnd::Limit));
-    assert_eq!(rt; regs, UnwindRegsX86_64::new(0x100200, 0x30, 0x40));
-    Ok(())
+    holds(comes_to_the_limit(rt.alloc())?)
 }

@@ -3,11 +3,26 @@ use framehop::session::SessionError;
 use framehop::{
     AllocationPolicy, MayAllocateDuringUnwind, ModuleListError, MustNotAllocateDuringUnwind,
 };
-use std::test::Fail;
+use std::alloc::Global;
 
-#[test]
-fn prints_each_refusal(rt: HostRuntime) -> Result<(), Fail> {
-    let alloc = rt.alloc();
+/// Whether an error of the list of modules has this text.
+fn prints_module_list_error(alloc: Global, error: ModuleListError, text: &str) -> bool {
+    match error.to_string(alloc) {
+        Ok(printed) => printed.as_str() == text,
+        Err(_) => false,
+    }
+}
+
+/// Whether an error of sessions has this text.
+fn prints_session_error(alloc: Global, error: SessionError, text: &str) -> bool {
+    match error.to_string(alloc) {
+        Ok(printed) => printed.as_str() == text,
+        Err(_) => false,
+    }
+}
+
+/// Whether each error has its text.
+fn prints_each(alloc: Global) -> bool {
     for (error, text) in [
         (ModuleListError::OutOfMemory, "Out of memory"),
         (
@@ -15,7 +30,9 @@ fn prints_each_refusal(rt: HostRuntime) -> Result<(), Fail> {
             "Generations exhausted",
         ),
     ] {
-        assert_eq!(rt; error.to_string(alloc)?.as_str(), text);
+        if !prints_module_list_error(alloc, error, text) {
+            return false;
+        }
     }
     for (error, text) in [
         (SessionError::OutOfMemory, "Out of memory"),
@@ -23,9 +40,16 @@ fn prints_each_refusal(rt: HostRuntime) -> Result<(), Fail> {
         (SessionError::NoSuchCache, "No such cache"),
         (SessionError::GenerationsExhausted, "Generations exhausted"),
     ] {
-        assert_eq!(rt; error.to_string(alloc)?.as_str(), text);
+        if !prints_session_error(alloc, error, text) {
+            return false;
+        }
     }
-    Ok(())
+    true
+}
+
+#[test]
+fn prints_each_refusal(rt: HostRuntime) {
+    assert!(rt; prints_each(rt.alloc()));
 }
 
 #[test]

@@ -1,7 +1,9 @@
 //! A walk to the end of a stack, without a limit.
-use framehop::aarch64::{CacheAarch64, UnwindRegsAarch64, UnwinderAarch64};
+use crate::unwinders::{Aarch64, holds};
+use framehop::FrameAddress;
+use framehop::aarch64::UnwindRegsAarch64;
 use framehop::session::{Reply, WalkEnd, walk_to_end_aarch64};
-use framehop::{FrameAddress, Generations, MayAllocateDuringUnwind};
+use std::alloc::Global;
 use std::test::Fail;
 
 /// The frame records of 5,000 frames, 16 bytes each. The last one has no caller's.
@@ -17,30 +19,38 @@ fn read_record(address: u64) -> Result<u64, ()> {
     }
 }
 
-#[test]
-fn walks_to_the_end(rt: HostRuntime) -> Result<(), Fail> {
-    let alloc = rt.alloc();
-    let mut generations = Generations::new();
-    let mut cache = CacheAarch64::<MayAllocateDuringUnwind>::new(alloc)?;
-    let unwinder: UnwinderAarch64<Vec<u8>> = UnwinderAarch64::new(alloc, &mut generations)?;
-    let regs = UnwindRegsAarch64::new(0x100000, 0x10000, 0x10000);
-    let mut read = |address| read_record(address);
-    let reply = walk_to_end_aarch64(alloc, &unwinder, &mut cache, 0x100000, regs, &mut read)?;
+/// Whether a walk has all frames. The record below the last one is at 0x23860, and its return address at
+/// 0x23868.
+fn is_whole(reply: &Reply<UnwindRegsAarch64>) -> bool {
     match reply {
         Reply::Walk { frames, end, regs } => {
-            assert_eq!(rt; (frames.len(), end), (5_000, WalkEnd::Root));
-            // the record below the last one is at 0x23860, and its return address at 0x23868
-            assert_eq!(rt;
-                frames.get(4_999).copied(),
-                FrameAddress::from_return_address(0x108e1a)
-            );
-            assert_eq!(rt;
-                (regs.lr(), regs.sp(), regs.fp()),
-                (0x108e1a, 0x23870, 0x23870)
-            );
+            frames.len() == 5_000
+                && *end == WalkEnd::Root
+                && frames.get(4_999).copied() == FrameAddress::from_return_address(0x108e1a)
+                && (regs.lr(), regs.sp(), regs.fp()) == (0x108e1a, 0x23870, 0x23870)
         }
-        _ => assert!(rt; false, "another reply"),
+        _ => false,
     }
-    assert_eq!(rt; (cache.stats().hits(), cache.stats().misses()), (0, 5_000));
-    Ok(())
+}
+
+/// Whether a walk without a limit has all frames, each of which the cache missed.
+fn has_all_frames(alloc: Global) -> Result<bool, Fail> {
+    let mut made = Aarch64::new(alloc, 0)?;
+    let regs = UnwindRegsAarch64::new(0x100000, 0x10000, 0x10000);
+    let mut read = |address| read_record(address);
+    let reply = walk_to_end_aarch64(
+        alloc,
+        &made.unwinder,
+        &mut made.cache,
+        0x100000,
+        regs,
+        &mut read,
+    )?;
+    let stats = made.cache.stats();
+    Ok(is_whole(&reply) && (stats.hits(), stats.misses()) == (0, 5_000))
+}
+
+#[test]
+fn walks_to_the_end(rt: HostRuntime) -> Result<(), Fail> {
+    holds(has_all_frames(rt.alloc())?)
 }
