@@ -265,9 +265,16 @@ fn has_database(file: &[u8], module: Module) -> bool {
     // the GUID 01234567-89ab-cdef-f0f1-f2f3f4f5f6f7
     let expected = b"\x67\x45\x23\x01\xab\x89\xef\xcd\xf0\xf1\xf2\xf3\xf4\xf5\xf6\xf7";
     match read_codeview(file, module.codeview) {
-        Ok(Some(CodeView::Pdb { guid, age, path, .. })) => {
-            guid == expected.as_slice() && age == 3 && path == b"c:\\made\\up.pdb".as_slice()
-        }
+        Ok(
+            Some(
+                CodeView::Pdb {
+                    guid,
+                    age,
+                    path,
+                    ..
+                },
+            ),
+        ) => { guid == expected.as_slice() && age == 3 && path == b"c:\\made\\up.pdb".as_slice() }
         _ => false,
     }
 }
