@@ -10,6 +10,7 @@ pub mod iterator;
 mod module_list;
 pub mod modules;
 pub mod session;
+pub mod unwind_by_data;
 pub mod unwind_data;
 pub mod unwinder;
 pub mod unwinder_internal;

@@ -9,10 +9,14 @@ use Rattle.framehop_elf.specs.declared.error.ElfError.TheVariants.{BadEntrySize,
 use Rattle.framehop_elf.specs.declared.section_header.SectionHeader.{SectionHeader}
 use Rattle.framehop_elf.specs.declared.symbol.Symbol.{Symbol}
 
+-- the type of an entry's symbol, ELF64_ST_TYPE: the lower half of st_info
+abbrev pub symbol_type : List ℕ → ℕ
+symbol_type entry = slice_index entry 4 % 16
+
 -- The entry of a function: its type is STT_FUNC or STT_GNU_IFUNC, its section is not SHN_UNDEF, and its value is not 0.
 abbrev pub is_function : List ℕ → Bool
 is_function entry =
-    ((slice_index entry 4 % 16 == STT_FUNC) || (slice_index entry 4 % 16 == STT_GNU_IFUNC))
+    ((symbol_type entry == STT_FUNC) || (symbol_type entry == STT_GNU_IFUNC))
     && not (le2 entry 6 == SHN_UNDEF) && not (le8 entry 8 == 0)
 
 -- how many bytes of a section there are from an address on, none where the address is below the section

@@ -3,7 +3,7 @@ ghost use Rattle.std.specs.Prelude.{◌≡◌, ◌≤◌, Ok, Err, MatchResult, 
 ghost use Rattle.std.specs.List.Sorted.{IsNonDecreasingBy, IsStableByKey};
 ghost use Rattle.std.specs.Ordering.{nat_cmp};
 ghost use Rattle.framehop_elf.specs.Bytes.{IsErrorOf};
-ghost use Rattle.framehop_elf.specs.Symbol.{is_function, size_from, size_of, symbol_of, function_symbols_of, start_of, nearest_of, reaches, symbol_for, symbol_names_of};
+ghost use Rattle.framehop_elf.specs.Symbol.{symbol_type, is_function, size_from, size_of, symbol_of, function_symbols_of, start_of, nearest_of, reaches, symbol_for, symbol_names_of};
 
 use crate::bytes::{u16_at, u32_at, u64_at};
 use crate::error::ElfError;
@@ -35,11 +35,18 @@ pub struct Symbol {
     pub size: u64,
 }
 
+/// Returns the type of an entry's symbol: the lower half of `st_info`.
+fn symbol_type(entry: &[u8; ENTRY_SIZE]) -> u8
+    ensures { result ≡ symbol_type entry.now }
+{
+    entry[4] % 16
+}
+
 /// Returns whether an entry is of a function that is defined in the file.
 fn is_function(entry: &[u8; ENTRY_SIZE]) -> bool
     ensures { result ≡ is_function entry.now }
 {
-    let kind = entry[4] % 16;
+    let kind = symbol_type(entry);
     (kind == STT_FUNC || kind == STT_GNU_IFUNC)
         && u16_at(entry, 6) != SHN_UNDEF
         && u64_at(entry, 8) != 0

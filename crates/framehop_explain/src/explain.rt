@@ -16,7 +16,7 @@ use crate::pe::{Sources, told_by_sections};
 use crate::source::Source;
 use crate::told::Told;
 use framehop::cache::Cache;
-use framehop::modules::lent;
+use framehop::unwind_by_data::lent;
 use framehop::unwind_data::ModuleUnwindDataInternal;
 use framehop::unwinder::{Unwinder, UnwinderInternal};
 use framehop::{AllocationPolicy, Error, FrameAddress, Module, UnwinderError};

@@ -1,7 +1,7 @@
 use Rattle.std.proofs.Common.{Ok, Err}
 use Rattle.framehop_core.proofs.Callback.{Answering-so}
 use Rattle.framehop.proofs.ToldLemmas.{pe-told, pe-values, pe-written}
-use Rattle.framehop.proofs.modules.unwind_by_pe.Goals as goal
+use Rattle.framehop.proofs.unwind_by_data.unwind_by_pe.Goals as goal
 
 pub returns-in-Ok-clause-written : goal.returns-in-Ok-clause-written
 returns-in-Ok-clause-written g c =

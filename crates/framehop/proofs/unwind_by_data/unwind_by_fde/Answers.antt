@@ -5,7 +5,7 @@ use Rattle.framehop.specs.CallFrames.{RowReader, fde_answer}
 use Rattle.framehop.specs.Told.{TellsAnswer, TellsValues}
 use Rattle.framehop.specs.declared.modules.UnwinderError.TheVariants.{Dwarf}
 use Rattle.framehop.proofs.ToldLemmas.{fde-err-told, fde-err-values, fde-ok-told, fde-ok-values, err-same, rows-are}
-use Rattle.framehop.proofs.modules.unwind_by_fde.Goals as goal
+use Rattle.framehop.proofs.unwind_by_data.unwind_by_fde.Goals as goal
 
 pub returns-in-Ok-clause-unwound : goal.returns-in-Ok-clause-unwound
 returns-in-Ok-clause-unwound g c =

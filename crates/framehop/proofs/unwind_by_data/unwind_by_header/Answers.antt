@@ -1,7 +1,7 @@
 use Rattle.std.proofs.Common.{refl}
 use Rattle.framehop_core.proofs.Callback.{Answering-so}
 use Rattle.framehop.proofs.FramesLemmas.{header-found}
-use Rattle.framehop.proofs.modules.unwind_by_header.Goals as goal
+use Rattle.framehop.proofs.unwind_by_data.unwind_by_header.Goals as goal
 
 pub returns-in-Some-clause-memory : goal.returns-in-Some-clause-memory
 returns-in-Some-clause-memory g c = λ out.

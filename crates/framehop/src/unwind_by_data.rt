@@ -1,0 +1,411 @@
+//! Unwinding by a module's unwind data.
+ghost use Rattle.std.specs.Prelude.{◌≡◌, ◌≢◌, ◌+◌, true, IsTrue, option_map, ℕ, List, Ok, Err};
+ghost use Rattle.framehop_core.specs.Step.{IfRule, WritesWithAddress};
+ghost use Rattle.framehop.specs.Unwinding.{Unwinding, answer_by, may_take_memory_by};
+ghost use Rattle.framehop.specs.CallFrames.{frames_with_header, frames_answer, fde_answer, fde_offset_of, fde_may_take_memory};
+ghost use Rattle.framehop_dwarf.specs.MayTakeMemory.{may_take_memory};
+ghost use Rattle.framehop.specs.UnwindData.{placed_data};
+ghost use Rattle.framehop.specs.Compact.{by_info, compact_answer, eh_frame_may_take_memory, info_may_take_memory};
+ghost use Rattle.framehop_macho.specs.Answer.{IfRule as IfCompactRule};
+ghost use Rattle.framehop_macho.specs.Unwinder.{unwound};
+ghost use Rattle.framehop_macho.specs.declared.macho.CuiUnwindResult.TheVariants.{NeedDwarf};
+ghost use Rattle.framehop.specs.Answer.{fresh_of};
+ghost use Rattle.framehop_pe.specs.Sections.{sections_of, placed_of};
+ghost use Rattle.framehop.specs.Told.{out_of_memory, UnwindsBy};
+
+use crate::cache::AllocationPolicy;
+use crate::modules::{Module, UnwinderError};
+use crate::unwind_data::{CompactInfo, IndexedFrames, ModuleUnwindDataInternal};
+use crate::unwinder::Unwinding;
+use framehop_bytes::section::SectionBytes;
+use framehop_cfi::context::UnwindContext;
+use framehop_cfi::entry::UnwindSectionType;
+use framehop_cfi::pointer::BaseAddresses;
+use framehop_core::unwind_result::UnwindResult;
+use framehop_dwarf::unwinder::DwarfUnwinder;
+use framehop_macho::macho::{
+    CompactUnwindInfoUnwinder, CompactUnwindInfoUnwinderError, CuiUnwindResult, TextBytes,
+};
+use framehop_pe::pe::{DataAtRvaRange, PeSections, PeUnwinding};
+use std::alloc::Global;
+
+/// Unwinds a frame by the FDE at an offset.
+#[tactic(auto, unfolding(crate::specs::CallFrames::fde_answer))]
+fn unwind_by_fde<A: Unwinding, P: AllocationPolicy, F>(
+    unwinder: &mut DwarfUnwinder<'_, A, P::GimliUnwindContextStorage>,
+    alloc: Global,
+    relative_address: u32,
+    fde_offset: u32,
+    is_first_frame: bool,
+    regs: &mut A::UnwindRegs,
+    read_stack: &mut F,
+) -> Result<UnwindResult<A::UnwindRule>, UnwinderError>
+where
+    F: FnMut(u64) -> Result<u64, ()>,
+    requires { F.IsAlwaysCallable read_stack.old }
+    ensures callable { F.IsAlwaysCallable read_stack.new }
+    ensures written { WritesWithAddress (A.step_advances is_first_frame) result regs.old regs.new }
+    ensures executable { IfRule result (λ rule. IsTrue (A.UnwindRule.executable rule)) }
+    ensures memory { result ≡ Err out_of_memory → may_take_memory
+        P.policy.rows P.policy.values unwinder.old.section (unwinder.old.base_svma + relative_address) fde_offset
+        ≡ true }
+    ensures unwound { UnwindsBy
+        (fde_answer A.readers.rows P.policy unwinder.old.section
+        (unwinder.old.base_svma + relative_address) is_first_frame fde_offset)
+        regs.old result regs.new F.FnMut read_stack.old read_stack.new }
+{
+    match unwinder.unwind_frame_with_fde::<P::GimliEvaluationStorage, F>(
+        alloc,
+        regs,
+        is_first_frame,
+        relative_address,
+        fde_offset,
+        read_stack,
+    ) {
+        Ok(found) => Ok(found),
+        Err(error) => Err(UnwinderError::Dwarf(error)),
+    }
+}
+
+/// Unwinds a frame by `.eh_frame` and its table of FDEs.
+fn unwind_by_header<A: Unwinding, P: AllocationPolicy, F>(
+    eh_frame_hdr: &[u8],
+    eh_frame: &[u8],
+    base_addresses: BaseAddresses,
+    base_svma: u64,
+    alloc: Global,
+    unwind_context: &mut UnwindContext<P::GimliUnwindContextStorage>,
+    relative_address: u32,
+    is_first_frame: bool,
+    regs: &mut A::UnwindRegs,
+    read_stack: &mut F,
+) -> Result<UnwindResult<A::UnwindRule>, UnwinderError>
+where
+    F: FnMut(u64) -> Result<u64, ()>,
+    requires { F.IsAlwaysCallable read_stack.old }
+    ensures callable { F.IsAlwaysCallable read_stack.new }
+    ensures written { WritesWithAddress (A.step_advances is_first_frame) result regs.old regs.new }
+    ensures executable { IfRule result (λ rule. IsTrue (A.UnwindRule.executable rule)) }
+    ensures memory { result ≡ Err out_of_memory → fde_may_take_memory
+        P.policy (frames_with_header eh_frame_hdr.now eh_frame.now base_addresses base_svma) relative_address
+        (fde_offset_of (frames_with_header eh_frame_hdr.now eh_frame.now base_addresses base_svma) relative_address)
+        ≡ true }
+    ensures unwound { UnwindsBy
+        (frames_answer A.readers.rows P.policy
+        (frames_with_header eh_frame_hdr.now eh_frame.now base_addresses base_svma)
+        relative_address is_first_frame)
+        regs.old result regs.new F.FnMut read_stack.old read_stack.new }
+{
+    let mut unwinder = DwarfUnwinder::new(
+        eh_frame,
+        UnwindSectionType::EhFrame,
+        Some(eh_frame_hdr),
+        unwind_context,
+        base_addresses,
+        base_svma,
+    );
+    match unwinder.get_fde_offset_for_relative_address(relative_address) {
+        Some(fde_offset) => unwind_by_fde::<A, P, F>(
+            &mut unwinder,
+            alloc,
+            relative_address,
+            fde_offset,
+            is_first_frame,
+            regs,
+            read_stack,
+        ),
+        None => Err(UnwinderError::EhFrameHdrCouldNotFindAddress),
+    }
+}
+
+impl<D: SectionBytes> IndexedFrames<D> {
+    /// Returns the offset of the FDE for a relative address, if there is one.
+    pub fn fde_offset(&self, relative_address: u32) -> Option<u32>
+        ensures { result ≡ fde_offset_of self.now relative_address }
+    {
+        self.index.fde_offset_for_relative_address(relative_address)
+    }
+
+    /// Unwinds a frame by the section.
+    fn unwind_by_index<A: Unwinding, P: AllocationPolicy, F>(
+        &self,
+        alloc: Global,
+        unwind_context: &mut UnwindContext<P::GimliUnwindContextStorage>,
+        relative_address: u32,
+        is_first_frame: bool,
+        regs: &mut A::UnwindRegs,
+        read_stack: &mut F,
+    ) -> Result<UnwindResult<A::UnwindRule>, UnwinderError>
+    where
+        F: FnMut(u64) -> Result<u64, ()>,
+        requires { F.IsAlwaysCallable read_stack.old }
+        ensures callable { F.IsAlwaysCallable read_stack.new }
+        ensures written { WritesWithAddress (A.step_advances is_first_frame) result regs.old regs.new }
+        ensures executable { IfRule result (λ rule. IsTrue (A.UnwindRule.executable rule)) }
+        ensures memory { result ≡ Err out_of_memory → fde_may_take_memory
+            P.policy self.now relative_address (fde_offset_of self.now relative_address) ≡ true }
+        ensures unwound { UnwindsBy
+            (frames_answer A.readers.rows P.policy self.now relative_address is_first_frame)
+            regs.old result regs.new F.FnMut read_stack.old read_stack.new }
+    {
+        let Some(fde_offset) = self.fde_offset(relative_address) else {
+            return Err(UnwinderError::DwarfCfiIndexCouldNotFindAddress);
+        };
+        let mut unwinder = DwarfUnwinder::new(
+            self.section_data.bytes(),
+            self.section_type,
+            None,
+            unwind_context,
+            self.base_addresses,
+            self.base_svma,
+        );
+        unwind_by_fde::<A, P, F>(
+            &mut unwinder,
+            alloc,
+            relative_address,
+            fde_offset,
+            is_first_frame,
+            regs,
+            read_stack,
+        )
+    }
+}
+
+impl<D: SectionBytes> CompactInfo<D> {
+    /// Returns what the info gives: a rule, or the offset of an FDE.
+    pub fn rule_or_fde_offset<A: Unwinding>(
+        &self,
+        relative_address: u32,
+        is_first_frame: bool,
+    ) -> Result<CuiUnwindResult<A::UnwindRule>, CompactUnwindInfoUnwinderError>
+        ensures says { result ≡ unwound A.readers.compact self.now.info relative_address is_first_frame }
+        ensures executable { IfCompactRule result (λ rule. IsTrue (A.UnwindRule.executable rule)) }
+    {
+        let text = match &self.text {
+            Some(text) => Some(TextBytes::new(text.offset_from_base, text.bytes.bytes())),
+            None => None,
+        };
+        let unwinder: CompactUnwindInfoUnwinder<'_, A> = CompactUnwindInfoUnwinder::new(
+            self.unwind_info.bytes(),
+            text,
+            self.stubs,
+            self.stub_helper,
+        );
+        unwinder.unwind_frame(relative_address, is_first_frame)
+    }
+
+    // unwinds a frame by the FDE that the info names
+    fn unwind_by_eh_frame<A: Unwinding, P: AllocationPolicy, F>(
+        &self,
+        alloc: Global,
+        unwind_context: &mut UnwindContext<P::GimliUnwindContextStorage>,
+        relative_address: u32,
+        fde_offset: u32,
+        is_first_frame: bool,
+        regs: &mut A::UnwindRegs,
+        read_stack: &mut F,
+    ) -> Result<UnwindResult<A::UnwindRule>, UnwinderError>
+    where
+        F: FnMut(u64) -> Result<u64, ()>,
+        requires { F.IsAlwaysCallable read_stack.old }
+        ensures callable { F.IsAlwaysCallable read_stack.new }
+        ensures written { WritesWithAddress (A.step_advances is_first_frame) result regs.old regs.new }
+        ensures executable { IfRule result (λ rule. IsTrue (A.UnwindRule.executable rule)) }
+        ensures memory { result ≡ Err out_of_memory
+            → eh_frame_may_take_memory P.policy self.now.frames relative_address fde_offset ≡ true }
+        ensures unwound { UnwindsBy
+            (by_info A.readers.rows P.policy self.now.frames relative_address is_first_frame
+            (Ok (NeedDwarf fde_offset)))
+            regs.old result regs.new F.FnMut read_stack.old read_stack.new }
+    {
+        let Some(eh_frame) = &self.eh_frame else {
+            return Err(UnwinderError::NoDwarfData);
+        };
+        let mut unwinder = DwarfUnwinder::new(
+            eh_frame.bytes(),
+            UnwindSectionType::EhFrame,
+            None,
+            unwind_context,
+            self.base_addresses,
+            self.base_svma,
+        );
+        unwind_by_fde::<A, P, F>(
+            &mut unwinder,
+            alloc,
+            relative_address,
+            fde_offset,
+            is_first_frame,
+            regs,
+            read_stack,
+        )
+    }
+
+    /// Unwinds a frame by the info.
+    fn unwind_by_info<A: Unwinding, P: AllocationPolicy, F>(
+        &self,
+        alloc: Global,
+        unwind_context: &mut UnwindContext<P::GimliUnwindContextStorage>,
+        relative_address: u32,
+        is_first_frame: bool,
+        regs: &mut A::UnwindRegs,
+        read_stack: &mut F,
+    ) -> Result<UnwindResult<A::UnwindRule>, UnwinderError>
+    where
+        F: FnMut(u64) -> Result<u64, ()>,
+        requires { F.IsAlwaysCallable read_stack.old }
+        ensures callable { F.IsAlwaysCallable read_stack.new }
+        ensures written { WritesWithAddress (A.step_advances is_first_frame) result regs.old regs.new }
+        ensures executable { IfRule result (λ rule. IsTrue (A.UnwindRule.executable rule)) }
+        ensures memory { result ≡ Err out_of_memory → info_may_take_memory
+            P.policy self.now.frames relative_address
+            (unwound A.readers.compact self.now.info relative_address is_first_frame) ≡ true }
+        ensures unwound { UnwindsBy
+            (compact_answer A.readers.compact
+            A.readers.rows P.policy self.now relative_address is_first_frame)
+            regs.old result regs.new F.FnMut read_stack.old read_stack.new }
+    {
+        match self.rule_or_fde_offset::<A>(relative_address, is_first_frame) {
+            Ok(CuiUnwindResult::ExecRule(rule)) => Ok(UnwindResult::ExecRule(rule)),
+            Ok(CuiUnwindResult::NeedDwarf(fde_offset)) => self.unwind_by_eh_frame::<A, P, F>(
+                alloc,
+                unwind_context,
+                relative_address,
+                fde_offset,
+                is_first_frame,
+                regs,
+                read_stack,
+            ),
+            Err(error) => Err(UnwinderError::CompactUnwindInfo(error)),
+        }
+    }
+}
+
+/// Unwinds a frame by the unwind info of a PE module.
+fn unwind_by_pe<D: SectionBytes, A: Unwinding, F>(
+    sections: PeSections<'_, D>,
+    relative_address: u32,
+    is_first_frame: bool,
+    regs: &mut A::UnwindRegs,
+    read_stack: &mut F,
+) -> Result<UnwindResult<A::UnwindRule>, UnwinderError>
+where
+    F: FnMut(u64) -> Result<u64, ()>,
+    requires { F.IsAlwaysCallable read_stack.old }
+    ensures callable { F.IsAlwaysCallable read_stack.new }
+    ensures written { WritesWithAddress (A.step_advances is_first_frame) result regs.old regs.new }
+    ensures executable { IfRule result (λ rule. IsTrue (A.UnwindRule.executable rule)) }
+    ensures memory { result ≢ Err out_of_memory }
+    ensures unwound { UnwindsBy
+        (fresh_of (A.found (sections_of D.contents sections.entry) relative_address is_first_frame)
+        (λ old memory. A.computed (sections_of D.contents sections.entry)
+        relative_address is_first_frame memory old))
+        regs.old result regs.new F.FnMut read_stack.old read_stack.new }
+{
+    match <A as PeUnwinding>::unwind_frame(
+        sections,
+        relative_address,
+        regs,
+        is_first_frame,
+        read_stack,
+    ) {
+        Ok(found) => Ok(found),
+        Err(error) => Err(UnwinderError::Pe(error)),
+    }
+}
+
+/// Returns the data of a section that a module may not have, lent.
+pub fn lent<D>(section: &Option<DataAtRvaRange<D>>) -> Option<&DataAtRvaRange<D>>
+    ensures { (contents : D → List ℕ) → placed_of contents result ≡ option_map (placed_data contents) section.now }
+{
+    match section {
+        Some(section) => Some(section),
+        None => None,
+    }
+}
+
+impl<D: SectionBytes + Drop> Module<D> {
+    /// Unwinds a frame at a relative address by the module's unwind data. It is a call of its own, so that the way
+    /// of a hit is short.
+    #[tactic(auto, unfolding(crate::specs::Unwinding::answer_by, crate::specs::Unwinding::may_take_memory_by))]
+    #[inline(never)]
+    pub(crate) fn unwind_by_data<A: Unwinding, P: AllocationPolicy, F>(
+        &self,
+        alloc: Global,
+        unwind_context: &mut UnwindContext<P::GimliUnwindContextStorage>,
+        relative_address: u32,
+        is_first_frame: bool,
+        regs: &mut A::UnwindRegs,
+        read_stack: &mut F,
+    ) -> Result<UnwindResult<A::UnwindRule>, UnwinderError>
+    where
+        F: FnMut(u64) -> Result<u64, ()>,
+        requires { F.IsAlwaysCallable read_stack.old }
+        ensures callable { F.IsAlwaysCallable read_stack.new }
+        ensures written { WritesWithAddress (A.step_advances is_first_frame) result regs.old regs.new }
+        ensures executable { IfRule result (λ rule. IsTrue (A.UnwindRule.executable rule)) }
+        ensures memory { result ≡ Err out_of_memory → may_take_memory_by
+            A.readers P.policy self.now relative_address is_first_frame ≡ true }
+        ensures unwound { UnwindsBy
+            (answer_by A.readers P.policy self.now relative_address is_first_frame)
+            regs.old result regs.new F.FnMut read_stack.old read_stack.new }
+    {
+        match self.unwind_data() {
+            ModuleUnwindDataInternal::EhFrameHdrAndEhFrame {
+                eh_frame_hdr,
+                eh_frame,
+                base_addresses,
+                base_svma,
+            } => unwind_by_header::<A, P, F>(
+                eh_frame_hdr.bytes(),
+                eh_frame.bytes(),
+                *base_addresses,
+                *base_svma,
+                alloc,
+                unwind_context,
+                relative_address,
+                is_first_frame,
+                regs,
+                read_stack,
+            ),
+            ModuleUnwindDataInternal::CompactUnwindInfoAndEhFrame(compact) =>
+                compact.unwind_by_info::<A, P, F>(
+                    alloc,
+                    unwind_context,
+                    relative_address,
+                    is_first_frame,
+                    regs,
+                    read_stack,
+                ),
+            ModuleUnwindDataInternal::DwarfCfiIndexAndFrames(frames) => frames.unwind_by_index::<
+                A,
+                P,
+                F,
+            >(
+                alloc,
+                unwind_context,
+                relative_address,
+                is_first_frame,
+                regs,
+                read_stack,
+            ),
+            ModuleUnwindDataInternal::PeUnwindInfo {
+                pdata,
+                rdata,
+                xdata,
+                text,
+            } => unwind_by_pe::<D, A, F>(
+                PeSections {
+                    pdata,
+                    rdata: lent(rdata),
+                    xdata: lent(xdata),
+                    text: lent(text),
+                },
+                relative_address,
+                is_first_frame,
+                regs,
+                read_stack,
+            ),
+            ModuleUnwindDataInternal::None(_) => Err(UnwinderError::NoModuleUnwindData),
+        }
+    }
+}
