@@ -1,4 +1,8 @@
 //! Unwinding by a module's unwind data.
+//!
+//! Each kind of data has one function, and all have one contract: `UnwindsBy` the answer that the data gives. A
+//! rule is returned, so that it can be stored before it is run; values that are computed are written to the
+//! registers at once.
 ghost use Rattle.std.specs.Prelude.{◌≡◌, ◌≢◌, ◌+◌, true, IsTrue, option_map, ℕ, List, Ok, Err};
 ghost use Rattle.framehop_core.specs.Step.{IfRule, WritesWithAddress};
 ghost use Rattle.framehop.specs.Unwinding.{Unwinding, answer_by, may_take_memory_by};

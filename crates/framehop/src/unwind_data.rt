@@ -1,4 +1,7 @@
 //! The unwind data of a module: which of its sections are taken, and what is kept of them.
+//!
+//! The kinds are tried in a fixed order. A section is asked for when its turn comes and not before, since its data
+//! is taken out of the caller's hands. An index is made here, once for a module and all its clones.
 ghost use Rattle.std.specs.Prelude.{◌≡◌, IfOk, IfErr, codes, option_map, ℕ, Ok, Err, None, Option};
 ghost use Rattle.framehop.specs.UnwindData.{unwind_data_of, placed_data};
 ghost use Rattle.framehop.specs.TextData.{text_data};

@@ -1,4 +1,7 @@
 //! The unwinder of any architecture, over a cache.
+//!
+//! Each frame is looked up once, and after a miss one rule at most is stored. No section is read here: what modules
+//! give is behind `Unwinding`, so all this holds for each kind of unwind data.
 ghost use Rattle.std.specs.Prelude.{◌≡◌, ◌≢◌, ◌-◌, true, IfOk, IfErr, IfNone, OnSome, MatchOption, MatchResult, Err, None, Some};
 ghost use Rattle.framehop.specs.Memory.{Answering};
 ghost use Rattle.framehop.specs.Outcome.{answer_of, registers_after};

@@ -1,4 +1,8 @@
 //! The calls for x86_64.
+//!
+//! Each call tests the kind, the architecture and the policy of the objects behind its handles, and hands on to a
+//! call of `calls` or of the library. An exported function has one name and no type parameters, so the other
+//! architecture has a file like this one.
 ghost use Rattle.std.specs.Prelude.{◌≡◌, ◌≢◌, ◌≤◌, ◌<◌, ◌-◌, ◌^◌, ◌+◌, length, drop, true, false, [], None, Some, MatchOption, IfSome, ◌⊎◌, ◌↔◌};
 ghost use Rattle.framehop.specs.Memory.{Memory};
 ghost use Rattle.framehop.specs.Modules.{greatest_end};

@@ -1,4 +1,7 @@
 //! The cache of unwind rules by address, generation and kind of frame, and its counts.
+//!
+//! A set has two slots, the newest entry and an older one. A hit of the newest, which most are, writes no entry and
+//! is inlined. Nothing is thrown out when modules change: a generation is part of the key.
 ghost use Rattle.std.specs.Prelude.{◌≡◌, ◌^◌, ◌-◌, ◌+◌, ◌∷◌, [], ◌==◌, nat_le, min, true, IfOk, IfSome, Some, length};
 ghost use Rattle.std.specs.List.{list_any};
 ghost use Rattle.framehop_cache.specs.Cache.{key_of, counted, empty_cache, no_stats, found, inserted, inserted_in, misses_of, total_of, set_number, ways};

@@ -1,4 +1,7 @@
 //! The row of an address: the instructions of a CIE and of an FDE, run up to it (DWARF 5 section 6.4.3).
+//!
+//! A row is changed in place, instruction by instruction. The room for rows is kept from one address to the next,
+//! so that no memory is taken under `StoreOnStack`.
 ghost use Rattle.std.specs.Prelude.{◌≡◌, ◌≢◌, ◌*◌, ◌<◌, length, true, IfOk, IfErr, OnOk, OnErr, IsErrOf, None, Err, vec_len};
 ghost use Rattle.framehop_cfi.specs.TableRows.{TableRows, effect, setting, restoring, remembering, restoring_state};
 ghost use Rattle.framehop_cfi.specs.Outcome.{Becomes};

@@ -1,4 +1,7 @@
 //! The entries of a call frame section: CIEs and FDEs (DWARF 5 section 6.4.1; LSB, `.eh_frame`).
+//!
+//! A section is cut by its lengths and then read: the kind of an entry is read at its offset, and an FDE says where
+//! its CIE is. The refusal is the first in the order in which the bytes are read.
 ghost use Rattle.std.specs.Prelude.{◌≡◌, ◌≢◌, Err, IfErr, IfOk, take};
 ghost use Rattle.framehop_cfi.specs.EntryMeaning.{IsCie, IsFde};
 ghost use Rattle.framehop_cfi.specs.Section.{section_of};

@@ -1,4 +1,7 @@
 //! Call frame instructions (DWARF 5 section 6.4.2).
+//!
+//! An instruction is read in place, and its factors are applied as it is read, so that a row is made by sums only.
+//! Most LEB128 numbers have one byte: for those there is a short way.
 ghost use Rattle.std.specs.Prelude.{◌≡◌, ◌≢◌, Ok, Err, ◌≤◌, ◌<◌, IfOk, IfSome};
 ghost use Rattle.framehop_cfi.specs.Instruction.{instruction_at, operands_at, coded_at, advance_at, cfa_at, def_cfa_at, def_cfa_factored_at, set_rule_at, rule_at, expression_at, offset_at, factored_at, factored_signed_at, checked_i64, register_at};
 

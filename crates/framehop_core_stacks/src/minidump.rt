@@ -1,4 +1,8 @@
 //! What a minidump says of a process.
+//!
+//! A minidump says where a module is loaded, and not which parts of it have code. So the segments of an ELF file
+//! are read first, from the file or from its first bytes in memory; a module of Windows is code as a whole. All
+//! else becomes a `Dump`, as of a core file.
 ghost use Rattle.std.specs.Prelude.{◌≡◌, ◌⊎◌, ◌++◌, ◌∷◌, [], ℕ, List, None, Ok, Err, MatchResult, IfOk, OnOk, map, option_map};
 ghost use Rattle.std.specs.List.{flat_map};
 ghost use Rattle.framehop_core_stacks.specs.Dump.{MappedCodeView, memory_view, thread_view, mapped_code_view, dump_view, words_in};

@@ -1,4 +1,7 @@
 //! The evaluation of DWARF expressions (DWARF 5 section 2.5).
+//!
+//! An expression can jump back, so at most 4,096 operations are carried out. Values are on a stack whose room is
+//! the caller's choice.
 ghost use Rattle.std.specs.Prelude.{◌≡◌, ℕ, List, [], ◌∷◌, slice_get, Option, Some, None, IfOk, IfErr, IfSome, IfNone, MatchOption, OnErr, option_to_list, Result, pos, ◌+ℤ◌};
 ghost use Rattle.framehop_cfi.specs.declared.rule.Register.{Register as RegisterNumber};
 ghost use Rattle.framehop_dwarf.specs.Evaluation.{Evaluation, pushed, within, stack_after, position_after, step, value_from, value_of, value_in, IsValueIn};

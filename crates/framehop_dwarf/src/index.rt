@@ -1,4 +1,8 @@
 //! An index of a section's FDEs by their starts, for a section that has no table of its own.
+//!
+//! The pairs of a start and an offset are sorted in place, as one number each. Beside them are counted the pairs
+//! that start before each block of 2^n addresses, so that a look-up halves the pairs of one block. An entry that
+//! can't be read is passed over; only lengths that do not cut the section to its end refuse the index.
 ghost use Rattle.std.specs.Prelude.{◌≡◌, ◌≢◌, ◌+◌, ◌^◌, ◌<◌, ◌≤◌, length, map, IfOk, IfErr, Ok, Err, false, IsPermutation};
 ghost use Rattle.framehop_cfi.specs.Section.{section_of};
 ghost use Rattle.framehop_cfi.specs.EntryExtent.{extent_at, is_zero_length};

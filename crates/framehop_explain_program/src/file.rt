@@ -1,4 +1,7 @@
 //! What an ELF file or a PE file has to unwind by: the functions of its table, and for an address its row and its rule.
+//!
+//! What is printed is what unwinding does with a caller's frame over a stack that can't be read: the same calls
+//! tell it.
 use crate::row_text::{RegisterNames, push_row};
 use framehop::aarch64::{ArchAarch64, UnwindRegsAarch64};
 use framehop::cache::MayAllocateDuringUnwind;

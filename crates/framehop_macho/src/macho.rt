@@ -1,4 +1,7 @@
 //! Unwinding by compact unwind info, for any architecture (framehop 0.16.0, `macho.rs`).
+//!
+//! Stubs come first, since they have no entries. An opcode describes a function after its prologue, so in a first
+//! frame the code around the address is looked at before.
 ghost use Rattle.std.specs.Prelude.{◌≡◌, ◌≤◌, ◌-◌, ℕ, IfOk, IfSome, option_map, List, length, ◌⊎◌, Bool, true, IsTrue, Some, None, Ok, Err, Result, Option};
 ghost use Rattle.std.specs.Option.{ForSome, option_copied};
 ghost use Rattle.framehop_analysis.specs.Answer.{Does};

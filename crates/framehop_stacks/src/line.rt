@@ -1,4 +1,7 @@
 //! Stacks as text.
+//!
+//! A frame is named by the nearest symbol at or before its address, as debuggers do, and otherwise by its place in
+//! the file.
 ghost use Rattle.std.specs.Prelude.{◌≡◌, ◌++◌, ◌∷◌, [], map, OnOk, IfOk, codes, string_bytes};
 ghost use Rattle.std.specs.List.{flat_map};
 ghost use Rattle.framehop_core.specs.CodeAddress.{location_of};

@@ -1,4 +1,7 @@
 //! A file that processes map, an ELF file or a PE file: where it is loaded, its unwind data and its symbols.
+//!
+//! The sections are copied and the file's bytes are let go, since a run has many files. The module lies at no
+//! address: the modules of all mappings of the file share its unwind data.
 ghost use Rattle.std.specs.Prelude.{◌≡◌, ◌⊎◌, ◌↔◌, IsTrue, ℕ, List, [], ◌++◌, Some, None, Ok, Err, IfOk, IfErr, OnOk, MatchResult, option_map, option_to_list};
 ghost use Rattle.framehop_elf.specs.Segment.{base_of};
 ghost use Rattle.framehop_elf.specs.Symbol.{symbol_for};

@@ -1,4 +1,7 @@
 //! The records of a recording one after another: its processes, and the stacks of its samples.
+//!
+//! The files that a recording maps are read before, so what makes modules stays as it is while processes change.
+//! All processes share one cache, since generations tell their lists of modules apart.
 ghost use Rattle.std.specs.Prelude.{ℕ, ◌≡◌, ◌≢◌, [], None, IfOk, OnOk, Ok, IsSome, Bool, List, map, count_by};
 ghost use Rattle.std.specs.BTreeMap.{get};
 ghost use Rattle.std.specs.Ordering.{nat_cmp};

@@ -1,4 +1,8 @@
 //! The unwind rules of aarch64: a table, and the `exec` that runs a line of it.
+//!
+//! A line says where the new stack pointer comes from, and which words are read in which order. Each arm of `exec`
+//! is one line, so that both can be held side by side, and registers are written by its last step only: a rule that
+//! is refused writes nothing.
 ghost use Rattle.std.specs.Prelude.{◌≡◌, ◌≢◌, ◌≤◌, true, false};
 ghost use Rattle.framehop_core.specs.Memory.{Answering};
 ghost use Rattle.framehop_core.specs.Runs.{run_of, after_first, IsCountWithinRise};

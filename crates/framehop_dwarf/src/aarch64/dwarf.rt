@@ -1,5 +1,8 @@
 //! From a row of call frame information to a frame on aarch64: the rule that most rows are translated
 //! to, and the values of the others.
+//!
+//! A rule can be stored, and runs without the section. So a row is translated wherever a rule has its meaning
+//! exactly, and computed elsewhere.
 ghost use Rattle.std.specs.Prelude.{◌≡◌, ◌^◌, ◌<◌, ◌||◌, true, None, IfErr, OnOk, OnErr, Ok, Err};
 ghost use Rattle.framehop_core.specs.Memory.{Memory, Answering};
 ghost use Rattle.framehop_dwarf.specs.Aarch64.{translated_by, by_sp, by_fp, by_saved, beside_fp, with_fp, with_fp_kept, with_lr, or_kept, stepped, scope_of, direct_by, translated, direct_of, Ascends};

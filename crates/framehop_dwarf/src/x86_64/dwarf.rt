@@ -1,5 +1,8 @@
 //! From a row of call frame information to a frame on x86_64: the rule that most rows are translated to,
 //! and the values of the others.
+//!
+//! A rule can be stored, and runs without the section. So a row is translated wherever a rule has its meaning
+//! exactly, and computed elsewhere.
 ghost use Rattle.std.specs.Prelude.{◌≡◌, ◌≢◌, ◌||◌, true, None, IfSome, IfErr, OnErr, Err};
 ghost use Rattle.framehop_core.specs.Memory.{Memory, Answering};
 ghost use Rattle.framehop_core.specs.X86_64.Rules.{is_executable};

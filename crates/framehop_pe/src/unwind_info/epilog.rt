@@ -1,5 +1,8 @@
 //! Epilogs: the instructions that a function may end with (Microsoft, "x64 exception handling",
 //! "Epilog code"; encodings from Intel's manual, volume 2).
+//!
+//! Unwind codes describe prologs only. So in a first frame the instructions from the address on are read, before
+//! the codes are run: if they are an epilog, what is left of it is undone.
 ghost use Rattle.std.specs.Prelude.{◌≡◌, ◌<◌, ◌≤◌, ◌+◌, Some, None, Ok, Err, length, MatchOption, MatchResult, IfSome, IfErr};
 ghost use Rattle.std.specs.Iterator.{YieldsFirst, item_count};
 ghost use Rattle.framehop_pe.specs.Epilog.{instruction_at, release_at, add_at, short_add_at, long_add_at, lea_at, is_register, displaced_at, pop_at, high_pop_at, is_end, is_return, is_indirect_jump, is_wide_indirect_jump, is_near_jump_outside, is_short_jump_outside, target_of, is_outside, pops_in, epilog_of};

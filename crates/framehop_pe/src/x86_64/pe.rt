@@ -1,4 +1,8 @@
 //! Unwinding by Microsoft's x64 unwind info (framehop 0.16.0, `x86_64/pe.rs`).
+//!
+//! In a first frame an epilog is looked for, and elsewhere the codes are run. Where they only move the stack
+//! pointer and pop registers in an order that a rule can have, the rule is returned; elsewhere the frame is
+//! computed. Infos are read again where they are needed, so no memory is taken.
 ghost use Rattle.std.specs.Prelude.{◌≡◌, ◌<◌, Some, None, Ok, Err, MatchResult, IfErr, option_map, map};
 ghost use Rattle.framehop_core.specs.Memory.{Answering};
 ghost use Rattle.framehop_core.specs.X86_64.RuleOfOperations.{rule_of_operations};
