@@ -6,7 +6,8 @@
 - Each name in backticks of the pages of NAMED is in the sources, the scripts, the edits or a file's name.
 - The Rust of README.md, of docs/EXAMPLES.md and of the doc comments' examples is in the tests, line by line.
 - No line of a document has more than 100 words, tables and code excepted.
-- The pages of docs/api are those that tools/api.py makes, and that of `framehop` has each name that the tests name there.
+- The pages of docs/api are those that tools/api.py makes; they have each public method; and that of `framehop` has each name
+  that the tests name there.
 - Each edit of edits/CRATE can be applied, and each promise of DEFINITIONS.md has one that the gate tries.
 - Each source, definition and proof has the layout that `rt fmt` gives it.
 """
@@ -157,6 +158,28 @@ def names_not_on_the_page():
                 yield f"framehop.md has no {path}"
 
 
+def private_files(sources):
+    """The files of modules that their parents declare without `pub`."""
+    for file in sources.rglob("*.rt"):
+        folder = file.parent if file.name == "lib.rt" else file.with_suffix("")
+        yield from (folder / f"{name}.rt" for name in re.findall(r"^mod (\w+);", file.read_text(), re.M))
+
+
+def methods_not_on_the_pages():
+    """Public methods that a crate's page doesn't have: those of public traits and those that begin with `pub`, as read here
+    and not by tools/api.py."""
+    for page in sorted((TOP / "docs/api").glob("framehop*.md")):
+        titles, sources = re.findall(r"^#+ .*::(\w+)`", page.read_text(), re.M), TOP / "crates" / page.stem / "src"
+        for file in sorted(set(sources.rglob("*.rt")) - set(private_files(sources))):
+            in_trait = False
+            for line in file.read_text().split("\n"):
+                in_trait = line.startswith("pub trait") or in_trait and line != "}"
+                found = re.match(r"    ((?:\w+ )*)fn (\w+)", line)
+                is_public = found and (in_trait or found[1].startswith("pub "))
+                if is_public and found[2] not in titles:
+                    yield f"{page.name} has no method {found[2]} of {file.relative_to(TOP)}"
+
+
 def edit_faults(text, crate):
     """Why an edit can't be applied to a crate, if so: each old text is in its file once."""
     texts, path, old = {}, None, None
@@ -210,7 +233,7 @@ def faults():
             checks.append(missing_names(text, known))
         yield from (f"{name}: {fault}" for check in checks for fault in check)
     yield from (f"README.md, docs/EXAMPLES.md: {fault}" for fault in untested_examples())
-    yield from (f"docs/api: {fault}" for check in (stale_api(), names_not_on_the_page()) for fault in check)
+    yield from (f"docs/api: {fault}" for check in (stale_api(), names_not_on_the_page(), methods_not_on_the_pages()) for fault in check)
     yield from untested_doc_examples()
     yield from wrong_edits()
     yield from not_in_the_layout(names)
