@@ -10,3 +10,4 @@ mod RunLemmas
 mod RiseLemmas
 pub mod EndingLemmas
 mod MeaningLemmas
+mod Quarters

@@ -1,12 +1,11 @@
 -- The modules in order of start, around the place of an address.
-use Rattle.std.proofs.Common.{◌≡◌, ℕ, zero, suc, ◌+◌, ◌<◌, ◌≤◌, ◌∙◌, Bool, true, false, not, List, [], ◌∷◌, length, take, drop, filter, slice_index, slice_index_or, refl, ap, sym, arith, insert, remove, leb-true, leb-false, le-leb, eq-eqb, ne_eqb, ◌==◌, ⊎_elim}
+use Rattle.std.proofs.Common.{◌≡◌, None, ℕ, zero, suc, ◌+◌, ◌<◌, ◌≤◌, Bool, true, false, not, List, [], ◌∷◌, length, take, drop, filter, slice_index_or, refl, ap, sym, arith, insert, remove, leb-true, leb-false, le-leb, eq-eqb, ne_eqb, ◌==◌, ⊎_elim}
 use Rattle.std.proofs.lemmas.Bool.{cases_lt, or_right, lt-leb}
-use Rattle.std.proofs.lemmas.List.{get_or-map, get_or_default, length-map}
+use Rattle.std.proofs.lemmas.List.{get_or-map, length-map}
 use Rattle.std.proofs.lemmas.List.Edits.{get_or-remove_below, get_or-remove_above}
-use Rattle.std.specs.List.Sorted.{IsPartitionPoint}
+use Rattle.std.specs.List.Sorted.{IsNonDecreasing, IsPartitionPoint}
 use Rattle.std.proofs.lemmas.List.Sorted.{IsNonDecreasingBy-insert}
-use Rattle.framehop_bytes.specs.Place.{IsPlace}
-use Rattle.framehop.specs.Modules.{ModuleView, AreInOrder, starts_of, has_start, without_module, starts_by, starting_by, starting_above}
+use Rattle.framehop.specs.Modules.{ModuleView, AreInOrder, starts_of, has_start, without_module, starts_by, starting_by, starting_above, no_unwind_data}
 
 -- ---- a list that a test divides at a place
 
@@ -69,54 +68,20 @@ starts_of-removed [] (suc i) = refl
 starts_of-removed (n ∷ modules) zero = refl
 starts_of-removed (n ∷ modules) (suc i) = ap (λ starts. n.start ∷ starts) (starts_of-removed modules i)
 
--- The place of an address in the starts, and one more where the start there is at or below it, divides the modules.
-module _ (address : ℕ) (modules : List ModuleView) (place : ℕ) (ordered : AreInOrder modules) (is : IsPlace (starts_of modules) address place) where
-  all-starts : length (starts_of modules) ≡ length modules
-  all-starts = length-map modules (λ m. m.start)
+-- the starts don't fall, and a place that divides them divides the modules
+pub starts-in-order : (modules : List ModuleView) → AreInOrder modules → IsNonDecreasing (starts_of modules)
+starts-in-order modules ordered i j d up within =
+    let all : length (starts_of modules) ≡ length modules = length-map modules (λ m. m.start) in
+    let within' : j < length modules = rw (← all) within in
+    let unread : ModuleView = record { name = []; start = 0; end = 0; base_avma = 0; unwind_data = no_unwind_data None } in
+    rw (start-of modules i unread d (omega (arith, up, within')), start-of modules j unread d within') (ordered i j unread up within')
 
-  starts-below : (k : ℕ) (d : ModuleView) → k ≤ place → slice_index (starts_of modules) place ≤ address → starts_by address (slice_index_or modules k d) ≡ true
-  starts-below k d up low =
-      let within : place < length modules = rw (← all-starts) is.within in
-      let risen = ordered k place d up within in
-      let at = start-of modules place d 0 within in
-      le-leb _ _ (omega (arith, risen, at, low))
-
-  starts-above : (k : ℕ) (d : ModuleView) → place + 1 ≤ k → k < length modules → starts_by address (slice_index_or modules k d) ≡ false
-  starts-above k d up within =
-      let next : place + 1 < length modules = omega (arith, up, within) in
-      let risen = ordered (place + 1) k d up within in
-      let at = start-of modules (place + 1) d 0 next in
-      let above = is.above (rw all-starts next) in
-      lt-leb _ _ (omega (arith, risen, at, above))
-
-  first-above : address < slice_index (starts_of modules) place → (k : ℕ) (d : ModuleView) → place ≤ k → k < length modules → starts_by address (slice_index_or modules k d) ≡ false
-  first-above high k d up within =
-      let here : place < length modules = rw (← all-starts) is.within in
-      let risen = ordered place k d up within in
-      let at = start-of modules place d 0 here in
-      lt-leb _ _ (omega (arith, risen, at, high))
-
-  is-first : address < slice_index (starts_of modules) place → place ≡ 0
-  is-first high =
-      ⊎_elim
-      (λ (some : 0 < place). let low = is.below some in absurd (omega (arith, low, high)))
-      (λ (none : place ≤ 0). omega (arith, none))
-      (cases_lt 0 place)
-
-  pub point-of-place : (start n : ℕ) → start ≡ slice_index_or (starts_of modules) place start → (start ≤ address → n ≡ 1) → (address < start → n ≡ 0) → IsPartitionPoint (λ m. starts_by address m ≡ true) (λ m. starts_by address m ≡ false) modules (place + n)
-  point-of-place start n read one none =
-      let at : start ≡ slice_index (starts_of modules) place = read ∙ get_or_default (starts_of modules) place start 0 is.within in
-      ⊎_elim
-      (λ (high : address < start).
-      let above : address < slice_index (starts_of modules) place = rw at at high in
-      let zero = none high in
-      let first = is-first above in
-      (λ k d _ h. absurd (omega (arith, h, zero, first)), λ k d up h. first-above above k d (omega (arith, up, zero)) h))
-      (λ (low : start ≤ address).
-      let below : slice_index (starts_of modules) place ≤ address = rw at at low in
-      let one = one low in
-      (λ k d _ h. starts-below k d (omega (arith, h, one)) below, λ k d up h. starts-above k d (omega (arith, up, one)) h))
-      (cases_lt address start)
+pub point-of-starts : (address : ℕ) (modules : List ModuleView) (place : ℕ) → place ≤ length modules → IsPartitionPoint (λ start. start ≤ address) (λ start. address < start) (starts_of modules) place → IsPartitionPoint (λ m. starts_by address m ≡ true) (λ m. starts_by address m ≡ false) modules place
+point-of-starts address modules place most point =
+    let all : length (starts_of modules) ≡ length modules = length-map modules (λ m. m.start) in (
+      λ k d low up. le-leb _ _ (rw (start-of modules k d 0 (omega (arith, up, most))) at (point.0 k 0 low up)),
+      λ k d up within. lt-leb _ _ (rw (start-of modules k d 0 within) at (point.1 k 0 up (rw all within))),
+    )
 
 -- ---- the list stays in order
 

@@ -1,10 +1,9 @@
 //! The modules of an unwinder, in the order of their starts.
-ghost use Rattle.std.specs.Prelude.{◌≡◌, ◌-◌, ◌<◌, ◌≤◌, IfErr, OnOk, MatchOption, None, Some, true, false, [], length, take, drop, remove};
-ghost use Rattle.std.specs.List.Sorted.{IsPartitionPoint};
+ghost use Rattle.std.specs.Prelude.{◌≡◌, ◌-◌, ◌<◌, ◌≤◌, IfErr, OnOk, MatchOption, None, Some, true, false, [], length, take, drop, remove, nat_le, if◌then◌else◌};
+ghost use Rattle.std.specs.List.Sorted.{IsNonDecreasing, IsPartitionPoint};
 ghost use Rattle.framehop.specs.Modules.{starting_by, starting_above, with_module, has_start, without_module, starts_by, covering, greatest_end};
 
 use crate::modules::Module;
-use framehop_bytes::place::{Starts, place};
 use framehop_bytes::section::SectionBytes;
 use std::alloc::{AllocError, Global};
 use std::marker::Model;
@@ -26,20 +25,6 @@ impl<D: SectionBytes> Model for ModuleList<D> {
     ghost view = { λ list. list.modules.items };
 
     ghost invariant = { λ list. AreInOrder list.modules.items × (list.starts.items ≡ starts_of list.modules.items) };
-}
-
-impl<D: SectionBytes> Starts for ModuleList<D> {
-    ghost use Rattle.framehop.specs.Modules.{starts_of};
-
-    ghost starts = { starts_of };
-
-    fn count(&self) -> usize {
-        self.starts.len()
-    }
-
-    fn start(&self, index: usize) -> u64 {
-        self.starts[index]
-    }
 }
 
 impl<D: SectionBytes + Drop> Clone for ModuleList<D> {
@@ -152,10 +137,40 @@ impl<D: SectionBytes + Drop> ModuleList<D> {
         ensures before { take result self.now ≡ starting_by address self.now }
         ensures after { drop result self.now ≡ starting_above address self.now }
     {
-        if self.starts.is_empty() {
-            return 0;
-        }
-        let last = place(self, address);
-        last + usize::from(self.starts[last] <= address)
+        count_up_to(self.starts.as_slice(), address)
     }
+}
+
+/// Returns how many starts, which do not fall, are at or below an address.
+///
+/// A turn leaves a quarter: it compares three starts, which a processor reads at the same time, and branches on none
+/// of them, since it could not foresee such a branch.
+fn count_up_to(starts: &[u64], address: u64) -> usize
+    requires { IsNonDecreasing starts.now }
+    ensures within { result ≤ length starts.now }
+    ensures point { IsPartitionPoint (λ start. start ≤ address) (λ start. address < start) starts.now result }
+{
+    let mut low = 0;
+    let mut size = starts.len();
+    while size > 3 {
+        let quarter = size / 4;
+        let passed = one_if_up_to(address, starts[low + quarter - 1])
+            + one_if_up_to(address, starts[low + 2 * quarter - 1])
+            + one_if_up_to(address, starts[low + 3 * quarter - 1]);
+        low += passed * quarter;
+        size -= 3 * quarter;
+    }
+    while size > 0 {
+        low += one_if_up_to(address, starts[low]);
+        size -= 1;
+    }
+    low
+}
+
+/// Returns 1 for a start at or below the address, else 0.
+#[inline(always)]
+fn one_if_up_to(address: u64, start: u64) -> usize
+    ensures { result ≡ (if nat_le start address then 1 else 0) }
+{
+    usize::from(start <= address)
 }

@@ -1,14 +1,15 @@
 //! A place in a table of starts, found by halving in place.
-ghost use Rattle.std.specs.Prelude.{◌≡◌, ◌<◌, ◌≤◌, ℕ, List, length, slice_index};
+ghost use Rattle.std.specs.Prelude.{◌≡◌, ◌<◌, ◌≤◌, ◌^◌, ℕ, List, length, slice_index};
 ghost use Rattle.framehop_bytes.specs.Place.{place_of, IsPlace, AreOrdered};
 
 /// A table whose rows begin at addresses.
 pub trait Starts {
     ghost starts: { Self → List ℕ };
 
-    /// Returns how many rows there are.
+    /// Returns how many rows there are: fewer than 2^63.
     fn count(&self) -> usize
-        ensures { result ≡ length (starts self.now) };
+        ensures count { result ≡ length (starts self.now) }
+        ensures few { result < 2 ^ 63 };
 
     /// Returns where a row begins.
     fn start(&self, index: usize) -> u64
@@ -26,14 +27,17 @@ pub fn place<T: Starts>(table: &T, address: u64) -> usize
 {
     let mut low = 0;
     let mut size = table.count();
-    while size > 1 {
+    // The number of turns depends on the count only, and no turn branches on what it reads: so a processor foresees
+    // all branches. `size` is at most one more than `most`, and is rounded up where the upper half is taken.
+    let mut most = size - 1;
+    while most > 0 {
         let half = size / 2;
         let is_upper = table.start(low + half) <= address;
         if is_upper {
             low += half;
         }
-        // A product, so that no branch is made, which a processor could not foresee.
-        size = half + size % 2 * usize::from(is_upper);
+        size = (size + usize::from(is_upper)) / 2;
+        most /= 2;
     }
     low
 }

@@ -10,7 +10,8 @@ pub record Layout : Type 0 where
   pub count : ℕ
   pub rows : ℕ
 
--- there are rows, at offsets of 64 bits
+-- there are rows of numbers that have bytes, at offsets of 64 bits
 pub record HasRows (layout : Layout) : Type 0 where
   pub some : 0 < layout.count
+  pub sized : 0 < layout.size
   pub held : layout.rows + 2 * layout.size * layout.count < 2 ^ 64

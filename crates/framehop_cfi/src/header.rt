@@ -58,7 +58,7 @@ impl Model for TableLayout {
 /// Returns the size of a table's numbers, by their format.
 fn size_of_format(encoding: u8) -> Result<usize, ReadError>
     ensures exact { result ≡ table_size encoding }
-    ensures small { IfOk result (λ size. size ≤ 8) }
+    ensures small { IfOk result (λ size. (0 < size) × (size ≤ 8)) }
 {
     if encoding >= 0x40 {
         return Err(ReadError::BadEncoding);
@@ -105,10 +105,11 @@ impl TableLayout {
         self.size
     }
 
-    /// Returns how many rows there are: one at least.
+    /// Returns how many rows there are: one at least, and fewer than 2^63.
     pub fn count(&self) -> usize
         ensures count { result ≡ self.now.count }
         ensures some { 0 < result }
+        ensures few { result < 2 ^ 63 }
     {
         self.count
     }
