@@ -3,10 +3,13 @@ use Rattle.std.proofs.Common.{
   ◌≡◌,
   ◌≢◌,
   ℕ,
+  ◌+◌,
+  ◌*◌,
   ◌<◌,
   ◌≤◌,
   ◌^◌,
   ◌&&◌,
+  ◌∙◌,
   Bool,
   true,
   false,
@@ -15,8 +18,9 @@ use Rattle.std.proofs.Common.{
   ◌∷◌,
   length,
   drop,
+  drop-cons,
   get_or,
-  cond,
+  suc,
   Option,
   Some,
   None,
@@ -24,54 +28,65 @@ use Rattle.std.proofs.Common.{
   nat_le,
   if◌then◌else◌,
   refl,
-  Result,
-  Ok,
-  Err,
+  sym,
   ap,
   subst,
   arith,
-  inl,
-  inr,
   SomeIff,
   lit<,
 }
-use Rattle.std.specs.Result.{OkIff, result_ok}
 use Rattle.std.specs.Char.{digit_value}
 use Rattle.framehop_walk.specs.Fields.{all_digits, hexadecimal}
-use Rattle.std.specs.Str.Parse.{AllDigits, IsNumeral, digits_value, without_leading_plus}
-use Rattle.std.proofs.Math.Nat.{pow-le-pow_right}
-use Rattle.std.proofs.lemmas.Int.Digits.{digits_value-lt}
+use Rattle.std.specs.Str.Parse.{AllDigits, IsNumeral, digits_value, digits_value_after}
+use Rattle.std.proofs.Math.Nat.{pow-le-pow_right, pow-succ'}
+use Rattle.std.proofs.lemmas.List.{drop_all}
 use Rattle.std.proofs.lemmas.Bool.{and_parts, and_from, ltb-true, leb-true, lt-ltb, le-leb}
-use Rattle.std.proofs.lemmas.Bool.Decides.{eqb_tells}
 
--- a text that doesn't begin with a plus has none to leave out
-without_leading_plus-none : (digits : List ℕ) → get_or digits 0 0 ≢ 43 → without_leading_plus digits ≡ digits
-without_leading_plus-none digits plain =
-    elim (eqb_tells (get_or digits 0 0) 43) [
-      | inl is ↦ absurd (plain is.1)
-      | inr is ↦ ap (λ b. drop (cond b 1 0) digits) is.0
-    ]
+-- the number that the first `i` of the digits write, if they are digits
+pub record SoFar (digits : List ℕ) (i number : ℕ) : Type 0 where
+  pub same : digits_value_after 16 number (drop i digits) ≡ digits_value 16 digits
+  pub back : AllDigits 16 (drop i digits) → AllDigits 16 digits
+  pub on : AllDigits 16 digits → AllDigits 16 (drop i digits)
+  pub below : number < 16 ^ i
 
--- the number that so many digits write fits 64 bits
-short-fits : (digits : List ℕ) → IsNumeral 16 digits → length digits ≤ 16 → digits_value 16 digits < 2 ^ 64
-short-fits digits is_numeral short =
-    let below : digits_value 16 digits < 16 ^ length digits = digits_value-lt 16 digits is_numeral.1 in
-    let most : 16 ^ length digits ≤ 16 ^ 16 = pow-le-pow_right (lit< tt) short in
-    omega (arith, below, most)
+pub none-read : (digits : List ℕ) → SoFar digits 0 0
+none-read digits = record { same = refl; back = λ d. d; on = λ d. d; below = lit< tt }
 
-answer : {E : Type 0} (digits : List ℕ) (result : Result ℕ E) → OkIff result (IsNumeral 16 digits × (digits_value 16 digits < 2 ^ 64)) (digits_value 16 digits)
-    → length digits ≤ 16 → SomeIff (result_ok result) (IsNumeral 16 digits × (length digits ≤ 16)) (digits_value 16 digits)
-answer digits (Ok number) parsed short = ((parsed.0.0, short), parsed.1)
-answer digits (Err e) refused short = λ is. refused (is.0, short-fits digits is.0 is.1)
+module _ (digits : List ℕ) (i number : ℕ) (read : SoFar digits i number) where
+  -- one digit more fits 64 bits
+  pub one-more-fits : (digit : ℕ) → i < 16 → digit < 16 → number * 16 + digit < 2 ^ 64
+  one-more-fits digit short small =
+      let few : i ≤ 15 = omega arith in
+      let most : 16 ^ i ≤ 16 ^ 15 = pow-le-pow_right (lit< tt) few in
+      omega (arith, read.below, most)
 
--- what `from_str_radix` answers for a text of at most 16 bytes that doesn't begin with a plus
-pub parsed-short : {E : Type 0} (digits : List ℕ) (result : Result ℕ E)
-    → OkIff result (IsNumeral 16 (without_leading_plus digits) × (digits_value 16 (without_leading_plus digits) < 2 ^ 64)) (digits_value 16 (without_leading_plus digits))
-    → get_or digits 0 0 ≢ 43 → length digits ≤ 16
-    → SomeIff (result_ok result) (IsNumeral 16 digits × (length digits ≤ 16)) (digits_value 16 digits)
-parsed-short digits result parsed plain short =
-    let P : List ℕ → Type 0 = λ ds. OkIff result (IsNumeral 16 ds × (digits_value 16 ds < 2 ^ 64)) (digits_value 16 ds) in
-    answer digits result (subst P (without_leading_plus-none digits plain) parsed) short
+  module _ (within : i < length digits) where
+    next : drop i digits ≡ get_or digits i 0 ∷ drop (i + 1) digits
+    next = let e : i + 1 ≡ suc i = omega arith in rw e (drop-cons digits i 0 within)
+
+    pub one-more : (more : ℕ) → digit_value (get_or digits i 0) < 16 → more ≡ number * 16 + digit_value (get_or digits i 0)
+        → SoFar digits (i + 1) more
+    one-more more small is =
+        let k : i + 1 ≡ suc i = omega arith in
+        let e : 16 ^ (i + 1) ≡ 16 * 16 ^ i = ap (λ n. 16 ^ n) k ∙ pow-succ' 16 i in
+        record {
+          same = ap (λ n. digits_value_after 16 n (drop (i + 1) digits)) is
+              ∙ sym (ap (digits_value_after 16 number) next) ∙ read.same;
+          back = λ d. read.back (subst (AllDigits 16) (sym next) (small, d));
+          on = λ d. (subst (AllDigits 16) next (read.on d)).1;
+          below = omega (arith, read.below, is, e);
+        }
+
+    pub no-digit : (digit_value (get_or digits i 0) < 16 → ⊥) → IsNumeral 16 digits × (length digits ≤ 16) → ⊥
+    no-digit other numeral = other (subst (AllDigits 16) next (read.on numeral.0.1)).0
+
+  pub all-read : length digits ≤ i → length digits ≢ 0 → length digits ≤ 16
+      → (IsNumeral 16 digits × (length digits ≤ 16)) × (number ≡ digits_value 16 digits)
+  all-read past some short =
+      let end : drop i digits ≡ [] = drop_all i digits past in (
+        ((omega arith, read.back (subst (AllDigits 16) (sym end) tt)), short),
+        sym (ap (digits_value_after 16 number) end) ∙ read.same,
+      )
 
 all_digits-AllDigits : (digits : List ℕ) → all_digits digits ≡ true → AllDigits 16 digits
 all_digits-AllDigits [] h = tt

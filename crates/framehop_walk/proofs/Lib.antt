@@ -1,4 +1,5 @@
 pub mod CommandLines
+pub mod Digits
 pub mod Documents
 pub mod Hexadecimal
 pub mod Items

@@ -1,7 +1,8 @@
 //! Fields of a JSON object, each of one kind.
 // Reads the fields of JSON objects. A field that is missing or of another kind is refused by its
 // name.
-ghost use Rattle.std.specs.Prelude.{◌≡◌, ◌≤◌, length, SomeIff};
+ghost use Rattle.std.specs.Prelude.{◌≡◌, ◌<◌, ◌≤◌, length, SomeIff};
+ghost use Rattle.std.specs.Char.{digit_value};
 ghost use Rattle.serde_json.specs.Find.{get, as_str, as_array};
 ghost use Rattle.serde_json.specs.View.{view, items_view, members_view};
 ghost use Rattle.framehop_walk.specs.Numbers.{has_bad_number, any_bad_item, any_bad_member};
@@ -120,14 +121,35 @@ fn parse_hexadecimal(digits: &str) -> Option<u64>
         (digits_value 16 digits.now) }
 {
     let bytes = digits.as_bytes();
-    if bytes.is_empty() || bytes.len() > MAX_DIGITS || bytes[0] == b'+' {
+    if bytes.is_empty() || bytes.len() > MAX_DIGITS {
         return None;
     }
-    u64::from_str_radix(digits, 16).ok()
+    let mut number = 0;
+    for byte in bytes {
+        number = number * 16 + hexadecimal_digit(*byte)?;
+    }
+    Some(number)
+}
+
+/// Returns the value of a hexadecimal digit, of either case.
+#[inline(always)]
+fn hexadecimal_digit(byte: u8) -> Option<u64>
+    ensures { SomeIff result (digit_value byte < 16) (digit_value byte) }
+{
+    let decimal = byte.wrapping_sub(b'0');
+    if decimal < 10 {
+        return Some(u64::from(decimal));
+    }
+    match byte {
+        b'a'..=b'f' => Some(u64::from(byte - b'a' + 10)),
+        b'A'..=b'F' => Some(u64::from(byte - b'A' + 10)),
+        _ => None,
+    }
 }
 
 /// Returns whether a number is in the value, at any depth, that is not whole or does not fit 64 bits.
 #[cycle(has_bad_number)]
+#[inline(always)]
 pub fn has_bad_number(value: &Value) -> bool
     ensures { result ≡ has_bad_number (view value.now) }
 {
@@ -142,6 +164,7 @@ pub fn has_bad_number(value: &Value) -> bool
 }
 
 #[cycle(has_bad_number)]
+#[inline(never)]
 fn any_bad_item(items: &Vec<Value>) -> bool
     ensures { result ≡ any_bad_item (items_view items.now.items) }
 {
@@ -154,6 +177,7 @@ fn any_bad_item(items: &Vec<Value>) -> bool
 }
 
 #[cycle(has_bad_number)]
+#[inline(never)]
 fn any_bad_member(members: &Map<String, Value>) -> bool
     ensures { result ≡ any_bad_member (members_view members.now.entries) }
 {

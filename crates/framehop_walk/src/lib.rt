@@ -7,6 +7,7 @@ pub mod fields;
 mod input;
 mod lookup;
 mod output;
+mod printing;
 mod program;
 mod refusal;
 pub mod registers;

@@ -7,6 +7,7 @@ ghost use Rattle.framehop_walk.specs.Registers.{read_aarch64, read_x86_64, read_
 ghost use Rattle.framehop_walk.specs.Text.{aarch64_text, register_text, named_registers_text, numbered_registers_text, x86_64_text};
 
 use crate::fields::{hexadecimal, optional_hexadecimal};
+use crate::printing::print_hexadecimal;
 use crate::refusal::Refusal;
 use framehop::Unwinding;
 use framehop::aarch64::{ArchAarch64, PtrAuthMask, UnwindRegsAarch64};
@@ -31,7 +32,7 @@ pub trait Registers: Unwinding {
         ensures { OnOk result (string_bytes out.new ≡ string_bytes out.old ++ text regs.now) };
 }
 
-#[tactic(auto, unfolding(crate::specs::Registers::read_aarch64))]
+#[tactic(auto, unfolding(crate::specs::Registers::read_aarch64, crate::specs::Text::register_text))]
 impl Registers for ArchAarch64 {
     ghost reading = { read_aarch64 };
 
@@ -50,7 +51,9 @@ impl Registers for ArchAarch64 {
 
     fn print(regs: &UnwindRegsAarch64, out: &mut String) -> Result<(), AllocError> {
         let (lr, sp, fp) = (regs.lr(), regs.sp(), regs.fp());
-        write!(out, " lr={lr:x} sp={sp:x} fp={fp:x}")
+        print_register("lr", lr, out)?;
+        print_register("sp", sp, out)?;
+        print_register("fp", fp, out)
     }
 }
 
@@ -151,5 +154,8 @@ fn print_numbered_registers(regs: &UnwindRegsX86_64, out: &mut String) -> Result
 fn print_register(name: &str, value: u64, out: &mut String) -> Result<(), AllocError>
     ensures { OnOk result (string_bytes out.new ≡ string_bytes out.old ++ register_text name.now value) }
 {
-    write!(out, " {name}={value:x}")
+    out.push(' ')?;
+    out.push_str(name)?;
+    out.push('=')?;
+    print_hexadecimal(value, out)
 }

@@ -2,8 +2,9 @@
 ghost use Rattle.std.specs.Prelude.{◌≡◌, ◌++◌, OnOk, string_bytes, map};
 ghost use Rattle.framehop.specs.CodeAddress.{location_of};
 ghost use Rattle.framehop.specs.SessionView.{end_of, reply_view};
-ghost use Rattle.framehop_walk.specs.Text.{frame_line, frame_lines, end_line, step_line, count_text, stats_line, registers_line, reply_lines};
+ghost use Rattle.framehop_walk.specs.Text.{line, hexadecimal, frame_line, frame_lines, end_line, step_line, count_text, stats_line, registers_line, reply_lines};
 
+use crate::printing::print_hexadecimal;
 use crate::registers::Registers;
 use framehop::session::{Reply, WalkEnd};
 use framehop::{CacheStats, Error, FrameAddress};
@@ -39,7 +40,7 @@ fn print_step(answer: Result<Option<u64>, Error>, out: &mut String) -> Result<()
     ensures { OnOk result (string_bytes out.new ≡ string_bytes out.old ++ step_line answer) }
 {
     match answer {
-        Ok(Some(address)) => writeln!(out, "step {address:x}"),
+        Ok(Some(address)) => print_address("step ", address, out),
         Ok(None) => writeln!(out, "step end"),
         Err(error) => writeln!(out, "step stopped: {error}"),
     }
@@ -60,12 +61,19 @@ fn print_frame(frame: FrameAddress, out: &mut String) -> Result<(), AllocError>
         ≡ string_bytes out.old ++ frame_line (location_of frame)) }
 {
     match frame {
-        FrameAddress::InstructionPointer(address) => writeln!(out, "ip {address:x}"),
-        FrameAddress::ReturnAddress(address) => {
-            let address = address.get();
-            writeln!(out, "ra {address:x}")
-        }
+        FrameAddress::InstructionPointer(address) => print_address("ip ", address, out),
+        FrameAddress::ReturnAddress(address) => print_address("ra ", address.get(), out),
     }
+}
+
+/// Prints a line: the label, and the address in hexadecimal.
+fn print_address(label: &str, address: u64, out: &mut String) -> Result<(), AllocError>
+    ensures { OnOk result (string_bytes out.new
+        ≡ string_bytes out.old ++ line (label.now ++ hexadecimal address)) }
+{
+    out.push_str(label)?;
+    print_hexadecimal(address, out)?;
+    out.push('\n')
 }
 
 fn print_end(end: WalkEnd, out: &mut String) -> Result<(), AllocError>
