@@ -1,23 +1,23 @@
 -- A set of the cache in memory, as its entries with the newest first.
-use Rattle.std.specs.Prelude.{◌≡◌, Bool, true, false, List, [], ◌∷◌, ◌++◌, find, Option, Some, None, ⊤}
-use Rattle.framehop_cache.specs.Cache.{Key, Entry, same_key}
-use Rattle.framehop_cache.specs.declared.rule_cache.CacheEntry.{CacheEntry}
+use Rattle.std.specs.Prelude.{◌≡◌, ℕ, Bool, true, false, if◌then◌else◌, List, [], ◌∷◌, ◌++◌, find, Option, Some, None, ⊤}
+use Rattle.framehop_cache.specs.Cache.{Key, Entry, key_of, same_key}
 use Rattle.framehop_cache.specs.declared.rule_cache.CacheSet.{CacheSet}
 use Rattle.framehop_cache.specs.declared.rule_cache.Slot.{Slot}
-use Rattle.framehop_cache.specs.declared.rule_cache.Slot.TheVariants.{Empty, FirstFrame, CallerFrame}
+use Rattle.framehop_cache.specs.declared.rule_cache.SlotRule.{SlotRule}
+use Rattle.framehop_cache.specs.declared.rule_cache.SlotRule.TheVariants.{Empty, FirstFrame, CallerFrame}
 
--- an entry in memory, of a first frame (`true`) or another
-abbrev pub entry_of : {R : Type 0} → Bool → CacheEntry R → Entry R
-entry_of is_first_frame entry = record {
-  key = record { address = entry.address; generation = entry.modules_generation; is_first_frame = is_first_frame };
-  rule = entry.unwind_rule;
-}
+-- a rule of a first frame (`true`) or another, as a slot holds it
+abbrev pub rule_in_slot : {R : Type 0} → Bool → R → SlotRule R
+rule_in_slot is_first_frame rule = if is_first_frame then FirstFrame rule else CallerFrame rule
 
--- the entry that a slot holds, or none
+-- the entry in a slot of that address and generation, or none
+abbrev pub entries_by : {R : Type 0} → ℕ → ℕ → SlotRule R → List (Entry R)
+entries_by address generation Empty = []
+entries_by address generation (FirstFrame rule) = record { key = key_of address generation true; rule = rule } ∷ []
+entries_by address generation (CallerFrame rule) = record { key = key_of address generation false; rule = rule } ∷ []
+
 abbrev pub entries_of_slot : {R : Type 0} → Slot R → List (Entry R)
-entries_of_slot Empty = []
-entries_of_slot (FirstFrame entry) = entry_of true entry ∷ []
-entries_of_slot (CallerFrame entry) = entry_of false entry ∷ []
+entries_of_slot slot = entries_by slot.address slot.modules_generation slot.rule
 
 -- the entries of a set
 abbrev pub entries_of : {R : Type 0} → CacheSet R → List (Entry R)
@@ -32,6 +32,11 @@ rule_found (Some entry) = Some entry.rule
 abbrev pub rule_under : {R : Type 0} → Key → List (Entry R) → Option R
 rule_under key entries = rule_found (find (λ entry. same_key entry.key key) entries)
 
+-- the newest entry, if there is one, has another key
+abbrev pub HasOtherNewest : {R : Type 0} → Key → List (Entry R) → Type 0
+HasOtherNewest key [] = ⊤
+HasOtherNewest key (entry ∷ entries) = same_key entry.key key ≡ false
+
 -- the rules of all entries can be run
 abbrev pub AllRun : {R : Type 0} → (R → Bool) → List (Entry R) → Type 0
 AllRun executable [] = ⊤
@@ -44,6 +49,6 @@ HaveTwoKeys _ = ⊤
 
 -- a set in memory: an older entry only where there is a newest one, of another key, and rules that can be run
 pub record IsSet {R : Type 0} (executable : R → Bool) (set : CacheSet R) : Type 0 where
-  pub filled : set.newest ≡ Empty → set.older ≡ Empty
+  pub filled : set.newest.rule ≡ Empty → set.older.rule ≡ Empty
   pub keys : HaveTwoKeys (entries_of set)
   pub run : AllRun executable (entries_of set)

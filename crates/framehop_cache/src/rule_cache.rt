@@ -2,11 +2,11 @@
 //!
 //! A set has two slots, the newest entry and an older one. A hit of the newest, which most are, writes no entry and
 //! is inlined. Nothing is thrown out when modules change: a generation is part of the key.
-ghost use Rattle.std.specs.Prelude.{◌≡◌, ◌^◌, ◌-◌, ◌+◌, ◌∷◌, [], ◌==◌, nat_le, min, true, IfOk, IfSome, Some, length};
+ghost use Rattle.std.specs.Prelude.{◌≡◌, ◌^◌, ◌-◌, ◌+◌, ◌∷◌, [], ◌==◌, nat_le, nat_lt, min, true, IfOk, IfNone, IfSome, Some, length, get_or};
 ghost use Rattle.std.specs.List.{list_any};
 ghost use Rattle.framehop_cache.specs.Cache.{key_of, counted, empty_cache, no_stats, found, inserted, inserted_in, misses_of, total_of, set_number, ways};
 ghost use Rattle.framehop_cache.specs.CacheResult.{result_of, rule_of, HitRuns};
-ghost use Rattle.framehop_cache.specs.CacheSet.{entry_of, entries_of_slot, entries_of, rule_under, IsSet};
+ghost use Rattle.framehop_cache.specs.CacheSet.{rule_in_slot, entries_of_slot, entries_of, rule_under, HasOtherNewest, IsSet};
 
 use framehop_core::unwind_rule::UnwindRule;
 use std::alloc::{AllocError, Global};
@@ -44,9 +44,14 @@ impl<R: UnwindRule> RuleCache<R> {
         ensures { IfOk result (λ cache. cache ≡ empty_cache) }
     {
         let mut sets = Vec::new(alloc);
+        let slot = Slot {
+            rule: SlotRule::Empty,
+            address: 0,
+            modules_generation: 0,
+        };
         let empty = CacheSet {
-            newest: Slot::Empty,
-            older: Slot::Empty,
+            newest: slot,
+            older: slot,
         };
         sets.resize(CACHE_SET_COUNT, empty)?;
         Ok(RuleCache {
@@ -81,7 +86,8 @@ impl<R: UnwindRule> RuleCache<R> {
         }
         if set.is_empty() {
             self.stats.miss_empty_slot_count = self.stats.miss_empty_slot_count.saturating_add(1);
-        } else if let Some(unwind_rule) = self.lookup_in_set(
+        } else if let Some(unwind_rule) = self.lookup_older(
+            number,
             address,
             modules_generation,
             is_first_frame,
@@ -96,16 +102,19 @@ impl<R: UnwindRule> RuleCache<R> {
         })
     }
 
-    /// Looks for the rule in both entries of the set, and counts the lookup. It is called, so that
-    /// a hit of the newest entry and a miss at an empty set are inlined.
+    /// Looks for the rule in the older entry of the set with that number, where the newest has another key, and
+    /// counts the lookup. It is called, so that a hit of the newest entry and a miss at an empty set are inlined.
     #[inline(never)]
     #[tactic(auto, using(crate::proofs::SetLemmas::missed, crate::proofs::SetLemmas::set_at))]
-    fn lookup_in_set(
+    fn lookup_older(
         &mut self,
+        number: u16,
         address: u64,
         modules_generation: u64,
         is_first_frame: bool,
     ) -> Option<R>
+        requires number { number ≡ set_number address }
+        requires newest { HasOtherNewest (key_of address modules_generation is_first_frame) (get_or self.old.sets number []) }
         ensures answer { result ≡ rule_of
             (found ways self.old.sets (key_of address modules_generation is_first_frame)) }
         ensures executable { IfSome result (λ rule. R.executable rule ≡ true) }
@@ -114,9 +123,8 @@ impl<R: UnwindRule> RuleCache<R> {
             (found ways self.old.sets (key_of address modules_generation is_first_frame)) }
         ensures total { total_of self.new.stats ≡ min (total_of self.old.stats + 1) (2 ^ 64 - 1) }
     {
-        let number = (address % CACHE_SET_COUNT as u64) as u16;
         let set = &self.sets[number as usize];
-        if let Some(unwind_rule) = set.find(address, modules_generation, is_first_frame) {
+        if let Some(unwind_rule) = set.find_older(address, modules_generation, is_first_frame) {
             self.stats.hit_count = self.stats.hit_count.saturating_add(1);
             return Some(unwind_rule);
         }
@@ -151,12 +159,7 @@ impl<R: UnwindRule> RuleCache<R> {
             modules_generation,
             is_first_frame,
         } = handle;
-        let entry = CacheEntry {
-            address,
-            modules_generation,
-            unwind_rule,
-        };
-        self.sets[set as usize].insert(entry, is_first_frame);
+        self.sets[set as usize].insert(address, modules_generation, is_first_frame, unwind_rule);
     }
 
     /// Returns a snapshot of the counts.
@@ -206,25 +209,21 @@ impl<R: UnwindRule> CacheSet<R> {
     #[inline(always)]
     fn find_newest(&self, address: u64, modules_generation: u64, is_first_frame: bool) -> Option<R>
         ensures answer { IfSome result (λ rule. rule_under (key_of address modules_generation is_first_frame) (entries_of self.now) ≡ Some rule) }
+        ensures none { IsSet R.executable self.now → IfNone result (HasOtherNewest (key_of address modules_generation is_first_frame) (entries_of self.now)) }
         ensures executable { IsSet R.executable self.now → IfSome result (λ rule. R.executable rule ≡ true) }
     {
         self.newest
             .find(address, modules_generation, is_first_frame)
     }
 
-    /// Returns the rule that is stored under a key.
+    /// Returns the rule that is stored under a key, which is not that of the newest entry.
     #[inline(always)]
-    fn find(&self, address: u64, modules_generation: u64, is_first_frame: bool) -> Option<R>
+    fn find_older(&self, address: u64, modules_generation: u64, is_first_frame: bool) -> Option<R>
+        requires { HasOtherNewest (key_of address modules_generation is_first_frame) (entries_of self.now) }
         ensures answer { result ≡ rule_under (key_of address modules_generation is_first_frame) (entries_of self.now) }
         ensures executable { IsSet R.executable self.now → IfSome result (λ rule. R.executable rule ≡ true) }
     {
-        match self
-            .newest
-            .find(address, modules_generation, is_first_frame)
-        {
-            Some(unwind_rule) => Some(unwind_rule),
-            None => self.older.find(address, modules_generation, is_first_frame),
-        }
+        self.older.find(address, modules_generation, is_first_frame)
     }
 
     /// Returns whether the set has no entry.
@@ -233,7 +232,7 @@ impl<R: UnwindRule> CacheSet<R> {
         requires { IsSet R.executable self.now }
         ensures { result ≡ (length (entries_of self.now) == 0) }
     {
-        matches!(self.newest, Slot::Empty)
+        !self.newest.is_filled()
     }
 
     /// Returns whether the set has no room without dropping an entry.
@@ -242,7 +241,7 @@ impl<R: UnwindRule> CacheSet<R> {
         requires { IsSet R.executable self.now }
         ensures { result ≡ nat_le ways (length (entries_of self.now)) }
     {
-        !matches!(self.older, Slot::Empty)
+        self.older.is_filled()
     }
 
     /// Returns whether an entry has the generation.
@@ -254,66 +253,94 @@ impl<R: UnwindRule> CacheSet<R> {
             || self.older.has_generation(modules_generation)
     }
 
-    /// Stores an entry, of a first frame or a caller's, as the newest. An entry of the same key is
-    /// replaced, else the older one is dropped.
+    /// Stores a rule under a key, as the newest entry. An entry of the same key is replaced, else the older one is
+    /// dropped.
     #[inline(always)]
-    fn insert(&mut self, entry: CacheEntry<R>, is_first_frame: bool)
-        requires executable { R.executable entry.unwind_rule ≡ true }
+    fn insert(
+        &mut self,
+        address: u64,
+        modules_generation: u64,
+        is_first_frame: bool,
+        unwind_rule: R,
+    )
+        requires executable { R.executable unwind_rule ≡ true }
         requires set { IsSet R.executable self.old }
-        ensures stored { entries_of self.new ≡ inserted_in ways (entry_of is_first_frame entry) (entries_of self.old) }
+        ensures stored { entries_of self.new ≡ inserted_in ways
+            (record { key = key_of address modules_generation is_first_frame; rule = unwind_rule }) (entries_of self.old) }
         ensures set { IsSet R.executable self.new }
     {
         if !self.is_empty()
             && self
                 .newest
-                .find(entry.address, entry.modules_generation, is_first_frame)
+                .find(address, modules_generation, is_first_frame)
                 .is_none()
         {
             self.older = self.newest;
         }
-        self.newest = Slot::new(entry, is_first_frame);
+        self.newest = Slot {
+            rule: SlotRule::new(unwind_rule, is_first_frame),
+            address,
+            modules_generation,
+        };
     }
 }
 
-/// A slot: empty, or with the rule of a frame that is a first one or a caller's.
+/// The rule in a slot, with the kind of its frame.
 #[derive(Clone, Copy, Debug)]
-enum Slot<R> {
+enum SlotRule<R> {
+    /// The slot is empty.
     Empty,
-    FirstFrame(CacheEntry<R>),
-    CallerFrame(CacheEntry<R>),
+    /// The rule of a first frame.
+    FirstFrame(R),
+    /// The rule of a caller's frame.
+    CallerFrame(R),
+}
+
+impl<R: Copy> SlotRule<R> {
+    /// Returns what holds the rule of a frame that is a first one, or a caller's.
+    #[inline(always)]
+    fn new(unwind_rule: R, is_first_frame: bool) -> Self
+        ensures { result ≡ rule_in_slot is_first_frame unwind_rule }
+    {
+        if is_first_frame {
+            SlotRule::FirstFrame(unwind_rule)
+        } else {
+            SlotRule::CallerFrame(unwind_rule)
+        }
+    }
+}
+
+/// A slot: empty, or with an entry. An empty one has zeros only, so that a new cache is filled quickly. The address
+/// is compared first, which tells most others apart.
+#[derive(Clone, Copy, Debug)]
+struct Slot<R> {
+    rule: SlotRule<R>,
+    address: u64,
+    modules_generation: u64,
 }
 
 impl<R: UnwindRule> Slot<R> {
-    /// Returns the slot that holds the entry of a frame that is a first one, or a caller's.
-    #[inline(always)]
-    fn new(entry: CacheEntry<R>, is_first_frame: bool) -> Self
-        ensures { entries_of_slot result ≡ entry_of is_first_frame entry ∷ [] }
-    {
-        if is_first_frame {
-            Slot::FirstFrame(entry)
-        } else {
-            Slot::CallerFrame(entry)
-        }
-    }
-
     /// Returns the rule that is stored under a key.
     #[inline(always)]
     fn find(&self, address: u64, modules_generation: u64, is_first_frame: bool) -> Option<R>
         ensures { result ≡ rule_under (key_of address modules_generation is_first_frame) (entries_of_slot self.now) }
     {
-        let (entry, is_entry_of_first_frame) = match self {
-            Slot::Empty => return None,
-            Slot::FirstFrame(entry) => (entry, true),
-            Slot::CallerFrame(entry) => (entry, false),
-        };
-        if entry.address == address
-            && entry.modules_generation == modules_generation
-            && is_entry_of_first_frame == is_first_frame
-        {
-            Some(entry.unwind_rule)
-        } else {
-            None
+        if self.address != address || self.modules_generation != modules_generation {
+            return None;
         }
+        match self.rule {
+            SlotRule::FirstFrame(rule) if is_first_frame => Some(rule),
+            SlotRule::CallerFrame(rule) if !is_first_frame => Some(rule),
+            _ => None,
+        }
+    }
+
+    /// Returns whether the slot holds an entry.
+    #[inline(always)]
+    fn is_filled(&self) -> bool
+        ensures { result ≡ nat_lt 0 (length (entries_of_slot self.now)) }
+    {
+        !matches!(self.rule, SlotRule::Empty)
     }
 
     /// Returns whether the slot holds an entry of the generation.
@@ -321,20 +348,8 @@ impl<R: UnwindRule> Slot<R> {
     fn has_generation(&self, modules_generation: u64) -> bool
         ensures { result ≡ list_any (λ entry. entry.key.generation == modules_generation) (entries_of_slot self.now) }
     {
-        match self {
-            Slot::Empty => false,
-            Slot::FirstFrame(entry) | Slot::CallerFrame(entry) => {
-                entry.modules_generation == modules_generation
-            }
-        }
+        self.is_filled() && self.modules_generation == modules_generation
     }
-}
-
-#[derive(Clone, Copy, Debug)]
-struct CacheEntry<R> {
-    address: u64,
-    modules_generation: u64,
-    unwind_rule: R,
 }
 
 /// Statistics about the effectiveness of the rule cache. The counts stop at the largest `u64`.
