@@ -43,16 +43,16 @@ may-take-memory unwinding readers policy memory modules address first m relative
 error-is : {A : Type 0} (error : UnwinderError) → error ≢ out_of_memory → ◌≢◌ {A = Result A UnwinderError} (Err error) (Err out_of_memory)
 error-is error some e = some (err-same error out_of_memory e)
 
-module _ {R : Type 0} (fallback : R) where
-  pub has : (P : R → Type 0) (told : Result (UnwindResult R) UnwinderError) (result : Result (FrameAnswer R) Error) → IsAnswerOf fallback told result → IfRule told P → P fallback → IfOk result (AnswerHas P)
-  has P (Ok (ExecRule rule)) result is holds default = rw is holds
-  has P (Ok (Uncacheable address)) result is holds default = rw is tt
-  has P (Err error) result (no_memory out is) holds default = rw is tt
-  has P (Err error) result (no_values some of is) holds default = rw is tt
-  has P (Err error) result (nothing some of is) holds default = rw is default
+module _ {R : Type 0} where
+  pub has : (P : R → Type 0) (told : Result (UnwindResult R) UnwinderError) (result : Result (FrameAnswer R) Error) → IsAnswerOf told result → IfRule told P → IfOk result (AnswerHas P)
+  has P (Ok (ExecRule rule)) result is holds = rw is holds
+  has P (Ok (Uncacheable address)) result is holds = rw is tt
+  has P (Err error) result (no_memory out is) holds = rw is tt
+  has P (Err error) result (no_values some of is) holds = rw is tt
+  has P (Err error) result (nothing some of is) holds = rw is tt
 
 module _ {R Regs : Type 0} (fallback : R) where
-  pub refused : {Q : Type 0} (Advances : Regs → Regs → Type 0) (told : Result (UnwindResult R) UnwinderError) (result : Result (FrameAnswer R) Error) (old new : Regs) → IsAnswerOf fallback told result → WritesWithAddress Advances told old new → (told ≡ Err out_of_memory → Q) → IfErr result (λ error. (error ≡ NoMemory) × (new ≡ old) × Q)
+  pub refused : {Q : Type 0} (Advances : Regs → Regs → Type 0) (told : Result (UnwindResult R) UnwinderError) (result : Result (FrameAnswer R) Error) (old new : Regs) → IsAnswerOf told result → WritesWithAddress Advances told old new → (told ≡ Err out_of_memory → Q) → IfErr result (λ error. (error ≡ NoMemory) × (new ≡ old) × Q)
   refused Advances (Ok (ExecRule rule)) result old new is writes then = rw is tt
   refused Advances (Ok (Uncacheable address)) result old new is writes then = rw is tt
   refused Advances (Err error) result old new (no_memory out is) writes then = rw is (refl, writes, then (ap Err out))
@@ -72,7 +72,7 @@ module _ {R Regs : Type 0} (fallback : R) where
   values-given (Some (by_rule rule)) old memory is = absurd is
   values-given (Some (direct compute)) old memory is = refl
 
-  pub tells : (answer : Option (Fresh R Regs)) (told : Result (UnwindResult R) UnwinderError) (result : Result (FrameAnswer R) Error) → IsAnswerOf fallback told result → (told ≢ Err out_of_memory → TellsAnswer answer told) → IfOk result (TellsFresh (Given answer))
+  pub tells : (answer : Option (Fresh R Regs)) (told : Result (UnwindResult R) UnwinderError) (result : Result (FrameAnswer R) Error) → IsAnswerOf told result → (told ≢ Err out_of_memory → TellsAnswer answer told) → IfOk result (TellsFresh fallback (Given answer))
   tells answer (Ok (ExecRule rule)) result is told = rw is (ap Given (told (λ e. cc)))
   tells answer (Ok (Uncacheable address)) result is told = rw is (direct-given answer (told (λ e. cc)))
   tells answer (Err error) result (no_memory out is) told = rw is tt
@@ -81,7 +81,7 @@ module _ {R Regs : Type 0} (fallback : R) where
   tells answer (Err error) result (nothing some of is) told =
       rw is (ap Given (MatchBool-at_false _ _ of (told (error-is error some))))
 
-  pub values : (answer : Option (Fresh R Regs)) (told : Result (UnwindResult R) UnwinderError) (result : Result (FrameAnswer R) Error) (old new : Regs) (memory : Memory) → IsAnswerOf fallback told result → (told ≢ Err out_of_memory → TellsAnswer answer told) → (told ≢ Err out_of_memory → TellsValues answer old memory told new) → IfOk result (λ made. TellsFreshValues (Given answer) old memory made new)
+  pub values : (answer : Option (Fresh R Regs)) (told : Result (UnwindResult R) UnwinderError) (result : Result (FrameAnswer R) Error) (old new : Regs) (memory : Memory) → IsAnswerOf told result → (told ≢ Err out_of_memory → TellsAnswer answer told) → (told ≢ Err out_of_memory → TellsValues answer old memory told new) → IfOk result (λ made. TellsFreshValues (Given answer) old memory made new)
   values answer (Ok (ExecRule rule)) result old new memory is told are = rw is tt
   values answer (Ok (Uncacheable address)) result old new memory is told are =
       rw is (values-given answer old memory (told (λ e. cc)) ∙ are (λ e. cc))
@@ -91,7 +91,7 @@ module _ {R Regs : Type 0} (fallback : R) where
       rw is (values-given answer old memory direct' ∙ MatchBool-at_true _ _ of (are (error-is error some)))
   values answer (Err error) result old new memory (nothing some of is) told are = rw is tt
 
-  pub written : (Advances : Regs → Regs → Type 0) (told : Result (UnwindResult R) UnwinderError) (result : Result (FrameAnswer R) Error) (old new : Regs) → IsAnswerOf fallback told result → WritesWithAddress Advances told old new → IfOk result (λ made. WritesComputed Advances made old new)
+  pub written : (Advances : Regs → Regs → Type 0) (told : Result (UnwindResult R) UnwinderError) (result : Result (FrameAnswer R) Error) (old new : Regs) → IsAnswerOf told result → WritesWithAddress Advances told old new → IfOk result (λ made. WritesComputed Advances made old new)
   written Advances (Ok (ExecRule rule)) result old new is writes = rw is writes
   written Advances (Ok (Uncacheable address)) result old new is writes = rw is writes
   written Advances (Err error) result old new (no_memory out is) writes = rw is tt

@@ -15,7 +15,7 @@ use Rattle.framehop.specs.Answer.{Fresh, by_rule, direct}
 use Rattle.framehop.specs.declared.modules.UnwinderError.{UnwinderError}
 use Rattle.framehop.specs.declared.modules.UnwinderError.TheVariants.{CompactUnwindInfo, Dwarf, Pe, NoDwarfData, NoModuleUnwindData, EhFrameHdrCouldNotFindAddress, DwarfCfiIndexCouldNotFindAddress}
 use Rattle.framehop.specs.declared.frame_answer.FrameAnswer.{FrameAnswer}
-use Rattle.framehop.specs.declared.frame_answer.FrameAnswer.TheVariants.{Rule, Computed, NotComputed}
+use Rattle.framehop.specs.declared.frame_answer.FrameAnswer.TheVariants.{Rule, Fallback, Computed, NotComputed}
 
 -- out of memory
 abbrev pub out_of_memory : UnwinderError
@@ -87,36 +87,37 @@ UnwindsBy answer old result new calls callback called =
 
 -- what is made of a refusal: out of memory is answered, values that can't be computed are told, and where the bytes
 -- give nothing it is the fallback rule
-pub data IsMadeOf {R : Type 0} (fallback : R) (error : UnwinderError)
-    (answer : Result (FrameAnswer R) Error) : Type 0 where
-  no_memory : error ≡ out_of_memory → answer ≡ Err NoMemory → IsMadeOf fallback error answer
-  no_values : error ≢ out_of_memory → is_of_values error ≡ true → answer ≡ Ok NotComputed
-      → IsMadeOf fallback error answer
-  nothing : error ≢ out_of_memory → is_of_values error ≡ false → answer ≡ Ok (Rule fallback)
-      → IsMadeOf fallback error answer
+pub data IsMadeOf {R : Type 0} (error : UnwinderError) (answer : Result (FrameAnswer R) Error) : Type 0 where
+  no_memory : error ≡ out_of_memory → answer ≡ Err NoMemory → IsMadeOf error answer
+  no_values : error ≢ out_of_memory → is_of_values error ≡ true → answer ≡ Ok NotComputed → IsMadeOf error answer
+  nothing : error ≢ out_of_memory → is_of_values error ≡ false → answer ≡ Ok Fallback → IsMadeOf error answer
 
-abbrev pub IsAnswerOf : {R : Type 0} → R → Result (UnwindResult R) UnwinderError → Result (FrameAnswer R) Error → Type 0
-IsAnswerOf fallback (Ok (ExecRule rule)) answer = answer ≡ Ok (Rule rule)
-IsAnswerOf fallback (Ok (Uncacheable address)) answer = answer ≡ Ok (Computed address)
-IsAnswerOf fallback (Err error) answer = IsMadeOf fallback error answer
+abbrev pub IsAnswerOf : {R : Type 0} → Result (UnwindResult R) UnwinderError → Result (FrameAnswer R) Error → Type 0
+IsAnswerOf (Ok (ExecRule rule)) answer = answer ≡ Ok (Rule rule)
+IsAnswerOf (Ok (Uncacheable address)) answer = answer ≡ Ok (Computed address)
+IsAnswerOf (Err error) answer = IsMadeOf error answer
 
 -- what is told of the modules' answer for an address
-abbrev pub TellsFresh : {Rule Regs : Type 0} → Fresh Rule Regs → FrameAnswer Rule → Type 0
-TellsFresh answer (Rule rule) = answer ≡ by_rule rule
-TellsFresh answer (Computed address) = IsDirect (Some answer)
-TellsFresh answer NotComputed = IsDirect (Some answer)
+abbrev pub TellsFresh : {Rule Regs : Type 0} → Rule → Fresh Rule Regs → FrameAnswer Rule → Type 0
+TellsFresh fallback answer (Rule rule) = answer ≡ by_rule rule
+TellsFresh fallback answer Fallback = answer ≡ by_rule fallback
+TellsFresh fallback answer (Computed address) = IsDirect (Some answer)
+TellsFresh fallback answer NotComputed = IsDirect (Some answer)
 
 abbrev pub TellsFreshValues : {Rule Regs : Type 0} → Fresh Rule Regs → Regs → Memory → FrameAnswer Rule → Regs → Type 0
 TellsFreshValues answer old memory (Rule rule) new = Unit {0}
+TellsFreshValues answer old memory Fallback new = Unit {0}
 TellsFreshValues answer old memory (Computed address) new = values_in (Some answer) old memory ≡ Some (address, new)
 TellsFreshValues answer old memory NotComputed new = values_in (Some answer) old memory ≡ None
 
 abbrev pub WritesComputed : {Rule Regs : Type 0} → (Regs → Regs → Type 0) → FrameAnswer Rule → Regs → Regs → Type 0
 WritesComputed Advances (Rule rule) old new = new ≡ old
+WritesComputed Advances Fallback old new = new ≡ old
 WritesComputed Advances (Computed address) old new = Advances old new
 WritesComputed Advances NotComputed old new = new ≡ old
 
 abbrev pub AnswerHas : {Rule : Type 0} → (Rule → Type 0) → FrameAnswer Rule → Type 0
 AnswerHas P (Rule rule) = P rule
+AnswerHas P Fallback = Unit {0}
 AnswerHas P (Computed address) = Unit {0}
 AnswerHas P NotComputed = Unit {0}

@@ -6,7 +6,6 @@ use crate::modules::UnwinderError;
 use framehop_bytes::read_error::ReadError;
 use framehop_core::Error;
 use framehop_core::unwind_result::UnwindResult;
-use framehop_core::unwind_rule::UnwindRule;
 use framehop_dwarf::dwarf::DwarfUnwinderError;
 use framehop_pe::pe::PeUnwinderError;
 
@@ -67,17 +66,19 @@ fn is_of_values(error: &UnwinderError) -> bool
 pub(crate) enum FrameAnswer<R> {
     /// A rule, which can be stored.
     Rule(R),
+    /// Nothing: the fallback rule, which can be stored, too. It is a variant of its own, so that its way is short.
+    Fallback,
     /// The return address (AVMA); the caller's registers are written.
     Computed(u64),
     /// Values that registers or stack words don't allow to compute.
     NotComputed,
 }
 
-/// Returns a module's answer, with the fallback rule where the module's bytes give none
-pub(crate) fn frame_answer<R: UnwindRule>(
+/// Returns a module's answer.
+pub(crate) fn frame_answer<R>(
     told: Result<UnwindResult<R>, UnwinderError>,
 ) -> Result<FrameAnswer<R>, Error>
-    ensures { IsAnswerOf R.fallback told result }
+    ensures { IsAnswerOf told result }
 {
     match told {
         Ok(UnwindResult::ExecRule(rule)) => Ok(FrameAnswer::Rule(rule)),
@@ -89,7 +90,7 @@ pub(crate) fn frame_answer<R: UnwindRule>(
             if is_of_values(&error) {
                 return Ok(FrameAnswer::NotComputed);
             }
-            Ok(FrameAnswer::Rule(R::fallback_rule()))
+            Ok(FrameAnswer::Fallback)
         }
     }
 }

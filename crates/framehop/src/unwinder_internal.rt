@@ -135,14 +135,14 @@ impl<D: SectionBytes + Drop, A: Unwinding, P: AllocationPolicy> UnwinderInternal
             WritesComputed (A.step_advances is_first_frame) answer regs.old regs.new) }
         ensures executable { IfOk result (AnswerHas (λ rule. A.UnwindRule.executable rule ≡ true)) }
         ensures told { IfOk result
-            (TellsFresh (fresh (A.unwinding P.policy) self.now.modules lookup_address is_first_frame)) }
+            (TellsFresh A.UnwindRule.fallback (fresh (A.unwinding P.policy) self.now.modules lookup_address is_first_frame)) }
         ensures answers { Answering F.FnMut read_stack.old read_stack.new (λ memory.
             IfOk result (λ answer. TellsFreshValues
             (fresh (A.unwinding P.policy) self.now.modules lookup_address is_first_frame)
             regs.old memory answer regs.new)) }
     {
         let Some((module, relative_address)) = self.find_module_for_address(lookup_address) else {
-            return Ok(FrameAnswer::Rule(A::UnwindRule::fallback_rule()));
+            return Ok(FrameAnswer::Fallback);
         };
         frame_answer(module.unwind_by_data::<A, P, F>(
             self.modules.allocator(),
@@ -191,6 +191,11 @@ impl<D: SectionBytes + Drop, A: Unwinding, P: AllocationPolicy> UnwinderInternal
             FrameAnswer::Rule(rule) => {
                 cache.insert(handle, rule);
                 rule.exec(is_first_frame, regs, read_stack)
+            }
+            FrameAnswer::Fallback => {
+                let fallback = A::UnwindRule::fallback_rule();
+                cache.insert(handle, fallback);
+                fallback.exec(is_first_frame, regs, read_stack)
             }
             FrameAnswer::Computed(return_address) => Ok(Some(return_address)),
             FrameAnswer::NotComputed => {

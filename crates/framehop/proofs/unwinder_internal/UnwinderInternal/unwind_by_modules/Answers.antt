@@ -1,4 +1,4 @@
-use Rattle.std.proofs.Common.{ap, sym, ◌∙◌, subst, IfOk}
+use Rattle.std.proofs.Common.{ap, ◌∙◌, subst, IfOk}
 use Rattle.framehop.specs.Answer.{Fresh, by_rule}
 use Rattle.framehop.specs.Told.{TellsFresh, TellsFreshValues}
 use Rattle.framehop_core.proofs.Callback.{Answering-so}
@@ -9,7 +9,7 @@ pub returns-in_default-clause-told : goal.returns-in_default-clause-told
 returns-in_default-clause-told g c =
     let policy = g.P.AllocationPolicy.policy in
     fresh-uncovered (g.A.Unwinding.unwinding policy) c.args.self.now.modules c.args.lookup_address c.args.is_first_frame c.in_default.ensures
-    ∙ ap by_rule (g.met.A.Unwinding.fallback_is policy ∙ sym c.fallback_rule.ensures)
+    ∙ ap by_rule (g.met.A.Unwinding.fallback_is policy)
 
 pub returns-clause-refused : goal.returns-clause-refused
 returns-clause-refused g c =
@@ -20,7 +20,7 @@ returns-clause-refused g c =
 pub returns-clause-told : goal.returns-clause-told
 returns-clause-told g c =
     let policy = g.P.AllocationPolicy.policy in
-    subst (λ (answer : Fresh g.row.A-UnwindRule.Denot g.row.A-UnwindRegs.Denot). IfOk c.frame_answer.result (TellsFresh answer))
+    subst (λ (answer : Fresh g.row.A-UnwindRule.Denot g.row.A-UnwindRegs.Denot). IfOk c.frame_answer.result (TellsFresh g.A.UnwindRule.UnwindRule.fallback answer))
     (given-fresh (g.A.Unwinding.unwinding policy) _ policy g.A.UnwindRule.UnwindRule.fallback (g.A.Unwinding.answer_is policy) (g.met.A.Unwinding.fallback_is policy) c.args.self.now.modules c.args.lookup_address c.args.is_first_frame c.in-Some.module.now c.in-Some.relative_address c.in-Some.ensures.0 c.in-Some.ensures.1)
     (tells g.A.UnwindRule.UnwindRule.fallback _ c.unwind_by_data.result c.frame_answer.result c.frame_answer.ensures c.unwind_by_data.ensures.unwound.0)
 

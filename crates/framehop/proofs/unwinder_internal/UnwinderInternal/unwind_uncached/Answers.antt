@@ -15,6 +15,18 @@ returns-in-Rule-clause-answers g c =
     ∙ sym (rule-outcome (g.A.Unwinding.unwinding policy) _ c.in-Rule.rule c.args.is_first_frame c.args.regs.now memory told) in
     λ some. ((rw same at ran.0) ∙ ap answer_of stepped, (rw same at ran.1) ∙ ap (registers_after c.args.regs.now) stepped))
 
+pub returns-in-Fallback-clause-answers : goal.returns-in-Fallback-clause-answers
+returns-in-Fallback-clause-answers g c =
+    let policy = g.P.AllocationPolicy.policy in
+    let fallback = g.A.UnwindRule.UnwindRule.fallback in
+    let told = rw c.in-Fallback.is at c.in_ok-rule.ensures.told in
+    let same = rw c.in-Fallback.is at c.in_ok-rule.ensures.written in
+    Answering-then g.F.FnMut c.in_ok-rule.ensures.answers (rw c.fallback_rule-fallback.ensures at c.exec-in-Fallback.ensures.answers) (λ memory before ran.
+    let stepped =
+    ap (λ outcome. outcome fallback c.args.is_first_frame c.args.regs.now memory) (sym (g.met.A.Unwinding.outcome_is policy))
+    ∙ sym (rule-outcome (g.A.Unwinding.unwinding policy) _ fallback c.args.is_first_frame c.args.regs.now memory told) in
+    λ some. ((rw same at ran.0) ∙ ap answer_of stepped, (rw same at ran.1) ∙ ap (registers_after c.args.regs.now) stepped))
+
 pub returns-in-NotComputed-clause-answers : goal.returns-in-NotComputed-clause-answers
 returns-in-NotComputed-clause-answers g c =
     let policy = g.P.AllocationPolicy.policy in
