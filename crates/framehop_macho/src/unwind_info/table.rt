@@ -8,7 +8,7 @@ use super::error::CompactReadError;
 use framehop_bytes::place::{Starts, place};
 
 /// Reads a number of two bytes.
-#[inline(always)]
+#[inline]
 pub(crate) fn u16_at(bytes: &[u8], at: usize) -> u16
     requires { at + 2 ≤ length bytes.now }
     ensures { result ≡ le2 bytes.now at }
@@ -16,8 +16,9 @@ pub(crate) fn u16_at(bytes: &[u8], at: usize) -> u16
     u16::from_le_bytes([bytes[at], bytes[at + 1]])
 }
 
-/// Reads a number of four bytes.
-#[inline(always)]
+/// Reads a number of four bytes. It is not inlined by force: the compiler then makes one load of the four, before it
+/// sees that a caller masks one of them.
+#[inline]
 pub(crate) fn u32_at(bytes: &[u8], at: usize) -> u32
     requires { at + 4 ≤ length bytes.now }
     ensures { result ≡ le4 bytes.now at }
