@@ -13,9 +13,8 @@ built where they are not there. Walks through the archive, from C and from the R
 the original with a warm cache; FRAMEHOP_LIB names the folders of an archive that is built, as for bindings/rust.
 
 Both run in turn, five times each. The table has the least time of each and the ratios, ours by the original's, of the
-least times and of the medians. Counts and sums of both must be equal. The line after the table says how much a fixed
-loop varied that ran between them. Needs cargo, clang, python3 and
-readelf.
+least times and of the medians, and the least and the greatest ratio of a round. Counts and sums of both must be equal.
+The line after the table says how much a fixed loop varied that ran between them. Needs cargo, clang, python3 and readelf.
 """
 
 import argparse
@@ -211,12 +210,14 @@ def shown(nanoseconds):
 
 def print_table(version, here, there, loops):
     print(f"The original: framehop {version}")
-    print("| Case | Here | The original | Ratio | of the medians |")
-    print("|---|---|---|---|---|")
+    print("| Case | Here | The original | Ratio | of the medians | by rounds |")
+    print("|---|---|---|---|---|---|")
     for line, ours in here.items():
         theirs = there[line]
         ratios = min(ours) / min(theirs), statistics.median(ours) / statistics.median(theirs)
-        print(f"| {line} | {shown(min(ours))} | {shown(min(theirs))} | {ratios[0]:.2f} | {ratios[1]:.2f} |")
+        rounds = sorted(one / other for one, other in zip(ours, theirs))
+        cells = [line, shown(min(ours)), shown(min(theirs)), f"{ratios[0]:.2f}", f"{ratios[1]:.2f}"]
+        print("|", " | ".join([*cells, f"{rounds[0]:.2f} to {rounds[-1]:.2f}"]), "|")
     least, most = min(loops), max(loops)
     print(f"A fixed loop between the runs: {1e3 * least:.0f} to {1e3 * most:.0f} ms, median {1e3 * statistics.median(loops):.0f}")
 
