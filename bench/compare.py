@@ -1,10 +1,11 @@
 #!/usr/bin/env python3
 """Measures this library beside the original crate, on equal inputs.
 
-    compare.py [--rounds N] [--cpu N] [--only WORD] [ELF]
+    compare.py [--rounds N] [--cpu N] [--only WORD] [--without-bindings] [ELF]
 
 ELF is an x86_64 library with an `.eh_frame` and its header, the C library where none is named. --cpu has all runs on
-that processor, and --only measures the lines of which one has the word in its name.
+that processor, and --only measures the lines of which one has the word in its name. --without-bindings leaves out the
+walks through the archive, which takes minutes to prove.
 
 The program over the original crate is built from bench/original by cargo, which fetches the crate; CARGO_ARGUMENTS gives
 cargo further arguments, as `--offline --config FILE` with a source or a patch. It is built once more over a copy of the
@@ -227,6 +228,7 @@ def main():
     asked.add_argument("--rounds", type=int, default=5)
     asked.add_argument("--cpu", type=int)
     asked.add_argument("--only", default="")
+    asked.add_argument("--without-bindings", action="store_true")
     asked.add_argument("elf", nargs="?")
     asked = asked.parse_args()
     listed = run("ldd", "/bin/sh", capture_output=True, text=True).stdout
@@ -234,7 +236,7 @@ def main():
     pinned = [] if asked.cpu is None else ["taskset", "-c", asked.cpu]
     build_ours()
     plain, opened, version = build_original()
-    bindings = () if asked.only else build_bindings()
+    bindings = () if asked.only or asked.without_bindings else build_bindings()
     here, there, loops = {}, {}, []
     with tempfile.TemporaryDirectory() as room:
         inputs = make_inputs(room, elf)
@@ -244,7 +246,7 @@ def main():
                     loops.append(fixed_loop())
                     measure(pinned, lines, ours, program, theirs, here, there)
             for name in ("fp-x86_64", "fp-aarch64", "offsets"):
-                if not asked.only:
+                if bindings:
                     measure_bindings(pinned, inputs, name, bindings, here, there)
             if asked.only in "program over 30 MB":
                 measure_program(pinned, room, inputs["many"], plain, here, there)
