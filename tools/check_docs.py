@@ -1,5 +1,6 @@
 #!/usr/bin/env python3
-"""Checks the documents against the sources, and prints a line for each fault; the status is 1 where there is one.
+"""Checks the documents against the sources, and prints a line for each fault; the status is 1 where there is one:
+check_docs.py [--run [PROGRAM..]].
 
 - Each link of a document leads to a file of the repository, to a heading that is there, or to a line that is.
 - Each script or source in backticks is a file of the repository.
@@ -10,10 +11,17 @@
   that the tests name there.
 - Each edit of edits/CRATE can be applied, and each promise of DEFINITIONS.md has one that the gate tries.
 - Each source, definition and proof has the layout that `rt fmt` gives it.
+- The column "may use" of ARCHITECTURE.md has for each crate what its line in crates.txt has; and EXAMPLES.md lists the
+  libraries below `framehop`.
+- Each command of JSON.md is in the file of examples/ that has its name.
+
+With `--run` it checks instead what README.md, docs/JSON.md and docs/EXAMPLES.md print, by the programs that the gate leaves,
+or those that are named: the output of each command after a `$`, and the lines after a command in JSON.
 """
 
 import filecmp
 import re
+import shlex
 import subprocess
 import sys
 import tempfile
@@ -21,10 +29,16 @@ from pathlib import Path
 
 TOP = Path(__file__).resolve().parent.parent
 NAMED = ["DEFINITIONS.md", "PROVED.md", "CHANGING.md"]
+# the pages whose commands are run
+SHOWN = ["README.md", "docs/CHECK.md", "docs/JSON.md", "docs/EXAMPLES.md"]
+PROGRAMS = ("check", "explain", "stacks", "walk")
 EXAMPLES = [TOP / f"crates/{name}/src/readme.rt" for name in ("framehop_vectors", "framehop_elf_vectors", "framehop_minidump_vectors")]
 PATHS = TOP / "crates/framehop_vectors/src/paths.rt"
 FENCE = re.compile(r"^```.*?^```", re.M | re.S)
 WORD = re.compile(r"[^\W\d][\w'-]*")
+NUMBERS = "none one two three four five six seven eight nine ten eleven twelve".split()
+# how many commands have their output in a document, at least
+LEAST_SHOWN = 8
 # the lines of an edit that are no text: edits/try says what they are for
 EDIT_KEYS = {"fn", "gate", "alone", "harmless"}
 # words of a name in backticks that are not names of this repository: Rust's, and values of arguments
@@ -222,6 +236,107 @@ def not_in_the_layout(names):
     yield from (checked.stdout + checked.stderr).splitlines()
 
 
+def crate_lines():
+    """For each crate what it stands on, by its line of crates.txt."""
+    lines = (line.partition(":") for line in (TOP / "crates.txt").read_text().split("\n") if not line.startswith("#"))
+    return {name.split()[0]: set(rest.split()) for name, found, rest in lines if found}
+
+
+def below(crate, lines):
+    """All crates of this repository that a crate stands on, at any number of steps."""
+    return set().union(*({other} | below(other, lines) for other in lines[crate] if other in lines))
+
+
+def crates_named(cell, lines):
+    """The crates of a cell, with or without `framehop_` before their names."""
+    plain = re.sub(r"\(.*?\)", "", cell)
+    names = re.findall(r"`(\w+)`", plain)
+    named = {f"framehop_{word}" for word in WORD.findall(re.sub(r"`.*?`", "", plain))} & {*lines}
+    return {*names, *named} | (below("framehop", lines) if "all below it" in plain else set())
+
+
+def wrong_uses():
+    """Rows of ARCHITECTURE.md whose column "may use" is not what crates.txt has, and crates without a row."""
+    lines, rows = crate_lines(), set()
+    for line in (TOP / "docs/ARCHITECTURE.md").read_text().split("\n"):
+        cells = line.split(" | ")
+        crates = re.findall(r"`(framehop\w*)`", cells[0]) if line.startswith("| `framehop") and len(cells) == 5 else []
+        if not crates:
+            continue
+        rows.update(crates)
+        wanted = set().union(*(lines[crate] for crate in crates)) - {*crates}
+        named = crates_named(cells[3], lines) - {*crates}
+        for word, names in (("doesn't have", wanted - named), ("has", named - wanted)):
+            if names:
+                yield f"the row of {crates[0]} {word} {', '.join(sorted(names))}"
+    yield from (f"no row of {crate}" for crate in sorted({*lines} - rows))
+
+
+def wrong_libraries():
+    """What differs in EXAMPLES.md's list of the libraries that `framehop` needs."""
+    lines = crate_lines()
+    count, listed = re.search(r"each of the (\w+) libraries \(([^)]*)\)", (TOP / "docs/EXAMPLES.md").read_text()).groups()
+    named = {re.sub("^_", "framehop_", name) for name in re.findall(r"`(\w+)`", listed)}
+    wanted = below("framehop", lines) | {"framehop"}
+    if named != wanted:
+        yield f"the list of libraries differs in {', '.join(sorted(named ^ wanted))}"
+    if NUMBERS.index(count) != len(wanted):
+        yield f"there are {len(wanted)} libraries and not {count}"
+
+
+def commands_in_json():
+    """The commands of JSON.md with their names, and the lines that are printed after each, if these are there."""
+    page = (TOP / "docs/JSON.md").read_text()
+    for section in page.split("\n### ")[1:]:
+        blocks = re.findall(r"^```(\w*)\n(.*?)^```", section, re.M | re.S)
+        for place, (kind, text) in enumerate(blocks):
+            name = re.match(r'\{"do":"(\w+)"', text)
+            if kind == "json" and name:
+                after = blocks[place + 1 : place + 2]
+                yield name[1], text, after[0][1] if after and not after[0][0] and not after[0][1].startswith("$") else None
+
+
+def commands_without_an_example():
+    for name, text, _ in commands_in_json():
+        file = TOP / f"examples/{name}.json"
+        if not file.exists() or text.rstrip("\n") not in file.read_text():
+            yield f"examples/{name}.json has not the command {name} as it is there"
+
+
+def programs(given):
+    """The programs by the names that documents have: those that are given, or the builds that the gate leaves."""
+    found = {f"framehop-{name}": TOP / f"crates/framehop_{name}_cli/out/framehop_{name}_cli" for name in PROGRAMS}
+    for path in given:
+        found.update({name: path for name in found if Path(path).name.replace("_", "-").startswith(name)})
+    return found
+
+
+def printed(command, built):
+    """What a command of a document prints, by the built programs."""
+    command = command.removeprefix("FRAMEHOP_TRY=1 ")
+    command = re.sub(r"\./(framehop-\w+)", lambda name: shlex.quote(str(built[name[1]])), command)
+    return subprocess.run(command, cwd=TOP, shell=True, capture_output=True, text=True, timeout=120).stdout
+
+
+def other_output(given):
+    """Commands of documents that print something else than the document has."""
+    built = programs(given)
+    yield from (f"there is no program {path}" for path in built.values() if not Path(path).exists())
+    count = 0
+    for name in SHOWN:
+        for command, wanted in re.findall(r"^```\n\$ ([^\n]*)\n(.*?)^```", (TOP / name).read_text(), re.M | re.S):
+            count += 1
+            if printed(command, built) != wanted:
+                yield f"{name}: another output: {command}"
+    for name, _, wanted in commands_in_json():
+        if wanted is not None:
+            count += 1
+            if not printed(f"./framehop-walk examples/{name}.json", built).endswith(wanted):
+                yield f"docs/JSON.md: another output of {name}"
+    if count < LEAST_SHOWN:
+        yield f"{count} commands were found, fewer than {LEAST_SHOWN}"
+
+
 def faults():
     known, names = names_of_sources(), tracked()
     for page in documents():
@@ -233,6 +348,9 @@ def faults():
             checks.append(missing_names(text, known))
         yield from (f"{name}: {fault}" for check in checks for fault in check)
     yield from (f"README.md, docs/EXAMPLES.md: {fault}" for fault in untested_examples())
+    yield from (f"docs/ARCHITECTURE.md: {fault}" for fault in wrong_uses())
+    yield from (f"docs/EXAMPLES.md: {fault}" for fault in wrong_libraries())
+    yield from (f"docs/JSON.md: {fault}" for fault in commands_without_an_example())
     yield from (f"docs/api: {fault}" for check in (stale_api(), names_not_on_the_page(), methods_not_on_the_pages()) for fault in check)
     yield from untested_doc_examples()
     yield from wrong_edits()
@@ -240,8 +358,10 @@ def faults():
 
 
 def main():
-    found = list(faults())
-    print("\n".join(found) if found else f"{len(documents())} documents, no fault")
+    is_run = sys.argv[1:2] == ["--run"]
+    found = list(other_output(sys.argv[2:]) if is_run else faults())
+    looked_at = "the output of all commands" if is_run else f"{len(documents())} documents"
+    print("\n".join(found) if found else f"{looked_at}, no fault")
     sys.exit(1 if found else 0)
 
 

@@ -32,3 +32,5 @@ for file in "$@"; do
     total=$((total + count))
 done
 echo "$total allocations, each refused in turn"
+# a program without any does not ask the allocator that was put before it
+[ "$total" -gt 0 ]

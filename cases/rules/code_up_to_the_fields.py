@@ -6,7 +6,9 @@ import json
 # a regular page with one function from 0x1000 to ..., whose opcode names the frame pointer
 BEFORE = "010000001c000000000000001c000000000000001c00000002000000001000003400000034000000"
 AFTER = "000000003400000002000000080001000010000000000001"
-OPCODE = "opcode 0x1000000 of function 0x1000: CFA = rbp + 16; rbp at CFA - 16; return address at CFA - 8"
+OPCODE = (
+    "opcode 0x1000000 of function 0x1000: UseFramePointer: CFA = rbp + 16; rbp at CFA - 16; return address at CFA - 8"
+)
 PUSHES = bytes([0x53]) * 65540
 # pop rbx, and ret; with a nop before them; with a pop rbp before the last 25,535 pops
 POPS = bytes([0x5B]) * 65535 + bytes([0xC3])
@@ -15,8 +17,13 @@ WITH_RBP = POPS[:40000] + bytes([0x5D]) + POPS[40001:]
 
 def rule(kind, sp_offset_by_8, rbp_offset_by_8=None):
     cfa = 8 * sp_offset_by_8
-    rbp = "" if rbp_offset_by_8 is None else f"; rbp at CFA - {cfa - 8 * rbp_offset_by_8}"
-    return f"{kind} of function 0x1000: CFA = rsp + {cfa}{rbp}; return address at CFA - 8"
+    if rbp_offset_by_8 is None:
+        name, fields, rbp = "OffsetSp", "", ""
+    else:
+        name, fields = "OffsetSpAndRestoreBp", f", bp_storage_offset_from_sp_by_8: {rbp_offset_by_8}"
+        rbp = f"; rbp at CFA - {cfa - 8 * rbp_offset_by_8}"
+    rule = f"{name} {{ sp_offset_by_8: {sp_offset_by_8}{fields} }}"
+    return f"{kind} of function 0x1000: {rule}: CFA = rsp + {cfa}{rbp}; return address at CFA - 8"
 
 
 # the code, the offset in it, the address of the first of the words and their count, what is told, and rbp and rsp of the

@@ -50,13 +50,14 @@ def registers(ip, rbp, rsp):
 # the word at 0x108 is 0x5000, at 0x180 0x6000; rbp points to 0x300 and 0x8000
 WORDS = ["0", "5000", *["0"] * 14, "6000", *["0"] * 15, "300", "8000"]
 BY_RBP = ["step 8000", registers("8000", "300", "210")]
-FALLBACK = "CFA = rbp + 16; rbp at CFA - 16; return address at CFA - 8"
+FALLBACK = "UseFramePointer: CFA = rbp + 16; rbp at CFA - 16; return address at CFA - 8"
 INPUT, EXPECTED = case("x86_64", {"ip": "1000", "sp": "100", "bp": "200"}, [
     # push rbp; mov rbp, rsp, after the push; the opcode is that of a frame
     (
         0x01000000, "554889e5", "ip", "1001", WORDS,
         [
-            "step 5000", "  m+0x1001: prologue of function 0x1000: CFA = rsp + 16; return address at CFA - 8",
+            "step 5000",
+            "  m+0x1001: prologue of function 0x1000: OffsetSp { sp_offset_by_8: 2 }: CFA = rsp + 16; return address at CFA - 8",
             registers("5000", "200", "110"),
         ],
         [BY_RBP[0], f"  m+0x1001: opcode 0x1000000 of function 0x1000: {FALLBACK}", BY_RBP[1]],
@@ -70,7 +71,9 @@ INPUT, EXPECTED = case("x86_64", {"ip": "1000", "sp": "100", "bp": "200"}, [
     (
         0x03032000, "4881ec80000000", "ra", "1011", WORDS,
         [
-            "step 6000", "  m+0x1010: opcode 0x3032000 of function 0x1000: CFA = rsp + 136; return address at CFA - 8",
+            "step 6000",
+            "  m+0x1010: opcode 0x3032000 of function 0x1000: OffsetSp { sp_offset_by_8: 17 }: CFA = rsp + 136; "
+            "return address at CFA - 8",
             registers("6000", "200", "188"),
         ],
         [

@@ -38,12 +38,16 @@ def note_of(rows, address):
     """The note of a frame by its lookup address."""
     _, offset, row = rows[bisect.bisect_right([start for start, _, _ in rows], address) - 1]
     if row["ra"] == "u":
-        told = "end of the stack"
+        told = "EndOfStack: end of the stack"
     else:
-        told = "CFA = rsp + " + row["CFA"].removeprefix("rsp+")
-        if row.get("rbp", "u") != "u":
-            told += "; rbp at CFA - " + row["rbp"].removeprefix("c-")
-        told += "; return address at CFA - " + row["ra"].removeprefix("c-")
+        cfa, rbp = int(row["CFA"].removeprefix("rsp+")), row.get("rbp", "u").removeprefix("c-")
+        fields, saved = f"sp_offset_by_8: {cfa // 8}", f"; rbp at CFA - {rbp}"
+        if rbp == "u":
+            rule, saved = f"OffsetSp {{ {fields} }}", ""
+        else:
+            fields += f", bp_storage_offset_from_sp_by_8: {(cfa - int(rbp)) // 8}"
+            rule = f"OffsetSpAndRestoreBp {{ {fields} }}"
+        told = f"{rule}: CFA = rsp + {cfa}{saved}; return address at CFA - " + row["ra"].removeprefix("c-")
     return f"  0x{address:x}: row of FDE 0x{offset:x} of .eh_frame: {told}"
 
 

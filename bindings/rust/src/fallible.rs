@@ -32,7 +32,7 @@ pub trait FallibleIterator {
         Results(self)
     }
 
-    /// Collects the items, up to the end or the first error.
+    /// Collects all items, or returns the first error.
     fn collect<T: FromIterator<Self::Item>>(self) -> Result<T, Self::Error>
     where
         Self: Sized,
@@ -40,7 +40,7 @@ pub trait FallibleIterator {
         self.iterator().collect()
     }
 
-    /// Calls `f` with each item, up to the end or the first error.
+    /// Calls `f` with one item after another; an error of either ends that.
     fn for_each<F: FnMut(Self::Item) -> Result<(), Self::Error>>(self, mut f: F) -> Result<(), Self::Error>
     where
         Self: Sized,

@@ -163,7 +163,7 @@ impl FrameAddress {
         NonZeroU64::new(return_address).map(FrameAddress::ReturnAddress)
     }
 
-    /// The raw address (AVMA).
+    /// The number of the address, an AVMA.
     pub fn address(self) -> u64 {
         match self {
             FrameAddress::InstructionPointer(address) => address,
@@ -171,7 +171,7 @@ impl FrameAddress {
         }
     }
 
-    /// The address (AVMA) to look up: of a return address the byte before it.
+    /// The AVMA by which the frame is looked up: of a return address the byte before it, which is of the call.
     pub fn address_for_lookup(self) -> u64 {
         match self {
             FrameAddress::InstructionPointer(address) => address,

@@ -30,29 +30,33 @@ pub trait ModuleSectionInfo<D> {
 /// The sections of a module, one by one (SVMAs). It has none of PE files: implement [`ModuleSectionInfo`] for them.
 #[derive(Clone, Debug, PartialEq, Eq)]
 pub struct ExplicitModuleSectionInfo<D> {
-    /// The base as stated in the file: 0 for ELF, the vmaddr of `__TEXT` for Mach-O.
+    /// What relative addresses count from: 0 for ELF, for Mach-O the vmaddr of `__TEXT`.
     pub base_svma: u64,
-    /// `.text` or `__text`.
+    /// Where `.text` (ELF) or `__text` (Mach-O) lies: it places `text`, and text-relative pointers count from it.
     pub text_svma: Option<Range<u64>>,
+    /// `__text` (Mach-O): code for prologues and epilogues, which opcodes do not describe. `text_segment` serves too.
     pub text: Option<D>,
-    /// `__stubs`.
+    /// Where `__stubs` (Mach-O) lies, whose code has no opcodes.
     pub stubs_svma: Option<Range<u64>>,
-    /// `__stub_helper`.
+    /// Where `__stub_helper` (Mach-O) lies, whose code has no opcodes.
     pub stub_helper_svma: Option<Range<u64>>,
-    /// `.got` or `__got`.
+    /// Where `.got` (ELF) or `__got` (Mach-O) lies: data-relative pointers count from it.
     pub got_svma: Option<Range<u64>>,
-    /// `__unwind_info`.
+    /// `__unwind_info` (Mach-O): an opcode for each function. It comes before all other data.
     pub unwind_info: Option<D>,
-    /// `.eh_frame` or `__eh_frame`.
+    /// Where `.eh_frame` (ELF) or `__eh_frame` (Mach-O) lies: without it no function is found there.
     pub eh_frame_svma: Option<Range<u64>>,
+    /// `.eh_frame` (ELF) or `__eh_frame` (Mach-O): call frame information.
     pub eh_frame: Option<D>,
-    /// `.eh_frame_hdr`.
+    /// Where `.eh_frame_hdr` (ELF) lies: its table counts from there.
     pub eh_frame_hdr_svma: Option<Range<u64>>,
+    /// `.eh_frame_hdr` (ELF): the functions of `eh_frame` in order. Without it an index is made.
     pub eh_frame_hdr: Option<D>,
-    /// `.debug_frame`.
+    /// `.debug_frame` (ELF): call frame information that is read where there is no other.
     pub debug_frame: Option<D>,
-    /// The segment `__TEXT`.
+    /// Where the segment `__TEXT` (Mach-O) lies: it places `text_segment`.
     pub text_segment_svma: Option<Range<u64>>,
+    /// The segment `__TEXT` (Mach-O), code and all: it is used in the place of `text`.
     pub text_segment: Option<D>,
 }
 
@@ -260,7 +264,7 @@ struct Loaded<D> {
     sections: Sections<D>,
 }
 
-/// A module that is loaded in a process, with the data of its sections. Clones share the data.
+/// An executable or library that a process has mapped: where it lies, and its sections. Clones share their data.
 ///
 /// The data of a section is any type that lends bytes, by `Deref<Target = [u8]>`: `Vec<u8>`, `&[u8]`, an `Arc`, a
 /// mapping of a file. It is dropped when the last clone of the module is, and the last unwinder that has it.

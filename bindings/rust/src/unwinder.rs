@@ -65,7 +65,7 @@ enum State {
 }
 
 /// An iterator over the frames of a stack: the instruction pointer, then return addresses, and `Ok(None)` from the
-/// root on. After an error the next call tries the same frame again.
+/// root on. After an error it is still at the same frame, which the next call tries anew.
 pub struct UnwindIterator<'u, 'c, 'r, U: Unwinder, F: FnMut(u64) -> Result<u64, ()>> {
     unwinder: &'u U,
     state: State,

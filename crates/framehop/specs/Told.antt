@@ -4,7 +4,7 @@ use Rattle.std.specs.Fn.{Mut}
 use Rattle.framehop_core.specs.Memory.{Memory, Answering}
 use Rattle.framehop_core.specs.declared.unwind_result.UnwindResult.{UnwindResult}
 use Rattle.framehop_core.specs.declared.unwind_result.UnwindResult.TheVariants.{ExecRule, Uncacheable}
-use Rattle.framehop_bytes.specs.declared.read_error.ReadError.TheVariants.{OutOfMemory}
+use Rattle.framehop_cfi.specs.declared.read_error.ReadError.TheVariants.{OutOfMemory}
 use Rattle.framehop_cfi.specs.declared.dwarf_error.DwarfUnwinderError.{DwarfUnwinderError}
 use Rattle.framehop_cfi.specs.declared.dwarf_error.DwarfUnwinderError.TheVariants.{FdeFromOffsetFailed, UnwindInfoForAddressFailed, StackPointerMovedBackwards, DidNotAdvance, CouldNotRecoverCfa, CouldNotRecoverReturnAddress, CouldNotRecoverFramePointer}
 use Rattle.framehop_core.specs.declared.error.Error.{Error}

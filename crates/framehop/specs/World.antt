@@ -1,5 +1,5 @@
--- What a list of commands answers in a world that knows no cache: unwinders, each a list of modules in order of
--- start, and how many generations are left.
+-- The replies to a list of commands where no cache is there to be seen. The state is the modules of each unwinder, from
+-- the lowest start to the highest, and the number of generations that can still be drawn.
 use Rattle.std.specs.Prelude.{ℕ, ◌-◌, ◌^◌, if◌then◌else◌, ◌==◌, nat_le, nat_lt, ◌&&◌, ◌/◌, ◌%◌, List, [], ◌∷◌, ◌++◌, length, slice_get, slice_set, slice_index_or, Option, Some, None, Result, Ok, Err}
 use Rattle.framehop_core.specs.Memory.{Memory}
 use Rattle.framehop_core.specs.Outcome.{Outcome, answer_of, registers_after}

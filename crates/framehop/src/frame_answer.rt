@@ -3,7 +3,7 @@ ghost use Rattle.std.specs.Prelude.{◌≡◌, ◌↔◌, IsTrue};
 ghost use Rattle.framehop.specs.Told.{out_of_memory, is_of_row_values, is_of_pe_values, is_of_values, IsAnswerOf};
 
 use crate::modules::UnwinderError;
-use framehop_bytes::read_error::ReadError;
+use framehop_cfi::read_error::ReadError;
 use framehop_core::Error;
 use framehop_core::unwind_result::UnwindResult;
 use framehop_dwarf::dwarf::DwarfUnwinderError;

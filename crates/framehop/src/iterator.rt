@@ -16,9 +16,8 @@ use framehop_core::{Error, FrameAddress};
 /// `Ok(None)` where it finds the root of the stack, and with an error where the stack seems to be
 /// cut off. That can't be told in all cases, so expect errors in normal operation too.
 ///
-/// - `'u`: the lifetime of the [`Unwinder`].
-/// - `'c`: the lifetime of the unwinder cache.
-/// - `'r`: the lifetime of the exclusive access to the `read_stack` callback.
+/// It borrows the [`Unwinder`] for `'u`, and mutably the cache for `'c` and the callback that reads the
+/// stack for `'r`: none of the three is moved, and all can be used again when the walk is over.
 pub struct UnwindIterator<'u, 'c, 'r, U: Unwinder, F: FnMut(u64) -> Result<u64, ()>> {
     unwinder: &'u U,
     state: UnwindIteratorState,
@@ -97,7 +96,7 @@ impl<U: Unwinder, F: FnMut(u64) -> Result<u64, ()>> UnwindIterator<'_, '_, '_, U
     ///
     /// # Errors
     ///
-    /// Why the frame can't be unwound. The next call tries the same frame again. A return address 0
+    /// Why the frame can't be unwound. The iterator stays at it, and the next call tries it anew. A return address 0
     /// is `ReturnAddressIsNull`, and the registers are the caller's by then.
     ///
     /// # Examples

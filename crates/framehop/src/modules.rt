@@ -72,8 +72,8 @@ impl From<CompactUnwindInfoUnwinderError> for UnwinderError {
     }
 }
 
-/// A module that is loaded in a process, as an executable or a library: its addresses, and its
-/// unwind data. A clone shares them.
+/// An executable or library that a process has mapped: where it lies, and its unwind data. A clone
+/// shares them.
 #[derive(Drop)]
 pub struct Module<D: SectionBytes> {
     fields: Rc<ModuleFields<D>>,

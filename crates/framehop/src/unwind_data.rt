@@ -13,10 +13,10 @@ ghost use Rattle.framehop_cfi.specs.Section.{section_of};
 ghost use Rattle.framehop_dwarf.specs.Bases.{section_in};
 
 use crate::modules::ModuleListError;
-use framehop_bytes::read_error::ReadError;
 use framehop_bytes::section::{ModuleSectionInfo, SectionBytes};
 use framehop_cfi::entry::UnwindSectionType;
 use framehop_cfi::pointer::BaseAddresses;
+use framehop_cfi::read_error::ReadError;
 use framehop_dwarf::bases::{base_addresses_for_ranges, base_addresses_for_sections, range_under};
 use framehop_dwarf::index::{DwarfCfiIndex, DwarfCfiIndexError};
 use framehop_pe::pe::DataAtRvaRange;

@@ -91,8 +91,8 @@ pub trait Unwinding: DwarfUnwinding + PeUnwinding + CompactUnwindInfoUnwinding {
     ghost pe_values_advance: { (sections : Sections) (relative : ℕ) (first : Bool)
         → Self.found sections relative first ≡ Ok None → (old new : Self.UnwindRegs) → step_advances first old new };
 
-    ghost rule_advances: { (first : Bool) (old new : Self.UnwindRegs) → Self.UnwindRule.advances first old new
-        → step_advances first old new };
+    ghost rule_advances: { (rule : Self.UnwindRule) (first : Bool) (old new : Self.UnwindRegs)
+        → Self.UnwindRule.advances rule first old new → step_advances first old new };
 
     // where it is said that all steps raise the stack pointer, they do
     ghost rises_as_said: { (policy : Policy) → RisesAsSaid (unwinding policy) };
@@ -189,7 +189,7 @@ impl Unwinding for ArchX86_64 {
 
     ghost pe_values_advance = { λ sections relative first none old new. tt };
 
-    ghost rule_advances = { λ first old new advances. tt };
+    ghost rule_advances = { λ rule first old new advances. tt };
 
     ghost rises_as_said = { rises-as-said };
 

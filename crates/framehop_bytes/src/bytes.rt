@@ -1,12 +1,9 @@
-//! Little-endian numbers at an offset of a section.
+//! Parts of bytes, and the little-endian numbers at an offset of them.
 //!
-//! A reader is given the section's bytes and an offset into them, and returns what is there
-//! with the offset after it. It reads nothing past the end of the bytes that it is given.
-ghost use Rattle.std.specs.Prelude.{◌≡◌, ◌≢◌, Err, IfErr, ◌<◌, IfOk, take};
-ghost use Rattle.framehop_bytes.specs.Refusal.{IsSliceRefusal};
-ghost use Rattle.framehop_bytes.specs.Bytes.{u8_at, u16_at, u32_at, u64_at};
-
-use crate::read_error::ReadError;
+//! `u16_at` to `u64_at` are for bytes that are known to hold the number. `read_u8` to `read_u64` return it with the
+//! offset after it, or `None` where the bytes end before it does.
+ghost use Rattle.std.specs.Prelude.{◌≡◌, ◌+◌, ◌≤◌, ◌<◌, MatchOption, take, drop, length, slice_index};
+ghost use Rattle.framehop_bytes.specs.Bytes.{le2, le4, le8};
 
 /// Returns the bytes before an end, or all of them where they end before it.
 #[inline]
@@ -16,67 +13,92 @@ pub fn front(bytes: &[u8], end: usize) -> &[u8]
     &bytes[..end.min(bytes.len())]
 }
 
-/// Returns a byte.
+/// Returns the bytes from an offset on, or none where they end before it.
 #[inline]
-#[tactic(auto, unfolding(crate::specs::Bytes::u8_at))]
-pub fn read_u8(bytes: &[u8], at: usize) -> Result<(u8, usize), ReadError>
-    ensures exact { result ≡ u8_at bytes.now at }
-    ensures forward { IfOk result (λ read. at < read.1) }
-    ensures refusal { IfErr result IsSliceRefusal }
-    ensures memory { result ≢ Err ReadError.OutOfMemory }
+pub fn back(bytes: &[u8], start: u64) -> &[u8]
+    ensures { result.now ≡ drop start bytes.entry.now }
+{
+    if start > bytes.len() as u64 {
+        return &[];
+    }
+    &bytes[start as usize..]
+}
+
+/// Reads a byte.
+#[inline]
+pub fn read_u8(bytes: &[u8], at: usize) -> Option<(u8, usize)>
+    ensures { MatchOption result (length bytes.now < at + 1)
+        (λ read. (at + 1 ≤ length bytes.now) × (read ≡ (slice_index bytes.now at, at + 1))) }
 {
     if at < bytes.len() {
-        Ok((bytes[at], at + 1))
+        Some((bytes[at], at + 1))
     } else {
-        Err(ReadError::Eof)
+        None
     }
 }
 
-/// Returns a number of two bytes.
+/// Reads a number of two bytes.
 #[inline]
-#[tactic(auto, unfolding(crate::specs::Bytes::u16_at))]
-pub fn read_u16(bytes: &[u8], at: usize) -> Result<(u16, usize), ReadError>
-    ensures exact { result ≡ u16_at bytes.now at }
-    ensures forward { IfOk result (λ read. at < read.1) }
-    ensures refusal { IfErr result IsSliceRefusal }
-    ensures memory { result ≢ Err ReadError.OutOfMemory }
+pub fn read_u16(bytes: &[u8], at: usize) -> Option<(u16, usize)>
+    ensures { MatchOption result (length bytes.now < at + 2)
+        (λ read. (at + 2 ≤ length bytes.now) × (read ≡ (le2 bytes.now at, at + 2))) }
 {
     if bytes.len() < 2 || at > bytes.len() - 2 {
-        return Err(ReadError::Eof);
+        return None;
     }
-    let number = u16::from_le_bytes([bytes[at], bytes[at + 1]]);
-    Ok((number, at + 2))
+    Some((u16_at(bytes, at), at + 2))
 }
 
-/// Returns a number of four bytes.
+/// Reads a number of four bytes.
 #[inline]
-#[tactic(auto, unfolding(crate::specs::Bytes::u32_at))]
-pub fn read_u32(bytes: &[u8], at: usize) -> Result<(u32, usize), ReadError>
-    ensures exact { result ≡ u32_at bytes.now at }
-    ensures forward { IfOk result (λ read. at < read.1) }
-    ensures refusal { IfErr result IsSliceRefusal }
-    ensures memory { result ≢ Err ReadError.OutOfMemory }
+pub fn read_u32(bytes: &[u8], at: usize) -> Option<(u32, usize)>
+    ensures { MatchOption result (length bytes.now < at + 4)
+        (λ read. (at + 4 ≤ length bytes.now) × (read ≡ (le4 bytes.now at, at + 4))) }
 {
     if bytes.len() < 4 || at > bytes.len() - 4 {
-        return Err(ReadError::Eof);
+        return None;
     }
-    let number = u32::from_le_bytes([bytes[at], bytes[at + 1], bytes[at + 2], bytes[at + 3]]);
-    Ok((number, at + 4))
+    Some((u32_at(bytes, at), at + 4))
 }
 
-/// Returns a number of eight bytes.
+/// Reads a number of eight bytes.
 #[inline]
-#[tactic(auto, unfolding(crate::specs::Bytes::u64_at, crate::specs::Bytes::u32_at))]
-pub fn read_u64(bytes: &[u8], at: usize) -> Result<(u64, usize), ReadError>
-    ensures exact { result ≡ u64_at bytes.now at }
-    ensures forward { IfOk result (λ read. at < read.1) }
-    ensures refusal { IfErr result IsSliceRefusal }
-    ensures memory { result ≢ Err ReadError.OutOfMemory }
+pub fn read_u64(bytes: &[u8], at: usize) -> Option<(u64, usize)>
+    ensures { MatchOption result (length bytes.now < at + 8)
+        (λ read. (at + 8 ≤ length bytes.now) × (read ≡ (le8 bytes.now at, at + 8))) }
 {
     if bytes.len() < 8 || at > bytes.len() - 8 {
-        return Err(ReadError::Eof);
+        return None;
     }
-    let number = u64::from_le_bytes([
+    Some((u64_at(bytes, at), at + 8))
+}
+
+/// Returns the number of two bytes at an offset.
+#[inline]
+pub fn u16_at(bytes: &[u8], at: usize) -> u16
+    requires { at + 2 ≤ length bytes.now }
+    ensures { result ≡ le2 bytes.now at }
+{
+    u16::from_le_bytes([bytes[at], bytes[at + 1]])
+}
+
+/// Returns the number of four bytes at an offset. Like its sisters it is not inlined by force: the compiler then makes
+/// one load of the four, before it sees that a caller masks one of them.
+#[inline]
+pub fn u32_at(bytes: &[u8], at: usize) -> u32
+    requires { at + 4 ≤ length bytes.now }
+    ensures { result ≡ le4 bytes.now at }
+{
+    u32::from_le_bytes([bytes[at], bytes[at + 1], bytes[at + 2], bytes[at + 3]])
+}
+
+/// Returns the number of eight bytes at an offset.
+#[inline]
+pub fn u64_at(bytes: &[u8], at: usize) -> u64
+    requires { at + 8 ≤ length bytes.now }
+    ensures { result ≡ le8 bytes.now at }
+{
+    u64::from_le_bytes([
         bytes[at],
         bytes[at + 1],
         bytes[at + 2],
@@ -85,6 +107,5 @@ pub fn read_u64(bytes: &[u8], at: usize) -> Result<(u64, usize), ReadError>
         bytes[at + 5],
         bytes[at + 6],
         bytes[at + 7],
-    ]);
-    Ok((number, at + 8))
+    ])
 }

@@ -1,7 +1,10 @@
-//! Bytes that are lent: the numbers in them, the place of an address in a table, and how a module lends its sections.
+//! Bytes that are lent: the numbers, blocks and strings in them, the place of an address in a table, and how a module
+//! lends its sections.
 #![tactic(auto)]
 
+pub mod block;
 pub mod bytes;
+pub mod gathered;
 pub mod place;
-pub mod read_error;
 pub mod section;
+pub mod string;

@@ -97,75 +97,86 @@ pub trait ModuleSectionInfo<D> {
         ensures taken { table self.new ≡ record (table self.old) { segments = without_data name.now (table self.old).segments } };
 }
 
-/// Explicit addresses and data of various sections in the module. This implements
-/// the `ModuleSectionInfo` trait.
+/// The sections of a module, each in a field of its own: a [`ModuleSectionInfo`] that needs no code.
 ///
-/// Unless otherwise stated, these are SVMAs, "stated virtual memory addresses", i.e. addresses as
-/// stated in the object, as opposed to AVMAs, "actual virtual memory addresses", i.e. addresses in
-/// the virtual memory of the profiled process.
+/// An address of the file is an SVMA, and one of the running process an AVMA. All ranges here are
+/// SVMAs, as the file's section headers have them; none is moved to where the module was loaded.
+/// Unwind data names code by SVMAs, by distances from a section's start, or by distances from
+/// `base_svma`, so a section needs its range as well as its bytes.
 ///
-/// Code addresses inside a module's unwind information are usually written down as SVMAs,
-/// or as relative addresses. For example, DWARF CFI can have code addresses expressed as
-/// relative-to-.text addresses or as absolute SVMAs. And mach-O compact unwind info
-/// contains addresses relative to the image base address.
+/// Of an ELF file `base_svma`, `text_svma`, `eh_frame_svma`, `eh_frame`, `eh_frame_hdr_svma`,
+/// `eh_frame_hdr`, `got_svma` and `debug_frame` matter. Of a Mach-O file those of `__eh_frame` do,
+/// `unwind_info`, the stubs, and `text_segment` or `text`. The sections of a PE file have no field.
 ///
-/// Data is taken out of its field when it is asked for.
+/// A field is left empty by the call that takes its data.
 #[derive(Debug, PartialEq, Eq, Drop)]
 #[derive_where(Default)]
 pub struct ExplicitModuleSectionInfo<D> {
-    /// The image base address, as stated in the object. For mach-O objects, this is the
-    /// vmaddr of the `__TEXT` segment. For ELF objects, this is zero.
+    /// The SVMA that relative addresses count from: 0 for ELF, for Mach-O the `vmaddr` of `__TEXT`.
     ///
-    /// This is used to convert between SVMAs and relative addresses.
+    /// With a wrong one each address of the module is looked up at a wrong place.
     pub base_svma: u64,
-    /// The address range of the `__text` or `.text` section. This is where most of the compiled
-    /// code is stored.
+    /// Where `.text` (ELF) or `__text` (Mach-O) lies.
     ///
-    /// This is used to detect whether we need to do instruction analysis for an address.
+    /// Its start places the bytes of `text`, which are not used without it, and is the zero of
+    /// text-relative pointers (`DW_EH_PE_textrel`), which else count from 0.
     pub text_svma: Option<Range<u64>>,
-    /// The data of the `__text` or `.text` section. This is where most of the compiled code is
-    /// stored. For mach-O binaries, this does not need to be supplied if `text_segment` is supplied.
+    /// The bytes of `__text` (Mach-O), for a module with `unwind_info` whose `text_segment` has no
+    /// bytes or no range. That of an ELF file is not read.
     ///
-    /// This is used to handle function prologues and epilogues in some cases.
+    /// Opcodes do not describe prologues and epilogues, so in a first frame instructions come before
+    /// them; and an x86_64 opcode can leave the stack size to an instruction. Without code the first
+    /// frame gets the rule of the function's body, and an opcode of the other kind is refused.
     pub text: Option<D>,
-    /// The address range of the mach-O `__stubs` section. Contains small pieces of
-    /// executable code for calling imported functions. Code inside this section is not
-    /// covered by the unwind information in `__unwind_info`.
+    /// Where `__stubs` (Mach-O) lies: jumps to imported functions, none of which has an entry in
+    /// `__unwind_info`.
     ///
-    /// This is used to exclude addresses in this section from incorrectly applying
-    /// `__unwind_info` opcodes. It is also used to infer unwind rules for the known
-    /// structure of stub functions.
+    /// Without it a pc in a stub can get the opcode of the function whose entry comes before.
     pub stubs_svma: Option<Range<u64>>,
-    /// The address range of the mach-O `__stub_helper` section. Contains small pieces of
-    /// executable code for calling imported functions. Code inside this section is not
-    /// covered by the unwind information in `__unwind_info`.
+    /// Where `__stub_helper` (Mach-O) lies: what a stub jumps to until its function is bound. It has
+    /// no entry either, and pushes words, so its rule depends on the offset in it.
     ///
-    /// This is used to exclude addresses in this section from incorrectly applying
-    /// `__unwind_info` opcodes. It is also used to infer unwind rules for the known
-    /// structure of stub helper functions.
+    /// Without it a pc there can get the opcode of the function whose entry comes before.
     pub stub_helper_svma: Option<Range<u64>>,
-    /// The address range of the `.got` section (Global Offset Table). This is used
-    /// during DWARF CFI processing, to resolve got-relative addresses.
+    /// Where `.got` (ELF) or `__got` (Mach-O) lies, the global offset table. It has no bytes here:
+    /// its start is the zero of the data-relative pointers (`DW_EH_PE_datarel`) of `eh_frame`.
+    ///
+    /// Without it these count from 0.
     pub got_svma: Option<Range<u64>>,
-    /// The data of the `__unwind_info` section of mach-O binaries.
+    /// The bytes of `__unwind_info` (Mach-O): a table of functions, with an opcode for each.
+    ///
+    /// It is used before all other data. Without it the module is unwound by its call frame
+    /// information only.
     pub unwind_info: Option<D>,
-    /// The address range of the `__eh_frame` or `.eh_frame` section. This is used during DWARF CFI
-    /// processing, to resolve eh_frame-relative addresses.
+    /// Where `.eh_frame` (ELF) or `__eh_frame` (Mach-O) lies.
+    ///
+    /// Linkers write the start of a function as its distance from the field that has it
+    /// (`DW_EH_PE_pcrel`): without this range no address finds its FDE.
     pub eh_frame_svma: Option<Range<u64>>,
-    /// The data of the `__eh_frame` or `.eh_frame` section. This is used during DWARF CFI
-    /// processing, to resolve eh_frame-relative addresses.
+    /// The bytes of `.eh_frame` (ELF) or `__eh_frame` (Mach-O): DWARF call frame information.
+    ///
+    /// It is what most ELF files are unwound by; in a Mach-O file it has the functions that no opcode
+    /// can describe. Without it `debug_frame` is used; a Mach-O function that needs its FDE takes the
+    /// fallback.
     pub eh_frame: Option<D>,
-    /// The address range of the `.eh_frame_hdr` section. This is used during DWARF CFI processing,
-    /// to resolve eh_frame_hdr-relative addresses.
+    /// Where `.eh_frame_hdr` (ELF) lies: the addresses of its table count from its start.
+    ///
+    /// Where `eh_frame_hdr` is given without it, no address finds its FDE.
     pub eh_frame_hdr_svma: Option<Range<u64>>,
-    /// The data of the `.eh_frame_hdr` section. This is used during DWARF CFI processing, to
-    /// resolve eh_frame_hdr-relative addresses.
+    /// The bytes of `.eh_frame_hdr` (ELF): the FDEs of `eh_frame` in the order of their functions.
+    ///
+    /// Without it an index of the FDEs is made with the module, which takes time and memory.
     pub eh_frame_hdr: Option<D>,
-    /// The data of the `.debug_frame` section. The related address range is not needed.
+    /// The bytes of `.debug_frame` (ELF): call frame information for debuggers, read where there is
+    /// no other unwind data. An index of it is made with the module.
+    ///
+    /// It needs no range, since its addresses are SVMAs.
     pub debug_frame: Option<D>,
-    /// The address range of the `__TEXT` segment of mach-O binaries, if available.
+    /// Where the segment `__TEXT` (Mach-O) lies: it places the bytes of `text_segment`, which are not
+    /// used without it.
     pub text_segment_svma: Option<Range<u64>>,
-    /// The data of the `__TEXT` segment of mach-O binaries, if available.
+    /// The bytes of the segment `__TEXT` (Mach-O), which has `__text` in it. They serve as `text` does,
+    /// and are used in its place.
     pub text_segment: Option<D>,
 }
 

@@ -55,7 +55,8 @@ use Rattle.std.proofs.lemmas.Bool.Decides.{nat_tests}
 use Rattle.std.proofs.lemmas.List.{take-append-drop, get_or_append_left, drop_more, drop-take, length-take-le}
 use Rattle.std.specs.Int.{cast_unsigned, w64}
 use Rattle.std.specs.List.{flat_map, last_or, AllByRecursion}
-use Rattle.framehop_bytes.specs.Bytes.{◌>>=◌, sized_at, le2, le4, le8, u8_at, u16_at, u32_at, u64_at}
+use Rattle.framehop_bytes.specs.Bytes.{◌>>=◌, le2, le4, le8}
+use Rattle.framehop_cfi.specs.Numbers.{sized_at, u8_at, u16_at, u32_at, u64_at}
 use Rattle.framehop_cfi.specs.Leb128.{continued, sum_of_groups, groups_at, uleb_at, sleb_at, with_sign, fits_i64}
 use Rattle.framehop_cfi.specs.Raw.{raw_at, format_of, sign_extended}
 use Rattle.framehop_cfi.specs.Pointer.{pointer_at, base_of, application_of}
@@ -82,7 +83,7 @@ use Rattle.framehop_cfi.specs.AugmentationMeaning.{
 }
 use Rattle.framehop_cfi.specs.declared.augmentation.Augmentation.{Augmentation}
 use Rattle.framehop_cfi.specs.declared.pointer.SectionBaseAddresses.{SectionBaseAddresses}
-use Rattle.framehop_bytes.specs.declared.read_error.ReadError.{ReadError}
+use Rattle.framehop_cfi.specs.declared.read_error.ReadError.{ReadError}
 use Rattle.framehop_cfi.proofs.Leb.{groups-last}
 use Rattle.framehop_cfi.proofs.Spans.{bind_ok}
 

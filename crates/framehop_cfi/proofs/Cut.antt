@@ -7,7 +7,7 @@ use Rattle.framehop_cfi.specs.Entries.{Cut, no_more, after_zero, cut_by, cut_fro
 use Rattle.framehop_cfi.specs.declared.extent.EntryExtent.{EntryExtent}
 use Rattle.framehop_cfi.specs.declared.entry.UnwindSectionType.{UnwindSectionType}
 use Rattle.framehop_cfi.specs.declared.entry.UnwindSectionType.TheVariants.{EhFrame, DebugFrame}
-use Rattle.framehop_bytes.specs.declared.read_error.ReadError.{ReadError}
+use Rattle.framehop_cfi.specs.declared.read_error.ReadError.{ReadError}
 use Rattle.framehop_cfi.proofs.Spans.{span-within}
 
 module _ (section : Section) where

@@ -1,6 +1,7 @@
 -- An instruction ends after the place where it begins.
 use Rattle.std.proofs.Common.{◌≡◌, ℕ, suc, ◌+◌, ◌-◌, ◌<◌, ◌≤◌, Bool, true, false, List, length, drop, Result, Ok, Err, arith, if◌then◌else◌, ◌==◌, ◌||◌, ◌&&◌, leb, ltb, ℤ, pos, ◌*ℤ◌, ◌^◌}
-use Rattle.framehop_bytes.specs.Bytes.{Parsed, ◌>>=◌, sized_at, u8_at, u16_at, u32_at, u64_at}
+use Rattle.framehop_bytes.specs.Bytes.{◌>>=◌}
+use Rattle.framehop_cfi.specs.Numbers.{Parsed, sized_at, u8_at, u16_at, u32_at, u64_at}
 use Rattle.framehop_cfi.specs.Leb128.{continued, groups_at, uleb_at, sleb_at, with_sign, fits_i64}
 use Rattle.framehop_cfi.specs.Raw.{raw_at, format_of}
 use Rattle.framehop_cfi.specs.Pointer.{pointer_at, base_of, application_of}
@@ -29,8 +30,8 @@ use Rattle.framehop_cfi.specs.declared.rule.CfaRule.TheVariants as cfa
 use Rattle.framehop_cfi.specs.declared.rule.RegisterRule.TheVariants as rule
 use Rattle.framehop_cfi.specs.declared.instruction.CallFrameInstruction.{CallFrameInstruction}
 use Rattle.framehop_cfi.specs.declared.instruction.CallFrameInstruction.TheVariants.{ArgsSize, SetLoc, AdvanceLoc, SetRule, Restore, DefCfa, DefCfaRegister, DefCfaOffset}
-use Rattle.framehop_bytes.specs.declared.read_error.ReadError.{ReadError}
-use Rattle.framehop_bytes.specs.declared.read_error.ReadError.TheVariants.{Eof}
+use Rattle.framehop_cfi.specs.declared.read_error.ReadError.{ReadError}
+use Rattle.framehop_cfi.specs.declared.read_error.ReadError.TheVariants.{Eof}
 
 -- what is read ends at or after a place
 abbrev pub Reaches : {A : Type 0} → ℕ → Parsed A → Type 0

@@ -6,7 +6,7 @@ use Rattle.std.proofs.lemmas.Nat.{and_mask, shl_whole, pow-add}
 use Rattle.std.proofs.Math.Nat.{mul-le-mul_right}
 use Rattle.std.specs.Prelude.{bit_and}
 use Rattle.framehop_cfi.specs.Leb128.{continued, sum_of_groups, groups_at, uleb_at, sleb_at, with_sign, fits_i64}
-use Rattle.framehop_bytes.specs.declared.read_error.ReadError.TheVariants.{Eof, BadLeb}
+use Rattle.framehop_cfi.specs.declared.read_error.ReadError.TheVariants.{Eof, BadLeb}
 
 -- so many bytes say that more follow, and the next one doesn't
 pub continued-is : (xs : List ℕ) (c : ℕ) → ((k : ℕ) → k < c → 128 ≤ get_or xs k 0) → get_or xs c 0 < 128 → continued xs ≡ c

@@ -1,6 +1,7 @@
 pub mod Leb
 pub mod Rows
 pub mod Run
+pub mod Cursor
 pub mod Table
 pub mod Forward
 pub mod Room

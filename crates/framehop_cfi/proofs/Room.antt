@@ -21,7 +21,7 @@ use Rattle.framehop_cfi.specs.declared.instruction.CallFrameInstruction.TheVaria
   DefCfaRegister,
   DefCfaOffset,
 }
-use Rattle.framehop_bytes.specs.declared.read_error.ReadError.{ReadError}
+use Rattle.framehop_cfi.specs.declared.read_error.ReadError.{ReadError}
 use Rattle.framehop_cfi.proofs.RowMeaning.{same}
 use Rattle.framehop_cfi.proofs.Spans.{bind_ok}
 use Rattle.framehop_cfi.proofs.Run.{IsIn}

@@ -11,8 +11,8 @@ use Rattle.framehop_cfi.specs.RowMeaning.{Stands, Lists, Ends, HasEffect, AreRow
 use Rattle.framehop_cfi.specs.declared.storage.StorageLimits.{StorageLimits}
 use Rattle.framehop_cfi.specs.declared.entry.FrameDescriptionEntry.{FrameDescriptionEntry}
 use Rattle.framehop_cfi.specs.declared.instruction.CallFrameInstruction.{CallFrameInstruction}
-use Rattle.framehop_bytes.specs.declared.read_error.ReadError.{ReadError}
-use Rattle.framehop_bytes.specs.declared.read_error.ReadError.TheVariants.{OutOfMemory}
+use Rattle.framehop_cfi.specs.declared.read_error.ReadError.{ReadError}
+use Rattle.framehop_cfi.specs.declared.read_error.ReadError.TheVariants.{OutOfMemory}
 use Rattle.framehop_cfi.specs.Outcome.{Becomes}
 use Rattle.std.specs.Prelude.{OnOk, IfErr}
 use Rattle.framehop_cfi.proofs.Forward.{instruction-forward}

@@ -6,7 +6,7 @@ use Rattle.framehop_cfi.specs.TableRows.{TableRows, effect}
 use Rattle.framehop_cfi.specs.RowAt.{InstructionList, run, location_after, is_beyond}
 use Rattle.framehop_cfi.specs.declared.storage.StorageLimits.{StorageLimits}
 use Rattle.framehop_cfi.specs.declared.instruction.CallFrameInstruction.{CallFrameInstruction}
-use Rattle.framehop_bytes.specs.declared.read_error.ReadError.{ReadError}
+use Rattle.framehop_cfi.specs.declared.read_error.ReadError.{ReadError}
 
 -- there is an instruction at the place, within so many steps
 abbrev pub IsIn : InstructionList → ℕ → ℕ → Type 0

@@ -1,7 +1,8 @@
 -- An entry ends after the offset where it begins, in the bytes.
 use Rattle.std.proofs.Common.{◌≡◌, ℕ, ◌+◌, ◌-◌, ◌<◌, ◌≤◌, List, length, Result, Ok, Err, refl, subst, arith, inl, inr, leb, ltb, ◌==◌}
 use Rattle.std.proofs.lemmas.Bool.{lt-leb, le-leb, cases_Bool, cases_lt}
-use Rattle.framehop_bytes.specs.Bytes.{◌>>=◌, u32_at, u64_at}
+use Rattle.framehop_bytes.specs.Bytes.{◌>>=◌}
+use Rattle.framehop_cfi.specs.Numbers.{u32_at, u64_at}
 use Rattle.framehop_cfi.specs.EntryExtent.{held, long_extent, extent_at}
 use Rattle.framehop_cfi.specs.Entry.{eh_frame_id, short_id, long_id, id_at}
 use Rattle.framehop_cfi.specs.declared.extent.EntryExtent.{EntryExtent}
@@ -9,7 +10,7 @@ use Rattle.framehop_cfi.specs.declared.entry.UnwindSectionType.{UnwindSectionTyp
 use Rattle.framehop_cfi.specs.declared.entry.UnwindSectionType.TheVariants.{EhFrame, DebugFrame}
 use Rattle.framehop_cfi.specs.declared.entry.EntryHead.{EntryHead}
 use Rattle.framehop_cfi.specs.declared.entry.EntryHead.TheVariants.{ZeroLength, Cie, Fde}
-use Rattle.framehop_bytes.specs.declared.read_error.ReadError.{ReadError}
+use Rattle.framehop_cfi.specs.declared.read_error.ReadError.{ReadError}
 use Rattle.framehop_cfi.proofs.Forward.{u32-reaches, u64-reaches}
 
 -- where an entry ends, or a length of 0

@@ -1,12 +1,13 @@
 -- The augmentation of a CIE (LSB, ".eh_frame"; DWARF 5 section 6.4.1).
 use Rattle.std.specs.Prelude.{ℕ, ◌+◌, List, [], ◌∷◌, length, take, drop, position, true, false, Option, Some, None, Result, Ok, Err, ◌==◌, ◌||◌, nat_le, if◌then◌else◌}
-use Rattle.framehop_bytes.specs.Bytes.{Parsed, ◌>>=◌, u8_at}
+use Rattle.framehop_bytes.specs.Bytes.{◌>>=◌}
+use Rattle.framehop_cfi.specs.Numbers.{Parsed, u8_at}
 use Rattle.framehop_cfi.specs.Leb128.{uleb_at}
 use Rattle.framehop_cfi.specs.Pointer.{pointer_at}
 use Rattle.framehop_cfi.specs.declared.augmentation.Augmentation.{Augmentation}
 use Rattle.framehop_cfi.specs.declared.pointer.SectionBaseAddresses.{SectionBaseAddresses}
-use Rattle.framehop_bytes.specs.declared.read_error.ReadError.{ReadError}
-use Rattle.framehop_bytes.specs.declared.read_error.ReadError.TheVariants.{Eof, UnknownAugmentation}
+use Rattle.framehop_cfi.specs.declared.read_error.ReadError.{ReadError}
+use Rattle.framehop_cfi.specs.declared.read_error.ReadError.TheVariants.{Eof, UnknownAugmentation}
 
 -- where the zero byte stands that ends a text
 abbrev pub found_at : ℕ → Option ℕ → Result ℕ ReadError

@@ -6,7 +6,7 @@ use Rattle.framehop_cfi.specs.Section.{Section}
 use Rattle.framehop_cfi.specs.declared.extent.EntryExtent.{EntryExtent}
 use Rattle.framehop_cfi.specs.declared.entry.UnwindSectionType.{UnwindSectionType}
 use Rattle.framehop_cfi.specs.declared.entry.UnwindSectionType.TheVariants.{EhFrame, DebugFrame}
-use Rattle.framehop_bytes.specs.declared.read_error.ReadError.{ReadError}
+use Rattle.framehop_cfi.specs.declared.read_error.ReadError.{ReadError}
 
 -- a section cut into its entries: the offset of each, and why the next length can't be read, if one can't
 pub record Cut : Type 0 where

@@ -1,6 +1,7 @@
 -- The two kinds of entries of a call frame section (DWARF 5 section 6.4.1; LSB, ".eh_frame").
 use Rattle.std.specs.Prelude.{ℕ, ◌+◌, ◌-◌, List, take, slice_range, Bool, true, false, Result, Ok, Err, ◌==◌, ◌||◌, nat_le, if◌then◌else◌}
-use Rattle.framehop_bytes.specs.Bytes.{Parsed, ◌>>=◌, u8_at, u32_at, u64_at}
+use Rattle.framehop_bytes.specs.Bytes.{◌>>=◌}
+use Rattle.framehop_cfi.specs.Numbers.{Parsed, u8_at, u32_at, u64_at}
 use Rattle.framehop_cfi.specs.Leb128.{uleb_at, sleb_at}
 use Rattle.framehop_cfi.specs.Raw.{raw_at, format_of}
 use Rattle.framehop_cfi.specs.Augmentation.{terminator_at, counted_at, augmentation_at}
@@ -15,8 +16,8 @@ use Rattle.framehop_cfi.specs.declared.entry.EntryHead.{EntryHead}
 use Rattle.framehop_cfi.specs.declared.entry.EntryHead.TheVariants.{ZeroLength, Cie, Fde}
 use Rattle.framehop_cfi.specs.declared.entry.CommonInformationEntry.{CommonInformationEntry}
 use Rattle.framehop_cfi.specs.declared.entry.FrameDescriptionEntry.{FrameDescriptionEntry}
-use Rattle.framehop_bytes.specs.declared.read_error.ReadError.{ReadError}
-use Rattle.framehop_bytes.specs.declared.read_error.ReadError.TheVariants.{BadEncoding, NotCie, NotFde, UnknownVersion, NumberTooBig}
+use Rattle.framehop_cfi.specs.declared.read_error.ReadError.{ReadError}
+use Rattle.framehop_cfi.specs.declared.read_error.ReadError.TheVariants.{BadEncoding, NotCie, NotFde, UnknownVersion, NumberTooBig}
 
 -- In `.eh_frame` a CIE's id is 0 in 4 bytes, and an FDE's CIE lies so many bytes before the field.
 unfoldable pub eh_frame_id : List ℕ → EntryExtent → Result EntryHead ReadError

@@ -1,9 +1,10 @@
 -- Where an entry of a call frame section begins and ends (DWARF 5 sections 6.4.1 and 7.4).
 use Rattle.std.specs.Prelude.{ℕ, ◌+◌, ◌≤◌, ◌<◌, List, length, Bool, Result, Ok, Err, ◌==◌, ◌&&◌, nat_lt, nat_le, if◌then◌else◌}
-use Rattle.framehop_bytes.specs.Bytes.{◌>>=◌, u32_at, u64_at}
+use Rattle.framehop_bytes.specs.Bytes.{◌>>=◌}
+use Rattle.framehop_cfi.specs.Numbers.{u32_at, u64_at}
 use Rattle.framehop_cfi.specs.declared.extent.EntryExtent.{EntryExtent}
-use Rattle.framehop_bytes.specs.declared.read_error.ReadError.{ReadError}
-use Rattle.framehop_bytes.specs.declared.read_error.ReadError.TheVariants.{Eof, BadLength}
+use Rattle.framehop_cfi.specs.declared.read_error.ReadError.{ReadError}
+use Rattle.framehop_cfi.specs.declared.read_error.ReadError.TheVariants.{Eof, BadLength}
 
 -- contents of that length, if the section holds them
 abbrev pub held : List ℕ → ℕ → ℕ → ℕ → Result EntryExtent ReadError

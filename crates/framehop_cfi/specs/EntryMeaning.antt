@@ -1,6 +1,6 @@
 -- The fields of a CIE and of an FDE, each where the one before it ends (DWARF 5 section 6.4.1; LSB, ".eh_frame").
 use Rattle.std.specs.Prelude.{ℕ, ◌+◌, ◌≡◌, true, false, List, take, slice_range, Ok, nat_le}
-use Rattle.framehop_bytes.specs.Bytes.{u8_at}
+use Rattle.framehop_cfi.specs.Numbers.{u8_at}
 use Rattle.framehop_cfi.specs.Leb128.{uleb_at, sleb_at}
 use Rattle.framehop_cfi.specs.Raw.{raw_at, format_of}
 use Rattle.framehop_cfi.specs.Pointer.{pointer_at}

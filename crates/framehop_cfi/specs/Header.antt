@@ -1,14 +1,15 @@
 -- The binary search table of `.eh_frame_hdr` (LSB, ".eh_frame_hdr").
 use Rattle.std.specs.Prelude.{ℕ, ◌+◌, ◌-◌, ◌*◌, ◌^◌, ◌≡◌, List, length, map, Option, Some, None, Result, Ok, Err, ◌==◌, ◌||◌, ◌&&◌, nat_le, nat_lt, if◌then◌else◌}
 use Rattle.std.specs.List.{range_with_len}
-use Rattle.framehop_bytes.specs.Bytes.{Parsed, ◌>>=◌, u8_at}
+use Rattle.framehop_bytes.specs.Bytes.{◌>>=◌}
+use Rattle.framehop_cfi.specs.Numbers.{Parsed, u8_at}
 use Rattle.framehop_cfi.specs.Raw.{raw_at, format_of}
 use Rattle.framehop_cfi.specs.Pointer.{pointer_at}
 use Rattle.framehop_bytes.specs.Place.{place_of, IsPlace}
 use Rattle.framehop_cfi.specs.declared.pointer.SectionBaseAddresses.{SectionBaseAddresses}
 use Rattle.framehop_cfi.specs.Layout.{Layout}
-use Rattle.framehop_bytes.specs.declared.read_error.ReadError.{ReadError}
-use Rattle.framehop_bytes.specs.declared.read_error.ReadError.TheVariants.{Eof, BadEncoding, UnknownVersion}
+use Rattle.framehop_cfi.specs.declared.read_error.ReadError.{ReadError}
+use Rattle.framehop_cfi.specs.declared.read_error.ReadError.TheVariants.{Eof, BadEncoding, UnknownVersion}
 
 -- the size of a table's numbers, by their format
 abbrev pub size_of_format : ℕ → Result ℕ ReadError

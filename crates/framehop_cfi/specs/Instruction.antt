@@ -1,6 +1,7 @@
 -- Call frame instructions (DWARF 5 section 6.4.2).
 use Rattle.std.specs.Prelude.{ℕ, ◌-◌, List, [], ◌∷◌, Result, Ok, Err, ℤ, pos, ◌*ℤ◌, ◌==◌, ◌||◌, ◌&&◌, nat_le, nat_lt, if◌then◌else◌}
-use Rattle.framehop_bytes.specs.Bytes.{Parsed, ◌>>=◌, u8_at, u16_at, u32_at}
+use Rattle.framehop_bytes.specs.Bytes.{◌>>=◌}
+use Rattle.framehop_cfi.specs.Numbers.{Parsed, u8_at, u16_at, u32_at}
 use Rattle.framehop_bytes.specs.ByCode.{by_code, by_test}
 use Rattle.framehop_cfi.specs.Leb128.{uleb_at, sleb_at, fits_i64}
 use Rattle.framehop_cfi.specs.Augmentation.{counted_at}
@@ -14,8 +15,8 @@ use Rattle.framehop_cfi.specs.declared.rule.RegisterRule.{RegisterRule}
 use Rattle.framehop_cfi.specs.declared.rule.RegisterRule.TheVariants as rule
 use Rattle.framehop_cfi.specs.declared.instruction.CallFrameInstruction.{CallFrameInstruction}
 use Rattle.framehop_cfi.specs.declared.instruction.CallFrameInstruction.TheVariants.{Nop, NegateRaState, ArgsSize, SetLoc, AdvanceLoc, SetRule, Restore, RememberState, RestoreState, DefCfa, DefCfaRegister, DefCfaOffset}
-use Rattle.framehop_bytes.specs.declared.read_error.ReadError.{ReadError}
-use Rattle.framehop_bytes.specs.declared.read_error.ReadError.TheVariants.{UnknownInstruction, NumberTooBig}
+use Rattle.framehop_cfi.specs.declared.read_error.ReadError.{ReadError}
+use Rattle.framehop_cfi.specs.declared.read_error.ReadError.TheVariants.{UnknownInstruction, NumberTooBig}
 
 -- what is read, put into another form
 abbrev pub mapped : {A B : Type 0} → (A → B) → Parsed A → Parsed B

@@ -1,7 +1,8 @@
 -- LEB128 numbers (DWARF 5 section 7.6).
 use Rattle.std.specs.Prelude.{ℕ, zero, suc, ◌+◌, ◌*◌, ◌^◌, ◌%◌, Bool, List, [], ◌∷◌, length, drop, slice_index, Ok, Err, nat_le, nat_lt, if◌then◌else◌, ℤ, pos, negsuc, ◌-ℤ◌}
-use Rattle.framehop_bytes.specs.Bytes.{Parsed, ◌>>=◌}
-use Rattle.framehop_bytes.specs.declared.read_error.ReadError.TheVariants.{Eof, BadLeb}
+use Rattle.framehop_bytes.specs.Bytes.{◌>>=◌}
+use Rattle.framehop_cfi.specs.Numbers.{Parsed}
+use Rattle.framehop_cfi.specs.declared.read_error.ReadError.TheVariants.{Eof, BadLeb}
 
 -- how many bytes at the front say that more follow: those from 128 on
 abbrev pub continued : List ℕ → ℕ

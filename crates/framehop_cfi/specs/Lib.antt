@@ -9,11 +9,14 @@ pub mod Header
 pub mod Instruction
 pub mod Layout
 pub mod Leb128
+pub mod Numbers
 pub mod Outcome
 pub mod Pointer
 pub mod Raw
+pub mod Refusal
 pub mod Row
 pub mod RowAt
+pub mod RowCursor
 pub mod RowMeaning
 pub mod RowRoom
 pub mod Section

@@ -1,10 +1,11 @@
 -- Encoded pointers of the exception frame sections (LSB, "DWARF Exception Header Encoding").
 use Rattle.std.specs.Prelude.{ℕ, ◌+◌, ◌/◌, ◌%◌, ◌^◌, List, Result, Ok, Err, ◌==◌, if◌then◌else◌}
-use Rattle.framehop_bytes.specs.Bytes.{Parsed, ◌>>=◌}
+use Rattle.framehop_bytes.specs.Bytes.{◌>>=◌}
+use Rattle.framehop_cfi.specs.Numbers.{Parsed}
 use Rattle.framehop_cfi.specs.Raw.{raw_at, format_of}
 use Rattle.framehop_cfi.specs.declared.pointer.SectionBaseAddresses.{SectionBaseAddresses}
-use Rattle.framehop_bytes.specs.declared.read_error.ReadError.{ReadError}
-use Rattle.framehop_bytes.specs.declared.read_error.ReadError.TheVariants.{BadEncoding}
+use Rattle.framehop_cfi.specs.declared.read_error.ReadError.{ReadError}
+use Rattle.framehop_cfi.specs.declared.read_error.ReadError.TheVariants.{BadEncoding}
 
 -- what a pointer at an offset counts from, by its application: nothing, its own address, the text, the data
 abbrev pub base_of : SectionBaseAddresses → ℕ → ℕ → Result ℕ ReadError

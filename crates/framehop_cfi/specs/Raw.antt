@@ -2,9 +2,10 @@
 use Rattle.std.specs.Prelude.{ℕ, ◌+◌, ◌-◌, ◌*◌, ◌%◌, ◌^◌, List, [], ◌∷◌, Ok, Err, ◌==◌, ◌||◌, nat_lt, if◌then◌else◌}
 use Rattle.std.specs.Int.{cast_unsigned, w64}
 use Rattle.framehop_bytes.specs.ByCode.{by_test}
-use Rattle.framehop_bytes.specs.Bytes.{Parsed, ◌>>=◌, u16_at, u32_at, u64_at}
+use Rattle.framehop_bytes.specs.Bytes.{◌>>=◌}
+use Rattle.framehop_cfi.specs.Numbers.{Parsed, u16_at, u32_at, u64_at}
 use Rattle.framehop_cfi.specs.Leb128.{uleb_at, sleb_at}
-use Rattle.framehop_bytes.specs.declared.read_error.ReadError.TheVariants.{BadEncoding}
+use Rattle.framehop_cfi.specs.declared.read_error.ReadError.TheVariants.{BadEncoding}
 
 -- an encoding's low four bits
 abbrev pub format_of : ℕ → ℕ

@@ -11,8 +11,8 @@ use Rattle.framehop_cfi.specs.declared.entry.CommonInformationEntry.{CommonInfor
 use Rattle.framehop_cfi.specs.declared.entry.FrameDescriptionEntry.{FrameDescriptionEntry}
 use Rattle.framehop_cfi.specs.declared.instruction.CallFrameInstruction.{CallFrameInstruction}
 use Rattle.framehop_cfi.specs.declared.instruction.CallFrameInstruction.TheVariants.{SetLoc, AdvanceLoc}
-use Rattle.framehop_bytes.specs.declared.read_error.ReadError.{ReadError}
-use Rattle.framehop_bytes.specs.declared.read_error.ReadError.TheVariants.{InvalidContext, NumberTooBig, NoRow}
+use Rattle.framehop_cfi.specs.declared.read_error.ReadError.{ReadError}
+use Rattle.framehop_cfi.specs.declared.read_error.ReadError.TheVariants.{InvalidContext, NumberTooBig, NoRow}
 
 -- a list of instructions: its bytes, how they are read, and the address that is looked for (none in a CIE)
 pub record InstructionList : Type 0 where

@@ -7,7 +7,7 @@ use Rattle.framehop_cfi.specs.Section.{Section}
 use Rattle.framehop_cfi.specs.declared.entry.FrameDescriptionEntry.{FrameDescriptionEntry}
 use Rattle.framehop_cfi.specs.declared.instruction.CallFrameInstruction.{CallFrameInstruction}
 use Rattle.framehop_cfi.specs.declared.instruction.CallFrameInstruction.TheVariants.{SetRule, Restore, RememberState}
-use Rattle.framehop_bytes.specs.declared.read_error.ReadError.{ReadError}
+use Rattle.framehop_cfi.specs.declared.read_error.ReadError.{ReadError}
 
 -- an instruction may make a row longer, or remembers one
 abbrev pub needs_room : CallFrameInstruction → Bool

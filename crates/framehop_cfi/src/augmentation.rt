@@ -3,9 +3,9 @@ ghost use Rattle.std.specs.Prelude.{◌≡◌, ◌≢◌, Err, ◌≤◌, ◌<�
 ghost use Rattle.framehop_cfi.specs.Augmentation.{terminator_at, counted_at, letter_at, letters_at, augmentation_at, augmentation_data, personality_at};
 
 use crate::leb128::read_uleb128;
+use crate::numbers::read_u8;
 use crate::pointer::{DW_EH_PE_OMIT, SectionBaseAddresses};
-use framehop_bytes::bytes::read_u8;
-use framehop_bytes::read_error::ReadError;
+use crate::read_error::ReadError;
 
 /// What a CIE's augmentation tells.
 #[derive(Clone, Copy)]

@@ -2,22 +2,23 @@
 //!
 //! A row is changed in place, instruction by instruction. The room for rows is kept from one address to the next,
 //! so that no memory is taken under `StoreOnStack`.
-ghost use Rattle.std.specs.Prelude.{◌≡◌, ◌≢◌, ◌*◌, ◌<◌, length, true, IfOk, IfErr, OnOk, OnErr, IsErrOf, None, Err, vec_len};
+ghost use Rattle.std.specs.Prelude.{◌≡◌, ◌≢◌, ◌*◌, ◌+◌, ◌^◌, ◌<◌, ◌≤◌, length, true, IfOk, IfErr, OnOk, OnErr, IsErrOf, None, Err, vec_len};
 ghost use Rattle.framehop_cfi.specs.TableRows.{TableRows, effect, setting, restoring, remembering, restoring_state};
 ghost use Rattle.framehop_cfi.specs.Outcome.{Becomes};
 ghost use Rattle.framehop_cfi.specs.Row.{Row};
 ghost use Rattle.framehop_cfi.specs.RowMeaning.{IsRowAt};
 ghost use Rattle.framehop_cfi.specs.RowRoom.{needs_room, list_needs_room, row_needs_room};
 ghost use Rattle.framehop_cfi.specs.RowAt.{location_after, risen, is_beyond, run_from, rows_at, row_at, start, begun, covers};
+ghost use Rattle.framehop_cfi.specs.RowCursor.{HasReached, HaveRow, HaveNoRow};
 
 use crate::entry::{CommonInformationEntry, FrameDescriptionEntry, UnwindSection};
 use crate::instruction::CallFrameInstruction;
 use crate::pointer::SectionBaseAddresses;
+use crate::read_error::ReadError;
 use crate::row::UnwindTableRow;
 use crate::rule::{CfaRule, Register, RegisterRule};
 use crate::storage::UnwindContextStorage;
 use framehop_bytes::bytes::front;
-use framehop_bytes::read_error::ReadError;
 use std::alloc::{AllocError, Global};
 use std::marker::Model;
 use std::mem;
@@ -378,6 +379,100 @@ impl<S: UnwindContextStorage> UnwindContext<S> {
         self.initial.copy_from(&self.row)?;
         self.has_initial = true;
         Ok(())
+    }
+}
+
+/// Where the rows of an FDE have got to.
+#[derive(Clone, Copy, Debug, PartialEq, Eq)]
+pub struct RowCursor {
+    /// The offset in the section of the instruction that is next.
+    pub next: usize,
+    /// The address at which the next row begins, an SVMA.
+    pub location: u64,
+}
+
+/// Returns the first address after those that the FDE covers, or the last one of 64 bits.
+fn end_of(fde: &FrameDescriptionEntry) -> u64
+    ensures { fde.now.initial_address + fde.now.address_range < 2 ^ 64 →
+        result ≡ fde.now.initial_address + fde.now.address_range }
+{
+    fde.initial_address.saturating_add(fde.address_range)
+}
+
+impl<S: UnwindContextStorage> UnwindContext<S> {
+    /// Begins the rows of an FDE: runs the instructions of its CIE. The rows follow by `next_row`, each instruction being
+    /// read once.
+    ///
+    /// An error is that of the row of each address. `OutOfMemory` is returned only where the storage has no limits.
+    pub fn begin_rows(
+        &mut self,
+        section: &UnwindSection,
+        fde: &FrameDescriptionEntry,
+    ) -> Result<RowCursor, ReadError>
+        ensures begun { IfOk result (λ cursor. HasReached S.limits section.now fde.now cursor.next cursor.location self.new) }
+        ensures first { IfOk result (λ cursor. cursor.location ≡ fde.now.initial_address) }
+        ensures refused { IfErr result (λ error. error ≢ ReadError.OutOfMemory →
+            HaveNoRow S.limits section.now fde.now fde.now.initial_address error) }
+        ensures memory { IsErrOf result ReadError.OutOfMemory → S.limits ≡ None }
+    {
+        self.clear();
+        let cie = &fde.cie;
+        let bytes = front(section.bytes, cie.end);
+        self.run(cie, &section.bases, bytes, cie.instructions, 0, None)?;
+        self.begin_fde()?;
+        Ok(RowCursor {
+            next: fde.instructions,
+            location: fde.initial_address,
+        })
+    }
+
+    /// Makes the next row, and returns where it ends and the one after it begins: at the first address after the FDE's for
+    /// its last row. A call begins where the one before it ended, with the rows as that left them.
+    ///
+    /// An error is that of the row of each address from the cursor's location on. `OutOfMemory` is returned only where the
+    /// storage has no limits.
+    pub fn next_row(
+        &mut self,
+        section: &UnwindSection,
+        fde: &FrameDescriptionEntry,
+        cursor: RowCursor,
+    ) -> Result<RowCursor, ReadError>
+        ensures row { HasReached S.limits section.now fde.now cursor.next cursor.location self.old →
+            IfOk result (λ after. HaveRow S.limits section.now fde.now cursor.location after.location self.new.row) }
+        ensures reached { HasReached S.limits section.now fde.now cursor.next cursor.location self.old →
+            IfOk result (λ after. HasReached S.limits section.now fde.now after.next after.location self.new) }
+        ensures forward { IfOk result (λ after. cursor.location ≤ after.location) }
+        ensures further { fde.now.initial_address + fde.now.address_range < 2 ^ 64 →
+            cursor.location < fde.now.initial_address + fde.now.address_range →
+            IfOk result (λ after. cursor.location < after.location) }
+        ensures refused { HasReached S.limits section.now fde.now cursor.next cursor.location self.old →
+            IfErr result (λ error. error ≢ ReadError.OutOfMemory →
+            HaveNoRow S.limits section.now fde.now cursor.location error) }
+        ensures memory { IsErrOf result ReadError.OutOfMemory → S.limits ≡ None }
+    {
+        let bytes = front(section.bytes, fde.end);
+        let mut next = cursor.next;
+        while next < bytes.len() {
+            let (instruction, after) = fde.cie.read_next(&section.bases, bytes, next)?;
+            let moved = location_after(
+                &fde.cie,
+                Some(cursor.location),
+                cursor.location,
+                instruction,
+            )?;
+            if moved > cursor.location {
+                return Ok(RowCursor {
+                    next: after,
+                    location: moved,
+                });
+            }
+            self.execute(instruction)?;
+            next = after;
+        }
+        Ok(RowCursor {
+            next,
+            location: end_of(fde).max(cursor.location),
+        })
     }
 }
 

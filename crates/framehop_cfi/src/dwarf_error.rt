@@ -1,6 +1,6 @@
 //! Why call frame information does not unwind a frame. Compact unwind info, which can name an FDE, has
 //! this error among its own.
-use framehop_bytes::read_error::ReadError;
+use crate::read_error::ReadError;
 use thiserror::Error;
 
 /// Why call frame information does not unwind a frame.

@@ -10,9 +10,10 @@ ghost use Rattle.framehop_cfi.specs.Entry.{eh_frame_id, debug_frame_id, id_at, h
 use crate::augmentation::{find_terminator, read_counted};
 use crate::extent::{EntryExtent, read_extent};
 use crate::leb128::{read_sleb128, read_uleb128};
+use crate::numbers::{read_u8, read_u32, read_u64};
 use crate::pointer::{BaseAddresses, DW_EH_PE_INDIRECT, SectionBaseAddresses, read_raw_pointer};
-use framehop_bytes::bytes::{front, read_u8, read_u32, read_u64};
-use framehop_bytes::read_error::ReadError;
+use crate::read_error::ReadError;
+use framehop_bytes::bytes::front;
 use std::marker::Model;
 
 /// Which of the two call frame sections the bytes are.

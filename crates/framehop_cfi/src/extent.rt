@@ -2,8 +2,8 @@
 ghost use Rattle.std.specs.Prelude.{◌≡◌, ◌≢◌, Err, ◌<◌, ℕ, IfOk};
 ghost use Rattle.framehop_cfi.specs.EntryExtent.{extent_at, held, is_zero_length, IsWithin};
 
-use framehop_bytes::bytes::{read_u32, read_u64};
-use framehop_bytes::read_error::ReadError;
+use crate::numbers::{read_u32, read_u64};
+use crate::read_error::ReadError;
 
 /// Where an entry's contents stand, after its length.
 #[derive(Clone, Copy)]

@@ -4,10 +4,10 @@ ghost use Rattle.framehop_bytes.specs.Place.{place_of, IsPlace};
 ghost use Rattle.framehop_cfi.specs.Header.{size_of_format, table_size, encoded_at, encodings_at, layout_of, start_of_row, fde_of_row, starts_of, fde_offset_of, fde_offset_in, IsOfRowFor, value_or_zero};
 ghost use Rattle.framehop_cfi.specs.Pointer.{pointer_at};
 
+use crate::numbers::read_u8;
 use crate::pointer::{SectionBaseAddresses, read_raw_pointer};
-use framehop_bytes::bytes::read_u8;
+use crate::read_error::ReadError;
 use framehop_bytes::place::{Starts, place};
-use framehop_bytes::read_error::ReadError;
 use std::marker::Model;
 
 /// Where the header's table lies, and how it is encoded.

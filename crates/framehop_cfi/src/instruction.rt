@@ -8,10 +8,10 @@ ghost use Rattle.framehop_cfi.specs.Instruction.{instruction_at, operands_at, co
 use crate::augmentation::read_counted;
 use crate::entry::CommonInformationEntry;
 use crate::leb128::{read_short_uleb128, read_sleb128, read_uleb128};
+use crate::numbers::{read_u8, read_u16, read_u32};
 use crate::pointer::SectionBaseAddresses;
+use crate::read_error::ReadError;
 use crate::rule::{CfaRule, Expression, Register, RegisterRule};
-use framehop_bytes::bytes::{read_u8, read_u16, read_u32};
-use framehop_bytes::read_error::ReadError;
 
 /// A call frame instruction. Factored offsets are multiplied out.
 #[derive(Clone, Copy, Debug, PartialEq, Eq)]
@@ -301,7 +301,7 @@ impl CommonInformationEntry {
     /// Returns the instruction at an offset, and the offset after it, if it is one of those that are common and has
     /// no operand of more than one byte. It is inlined, so that such an instruction is read without a call.
     #[inline(always)]
-    #[tactic(auto, unfolding(crate::specs::Instruction::instruction_at, framehop_bytes::specs::Bytes::u8_at))]
+    #[tactic(auto, unfolding(crate::specs::Instruction::instruction_at, crate::specs::Numbers::u8_at))]
     pub(crate) fn read_short(
         &self,
         bytes: &[u8],

@@ -1,9 +1,9 @@
 //! LEB128 numbers: groups of seven bits, the lowest first (DWARF 5 section 7.6).
 ghost use Rattle.std.specs.Prelude.{◌≡◌, ◌≢◌, Ok, Err, IfSome, IfErr, ◌+◌, ◌*◌, ◌<◌, ◌≤◌, ◌^◌, IfOk, IsTrue, Some, None, if◌then◌else◌};
-ghost use Rattle.framehop_bytes.specs.Refusal.{IsSliceRefusal};
+ghost use Rattle.framehop_cfi.specs.Refusal.{IsSliceRefusal};
 ghost use Rattle.framehop_cfi.specs.Leb128.{groups_at, uleb_at, sleb_at, with_sign, fits_i64};
 
-use framehop_bytes::read_error::ReadError;
+use crate::read_error::ReadError;
 
 /// Returns the groups of a number, up to the first byte below 128 and at most ten: their sum, and how many
 /// bits they have.

@@ -1,11 +1,11 @@
 //! Encoded pointers, and the addresses that they count from (LSB, "DWARF Exception Header Encoding").
 ghost use Rattle.std.specs.Prelude.{◌≡◌, ◌≢◌, Err, IfErr, ◌<◌, IfOk};
-ghost use Rattle.framehop_bytes.specs.Refusal.{IsSliceRefusal};
+ghost use Rattle.framehop_cfi.specs.Refusal.{IsSliceRefusal};
 ghost use Rattle.framehop_cfi.specs.Raw.{raw_at, format_of, sign_extended};
 
 use crate::leb128::{read_sleb128, read_uleb128};
-use framehop_bytes::bytes::{read_u16, read_u32, read_u64};
-use framehop_bytes::read_error::ReadError;
+use crate::numbers::{read_u16, read_u32, read_u64};
+use crate::read_error::ReadError;
 
 /// Where a module's sections lie, as stated virtual memory addresses (SVMA); 0 for one that is not there.
 #[derive(Clone, Copy, Debug, Default, PartialEq, Eq)]

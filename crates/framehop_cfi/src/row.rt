@@ -3,9 +3,9 @@ ghost use Rattle.std.specs.Prelude.{◌≡◌, ◌<◌, length, position, IfOk, 
 ghost use Rattle.framehop_cfi.specs.Row.{empty_row, rule_of, is_of, with_rule, without_rule};
 ghost use Rattle.framehop_cfi.specs.Outcome.{Becomes};
 
+use crate::read_error::ReadError;
 use crate::rule::{CfaRule, Register, RegisterRule};
 use crate::storage::UnwindContextStorage;
-use framehop_bytes::read_error::ReadError;
 use std::alloc::{AllocError, Global};
 use std::marker::{Model, PhantomData};
 

@@ -28,16 +28,19 @@ module _ {U R : Type 0} (outcome : U → Bool → R → Memory → Outcome R) (m
 later_first : (k : ℕ) → nat_eq (k + 1) 0 ≡ false
 later_first k = grind (arith, nat_tests)
 
--- one more step
-pub StepsBy-more : {R : Type 0} (advances : Bool → R → R → Type 0) (k n : ℕ) (start old next new : R) → ((n : ℕ) (new : R) → StepsBy advances (nat_eq k 0) n old new → StepsBy advances true (k + n) start new) → advances (nat_eq k 0) old next → StepsBy advances (nat_eq (k + 1) 0) n next new → StepsBy advances true (k + 1 + n) start new
-StepsBy-more advances k n start old next new so_far step steps =
-    let rest : StepsBy advances false n next new = rw later_first at steps in
-    let count : k + suc n ≡ k + 1 + n = omega arith in
-    rw count at (so_far (suc n) new (next, step, rest))
+module _ {U R : Type 0} (advances : U → Bool → R → R → Type 0) (rules : List U) (k : ℕ) (start old : R) (so_far : (n : ℕ) (new : R) → StepsBy advances (nat_eq k 0) (drop k rules) n old new → StepsBy advances true rules (k + n) start new) where
+  -- one more step
+  pub StepsBy-more : (rule : U) (n : ℕ) (next new : R) → k < length rules → rule ≡ get_or rules k rule → advances rule (nat_eq k 0) old next → StepsBy advances (nat_eq (k + 1) 0) (drop (k + 1) rules) n next new → StepsBy advances true rules (k + 1 + n) start new
+  StepsBy-more rule n next new within is step steps =
+      let split : drop k rules ≡ rule ∷ drop (k + 1) rules = drop_more rules k rule within ∙ ap (λ u. u ∷ drop (k + 1) rules) (sym is) in
+      let rest : StepsBy advances false (drop (k + 1) rules) n next new = rw later_first at steps in
+      let count : k + suc n ≡ k + 1 + n = omega arith in
+      let all : StepsBy advances (nat_eq k 0) (drop k rules) (suc n) old new = rw split (next, step, rest) in
+      rw count at (so_far (suc n) new all)
 
--- no more steps
-pub StepsBy-end : {R : Type 0} (advances : Bool → R → R → Type 0) (first : Bool) (k : ℕ) (start old new : R) → ((n : ℕ) (new : R) → StepsBy advances first n old new → StepsBy advances true (k + n) start new) → new ≡ old → StepsBy advances true k start new
-StepsBy-end advances first k start old new so_far same = rw add-zero at (so_far 0 new (sym same))
+  -- no more steps
+  pub StepsBy-end : (new : R) → new ≡ old → StepsBy advances true rules k start new
+  StepsBy-end new same = rw add-zero at (so_far 0 new (sym same))
 
 module _ {U R : Type 0} (outcome : U → Bool → R → Memory → Outcome R) (memory : Memory) (rules : List U) (n : ℕ) (r new : R) (all : Run R) where
   -- the same over what a call of a rule has done

@@ -33,10 +33,13 @@ module _ {U R : Type 0} (outcome : U → Bool → R → Memory → Outcome R) wh
   after_first [] r memory = r
   after_first (rule ∷ rules) r memory = registers_after r (outcome rule true r memory)
 
--- so many steps by a relation lead from these registers to those, the first one of this kind
-abbrev pub StepsBy : {R : Type 0} → (Bool → R → R → Type 0) → Bool → ℕ → R → R → Type 0
-StepsBy advances first zero old new = old ≡ new
-StepsBy {R} advances first (suc n) old new = (next : R) × advances first old next × StepsBy advances false n next new
+-- so many of these rules, from the first one on, lead by a relation from these registers to those; the first one in
+-- a frame of this kind, the others in frames that are not the first
+abbrev pub StepsBy : {U R : Type 0} → (U → Bool → R → R → Type 0) → Bool → List U → ℕ → R → R → Type 0
+StepsBy advances first rules zero old new = old ≡ new
+StepsBy advances first [] (suc n) old new = ⊥
+StepsBy {U} {R} advances first (rule ∷ rules) (suc n) old new =
+    (next : R) × advances rule first old next × StepsBy advances false rules n next new
 
 -- Over one memory: a step that answers leads to registers of a kind, and from such, in a frame that is not the first,
 -- the next one raises the stack pointer.

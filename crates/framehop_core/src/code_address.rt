@@ -4,17 +4,17 @@ ghost use Rattle.framehop_core.specs.CodeAddress.{location_of, address_of, looku
 
 use std::num::NonZeroU64;
 
-/// An absolute code address for a stack frame: the instruction pointer ("program counter") or a
-/// return address.
+/// Where a frame is in its code: at the instruction pointer (the "program counter") of the innermost
+/// frame, or at the return address of any other.
 ///
-/// These addresses are AVMAs, addresses in the virtual memory of the profiled process.
+/// Both are AVMAs: places in the memory of the running process, not in the file of a module.
 #[derive(Clone, Copy, Debug, PartialEq, Eq)]
 pub enum FrameAddress {
     /// The instruction pointer, with which unwinding starts.
     InstructionPointer(u64),
 
-    /// A return address: the address of the instruction after the call. Unwinding gives a list
-    /// of these.
+    /// A return address, which is the place right after the call instruction. Each unwound frame
+    /// gives one.
     ReturnAddress(NonZeroU64),
 }
 

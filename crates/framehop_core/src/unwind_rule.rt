@@ -1,5 +1,5 @@
 //! The rules that unwind one frame, for any architecture, and runs of rules.
-ghost use Rattle.std.specs.Prelude.{◌≡◌, ◌≢◌, ℕ, ◌≤◌, Bool, true, IsTrue, All, MatchResult, IfOk, OnSome, IfNone, Result};
+ghost use Rattle.std.specs.Prelude.{◌≡◌, ◌≢◌, ℕ, ◌≤◌, pos, Bool, true, IsTrue, All, MatchResult, IfOk, OnSome, IfNone, Result};
 ghost use Rattle.framehop_core.specs.Memory.{Memory, Answering};
 ghost use Rattle.framehop_core.specs.Runs.{run_of, StepsBy, Raises};
 ghost use Rattle.framehop_core.specs.Outcome.{Outcome, answer_of, registers_after, address_at, word_at, word_from, read_of, above, beside};
@@ -17,9 +17,9 @@ pub trait UnwindRule: Copy + fmt::Debug {
     // what the rule does in a first frame (`true`) or another, over registers and memory
     ghost outcome: { Self → Bool → Self.UnwindRegs → Memory → Outcome Self.UnwindRegs };
 
-    // what a step that answers an address does to the registers, whatever the callback replies:
-    // of a first frame (`true`) or another, before and after
-    ghost advances: { Bool → Self.UnwindRegs → Self.UnwindRegs → Type 0 };
+    // what the rule does to the registers where it answers an address, whatever the callback replies: in a first
+    // frame (`true`) or another, before and after
+    ghost advances: { Self → Bool → Self.UnwindRegs → Self.UnwindRegs → Type 0 };
 
     // the stack pointer of registers
     ghost stack_pointer: { Self.UnwindRegs → ℕ };
@@ -54,7 +54,7 @@ pub trait UnwindRule: Copy + fmt::Debug {
             (λ answer. IfNone answer (regs.new ≡ regs.old))
             (λ _. regs.new ≡ regs.old) }
         ensures advances { IfOk result
-            (λ answer. OnSome answer (advances is_first_frame regs.old regs.new)) }
+            (λ answer. OnSome answer (advances self is_first_frame regs.old regs.new)) }
         ensures never_out_of_memory { result ≢ Err Error.OutOfMemory }
         ensures answers { Answering F.FnMut read_stack.old read_stack.new (λ memory.
             (result ≡ answer_of (outcome self is_first_frame regs.old memory))
@@ -109,7 +109,7 @@ pub fn run_rules<R: UnwindRule, F: FnMut(u64) -> Result<u64, ()>>(
     requires can_run { All (λ rule. IsTrue (R.executable rule)) rules.now }
     requires can_read { F.IsAlwaysCallable read_stack.old }
     ensures callable { F.IsAlwaysCallable read_stack.new }
-    ensures advances { StepsBy R.advances true result.0 regs.old regs.new }
+    ensures advances { StepsBy R.advances true rules.now result.0 regs.old regs.new }
     ensures answers { Answering F.FnMut read_stack.old read_stack.new (λ memory.
         run_of R.outcome true rules.now regs.old memory
         ≡ record { count = result.0; end = result.1; registers = regs.new }) }
@@ -148,6 +148,7 @@ pub fn read_stack_word<F: FnMut(u64) -> Result<u64, ()>>(
 #[inline(always)]
 pub(crate) fn offset_address(base: u64, offset: u64) -> Result<u64, Error>
     ensures address { result ≡ address_at (above base offset) }
+    ensures sum { IfOk result (λ address. above base offset ≡ pos address) }
     ensures not_below { IfOk result (λ address. base ≤ address) }
 {
     base.checked_add(offset).ok_or(Error::IntegerOverflow)

@@ -7,7 +7,7 @@ use Rattle.framehop_bytes.specs.Bytes.{◌>>=◌}
 use Rattle.framehop_core_file.specs.declared.error.CoreFileError.{CoreFileError}
 use Rattle.framehop_core_file.specs.declared.error.CoreFileError.TheVariants.{OutOfMemory}
 use Rattle.framehop_core_file.specs.Refusal.{IsErrorOf}
-use Rattle.framehop_core_file.specs.Gathered.{IsGathered}
+use Rattle.framehop_bytes.specs.Gathered.{IsGathered}
 
 -- what was read before, with what comes after it
 abbrev pub prepended : {B : Type 0} → List B → Result (List B) CoreFileError → Result (List B) CoreFileError

@@ -2,7 +2,6 @@
 pub mod Numbers
 pub mod Refusal
 pub mod CoreFile
-pub mod Gathered
 pub mod Note
 pub mod Thread
 pub mod Registers

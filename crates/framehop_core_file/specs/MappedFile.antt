@@ -4,7 +4,7 @@ use Rattle.std.specs.Prelude.{ℕ, ◌+◌, ◌*◌, ◌^◌, List, [], ◌∷�
 use Rattle.std.specs.List.{find}
 use Rattle.std.specs.Simd.{first_chunks}
 use Rattle.framehop_bytes.specs.Bytes.{◌>>=◌, le8}
-use Rattle.framehop_elf.specs.Section.{string_of}
+use Rattle.framehop_bytes.specs.String.{string_of}
 use Rattle.framehop_core_file.specs.Numbers.{CORE, NT_FILE}
 use Rattle.framehop_core_file.specs.Note.{PlacedView, is_of}
 use Rattle.framehop_core_file.specs.declared.error.CoreFileError.{CoreFileError}

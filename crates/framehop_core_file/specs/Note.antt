@@ -3,7 +3,7 @@ use Rattle.std.specs.Prelude.{ℕ, zero, suc, ◌+◌, ◌-◌, List, [], ◌∷
 use Rattle.std.specs.Cmp.Lexicographic.{pointwise}
 use Rattle.framehop_bytes.specs.Bytes.{◌>>=◌}
 use Rattle.framehop_elf.specs.Numbers.{PT_NOTE}
-use Rattle.framehop_elf.specs.Bytes.{block_at}
+use Rattle.framehop_elf.specs.Block.{block_at}
 use Rattle.framehop_elf.specs.Note.{NoteView, note_view, note_at}
 use Rattle.framehop_elf.specs.declared.program_header.ProgramHeader.{ProgramHeader}
 use Rattle.framehop_core_file.specs.Refusal.{from_elf}

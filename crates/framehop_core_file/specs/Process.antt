@@ -2,7 +2,7 @@
 use Rattle.std.specs.Prelude.{ℕ, List, length, take, drop, Bool, Option, Some, None, Result, Ok, Err, ◌==◌, if◌then◌else◌}
 use Rattle.std.specs.List.{find}
 use Rattle.framehop_bytes.specs.Bytes.{le4}
-use Rattle.framehop_elf.specs.Section.{string_of}
+use Rattle.framehop_bytes.specs.String.{string_of}
 use Rattle.framehop_core_file.specs.Numbers.{CORE, NT_PRPSINFO, PRPSINFO_SIZE, PRPSINFO_PID, PRPSINFO_FNAME}
 use Rattle.framehop_core_file.specs.Note.{PlacedView, is_of}
 use Rattle.framehop_core_file.specs.declared.error.CoreFileError.{CoreFileError}

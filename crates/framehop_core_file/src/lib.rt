@@ -4,7 +4,6 @@
 
 pub mod core_file;
 pub mod error;
-mod gathered;
 pub mod mapped_file;
 pub mod memory;
 pub mod note;

@@ -5,11 +5,10 @@ ghost use Rattle.framehop_core_file.specs.Note.{placed_view};
 ghost use Rattle.framehop_core_file.specs.MappedFile.{mapped_file_view, path_at, mapped_file_of, entries_in, files_of, files_in, mapped_files_of};
 
 use crate::error::CoreFileError;
-use crate::gathered::pushed;
 use crate::note::{PlacedNote, first_of};
-use framehop_bytes::bytes::front;
-use framehop_elf::bytes::{back, u64_at};
-use framehop_elf::section::string_at;
+use framehop_bytes::bytes::{back, front, u64_at};
+use framehop_bytes::gathered::pushed;
+use framehop_bytes::string::string_at;
 use std::alloc::Global;
 
 /// `NT_FILE` of "CORE".

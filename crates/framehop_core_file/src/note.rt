@@ -2,12 +2,12 @@
 ghost use Rattle.std.specs.Prelude.{◌≡◌, ◌+◌, ◌^◌, ◌<◌, ◌≤◌, ◌++◌, List, Ok, Err, IfOk, MatchResult, length, map, option_map, find};
 ghost use Rattle.framehop_core_file.specs.declared.note.PlacedNote.{PlacedNote};
 ghost use Rattle.framehop_core_file.specs.Refusal.{IsErrorOf};
-ghost use Rattle.framehop_core_file.specs.Gathered.{IsGathered};
+ghost use Rattle.framehop_bytes.specs.Gathered.{IsGathered};
 ghost use Rattle.framehop_core_file.specs.Note.{placed_view, is_of, placed_at, notes_in, notes_size, notes_of_segment, notes_of};
 
 use crate::error::CoreFileError;
-use crate::gathered::pushed;
-use framehop_elf::bytes::back;
+use framehop_bytes::bytes::back;
+use framehop_bytes::gathered::pushed;
 use framehop_elf::note::{Note, read_note};
 use framehop_elf::program_header::ProgramHeader;
 use framehop_elf::segment::read_segment;

@@ -5,9 +5,8 @@ ghost use Rattle.framehop_core_file.specs.Process.{process_view, process_of};
 
 use crate::error::CoreFileError;
 use crate::note::{PlacedNote, first_of};
-use framehop_bytes::bytes::front;
-use framehop_elf::bytes::{back, u32_at};
-use framehop_elf::section::string_at;
+use framehop_bytes::bytes::{back, front, u32_at};
+use framehop_bytes::string::string_at;
 
 /// `NT_PRPSINFO` of "CORE".
 const NT_PRPSINFO: u32 = 3;

@@ -2,9 +2,9 @@
 ghost use Rattle.std.specs.Prelude.{◌≡◌, ◌≤◌, length};
 ghost use Rattle.framehop_core_file.specs.Registers.{general_of, x86_64_registers, aarch64_registers, code_mask_of};
 
+use framehop_bytes::bytes::u64_at;
 use framehop_core::aarch64::{PtrAuthMask, UnwindRegsAarch64};
 use framehop_core::x86_64::{Reg, UnwindRegsX86_64};
-use framehop_elf::bytes::u64_at;
 
 /// The size of `struct user_regs_struct`, in bytes.
 const USER_REGS_SIZE: usize = 216;

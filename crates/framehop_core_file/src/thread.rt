@@ -7,10 +7,9 @@ ghost use Rattle.framehop_core_file.specs.Thread.{thread_view, registers_size, p
 
 use crate::core_file::Machine;
 use crate::error::CoreFileError;
-use crate::gathered::pushed;
 use crate::note::{PlacedNote, is_of};
-use framehop_bytes::bytes::front;
-use framehop_elf::bytes::{back, u16_at, u32_at, u64_at};
+use framehop_bytes::bytes::{back, front, u16_at, u32_at, u64_at};
+use framehop_bytes::gathered::pushed;
 use std::alloc::Global;
 
 /// `NT_PRSTATUS` of "CORE".

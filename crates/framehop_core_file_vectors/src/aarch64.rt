@@ -1,10 +1,10 @@
 //! A core file of aarch64 that was made by hand: `scripts/made_up_aarch64.py`. The expected values are those
 //! that it is made of, as `readelf -hln` and the structs of Linux have them.
 use crate::pieces::file_of;
+use crate::x86_64;
 use framehop_core::aarch64::{PtrAuthMask, UnwindRegsAarch64};
 use framehop_core_file::core_file::{Machine, read_core_file};
 use framehop_core_file::mapped_file::read_mapped_files;
-use framehop_core_file::memory::word_at;
 use framehop_core_file::note::read_notes;
 use framehop_core_file::process::read_process;
 use framehop_core_file::registers::{aarch64_registers, code_ptr_auth_mask};
@@ -147,6 +147,7 @@ fn reads_the_process_its_files_and_memory(rt: HostRuntime) -> Result<(), Fail> {
     }
     let last = mapped.get(2).ok_or("no third file")?;
     assert_eq!(rt; last.path, b"/usr/lib/libmade.so".as_slice());
+    let memory = x86_64::memory(alloc, file.as_slice())?;
     for (address, word) in [
         (0xfffff0000000, Some(0x50000000)),
         (0xfffff00001f8, Some(0x5000003f)),
@@ -155,7 +156,7 @@ fn reads_the_process_its_files_and_memory(rt: HostRuntime) -> Result<(), Fail> {
         (0xffffeffffff8, None),
         (0xaaaa00000000, None),
     ] {
-        assert_eq!(rt; word_at(file.as_slice(), segments, address), word);
+        assert_eq!(rt; memory.word_at(address), word);
     }
     Ok(())
 }

@@ -5,7 +5,6 @@ use framehop_bytes::bytes::front;
 use framehop_core_file::core_file::{Machine, read_core_file};
 use framehop_core_file::error::CoreFileError;
 use framehop_core_file::mapped_file::read_mapped_files;
-use framehop_core_file::memory::word_at;
 use framehop_core_file::note::read_notes;
 use framehop_core_file::process::read_process;
 use framehop_core_file::thread::read_threads;
@@ -134,20 +133,22 @@ fn refuses_masks_of_another_size(rt: HostRuntime) -> Result<(), Fail> {
     Ok(())
 }
 
+/// The word at an address of the memory that a file has.
+fn word_at(alloc: Global, file: &[u8], address: u64) -> Result<Option<u64>, Fail> {
+    Ok(x86_64::memory(alloc, file)?.word_at(address))
+}
+
 #[test]
 fn takes_the_first_of_two_segments(rt: HostRuntime) -> Result<(), Fail> {
     let alloc = rt.alloc();
     let mut file = x86_64::core(alloc)?;
     // the second segment of memory is moved to the address of the fourth: nothing of it was dumped
     change(&mut file, 0xc0, &[0, 0x30, 0x40])?;
-    let core = read_core_file(alloc, file.as_slice())?;
-    let found = word_at(file.as_slice(), core.segments.as_slice(), 0x403488);
-    assert_eq!(rt; found, Some(0x4010be));
+    assert_eq!(rt; word_at(alloc, file.as_slice(), 0x403488)?, Some(0x4010be));
     // then it has 0x1000 bytes, those at the offset 0x3000
     change(&mut file, 0xb8, &[0, 0x30])?;
     change(&mut file, 0xd0, &[0, 0x10])?;
-    let core = read_core_file(alloc, file.as_slice())?;
-    let found = word_at(file.as_slice(), core.segments.as_slice(), 0x403000);
-    assert_eq!(rt; found, Some(0x10102464c457f));
+    let word = word_at(alloc, file.as_slice(), 0x403000)?;
+    assert_eq!(rt; word, Some(0x10102464c457f));
     Ok(())
 }

@@ -6,11 +6,13 @@ use framehop_bytes::bytes::front;
 use framehop_core::x86_64::Reg;
 use framehop_core_file::core_file::{Machine, read_core_file};
 use framehop_core_file::mapped_file::read_mapped_files;
-use framehop_core_file::memory::{bytes_at, word_at};
+use framehop_core_file::memory::memory_of;
 use framehop_core_file::note::read_notes;
 use framehop_core_file::process::read_process;
 use framehop_core_file::registers::x86_64_registers;
 use framehop_core_file::thread::read_threads;
+use framehop_elf::segment::loaded_segments;
+use framehop_memory::memory::ProcessMemory;
 use std::alloc::Global;
 use std::test::Fail;
 
@@ -230,6 +232,13 @@ fn reads_the_process_and_its_files(rt: HostRuntime) -> Result<(), Fail> {
     Ok(())
 }
 
+/// The memory of a core file.
+pub(crate) fn memory<'a>(alloc: Global, file: &'a [u8]) -> Result<ProcessMemory<'a>, Fail> {
+    let core = read_core_file(alloc, file)?;
+    let segments = loaded_segments(alloc, core.segments.as_slice())?;
+    Ok(memory_of(alloc, file, segments.as_slice())?)
+}
+
 /// Words by their addresses: the return addresses of gdb's `backtrace`, on both stacks, and what `x/gx`
 /// prints; and none of the code, which was not dumped, of what no segment has, and of the last segment.
 const WORDS: [(u64, Option<u64>); 9] = [
@@ -248,20 +257,21 @@ const WORDS: [(u64, Option<u64>); 9] = [
 fn reads_memory(rt: HostRuntime) -> Result<(), Fail> {
     let alloc = rt.alloc();
     let file = core(alloc)?;
-    let core = read_core_file(alloc, file.as_slice())?;
-    let segments = core.segments.as_slice();
+    let memory = memory(alloc, file.as_slice())?;
     for (address, word) in WORDS {
-        assert_eq!(rt; word_at(file.as_slice(), segments, address), word);
+        assert_eq!(rt; memory.word_at(address), word);
     }
     // the program's ELF header is in its first page
-    let magic = bytes_at(file.as_slice(), segments, 0x400000, 4);
-    assert_eq!(rt; magic, Some(b"\x7fELF".as_slice()));
-    let page = bytes_at(file.as_slice(), segments, 0x400000, 0x1000);
+    assert_eq!(rt; memory.bytes_at(0x400000, 4), Some(b"\x7fELF".as_slice()));
+    let page = memory.bytes_at(0x400000, 0x1000);
     assert_eq!(rt; page.map(|page| page.len()), Some(0x1000));
-    assert_eq!(rt; bytes_at(file.as_slice(), segments, 0x400000, 0x1001), None);
+    assert_eq!(rt; memory.bytes_at(0x400000, 0x1001), None);
     // where the file is cut off in the stack, as much is there as comes before
-    let cut = front(file.as_slice(), 0xe328);
-    assert_eq!(rt; word_at(cut, segments, 0x7fffb27b2318), Some(0x40106a));
-    assert_eq!(rt; word_at(cut, segments, 0x7fffb27b2321), None);
+    let cut = ProcessMemory {
+        file: front(file.as_slice(), 0xe328),
+        ranges: memory.ranges,
+    };
+    assert_eq!(rt; cut.word_at(0x7fffb27b2318), Some(0x40106a));
+    assert_eq!(rt; cut.word_at(0x7fffb27b2321), None);
     Ok(())
 }

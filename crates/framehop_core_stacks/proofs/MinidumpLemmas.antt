@@ -1,45 +1,16 @@
--- The memory of a minidump as segments, and the names of files.
+-- The names of files, and minidumps that are read.
 use Rattle.std.proofs.Common.{◌≡◌, ◌≢◌, ℕ, Bool, cond, List, [], ◌∷◌, map, length, ◌-◌, ◌<◌, ◌≤◌, drop, take, ◌+◌, ◌^◌, min, max, get_or, Option, Some, None, option_map, Ok, Err, true, false, refl, ap, sym, subst, Result, ◌∙◌, arith}
 use Rattle.std.specs.Prelude.{not, ◌==◌}
 use Rattle.std.specs.List.{find, suffix_len}
 use Rattle.std.proofs.lemmas.Grind.{common_steps}
 use Rattle.std.proofs.lemmas.List.{map-append, take_more}
 use Rattle.std.proofs.lemmas.List.Sums.{fold-append, suffix_len_is}
-use Rattle.framehop_bytes.specs.Bytes.{◌>>=◌, le8}
-use Rattle.framehop_core_file.specs.Memory as core_file
-use Rattle.framehop_elf.specs.declared.program_header.ProgramHeader.{ProgramHeader}
-use Rattle.framehop_minidump.specs.Memory as minidump
+use Rattle.framehop_bytes.specs.Bytes.{◌>>=◌}
 use Rattle.framehop_minidump.specs.declared.error.MinidumpError.{MinidumpError}
-use Rattle.framehop_minidump.specs.declared.memory.MemoryRange.{MemoryRange}
 use Rattle.framehop_minidump.specs.declared.stream.Stream.{Stream}
 use Rattle.framehop_core_stacks.specs.Dump.{DumpView}
-use Rattle.framehop_core_stacks.specs.Minidump.{segment_of, file_name, LoadedView, loaded_view, last_address, streams_and_modules_of, dump_in, minidump_of}
+use Rattle.framehop_core_stacks.specs.Minidump.{file_name, LoadedView, loaded_view, last_address, streams_and_modules_of, dump_in, minidump_of}
 use Rattle.framehop_core_stacks.specs.declared.minidump.LoadedModule.{LoadedModule}
-
-pick : (b : Bool) (range : MemoryRange) (left : Option ProgramHeader) (right : Option MemoryRange)
-    → left ≡ option_map segment_of right → cond b (Some (segment_of range)) left ≡ option_map segment_of (cond b (Some range) right)
-pick true range left right same = refl
-pick false range left right same = same
-
--- the first segment that has some bytes is that of the first range that has them
-find-segment : (file : List ℕ) (address size : ℕ) (ranges : List MemoryRange)
-    → find (core_file.has file address size) (map segment_of ranges) ≡ option_map segment_of (find (minidump.has file address size) ranges)
-find-segment file address size [] = refl
-find-segment file address size (range ∷ ranges) =
-    pick (minidump.has file address size range) range _ _ (find-segment file address size ranges)
-
-word-in : (file : List ℕ) (address : ℕ) (found : Option MemoryRange)
-    → option_map (λ bytes. le8 bytes 0) (option_map (core_file.bytes_in file address 8) (option_map segment_of found))
-    ≡ option_map (λ bytes. le8 bytes 0) (option_map (minidump.bytes_in file address 8) found)
-word-in file address (Some range) = refl
-word-in file address None = refl
-
--- the words of segments are those of the ranges
-pub words-of-ranges : (file : List ℕ) (ranges : List MemoryRange) (address : ℕ)
-    → core_file.word_of file (map segment_of ranges) address ≡ minidump.word_of file ranges address
-words-of-ranges file ranges address =
-    ap (λ found. option_map (λ bytes. le8 bytes 0) (option_map (core_file.bytes_in file address 8) found)) (find-segment file address 8 ranges)
-    ∙ word-in file address (find (minidump.has file address 8) ranges)
 
 no_separator : (x separator : ℕ) → x ≢ separator → not (x == separator) ≡ true
 no_separator x separator ne = grind (arith, common_steps)

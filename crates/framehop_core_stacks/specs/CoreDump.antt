@@ -1,5 +1,5 @@
 -- What a core file says of a process (gABI, chapter 5, "Program Loading"; `core(5)`).
-use Rattle.std.specs.Prelude.{ℕ, ◌+◌, ◌-◌, List, [], ◌∷◌, map, Bool, not, bit_and, nat_le, nat_lt, nat_eq, ◌&&◌, ◌==◌, if◌then◌else◌, Option, Some, None, option_map, Result, Ok}
+use Rattle.std.specs.Prelude.{ℕ, ◌+◌, ◌-◌, List, [], ◌∷◌, map, Bool, nat_le, nat_lt, nat_eq, ◌&&◌, ◌==◌, if◌then◌else◌, Option, Some, None, option_map, Result, Ok}
 use Rattle.std.specs.Cmp.Lexicographic.{pointwise}
 use Rattle.std.specs.List.{find, flat_map}
 use Rattle.std.specs.Option.{is_some}
@@ -10,10 +10,12 @@ use Rattle.framehop_core_file.specs.Note.{notes_of}
 use Rattle.framehop_core_file.specs.Process.{ProcessView, process_of}
 use Rattle.framehop_core_file.specs.Thread.{ThreadView as NotedView, threads_of}
 use Rattle.framehop_core_file.specs.declared.error.CoreFileError.{CoreFileError}
-use Rattle.framehop_elf.specs.Numbers.{PT_LOAD, PF_X}
-use Rattle.framehop_elf.specs.Segment.{base_of}
-use Rattle.framehop_elf.specs.declared.program_header.ProgramHeader.{ProgramHeader}
-use Rattle.framehop_core_stacks.specs.Dump.{MemoryView, ThreadView, MappedCodeView, DumpView, of_kernel}
+use Rattle.framehop_core_file.specs.Memory.{range_of}
+use Rattle.framehop_elf.specs.Segment.{loaded_segments_of}
+use Rattle.framehop_memory.specs.Memory.{MemoryView}
+use Rattle.framehop_memory.specs.Segment.{base_of}
+use Rattle.framehop_memory.specs.declared.segment.Segment.{Segment}
+use Rattle.framehop_core_stacks.specs.Dump.{ThreadView, MappedCodeView, DumpView, of_kernel}
 use Rattle.framehop_core_stacks.specs.Image.{head_at, segments_in, build_id_in}
 use Rattle.framehop_core_stacks.specs.declared.dump.Cause.{Cause}
 use Rattle.framehop_core_stacks.specs.declared.dump.Cause.TheVariants.{Signal}
@@ -49,24 +51,22 @@ head_by memory None = []
 abbrev pub head_in : MemoryView → List MappedFileView → List ℕ → List ℕ
 head_in memory files path = head_by memory (find (is_beginning path) files)
 
--- where the stated address 0 of a mapped file is, by the program headers in its first bytes (4,096 is the size of a
--- page)
-abbrev pub base_in_memory : List ProgramHeader → MappedFileView → Option ℕ
-base_in_memory segments mapped = base_of segments 4096 mapped.offset (mapped.end - mapped.start) mapped.start
+-- where the stated address 0 of a mapped file is, by the segments that its first bytes tell
+abbrev pub base_in_memory : List Segment → MappedFileView → Option ℕ
+base_in_memory segments mapped = base_of segments mapped.offset (mapped.end - mapped.start) mapped.start
 
 -- a segment of memory has an address
-abbrev pub has_address : ℕ → ProgramHeader → Bool
-has_address address segment =
-    (segment.p_type == PT_LOAD) && nat_le segment.p_vaddr address && nat_lt address (segment.p_vaddr + segment.p_memsz)
+abbrev pub has_address : ℕ → Segment → Bool
+has_address address segment = nat_le segment.address address && nat_lt address (segment.address + segment.size)
 
 -- A file is mapped to be executed. NT_FILE does not tell, but the segment that has its first address does. gdb writes
 -- no segment for what it does not dump; then the program headers tell that memory has of the file.
-abbrev pub is_code_by : List ProgramHeader → MappedFileView → Option ProgramHeader → Bool
-is_code_by segments mapped (Some segment) = not (bit_and segment.p_flags PF_X == 0)
+abbrev pub is_code_by : List Segment → MappedFileView → Option Segment → Bool
+is_code_by segments mapped (Some segment) = segment.is_code
 is_code_by segments mapped None = is_some (base_in_memory segments mapped)
 
-abbrev pub is_mapped_code : MemoryView → List ProgramHeader → MappedFileView → Bool
-is_mapped_code memory segments mapped = is_code_by segments mapped (find (has_address mapped.start) memory.segments)
+abbrev pub is_mapped_code : List Segment → List Segment → MappedFileView → Bool
+is_mapped_code dumped segments mapped = is_code_by segments mapped (find (has_address mapped.start) dumped)
 
 -- a file that is mapped to be executed, with the build id that memory has of it
 abbrev pub mapped_code : List ℕ → MappedFileView → MappedCodeView
@@ -80,16 +80,21 @@ mapped_code head mapped = record {
   base = None;
 }
 
-abbrev pub code_by : MemoryView → List ℕ → MappedFileView → List MappedCodeView
-code_by memory head mapped =
-    if is_mapped_code memory (segments_in head) mapped then mapped_code head mapped ∷ [] else []
+abbrev pub code_by : List Segment → List ℕ → MappedFileView → List MappedCodeView
+code_by dumped head mapped =
+    if is_mapped_code dumped (loaded_segments_of (segments_in head)) mapped then mapped_code head mapped ∷ [] else []
 
-abbrev pub code_if : MemoryView → List MappedFileView → MappedFileView → List MappedCodeView
-code_if memory files mapped = code_by memory (head_in memory files mapped.path) mapped
+-- of a process with this memory, of which these segments were dumped
+abbrev pub code_if : MemoryView → List Segment → List MappedFileView → MappedFileView → List MappedCodeView
+code_if memory dumped files mapped = code_by dumped (head_in memory files mapped.path) mapped
 
 -- those of mapped files
-abbrev pub code_of : MemoryView → List MappedFileView → List MappedCodeView
-code_of memory files = flat_map (code_if memory files) files
+abbrev pub code_of : MemoryView → List Segment → List MappedFileView → List MappedCodeView
+code_of memory dumped files = flat_map (code_if memory dumped files) files
+
+-- the memory that was dumped of these segments
+abbrev pub dumped_memory : List ℕ → List Segment → MemoryView
+dumped_memory file dumped = record { file = file; ranges = map range_of dumped }
 
 -- what the headers and the notes of a core file say, or the first refusal
 unfoldable pub core_dump_of : List ℕ → Result DumpView CoreFileError
@@ -100,10 +105,10 @@ core_dump_of file = do
   files ← mapped_files_of notes
   process ← process_of notes
   Ok (record {
-    memory = record { file = file; segments = core.1 };
+    memory = dumped_memory file (loaded_segments_of core.1);
     machine = core.0;
     threads = map thread_of threads;
-    code = code_of (record { file = file; segments = core.1 }) files;
+    code = code_of (dumped_memory file (loaded_segments_of core.1)) (loaded_segments_of core.1) files;
     name = name_of process;
     pid = pid_of process;
   })

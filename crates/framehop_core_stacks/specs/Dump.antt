@@ -3,24 +3,14 @@ use Rattle.std.specs.Prelude.{nat_eq, ℕ, List, [], map, Bool, Option, option_m
 use Rattle.std.specs.Cmp.Lexicographic.{pointwise}
 use Rattle.std.specs.List.{find}
 use Rattle.framehop_core.specs.Memory.{Memory}
-use Rattle.framehop_core_file.specs.Memory.{word_of}
 use Rattle.framehop_core_file.specs.declared.core_file.Machine.{Machine}
-use Rattle.framehop_elf.specs.declared.program_header.ProgramHeader.{ProgramHeader}
+use Rattle.framehop_memory.specs.Memory.{MemoryView, memory_view, word_of}
 use Rattle.framehop_core_stacks.specs.declared.dump.Cause.{Cause}
 use Rattle.framehop_core_stacks.specs.declared.dump.Dump.{Dump}
-use Rattle.framehop_core_stacks.specs.declared.dump.DumpedMemory.{DumpedMemory}
 use Rattle.framehop_core_stacks.specs.declared.dump.MappedCode.{MappedCode}
 use Rattle.framehop_core_stacks.specs.declared.dump.Registers.{Registers}
 use Rattle.framehop_core_stacks.specs.declared.dump.Registers.TheVariants.{Kernel, Context}
 use Rattle.framehop_core_stacks.specs.declared.dump.Thread.{Thread}
-
--- the memory of a process: the bytes of a file, and which of them are where
-pub record MemoryView : Type 0 where
-  pub file : List ℕ
-  pub segments : List ProgramHeader
-
-abbrev pub memory_view : DumpedMemory → MemoryView
-memory_view memory = record { file = memory.file.now; segments = memory.segments.items }
 
 -- registers by their values: as Linux keeps them, and the bits of an address of code that are its signature; or a
 -- context, and the bits that are none
@@ -84,7 +74,7 @@ dump_view dump = record {
 
 -- the words of memory, as far as it was dumped
 abbrev pub words_in : MemoryView → Memory
-words_in memory address = word_of memory.file memory.segments address
+words_in memory address = word_of memory address
 
 abbrev pub memory_in : DumpView → Memory
 memory_in dump = words_in dump.memory

@@ -7,13 +7,12 @@ use Rattle.framehop_bytes.specs.Bytes.{◌>>=◌}
 use Rattle.framehop_cfi.specs.Header.{layout_of}
 use Rattle.framehop_cfi.specs.Layout.{Layout}
 use Rattle.framehop_bytes.specs.declared.section.ExplicitModuleSectionInfo.{ExplicitModuleSectionInfo}
-use Rattle.framehop_core_file.specs.Memory.{memory_of, memory_from}
 use Rattle.framehop_elf.specs.BuildId.{build_id_of_file}
 use Rattle.framehop_elf.specs.Header.{file_header_of}
 use Rattle.framehop_elf.specs.ProgramHeader.{program_headers_of}
 use Rattle.framehop_elf.specs.declared.error.ElfError.{ElfError}
 use Rattle.framehop_elf.specs.declared.program_header.ProgramHeader.{ProgramHeader}
-use Rattle.framehop_core_stacks.specs.Dump.{MemoryView}
+use Rattle.framehop_memory.specs.Memory.{MemoryView, bytes_of, bytes_after}
 use Rattle.framehop_core_stacks.specs.declared.image.CallFrames.{CallFrames}
 
 -- p_type of the segment that has `.eh_frame_hdr` (LSB Core, "Program Header": PT_GNU_EH_FRAME)
@@ -22,7 +21,7 @@ PT_GNU_EH_FRAME = 0x6474e550
 
 -- the bytes from an address on, as far as memory has them
 abbrev pub head_at : MemoryView → ℕ → List ℕ
-head_at memory address = unwrap_or (memory_from memory.file memory.segments address) []
+head_at memory address = unwrap_or (bytes_after memory address) []
 
 -- the program headers in the first bytes of a file, if they can be read
 unfoldable pub headers_in : List ℕ → Result (List ProgramHeader) ElfError
@@ -48,12 +47,12 @@ avma_at base svma = if nat_lt (base + svma) (2 ^ 64) then Some (base + svma) els
 -- so many bytes there
 abbrev pub memory_at : MemoryView → ℕ → ℕ → ℕ → Option (List ℕ)
 memory_at memory base svma size =
-    option_and_then (λ avma. memory_of memory.file memory.segments avma size) (avma_at base svma)
+    option_and_then (λ avma. bytes_of memory avma size) (avma_at base svma)
 
 -- the bytes from there on
 abbrev pub memory_after : MemoryView → ℕ → ℕ → Option (List ℕ)
 memory_after memory base svma =
-    option_and_then (λ avma. memory_from memory.file memory.segments avma) (avma_at base svma)
+    option_and_then (λ avma. bytes_after memory avma) (avma_at base svma)
 
 -- the call frame sections of a file, and where they begin
 pub record CallFramesView : Type 0 where

@@ -5,22 +5,23 @@ use Rattle.std.specs.List.{after_last, flat_map, fold}
 use Rattle.framehop_bytes.specs.Bytes.{◌>>=◌}
 use Rattle.framehop_core_file.specs.declared.core_file.Machine.{Machine}
 use Rattle.framehop_core_file.specs.declared.core_file.Machine.TheVariants as dumped
-use Rattle.framehop_elf.specs.Numbers.{PT_LOAD}
-use Rattle.framehop_elf.specs.Segment.{is_code}
+use Rattle.framehop_elf.specs.Segment.{loaded_segments_of}
 use Rattle.framehop_elf.specs.declared.program_header.ProgramHeader.{ProgramHeader}
 use Rattle.framehop_minidump.specs.CodeView.{CodeViewView, of_pdb, of_elf, codeview_of}
 use Rattle.framehop_minidump.specs.Exception.{exception_of, context_of}
 use Rattle.framehop_minidump.specs.Location.{located}
 use Rattle.framehop_minidump.specs.Memory.{ranges_of}
 use Rattle.framehop_minidump.specs.MiscInfo.{process_id_of}
-use Rattle.framehop_minidump.specs.Module.{modules_of, base_of}
+use Rattle.framehop_minidump.specs.Module.{modules_of}
 use Rattle.framehop_minidump.specs.Stream.{streams_of}
 use Rattle.framehop_minidump.specs.String.{string_of}
 use Rattle.framehop_minidump.specs.SystemInfo.{system_info_of}
 use Rattle.framehop_minidump.specs.Thread.{threads_of}
 use Rattle.framehop_minidump.specs.declared.error.MinidumpError.{MinidumpError}
 use Rattle.framehop_minidump.specs.declared.exception.Exception.{Exception}
-use Rattle.framehop_minidump.specs.declared.memory.MemoryRange.{MemoryRange}
+use Rattle.framehop_memory.specs.Memory.{MemoryView}
+use Rattle.framehop_memory.specs.Segment.{base_from}
+use Rattle.framehop_memory.specs.declared.segment.Segment.{Segment}
 use Rattle.framehop_minidump.specs.declared.module.Module.{Module}
 use Rattle.framehop_minidump.specs.declared.stream.Stream.{Stream}
 use Rattle.framehop_minidump.specs.declared.system_info.Machine.{Machine as SystemMachine}
@@ -28,7 +29,7 @@ use Rattle.framehop_minidump.specs.declared.system_info.Machine.TheVariants as s
 use Rattle.framehop_minidump.specs.declared.thread.Thread.{Thread}
 use Rattle.framehop_stacks.specs.ObjectFiles.{is_another}
 use Rattle.framehop_stacks.specs.Files.{is_unix_path, is_windows_path}
-use Rattle.framehop_core_stacks.specs.Dump.{MemoryView, ThreadView, MappedCodeView, DumpView, of_context}
+use Rattle.framehop_core_stacks.specs.Dump.{ThreadView, MappedCodeView, DumpView, of_context}
 use Rattle.framehop_core_stacks.specs.Image.{head_at, segments_in, build_id_in}
 use Rattle.framehop_core_stacks.specs.declared.dump.Cause.{Cause as WhyEnded}
 use Rattle.framehop_core_stacks.specs.declared.dump.Cause.TheVariants as cause
@@ -55,19 +56,6 @@ each f (x ∷ xs) = do
   first ← f x
   others ← each f xs
   Ok (first ∷ others)
-
--- a range of memory as a segment that was dumped whole
-abbrev pub segment_of : MemoryRange → ProgramHeader
-segment_of range = record {
-  p_type = PT_LOAD;
-  p_flags = 0;
-  p_offset = range.offset;
-  p_vaddr = range.start;
-  p_paddr = 0;
-  p_filesz = range.size;
-  p_memsz = range.size;
-  p_align = 0;
-}
 
 abbrev pub machine_of : SystemMachine → Machine
 machine_of system.X86_64 = dumped.X86_64
@@ -156,7 +144,7 @@ dump_in file streams modules = do
   ranges ← ranges_of file streams
   pid ← process_id_of file streams
   Ok (record {
-    memory = record { file = file; segments = map segment_of ranges };
+    memory = record { file = file; ranges = ranges };
     machine = machine_of system.machine;
     threads = threads;
     code = [];
@@ -178,11 +166,11 @@ minidump_of file = do
   dump ← dump_in file read.0 read.1
   Ok (dump, read.1)
 
--- the segments of a file that is given and has the build id that it must have: none, else
-abbrev pub segments_given : List ℕ → Option (List ℕ) → List ProgramHeader
-segments_given wanted (Some bytes) =
+-- the program headers of a file that is given and has the build id that it must have: none, else
+abbrev pub headers_given : List ℕ → Option (List ℕ) → List ProgramHeader
+headers_given wanted (Some bytes) =
     if is_another wanted (build_id_in bytes (segments_in bytes)) then [] else segments_in bytes
-segments_given wanted None = []
+headers_given wanted None = []
 
 abbrev pub or_else : List ProgramHeader → List ProgramHeader → List ProgramHeader
 or_else [] others = others
@@ -205,29 +193,29 @@ whole head m = record {
 }
 
 -- those of a segment that may be executed, by where the stated address 0 is; an address above the last is the last
-abbrev pub segment_code : List ℕ → LoadedView → ℕ → ProgramHeader → List MappedCodeView
-segment_code head m base segment = if is_code segment then record {
-  start = min (base + segment.p_vaddr) (2 ^ 64 - 1);
-  end = min (min (base + segment.p_vaddr) (2 ^ 64 - 1) + segment.p_memsz) (2 ^ 64 - 1);
-  offset = segment.p_offset;
+abbrev pub segment_code : List ℕ → LoadedView → ℕ → Segment → List MappedCodeView
+segment_code head m base segment = if segment.is_code then record {
+  start = min (base + segment.address) (2 ^ 64 - 1);
+  end = min (min (base + segment.address) (2 ^ 64 - 1) + segment.size) (2 ^ 64 - 1);
+  offset = segment.offset;
   path = m.name;
   head = head;
   build_id = m.build_id;
   base = Some base;
 } ∷ [] else []
 
-abbrev pub code_with : List ℕ → LoadedView → List ProgramHeader → Option ℕ → List MappedCodeView
+abbrev pub code_with : List ℕ → LoadedView → List Segment → Option ℕ → List MappedCodeView
 code_with head m segments (Some base) = flat_map (segment_code head m base) segments
 code_with head m segments None = whole head m ∷ []
 
-abbrev pub code_by : List ℕ → LoadedView → List ProgramHeader → List MappedCodeView
-code_by head m segments = code_with head m segments (base_of m.base segments)
+abbrev pub code_by : List ℕ → LoadedView → List Segment → List MappedCodeView
+code_by head m segments = code_with head m segments (base_from segments m.base)
 
 -- the code of a module, by its file or else by its first bytes in memory
 abbrev pub code_of : MemoryView → LoadedView → Option (List ℕ) → List MappedCodeView
 code_of memory m given =
     let head = head_at memory m.base in
-    code_by head m (or_else (segments_given m.build_id given) (segments_in head))
+    code_by head m (loaded_segments_of (or_else (headers_given m.build_id given) (segments_in head)))
 
 module _ (gives : List ℕ → Option (List ℕ) → Type 0) where
   -- a file is asked for only by a path of Unix

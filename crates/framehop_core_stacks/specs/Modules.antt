@@ -2,8 +2,9 @@
 use Rattle.std.specs.Prelude.{◌≡◌, ℕ, ◌-◌, List, [], ◌∷◌, Bool, true, false, nat_lt, if◌then◌else◌, Option, Some, None, slice_get}
 use Rattle.framehop_bytes.specs.ExplicitSections.{table_of}
 use Rattle.framehop_bytes.specs.declared.section.ExplicitModuleSectionInfo.{ExplicitModuleSectionInfo}
-use Rattle.framehop_elf.specs.Segment.{base_of}
-use Rattle.framehop_elf.specs.declared.program_header.ProgramHeader.{ProgramHeader}
+use Rattle.framehop_elf.specs.Segment.{loaded_segments_of}
+use Rattle.framehop_memory.specs.Segment.{base_of}
+use Rattle.framehop_memory.specs.declared.segment.Segment.{Segment}
 use Rattle.framehop.specs.ModuleData.{unwind_data_in}
 use Rattle.framehop.specs.Modules.{ModuleView}
 use Rattle.framehop_processes.specs.Mappings.{with_mapping}
@@ -27,14 +28,14 @@ module _ (gives gives_debug : List ℕ → Option (List ℕ) → Type 0) where
   abbrev pub AreFilesOf : DumpView → Files → Type 0
   AreFilesOf dump files = (none : Files) × IsWithoutFiles none × AreAdded dump.code none files
 
--- where the stated address 0 of a file is, by its segments (4,096 is the size of a page)
-abbrev pub base_by : List ProgramHeader → MappedCodeView → Option ℕ
-base_by segments code = base_of segments 4096 code.offset (code.end - code.start) code.start
+-- where the stated address 0 of a file is, by its segments
+abbrev pub base_by : List Segment → MappedCodeView → Option ℕ
+base_by segments code = base_of segments code.offset (code.end - code.start) code.start
 
 -- by what was read of the file, or else by its first bytes in memory
 abbrev pub base_with : MappedCodeView → Option ObjectFile → Option ℕ
 base_with code (Some object) = base_by object.segments.items code
-base_with code None = base_by (segments_in code.head) code
+base_with code None = base_by (loaded_segments_of (segments_in code.head)) code
 
 -- unless it is known
 abbrev pub base_unless : Option ℕ → Option ℕ → Option ℕ

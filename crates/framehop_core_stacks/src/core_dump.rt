@@ -4,29 +4,23 @@ ghost use Rattle.framehop_core_file.specs.declared.error.CoreFileError.{CoreFile
 ghost use Rattle.framehop_core_file.specs.MappedFile.{mapped_file_view};
 ghost use Rattle.framehop_core_file.specs.Process.{process_view};
 ghost use Rattle.framehop_core_file.specs.Thread.{thread_view as noted_view};
-ghost use Rattle.framehop_core_stacks.specs.Dump.{memory_view, thread_view, mapped_code_view, dump_view};
+ghost use Rattle.framehop_core_stacks.specs.Dump.{thread_view, mapped_code_view, dump_view};
+ghost use Rattle.framehop_memory.specs.Memory.{memory_view};
 ghost use Rattle.framehop_core_stacks.specs.CoreDump.{cause_of_signal, thread_of, name_of, pid_of, is_beginning, head_in, has_address, base_in_memory, is_mapped_code, code_if, code_of, core_dump_of};
 
-use crate::dump::{Cause, Dump, DumpedMemory, Kind, MappedCode, Registers, Thread};
+use crate::dump::{Cause, Dump, Kind, MappedCode, Registers, Thread};
 use crate::image::{build_id_in, head_at, segments_in};
 use framehop_core_file::core_file::read_core_file;
 use framehop_core_file::error::CoreFileError;
 use framehop_core_file::mapped_file::{MappedFile, read_mapped_files};
+use framehop_core_file::memory::memory_of;
 use framehop_core_file::note::read_notes;
 use framehop_core_file::process::{Process, read_process};
 use framehop_core_file::thread::{Thread as NotedThread, read_threads};
-use framehop_elf::program_header::ProgramHeader;
-use framehop_elf::segment::base_avma;
+use framehop_elf::segment::loaded_segments;
+use framehop_memory::memory::ProcessMemory;
+use framehop_memory::segment::{Segment, base_avma};
 use std::alloc::{AllocError, Global};
-
-/// `PT_LOAD`.
-const PT_LOAD: u32 = 1;
-
-/// `PF_X`: the segment may be executed.
-const PF_X: u32 = 1;
-
-/// The size of a page, in bytes.
-const PAGE_SIZE: u64 = 4096;
 
 /// Returns what a signal is the cause of: 0 is none.
 fn cause_of_signal(signal: u16) -> Option<Cause>
@@ -108,7 +102,7 @@ fn beginning<'a>(files: &[MappedFile<'a>], path: &[u8]) -> Option<MappedFile<'a>
 }
 
 /// Returns the first bytes of a mapped file, as far as memory has them.
-fn head_in<'a>(memory: &DumpedMemory<'a>, files: &[MappedFile<'a>], path: &[u8]) -> &'a [u8]
+fn head_in<'a>(memory: &ProcessMemory<'a>, files: &[MappedFile<'a>], path: &[u8]) -> &'a [u8]
     ensures { result.now ≡ head_in (memory_view memory.now) (map mapped_file_view files.now) path.now }
 {
     match beginning(files, path) {
@@ -118,19 +112,17 @@ fn head_in<'a>(memory: &DumpedMemory<'a>, files: &[MappedFile<'a>], path: &[u8])
 }
 
 /// Returns whether a segment of memory has an address (AVMA).
-fn has_address(segment: ProgramHeader, address: u64) -> bool
+fn has_address(segment: Segment, address: u64) -> bool
     ensures { result ≡ has_address address segment }
 {
-    segment.p_type == PT_LOAD
-        && segment.p_vaddr <= address
-        && address - segment.p_vaddr < segment.p_memsz
+    segment.address <= address && address - segment.address < segment.size
 }
 
 /// Returns the first segment of memory that has an address (AVMA).
-fn segment_at(memory: &DumpedMemory<'_>, address: u64) -> Option<ProgramHeader>
-    ensures { result ≡ find (has_address address) (memory_view memory.now).segments }
+fn segment_at(dumped: &[Segment], address: u64) -> Option<Segment>
+    ensures { result ≡ find (has_address address) dumped.now }
 {
-    for segment in &memory.segments {
+    for segment in dumped {
         if has_address(*segment, address) {
             return Some(*segment);
         }
@@ -138,21 +130,21 @@ fn segment_at(memory: &DumpedMemory<'_>, address: u64) -> Option<ProgramHeader>
     None
 }
 
-/// Returns where the stated address 0 of a mapped file is (AVMA), by the program headers in its first bytes.
-fn base_in_memory(segments: &[ProgramHeader], mapped: MappedFile<'_>) -> Option<u64>
+/// Returns where the stated address 0 of a mapped file is (AVMA), by the segments that its first bytes tell.
+fn base_in_memory(segments: &[Segment], mapped: MappedFile<'_>) -> Option<u64>
     ensures { result ≡ base_in_memory segments.now (mapped_file_view mapped.entry) }
 {
     let size = mapped.end.saturating_sub(mapped.start);
-    base_avma(segments, PAGE_SIZE, mapped.offset, size, mapped.start)
+    base_avma(segments, mapped.offset, size, mapped.start)
 }
 
-/// Returns whether a file is mapped to be executed: as the segment of memory says that has the first
-/// address, or else as the program headers in the file's first bytes say.
-fn is_code(memory: &DumpedMemory<'_>, segments: &[ProgramHeader], mapped: MappedFile<'_>) -> bool
-    ensures { result ≡ is_mapped_code (memory_view memory.now) segments.now (mapped_file_view mapped.entry) }
+/// Returns whether a file is mapped to be executed: as the dumped segment says that has the first address, or else as
+/// the segments say that the file's first bytes tell.
+fn is_code(dumped: &[Segment], segments: &[Segment], mapped: MappedFile<'_>) -> bool
+    ensures { result ≡ is_mapped_code dumped.now segments.now (mapped_file_view mapped.entry) }
 {
-    match segment_at(memory, mapped.start) {
-        Some(segment) => segment.p_flags & PF_X != 0,
+    match segment_at(dumped, mapped.start) {
+        Some(segment) => segment.is_code,
         None => base_in_memory(segments, mapped).is_some(),
     }
 }
@@ -160,24 +152,26 @@ fn is_code(memory: &DumpedMemory<'_>, segments: &[ProgramHeader], mapped: Mapped
 /// Appends a mapped file, if it is one of code.
 fn push_code<'a>(
     alloc: Global,
-    memory: &DumpedMemory<'a>,
+    memory: &ProcessMemory<'a>,
+    dumped: &[Segment],
     files: &[MappedFile<'a>],
     code: &mut Vec<MappedCode<'a>>,
     mapped: MappedFile<'a>,
 ) -> Result<(), AllocError>
     ensures { OnOk result (map mapped_code_view code.new.items ≡ map mapped_code_view code.old.items
-        ++ code_if (memory_view memory.now) (map mapped_file_view files.now) (mapped_file_view mapped.entry)) }
+        ++ code_if (memory_view memory.now) dumped.now (map mapped_file_view files.now) (mapped_file_view mapped.entry)) }
 {
     let head = head_in(memory, files, mapped.path);
-    let segments = segments_in(alloc, head)?;
-    if is_code(memory, segments.as_slice(), mapped) {
+    let headers = segments_in(alloc, head)?;
+    let segments = loaded_segments(alloc, headers.as_slice())?;
+    if is_code(dumped, segments.as_slice(), mapped) {
         code.push(MappedCode {
             start: mapped.start,
             end: mapped.end,
             offset: mapped.offset,
             path: mapped.path,
             head,
-            build_id: build_id_in(head, segments.as_slice()),
+            build_id: build_id_in(head, headers.as_slice()),
             base: None,
         })?;
     }
@@ -187,15 +181,16 @@ fn push_code<'a>(
 /// Returns the files that are mapped to be executed.
 fn code_of<'a>(
     alloc: Global,
-    memory: &DumpedMemory<'a>,
+    memory: &ProcessMemory<'a>,
+    dumped: &[Segment],
     files: &[MappedFile<'a>],
 ) -> Result<Vec<MappedCode<'a>>, AllocError>
     ensures { IfOk result (λ code. map mapped_code_view code.items
-        ≡ code_of (memory_view memory.now) (map mapped_file_view files.now)) }
+        ≡ code_of (memory_view memory.now) dumped.now (map mapped_file_view files.now)) }
 {
     let mut code = Vec::new(alloc);
     for mapped in files {
-        push_code(alloc, memory, files, &mut code, *mapped)?;
+        push_code(alloc, memory, dumped, files, &mut code, *mapped)?;
     }
     Ok(code)
 }
@@ -217,14 +212,16 @@ pub fn read_core_dump<'a>(alloc: Global, file: &'a [u8]) -> Result<Dump<'a>, Cor
     let noted = read_threads(alloc, core.machine, notes.as_slice())?;
     let files = read_mapped_files(alloc, notes.as_slice())?;
     let process = read_process(notes.as_slice())?;
-    let memory = DumpedMemory {
-        file,
-        segments: core.segments,
+    let Ok(dumped) = loaded_segments(alloc, core.segments.as_slice()) else {
+        return Err(CoreFileError::OutOfMemory);
+    };
+    let Ok(memory) = memory_of(alloc, file, dumped.as_slice()) else {
+        return Err(CoreFileError::OutOfMemory);
     };
     let Ok(threads) = threads_of(alloc, noted.as_slice()) else {
         return Err(CoreFileError::OutOfMemory);
     };
-    let Ok(code) = code_of(alloc, &memory, files.as_slice()) else {
+    let Ok(code) = code_of(alloc, &memory, dumped.as_slice(), files.as_slice()) else {
         return Err(CoreFileError::OutOfMemory);
     };
     Ok(Dump {

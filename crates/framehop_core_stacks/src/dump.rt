@@ -4,7 +4,7 @@ ghost use Rattle.std.specs.Prelude.{◌≡◌, find, option_map};
 ghost use Rattle.framehop_core_stacks.specs.Dump.{dump_view, mapped_code_view, is_of_path, head_of};
 
 use framehop_core_file::core_file::Machine;
-use framehop_elf::program_header::ProgramHeader;
+use framehop_memory::memory::ProcessMemory;
 
 /// Which kind of file tells of a process.
 #[derive(Clone, Copy, Debug, PartialEq, Eq)]
@@ -13,15 +13,6 @@ pub enum Kind {
     CoreFile,
     /// A minidump.
     Minidump,
-}
-
-/// The memory of a process, as far as a file has it.
-#[derive(Drop)]
-pub struct DumpedMemory<'a> {
-    /// The bytes of the file.
-    pub file: &'a [u8],
-    /// Which of them are where: the segments of type `PT_LOAD`. Others are ignored.
-    pub segments: Vec<ProgramHeader>,
 }
 
 /// The registers of a thread, for its machine.
@@ -88,7 +79,7 @@ pub struct Dump<'a> {
     /// Which kind of file tells it.
     pub kind: Kind,
     /// Its memory.
-    pub memory: DumpedMemory<'a>,
+    pub memory: ProcessMemory<'a>,
     /// The machine on which it ran.
     pub machine: Machine,
     /// Its threads.

@@ -1,18 +1,17 @@
 //! What the memory of a process has of the files that it had mapped: their build ids and their unwind data.
 ghost use Rattle.std.specs.Prelude.{◌≡◌, IfOk, find, option_map};
 ghost use Rattle.framehop_elf.specs.UnwindSections.{sections_view};
-ghost use Rattle.framehop_core_stacks.specs.Dump.{memory_view};
+ghost use Rattle.framehop_memory.specs.Memory.{memory_view};
 ghost use Rattle.framehop_core_stacks.specs.Image.{head_at, segments_in, build_id_in, is_eh_frame_header, memory_at, memory_after, call_frames_at, call_frames_view, range_of, sections_of, sections_in};
 
-use crate::dump::DumpedMemory;
 use framehop_bytes::section::ExplicitModuleSectionInfo;
 use framehop_cfi::header::TableLayout;
 use framehop_cfi::pointer::SectionBaseAddresses;
-use framehop_core_file::memory::{bytes_at, bytes_from};
 use framehop_elf::build_id::read_build_id;
 use framehop_elf::error::ElfError;
 use framehop_elf::header::read_file_header;
 use framehop_elf::program_header::{ProgramHeader, read_program_headers};
+use framehop_memory::memory::ProcessMemory;
 use std::alloc::{AllocError, Global};
 use std::ops::Range;
 
@@ -20,10 +19,10 @@ use std::ops::Range;
 const PT_GNU_EH_FRAME: u32 = 0x6474_e550;
 
 /// Returns the bytes of memory from an address (AVMA) on, as far as it has them, or none.
-pub fn head_at<'a>(memory: &DumpedMemory<'a>, address: u64) -> &'a [u8]
+pub fn head_at<'a>(memory: &ProcessMemory<'a>, address: u64) -> &'a [u8]
     ensures { result.now ≡ head_at (memory_view memory.now) address }
 {
-    match bytes_from(memory.file, memory.segments.as_slice(), address) {
+    match memory.bytes_from(address) {
         Some(head) => head,
         None => &[],
     }
@@ -67,19 +66,19 @@ fn eh_frame_header(segments: &[ProgramHeader]) -> Option<ProgramHeader>
 }
 
 /// Returns so many bytes from an SVMA on of what lies at a base, if memory has them.
-fn memory_at<'a>(memory: &DumpedMemory<'a>, base: u64, svma: u64, size: u64) -> Option<&'a [u8]>
+fn memory_at<'a>(memory: &ProcessMemory<'a>, base: u64, svma: u64, size: u64) -> Option<&'a [u8]>
     ensures { option_map (λ bytes. bytes.now) result ≡ memory_at (memory_view memory.now) base svma size }
 {
     let avma = base.checked_add(svma)?;
-    bytes_at(memory.file, memory.segments.as_slice(), avma, size)
+    memory.bytes_at(avma, size)
 }
 
 /// Returns the bytes from an SVMA on of what lies at a base, as far as memory has them.
-fn memory_after<'a>(memory: &DumpedMemory<'a>, base: u64, svma: u64) -> Option<&'a [u8]>
+fn memory_after<'a>(memory: &ProcessMemory<'a>, base: u64, svma: u64) -> Option<&'a [u8]>
     ensures { option_map (λ bytes. bytes.now) result ≡ memory_after (memory_view memory.now) base svma }
 {
     let avma = base.checked_add(svma)?;
-    bytes_from(memory.file, memory.segments.as_slice(), avma)
+    memory.bytes_from(avma)
 }
 
 /// The call frame sections of a file, and where they begin (SVMA).
@@ -97,7 +96,7 @@ struct CallFrames<'a> {
 /// Source: LSB Core, "Exception Frames", "The .eh_frame_hdr section".
 #[tactic(auto, unfolding(crate::specs::Image::call_frames_at))]
 fn call_frames_at<'a>(
-    memory: &DumpedMemory<'a>,
+    memory: &ProcessMemory<'a>,
     segments: &[ProgramHeader],
     base: u64,
 ) -> Option<CallFrames<'a>>
@@ -150,7 +149,7 @@ fn sections_of(
 /// it has not both `.eh_frame_hdr` and `.eh_frame`.
 pub fn sections_in(
     alloc: Global,
-    memory: &DumpedMemory<'_>,
+    memory: &ProcessMemory<'_>,
     head: &[u8],
     base: u64,
 ) -> Result<ExplicitModuleSectionInfo<Vec<u8>>, AllocError>

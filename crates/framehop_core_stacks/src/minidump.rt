@@ -5,27 +5,29 @@
 //! else becomes a `Dump`, as of a core file.
 ghost use Rattle.std.specs.Prelude.{◌≡◌, ◌⊎◌, ◌++◌, ◌∷◌, [], ℕ, List, None, Ok, Err, MatchResult, IfOk, OnOk, map, option_map};
 ghost use Rattle.std.specs.List.{flat_map};
-ghost use Rattle.framehop_core_stacks.specs.Dump.{MappedCodeView, memory_view, thread_view, mapped_code_view, dump_view, words_in};
+ghost use Rattle.framehop_core_stacks.specs.Dump.{MappedCodeView, thread_view, mapped_code_view, dump_view};
+ghost use Rattle.framehop_memory.specs.Memory.{memory_view};
 ghost use Rattle.framehop_core_stacks.specs.Image.{segments_in};
-ghost use Rattle.framehop_core_stacks.specs.Minidump.{each, segment_of, machine_of, signal_of, cause_by, cause_of, last_address, mask_up_to, thread_in, loaded_view, build_id_by, loaded_in, streams_and_modules_of, separator, file_name, program_name, dump_in, segments_given, or_else, base_by_name, whole, segment_code, code_with, code_by, code_of, IsGivenIf, IsCodeOf, AreCodeOf};
-ghost use Rattle.framehop_elf.specs.Segment.{is_code};
+ghost use Rattle.framehop_core_stacks.specs.Minidump.{each, machine_of, signal_of, cause_by, cause_of, last_address, mask_up_to, thread_in, loaded_view, build_id_by, loaded_in, streams_and_modules_of, separator, file_name, program_name, dump_in, headers_given, or_else, base_by_name, whole, segment_code, code_with, code_by, code_of, IsGivenIf, IsCodeOf, AreCodeOf};
 ghost use Rattle.framehop_elf.specs.UnwindSections.{bytes_in};
 ghost use Rattle.framehop_minidump.specs.CodeView.{codeview_view};
-ghost use Rattle.framehop_minidump.specs.Memory.{word_of};
 ghost use Rattle.framehop_minidump.specs.declared.error.MinidumpError.{MinidumpError};
 ghost use Rattle.framehop_stacks.specs.Files.{is_unix_path};
 
-use crate::dump::{Cause, Dump, DumpedMemory, Kind, MappedCode, Registers, Thread};
+use crate::dump::{Cause, Dump, Kind, MappedCode, Registers, Thread};
 use crate::image::{build_id_in, head_at, segments_in};
 use framehop_core_file::core_file::Machine;
 use framehop_elf::program_header::ProgramHeader;
+use framehop_elf::segment::loaded_segments;
+use framehop_memory::memory::ProcessMemory;
+use framehop_memory::segment::{Segment, base_from};
 use framehop_minidump::codeview::{CodeView, read_codeview};
 use framehop_minidump::error::MinidumpError;
 use framehop_minidump::exception::{Exception, context_of, read_exception};
 use framehop_minidump::location::read_located;
-use framehop_minidump::memory::{MemoryRange, read_memory};
+use framehop_minidump::memory::read_memory;
 use framehop_minidump::misc_info::read_process_id;
-use framehop_minidump::module::{Module, base_avma, read_modules};
+use framehop_minidump::module::{Module, read_modules};
 use framehop_minidump::stream::{Stream, read_streams};
 use framehop_minidump::string::read_string;
 use framehop_minidump::system_info::{Machine as SystemMachine, read_system_info};
@@ -34,12 +36,6 @@ use framehop_stacks::error::StacksError;
 use framehop_stacks::files::{FileSource, is_unix_path, is_windows_path};
 use framehop_stacks::object_file::is_another;
 use std::alloc::{AllocError, Global};
-
-/// `PT_LOAD`.
-const PT_LOAD: u32 = 1;
-
-/// `PF_X`: the segment may be executed.
-const PF_X: u32 = 1;
 
 /// The platform of Windows.
 const WINDOWS: u32 = 2;
@@ -258,47 +254,6 @@ fn threads_in<'a>(
     Ok(threads)
 }
 
-/// Returns a range of memory as a segment that was dumped whole.
-fn segment_of(range: MemoryRange) -> ProgramHeader
-    ensures { result ≡ segment_of range }
-{
-    ProgramHeader {
-        p_type: PT_LOAD,
-        p_flags: 0,
-        p_offset: range.offset,
-        p_vaddr: range.start,
-        p_paddr: 0,
-        p_filesz: range.size,
-        p_memsz: range.size,
-        p_align: 0,
-    }
-}
-
-/// Returns ranges of memory as segments that were dumped whole.
-fn segments_of_ranges(
-    alloc: Global,
-    ranges: &[MemoryRange],
-) -> Result<Vec<ProgramHeader>, AllocError>
-    ensures { IfOk result (λ segments. segments.items ≡ map segment_of ranges.now) }
-{
-    ranges.iter().map(|range| segment_of(*range)).collect(alloc)
-}
-
-/// Returns the memory of a minidump, whose words are those that `framehop_minidump` reads by its ranges.
-pub fn memory_of<'a>(
-    alloc: Global,
-    file: &'a [u8],
-    ranges: &[MemoryRange],
-) -> Result<DumpedMemory<'a>, AllocError>
-    ensures bytes { IfOk result (λ memory. memory.file.now ≡ file.entry.now) }
-    ensures segments { IfOk result (λ memory. memory.segments.items ≡ map segment_of ranges.now) }
-    ensures words { IfOk result (λ memory. (address : ℕ)
-        → words_in (memory_view memory) address ≡ word_of file.entry.now ranges.now address) }
-{
-    let segments = segments_of_ranges(alloc, ranges)?;
-    Ok(DumpedMemory { file, segments })
-}
-
 /// Returns the byte that parts folders in the paths of a platform.
 fn separator(platform: u32) -> u8
     ensures { result ≡ separator platform }
@@ -355,9 +310,7 @@ pub fn dump_in<'a>(
     };
     let threads = threads_in(alloc, file, of_all, listed.as_slice())?;
     let ranges = read_memory(alloc, file, streams)?;
-    let Ok(memory) = memory_of(alloc, file, ranges.as_slice()) else {
-        return Err(MinidumpError::OutOfMemory);
-    };
+    let memory = ProcessMemory { file, ranges };
     let pid = read_process_id(file, streams)?;
     Ok(Dump {
         kind: Kind::Minidump,
@@ -370,13 +323,13 @@ pub fn dump_in<'a>(
     })
 }
 
-/// Returns the segments of a file that is given, if it has the build id that it must have: none, else.
-fn segments_given(
+/// Returns the program headers of a file that is given, if it has the build id that it must have: none, else.
+fn headers_given(
     alloc: Global,
     wanted: &[u8],
     given: Option<Vec<u8>>,
 ) -> Result<Vec<ProgramHeader>, AllocError>
-    ensures { IfOk result (λ segments. segments.items ≡ segments_given wanted.now (bytes_in given)) }
+    ensures { IfOk result (λ segments. segments.items ≡ headers_given wanted.now (bytes_in given)) }
 {
     let Some(bytes) = given else {
         return Ok(Vec::new(alloc));
@@ -401,28 +354,21 @@ fn file_of<S: FileSource>(source: &S, module: &LoadedModule) -> Option<Vec<u8>>
     source.read_file(name)
 }
 
-/// Returns the segments of a module: those of its file, or else those that its first bytes in memory have.
-fn segments_of(
+/// Returns the program headers of a module: those of its file, or else those that its first bytes in memory have.
+fn headers_of(
     alloc: Global,
     module: &LoadedModule,
     given: Option<Vec<u8>>,
     head: &[u8],
 ) -> Result<Vec<ProgramHeader>, AllocError>
     ensures { IfOk result (λ segments. segments.items
-        ≡ or_else (segments_given (loaded_view «module».now).build_id (bytes_in given)) (segments_in head.now)) }
+        ≡ or_else (headers_given (loaded_view «module».now).build_id (bytes_in given)) (segments_in head.now)) }
 {
-    let segments = segments_given(alloc, module.build_id.as_slice(), given)?;
+    let segments = headers_given(alloc, module.build_id.as_slice(), given)?;
     if segments.is_empty() {
         return segments_in(alloc, head);
     }
     Ok(segments)
-}
-
-/// Returns whether a segment is loaded to be executed.
-fn is_code(segment: ProgramHeader) -> bool
-    ensures { result ≡ is_code segment }
-{
-    segment.p_type == PT_LOAD && segment.p_flags & PF_X != 0
 }
 
 /// Returns where the base of a PE file is (AVMA), if the module has a name of Windows: it is the first address.
@@ -456,17 +402,17 @@ fn push_segment<'a>(
     module: &'a LoadedModule,
     head: &'a [u8],
     base: u64,
-    segment: ProgramHeader,
+    segment: Segment,
 ) -> Result<(), AllocError>
     ensures { OnOk result (map mapped_code_view code.new.items ≡ map mapped_code_view code.old.items
         ++ segment_code head.entry.now (loaded_view «module».entry.now) base segment) }
 {
-    if is_code(segment) {
-        let start = base.saturating_add(segment.p_vaddr);
+    if segment.is_code {
+        let start = base.saturating_add(segment.address);
         code.push(MappedCode {
             start,
-            end: start.saturating_add(segment.p_memsz),
-            offset: segment.p_offset,
+            end: start.saturating_add(segment.size),
+            offset: segment.offset,
             path: module.name.as_slice(),
             head,
             build_id: module.build_id.as_slice(),
@@ -482,7 +428,7 @@ fn push_segments<'a>(
     module: &'a LoadedModule,
     head: &'a [u8],
     base: u64,
-    segments: &[ProgramHeader],
+    segments: &[Segment],
 ) -> Result<(), AllocError>
     ensures { OnOk result (map mapped_code_view code.new.items ≡ map mapped_code_view code.old.items
         ++ flat_map (segment_code head.entry.now (loaded_view «module».entry.now) base) segments.now) }
@@ -498,12 +444,12 @@ fn push_code<'a>(
     code: &mut Vec<MappedCode<'a>>,
     module: &'a LoadedModule,
     head: &'a [u8],
-    segments: &[ProgramHeader],
+    segments: &[Segment],
 ) -> Result<(), AllocError>
     ensures { OnOk result (map mapped_code_view code.new.items ≡ map mapped_code_view code.old.items
         ++ code_by head.entry.now (loaded_view «module».entry.now) segments.now) }
 {
-    match base_avma(module.base, segments) {
+    match base_from(segments, module.base) {
         Some(base) => push_segments(code, module, head, base, segments),
         None => Ok(code.push(whole(module, head))?),
     }
@@ -512,7 +458,7 @@ fn push_code<'a>(
 /// Appends the code of a module, by its file or else by its first bytes in memory.
 fn push_module<'a, S: FileSource>(
     alloc: Global,
-    memory: &DumpedMemory<'a>,
+    memory: &ProcessMemory<'a>,
     source: &S,
     code: &mut Vec<MappedCode<'a>>,
     module: &'a LoadedModule,
@@ -523,14 +469,15 @@ fn push_module<'a, S: FileSource>(
 {
     let head = head_at(memory, module.base);
     let given = file_of(source, module);
-    let segments = segments_of(alloc, module, given, head)?;
+    let headers = headers_of(alloc, module, given, head)?;
+    let segments = loaded_segments(alloc, headers.as_slice())?;
     push_code(code, module, head, segments.as_slice())
 }
 
 /// Returns the code of modules, by their files or else by their first bytes in memory.
 pub fn code_of<'a, S: FileSource>(
     alloc: Global,
-    memory: &DumpedMemory<'a>,
+    memory: &ProcessMemory<'a>,
     modules: &'a [LoadedModule],
     source: &S,
 ) -> Result<Vec<MappedCode<'a>>, AllocError>

@@ -1,5 +1,6 @@
 //! The files whose code a process had mapped, and the modules of their mappings.
 ghost use Rattle.std.specs.Prelude.{◌≡◌, IfOk, slice_get};
+ghost use Rattle.framehop_elf.specs.Segment.{loaded_segments_of};
 ghost use Rattle.framehop_elf.specs.UnwindSections.{sections_view};
 ghost use Rattle.framehop_processes.specs.Process.{HasModules};
 ghost use Rattle.framehop_stacks.specs.Files.{placed_at};
@@ -14,14 +15,12 @@ use framehop::aarch64::UnwinderAarch64;
 use framehop::generations::Generations;
 use framehop::section::ExplicitModuleSectionInfo;
 use framehop::x86_64::UnwinderX86_64;
-use framehop_elf::segment::base_avma;
+use framehop_elf::segment::loaded_segments;
+use framehop_memory::segment::base_avma;
 use framehop_processes::{Mapping, ModuleMaker, Process, ProcessUnwinder};
 use framehop_stacks::error::StacksError;
 use framehop_stacks::files::{FileSource, Files};
 use std::alloc::{AllocError, Global};
-
-/// The size of a page, in bytes.
-const PAGE_SIZE: u64 = 4096;
 
 /// Reads the files whose code is mapped, each once.
 pub fn read_files<S: FileSource>(
@@ -43,17 +42,12 @@ pub fn read_files<S: FileSource>(
 /// bytes.
 fn base_in_memory(alloc: Global, code: MappedCode<'_>) -> Result<Option<u64>, AllocError>
     ensures { IfOk result (λ base. base
-        ≡ base_by (segments_in (mapped_code_view code.entry).head) (mapped_code_view code.entry)) }
+        ≡ base_by (loaded_segments_of (segments_in (mapped_code_view code.entry).head)) (mapped_code_view code.entry)) }
 {
-    let segments = segments_in(alloc, code.head)?;
+    let headers = segments_in(alloc, code.head)?;
+    let segments = loaded_segments(alloc, headers.as_slice())?;
     let size = code.end.saturating_sub(code.start);
-    Ok(base_avma(
-        segments.as_slice(),
-        PAGE_SIZE,
-        code.offset,
-        size,
-        code.start,
-    ))
+    Ok(base_avma(segments.as_slice(), code.offset, size, code.start))
 }
 
 /// Returns where the stated address 0 of the file of mapped code is (AVMA): as it is known, by what was read of

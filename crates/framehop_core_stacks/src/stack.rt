@@ -3,7 +3,7 @@ ghost use Rattle.std.specs.Prelude.{◌≡◌, IfOk};
 ghost use Rattle.framehop.specs.Memory.{reply};
 ghost use Rattle.framehop.specs.Modules.{UnwinderView};
 ghost use Rattle.framehop.specs.Soundness.{AreApart};
-ghost use Rattle.framehop_core_file.specs.Memory.{word_of};
+ghost use Rattle.framehop_memory.specs.Memory.{memory_view, word_of};
 ghost use Rattle.framehop_stacks.specs.Stack.{option_stack_view};
 ghost use Rattle.framehop_core_stacks.specs.Dump.{thread_view, dump_view};
 ghost use Rattle.framehop_core_stacks.specs.Thread.{thread_stack};
@@ -11,18 +11,17 @@ ghost use Rattle.framehop_core_stacks.specs.Thread.{thread_stack};
 use crate::dump::{Dump, Thread};
 use crate::machine::Dumped;
 use framehop::session::walk;
-use framehop_core_file::memory::word_at;
-use framehop_elf::program_header::ProgramHeader;
 use framehop_explain::Words;
+use framehop_memory::memory::ProcessMemory;
 use framehop_stacks::error::StacksError;
 use framehop_stacks::stack::Stack;
 use std::alloc::Global;
 
 /// Returns the word of memory at an address (AVMA).
-fn read_memory(file: &[u8], segments: &[ProgramHeader], address: u64) -> Result<u64, ()>
-    ensures { result ≡ reply (word_of file.now segments.now address) }
+fn read_memory(memory: &ProcessMemory<'_>, address: u64) -> Result<u64, ()>
+    ensures { result ≡ reply (word_of (memory_view memory.now) address) }
 {
-    match word_at(file, segments, address) {
+    match memory.word_at(address) {
         Some(word) => Ok(word),
         None => Err(()),
     }
@@ -34,7 +33,7 @@ impl Words for Dump<'_> {
     ghost memory = { λ dump. memory_in (dump_view dump) };
 
     fn read(&self, address: u64) -> Result<u64, ()> {
-        read_memory(self.memory.file, self.memory.segments.as_slice(), address)
+        read_memory(&self.memory, address)
     }
 }
 
@@ -56,11 +55,10 @@ pub fn walk_thread<U: Dumped>(
     let Some(start) = U::begin(thread.registers) else {
         return Ok(None);
     };
-    let file = dump.memory.file;
-    let segments = dump.memory.segments.as_slice();
+    let memory = &dump.memory;
     let mut read_stack = |address: u64| -> Result<u64, ()>
-        ensures { result ≡ reply (word_of file.entry.now segments.entry.now address) }
-    { read_memory(file, segments, address) };
+        ensures { result ≡ reply (word_of (memory_view memory.entry.now) address) }
+    { read_memory(memory, address) };
     let (frames, end, _) = walk(
         alloc,
         unwinder,

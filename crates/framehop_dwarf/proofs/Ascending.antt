@@ -1,10 +1,10 @@
--- Pairs in order: those of sorted keys, and where they start.
-use Rattle.std.proofs.Common.{◌≡◌, ℕ, ◌-◌, ◌/◌, ◌^◌, ◌<◌, ◌≤◌, true, List, map, length, get_or, ap, arith}
+-- Pairs in order: those of sorted keys, and parts of lists in order.
+use Rattle.std.proofs.Common.{◌≡◌, ℕ, suc, ◌≤◌, true, List, [], ◌∷◌, ◌++◌, map, get_or, length-append, arith}
 use Rattle.std.specs.List.Sorted.{IsNonDecreasing}
 use Rattle.std.proofs.lemmas.Bool.Decides.{nat_tests}
-use Rattle.std.proofs.lemmas.List.{get_or-map, length-map}
+use Rattle.std.proofs.lemmas.List.{get_or-map, length-map, get_or_append_left}
 use Rattle.framehop_dwarf.specs.Index.{pair_of_key}
-use Rattle.framehop_dwarf.specs.Blocks.{not_after, IsAscending, start_at, last_start}
+use Rattle.framehop_dwarf.specs.Tree.{not_after, IsAscending}
 
 -- lesser keys are lesser pairs
 not_after-keys : (a b : ℕ) → a ≤ b → not_after (pair_of_key a) (pair_of_key b) ≡ true
@@ -18,17 +18,16 @@ ascending-keys keys sorted = record {
       (not_after-keys (get_or keys i 0) (get_or keys j 0) (sorted i j 0 le (omega arith)));
 }
 
-not_after-starts : (a b : ℕ × ℕ) → not_after a b ≡ true → a.0 ≤ b.0
-not_after-starts a b h = grind (arith, nat_tests)
+pub ascending-tail : (x : ℕ × ℕ) (xs : List (ℕ × ℕ)) → IsAscending (x ∷ xs) → IsAscending xs
+ascending-tail x xs a = record { ordered = λ i j le below. a.ordered (suc i) (suc j) (omega arith) (omega arith) }
 
--- the start of a later pair is not below that of an earlier one
-pub starts-ascend : (pairs : List (ℕ × ℕ)) → IsAscending pairs → (i j : ℕ) → i ≤ j → j < length pairs → start_at pairs i ≤ start_at pairs j
-starts-ascend pairs a i j le below = not_after-starts (get_or pairs i (0, 0)) (get_or pairs j (0, 0)) (a.ordered i j le below)
+pub ascending-left : (xs ys : List (ℕ × ℕ)) → IsAscending (xs ++ ys) → IsAscending xs
+ascending-left xs ys a = record {
+  ordered = λ i j le below.
+      let h = a.ordered i j le (omega (arith, length-append xs ys)) in
+      rw (get_or_append_left xs ys (0, 0) i (omega arith), get_or_append_left xs ys (0, 0) j below) at h;
+}
 
--- the last pair has the greatest start
-pub starts-end : (pairs : List (ℕ × ℕ)) → IsAscending pairs → (i : ℕ) → i < length pairs → start_at pairs i ≤ last_start pairs
-starts-end pairs a i below = starts-ascend pairs a i (length pairs - 1) (omega arith) (omega arith)
-
--- the start of a key's pair
-pub start-key : (keys : List ℕ) (k : ℕ) → k < length keys → start_at (map pair_of_key keys) k ≡ get_or keys k 0 / 2 ^ 32
-start-key keys k below = ap (λ (p : ℕ × ℕ). p.0) (get_or-map pair_of_key keys k 0 (0, 0) below)
+pub ascending-right : (xs ys : List (ℕ × ℕ)) → IsAscending (xs ++ ys) → IsAscending ys
+ascending-right [] ys a = a
+ascending-right (x ∷ xs) ys a = ascending-right xs ys (ascending-tail x (xs ++ ys) a)

@@ -6,8 +6,8 @@ use Rattle.framehop_cfi.specs.Entries.{Cut, cut, AreOffsets}
 use Rattle.framehop_cfi.specs.declared.entry.FrameDescriptionEntry.{FrameDescriptionEntry}
 use Rattle.framehop_cfi.proofs.Cut.{cut-offsets, offsets-cut}
 use Rattle.framehop_cfi.proofs.EntryMeaning.{fde_at-means, means-fde_at}
-use Rattle.framehop_bytes.specs.declared.read_error.ReadError.{ReadError}
-use Rattle.framehop_bytes.specs.declared.read_error.ReadError.TheVariants.{OutOfMemory}
+use Rattle.framehop_cfi.specs.declared.read_error.ReadError.{ReadError}
+use Rattle.framehop_cfi.specs.declared.read_error.ReadError.TheVariants.{OutOfMemory}
 use Rattle.framehop_dwarf.specs.declared.index.DwarfCfiIndexError.{DwarfCfiIndexError}
 use Rattle.framehop_dwarf.specs.declared.index.DwarfCfiIndexError.TheVariants.{Gimli}
 use Rattle.framehop_dwarf.specs.Index.{pair_if_read, pair_at, before_others, pairs_at, unless_refused, pairs_of, HasPair, ArePairsAt, no_more, one, passed, HasNoIndex}

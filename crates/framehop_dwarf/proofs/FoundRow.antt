@@ -8,8 +8,8 @@ use Rattle.framehop_cfi.specs.Row.{Row}
 use Rattle.framehop_cfi.specs.RowAt.{row_at, rows_at}
 use Rattle.framehop_cfi.specs.declared.storage.StorageLimits.{StorageLimits}
 use Rattle.framehop_cfi.specs.declared.entry.FrameDescriptionEntry.{FrameDescriptionEntry}
-use Rattle.framehop_bytes.specs.declared.read_error.ReadError.{ReadError}
-use Rattle.framehop_bytes.specs.declared.read_error.ReadError.TheVariants.{NoRow}
+use Rattle.framehop_cfi.specs.declared.read_error.ReadError.{ReadError}
+use Rattle.framehop_cfi.specs.declared.read_error.ReadError.TheVariants.{NoRow}
 use Rattle.framehop_cfi.proofs.EntryMeaning.{fde_at-means, means-fde_at}
 use Rattle.framehop_cfi.proofs.RowMeaning.{row_at-means, means-row_at}
 use Rattle.framehop_dwarf.specs.Unwinder.{uncovered, of_row, of_fde, reading_of, IsReading}

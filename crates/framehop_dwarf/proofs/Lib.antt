@@ -1,11 +1,14 @@
 pub mod Ascending
-pub mod Blocks
 pub mod Entries
+pub mod Filled
 pub mod FoundRow
-pub mod Halving
 pub mod Lengths
 pub mod MayTakeMemory
 pub mod Order
+pub mod Permuted
 pub mod Saturated
+pub mod Searched
+pub mod Shortcuts
+pub mod Tree
 pub mod Walk
 pub mod Words

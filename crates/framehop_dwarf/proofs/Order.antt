@@ -2,11 +2,10 @@
 use Rattle.std.proofs.Common.{◌≡◌, ℕ, zero, suc, ◌<◌, ◌≤◌, true, false, List, [], ◌∷◌, length, get_or, Option, Some, None, refl, ap, sym, subst, arith, inl, inr, if◌then◌else◌}
 use Rattle.std.proofs.lemmas.Bool.{lt-leb, le-leb, cases_lt, cases_Bool}
 use Rattle.std.proofs.lemmas.Bool.Decides.{nat_tests}
-use Rattle.std.specs.Prelude.{◌+◌, Contains}
-use Rattle.std.proofs.lemmas.List.{get_or_default}
+use Rattle.std.specs.Prelude.{Contains}
 use Rattle.std.specs.List.Sorted.{IsPermutation}
-use Rattle.std.proofs.lemmas.List.Sorted.{Contains-permutation, IsPermutation-refl, IsPermutation-sym}
-use Rattle.framehop_dwarf.specs.Blocks.{not_after, IsAscending, IsCountBelow}
+use Rattle.std.proofs.lemmas.List.Sorted.{Contains-permutation, IsPermutation-sym}
+use Rattle.framehop_dwarf.specs.Tree.{not_after}
 use Rattle.framehop_dwarf.specs.Index.{later, pair_for, fde_offset_for, Greatest, Among, IsFdeFor}
 
 pub not_after-refl : (a : ℕ × ℕ) → not_after a a ≡ true
@@ -125,32 +124,6 @@ one-pair_for xs ys address (Some pair) (Some other) p ga aa gb ab =
 pub pair_for-permutation : (xs ys : List (ℕ × ℕ)) (address : ℕ) → IsPermutation xs ys → pair_for xs address ≡ pair_for ys address
 pair_for-permutation xs ys address p =
     one-pair_for xs ys address (pair_for xs address) (pair_for ys address) p (greatest xs address) (among xs address) (greatest ys address) (among ys address)
-
--- of pairs in order that of an address is the last of those that start at or below it
-pub found-none : (pairs : List (ℕ × ℕ)) (address : ℕ) → IsCountBelow pairs (address + 1) 0 → pair_for pairs address ≡ None
-found-none pairs address count =
-    one-pair_for pairs pairs address (pair_for pairs address) None (IsPermutation-refl pairs) (greatest pairs address) (among pairs address)
-    (λ k d below. let above = count.others k (omega arith) below in rw (get_or_default pairs k d (0, 0) below) (omega arith)) tt
-
-pub found-some : (pairs : List (ℕ × ℕ)) (address place : ℕ) → IsAscending pairs → IsCountBelow pairs (address + 1) (place + 1) → pair_for pairs address ≡ Some (get_or pairs place (0, 0))
-found-some pairs address place ordered count =
-    one-pair_for pairs pairs address (pair_for pairs address) (Some pair) (IsPermutation-refl pairs) (greatest pairs address) (among pairs address) last
-    (place, inside, get_or_default pairs place pair (0, 0) inside, (let at = count.below place (omega arith) in omega arith))
-  where
-    pair : ℕ × ℕ
-    pair = get_or pairs place (0, 0)
-
-    inside : place < length pairs
-    inside = let within = count.within in omega arith
-
-    last : Greatest pairs address (Some pair)
-    last k d below at =
-        let there = get_or_default pairs k d (0, 0) below in
-        let at' = rw there at at in
-        elim (cases_lt place k) as (λ _. not_after (get_or pairs k d) pair ≡ true) [
-          | inl after ↦ absurd (let above = count.others k (omega arith) below in omega arith)
-          | inr before ↦ rw there (ordered.ordered k place before inside)
-        ]
 
 -- the FDE of an address is that of the greatest pair before it
 pub fde-for : (pairs : List (ℕ × ℕ)) (address : ℕ) (offset : Option ℕ) → offset ≡ fde_offset_for pairs address → IsFdeFor pairs address offset

@@ -1,7 +1,8 @@
 -- An address beyond 64 bits has the place of the last one of 64 bits.
 use Rattle.std.proofs.Common.{◌≡◌, ℕ, zero, suc, ◌+◌, ◌-◌, ◌*◌, ◌/◌, ◌<◌, ◌≤◌, ◌^◌, ◌%◌, min, List, length, get_or, refl, ap, arith, Result, Ok, Err, leb, Option, if◌then◌else◌, inl, inr}
 use Rattle.std.proofs.lemmas.Bool.{le-leb, cases_lt}
-use Rattle.framehop_bytes.specs.Bytes.{Parsed, ◌>>=◌}
+use Rattle.framehop_bytes.specs.Bytes.{◌>>=◌}
+use Rattle.framehop_cfi.specs.Numbers.{Parsed}
 use Rattle.framehop_cfi.specs.Raw.{raw_at, format_of}
 use Rattle.framehop_cfi.specs.Pointer.{pointer_at, base_of, application_of}
 use Rattle.framehop_bytes.specs.Place.{halved, place_of}
@@ -10,7 +11,7 @@ use Rattle.framehop_cfi.specs.Header.{value_or_zero, start_of_row, starts_of, la
 use Rattle.framehop_cfi.proofs.Table.{get_or-starts_of, length-starts_of}
 use Rattle.std.proofs.lemmas.List.{get_or_past}
 use Rattle.framehop_cfi.specs.declared.pointer.SectionBaseAddresses.{SectionBaseAddresses}
-use Rattle.framehop_bytes.specs.declared.read_error.ReadError.{ReadError}
+use Rattle.framehop_cfi.specs.declared.read_error.ReadError.{ReadError}
 
 value_or_zero-sum : (base : Result ℕ ReadError) (raw : Parsed ℕ) → value_or_zero (base >>= λ b. raw >>= λ r. Ok ((b + r.0) % 2 ^ 64, r.1)) < 2 ^ 64
 value_or_zero-sum (Ok b) (Ok r) = omega arith

@@ -2,7 +2,7 @@
 -- end.
 use Rattle.std.specs.Prelude.{ℕ, zero, suc, ◌+◌, ◌%◌, ◌^◌, ◌≤◌, ◌≡◌, Bool, true, List, [], ◌∷◌, length, slice_get, slice_range, Option, Some, None, option_map, option_and_then, option_to_list, Ok, Err, ℤ, pos, negsuc, ◌+ℤ◌, ◌==◌, nat_le, if◌then◌else◌}
 use Rattle.std.specs.Int.{cast_unsigned, w64}
-use Rattle.framehop_bytes.specs.Bytes.{Parsed}
+use Rattle.framehop_cfi.specs.Numbers.{Parsed}
 use Rattle.framehop_cfi.specs.declared.rule.Register.{Register}
 use Rattle.framehop_cfi.specs.declared.rule.Expression.{Expression}
 use Rattle.framehop_dwarf.specs.Operation.{operation_at, changed, combined}

@@ -1,15 +1,15 @@
 -- The FDE of an address, among all FDEs of a section: each has a pair of its start, relative to the module's base,
 -- and its offset.
 use Rattle.std.specs.Prelude.{ℕ, ◌-◌, ◌/◌, ◌%◌, ◌^◌, ◌<◌, ◌≤◌, ◌≡◌, true, length, slice_index_or, List, [], ◌∷◌, Option, Some, None, option_map, Result, Ok, Err, nat_le, nat_lt, if◌then◌else◌, IsPermutation}
-use Rattle.framehop_dwarf.specs.Blocks.{not_after, IsAscending}
+use Rattle.framehop_dwarf.specs.Tree.{not_after, IsSearchTree}
 use Rattle.framehop_cfi.specs.Section.{Section}
 use Rattle.framehop_cfi.specs.Entry.{cie_at, fde_at}
 use Rattle.framehop_cfi.specs.Entries.{cut, AreOffsets}
 use Rattle.framehop_cfi.specs.EntryMeaning.{IsFde}
 use Rattle.framehop_cfi.specs.declared.entry.CommonInformationEntry.{CommonInformationEntry}
 use Rattle.framehop_cfi.specs.declared.entry.FrameDescriptionEntry.{FrameDescriptionEntry}
-use Rattle.framehop_bytes.specs.declared.read_error.ReadError.{ReadError}
-use Rattle.framehop_bytes.specs.declared.read_error.ReadError.TheVariants.{BadLength, Eof, OutOfMemory}
+use Rattle.framehop_cfi.specs.declared.read_error.ReadError.{ReadError}
+use Rattle.framehop_cfi.specs.declared.read_error.ReadError.TheVariants.{BadLength, Eof, OutOfMemory}
 use Rattle.framehop_dwarf.specs.declared.index.DwarfCfiIndexError.{DwarfCfiIndexError}
 use Rattle.framehop_dwarf.specs.declared.index.DwarfCfiIndexError.TheVariants.{Gimli}
 
@@ -108,14 +108,14 @@ IsKnown section (Some known) = cie_at section known.0 ≡ Ok known.1
 abbrev pub pair_of_key : ℕ → ℕ × ℕ
 pair_of_key key = (key / 2 ^ 32, key % 2 ^ 32)
 
--- An index of a section: the pairs of its entries in order. For each address it has the FDE that they have.
+-- An index of a section: the pairs of its entries as a search tree. For each address it has the FDE that they have.
 pub record IsIndexOf (section : Section) (base : ℕ) (index : List (ℕ × ℕ)) : Type 0 where
   pub offsets : List ℕ
   pub pairs : List (ℕ × ℕ)
   pub are_all : AreOffsets section 0 offsets
   pub have : ArePairsAt section base offsets pairs
   pub only : IsPermutation pairs index
-  pub ordered : IsAscending index
+  pub tree : IsSearchTree index
   pub same : (address : ℕ) → fde_offset_for index address ≡ fde_offset_for pairs address
 
 -- the same, by the pairs of all the FDEs

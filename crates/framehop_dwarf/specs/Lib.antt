@@ -1,7 +1,6 @@
 -- What the contracts of this crate cite: the index, expressions, and from a row to a frame.
 pub mod Aarch64
 pub mod Bases
-pub mod Blocks
 pub mod Direct
 pub mod Evaluation
 pub mod Index
@@ -10,6 +9,7 @@ pub mod Operation
 pub mod Refusal
 pub mod RowMeaning
 pub mod Told
+pub mod Tree
 pub mod Units
 pub mod Unwinder
 pub mod X86_64

@@ -9,7 +9,7 @@ use Rattle.framehop_cfi.specs.Row.{Row}
 use Rattle.framehop_cfi.specs.RowRoom.{row_needs_room}
 use Rattle.framehop_cfi.specs.declared.storage.StorageLimits.{StorageLimits}
 use Rattle.framehop_cfi.specs.declared.entry.FrameDescriptionEntry.{FrameDescriptionEntry}
-use Rattle.framehop_bytes.specs.declared.read_error.ReadError.{ReadError}
+use Rattle.framehop_cfi.specs.declared.read_error.ReadError.{ReadError}
 use Rattle.framehop_cfi.specs.declared.rule.CfaRule.{CfaRule}
 use Rattle.framehop_cfi.specs.declared.rule.CfaRule.TheVariants as cfa
 use Rattle.framehop_cfi.specs.declared.rule.RegisterRule.{RegisterRule}

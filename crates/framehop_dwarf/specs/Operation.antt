@@ -1,13 +1,14 @@
 -- The operations of DWARF expressions (DWARF 5 sections 2.5.1 and 7.7.1).
 use Rattle.std.specs.Prelude.{ℕ, ◌-◌, ◌+◌, ◌*◌, ◌/◌, ◌%◌, ◌^◌, Bool, true, false, not, List, [], ◌∷◌, Option, Some, None, Ok, Err, ℤ, int_div, int_lt, int_le, unsigned_abs, bit_xor, ◌==◌, ◌&&◌, nat_le, nat_lt, bit_and, bit_or, if◌then◌else◌}
 use Rattle.std.specs.Int.{int_shr, cast_signed, cast_unsigned, bit_not, w16, w64}
-use Rattle.framehop_bytes.specs.Bytes.{Parsed, ◌>>=◌, u8_at, u16_at, u32_at, u64_at}
+use Rattle.framehop_bytes.specs.Bytes.{◌>>=◌}
+use Rattle.framehop_cfi.specs.Numbers.{Parsed, u8_at, u16_at, u32_at, u64_at}
 use Rattle.framehop_bytes.specs.ByCode.{by_code, by_test}
 use Rattle.framehop_cfi.specs.Leb128.{uleb_at, sleb_at}
 use Rattle.framehop_cfi.specs.Raw.{sign_extended}
 use Rattle.framehop_cfi.specs.Instruction.{mapped}
 use Rattle.framehop_cfi.specs.declared.rule.Register.{Register}
-use Rattle.framehop_bytes.specs.declared.read_error.ReadError.TheVariants.{NumberTooBig, UnknownInstruction}
+use Rattle.framehop_cfi.specs.declared.read_error.ReadError.TheVariants.{NumberTooBig, UnknownInstruction}
 use Rattle.framehop_dwarf.specs.declared.operation.UnaryOperation.{UnaryOperation}
 use Rattle.framehop_dwarf.specs.declared.operation.UnaryOperation.TheVariants.{Absolute, Negate, Not}
 use Rattle.framehop_dwarf.specs.declared.operation.BinaryOperation.{BinaryOperation}

@@ -11,8 +11,8 @@ ghost use Rattle.framehop_dwarf.specs.Direct.{sum_of, cfa_of, register_of};
 ghost use Rattle.framehop_dwarf.specs.MayTakeMemory.{is_cfa_expression, is_some_expression, has_expression};
 
 use crate::evaluation::{DwarfUnwindRegs, EvaluationStorage, evaluate};
-use framehop_bytes::read_error::ReadError;
 pub use framehop_cfi::dwarf_error::DwarfUnwinderError;
+use framehop_cfi::read_error::ReadError;
 use framehop_cfi::row::UnwindTableRow;
 use framehop_cfi::rule::{CfaRule, RegisterRule};
 use framehop_cfi::storage::UnwindContextStorage;

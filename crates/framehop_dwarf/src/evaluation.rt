@@ -9,7 +9,7 @@ ghost use Rattle.framehop_dwarf.specs.Refusal.{Leaves, Returns, Reaches};
 
 use crate::operation::{BinaryOperation, Operation, UnaryOperation, read_operation};
 use arrayvec::ArrayVec;
-use framehop_bytes::read_error::ReadError;
+use framehop_cfi::read_error::ReadError;
 use framehop_cfi::rule::{Expression, Register};
 use framehop_cfi::storage::{StoreOnHeap, StoreOnStack};
 use std::alloc::{AllocError, Global};

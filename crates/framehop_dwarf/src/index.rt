@@ -1,28 +1,29 @@
 //! An index of a section's FDEs by their starts, for a section that has no table of its own.
 //!
-//! The pairs of a start and an offset are sorted in place, as one number each. Beside them are counted the pairs
-//! that start before each block of 2^n addresses, so that a look-up halves the pairs of one block. An entry that
-//! can't be read is passed over; only lengths that do not cut the section to its end refuse the index.
-ghost use Rattle.std.specs.Prelude.{◌≡◌, ◌≢◌, ◌+◌, ◌^◌, ◌<◌, ◌≤◌, length, map, IfOk, IfErr, Ok, Err, false, IsPermutation};
+//! The pairs of a start and an offset are one vector, a binary search tree that is stored level by level. A second
+//! vector has, for each block of 2^n addresses, a place of the tree that the search for each of them comes to: a look-up
+//! begins there.
+//! An entry that can't be read is passed over; only lengths that do not cut the section to its end refuse the index.
+ghost use Rattle.std.specs.Prelude.{◌≡◌, ◌≢◌, ◌+◌, ◌^◌, ◌<◌, ◌≤◌, ◌*◌, ◌-◌, length, map, IfOk, IfErr, Ok, Err, false, IsPermutation};
 ghost use Rattle.framehop_cfi.specs.Section.{section_of};
 ghost use Rattle.framehop_cfi.specs.EntryExtent.{extent_at, is_zero_length};
 ghost use Rattle.framehop_cfi.specs.Entry.{cie_at, head_at, fde_of_head};
 ghost use Rattle.framehop_dwarf.specs.Index.{pair_of, pair_if_read, pair_at, pairs_of, pair_of_key, fde_offset_for, IsFdeFor, IsKnown, IsIndexOf, IsIndexOfAll, IsIndexRefusal, HasNoIndex};
-ghost use Rattle.framehop_dwarf.specs.Blocks.{last_start, halvings, IsAscending, AreBelow, AreFrom, IsCountBelow, IsBlockShift, AreBlocks, IsSearched, IsLookedAt, IsWithinDigits};
+ghost use Rattle.framehop_dwarf.specs.Tree.{left_to_right, looked_at, IsAscending, IsWithinDigits, IsSearchTree, IsOnPath, AreShortcuts, StartUpTo, AreTops};
 ghost use Rattle.framehop_dwarf.specs.declared.index.DwarfCfiIndexError.TheVariants.{Gimli};
-ghost use Rattle.framehop_bytes.specs.declared.read_error.ReadError.TheVariants.{OutOfMemory};
+ghost use Rattle.framehop_cfi.specs.declared.read_error.ReadError.TheVariants.{OutOfMemory};
 ghost use Rattle.framehop_dwarf.specs.Bases.{section_in};
 ghost use Rattle.framehop_cfi.specs.declared.entry.UnwindSectionType.TheVariants.{EhFrame, DebugFrame};
 ghost use Rattle.framehop_cfi.specs.declared.entry.EntryHead.TheVariants.{Fde};
 
 use crate::bases::base_addresses_for_sections;
-use framehop_bytes::read_error::ReadError;
 use framehop_bytes::section::ModuleSectionInfo;
 use framehop_cfi::entry::{
     CommonInformationEntry, EntryHead, FrameDescriptionEntry, UnwindSection, UnwindSectionType,
 };
 use framehop_cfi::extent::{EntryExtent, read_extent};
 use framehop_cfi::pointer::BaseAddresses;
+use framehop_cfi::read_error::ReadError;
 use std::alloc::{AllocError, Global};
 use std::marker::Model;
 use thiserror::Error;
@@ -172,7 +173,7 @@ fn read_keys(
     base_svma: u64,
 ) -> Result<Vec<u64>, DwarfCfiIndexError>
     ensures read { IfOk result (λ keys. pairs_of section.now base_svma ≡ Ok (map pair_of_key keys.items)) }
-    ensures few { IfOk result (λ keys. length keys.items ≤ 2 ^ 32) }
+    ensures few { IfOk result (λ keys. length keys.items ≤ 2 ^ 30) }
     ensures lengths { IfErr result IsIndexRefusal }
     ensures first { IfErr result (λ error. error ≢ Gimli OutOfMemory → pairs_of section.now base_svma ≡ Err error) }
 {
@@ -204,28 +205,30 @@ fn read_keys(
     Ok(keys)
 }
 
-/// An index of a section's FDEs: pairs of a start relative to the base address and an offset, in order, with their
-/// places by blocks of addresses.
+/// An index of a section's FDEs: pairs of a start relative to the base address and an offset, as a search tree by
+/// levels.
 #[derive(Drop)]
 pub struct DwarfCfiIndex {
-    /// The pairs in order, as keys.
-    keys: Vec<u64>,
+    /// The pairs. Under place `2 * i + 1` is what comes before the pair at place `i`, and under `2 * i + 2` what comes
+    /// after it. Only the last level can have room left, at its right end. Of equal starts the one that is first in the
+    /// section comes first.
+    tree: Vec<(u32, u32)>,
     /// How many addresses a block has, as a power of two.
     shift: u32,
-    /// Of each block of addresses, from 0 to that in which the last pair starts, how many pairs start before it.
-    blocks: Vec<u32>,
+    /// For each block of addresses, from 0 to the one in which the last pair starts, a place of the tree that the
+    /// search for each of its addresses comes to.
+    shortcuts: Vec<u32>,
 }
 
 impl Model for DwarfCfiIndex {
-    ghost use Rattle.std.specs.Prelude.{List, ℕ, map};
-    ghost use Rattle.framehop_dwarf.specs.Index.{pair_of_key};
-    ghost use Rattle.framehop_dwarf.specs.Blocks.{AreInBlocks};
+    ghost use Rattle.std.specs.Prelude.{List, ℕ};
+    ghost use Rattle.framehop_dwarf.specs.Tree.{IsTreeWithShortcuts};
 
     ghost Value = { List (ℕ × ℕ) };
 
-    ghost view = { λ index. map pair_of_key index.keys.items };
+    ghost view = { λ index. index.tree.items };
 
-    ghost invariant = { λ index. AreInBlocks (map pair_of_key index.keys.items) index.shift index.blocks.items };
+    ghost invariant = { λ index. IsTreeWithShortcuts index.tree.items index.shift index.shortcuts.items };
 }
 
 impl DwarfCfiIndex {
@@ -313,130 +316,269 @@ impl DwarfCfiIndex {
     pub fn len(&self) -> usize
         ensures { result ≡ length self.now }
     {
-        self.keys.len()
+        self.tree.len()
     }
 
-    /// Returns the offset of the FDE with the greatest start at or below a relative address; among equal starts
-    /// that of the last in the section.
+    /// Returns the offset of the FDE that starts last of those that start at a relative address or before it; where
+    /// several start there, that of the last in the section.
+    ///
+    /// The search is that of `lookup_counted`, but begins at the place to which that comes for each address of the
+    /// block.
     pub fn fde_offset_for_relative_address(&self, rel_lookup_address: u32) -> Option<u32>
         ensures exact { result ≡ fde_offset_for self.now rel_lookup_address }
         ensures law { IsFdeFor self.now rel_lookup_address result }
     {
-        self.lookup_counted(rel_lookup_address).0
+        let begin = self.shortcut(rel_lookup_address);
+        let end = descend(&self.tree, rel_lookup_address, begin);
+        found_before(&self.tree, rel_lookup_address, end)
     }
 
-    /// Returns the same offset, and the number of pairs that the search looked at: at most the number of binary
-    /// digits of the table's length, and 0 for an empty table.
+    /// Returns the same offset, and the number of pairs that the search from place 0 of the tree looks at: at most as
+    /// many as `len` has binary digits, and 0 where there is no pair.
     pub fn lookup_counted(&self, rel_lookup_address: u32) -> (Option<u32>, u32)
         ensures exact { result.0 ≡ fde_offset_for self.now rel_lookup_address }
-        ensures counted { IsLookedAt self.now rel_lookup_address result.1 }
+        ensures counted { result.1 ≡ looked_at self.now rel_lookup_address (length self.now) 0 }
         ensures few { IsWithinDigits result.1 (length self.now) }
     {
-        let (begin, end) = self.searched(rel_lookup_address);
-        let (place, count) = halve(&self.keys, rel_lookup_address, begin, end);
-        if place == 0 {
-            return (None, count);
-        }
-        let (_, offset) = pair_of_key(self.keys[place - 1]);
-        (Some(offset), count)
+        search(&self.tree, rel_lookup_address)
     }
 
-    /// Returns the places between which the pairs start that are in the block of an address, or in the last block.
-    fn searched(&self, address: u32) -> (usize, usize)
-        ensures { IsSearched self.now address result.0 result.1 }
+    /// Returns a place of the tree that the search for an address comes to.
+    fn shortcut(&self, address: u32) -> usize
+        ensures { IsOnPath self.now address result }
     {
-        let Some(last) = self.blocks.len().checked_sub(1) else {
-            return (0, 0);
-        };
+        let last = self.shortcuts.len() - 1;
         let block = (address >> self.shift) as usize;
-        if block < last {
-            (self.blocks[block] as usize, self.blocks[block + 1] as usize)
-        } else {
-            (self.blocks[last] as usize, self.keys.len())
-        }
+        self.shortcuts[block.min(last)] as usize
     }
 
     /// Returns the index of the pairs of these keys, in any order.
     fn from_keys(alloc: Global, mut keys: Vec<u64>) -> Result<Self, AllocError>
-        requires { length keys.items ≤ 2 ^ 32 }
+        requires { length keys.items ≤ 2 ^ 30 }
         ensures only { IfOk result (λ index. IsPermutation (map pair_of_key keys.items) index) }
-        ensures ordered { IfOk result (λ index. IsAscending index) }
+        ensures tree { IfOk result (λ index. IsSearchTree index) }
     {
         keys.sort_unstable();
-        let shift = block_shift(&keys);
-        let blocks = block_counts(alloc, &keys, shift)?;
+        let tree = fill(alloc, &keys)?;
+        let last_start = last_start(&keys);
+        let shift = block_shift(last_start, keys.len());
+        let shortcuts = shortcuts_of(alloc, &tree, last_start, shift)?;
         Ok(DwarfCfiIndex {
-            keys,
+            tree,
             shift,
-            blocks,
+            shortcuts,
         })
     }
 }
 
-/// Returns how many addresses a block has, as a power of two, by the last of sorted keys and their number.
-fn block_shift(keys: &[u64]) -> u32
-    ensures sized { IsBlockShift (last_start (map pair_of_key keys.now)) (length keys.now) result }
-    ensures small { result < 32 }
+/// Returns where the last pair of sorted keys starts, or 0.
+fn last_start(keys: &[u64]) -> u32
+    requires { IsAscending (map pair_of_key keys.now) }
+    ensures { StartUpTo (map pair_of_key keys.now) result }
 {
-    let Some(last) = keys.last() else {
-        return 0;
-    };
-    let (start, _) = pair_of_key(*last);
-    if start == 0 {
-        return 0;
+    match keys.last() {
+        Some(last) => pair_of_key(*last).0,
+        None => 0,
     }
-    start.ilog2().saturating_sub(keys.len().ilog2())
 }
 
-/// Returns of each block of 2^shift addresses, up to that in which the last pair starts, how many pairs of sorted
-/// keys start before it.
-fn block_counts(alloc: Global, keys: &[u64], shift: u32) -> Result<Vec<u32>, AllocError>
-    requires ordered { IsAscending (map pair_of_key keys.now) }
-    requires few { length keys.now ≤ 2 ^ 32 }
+/// Returns how many addresses a block has, as a power of two, so that there are between half a block and two of them
+/// a pair.
+fn block_shift(last_start: u32, count: usize) -> u32
+    ensures { result < 32 }
+{
+    if last_start == 0 || count == 0 {
+        return 0;
+    }
+    last_start.ilog2().saturating_sub(count.ilog2())
+}
+
+/// Marks a block in which no pair starts: greater than each place of a tree.
+const NO_PAIR: u32 = u32::MAX;
+
+/// Returns, for each block of 2^shift addresses up to the one in which the last pair starts, a place of the tree that
+/// the search for each of them comes to: the first from which it may go on in two ways, or else its end.
+fn shortcuts_of(
+    alloc: Global,
+    tree: &[(u32, u32)],
+    last_start: u32,
+    shift: u32,
+) -> Result<Vec<u32>, AllocError>
+    requires tree { IsSearchTree tree.now }
+    requires few { length tree.now ≤ 2 ^ 30 }
+    requires last { StartUpTo tree.now last_start }
     requires small { shift < 32 }
-    ensures { IfOk result (λ blocks. AreBlocks (map pair_of_key keys.now) shift blocks.items) }
+    ensures { IfOk result (λ shortcuts. AreShortcuts tree.now shift shortcuts.items) }
 {
-    let Some(last) = keys.last() else {
-        return Ok(Vec::new(alloc));
-    };
-    let (last_start, _) = pair_of_key(*last);
-    let block_count = (last_start >> shift) as usize + 1;
-    let mut counts = Vec::with_capacity(alloc, block_count)?;
-    let mut place = 0;
-    for block in 0..block_count {
-        let start = (block as u64) << shift;
-        while keys[place] / START_UNIT < start {
-            place += 1;
+    let mut places = tops_of(alloc, tree, last_start, shift)?;
+    let mut before = 0;
+    for block in 0..places.len() {
+        if places[block] == NO_PAIR {
+            // from the place of the block before, the search goes one way for all addresses of this block
+            places[block] = descend(tree, (block as u32) << shift, before) as u32;
         }
-        counts.push(place as u32)?;
+        before = places[block] as usize;
     }
-    Ok(counts)
+    Ok(places)
 }
 
-/// Returns how many pairs of sorted keys start at or below an address, where those before a place do and those from
-/// another on don't, and the number of pairs that the search between these places looks at.
-fn halve(keys: &[u64], address: u32, begin: usize, end: usize) -> (usize, u32)
-    requires ordered { IsAscending (map pair_of_key keys.now) }
-    requires within { (begin ≤ length keys.now) × (end ≤ length keys.now) }
-    requires below { AreBelow (map pair_of_key keys.now) begin (address + 1) }
-    requires above { AreFrom (map pair_of_key keys.now) end (address + 1) }
-    ensures place { IsCountBelow (map pair_of_key keys.now) (address + 1) result.0 }
-    ensures counted { result.1 ≡ halvings (map pair_of_key keys.now) address (length keys.now) begin end }
-    ensures few { IsWithinDigits result.1 (length keys.now) }
+/// Returns for each block the least place whose pair starts in it, or `NO_PAIR`. All other pairs of the block are under
+/// that place, so the search for each address of the block comes to it.
+fn tops_of(
+    alloc: Global,
+    tree: &[(u32, u32)],
+    last_start: u32,
+    shift: u32,
+) -> Result<Vec<u32>, AllocError>
+    requires few { length tree.now ≤ 2 ^ 30 }
+    requires last { StartUpTo tree.now last_start }
+    requires small { shift < 32 }
+    ensures { IfOk result (λ tops. AreTops tree.now shift last_start 0 (2 ^ 32 - 1) tops.items) }
 {
-    // of the keys whose pairs start at the address, the greatest that there can be
-    let greatest = u64::from(address) * START_UNIT + (START_UNIT - 1);
-    let mut low = begin;
-    let mut high = end;
-    let mut count: u32 = 0;
-    while low < high {
-        let middle = (low + high) / 2;
-        if keys[middle] <= greatest {
-            low = middle + 1;
-        } else {
-            high = middle;
+    let mut tops = Vec::new(alloc);
+    tops.resize((last_start >> shift) as usize + 1, NO_PAIR)?;
+    let mut place = tree.len();
+    while place > 0 {
+        place -= 1;
+        let block = (tree[place].0 >> shift) as usize;
+        tops[block] = place as u32;
+    }
+    Ok(tops)
+}
+
+/// How many turns a search takes before it is asked whether it has ended. Most look-ups need no more from their
+/// shortcut on, and a processor can't foresee which turn is the last.
+const TURNS: usize = 4;
+
+/// Returns the end of the search for an address, which is a place past the tree, from a place that it comes to.
+fn descend(tree: &[(u32, u32)], address: u32, begin: usize) -> usize
+    requires { IsOnPath tree.now address begin }
+    ensures on { IsOnPath tree.now address result }
+    ensures end { length tree.now ≤ result }
+{
+    if tree.is_empty() {
+        return begin;
+    }
+    let mut place = begin;
+    for _turn in 0..TURNS {
+        place = next_place(tree, address, place);
+    }
+    while place < tree.len() {
+        place = next_place(tree, address, place);
+    }
+    place
+}
+
+/// Returns the place that the search for an address goes to from one that it comes to, or that one where the search
+/// has ended; without branches, which a processor could not foresee.
+#[inline(always)]
+fn next_place(tree: &[(u32, u32)], address: u32, place: usize) -> usize
+    requires some { 0 < length tree.now }
+    requires on { IsOnPath tree.now address place }
+    ensures on { IsOnPath tree.now address result }
+    ensures further { place < length tree.now → place < result }
+{
+    let inside = place.min(tree.len() - 1);
+    let next = 2 * inside + 2 - usize::from(address < tree[inside].0);
+    if place < tree.len() { next } else { place }
+}
+
+/// Returns the offset of the last pair at or below an address, by the end of the search for it.
+///
+/// Counted from 1, the two places under place `n` are `2 * n` and `2 * n + 1`. So the binary digits of the end, after
+/// the first one, are the ways that the search took: 1 where the pair was at or below the address. The last such pair
+/// is the one from which the last 1 was taken, and the digits before that 1 are its place.
+fn found_before(tree: &[(u32, u32)], address: u32, end: usize) -> Option<u32>
+    requires tree { IsAscending (left_to_right tree.now) }
+    requires on { IsOnPath tree.now address end }
+    requires end { length tree.now ≤ end }
+    ensures { result ≡ fde_offset_for tree.now address }
+{
+    let number = end + 1;
+    let found = (number >> number.trailing_zeros()) / 2;
+    if found == 0 {
+        return None;
+    }
+    Some(tree[found - 1].1)
+}
+
+/// Returns the pairs of sorted keys as a search tree by levels.
+///
+/// The loop goes through the levels: `width` is the number of places of one, and `within` of those to the left of
+/// the next. In a tree whose last level is full that is the place `left` from left to right, counted from 1. There
+/// every other place is of the last level, of which only `last_level` are here.
+fn fill(alloc: Global, keys: &[u64]) -> Result<Vec<(u32, u32)>, AllocError>
+    ensures { IfOk result (λ tree. left_to_right tree.items ≡ map pair_of_key keys.now) }
+{
+    let count = keys.len();
+    let mut tree = Vec::with_capacity(alloc, count)?;
+    if count == 0 {
+        return Ok(tree);
+    }
+    let half = 2usize.pow(count.ilog2());
+    let last_level = count - half + 1;
+    let mut width = 1;
+    let mut step = half;
+    let mut within = 0;
+    for _place in 0..count {
+        if within == width {
+            width *= 2;
+            step /= 2;
+            within = 0;
         }
+        let left = 2 * within * step + step;
+        let rank = (left - 1) / 2 + (left / 2).min(last_level);
+        tree.push(pair_of_key(keys[rank]))?;
+        within += 1;
+    }
+    Ok(tree)
+}
+
+/// Returns the offset of the last pair at or below an address, and the number of pairs looked at.
+fn search(tree: &[(u32, u32)], address: u32) -> (Option<u32>, u32)
+    requires { IsAscending (left_to_right tree.now) }
+    ensures exact { result.0 ≡ fde_offset_for tree.now address }
+    ensures counted { result.1 ≡ looked_at tree.now address (length tree.now) 0 }
+    ensures few { IsWithinDigits result.1 (length tree.now) }
+{
+    let mut place = 0;
+    let mut found = None;
+    let mut count: u32 = 0;
+    while place < tree.len() {
+        let is_found = tree[place].0 <= address;
+        if is_found {
+            found = Some(place);
+        }
+        // not by a branch, which a processor could not foresee
+        place = 2 * place + 1 + usize::from(is_found);
         count += 1;
     }
-    (low, count)
+    match found {
+        Some(place) => (Some(tree[place].1), count),
+        None => (None, count),
+    }
+}
+
+#[cfg(test)]
+mod tests {
+    use super::*;
+    use std::test::Fail;
+
+    /// The pairs are stored level by level, and searches from the first place look at so many of them.
+    #[test]
+    fn stands_as_a_tree(rt: HostRuntime) -> Result<(), Fail> {
+        let keys = [
+            key_of((0x10, 24)),
+            key_of((0x20, 52)),
+            key_of((0x20, 80)),
+            key_of((0x30, 108)),
+        ];
+        let index = DwarfCfiIndex::from_keys(rt.alloc(), Vec::from_slice(rt.alloc(), &keys)?)?;
+        let tree = [(0x20, 80), (0x20, 52), (0x30, 108), (0x10, 24)];
+        assert_eq!(rt; index.tree.as_slice(), tree.as_slice());
+        assert_eq!(rt; index.lookup_counted(0x2f), (Some(80), 2));
+        assert_eq!(rt; index.lookup_counted(0x10), (Some(24), 3));
+        assert_eq!(rt; index.lookup_counted(0x0f), (None, 3));
+        Ok(())
+    }
 }

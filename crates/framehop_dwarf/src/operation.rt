@@ -3,9 +3,9 @@
 ghost use Rattle.std.specs.Prelude.{◌≡◌};
 ghost use Rattle.framehop_dwarf.specs.Operation.{constant_at, unary_of, binary_of, plain_of, coded_at, operation_at, offset_at, register_offset_at, jump_at, changed, combined, quotient, shifted_right, bit_of, compared};
 
-use framehop_bytes::bytes::{read_u8, read_u16, read_u32, read_u64};
-use framehop_bytes::read_error::ReadError;
 use framehop_cfi::leb128::{read_sleb128, read_uleb128};
+use framehop_cfi::numbers::{read_u8, read_u16, read_u32, read_u64};
+use framehop_cfi::read_error::ReadError;
 use framehop_cfi::rule::Register;
 
 /// An operation on the top value.

@@ -12,11 +12,11 @@ ghost use Rattle.framehop_dwarf.specs.Told.{out_of_memory, IsOfValues, NeedsNoSt
 
 use crate::dwarf::{DwarfUnwinderError, DwarfUnwinding};
 use crate::evaluation::EvaluationStorage;
-use framehop_bytes::read_error::ReadError;
 use framehop_cfi::context::UnwindContext;
 use framehop_cfi::entry::{UnwindSection, UnwindSectionType};
 use framehop_cfi::header::EhFrameHdr;
 use framehop_cfi::pointer::{BaseAddresses, SectionBaseAddresses};
+use framehop_cfi::read_error::ReadError;
 use framehop_cfi::storage::UnwindContextStorage;
 use framehop_core::unwind_result::UnwindResult;
 use std::alloc::Global;

@@ -5,9 +5,9 @@ use crate::sections::{
     CUT_DEBUG_FRAME, DEBUG_FRAME, FOUR_FDES, GREAT_LENGTH, ONE_FDE, OTHER_AUGMENTATION, OTHER_CIE,
     OTHER_VERSION, RESERVED_LENGTH, TWO_FDES, at,
 };
-use framehop_bytes::read_error::ReadError;
 use framehop_bytes::section::ModuleSectionInfo;
 use framehop_cfi::entry::UnwindSectionType;
+use framehop_cfi::read_error::ReadError;
 use framehop_dwarf::index::{DwarfCfiIndex, DwarfCfiIndexError};
 use std::alloc::Global;
 use std::ops::Range;
@@ -25,26 +25,23 @@ const CUT_OFF: Found = Err(DwarfCfiIndexError::Gimli(ReadError::Eof));
 /// A section that begins at an address, and the base address of its module; then an address, and what is found.
 type LookUp = (UnwindSectionType, &'static [u8], u64, u64, u32, Found);
 
-const LOOK_UPS: [LookUp; 25] = [
-    // The logarithms of 0x30 and 4 are 5 and 2, so a block has 2^3 addresses, and there are seven. The pairs are at the
-    // places 0 to 3, and 0, 0, 0, 1, 1, 3 and 3 of them start before each block. Of a block with one pair that one is
-    // looked at, and of the one with two (from 0x20 on) the second, after which none is left.
-    (EH_FRAME, &FOUR_FDES, 0x2000, 0, 0, Ok((None, 0))),
-    (EH_FRAME, &FOUR_FDES, 0x2000, 0, 0x0f, Ok((None, 0))),
-    (EH_FRAME, &FOUR_FDES, 0x2000, 0, 0x10, Ok((Some(24), 1))),
-    (EH_FRAME, &FOUR_FDES, 0x2000, 0, 0x17, Ok((Some(24), 1))),
-    (EH_FRAME, &FOUR_FDES, 0x2000, 0, 0x1f, Ok((Some(24), 0))),
-    (EH_FRAME, &FOUR_FDES, 0x2000, 0, 0x20, Ok((Some(80), 1))),
-    (EH_FRAME, &FOUR_FDES, 0x2000, 0, 0x2f, Ok((Some(80), 0))),
-    (EH_FRAME, &FOUR_FDES, 0x2000, 0, 0x30, Ok((Some(108), 1))),
-    (EH_FRAME, &FOUR_FDES, 0x2000, 0, 0x38, Ok((Some(108), 1))),
+const LOOK_UPS: [LookUp; 24] = [
+    // The tree is (0x20, 80) over (0x20, 52) and (0x30, 108), with (0x10, 24) under the first of these.
+    (EH_FRAME, &FOUR_FDES, 0x2000, 0, 0, Ok((None, 3))),
+    (EH_FRAME, &FOUR_FDES, 0x2000, 0, 0x0f, Ok((None, 3))),
+    (EH_FRAME, &FOUR_FDES, 0x2000, 0, 0x10, Ok((Some(24), 3))),
+    (EH_FRAME, &FOUR_FDES, 0x2000, 0, 0x1f, Ok((Some(24), 3))),
+    (EH_FRAME, &FOUR_FDES, 0x2000, 0, 0x20, Ok((Some(80), 2))),
+    (EH_FRAME, &FOUR_FDES, 0x2000, 0, 0x2f, Ok((Some(80), 2))),
+    (EH_FRAME, &FOUR_FDES, 0x2000, 0, 0x30, Ok((Some(108), 2))),
+    (EH_FRAME, &FOUR_FDES, 0x2000, 0, 0x38, Ok((Some(108), 2))),
     (
         EH_FRAME,
         &FOUR_FDES,
         0x2000,
         0,
         0xffff_ffff,
-        Ok((Some(108), 1)),
+        Ok((Some(108), 2)),
     ),
     (EH_FRAME, &[0, 0, 0, 0], 0x2000, 0, 0x1000, Ok((None, 0))),
     (EH_FRAME, &TWO_FDES, 0x2000, 0, 0x1000, Ok((Some(52), 1))),
@@ -78,8 +75,8 @@ const LOOK_UPS: [LookUp; 25] = [
         0xffff_ffff,
         Ok((Some(24), 1)),
     ),
-    (DEBUG, &OTHER_AUGMENTATION, 0, 0, 0x1000, Ok((None, 0))),
-    (DEBUG, &OTHER_AUGMENTATION, 0, 0, 0x1fff, Ok((None, 0))),
+    (DEBUG, &OTHER_AUGMENTATION, 0, 0, 0x1000, Ok((None, 1))),
+    (DEBUG, &OTHER_AUGMENTATION, 0, 0, 0x1fff, Ok((None, 1))),
     (DEBUG, &OTHER_AUGMENTATION, 0, 0, 0x2000, Ok((Some(73), 1))),
     (
         EH_FRAME,
@@ -146,49 +143,45 @@ fn index_of_starts(alloc: Global, starts: &[u64]) -> Result<DwarfCfiIndex, Fail>
     Ok(DwarfCfiIndex::try_new(alloc, section.as_slice(), DEBUG, at(0), 0)?)
 }
 
-/// Starts in the order of a section; then an address, its offset, and how many pairs the look-up looks at.
-type Halved = (&'static [u64], u32, Option<u32>, u32);
+/// Starts in the order of a section; then an address, its offset, and how many pairs the search from index 0 looks at.
+type Searched = (&'static [u64], u32, Option<u32>, u32);
 
 const EIGHT: [u64; 8] = [0x1_0000, 0x106, 0x105, 0x104, 0x103, 0x102, 0x101, 0x100];
 
-const HALVED: [Halved; 21] = [
-    // The logarithms of 0x10000 and 8 are 16 and 3, so a block has 2^13 addresses: the first block has the places 0 to
-    // 6, the last of nine the place 7. Looked at are the places 3, 1 and 0, each above the address.
-    (&EIGHT, 0, None, 3),
-    // 3, 1, and 0, which starts at it
-    (&EIGHT, 0x100, Some(244), 3),
-    // 3, which starts at it, then 5 and 4
+const SEARCHED: [Searched; 21] = [
+    // The logarithms of 0x10000 and 8 are 16 and 3, so a block has 2^13 addresses. In the first block start seven pairs,
+    // of which that of 0x103 (offset 148) is at index 1. At index 0 is that of 0x104 (116): the least index.
+    (&EIGHT, 0, None, 4),
+    (&EIGHT, 0x100, Some(244), 4),
     (&EIGHT, 0x103, Some(148), 3),
-    // 3, 5 and 6
     (&EIGHT, 0x106, Some(52), 3),
     (&EIGHT, 0x1fff, Some(52), 3),
     // blocks without a pair
-    (&EIGHT, 0x2000, Some(52), 0),
-    (&EIGHT, 0xffff, Some(52), 0),
+    (&EIGHT, 0x2000, Some(52), 3),
+    (&EIGHT, 0xffff, Some(52), 3),
     // the last block, and after it
-    (&EIGHT, 0x1_0000, Some(20), 1),
-    (&EIGHT, 0x1_2000, Some(20), 1),
+    (&EIGHT, 0x1_0000, Some(20), 3),
+    (&EIGHT, 0x1_2000, Some(20), 3),
     // a block has one address, and there is one block
     (&[0], 0, Some(20), 1),
     (&[0], 1, Some(20), 1),
     (&[0], 0xffff_ffff, Some(20), 1),
-    // A block has 2^(12 - 1) addresses, so the last of three begins at 0x1000. Looked at are the second pair, and then
-    // the third.
-    (&[0x1000, 0x1000, 0x1000], 0xfff, None, 0),
+    // a block has 2^(12 - 1) addresses, so the last of three begins at 0x1000
+    (&[0x1000, 0x1000, 0x1000], 0xfff, None, 2),
     (&[0x1000, 0x1000, 0x1000], 0x1000, Some(84), 2),
     (&[0x1000, 0x1000, 0x1000], 0x2000, Some(84), 2),
     // a block has 2^(31 - 1) addresses, so there are four
-    (&[0xffff_ffff, 0], 0, Some(52), 1),
-    (&[0xffff_ffff, 0], 0x3fff_ffff, Some(52), 1),
-    (&[0xffff_ffff, 0], 0x4000_0000, Some(52), 0),
-    (&[0xffff_ffff, 0], 0xc000_0000, Some(52), 1),
-    (&[0xffff_ffff, 0], 0xffff_fffe, Some(52), 1),
+    (&[0xffff_ffff, 0], 0, Some(52), 2),
+    (&[0xffff_ffff, 0], 0x3fff_ffff, Some(52), 2),
+    (&[0xffff_ffff, 0], 0x4000_0000, Some(52), 2),
+    (&[0xffff_ffff, 0], 0xc000_0000, Some(52), 2),
+    (&[0xffff_ffff, 0], 0xffff_fffe, Some(52), 2),
     (&[0xffff_ffff, 0], 0xffff_ffff, Some(20), 1),
 ];
 
 #[test]
-fn halves_a_block(rt: HostRuntime) -> Result<(), Fail> {
-    for (starts, address, offset, count) in HALVED {
+fn searches_a_tree(rt: HostRuntime) -> Result<(), Fail> {
+    for (starts, address, offset, count) in SEARCHED {
         let index = index_of_starts(rt.alloc(), starts)?;
         let found = index.lookup_counted(address);
         assert_eq!(rt; found, (offset, count), "{starts:?} at {address:x}");
@@ -248,12 +241,33 @@ impl ModuleSectionInfo<Vec<u8>> for Sections {
     }
 }
 
-#[test]
-fn index_by_section_info(rt: HostRuntime) -> Result<(), Fail> {
+/// The offsets of the FDEs that an index has for an address below its FDE, at its start, and at its end.
+fn offsets_around(index: &DwarfCfiIndex) -> [Option<u32>; 3] {
+    [0xfff, 0x1000, 0x1020].map(|address| index.fde_offset_for_relative_address(address))
+}
+
+/// The same by the index of an `.eh_frame`.
+fn offsets_in_eh_frame(alloc: Global) -> Result<[Option<u32>; 3], DwarfCfiIndexError> {
     let mut sections = Sections { eh_frame: 0x2000 };
-    let index = DwarfCfiIndex::try_new_eh_frame(rt.alloc(), &ONE_FDE, &mut sections)?;
-    assert_eq!(rt; index.fde_offset_for_relative_address(0x1000), Some(24));
-    let index = DwarfCfiIndex::try_new_debug_frame(rt.alloc(), &DEBUG_FRAME, &mut sections)?;
-    assert_eq!(rt; index.fde_offset_for_relative_address(0x1000), Some(20));
-    Ok(())
+    let index = DwarfCfiIndex::try_new_eh_frame(alloc, &ONE_FDE, &mut sections)?;
+    Ok(offsets_around(&index))
+}
+
+/// The same by the index of a `.debug_frame`.
+fn offsets_in_debug_frame(alloc: Global) -> Result<[Option<u32>; 3], DwarfCfiIndexError> {
+    let mut sections = Sections { eh_frame: 0x2000 };
+    let index = DwarfCfiIndex::try_new_debug_frame(alloc, &DEBUG_FRAME, &mut sections)?;
+    Ok(offsets_around(&index))
+}
+
+#[test]
+fn index_by_section_info(rt: HostRuntime) {
+    assert_eq!(rt;
+        offsets_in_eh_frame(rt.alloc()),
+        Ok([None, Some(24), Some(24)])
+    );
+    assert_eq!(rt;
+        offsets_in_debug_frame(rt.alloc()),
+        Ok([None, Some(20), Some(20)])
+    );
 }

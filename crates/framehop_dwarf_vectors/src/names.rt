@@ -1,6 +1,6 @@
 //! The texts of errors.
-use framehop_bytes::read_error::ReadError;
 use framehop_cfi::dwarf_error::DwarfUnwinderError;
+use framehop_cfi::read_error::ReadError;
 use framehop_dwarf::index::DwarfCfiIndexError;
 use std::test::Fail;
 

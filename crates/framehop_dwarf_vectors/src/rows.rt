@@ -1,8 +1,8 @@
 //! Refusals of entries and of rows, by the name that the call returns.
 use crate::sections::{FOUR_REMEMBERED, NONE_REMEMBERED, ONE_FDE, THREE_REMEMBERED, at};
-use framehop_bytes::read_error::ReadError;
 use framehop_cfi::context::UnwindContext;
 use framehop_cfi::entry::{UnwindSection, UnwindSectionType};
+use framehop_cfi::read_error::ReadError;
 use framehop_cfi::storage::{StoreOnHeap, StoreOnStack, UnwindContextStorage};
 use std::alloc::{AllocError, Global};
 use std::test::Fail;

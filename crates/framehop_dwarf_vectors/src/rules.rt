@@ -1,12 +1,54 @@
-//! The value of a register by a rule, and expressions that do not lie in the bytes.
-use framehop_bytes::read_error::ReadError;
-use framehop_cfi::rule::{Expression, Register, RegisterRule};
-use framehop_cfi::storage::StoreOnHeap;
+//! The CFA by an expression, the value of a register by a rule, and expressions that do not lie in the bytes.
+use framehop_cfi::read_error::ReadError;
+use framehop_cfi::rule::{CfaRule, Expression, Register, RegisterRule};
+use framehop_cfi::storage::{StoreOnHeap, StoreOnStack};
 use framehop_core::x86_64::UnwindRegsX86_64;
-use framehop_dwarf::dwarf::eval_register_rule;
-use framehop_dwarf::evaluation::evaluate;
+use framehop_dwarf::dwarf::{eval_cfa_rule, eval_register_rule};
+use framehop_dwarf::evaluation::{EvaluationStorage, evaluate};
 use std::alloc::Global;
 use std::test::Fail;
+
+/// The CFA in a procedure linkage table: rsp + 8, and 8 more where the last four bits of rip are at least 11.
+const LINKAGE_TABLE: [u8; 11] = [
+    0x77, 0x08, 0x80, 0x00, 0x3f, 0x1a, 0x3b, 0x2a, 0x33, 0x24, 0x22,
+];
+
+/// `DW_OP_lit0`, so many times.
+const ZEROS: [u8; 64] = [0x30; 64];
+
+const ONE_MORE: [u8; 65] = [0x30; 65];
+
+/// An expression, the instruction pointer, and the CFA with room on the stack and on the heap.
+type Cfa = (&'static [u8], u64, Option<u64>, Option<u64>);
+
+const CFAS: [Cfa; 4] = [
+    (&LINKAGE_TABLE, 0x100a, Some(0x108), Some(0x108)),
+    (&LINKAGE_TABLE, 0x100b, Some(0x110), Some(0x110)),
+    (&ZEROS, 0x1000, Some(0), Some(0)),
+    (&ONE_MORE, 0x1000, None, Some(0)),
+];
+
+fn cfa_by<E: EvaluationStorage>(
+    alloc: Global,
+    section: &[u8],
+    ip: u64,
+) -> Result<Option<u64>, ReadError> {
+    let regs = UnwindRegsX86_64::new(ip, 0x100, 0x200);
+    let rule = CfaRule::Expression(Expression {
+        start: 0,
+        end: section.len(),
+    });
+    eval_cfa_rule::<UnwindRegsX86_64, E>(alloc, section, &rule, &regs)
+}
+
+#[test]
+fn cfas_by_expressions(rt: HostRuntime) -> Result<(), Fail> {
+    for (section, ip, on_stack, on_heap) in CFAS {
+        assert_eq!(rt; cfa_by::<StoreOnStack>(rt.alloc(), section, ip)?, on_stack);
+        assert_eq!(rt; cfa_by::<StoreOnHeap>(rt.alloc(), section, ip)?, on_heap);
+    }
+    Ok(())
+}
 
 /// `DW_OP_plus_uconst 8`.
 const PLUS_8: [u8; 2] = [0x23, 0x08];

@@ -3,7 +3,7 @@ use Rattle.std.specs.Prelude.{ℕ, List, [], ◌∷◌, Option, None, option_and
 use Rattle.std.specs.Option.{option_or}
 use Rattle.std.specs.Result.{result_ok}
 use Rattle.framehop_elf.specs.Numbers.{PT_NOTE, SHT_NOTE}
-use Rattle.framehop_elf.specs.Bytes.{block_at}
+use Rattle.framehop_elf.specs.Block.{block_at}
 use Rattle.framehop_elf.specs.Section.{contents_of}
 use Rattle.framehop_elf.specs.Note.{build_id_of}
 use Rattle.framehop_elf.specs.declared.program_header.ProgramHeader.{ProgramHeader}

@@ -2,7 +2,7 @@
 use Rattle.std.specs.Prelude.{ℕ, List, slice_index, not, Result, Ok, Err, ◌==◌, if◌then◌else◌}
 use Rattle.framehop_bytes.specs.Bytes.{◌>>=◌, le2, le4, le8}
 use Rattle.framehop_elf.specs.Numbers.{ELFMAG, ELFCLASS64, ELFDATA2LSB, EV_CURRENT}
-use Rattle.framehop_elf.specs.Bytes.{block_at}
+use Rattle.framehop_elf.specs.Block.{block_at}
 use Rattle.framehop_elf.specs.declared.error.ElfError.{ElfError}
 use Rattle.framehop_elf.specs.declared.error.ElfError.TheVariants.{NotElf, NotClass64, NotLittleEndian, UnknownVersion}
 use Rattle.framehop_elf.specs.declared.header.FileHeader.{FileHeader}

@@ -1,6 +1,6 @@
 -- What the contracts of this crate cite: the parts of an ELF file.
 pub mod Numbers
-pub mod Bytes
+pub mod Block
 pub mod Header
 pub mod SectionHeader
 pub mod ProgramHeader

@@ -2,7 +2,7 @@
 use Rattle.std.specs.Prelude.{ℕ, List, map, Result, Ok, Err, not, ◌&&◌, ◌==◌, if◌then◌else◌}
 use Rattle.framehop_bytes.specs.Bytes.{◌>>=◌, le4, le8}
 use Rattle.framehop_elf.specs.Numbers.{PN_XNUM}
-use Rattle.framehop_elf.specs.Bytes.{table_at}
+use Rattle.framehop_elf.specs.Block.{table_at}
 use Rattle.framehop_elf.specs.SectionHeader.{first_section_of}
 use Rattle.framehop_elf.specs.declared.error.ElfError.{ElfError}
 use Rattle.framehop_elf.specs.declared.error.ElfError.TheVariants.{BadEntrySize}

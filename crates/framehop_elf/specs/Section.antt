@@ -3,17 +3,14 @@ use Rattle.std.specs.Prelude.{ℕ, List, [], drop, Option, Some, None, bit_and, 
 use Rattle.std.specs.List.{before_first, find, slice_get}
 use Rattle.std.specs.Cmp.Lexicographic.{pointwise}
 use Rattle.framehop_bytes.specs.Bytes.{◌>>=◌}
+use Rattle.framehop_bytes.specs.String.{string_of}
 use Rattle.framehop_elf.specs.Numbers.{SHN_UNDEF, SHN_XINDEX, SHT_NOBITS, SHF_COMPRESSED}
-use Rattle.framehop_elf.specs.Bytes.{block_at}
+use Rattle.framehop_elf.specs.Block.{block_at}
 use Rattle.framehop_elf.specs.SectionHeader.{first_section_of}
 use Rattle.framehop_elf.specs.declared.error.ElfError.{ElfError}
 use Rattle.framehop_elf.specs.declared.error.ElfError.TheVariants.{Compressed, NoSuchSection}
 use Rattle.framehop_elf.specs.declared.header.FileHeader.{FileHeader}
 use Rattle.framehop_elf.specs.declared.section_header.SectionHeader.{SectionHeader}
-
--- the string of a string table that begins at an offset of it: the bytes before the first 0
-abbrev pub string_of : List ℕ → ℕ → List ℕ
-string_of table at = before_first (λ byte. byte == 0) (drop at table)
 
 -- the size of a section in the file: that of SHT_NOBITS is 0
 abbrev pub size_in_file : SectionHeader → ℕ

@@ -1,7 +1,7 @@
 -- Section headers (gABI, chapter 4, "Sections").
 use Rattle.std.specs.Prelude.{ℕ, List, map, Result, Ok, Err, not, ◌&&◌, ◌==◌, if◌then◌else◌}
 use Rattle.framehop_bytes.specs.Bytes.{◌>>=◌, le4, le8}
-use Rattle.framehop_elf.specs.Bytes.{block_at, table_at}
+use Rattle.framehop_elf.specs.Block.{block_at, table_at}
 use Rattle.framehop_elf.specs.declared.error.ElfError.{ElfError}
 use Rattle.framehop_elf.specs.declared.error.ElfError.TheVariants.{BadEntrySize, NoSuchSection}
 use Rattle.framehop_elf.specs.declared.header.FileHeader.{FileHeader}

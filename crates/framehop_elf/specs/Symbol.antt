@@ -54,7 +54,8 @@ abbrev pub later_of : Symbol → Option Symbol → Option Symbol
 later_of symbol None = Some symbol
 later_of symbol (Some other) = if nat_le (start_of symbol) (start_of other) then Some other else Some symbol
 
--- the nearest symbol: the one with the greatest start at or below the address, and the last in the list of these
+-- the nearest symbol: of those that begin at the address or before it the one that begins last; of several there, the last
+-- in the list
 unfoldable pub nearest_of : List Symbol → ℕ → Option Symbol
 nearest_of [] address = None
 nearest_of (symbol ∷ symbols) address =

@@ -1,14 +1,13 @@
 //! Sections of a file whose bytes are shared.
 ghost use Rattle.std.specs.Prelude.{◌≡◌, Ok, MatchResult};
-ghost use Rattle.framehop_elf.specs.Bytes.{IsErrorOf};
+ghost use Rattle.framehop_elf.specs.Block.{IsErrorOf};
 ghost use Rattle.framehop_elf.specs.Section.{contents_of};
 ghost use Rattle.framehop_elf.specs.FileSection.{section_bytes};
 
-use crate::bytes::back;
 use crate::error::ElfError;
 use crate::section::{read_contents, size_in_file};
 use crate::section_header::SectionHeader;
-use framehop_bytes::bytes::front;
+use framehop_bytes::bytes::{back, front};
 use framehop_bytes::section::SectionBytes;
 use std::rc::Rc;
 

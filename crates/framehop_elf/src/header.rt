@@ -2,8 +2,9 @@
 ghost use Rattle.std.specs.Prelude.{◌≡◌, ◌≤◌, length};
 ghost use Rattle.framehop_elf.specs.Header.{fields_of, identified, file_header_of};
 
-use crate::bytes::{read_block, u16_at, u32_at, u64_at};
+use crate::block::read_block;
 use crate::error::ElfError;
+use framehop_bytes::bytes::{u16_at, u32_at, u64_at};
 
 /// `ELFMAG0` to `ELFMAG3` as a little-endian number.
 const MAGIC: u32 = 0x464c457f;

@@ -2,8 +2,8 @@
 //! symbolizer need of them. Each reader is given the bytes of the whole file and lends from them.
 #![tactic(auto)]
 
+mod block;
 pub mod build_id;
-pub mod bytes;
 pub mod error;
 pub mod file_section;
 pub mod header;

@@ -3,8 +3,7 @@ ghost use Rattle.std.specs.Prelude.{◌≡◌, ◌+◌, ◌<◌, ◌≤◌, ◌^
 ghost use Rattle.std.specs.Option.{option_copied};
 ghost use Rattle.framehop_elf.specs.Note.{note_view, padded, note_at, is_build_id, build_id_of};
 
-use crate::bytes::{back, u32_at};
-use framehop_bytes::bytes::front;
+use framehop_bytes::bytes::{back, front, u32_at};
 
 /// `NT_GNU_BUILD_ID`.
 const NT_GNU_BUILD_ID: u32 = 3;

@@ -1,12 +1,13 @@
 //! The program headers of a file.
 ghost use Rattle.std.specs.Prelude.{◌≡◌, ◌≤◌, Ok, Err, MatchResult, IfOk, length, map};
-ghost use Rattle.framehop_elf.specs.Bytes.{table_at, IsErrorOf};
+ghost use Rattle.framehop_elf.specs.Block.{table_at, IsErrorOf};
 ghost use Rattle.framehop_elf.specs.ProgramHeader.{program_header_of, segment_count_of, segments_of, program_headers_of};
 
-use crate::bytes::{read_table_block, u32_at, u64_at};
+use crate::block::read_table_block;
 use crate::error::ElfError;
 use crate::header::FileHeader;
 use crate::section_header::read_first_section;
+use framehop_bytes::bytes::{u32_at, u64_at};
 use std::alloc::{AllocError, Global};
 
 /// The value of `e_phnum` of a file that has as many segments or more.
@@ -69,7 +70,7 @@ fn segment_count(file: &[u8], header: FileHeader) -> Result<u64, ElfError>
 }
 
 /// Returns the bytes of the program headers.
-#[tactic(auto, unfolding(crate::specs::ProgramHeader::segments_of, crate::specs::Bytes::table_at))]
+#[tactic(auto, unfolding(crate::specs::ProgramHeader::segments_of, crate::specs::Block::table_at))]
 fn segment_entries<'a>(
     file: &'a [u8],
     header: FileHeader,

@@ -1,13 +1,12 @@
 //! What sections hold, and what they are called.
 ghost use Rattle.std.specs.Prelude.{◌≡◌, ◌==◌, Ok, Err, MatchResult};
-ghost use Rattle.std.specs.List.{before_first};
-ghost use Rattle.framehop_elf.specs.Section.{string_of, size_in_file, contents_of, names_index_of, section_names_of, section_called};
+ghost use Rattle.framehop_elf.specs.Section.{size_in_file, contents_of, names_index_of, section_names_of, section_called};
 
-use crate::bytes::{back, read_block};
+use crate::block::read_block;
 use crate::error::ElfError;
 use crate::header::FileHeader;
 use crate::section_header::{SectionHeader, read_first_section};
-use framehop_bytes::bytes::front;
+use framehop_bytes::string::string_at;
 
 /// `SHT_NOBITS`: a section that takes no space in the file.
 const SHT_NOBITS: u32 = 8;
@@ -20,28 +19,6 @@ const SHN_UNDEF: u32 = 0;
 
 /// `SHN_XINDEX`: the index does not fit the field.
 const SHN_XINDEX: u16 = 0xffff;
-
-/// Returns the bytes before the first 0, or all of them where there is none.
-fn before_nul(bytes: &[u8]) -> &[u8]
-    ensures { result.now ≡ before_first (λ byte. byte == 0) bytes.entry.now }
-{
-    for end in 0..bytes.len() {
-        if bytes[end] == 0 {
-            return front(bytes, end);
-        }
-    }
-    bytes
-}
-
-/// Returns the string that begins at an offset of a string table, in bytes: the bytes before the first
-/// 0, or all that are left where there is none.
-///
-/// Source: System V gABI, chapter 4, "String Table".
-pub fn string_at(table: &[u8], at: u32) -> &[u8]
-    ensures { result.now ≡ string_of table.entry.now at }
-{
-    before_nul(back(table, u64::from(at)))
-}
 
 /// Returns the size of a section in the file.
 pub(crate) fn size_in_file(section: SectionHeader) -> u64

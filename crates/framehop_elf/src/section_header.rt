@@ -1,11 +1,12 @@
 //! The section headers of a file.
 ghost use Rattle.std.specs.Prelude.{◌≡◌, ◌≤◌, Ok, Err, MatchResult, IfOk, length, map};
-ghost use Rattle.framehop_elf.specs.Bytes.{table_at, IsErrorOf};
+ghost use Rattle.framehop_elf.specs.Block.{table_at, IsErrorOf};
 ghost use Rattle.framehop_elf.specs.SectionHeader.{section_header_of, first_section_of, section_count_of, sections_of, section_headers_of};
 
-use crate::bytes::{read_block, read_table_block, u32_at, u64_at};
+use crate::block::{read_block, read_table_block};
 use crate::error::ElfError;
 use crate::header::FileHeader;
+use framehop_bytes::bytes::{u32_at, u64_at};
 use std::alloc::{AllocError, Global};
 
 /// The size of a section header, in bytes.
@@ -83,7 +84,7 @@ fn section_count(file: &[u8], header: FileHeader) -> Result<u64, ElfError>
 }
 
 /// Returns the bytes of the section headers.
-#[tactic(auto, unfolding(crate::specs::SectionHeader::sections_of, crate::specs::Bytes::table_at))]
+#[tactic(auto, unfolding(crate::specs::SectionHeader::sections_of, crate::specs::Block::table_at))]
 fn section_entries<'a>(
     file: &'a [u8],
     header: FileHeader,

@@ -2,13 +2,13 @@
 ghost use Rattle.std.specs.Prelude.{◌≡◌, ◌≤◌, Ok, Err, MatchResult, IfOk, IfErr, IsPermutation, filter, map};
 ghost use Rattle.std.specs.List.Sorted.{IsNonDecreasingBy, IsStableByKey};
 ghost use Rattle.std.specs.Ordering.{nat_cmp};
-ghost use Rattle.framehop_elf.specs.Bytes.{IsErrorOf};
+ghost use Rattle.framehop_elf.specs.Block.{IsErrorOf};
 ghost use Rattle.framehop_elf.specs.Symbol.{symbol_type, is_function, size_from, size_of, symbol_of, function_symbols_of, start_of, nearest_of, reaches, symbol_for, symbol_names_of};
 
-use crate::bytes::{u16_at, u32_at, u64_at};
 use crate::error::ElfError;
 use crate::section::read_contents;
 use crate::section_header::SectionHeader;
+use framehop_bytes::bytes::{u16_at, u32_at, u64_at};
 use std::alloc::{AllocError, Global};
 use std::marker::Model;
 
@@ -147,7 +147,7 @@ pub fn read_function_symbols(
 ///
 /// Source: System V gABI, chapter 4, "Symbol Table" and "Sections", `sh_link`.
 ///
-/// [`string_at`]: crate::section::string_at
+/// [`string_at`]: framehop_bytes::string::string_at
 pub fn read_symbol_names<'a>(
     file: &'a [u8],
     sections: &[SectionHeader],

@@ -13,15 +13,17 @@
 //!     __builtin_unreachable();
 //! }
 //! ```
+use framehop_bytes::string::string_at;
 use framehop_elf::build_id::read_build_id;
 use framehop_elf::error::ElfError;
 use framehop_elf::header::{FileHeader, read_file_header};
 use framehop_elf::program_header::{ProgramHeader, read_program_headers};
-use framehop_elf::section::{read_contents, read_section_names, section_by_name, string_at};
+use framehop_elf::section::{read_contents, read_section_names, section_by_name};
 use framehop_elf::section_header::{SectionHeader, read_section_headers};
-use framehop_elf::segment::{base_avma, svma_of_file_offset};
+use framehop_elf::segment::loaded_segments;
 use framehop_elf::symbol::{SymbolTable, read_function_symbols, read_symbol_names};
 use framehop_elf::unwind_sections::read_unwind_sections;
+use framehop_memory::segment::{Segment, base_avma, base_from, svma_of_file_offset};
 use std::alloc::Global;
 use std::test::Fail;
 
@@ -137,11 +139,17 @@ fn are_segments(segments: &[ProgramHeader]) -> bool {
     let [loaded, note, _] = segments else {
         return false;
     };
-    *loaded == LOADED
-        && note.p_offset == 0xe8
-        && svma_of_file_offset(segments, 0x1000, 0, 0x1000) == Some(0x400000)
-        && base_avma(segments, 0x1000, 0, 0x1000, 0x5400000) == Some(0x5000000)
-        && base_avma(segments, 0x1000, 0x184, 0x1000, 0x5400000).is_none()
+    *loaded == LOADED && note.p_offset == 0xe8
+}
+
+/// Whether this is the program's one segment that is loaded, by the addresses of its mappings.
+fn is_loaded(segments: &[Segment]) -> bool {
+    segments.len() == 1
+        && svma_of_file_offset(segments, 0, 0x1000) == Some(0x400000)
+        && base_avma(segments, 0, 0x1000, 0x5400000) == Some(0x5000000)
+        && base_avma(segments, 0x184, 0x1000, 0x5400000).is_none()
+        && base_from(segments, 0x5400000) == Some(0x5000000)
+        && base_from(segments, 0x3ff000).is_none()
 }
 
 /// Whether the program has its section `.eh_frame`, and none whose name is shorter.
@@ -165,9 +173,11 @@ fn has_eh_frame(file: &[u8], header: FileHeader, sections: &[SectionHeader]) -> 
 fn is_program(alloc: Global) -> Result<bool, Fail> {
     let read = read_changed(alloc, &[])?;
     let sections = read.sections.as_slice();
+    let loaded = loaded_segments(alloc, read.segments.as_slice())?;
     Ok(
         read.header == HEADER
             && are_segments(read.segments.as_slice())
+            && is_loaded(loaded.as_slice())
             && has_eh_frame(read.file.as_slice(), read.header, sections),
     )
 }

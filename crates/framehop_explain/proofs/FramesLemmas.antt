@@ -4,7 +4,7 @@ use Rattle.std.specs.Result.{is_err}
 use Rattle.framehop_cfi.specs.Header.{Header, layout_of, fde_offset_in, fde_offset_by}
 use Rattle.framehop_cfi.specs.Layout.{Layout}
 use Rattle.framehop_cfi.specs.declared.pointer.SectionBaseAddresses.{SectionBaseAddresses}
-use Rattle.framehop_bytes.specs.declared.read_error.ReadError.{ReadError}
+use Rattle.framehop_cfi.specs.declared.read_error.ReadError.{ReadError}
 use Rattle.framehop_dwarf.specs.Index.{IsIndexOfAll, fde_offset_for as offset_in_index}
 use Rattle.framehop_cfi.specs.declared.pointer.BaseAddresses.{BaseAddresses}
 use Rattle.framehop_dwarf.specs.Unwinder.{HasHeader, fde_offset_for, header_bases}

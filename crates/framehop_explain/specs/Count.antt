@@ -2,7 +2,7 @@
 use Rattle.std.specs.Prelude.{◌≡◌, ℕ, ◌-◌, ◌/◌, List, length, Option, Some, None, Result, Ok, Err}
 use Rattle.framehop_cfi.specs.Header.{Header, layout_of}
 use Rattle.framehop_cfi.specs.Layout.{Layout}
-use Rattle.framehop_bytes.specs.declared.read_error.ReadError.{ReadError}
+use Rattle.framehop_cfi.specs.declared.read_error.ReadError.{ReadError}
 use Rattle.framehop_dwarf.specs.Index.{IsIndexOfAll}
 use Rattle.framehop_macho.specs.UnwindInfo.{Lists, shared_lists_of}
 use Rattle.framehop_macho.specs.declared.unwind_info.error.CompactReadError.{CompactReadError}

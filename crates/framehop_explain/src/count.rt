@@ -7,10 +7,10 @@ ghost use Rattle.framehop_explain.specs.Count.{rows_in, pages_in, IsFramesCount,
 
 use framehop::Module;
 use framehop::unwind_data::{IndexedFrames, ModuleUnwindDataInternal};
-use framehop_bytes::read_error::ReadError;
 use framehop_bytes::section::SectionBytes;
 use framehop_cfi::header::TableLayout;
 use framehop_cfi::pointer::BaseAddresses;
+use framehop_cfi::read_error::ReadError;
 use framehop_dwarf::unwinder::header_bases;
 use framehop_macho::unwind_info::error::CompactReadError;
 use framehop_macho::unwind_info::info::UnwindInfo;

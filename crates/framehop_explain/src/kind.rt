@@ -4,9 +4,9 @@ ghost use Rattle.framehop_explain.specs.Kind.{kind_of};
 
 use framehop::Module;
 use framehop::unwind_data::ModuleUnwindDataInternal;
-use framehop_bytes::read_error::ReadError;
 use framehop_bytes::section::SectionBytes;
 use framehop_cfi::entry::UnwindSectionType;
+use framehop_cfi::read_error::ReadError;
 use framehop_dwarf::index::DwarfCfiIndexError;
 use std::fmt;
 

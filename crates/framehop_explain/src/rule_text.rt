@@ -1,5 +1,6 @@
-//! Unwind rules as text, in the words of call frame information: where the canonical frame address (CFA) is, and where
-//! the caller's registers are. The CFA is the caller's stack pointer (DWARF 5 section 6.4).
+//! Unwind rules as text: the rule as the library has it, then the same in the words of call frame information, where the
+//! canonical frame address (CFA) is and where the caller's registers are. The CFA is the caller's stack pointer (DWARF 5
+//! section 6.4).
 ghost use Rattle.std.specs.Prelude.{◌<◌, ◌^◌};
 
 use framehop_core::aarch64::UnwindRuleAarch64;
@@ -9,16 +10,18 @@ use std::fmt;
 
 /// A rule that can be written as text.
 pub trait DescribeRule: UnwindRule {
-    /// Writes the rule on one line, offsets in bytes.
+    /// Writes on one line where the CFA and the caller's registers are, offsets in bytes.
     fn describe<W: fmt::Write>(self, f: &mut fmt::Formatter<W>) -> fmt::Result;
 }
 
-/// A rule whose `Display` is its text, as `CFA = rsp + 24; rbp at CFA - 16; return address at CFA - 8`.
+/// A rule whose `Display` is its `Debug`, and then what it says:
+/// `OffsetSp { sp_offset_by_8: 3 }: CFA = rsp + 24; return address at CFA - 8`.
 #[derive(Clone, Copy)]
 pub struct Described<R>(pub R);
 
 impl<R: DescribeRule> fmt::Display for Described<R> {
     fn fmt<W: fmt::Write>(&self, f: &mut fmt::Formatter<W>) -> fmt::Result {
+        write!(f, "{:?}: ", self.0)?;
         self.0.describe(f)
     }
 }

@@ -1,7 +1,7 @@
 //! Where the unwind data of a module tells how to unwind from an address.
 use framehop::unwind_data::IndexRefusal;
-use framehop_bytes::read_error::ReadError;
 use framehop_cfi::entry::UnwindSectionType;
+use framehop_cfi::read_error::ReadError;
 use framehop_macho::unwind_info::error::CompactReadError;
 use framehop_macho::unwind_info::info::Function;
 use framehop_pe::unwind_info::function_table::RuntimeFunction;

@@ -4,7 +4,7 @@ ghost use Rattle.framehop_dwarf.specs.Told.{out_of_memory};
 ghost use Rattle.framehop_explain.specs.Told.{of_dwarf, of_pe};
 
 use framehop::UnwinderError;
-use framehop_bytes::read_error::ReadError;
+use framehop_cfi::read_error::ReadError;
 use framehop_core::unwind_result::UnwindResult;
 use framehop_dwarf::dwarf::DwarfUnwinderError;
 use framehop_pe::pe::PeUnwinderError;

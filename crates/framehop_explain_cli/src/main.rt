@@ -1,4 +1,5 @@
-//! The program `framehop-explain`: the replies of `framehop-walk`, with where each frame came from.
+//! The program `framehop-explain`: the replies of `framehop-walk`, with where each frame came from; and by `--elf` what an
+//! ELF file or a PE file has to unwind by.
 #![tactic(auto)]
 
 use anyhow::Result;

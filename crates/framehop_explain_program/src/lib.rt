@@ -1,5 +1,5 @@
 //! The program `framehop-explain`: `framehop-walk`'s replies, with notes under their lines that tell where each frame came
-//! from; and what an ELF file has to unwind by.
+//! from; and what an ELF file or a PE file has to unwind by.
 #![tactic(auto)]
 
 mod explainer;

@@ -1,5 +1,3 @@
-mod MergeLemmas
-mod FoldedLemmas
 mod PictureLemmas
 mod StackLemmas
 mod OrderLemmas

@@ -11,11 +11,9 @@ use Rattle.std.proofs.lemmas.Bool.{cases_lt}
 use Rattle.std.proofs.lemmas.List.{drop_all, get_or-map, get_or-drop, length-map}
 use Rattle.std.proofs.lemmas.List.Sums.{sum_by-cons, sum_by_more, sum_by-drop_more, sum_by-take-drop, sum_by-take-le}
 use Rattle.std.proofs.Math.Seq.{drop-cons}
-use Rattle.framehop_flame_graph.specs.declared.folded.FoldedLine.{FoldedLine}
 use Rattle.framehop_flame_graph.specs.declared.stacks.Stack.{Stack}
 use Rattle.framehop_flame_graph.specs.declared.stacks.Neighbour.{Neighbour}
-use Rattle.framehop_flame_graph.specs.Folded.{counted}
-use Rattle.framehop_flame_graph.specs.Stacks.{Stacked, stacked, viewed, stacks_of, total_of, compare_stacks}
+use Rattle.framehop_flame_graph.specs.Stacks.{Stacked, viewed, total_of, compare_stacks}
 use Rattle.framehop_flame_graph.proofs.OrderLemmas.{Frames, NotAfter, stacks_total}
 use Rattle.framehop_flame_graph.specs.Sweep.{Rises, shared_frames, frames_before, neighbours_of, boxes_at, boxes_along}
 
@@ -44,13 +42,6 @@ pub common-map : (xs ys : List (Bor (List ℕ))) → common_prefix_len (λ (x y 
 common-map [] ys = refl
 common-map (x ∷ xs) [] = refl
 common-map (x ∷ xs) (y ∷ ys) = ap (λ n. cond (bytes_eq x.now y.now) (1 + n) 0) (common-map xs ys)
-
-pub total-lines : (lines : List FoldedLine) → total_of (stacks_of lines) ≡ sum_by (λ (line : FoldedLine). line.count) lines
-total-lines [] = refl
-total-lines (line ∷ lines) =
-    let one = sum_by-cons (λ (stack : Stacked). stack.count) (stacked (counted line)) (stacks_of lines) in
-    let all = sum_by-cons (λ (l : FoldedLine). l.count) line lines in
-    omega (arith, one, all, total-lines lines)
 
 -- ---- the stack before another
 

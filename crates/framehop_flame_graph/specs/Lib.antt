@@ -1,6 +1,4 @@
 -- What the contracts of this crate cite.
-pub mod Folded
-pub mod Merge
 pub mod Stacks
 pub mod Boxes
 pub mod Sweep

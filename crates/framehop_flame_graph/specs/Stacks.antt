@@ -1,12 +1,14 @@
 -- Stacks as lists of frames, in order, and the frames with which they begin.
 use Rattle.std.specs.Prelude.{ℕ, Bool, true, false, List, [], ◌∷◌, ◌==◌, ◌&&◌, map, sum_by, if◌then◌else◌}
 use Rattle.std.specs.Cmp.Lexicographic.{slice_cmp}
+use Rattle.std.specs.Global.{Global}
 use Rattle.std.specs.List.{slice_split}
 use Rattle.std.specs.Ordering.{nat_cmp, is_lt}
 use Rattle.std.specs.Str.{bytes_eq}
 use Rattle.std.specs.declared.cmp.Ordering.{Ordering}
-use Rattle.framehop_flame_graph.specs.Folded.{Counted, counted}
-use Rattle.framehop_flame_graph.specs.declared.folded.FoldedLine.{FoldedLine}
+use Rattle.std.specs.declared.vec.Vec.{Vec}
+use Rattle.framehop_folded.specs.Folded.{entries_of}
+use Rattle.framehop_folded.specs.declared.folded.Folded.{Folded}
 use Rattle.framehop_flame_graph.specs.declared.stacks.Stack.{Stack}
 
 -- a stack's frames from the outermost on, and how often it was counted
@@ -22,12 +24,12 @@ frames_of stack = slice_split (λ byte. byte == 59) stack
 abbrev pub viewed : Stack → Stacked
 viewed stack = record { frames = map (λ frame. frame.now) stack.frames.items; count = stack.count }
 
-abbrev pub stacked : Counted → Stacked
-stacked line = record { frames = frames_of line.stack; count = line.count }
+-- a folded stack with its count
+abbrev pub stacked : Vec ℕ Global × ℕ → Stacked
+stacked entry = record { frames = frames_of entry.0.items; count = entry.1 }
 
--- the stacks of lines
-abbrev pub stacks_of : List FoldedLine → List Stacked
-stacks_of lines = map (λ line. stacked (counted line)) lines
+abbrev pub stacks_of : Folded → List Stacked
+stacks_of folded = map stacked (entries_of folded)
 
 -- frames in the order of their bytes
 abbrev pub compare_frames : List ℕ → List ℕ → Ordering

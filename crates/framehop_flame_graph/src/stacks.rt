@@ -6,7 +6,7 @@ ghost use Rattle.std.specs.Str.{bytes_eq};
 ghost use Rattle.framehop_flame_graph.specs.Stacks.{Stacked, frames_of, viewed, stacks_of};
 ghost use Rattle.framehop_flame_graph.specs.Sweep.{Rises, shared_frames, frames_before, neighbours_of};
 
-use crate::folded::FoldedLine;
+use framehop_folded::folded::Folded;
 use std::alloc::{AllocError, Global};
 
 /// A stack: the names of its frames from the outermost on, and how often it was counted.
@@ -32,16 +32,16 @@ fn frames_of(alloc: Global, stack: &[u8]) -> Result<Vec<&[u8]>, AllocError>
     stack.split(|byte| *byte == b';').collect(alloc)
 }
 
-/// Returns the stacks of lines, in order of their frames.
-pub fn stacks_in_order(alloc: Global, lines: &[FoldedLine]) -> Result<Vec<Stack<'_>>, AllocError>
-    ensures same { IfOk result (λ stacks. IsPermutation (stacks_of lines.entry.now) (map viewed stacks.items)) }
+/// Returns folded stacks in order of their frames.
+pub fn stacks_in_order(alloc: Global, folded: &Folded) -> Result<Vec<Stack<'_>>, AllocError>
+    ensures same { IfOk result (λ stacks. IsPermutation (stacks_of folded.entry.now) (map viewed stacks.items)) }
     ensures ordered { IfOk result (λ stacks. Rises [] (map viewed stacks.items)) }
 {
     let mut stacks = Vec::new(alloc);
-    for line in lines {
+    for (stack, count) in folded.iter() {
         stacks.push(Stack {
-            frames: frames_of(alloc, line.stack.as_slice())?,
-            count: line.count,
+            frames: frames_of(alloc, stack.as_slice())?,
+            count: *count,
         })?;
     }
     stacks.sort()?;

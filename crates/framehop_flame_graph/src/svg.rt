@@ -10,20 +10,20 @@ ghost use Rattle.framehop_flame_graph.specs.declared.error.FlameGraphError.TheVa
 
 use crate::boxes::{FrameBox, boxes_of};
 use crate::error::FlameGraphError;
-use crate::folded::FoldedLine;
 use crate::numbers::is_shown;
 use crate::picture::draw;
 use crate::stacks::stacks_in_order;
+use framehop_folded::folded::Folded;
 use std::alloc::{AllocError, Global};
 
-/// Returns the counts of all lines, together.
-fn total_of(lines: &[FoldedLine]) -> Option<u64>
-    ensures { MatchOption result (2 ^ 64 ≤ total_of (stacks_of lines.now))
-        (λ total. total ≡ total_of (stacks_of lines.now)) }
+/// Returns the counts of all stacks, together.
+fn total_of(folded: &Folded) -> Option<u64>
+    ensures { MatchOption result (2 ^ 64 ≤ total_of (stacks_of folded.now))
+        (λ total. total ≡ total_of (stacks_of folded.now)) }
 {
     let mut total: u64 = 0;
-    for line in lines {
-        total = total.checked_add(line.count)?;
+    for (_, count) in folded.iter() {
+        total = total.checked_add(*count)?;
     }
     Some(total)
 }
@@ -53,8 +53,7 @@ fn shown_of<'a>(
 /// There is a box for each list of frames with which a stack begins, in a row of 16 pixels for each frame, with a root
 /// `all` at the bottom. A box is as wide as the counts of its stacks, and tells its name, its count and its part of all
 /// where the pointer is over it. Its name is cut where it does not fit, and left out where fewer than three
-/// characters fit. Boxes narrower than a tenth of a pixel are left out, and so are those above them. Lines may come in
-/// any order, and more than once.
+/// characters fit. Boxes narrower than a tenth of a pixel are left out, and so are those above them.
 ///
 /// # Errors
 ///
@@ -62,18 +61,18 @@ fn shown_of<'a>(
 /// add up to 0, and [`FlameGraphError::OutOfMemory`] if an allocation fails.
 ///
 /// The form is that of Brendan Gregg's FlameGraph.
-pub fn flame_graph(alloc: Global, lines: &[FoldedLine]) -> Result<String, FlameGraphError>
-    ensures drawn { IfOk result (λ svg. IsFlameGraph (stacks_of lines.now) (string_bytes svg)) }
-    ensures refused { MatchOption (refusal_of (stacks_of lines.now)) (IfErr result (λ refusal. refusal ≡ OutOfMemory))
+pub fn flame_graph(alloc: Global, folded: &Folded) -> Result<String, FlameGraphError>
+    ensures drawn { IfOk result (λ svg. IsFlameGraph (stacks_of folded.now) (string_bytes svg)) }
+    ensures refused { MatchOption (refusal_of (stacks_of folded.now)) (IfErr result (λ refusal. refusal ≡ OutOfMemory))
         (λ refusal. result ≡ Err refusal) }
 {
-    let Some(total) = total_of(lines) else {
+    let Some(total) = total_of(folded) else {
         return Err(FlameGraphError::TotalTooLarge);
     };
     if total == 0 {
         return Err(FlameGraphError::NothingCounted);
     }
-    let stacks = stacks_in_order(alloc, lines)?;
+    let stacks = stacks_in_order(alloc, folded)?;
     let boxes = boxes_of(alloc, stacks.as_slice(), total)?;
     let shown = shown_of(alloc, total, boxes.as_slice())?;
     Ok(draw(alloc, total, shown.as_slice())?)

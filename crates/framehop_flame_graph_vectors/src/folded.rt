@@ -1,12 +1,28 @@
-//! Folded stacks that are read and added up, and those that are refused.
-use framehop_flame_graph::error::FlameGraphError;
-use framehop_flame_graph::folded::read_folded;
-use framehop_flame_graph::merge::Folded;
+//! Folded stacks that are read, added up and merged, and those that are refused.
+use framehop_folded::error::{FoldedError, TextError};
+use framehop_folded::folded::Folded;
+use framehop_folded::text::read_folded;
 use std::alloc::Global;
 use std::test::Fail;
 
+/// Returns the folded stacks of a text.
+pub(crate) fn folded_of(alloc: Global, text: &[u8]) -> Result<Folded, Fail> {
+    let mut folded = Folded::new(alloc);
+    for line in read_folded(alloc, text)? {
+        folded.add(line.stack, line.count)?;
+    }
+    Ok(folded)
+}
+
+/// Returns the text of folded stacks.
+fn text_of(alloc: Global, folded: &Folded) -> Result<Vec<u8>, Fail> {
+    let mut out = Vec::new(alloc);
+    folded.write(&mut out)?;
+    Ok(out)
+}
+
 /// Returns why a text is refused, if it is.
-fn refusal_of(alloc: Global, text: &[u8]) -> Option<FlameGraphError> {
+fn refusal_of(alloc: Global, text: &[u8]) -> Option<TextError> {
     read_folded(alloc, text).err()
 }
 
@@ -72,19 +88,10 @@ fn refuses_lines(rt: HostRuntime) -> Result<(), Fail> {
 #[test]
 fn adds_up_equal_stacks(rt: HostRuntime) -> Result<(), Fail> {
     let alloc = rt.alloc();
-    let mut folded = Folded::new(alloc);
-    for text in [
-        b"main;b 2\nmain;a 3\n".as_slice(),
-        b"main;b 40\nmain 1\nmain;b 500\n",
-    ] {
-        for line in read_folded(alloc, text)? {
-            folded.add(line)?;
-        }
-    }
-    let mut out = Vec::new(alloc);
-    folded.write(alloc, &mut out)?;
+    let mut folded = folded_of(alloc, b"main;b 2\nmain;a 3\n")?;
+    folded.merge(folded_of(alloc, b"main;b 40\nmain 1\nmain;b 500\n")?)?;
     assert_eq!(rt;
-        out.as_slice(),
+        text_of(alloc, &folded)?.as_slice(),
         b"main 1\nmain;a 3\nmain;b 542\n".as_slice()
     );
     Ok(())
@@ -96,15 +103,43 @@ fn refuses_counts_that_do_not_fit(rt: HostRuntime) -> Result<(), Fail> {
     let mut folded = Folded::new(alloc);
     let mut refused = 0u8;
     for line in read_folded(alloc, b"a 18446744073709551614\na 2\na 1\na 1\nb 5\n")? {
-        match folded.add(line) {
+        match folded.add(line.stack, line.count) {
             Ok(()) => {}
-            Err(FlameGraphError::CountTooLarge) => refused = refused.saturating_add(1),
+            Err(FoldedError::CountTooLarge) => refused = refused.saturating_add(1),
             Err(other) => return Err(Fail::from(other)),
         }
     }
     assert_eq!(rt; refused, 2);
-    let mut out = Vec::new(alloc);
-    folded.write(alloc, &mut out)?;
-    assert_eq!(rt; out.as_slice(), b"a 18446744073709551615\nb 5\n".as_slice());
+    assert_eq!(rt;
+        text_of(alloc, &folded)?.as_slice(),
+        b"a 18446744073709551615\nb 5\n".as_slice()
+    );
+    Ok(())
+}
+
+/// A stack that was counted 0 times has a line, and of stacks that are merged each is as before or whole.
+#[test]
+fn merges_up_to_a_count_that_does_not_fit(rt: HostRuntime) -> Result<(), Fail> {
+    let alloc = rt.alloc();
+    let mut folded = folded_of(alloc, b"b 18446744073709551614\nd 0\n")?;
+    folded.merge(folded_of(alloc, b"a 0\nb 1\n")?)?;
+    assert_eq!(rt;
+        text_of(alloc, &folded)?.as_slice(),
+        b"a 0\nb 18446744073709551615\nd 0\n".as_slice()
+    );
+    let other = folded_of(alloc, b"a 7\nb 1\nc 9\n")?;
+    assert!(rt; matches!(folded.merge(other), Err(FoldedError::CountTooLarge)));
+    let mut counts = Vec::new(alloc);
+    for (stack, count) in folded.iter() {
+        counts.push((stack.as_slice(), *count))?;
+    }
+    for (stack, count) in counts.iter() {
+        match *stack {
+            b"a" => assert!(rt; *count == 0 || *count == 7),
+            b"b" => assert_eq!(rt; *count, u64::MAX),
+            b"c" => assert_eq!(rt; *count, 9),
+            _ => assert_eq!(rt; *count, 0),
+        }
+    }
     Ok(())
 }

@@ -1,6 +1,7 @@
 //! A deep stack, and many stacks.
-use framehop_flame_graph::folded::{FoldedLine, read_folded};
+use crate::folded::folded_of;
 use framehop_flame_graph::svg::flame_graph;
+use framehop_folded::folded::Folded;
 use std::test::Fail;
 
 /// Returns how many boxes a flame graph has.
@@ -16,8 +17,7 @@ fn draws_a_stack_of_500_frames(rt: HostRuntime) -> Result<(), Fail> {
         text.extend_from_slice(b"frame;")?;
     }
     text.extend_from_slice(b"last 3\n")?;
-    let lines = read_folded(alloc, text.as_slice())?;
-    let svg = flame_graph(alloc, lines.as_slice())?;
+    let svg = flame_graph(alloc, &folded_of(alloc, text.as_slice())?)?;
     assert_eq!(rt; boxes_in(svg.as_str()), 501);
     // 16 pixels for each of 501 rows, and 50 for the heading and the margin
     assert!(rt;
@@ -41,17 +41,14 @@ fn draws_a_stack_of_500_frames(rt: HostRuntime) -> Result<(), Fail> {
 #[test]
 fn draws_ten_thousand_stacks(rt: HostRuntime) -> Result<(), Fail> {
     let alloc = rt.alloc();
-    let mut lines = Vec::new(alloc);
+    let mut folded = Folded::new(alloc);
     for outer in 0u64..100 {
         for inner in 0u64..100 {
             let stack = format!(in alloc; "main;outer{outer};a;b;c;d;e;f;g;inner{inner}")?;
-            lines.push(FoldedLine {
-                stack: Vec::from_slice(alloc, stack.as_bytes())?,
-                count: 1,
-            })?;
+            folded.add(Vec::from_slice(alloc, stack.as_bytes())?, 1)?;
         }
     }
-    let svg = flame_graph(alloc, lines.as_slice())?;
+    let svg = flame_graph(alloc, &folded)?;
     // the root, `main`, 100 of each of the next eight frames, and 10,000 at the top, of 0.12 pixels each
     assert_eq!(rt; boxes_in(svg.as_str()), 10_802);
     Ok(())

@@ -1,13 +1,12 @@
 //! Small flame graphs, with places and widths reckoned by hand, and colours by the FNV-1a of another program.
-use framehop_flame_graph::folded::read_folded;
+use crate::folded::folded_of;
 use framehop_flame_graph::svg::flame_graph;
 use std::alloc::Global;
 use std::test::Fail;
 
 /// Returns the flame graph of folded stacks.
 pub(crate) fn drawn(alloc: Global, text: &[u8]) -> Result<String, Fail> {
-    let lines = read_folded(alloc, text)?;
-    Ok(flame_graph(alloc, lines.as_slice())?)
+    Ok(flame_graph(alloc, &folded_of(alloc, text)?)?)
 }
 
 /// Returns whether a line of a text is this one.
@@ -123,8 +122,7 @@ fn refuses_totals(rt: HostRuntime) -> Result<(), Fail> {
             "the counts add up to 2^64 or more",
         ),
     ] {
-        let lines = read_folded(alloc, text)?;
-        match flame_graph(alloc, lines.as_slice()) {
+        match flame_graph(alloc, &folded_of(alloc, text)?) {
             Ok(_) => panic!(rt; "not refused: {wanted}"),
             Err(refusal) => assert_eq!(rt; format!(in alloc; "{refusal}")?.as_str(), wanted),
         }

@@ -126,6 +126,17 @@ def resolve(codes, frame, offset, established):
     return word(r["RSP"]), {**r, "RSP": r["RSP"] + 8}
 
 
+def number_of(pops):
+    """The number of a list of registers: at each place how far on the register is that is exchanged with the one there, with
+    8, 7 .. choices."""
+    order, number, weight = ["RBX", "RBP", "RDI", "RSI", "R12", "R13", "R14", "R15"], 0, 1
+    for place, name in enumerate(pops):
+        found = order.index(name, place)
+        number, weight = number + (found - place) * weight, weight * (8 - place)
+        order[place], order[found] = order[found], order[place]
+    return number
+
+
 def rule_of(steps):
     """The rule of an offset and pops as framehop-explain prints it, or None."""
     offset, pops = 0, []
@@ -138,7 +149,9 @@ def rule_of(steps):
             return None
     below = 8 * len(pops) + 8
     saved = "".join(f"; {name.lower()} at CFA - {below - 8 * place}" for place, name in enumerate(pops))
-    return f"CFA = rsp + {offset + below}{saved}; return address at CFA - 8"
+    name = f"OffsetSpAndPopRegisters {{ sp_offset_by_8: {offset // 8}, register_count: {len(pops)}, " \
+        f"encoded_registers_to_pop: {number_of(pops)} }}" if offset or pops else "JustReturn"
+    return f"{name}: CFA = rsp + {offset + below}{saved}; return address at CFA - 8"
 
 
 def step(address, first, caller_rsp):

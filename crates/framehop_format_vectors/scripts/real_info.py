@@ -90,14 +90,24 @@ def step(arch, address, rule):
     return command, f"step {reply}", line.format(*found)
 
 
+def name_of(arch, rule):
+    """The rule as the library has it."""
+    if arch == "aarch64":
+        return "UseFramePointer"
+    words = int(rule[0].split()[-1]) // 8
+    if rule[1]:
+        return f"OffsetSpAndRestoreBp {{ sp_offset_by_8: {words}, bp_storage_offset_from_sp_by_8: {words - rule[1] // 8} }}"
+    return "JustReturn" if words == 1 else f"OffsetSp {{ sp_offset_by_8: {words} }}"
+
+
 def text_of(arch, rule):
     """The rule, or the refusal, as framehop-explain prints it."""
     pointer = "rbp" if arch == "x86_64" else "fp"
     if isinstance(rule, str):
         follow = f"CFA = {pointer} + 16; {pointer} at CFA - 16; return address at CFA - 8"
-        return f"CompactUnwindInfo({rule}): fallback: {follow}"
+        return f"CompactUnwindInfo({rule}): fallback: UseFramePointer: {follow}"
     saved = f"; {pointer} at CFA - {rule[1]}" if rule[1] else ""
-    return f"CFA = {rule[0]}{saved}; return address at CFA - 8"
+    return f"{name_of(arch, rule)}: CFA = {rule[0]}{saved}; return address at CFA - 8"
 
 
 def write(name, arch, data, functions, end):

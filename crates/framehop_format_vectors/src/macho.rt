@@ -1,8 +1,10 @@
-//! A page by hand, and the names of errors. Functions, opcodes, stubs and refusals are cases: `cases/rules/compact_*`.
+//! A page by hand, the rules of stub helpers, and the names of errors. Functions, opcodes, stubs and refusals are cases: `cases/rules/compact_*`.
 use framehop_cfi::dwarf_error::DwarfUnwinderError;
+use framehop_core::aarch64::{ArchAarch64, UnwindRuleAarch64};
 use framehop_core::x86_64::{ArchX86_64, UnwindRuleX86_64};
 use framehop_macho::macho::{
-    CompactUnwindInfoUnwinder, CompactUnwindInfoUnwinderError, CuiUnwindResult,
+    CompactUnwindInfoUnwinder, CompactUnwindInfoUnwinderError, CompactUnwindInfoUnwinding,
+    CuiUnwindResult,
 };
 use framehop_macho::unwind_info::error::CompactReadError;
 use framehop_macho::unwind_info::info::Function;
@@ -29,6 +31,35 @@ fn reads_a_regular_page(rt: HostRuntime) {
     assert!(rt; unwinder.function_for_address(0x2000) == Err(outside));
     let rule = CuiUnwindResult::ExecRule(UnwindRuleX86_64::UseFramePointer);
     assert!(rt; unwinder.unwind_frame(0x1000, false) == Ok(rule));
+}
+
+/// An offset of a `__stub_helper`, and its rule: that of the shared code, which pushes a word, and then of a stub, which
+/// does so too, and jumps there.
+const HELPERS_X86_64: [(u32, UnwindRuleX86_64); 5] = [
+    (0, UnwindRuleX86_64::OffsetSp { sp_offset_by_8: 2 }),
+    (7, UnwindRuleX86_64::OffsetSp { sp_offset_by_8: 3 }),
+    (0x10, UnwindRuleX86_64::JustReturn),
+    (0x15, UnwindRuleX86_64::OffsetSp { sp_offset_by_8: 2 }),
+    (0x1a, UnwindRuleX86_64::JustReturn),
+];
+
+/// The same, where the shared code stores two words, and a stub none.
+const HELPERS_AARCH64: [(u32, UnwindRuleAarch64); 3] = [
+    (0, UnwindRuleAarch64::NoOp),
+    (0xc, UnwindRuleAarch64::OffsetSp { sp_offset_by_16: 1 }),
+    (0x18, UnwindRuleAarch64::NoOp),
+];
+
+#[test]
+fn rules_of_stub_helpers(rt: HostRuntime) {
+    for (offset, rule) in HELPERS_X86_64 {
+        let want = Ok(CuiUnwindResult::ExecRule(rule));
+        assert!(rt; ArchX86_64::rule_for_stub_helper(offset) == want);
+    }
+    for (offset, rule) in HELPERS_AARCH64 {
+        let want = Ok(CuiUnwindResult::ExecRule(rule));
+        assert!(rt; ArchAarch64::rule_for_stub_helper(offset) == want);
+    }
 }
 
 const READ_ERRORS: [(CompactReadError, &str); 5] = [

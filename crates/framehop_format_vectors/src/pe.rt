@@ -209,7 +209,7 @@ fn unwind_frames<'x>(
 }
 
 /// `unwind_frame` asks for no memory: this test and the next ask for it as often, which
-/// `scripts/count-requests.sh` shows by refusing one request after another.
+/// `tools/refuse-allocations-in-tests.sh` shows by refusing one request after another.
 #[test]
 fn requests_of_the_sections(rt: HostRuntime) -> Result<(), Fail> {
     let alloc = rt.alloc();

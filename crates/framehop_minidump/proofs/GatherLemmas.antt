@@ -5,8 +5,8 @@ use Rattle.std.specs.declared.alloc.Global.{Global}
 use Rattle.framehop_bytes.specs.Bytes.{◌>>=◌, le8}
 use Rattle.framehop_minidump.specs.declared.error.MinidumpError.{MinidumpError}
 use Rattle.framehop_minidump.specs.declared.error.MinidumpError.TheVariants.{OffsetTooBig}
-use Rattle.framehop_minidump.specs.declared.memory.MemoryRange.{MemoryRange}
-use Rattle.framehop_minidump.specs.Gathered.{IsGathered}
+use Rattle.framehop_memory.specs.declared.memory.MemoryRange.{MemoryRange}
+use Rattle.framehop_bytes.specs.Gathered.{IsGathered}
 use Rattle.framehop_minidump.specs.Memory.{ranges_from}
 
 -- what was read before, with what comes after it

@@ -1,7 +1,7 @@
 -- Which file a module is of: MDCVInfoPDB70 and MDCVInfoELF of Breakpad's minidump_format.h.
 use Rattle.std.specs.Prelude.{ℕ, List, length, take, drop, Option, Some, None, Result, Ok, Err, nat_lt, ◌==◌, if◌then◌else◌}
 use Rattle.framehop_bytes.specs.Bytes.{◌>>=◌, le4}
-use Rattle.framehop_elf.specs.Section.{string_of}
+use Rattle.framehop_bytes.specs.String.{string_of}
 use Rattle.framehop_minidump.specs.Numbers.{RSDS, MD_CVINFOELF_SIGNATURE}
 use Rattle.framehop_minidump.specs.Location.{located}
 use Rattle.framehop_minidump.specs.declared.codeview.CodeView.{CodeView}

@@ -6,7 +6,6 @@ pub mod Stream
 pub mod List
 pub mod SystemInfo
 pub mod MiscInfo
-pub mod Gathered
 pub mod Memory
 pub mod Thread
 pub mod Exception

@@ -1,14 +1,13 @@
 -- The memory of a process, as far as a minidump has it: MINIDUMP_MEMORY_LIST and MINIDUMP_MEMORY64_LIST.
-use Rattle.std.specs.Prelude.{ℕ, ◌+◌, ◌-◌, ◌*◌, ◌^◌, List, [], ◌∷◌, ◌++◌, map, length, take, drop, Bool, Option, Some, None, option_map, Result, Ok, Err, nat_le, nat_lt, ◌&&◌, ◌==◌, if◌then◌else◌}
-use Rattle.std.specs.List.{find}
+use Rattle.std.specs.Prelude.{ℕ, ◌+◌, ◌*◌, ◌^◌, List, [], ◌∷◌, ◌++◌, map, length, drop, Option, Some, None, Result, Ok, Err, nat_lt, ◌==◌, if◌then◌else◌}
 use Rattle.framehop_bytes.specs.Bytes.{◌>>=◌, le4, le8}
+use Rattle.framehop_memory.specs.declared.memory.MemoryRange.{MemoryRange}
 use Rattle.framehop_minidump.specs.Numbers.{MemoryListStream, Memory64ListStream, MEMORY_DESCRIPTOR_SIZE}
 use Rattle.framehop_minidump.specs.Location.{located, entries_in}
 use Rattle.framehop_minidump.specs.Stream.{stream_of}
 use Rattle.framehop_minidump.specs.List.{list_of}
 use Rattle.framehop_minidump.specs.declared.error.MinidumpError.{MinidumpError}
 use Rattle.framehop_minidump.specs.declared.error.MinidumpError.TheVariants.{ShortStream, BadListSize, OffsetTooBig}
-use Rattle.framehop_minidump.specs.declared.memory.MemoryRange.{MemoryRange}
 use Rattle.framehop_minidump.specs.declared.stream.Stream.{Stream}
 
 -- MINIDUMP_MEMORY_DESCRIPTOR: StartOfMemoryRange, DataSize and Rva
@@ -54,28 +53,3 @@ ranges_of file streams = do
   long ← long_list_of file streams
   ranges ← ranges_from long.0 long.1
   Ok (map range_at short ++ ranges)
-
--- the bytes of a range that the file has: fewer where the file is cut off
-abbrev pub dumped : List ℕ → MemoryRange → List ℕ
-dumped file range = take range.size (drop range.offset file)
-
--- a range has so many bytes from an address on
-abbrev pub has : List ℕ → ℕ → ℕ → MemoryRange → Bool
-has file address size range =
-    nat_le range.start address && nat_le (address + size) (range.start + length (dumped file range))
-
-abbrev pub bytes_in : List ℕ → ℕ → ℕ → MemoryRange → List ℕ
-bytes_in file address size range = take size (drop (address - range.start) (dumped file range))
-
--- so many bytes from an address on: those of the first range that has all of them
-abbrev pub memory_of : List ℕ → List MemoryRange → ℕ → ℕ → Option (List ℕ)
-memory_of file ranges address size = option_map (bytes_in file address size) (find (has file address size) ranges)
-
--- those from an address on, as far as the range has them: of the first that has the one there
-abbrev pub memory_from : List ℕ → List MemoryRange → ℕ → Option (List ℕ)
-memory_from file ranges address =
-    option_map (λ range. drop (address - range.start) (dumped file range)) (find (has file address 1) ranges)
-
--- the word of eight bytes at an address
-abbrev pub word_of : List ℕ → List MemoryRange → ℕ → Option ℕ
-word_of file ranges address = option_map (λ bytes. le8 bytes 0) (memory_of file ranges address 8)

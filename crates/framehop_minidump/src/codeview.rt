@@ -4,9 +4,8 @@ ghost use Rattle.framehop_minidump.specs.CodeView.{codeview_view, codeview_in, c
 
 use crate::error::MinidumpError;
 use crate::location::{Location, read_located};
-use framehop_bytes::bytes::front;
-use framehop_elf::bytes::{back, u32_at};
-use framehop_elf::section::string_at;
+use framehop_bytes::bytes::{back, front, u32_at};
+use framehop_bytes::string::string_at;
 
 /// "RSDS" as a little-endian number.
 const RSDS: u32 = 0x53445352;

@@ -6,7 +6,7 @@ use crate::error::MinidumpError;
 use crate::location::{Location, location_at, read_located};
 use crate::stream::{Stream, first_stream};
 use crate::thread::Thread;
-use framehop_elf::bytes::{u32_at, u64_at};
+use framehop_bytes::bytes::{u32_at, u64_at};
 
 /// `ExceptionStream`.
 const EXCEPTION_STREAM: u32 = 6;

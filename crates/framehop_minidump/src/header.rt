@@ -4,7 +4,7 @@ ghost use Rattle.framehop_minidump.specs.Header.{header_of};
 
 use crate::error::MinidumpError;
 use crate::location::read_block;
-use framehop_elf::bytes::{u16_at, u32_at};
+use framehop_bytes::bytes::{u16_at, u32_at};
 
 /// "MDMP" as a little-endian number.
 const MINIDUMP_SIGNATURE: u32 = 0x504d444d;

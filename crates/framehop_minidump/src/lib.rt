@@ -5,7 +5,6 @@
 pub mod codeview;
 pub mod error;
 pub mod exception;
-mod gathered;
 pub mod header;
 mod list;
 pub mod location;

@@ -5,7 +5,7 @@ ghost use Rattle.framehop_minidump.specs.List.{list_in, list_of};
 use crate::error::MinidumpError;
 use crate::location::read_located;
 use crate::stream::{Stream, first_stream};
-use framehop_elf::bytes::{back, u32_at};
+use framehop_bytes::bytes::{back, u32_at};
 
 /// Returns the bytes of the entries, of a size, of a list that is at an offset of the file.
 #[tactic(auto, unfolding(crate::specs::List::list_in))]

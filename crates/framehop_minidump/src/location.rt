@@ -3,8 +3,8 @@ ghost use Rattle.std.specs.Prelude.{◌≡◌, ◌+◌, ◌≤◌, Ok, Err, Matc
 ghost use Rattle.framehop_minidump.specs.Location.{block_at, location_at, located};
 
 use crate::error::MinidumpError;
-use framehop_bytes::bytes::front;
-use framehop_elf::bytes::{back, u32_at};
+use framehop_bytes::block;
+use framehop_bytes::bytes::u32_at;
 
 /// Where a part of the file is: `MINIDUMP_LOCATION_DESCRIPTOR`.
 #[derive(Clone, Copy, Debug, PartialEq, Eq)]
@@ -37,11 +37,7 @@ pub(crate) fn read_block(file: &[u8], offset: u64, size: u64) -> Result<&[u8], M
         (λ error. block_at file.entry.now offset size ≡ Err error) }
     ensures whole { IfOk result (λ block. length block.now ≡ size) }
 {
-    let length = file.len() as u64;
-    if offset > length || size > length - offset {
-        return Err(MinidumpError::Eof { offset });
-    }
-    Ok(front(back(file, offset), size as usize))
+    block::read_block(file, offset, size).ok_or(MinidumpError::Eof { offset })
 }
 
 /// Returns the bytes of a location.

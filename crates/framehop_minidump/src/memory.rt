@@ -1,17 +1,17 @@
 //! The memory of a process, as far as a minidump has it.
-ghost use Rattle.std.specs.Prelude.{◌≡◌, ◌+◌, ◌≤◌, ◌++◌, List, IfSome, true, Ok, Err, MatchResult, find, option_map, length, map};
-ghost use Rattle.framehop_minidump.specs.declared.memory.MemoryRange.{MemoryRange};
-ghost use Rattle.framehop_minidump.specs.Gathered.{IsGathered};
+ghost use Rattle.std.specs.Prelude.{◌≡◌, ◌+◌, ◌≤◌, ◌++◌, List, Ok, Err, MatchResult, length, map};
+ghost use Rattle.framehop_memory.specs.declared.memory.MemoryRange.{MemoryRange};
+ghost use Rattle.framehop_bytes.specs.Gathered.{IsGathered};
 ghost use Rattle.framehop_minidump.specs.Location.{IsErrorOf};
-ghost use Rattle.framehop_minidump.specs.Memory.{descriptor_at, range_at, short_entries_of, long_list_in, long_list_of, ranges_from, ranges_of, dumped, has, memory_of, memory_from, word_of};
+ghost use Rattle.framehop_minidump.specs.Memory.{descriptor_at, range_at, short_entries_of, long_list_in, long_list_of, ranges_from, ranges_of};
 
 use crate::error::MinidumpError;
-use crate::gathered::pushed;
 use crate::list::read_list;
 use crate::location::read_located;
 use crate::stream::{Stream, first_stream};
-use framehop_bytes::bytes::front;
-use framehop_elf::bytes::{back, u32_at, u64_at};
+use framehop_bytes::bytes::{back, u32_at, u64_at};
+use framehop_bytes::gathered::pushed;
+use framehop_memory::memory::MemoryRange;
 use std::alloc::{AllocError, Global};
 
 /// `MemoryListStream`.
@@ -26,18 +26,8 @@ const ENTRY_SIZE: usize = 16;
 /// The size of what is before the entries of the second: their number, and where the bytes begin.
 const LONG_HEADER_SIZE: u64 = 16;
 
-/// A range of memory: `MINIDUMP_MEMORY_DESCRIPTOR` or `MINIDUMP_MEMORY_DESCRIPTOR64`.
-#[derive(Clone, Copy, Debug, PartialEq, Eq)]
-pub struct MemoryRange {
-    /// Its first address (AVMA): `StartOfMemoryRange`.
-    pub start: u64,
-    /// Its size, in bytes: `DataSize`.
-    pub size: u64,
-    /// Where its bytes begin, in bytes from the start of the file.
-    pub offset: u64,
-}
-
-/// Returns the range of a descriptor of 32 bits at an offset of an entry.
+/// Returns the range of a descriptor at an offset of an entry: `MINIDUMP_MEMORY_DESCRIPTOR` (`StartOfMemoryRange`,
+/// `DataSize`, `Rva`).
 pub(crate) fn descriptor_at(entry: &[u8], at: usize) -> MemoryRange
     requires { at + 16 ≤ length entry.now }
     ensures { result ≡ descriptor_at entry.now at }
@@ -189,69 +179,4 @@ pub fn read_memory(
         Some(ranges) => Ok(ranges),
         None => Err(MinidumpError::OutOfMemory),
     }
-}
-
-/// Returns the bytes of a range that the file has.
-fn dumped(file: &[u8], range: MemoryRange) -> &[u8]
-    ensures { result.now ≡ dumped file.entry.now range }
-{
-    front(back(file, range.offset), range.size as usize)
-}
-
-/// Returns whether a range has so many bytes from an address on.
-fn has(file: &[u8], range: MemoryRange, address: u64, size: u64) -> bool
-    ensures { result ≡ has file.now address size range }
-{
-    let available = dumped(file, range).len() as u64;
-    range.start <= address && size <= available && address - range.start <= available - size
-}
-
-/// Returns the first range that has so many bytes from an address on.
-fn range_with(file: &[u8], ranges: &[MemoryRange], address: u64, size: u64) -> Option<MemoryRange>
-    ensures first { result ≡ find (has file.now address size) ranges.now }
-    ensures found { IfSome result (λ range. has file.now address size range ≡ true) }
-{
-    for range in ranges {
-        if has(file, *range, address, size) {
-            return Some(*range);
-        }
-    }
-    None
-}
-
-/// Returns so many bytes of memory from an address (AVMA) on, if the file has them: those of the first
-/// range that has all of them. A file that is cut off has fewer bytes of a range.
-///
-/// Source: `minidumpapiset.h`, `MINIDUMP_MEMORY_DESCRIPTOR`.
-pub fn bytes_at<'a>(
-    file: &'a [u8],
-    ranges: &[MemoryRange],
-    address: u64,
-    size: u64,
-) -> Option<&'a [u8]>
-    ensures exact { option_map (λ bytes. bytes.now) result ≡ memory_of file.entry.now ranges.now address size }
-    ensures whole { IfSome result (λ bytes. length bytes.now ≡ size) }
-{
-    let range = range_with(file, ranges, address, size)?;
-    let bytes = back(dumped(file, range), address - range.start);
-    Some(front(bytes, size as usize))
-}
-
-/// Returns the bytes of memory from an address (AVMA) on, as far as the range has them, if the file has the
-/// one there: those of the first range that has it.
-///
-/// Source: `minidumpapiset.h`, `MINIDUMP_MEMORY_DESCRIPTOR`.
-pub fn bytes_from<'a>(file: &'a [u8], ranges: &[MemoryRange], address: u64) -> Option<&'a [u8]>
-    ensures { option_map (λ bytes. bytes.now) result ≡ memory_from file.entry.now ranges.now address }
-{
-    let range = range_with(file, ranges, address, 1)?;
-    Some(back(dumped(file, range), address - range.start))
-}
-
-/// Returns the word of eight bytes at an address (AVMA), if the file has them: as [`bytes_at`] has them.
-pub fn word_at(file: &[u8], ranges: &[MemoryRange], address: u64) -> Option<u64>
-    ensures { result ≡ word_of file.now ranges.now address }
-{
-    let bytes = bytes_at(file, ranges, address, 8)?;
-    Some(u64_at(bytes, 0))
 }

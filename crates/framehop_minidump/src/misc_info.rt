@@ -5,7 +5,7 @@ ghost use Rattle.framehop_minidump.specs.MiscInfo.{process_id_of};
 use crate::error::MinidumpError;
 use crate::location::read_located;
 use crate::stream::{Stream, first_stream};
-use framehop_elf::bytes::u32_at;
+use framehop_bytes::bytes::u32_at;
 
 /// `MiscInfoStream`.
 const MISC_INFO_STREAM: u32 = 15;

@@ -1,14 +1,13 @@
 //! The modules of a process: the files that it had mapped.
-ghost use Rattle.std.specs.Prelude.{◌≡◌, ◌≤◌, Ok, Err, MatchResult, IfOk, length, map, find};
+ghost use Rattle.std.specs.Prelude.{◌≡◌, ◌≤◌, Ok, Err, MatchResult, IfOk, length, map};
 ghost use Rattle.framehop_minidump.specs.Location.{IsErrorOf};
-ghost use Rattle.framehop_minidump.specs.Module.{module_at, module_entries_of, modules_of, is_loaded, base_of};
+ghost use Rattle.framehop_minidump.specs.Module.{module_at, module_entries_of, modules_of};
 
 use crate::error::MinidumpError;
 use crate::list::read_list;
 use crate::location::{Location, location_at};
 use crate::stream::Stream;
-use framehop_elf::bytes::{u32_at, u64_at};
-use framehop_elf::program_header::ProgramHeader;
+use framehop_bytes::bytes::{u32_at, u64_at};
 use std::alloc::{AllocError, Global};
 
 /// `ModuleListStream`.
@@ -16,12 +15,6 @@ const MODULE_LIST_STREAM: u32 = 4;
 
 /// The size of a module's entry, in bytes.
 const ENTRY_SIZE: usize = 108;
-
-/// `PT_LOAD`.
-const PT_LOAD: u32 = 1;
-
-/// The size of a page, in bytes.
-const PAGE_SIZE: u64 = 4096;
 
 /// A module: `MINIDUMP_MODULE`.
 #[derive(Clone, Copy, Debug, PartialEq, Eq)]
@@ -100,29 +93,4 @@ pub fn read_modules(
         Ok(modules) => Ok(modules),
         Err(_) => Err(MinidumpError::OutOfMemory),
     }
-}
-
-/// Returns the first segment that is loaded.
-fn first_loaded(segments: &[ProgramHeader]) -> Option<ProgramHeader>
-    ensures { result ≡ find is_loaded segments.now }
-{
-    for segment in segments {
-        if segment.p_type == PT_LOAD {
-            return Some(*segment);
-        }
-    }
-    None
-}
-
-/// Returns the base of a module's relative addresses, an AVMA, by its first address and the segments of its
-/// ELF file: where the SVMA 0 is. The module begins with the page of the first segment of `PT_LOAD`, which
-/// has the lowest address. `None` where there is none, or the base would be below 0. The base of a PE file
-/// is its first address.
-///
-/// Source: System V gABI, chapter 5, "Base Address".
-pub fn base_avma(start: u64, segments: &[ProgramHeader]) -> Option<u64>
-    ensures { result ≡ base_of start segments.now }
-{
-    let segment = first_loaded(segments)?;
-    start.checked_sub(segment.p_vaddr - segment.p_vaddr % PAGE_SIZE)
 }

@@ -2,9 +2,9 @@
 ghost use Rattle.std.specs.Prelude.{◌≡◌, ◌≤◌, length};
 ghost use Rattle.framehop_minidump.specs.Registers.{general_of, has_x86_64, has_aarch64, x86_64_registers, aarch64_registers};
 
+use framehop_bytes::bytes::{u32_at, u64_at};
 use framehop_core::aarch64::{PtrAuthMask, UnwindRegsAarch64};
 use framehop_core::x86_64::{Reg, UnwindRegsX86_64};
-use framehop_elf::bytes::{u32_at, u64_at};
 
 /// The size of `CONTEXT` of x64 up to `Rip`, in bytes.
 const AMD64_SIZE: usize = 0x100;

@@ -6,7 +6,7 @@ ghost use Rattle.framehop_minidump.specs.Stream.{stream_at, directory_of, stream
 use crate::error::MinidumpError;
 use crate::header::{Header, read_header};
 use crate::location::{Location, location_at, read_block};
-use framehop_elf::bytes::u32_at;
+use framehop_bytes::bytes::u32_at;
 use std::alloc::{AllocError, Global};
 
 /// The size of an entry of the directory, in bytes.

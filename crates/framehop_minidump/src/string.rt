@@ -5,7 +5,7 @@ ghost use Rattle.framehop_minidump.specs.String.{unit_at, units_of, text_of, str
 
 use crate::error::MinidumpError;
 use crate::location::read_block;
-use framehop_elf::bytes::{u16_at, u32_at};
+use framehop_bytes::bytes::{u16_at, u32_at};
 use std::alloc::{AllocError, Global};
 
 /// The size of what is before a string, in bytes.

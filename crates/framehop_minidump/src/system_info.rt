@@ -5,7 +5,7 @@ ghost use Rattle.framehop_minidump.specs.SystemInfo.{machine_of, system_info_of}
 use crate::error::MinidumpError;
 use crate::location::read_located;
 use crate::stream::{Stream, first_stream};
-use framehop_elf::bytes::{u16_at, u32_at};
+use framehop_bytes::bytes::{u16_at, u32_at};
 
 /// `SystemInfoStream`.
 const SYSTEM_INFO_STREAM: u32 = 7;

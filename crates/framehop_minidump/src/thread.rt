@@ -6,9 +6,10 @@ ghost use Rattle.framehop_minidump.specs.Thread.{thread_at, thread_entries_of, t
 use crate::error::MinidumpError;
 use crate::list::read_list;
 use crate::location::{Location, location_at};
-use crate::memory::{MemoryRange, descriptor_at};
+use crate::memory::descriptor_at;
 use crate::stream::Stream;
-use framehop_elf::bytes::{u32_at, u64_at};
+use framehop_bytes::bytes::{u32_at, u64_at};
+use framehop_memory::memory::MemoryRange;
 use std::alloc::{AllocError, Global};
 
 /// `ThreadListStream`.

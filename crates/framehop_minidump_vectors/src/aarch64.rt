@@ -1,10 +1,11 @@
 //! A minidump of aarch64 that was made by hand: `scripts/made_up_aarch64.py`. The expected values are those
 //! that it is made of; LLDB 19.1 prints the same registers, threads, memory and build ids, and the name of
 //! each module but the third, whose name is not UTF-16.
-use crate::pieces::{Dump, file_of, holds, read_dump};
+use crate::pieces::{Dump, file_of, holds, memory, read_dump};
 use crate::x86_64::{has_words, is_string};
 use framehop_bytes::bytes::front;
 use framehop_core::aarch64::{PtrAuthMask, UnwindRegsAarch64};
+use framehop_memory::memory::{MemoryRange, ProcessMemory};
 use framehop_minidump::codeview::{CodeView, read_codeview};
 use framehop_minidump::exception::{Exception, context_of, read_exception};
 use framehop_minidump::location::read_located;
@@ -196,20 +197,32 @@ fn has_system(file: &[u8], streams: &[Stream]) -> bool {
     read_system_info(file, streams) == Ok(system) && read_process_id(file, streams) == Ok(None)
 }
 
-/// Whether there are three threads, of which the second's stack is in no list of memory.
-fn has_threads(file: &[u8], threads: &[Thread]) -> bool {
+/// Returns where the second of three threads has its stack, if the first is the one that crashed.
+fn stack_of_the_second(threads: &[Thread]) -> Option<MemoryRange> {
     let [crashed, second, _] = threads else {
-        return false;
+        return None;
     };
-    (crashed.tid, crashed.teb) == (501, 0x700001f5)
-        && has_words(file, &[second.stack], &[(0xfffff0000878, Some(0x6000000f))])
+    if (crashed.tid, crashed.teb) != (501, 0x700001f5) {
+        return None;
+    }
+    Some(second.stack)
+}
+
+/// Whether a thread's stack has its word, which is in no list of memory.
+fn has_word_of_stack(alloc: Global, file: &[u8], stack: MemoryRange) -> Result<bool, Fail> {
+    let memory = ProcessMemory {
+        file,
+        ranges: vec![in alloc; stack]?,
+    };
+    Ok(has_words(&memory, &[(0xfffff0000878, Some(0x6000000f))]))
 }
 
 /// Whether the minidump has both.
 fn is_described(alloc: Global) -> Result<bool, Fail> {
     let dump = whole(alloc)?;
     let file = dump.file.as_slice();
-    Ok(has_system(file, dump.streams.as_slice()) && has_threads(file, dump.threads.as_slice()))
+    let stack = stack_of_the_second(dump.threads.as_slice()).ok_or("no such threads")?;
+    Ok(has_system(file, dump.streams.as_slice()) && has_word_of_stack(alloc, file, stack)?)
 }
 
 #[test]
@@ -232,9 +245,9 @@ const WORDS: [(u64, Option<u64>); 9] = [
 
 /// Whether the minidump has them.
 fn has_all_words(alloc: Global) -> Result<bool, Fail> {
-    let dump = whole(alloc)?;
-    let ranges = dump.ranges.as_slice();
-    Ok(ranges.len() == 3 && has_words(dump.file.as_slice(), ranges, &WORDS))
+    let file = dump(alloc)?;
+    let memory = memory(alloc, file.as_slice())?;
+    Ok(memory.ranges.len() == 3 && has_words(&memory, &WORDS))
 }
 
 #[test]

@@ -4,9 +4,10 @@ use crate::pieces::holds;
 use crate::x86_64::dump;
 use framehop::x86_64::{CacheX86_64, UnwindRegsX86_64, UnwinderX86_64};
 use framehop::{ExplicitModuleSectionInfo, Generations, Module, Unwinder};
+use framehop_memory::memory::ProcessMemory;
 use framehop_minidump::exception::{context_of, read_exception};
 use framehop_minidump::location::read_located;
-use framehop_minidump::memory::{MemoryRange, read_memory, word_at};
+use framehop_minidump::memory::read_memory;
 use framehop_minidump::registers::x86_64_registers;
 use framehop_minidump::stream::read_streams;
 use framehop_minidump::thread::read_threads;
@@ -23,17 +24,22 @@ fn registers_of_thread(alloc: Global, file: &[u8], index: usize) -> Result<Unwin
     Ok(x86_64_registers(context).ok_or("no registers")?)
 }
 
-/// The frames of its stack, the innermost first, as many as fit, and how many there are. `ranges` is what
-/// `read_memory` gives.
+/// The memory of the process, as far as a minidump has it.
+fn memory(alloc: Global, file: &[u8]) -> Result<ProcessMemory<'_>, Fail> {
+    let streams = read_streams(alloc, file)?;
+    let ranges = read_memory(alloc, file, streams.as_slice())?;
+    Ok(ProcessMemory { file, ranges })
+}
+
+/// The frames of the thread's stack, the innermost first, as many as fit, and how many there are.
 fn frames_of_stack(
-    file: &[u8],
-    ranges: &[MemoryRange],
+    memory: &ProcessMemory<'_>,
     unwinder: &UnwinderX86_64<Vec<u8>>,
     cache: &mut CacheX86_64,
     regs: UnwindRegsX86_64,
     frames: &mut [u64],
 ) -> usize {
-    let mut read_stack = |address: u64| word_at(file, ranges, address).ok_or(());
+    let mut read_stack = |address: u64| memory.word_at(address).ok_or(());
     let mut walk = unwinder.iter_frames(regs.ip(), regs, cache, &mut read_stack);
     for (count, slot) in frames.iter_mut().enumerate() {
         let Ok(Some(frame)) = walk.next() else {
@@ -63,12 +69,6 @@ fn program(alloc: Global) -> Result<Module<Vec<u8>>, Fail> {
     Ok(Module::new(alloc, name, 0x400000..0x403000, 0, sections)?)
 }
 
-/// The memory of a minidump.
-fn memory(alloc: Global, file: &[u8]) -> Result<Vec<MemoryRange>, Fail> {
-    let streams = read_streams(alloc, file)?;
-    Ok(read_memory(alloc, file, streams.as_slice())?)
-}
-
 /// An unwinder that has the program's module.
 fn unwinder(alloc: Global) -> Result<UnwinderX86_64<Vec<u8>>, Fail> {
     let mut generations = Generations::new();
@@ -88,15 +88,14 @@ const FRAMES: [(usize, &[u64]); 2] = [
 
 /// Whether these are the frames of a thread.
 fn are_frames(
-    file: &[u8],
-    ranges: &[MemoryRange],
+    memory: &ProcessMemory<'_>,
     unwinder: &UnwinderX86_64<Vec<u8>>,
     cache: &mut CacheX86_64,
     regs: UnwindRegsX86_64,
     expected: &[u64],
 ) -> bool {
     let mut frames = [0; 8];
-    let count = frames_of_stack(file, ranges, unwinder, cache, regs, &mut frames);
+    let count = frames_of_stack(memory, unwinder, cache, regs, &mut frames);
     for (frame, address) in frames.iter().zip(expected) {
         if frame != address {
             return false;
@@ -108,14 +107,13 @@ fn are_frames(
 /// Whether these are the frames of each thread.
 fn are_frames_of_threads(
     alloc: Global,
-    file: &[u8],
-    ranges: &[MemoryRange],
+    memory: &ProcessMemory<'_>,
     unwinder: &UnwinderX86_64<Vec<u8>>,
     cache: &mut CacheX86_64,
 ) -> Result<bool, Fail> {
     for (index, expected) in FRAMES {
-        let regs = registers_of_thread(alloc, file, index)?;
-        if !are_frames(file, ranges, unwinder, cache, regs, expected) {
+        let regs = registers_of_thread(alloc, memory.file, index)?;
+        if !are_frames(memory, unwinder, cache, regs, expected) {
             return Ok(false);
         }
     }
@@ -124,10 +122,10 @@ fn are_frames_of_threads(
 
 /// Whether the minidump's frames are found by an unwinder that has the program.
 fn finds_the_frames(alloc: Global, file: &[u8]) -> Result<bool, Fail> {
-    let ranges = memory(alloc, file)?;
+    let memory = memory(alloc, file)?;
     let unwinder = unwinder(alloc)?;
     let mut cache = CacheX86_64::new(alloc)?;
-    are_frames_of_threads(alloc, file, ranges.as_slice(), &unwinder, &mut cache)
+    are_frames_of_threads(alloc, &memory, &unwinder, &mut cache)
 }
 
 /// The same of the minidump of `x86_64`.

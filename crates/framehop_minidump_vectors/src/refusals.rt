@@ -1,12 +1,13 @@
 //! Each refusal once, of the two minidumps with a few other bytes.
-use crate::pieces::{change, holds, read_dump};
+use crate::pieces::{change, holds, memory, read_dump};
 use crate::{aarch64, x86_64};
 use framehop_bytes::bytes::front;
+use framehop_memory::memory::ProcessMemory;
 use framehop_minidump::codeview::read_codeview;
 use framehop_minidump::error::MinidumpError;
 use framehop_minidump::exception::{Exception, context_of, read_exception};
 use framehop_minidump::location::read_located;
-use framehop_minidump::memory::{MemoryRange, read_memory};
+use framehop_minidump::memory::read_memory;
 use framehop_minidump::misc_info::read_process_id;
 use framehop_minidump::module::{Module, read_modules};
 use framehop_minidump::stream::{Stream, read_streams};
@@ -186,11 +187,12 @@ const WORDS_OF_BOTH: [(u64, Option<u64>); 3] = [
 ];
 
 /// Whether the first of two streams, and of two ranges, is taken.
-fn takes_the_first(file: &[u8], streams: &[Stream], ranges: &[MemoryRange]) -> bool {
+fn takes_the_first(streams: &[Stream], memory: &ProcessMemory<'_>) -> bool {
+    let file = memory.file;
     let system = read_system_info(file, streams);
     system.is_ok_and(|system| system.machine == Machine::Aarch64)
         && read_exception(file, streams) == Ok(None)
-        && x86_64::has_words(file, ranges, &WORDS_OF_BOTH)
+        && x86_64::has_words(memory, &WORDS_OF_BOTH)
 }
 
 /// Whether it is so in the file of aarch64 with its changes.
@@ -198,8 +200,8 @@ fn takes_the_first_of_aarch64(alloc: Global) -> Result<bool, Fail> {
     let mut file = aarch64::dump(alloc)?;
     repeat_streams(file.as_mut_slice()).ok_or("no such byte")?;
     let dump = read_dump(alloc, file)?;
-    let ranges = dump.ranges.as_slice();
-    Ok(takes_the_first(dump.file.as_slice(), dump.streams.as_slice(), ranges))
+    let memory = memory(alloc, dump.file.as_slice())?;
+    Ok(takes_the_first(dump.streams.as_slice(), &memory))
 }
 
 #[test]

@@ -2,17 +2,16 @@
 //! stack`) for the program of `framehop_core_file_vectors/scripts/crash.c`. The bytes of the streams of text
 //! that Linux has in `/proc` are 0. The expected values are those that LLDB printed of the process:
 //! `register read`, `thread list`, `thread backtrace all` and `image list`.
-use crate::pieces::{Dump, file_of, holds, read_dump};
+use crate::pieces::{Dump, file_of, holds, memory, read_dump};
 use framehop_bytes::bytes::front;
 use framehop_core::x86_64::{Reg, UnwindRegsX86_64};
-use framehop_elf::program_header::ProgramHeader;
+use framehop_memory::memory::ProcessMemory;
 use framehop_minidump::codeview::{CodeView, read_codeview};
 use framehop_minidump::exception::{Exception, context_of, read_exception};
 use framehop_minidump::header::{Header, read_header};
 use framehop_minidump::location::read_located;
-use framehop_minidump::memory::{MemoryRange, bytes_at, bytes_from, word_at};
 use framehop_minidump::misc_info::read_process_id;
-use framehop_minidump::module::{Module, base_avma};
+use framehop_minidump::module::Module;
 use framehop_minidump::registers::x86_64_registers;
 use framehop_minidump::stream::{Stream, first_stream};
 use framehop_minidump::string::read_string;
@@ -299,35 +298,6 @@ fn reads_modules(rt: HostRuntime) -> Result<(), Fail> {
     holds(has_both_modules(rt.alloc())?)
 }
 
-/// A segment at an address.
-const fn segment(p_type: u32, p_vaddr: u64) -> ProgramHeader {
-    ProgramHeader {
-        p_type,
-        p_flags: 4,
-        p_offset: 0x1b4,
-        p_vaddr,
-        p_paddr: 0,
-        p_filesz: 0,
-        p_memsz: 0,
-        p_align: 0x1000,
-    }
-}
-
-/// Whether these bases are found: the program's, of which `readelf -l` prints the first segment; a library's; and
-/// none.
-fn are_bases() -> bool {
-    let segments = [segment(4, 0), segment(1, 0x4001b4), segment(1, 0x402000)];
-    base_avma(0x400000, &segments) == Some(0)
-        && base_avma(0x7f0000400000, &segments) == Some(0x7f0000000000)
-        && base_avma(0x3ff000, &segments).is_none()
-        && base_avma(0x400000, &[segment(4, 0)]).is_none()
-}
-
-#[test]
-fn finds_bases(rt: HostRuntime) {
-    assert!(rt; are_bases());
-}
-
 /// Words by their addresses: the return addresses of LLDB's `thread backtrace all`, on both stacks; and none
 /// of the code, which is not there, nor where a stack begins or ends.
 const WORDS: [(u64, Option<u64>); 9] = [
@@ -343,9 +313,9 @@ const WORDS: [(u64, Option<u64>); 9] = [
 ];
 
 /// Whether these words are read at these addresses.
-pub(crate) fn has_words(file: &[u8], ranges: &[MemoryRange], words: &[(u64, Option<u64>)]) -> bool {
+pub(crate) fn has_words(memory: &ProcessMemory<'_>, words: &[(u64, Option<u64>)]) -> bool {
     for (address, word) in words {
-        if word_at(file, ranges, *address) != *word {
+        if memory.word_at(*address) != *word {
             return false;
         }
     }
@@ -353,37 +323,41 @@ pub(crate) fn has_words(file: &[u8], ranges: &[MemoryRange], words: &[(u64, Opti
 }
 
 /// Whether there is the whole stack of the thread that crashed, and no byte more.
-fn has_stack(file: &[u8], ranges: &[MemoryRange]) -> bool {
-    match bytes_at(file, ranges, 0x7fffffffed58, 0x2a8) {
-        Some(stack) => stack.len() == 0x2a8
-            && bytes_at(file, ranges, 0x7fffffffed58, 0x2a9).is_none(),
+fn has_stack(memory: &ProcessMemory<'_>) -> bool {
+    match memory.bytes_at(0x7fffffffed58, 0x2a8) {
+        Some(stack) => stack.len() == 0x2a8 && memory.bytes_at(0x7fffffffed58, 0x2a9).is_none(),
         None => false,
     }
 }
 
 /// Whether the program's name is the last on its stack.
-fn has_name(file: &[u8], ranges: &[MemoryRange]) -> bool {
-    match bytes_from(file, ranges, 0x7fffffffefe3) {
+fn has_name(memory: &ProcessMemory<'_>) -> bool {
+    match memory.bytes_from(0x7fffffffefe3) {
         Some(name) => front(name, 21) == b"/usr/local/bin/crash\0".as_slice(),
         None => false,
     }
 }
 
-/// Whether a file has these two ranges of memory, and fewer bytes where it is cut off.
-fn has_memory(file: &[u8], ranges: &[MemoryRange]) -> bool {
-    let cut = front(file, 0x2a47 + 0x88);
-    let words = [(0x403488, Some(0x4010be)), (0x403489, None)];
-    ranges.len() == 2
-        && has_words(file, ranges, &WORDS)
-        && has_stack(file, ranges)
-        && has_name(file, ranges)
-        && has_words(cut, ranges, &words)
+/// Whether there are these two ranges of memory.
+fn has_memory(memory: &ProcessMemory<'_>) -> bool {
+    memory.ranges.len() == 2 && has_words(memory, &WORDS) && has_stack(memory) && has_name(memory)
+}
+
+/// Whether there are fewer bytes where the file is cut off.
+fn has_cut_memory(memory: &ProcessMemory<'_>) -> bool {
+    has_words(memory, &[(0x403488, Some(0x4010be)), (0x403489, None)])
 }
 
 /// Whether the minidump has them.
 fn has_both_ranges(alloc: Global) -> Result<bool, Fail> {
-    let dump = whole(alloc)?;
-    Ok(has_memory(dump.file.as_slice(), dump.ranges.as_slice()))
+    let file = dump(alloc)?;
+    let whole = memory(alloc, file.as_slice())?;
+    let is_whole = has_memory(&whole);
+    let cut = ProcessMemory {
+        file: front(file.as_slice(), 0x2a47 + 0x88),
+        ranges: whole.ranges,
+    };
+    Ok(is_whole && has_cut_memory(&cut))
 }
 
 #[test]

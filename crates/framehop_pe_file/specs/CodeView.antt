@@ -4,7 +4,7 @@ use Rattle.std.specs.Prelude.{ℕ, List, [], ◌∷◌, length, take, drop, Opti
 use Rattle.std.specs.Option.{option_or}
 use Rattle.std.specs.Result.{result_ok}
 use Rattle.framehop_bytes.specs.Bytes.{◌>>=◌, le4}
-use Rattle.framehop_elf.specs.Section.{string_of}
+use Rattle.framehop_bytes.specs.String.{string_of}
 use Rattle.framehop_pe_file.specs.Numbers.{IMAGE_DEBUG_TYPE_CODEVIEW, RSDS, DEBUG_DIRECTORY_SIZE}
 use Rattle.framehop_pe_file.specs.Block.{block_at, entries_in}
 use Rattle.framehop_pe_file.specs.Rva.{bytes_at}

@@ -3,7 +3,7 @@ use Rattle.std.specs.Prelude.{ℕ, ◌+◌, List, min, Option, nat_eq, Result}
 use Rattle.std.specs.List.{find}
 use Rattle.std.specs.Cmp.Lexicographic.{pointwise}
 use Rattle.std.specs.declared.ops.Range.{Range}
-use Rattle.framehop_elf.specs.Section.{string_of}
+use Rattle.framehop_bytes.specs.String.{string_of}
 use Rattle.framehop_pe_file.specs.Block.{block_at}
 use Rattle.framehop_pe_file.specs.declared.error.PeError.{PeError}
 use Rattle.framehop_pe_file.specs.declared.section_header.SectionHeader.{SectionHeader}

@@ -3,8 +3,7 @@ ghost use Rattle.std.specs.Prelude.{◌≡◌, Ok, Err, MatchResult, IfOk, lengt
 ghost use Rattle.framehop_pe_file.specs.Block.{block_at};
 
 use crate::error::PeError;
-use framehop_bytes::bytes::front;
-use framehop_elf::bytes::back;
+use framehop_bytes::block;
 
 /// Returns so many bytes from an offset of the file on.
 ///
@@ -17,9 +16,5 @@ pub(crate) fn read_block(file: &[u8], offset: u64, size: u64) -> Result<&[u8], P
         (λ error. block_at file.entry.now offset size ≡ Err error) }
     ensures whole { IfOk result (λ block. length block.now ≡ size) }
 {
-    let length = file.len() as u64;
-    if offset > length || size > length - offset {
-        return Err(PeError::Eof { offset });
-    }
-    Ok(front(back(file, offset), size as usize))
+    block::read_block(file, offset, size).ok_or(PeError::Eof { offset })
 }

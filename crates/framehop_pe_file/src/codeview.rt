@@ -7,9 +7,8 @@ use crate::error::PeError;
 use crate::header::FileHeader;
 use crate::rva::read_at_rva;
 use crate::section_header::SectionHeader;
-use framehop_bytes::bytes::front;
-use framehop_elf::bytes::{back, u32_at};
-use framehop_elf::section::string_at;
+use framehop_bytes::bytes::{back, front, u32_at};
+use framehop_bytes::string::string_at;
 
 /// "RSDS" as a little-endian number.
 const RSDS: u32 = 0x53445352;

@@ -4,7 +4,7 @@ ghost use Rattle.framehop_pe_file.specs.Header.{machine_of, directory_of, start_
 
 use crate::block::read_block;
 use crate::error::PeError;
-use framehop_elf::bytes::{u16_at, u32_at, u64_at};
+use framehop_bytes::bytes::{u16_at, u32_at, u64_at};
 
 /// `IMAGE_DOS_SIGNATURE`: "MZ" as a little-endian number.
 const DOS_SIGNATURE: u16 = 0x5a4d;

@@ -5,7 +5,7 @@ ghost use Rattle.framehop_pe_file.specs.Section.{name_of, size_in_file, rva_rang
 use crate::block::read_block;
 use crate::error::PeError;
 use crate::section_header::SectionHeader;
-use framehop_elf::section::string_at;
+use framehop_bytes::string::string_at;
 use std::ops::Range;
 
 /// Returns the name of a section, without the zeros after it. A linker may write longer names as `/` and an

@@ -6,7 +6,7 @@ ghost use Rattle.framehop_pe_file.specs.SectionHeader.{section_header_of, sectio
 use crate::block::read_block;
 use crate::error::PeError;
 use crate::header::FileHeader;
-use framehop_elf::bytes::u32_at;
+use framehop_bytes::bytes::u32_at;
 use std::alloc::{AllocError, Global};
 
 /// The size of a section header, in bytes.

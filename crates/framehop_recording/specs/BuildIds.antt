@@ -7,7 +7,7 @@ use Rattle.framehop_recording.specs.Fields.{BUILD_ID_PID, BUILD_ID_BUILD_ID, BUI
 use Rattle.framehop_recording.specs.Bytes.{u32_at, block_at, each_of, has_bit}
 use Rattle.framehop_recording.specs.Header.{section_at}
 use Rattle.framehop_recording.specs.Records.{RecordView, run_of}
-use Rattle.framehop_recording.specs.Mapping.{text_of}
+use Rattle.framehop_bytes.specs.String.{before_nul}
 use Rattle.framehop_recording.specs.declared.error.RecordingError.{RecordingError}
 use Rattle.framehop_recording.specs.declared.error.RecordingError.TheVariants.{Eof, ShortRecord}
 use Rattle.framehop_recording.specs.declared.header.Header.{Header}
@@ -37,7 +37,7 @@ unfoldable pub file_build_id_at : RecordView → Result FileBuildIdView Recordin
 file_build_id_at r = do
   pid ← u32_at r.body BUILD_ID_PID (ShortRecord r.offset)
   size ← u32_at r.body BUILD_ID_SIZE (ShortRecord r.offset)
-  Ok (record { pid = pid.0; build_id = take (if has_bit r.misc PERF_RECORD_MISC_BUILD_ID_SIZE then size.0 % 256 else 20) (take 20 (drop BUILD_ID_BUILD_ID r.body)); name = text_of (drop BUILD_ID_FILENAME r.body) })
+  Ok (record { pid = pid.0; build_id = take (if has_bit r.misc PERF_RECORD_MISC_BUILD_ID_SIZE then size.0 % 256 else 20) (take 20 (drop BUILD_ID_BUILD_ID r.body)); name = before_nul (drop BUILD_ID_FILENAME r.body) })
 
 -- those of a run, which no refusal may end
 abbrev pub build_ids_in : List RecordView → Option RecordingError → Result (List FileBuildIdView) RecordingError

@@ -1,6 +1,6 @@
 -- The mappings of files into processes: PERF_RECORD_MMAP and PERF_RECORD_MMAP2 of perf_event.h.
 use Rattle.std.specs.Prelude.{ℕ, List, [], ◌%◌, take, drop, Bool, not, Result, Ok, Err, ◌==◌, if◌then◌else◌}
-use Rattle.std.specs.List.{before_first}
+use Rattle.framehop_bytes.specs.String.{before_nul}
 use Rattle.framehop_bytes.specs.Bytes.{◌>>=◌}
 use Rattle.framehop_recording.specs.Numbers.{PERF_RECORD_MMAP, PERF_RECORD_MMAP2, PERF_RECORD_MISC_MMAP_DATA, PERF_RECORD_MISC_MMAP_BUILD_ID}
 use Rattle.framehop_recording.specs.Fields.{MMAP_PID, MMAP_ADDR, MMAP_LEN, MMAP_PGOFF, MMAP_FILENAME, MMAP2_BUILD_ID_SIZE, MMAP2_BUILD_ID, MMAP2_FILENAME}
@@ -31,10 +31,6 @@ mapping_view m = record {
   name = m.name.now;
 }
 
--- a text, up to its first 0
-abbrev pub text_of : List ℕ → List ℕ
-text_of bytes = before_first (λ byte. byte == 0) bytes
-
 -- The build id in the place of the device and inode, where PERF_RECORD_MISC_MMAP_BUILD_ID says so: its size, three
 -- reserved bytes, and at most 20 bytes.
 unfoldable pub build_id_at : RecordView → Result (List ℕ) RecordingError
@@ -50,7 +46,7 @@ mapping_fields r name_at build_id = do
   size ← u64_at r.body MMAP_LEN (ShortRecord r.offset)
   offset ← u64_at r.body MMAP_PGOFF (ShortRecord r.offset)
   fields ← block_at r.body 0 name_at (ShortRecord r.offset)
-  Ok (record { pid = pid.0; start = start.0; size = size.0; offset = offset.0; is_executable = not (has_bit r.misc PERF_RECORD_MISC_MMAP_DATA); build_id = build_id; name = text_of (drop name_at r.body) })
+  Ok (record { pid = pid.0; start = start.0; size = size.0; offset = offset.0; is_executable = not (has_bit r.misc PERF_RECORD_MISC_MMAP_DATA); build_id = build_id; name = before_nul (drop name_at r.body) })
 
 unfoldable pub mapping_at : RecordView → Result MappingView RecordingError
 mapping_at r = if r.kind == PERF_RECORD_MMAP then mapping_fields r MMAP_FILENAME [] else if r.kind == PERF_RECORD_MMAP2 then (do

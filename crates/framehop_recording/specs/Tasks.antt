@@ -6,7 +6,7 @@ use Rattle.framehop_recording.specs.Numbers.{PERF_RECORD_LOST, PERF_RECORD_COMM,
 use Rattle.framehop_recording.specs.Fields.{COMM_PID, COMM_TID, COMM_COMM, FORK_PID, FORK_PPID, FORK_TID, FORK_PTID, FORK_TIME, LOST_LOST, LOST_SAMPLES_LOST}
 use Rattle.framehop_recording.specs.Bytes.{u32_at, u64_at, has_bit}
 use Rattle.framehop_recording.specs.Records.{RecordView}
-use Rattle.framehop_recording.specs.Mapping.{text_of}
+use Rattle.framehop_bytes.specs.String.{before_nul}
 use Rattle.framehop_recording.specs.declared.error.RecordingError.{RecordingError}
 use Rattle.framehop_recording.specs.declared.error.RecordingError.TheVariants.{OtherKind, ShortRecord}
 use Rattle.framehop_recording.specs.declared.tasks.Command.{Command}
@@ -27,7 +27,7 @@ unfoldable pub command_at : RecordView → Result CommandView RecordingError
 command_at r = if r.kind == PERF_RECORD_COMM then (do
   pid ← u32_at r.body COMM_PID (ShortRecord r.offset)
   tid ← u32_at r.body COMM_TID (ShortRecord r.offset)
-  Ok (record { pid = pid.0; tid = tid.0; is_exec = has_bit r.misc PERF_RECORD_MISC_COMM_EXEC; name = text_of (drop COMM_COMM r.body) })) else Err (OtherKind r.offset)
+  Ok (record { pid = pid.0; tid = tid.0; is_exec = has_bit r.misc PERF_RECORD_MISC_COMM_EXEC; name = before_nul (drop COMM_COMM r.body) })) else Err (OtherKind r.offset)
 
 -- A thread that begins or ends. One that ran before the recording began is made up by perf: of it the flag says that it is
 -- no copy of its parent.

@@ -5,12 +5,12 @@ ghost use Rattle.framehop_recording.specs.Bytes.{each_of};
 ghost use Rattle.framehop_recording.specs.Records.{record_view};
 ghost use Rattle.framehop_recording.specs.BuildIds.{build_ids_section, file_build_id_at, file_build_id_view, build_ids_at, build_ids_of};
 
-use crate::bytes::{back, read_block, read_u32};
+use crate::bytes::{read_block, read_u32};
 use crate::error::RecordingError;
 use crate::header::{Header, Section, read_section};
-use crate::mapping::text;
 use crate::records::{Record, read_records};
-use framehop_bytes::bytes::front;
+use framehop_bytes::bytes::{back, front};
+use framehop_bytes::string::before_nul;
 use std::alloc::Global;
 
 /// HEADER_BUILD_ID among the features of the header.
@@ -72,7 +72,7 @@ fn read_file_build_id<'a>(record: Record<'a>) -> Result<FileBuildId<'a>, Recordi
     Ok(FileBuildId {
         pid,
         build_id: front(front(back(record.body, 4), 20), size),
-        name: text(back(record.body, 28)),
+        name: before_nul(back(record.body, 28)),
     })
 }
 

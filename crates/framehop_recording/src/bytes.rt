@@ -1,25 +1,13 @@
 //! Numbers and blocks at an offset of bytes.
-ghost use Rattle.std.specs.Prelude.{◌≡◌, ◌+◌, ◌^◌, ◌<◌, ◌≤◌, Ok, Err, IfOk, MatchResult, length, drop};
+ghost use Rattle.std.specs.Prelude.{◌≡◌, ◌+◌, ◌^◌, ◌<◌, ◌≤◌, Ok, Err, IfOk, MatchResult, length};
 ghost use Rattle.framehop_recording.specs.Bytes.{u16_at, u32_at, u64_at, word_at, word_from_end, block_at};
 
 use crate::error::RecordingError;
-use framehop_bytes::bytes;
-use framehop_bytes::bytes::front;
-
-/// Returns the bytes from an offset on, or none where there are fewer.
-#[inline]
-pub(crate) fn back(bytes: &[u8], start: usize) -> &[u8]
-    ensures { result.now ≡ drop start bytes.entry.now }
-{
-    if start > bytes.len() {
-        return &[];
-    }
-    &bytes[start..]
-}
+use framehop_bytes::{block, bytes};
 
 /// Reads a number of two bytes, or returns the refusal where the bytes end before it.
 #[inline]
-#[tactic(auto, unfolding(crate::specs::Bytes::u16_at, framehop_bytes::specs::Bytes::u16_at))]
+#[tactic(auto, unfolding(crate::specs::Bytes::u16_at))]
 pub(crate) fn read_u16(
     bytes: &[u8],
     at: usize,
@@ -27,15 +15,12 @@ pub(crate) fn read_u16(
 ) -> Result<(u16, usize), RecordingError>
     ensures { result ≡ u16_at bytes.now at short }
 {
-    match bytes::read_u16(bytes, at) {
-        Ok(read) => Ok(read),
-        Err(_) => Err(short),
-    }
+    bytes::read_u16(bytes, at).ok_or(short)
 }
 
 /// Reads a number of four bytes, or returns the refusal where the bytes end before it.
 #[inline]
-#[tactic(auto, unfolding(crate::specs::Bytes::u32_at, framehop_bytes::specs::Bytes::u32_at))]
+#[tactic(auto, unfolding(crate::specs::Bytes::u32_at))]
 pub(crate) fn read_u32(
     bytes: &[u8],
     at: usize,
@@ -43,15 +28,12 @@ pub(crate) fn read_u32(
 ) -> Result<(u32, usize), RecordingError>
     ensures { result ≡ u32_at bytes.now at short }
 {
-    match bytes::read_u32(bytes, at) {
-        Ok(read) => Ok(read),
-        Err(_) => Err(short),
-    }
+    bytes::read_u32(bytes, at).ok_or(short)
 }
 
 /// Reads a number of eight bytes, or returns the refusal where the bytes end before it.
 #[inline]
-#[tactic(auto, unfolding(crate::specs::Bytes::u64_at, framehop_bytes::specs::Bytes::u64_at))]
+#[tactic(auto, unfolding(crate::specs::Bytes::u64_at))]
 pub(crate) fn read_u64(
     bytes: &[u8],
     at: usize,
@@ -59,22 +41,16 @@ pub(crate) fn read_u64(
 ) -> Result<(u64, usize), RecordingError>
     ensures { result ≡ u64_at bytes.now at short }
 {
-    match bytes::read_u64(bytes, at) {
-        Ok(read) => Ok(read),
-        Err(_) => Err(short),
-    }
+    bytes::read_u64(bytes, at).ok_or(short)
 }
 
 /// Returns the number of eight bytes at an offset, if the bytes have it.
 #[inline]
-#[tactic(auto, unfolding(framehop_bytes::specs::Bytes::u64_at))]
 pub(crate) fn word(bytes: &[u8], at: usize) -> Option<u64>
     ensures { result ≡ word_at bytes.now at }
 {
-    match bytes::read_u64(bytes, at) {
-        Ok((word, _)) => Some(word),
-        Err(_) => None,
-    }
+    let (word, _) = bytes::read_u64(bytes, at)?;
+    Some(word)
 }
 
 /// Returns the number of eight bytes that is so many such numbers before the end, if the bytes have it.
@@ -103,10 +79,6 @@ pub(crate) fn read_block<'a>(
         (λ error. block_at bytes.entry.now at size short ≡ Err error) }
     ensures within { IfOk result (λ read. (read.1 ≡ at + size) × (read.1 ≤ length bytes.entry.now) × (read.1 < 2 ^ 64)) }
 {
-    let length = bytes.len() as u64;
-    if at > length || size > length - at {
-        return Err(short);
-    }
-    let end = (at + size) as usize;
-    Ok((front(back(bytes, at as usize), size as usize), end))
+    let block = block::read_block(bytes, at, size).ok_or(short)?;
+    Ok((block, (at + size) as usize))
 }

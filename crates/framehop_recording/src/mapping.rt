@@ -1,13 +1,14 @@
 //! Mappings of files into processes.
 ghost use Rattle.std.specs.Prelude.{◌≡◌, Ok, Err, MatchResult};
 ghost use Rattle.framehop_recording.specs.Records.{record_view};
-ghost use Rattle.framehop_recording.specs.Mapping.{text_of, build_id_at, mapping_fields, mapping_at, mapping_view};
+ghost use Rattle.framehop_recording.specs.Mapping.{build_id_at, mapping_fields, mapping_at, mapping_view};
 
-use crate::bytes::{back, read_block, read_u32, read_u64};
+use crate::bytes::{read_block, read_u32, read_u64};
 use crate::error::RecordingError;
 use crate::kind::{MMAP, MMAP2};
 use crate::records::Record;
-use framehop_bytes::bytes::front;
+use framehop_bytes::bytes::{back, front};
+use framehop_bytes::string::before_nul;
 
 /// PERF_RECORD_MISC_MMAP_DATA.
 const MMAP_DATA: u16 = 0x2000;
@@ -32,18 +33,6 @@ pub struct Mapping<'a> {
     pub build_id: &'a [u8],
     /// The file's name, without the 0 after it.
     pub name: &'a [u8],
-}
-
-/// Returns the bytes before the first 0, or all of them where there is none.
-pub(crate) fn text(bytes: &[u8]) -> &[u8]
-    ensures { result.now ≡ text_of bytes.entry.now }
-{
-    for end in 0..bytes.len() {
-        if bytes[end] == 0 {
-            return front(bytes, end);
-        }
-    }
-    bytes
 }
 
 /// Returns the build id of a PERF_RECORD_MMAP2.
@@ -82,7 +71,7 @@ fn read_fields<'a>(
     let (size, _) = read_u64(record.body, 16, short)?;
     let (offset, _) = read_u64(record.body, 24, short)?;
     let (_, end) = read_block(record.body, 0, name_at, short)?;
-    let name = text(back(record.body, end));
+    let name = before_nul(back(record.body, end as u64));
     Ok(Mapping {
         pid,
         start,

@@ -2,11 +2,11 @@
 ghost use Rattle.std.specs.Prelude.{◌≡◌, ◌+◌, ◌^◌, ◌<◌, ◌≤◌, IfOk, IfErr, MatchResult, Ok, Err, length};
 ghost use Rattle.framehop_recording.specs.Records.{trailing_of, sized_record_at, record_at, record_view, refusal_at_end, run_in, run_of, run_view};
 
-use crate::bytes::{back, read_block, read_u16, read_u32, read_u64};
+use crate::bytes::{read_block, read_u16, read_u32, read_u64};
 use crate::error::RecordingError;
 use crate::header::Section;
 use crate::kind::{AUXTRACE, COMPRESSED, COMPRESSED2};
-use framehop_bytes::bytes::front;
+use framehop_bytes::bytes::{back, front};
 use std::alloc::Global;
 
 /// A record: `perf_event_header`, and what is after it.
@@ -126,7 +126,7 @@ fn read_run<'a>(
                     return Err(RecordingError::OutOfMemory);
                 }
                 offset += size as u64;
-                rest = back(rest, size);
+                rest = back(rest, size as u64);
             }
             Err(error) => {
                 let refusal = Some(error);
@@ -164,7 +164,7 @@ pub fn read_records<'a>(
             refusal: Some(RecordingError::Eof { offset }),
         });
     }
-    let bytes = front(back(file, offset as usize), section.size as usize);
+    let bytes = front(back(file, offset), section.size as usize);
     let is_cut = (bytes.len() as u64) < section.size;
     read_run(alloc, is_cut, offset, bytes)
 }

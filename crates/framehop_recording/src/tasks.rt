@@ -3,11 +3,12 @@ ghost use Rattle.std.specs.Prelude.{◌≡◌, Ok, Err, MatchResult};
 ghost use Rattle.framehop_recording.specs.Records.{record_view};
 ghost use Rattle.framehop_recording.specs.Tasks.{command_at, command_view, task_at, lost_at, lost_samples_at};
 
-use crate::bytes::{back, read_u32, read_u64};
+use crate::bytes::{read_u32, read_u64};
 use crate::error::RecordingError;
 use crate::kind::{COMM, EXIT, FORK, LOST, LOST_SAMPLES};
-use crate::mapping::text;
 use crate::records::Record;
+use framehop_bytes::bytes::back;
+use framehop_bytes::string::before_nul;
 
 /// PERF_RECORD_MISC_COMM_EXEC.
 const COMM_EXEC: u16 = 0x2000;
@@ -70,7 +71,7 @@ pub fn read_command<'a>(record: Record<'a>) -> Result<Command<'a>, RecordingErro
         pid,
         tid,
         is_exec: record.misc & COMM_EXEC != 0,
-        name: text(back(record.body, 8)),
+        name: before_nul(back(record.body, 8)),
     })
 }
 

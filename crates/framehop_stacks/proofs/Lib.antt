@@ -1,5 +1,4 @@
 mod ServedLemmas
-mod TallyLemmas
 mod NameLemmas
 mod PlaceLemmas
 mod LineLemmas

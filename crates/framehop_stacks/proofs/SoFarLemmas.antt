@@ -11,21 +11,21 @@ use Rattle.framehop_processes.specs.Process.{ProcessView}
 use Rattle.framehop_recording.specs.Numbers.{PERF_RECORD_SAMPLE}
 use Rattle.framehop_recording.specs.Records.{RecordView, record_view}
 use Rattle.framehop_recording.specs.declared.order.TimedRecord.{TimedRecord}
+use Rattle.framehop_folded.specs.declared.folded.Folded.{Folded}
 use Rattle.framehop_stacks.specs.Names.{named_in}
 use Rattle.framehop_stacks.specs.Processes.{mapped_in}
 use Rattle.framehop_stacks.specs.Recording.{records_in}
 use Rattle.framehop_stacks.specs.Samples.{State, state_in, state_after, state_over, Agrees, samples_from, Each, IsTaken, AreTaken}
 use Rattle.framehop_stacks.specs.declared.files.Files.{Files}
 use Rattle.framehop_stacks.specs.declared.names.Names.{Names}
-use Rattle.framehop_stacks.specs.declared.tally.Tally.{Tally}
 use Rattle.framehop_stacks.proofs.StateLemmas.{named-same, mapped-same}
 use Rattle.framehop_stacks.proofs.TakenLemmas.{Each-more, AreTaken-more}
 
 -- Of all records from a state on some are left. The state there agrees with the names and the processes, and the samples
 -- before it have their texts, which were taken.
 pub record IsSoFar (files : Files) (IsText : RecordView × State → List ℕ → Type 0) (frames explain : Bool) (all : List RecordView)
-    (first : State) (old : Tally) (before : Option (List ℕ)) (rest : List RecordView) (names : Names)
-    (processes : BTreeMap ℕ ProcessView) (new : Tally) (after : Option (List ℕ)) : Type 0 where
+    (first : State) (old : Folded) (before : Option (List ℕ)) (rest : List RecordView) (names : Names)
+    (processes : BTreeMap ℕ ProcessView) (new : Folded) (after : Option (List ℕ)) : Type 0 where
   pub state : State
   pub told : List (RecordView × State)
   pub texts : List (List ℕ)
@@ -38,9 +38,9 @@ pub record IsSoFar (files : Files) (IsText : RecordView × State → List ℕ �
 module _ (files : Files) (IsText : RecordView × State → List ℕ → Type 0)
     (same_text : (r : RecordView) (state other : State) → ((tid : ℕ) → state.named tid ≡ other.named tid)
     → ((pid : ℕ) → state.mapped pid ≡ other.mapped pid) → (text : List ℕ) → IsText (r, state) text → IsText (r, other) text)
-    (frames explain : Bool) (all : List RecordView) (first : State) (old : Tally) (before : Option (List ℕ))
+    (frames explain : Bool) (all : List RecordView) (first : State) (old : Folded) (before : Option (List ℕ))
     (r : RecordView) (rest : List RecordView) (names names' : Names) (processes processes' : BTreeMap ℕ ProcessView)
-    (new new' : Tally) (after after' : Option (List ℕ))
+    (new new' : Folded) (after after' : Option (List ℕ))
     (so : IsSoFar files IsText frames explain all first old before (r ∷ rest) names processes new after)
     (agrees : Agrees names' processes' (state_after files r (state_in names processes)))
     (sample : r.kind ≡ PERF_RECORD_SAMPLE → (text : List ℕ) × IsText (r, state_in names processes) text × IsTaken frames explain text new new' after after')
@@ -79,7 +79,7 @@ module _ (files : Files) (IsText : RecordView × State → List ℕ → Type 0)
         leads = so.leads;
         samples = ap (λ b. so.told ++ cond b ((r, so.state) ∷ next) next) (sym is) ∙ so.samples;
         each = so.each;
-        taken = subst (λ tally. AreTaken frames explain so.texts old tally before after') (sym none.0)
+        taken = subst (λ folded. AreTaken frames explain so.texts old folded before after') (sym none.0)
             (subst (λ bytes. AreTaken frames explain so.texts old new before bytes) (sym none.1) so.taken);
       }
 

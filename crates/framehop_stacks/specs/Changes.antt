@@ -5,7 +5,7 @@ use Rattle.std.specs.BTreeMap.{get_by}
 use Rattle.std.specs.Cmp.Lexicographic.{slice_cmp}
 use Rattle.std.specs.Ordering.{nat_cmp}
 use Rattle.framehop_bytes.specs.Bytes.{◌>>=◌}
-use Rattle.framehop_elf.specs.Segment.{base_of}
+use Rattle.framehop_memory.specs.Segment.{base_of}
 use Rattle.framehop_processes.specs.declared.mapping.Mapping.{Mapping}
 use Rattle.framehop_recording.specs.Mapping.{MappingView, mapping_at}
 use Rattle.framehop_recording.specs.Numbers.{PERF_RECORD_MMAP, PERF_RECORD_MMAP2, PERF_RECORD_COMM, PERF_RECORD_FORK}
@@ -46,7 +46,7 @@ end_of_mapping m = min (m.start + m.size) (2 ^ 64 - 1)
 -- where the file's stated address 0 is, if the mapping is of an executable segment of a file that was read (4,096 is the size
 -- of a page)
 abbrev pub base_in : Option ObjectFile → MappingView → Option ℕ
-base_in object m = option_and_then (λ object. base_of object.segments.items 4096 m.offset m.size m.start) object
+base_in object m = option_and_then (λ object. base_of object.segments.items m.offset m.size m.start) object
 
 -- with the unwind data and the names of the file; else its relative addresses are offsets of the file
 abbrev pub mapping_based : MappingView → ℕ → Option ℕ → Mapping

@@ -1,20 +1,14 @@
 -- What is counted of samples.
-use Rattle.std.specs.Prelude.{◌≡◌, ◌≢◌, ℕ, ◌+◌, ◌-◌, ◌^◌, ◌<◌, List, Some}
-use Rattle.framehop_stacks.specs.Tally.{total_of, entry_of, count_of}
+use Rattle.std.specs.Prelude.{◌≡◌, ◌≢◌, ℕ, ◌+◌, List, Some}
+use Rattle.framehop_folded.specs.Folded.{total_of, entry_of, count_in}
+use Rattle.framehop_folded.specs.declared.folded.Folded.{Folded}
 use Rattle.framehop_stacks.specs.declared.counts.Counts.{Counts}
-use Rattle.framehop_stacks.specs.declared.tally.Tally.{Tally}
 
 -- one line is counted once more, and no other is
-pub record CountsOneMore (old new : Tally) (line : List ℕ) : Type 0 where
-  pub counted : entry_of new line ≡ Some (count_of old line + 1)
+pub record CountsOneMore (old new : Folded) (line : List ℕ) : Type 0 where
+  pub counted : entry_of new line ≡ Some (count_in old line + 1)
   pub others : (other : List ℕ) → other ≢ line → entry_of new other ≡ entry_of old other
   pub total : total_of new ≡ total_of old + 1
-
--- each count is below the greatest number of 64 bits
-pub record HasRoom (counts : Counts) : Type 0 where
-  pub samples : counts.samples < 2 ^ 64 - 1
-  pub ends : total_of counts.ends < 2 ^ 64 - 1
-  pub lines : total_of counts.lines < 2 ^ 64 - 1
 
 -- a sample more, whose walk ended in this way
 pub record HasSampleMore (old new : Counts) (end : List ℕ) : Type 0 where

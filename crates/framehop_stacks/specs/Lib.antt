@@ -8,7 +8,6 @@ pub mod Start
 pub mod Stack
 pub mod Place
 pub mod Line
-pub mod Tally
 pub mod Counts
 pub mod Run
 pub mod Explained

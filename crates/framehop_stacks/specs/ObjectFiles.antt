@@ -10,6 +10,7 @@ use Rattle.framehop_bytes.specs.ExplicitSections.{table_of}
 use Rattle.framehop_elf.specs.BuildId.{build_id_of_file}
 use Rattle.framehop_elf.specs.Header.{file_header_of}
 use Rattle.framehop_elf.specs.ProgramHeader.{program_headers_of}
+use Rattle.framehop_elf.specs.Segment.{loaded_segments_of}
 use Rattle.framehop_elf.specs.Section.{section_called, section_names_of}
 use Rattle.framehop_elf.specs.SectionHeader.{section_headers_of}
 use Rattle.framehop_elf.specs.Symbol.{start_of, function_symbols_of, symbol_names_of}
@@ -19,6 +20,7 @@ use Rattle.framehop_elf.specs.declared.program_header.ProgramHeader.{ProgramHead
 use Rattle.framehop_elf.specs.declared.section_header.SectionHeader.{SectionHeader}
 use Rattle.framehop_elf.specs.declared.symbol.Symbol.{Symbol}
 use Rattle.framehop_elf.specs.declared.error.ElfError.TheVariants.{OutOfMemory as ElfOutOfMemory}
+use Rattle.framehop_memory.specs.declared.segment.Segment.{Segment}
 use Rattle.framehop_pe_file.specs.CodeView.{RsdsView, rsds_of}
 use Rattle.framehop_pe_file.specs.Header.{file_header_of as pe_file_header_of}
 use Rattle.framehop_pe_file.specs.SectionHeader.{section_headers_of as pe_section_headers_of}
@@ -118,7 +120,7 @@ module_in file headers = record {
 
 -- what a file says that is kept: its segments, its build id, its module and its symbol tables
 pub record Contents : Type 0 where
-  pub segments : List ProgramHeader
+  pub segments : List Segment
   pub build_id : List ℕ
   pub loaded : ModuleView
   pub tables : List Listed
@@ -126,7 +128,7 @@ pub record Contents : Type 0 where
 -- an ELF file
 abbrev pub elf_contents : List ℕ → HeadersView → Contents
 elf_contents file headers = record {
-  segments = headers.segments;
+  segments = loaded_segments_of headers.segments;
   build_id = build_id_in file headers;
   loaded = module_in file headers;
   tables = tables_of file headers;
@@ -142,19 +144,13 @@ elf_contents_of file = elf_contents_by file (headers_of file)
 -- ---- PE files
 
 -- a section of a PE file as a segment: `IMAGE_SCN_MEM_EXECUTE` is the bit of code, and addresses are RVAs
-abbrev pub flags_of : PeSectionHeader → ℕ
-flags_of section = if bit_and section.characteristics 0x20000000 == 0 then 0 else 1
-
-abbrev pub segment_of : PeSectionHeader → ProgramHeader
+abbrev pub segment_of : PeSectionHeader → Segment
 segment_of section = record {
-  p_type = 1;
-  p_flags = flags_of section;
-  p_offset = section.pointer_to_raw_data;
-  p_vaddr = section.virtual_address;
-  p_paddr = 0;
-  p_filesz = section.size_of_raw_data;
-  p_memsz = section.virtual_size;
-  p_align = 0;
+  address = section.virtual_address;
+  size = section.virtual_size;
+  offset = section.pointer_to_raw_data;
+  file_size = section.size_of_raw_data;
+  is_code = not (bit_and section.characteristics 0x20000000 == 0);
 }
 
 -- what stands for the build id of a PE file: the GUID and the age of its program database, or no bytes

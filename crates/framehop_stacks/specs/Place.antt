@@ -1,7 +1,7 @@
 -- Where an address is: in which function of which file.
 use Rattle.std.specs.Prelude.{ℕ, ◌-◌, List, [], ◌∷◌, ◌&&◌, nat_le, nat_lt, Bool, true, false, if◌then◌else◌, Option, Some, None, slice_get}
 use Rattle.std.specs.List.{find}
-use Rattle.framehop_elf.specs.Section.{string_of}
+use Rattle.framehop_bytes.specs.String.{string_of}
 use Rattle.framehop_elf.specs.Symbol.{symbol_for}
 use Rattle.framehop_elf.specs.declared.symbol.Symbol.{Symbol}
 use Rattle.framehop_processes.specs.declared.mapping.Mapping.{Mapping}

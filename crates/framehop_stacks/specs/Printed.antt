@@ -1,14 +1,15 @@
--- What the program prints of a recording.
+-- What is made of a recording.
 use Rattle.std.specs.Prelude.{ℕ, Bool, true, false, List, map, Option}
 use Rattle.framehop.specs.Aarch64.{aarch64}
 use Rattle.framehop.specs.Fresh.{step}
 use Rattle.framehop.specs.Policy.{with_allocation}
 use Rattle.framehop.specs.X86_64.{x86_64}
+use Rattle.framehop_folded.specs.declared.folded.Folded.{Folded}
 use Rattle.framehop_recording.specs.Attributes.{AttributeView, attribute_view}
 use Rattle.framehop_recording.specs.Records.{RecordView}
 use Rattle.framehop_stacks.specs.Files.{module_at}
 use Rattle.framehop_stacks.specs.Recording.{are_of_aarch64, records_in}
-use Rattle.framehop_stacks.specs.Samples.{State, beginning, samples_from, Each, IsTextOf, IsPrinted}
+use Rattle.framehop_stacks.specs.Samples.{State, beginning, samples_from, Each, IsTextOf, IsMade}
 use Rattle.framehop_stacks.specs.Start.{StartsX86_64, StartsAarch64}
 use Rattle.framehop_stacks.specs.declared.files.Files.{Files}
 use Rattle.framehop_stacks.specs.declared.recording.Recording.{Recording}
@@ -27,7 +28,7 @@ AreTextsOf recording files frames limit texts =
     Each (IsTextIn (are_of_aarch64 attributes) frames limit files attributes)
     (samples_from files beginning (records_in recording.records.items)) texts
 
--- they are printed
-abbrev pub IsPrintedOf : Recording → Files → Bool → Bool → ℕ → Option (List ℕ) → Option (List ℕ) → Type 0
-IsPrintedOf recording files frames explain limit before after =
-    (texts : List (List ℕ)) × AreTextsOf recording files frames limit texts × IsPrinted frames explain texts before after
+-- they are folded, or shown as blocks
+abbrev pub IsMadeOf : Recording → Files → Bool → Bool → ℕ → Folded → Option (List ℕ) → Option (List ℕ) → Type 0
+IsMadeOf recording files frames explain limit folded before after =
+    (texts : List (List ℕ)) × AreTextsOf recording files frames limit texts × IsMade frames explain texts folded before after

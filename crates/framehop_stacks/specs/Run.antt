@@ -1,25 +1,21 @@
 -- The records of a recording one after another.
-use Rattle.std.specs.Prelude.{◌≡◌, ℕ, ◌+◌, ◌-◌, ◌^◌, ◌<◌, Bool, ◌==◌, if◌then◌else◌, List, codes}
+use Rattle.std.specs.Prelude.{◌≡◌, ℕ, ◌+◌, Bool, ◌==◌, if◌then◌else◌, List, codes}
 use Rattle.framehop_recording.specs.Numbers.{PERF_RECORD_SAMPLE}
 use Rattle.framehop_recording.specs.declared.order.TimedRecord.{TimedRecord}
 use Rattle.framehop_recording.specs.declared.error.RecordingError.{RecordingError}
 use Rattle.framehop_recording.specs.declared.error.RecordingError.TheVariants.{NoThread, NoUserStack, NoUserRegisters, Process32Bit, UnknownAbi, UnsupportedField, ShortRecord}
-use Rattle.framehop_stacks.specs.Tally.{total_of}
+use Rattle.framehop_folded.specs.Folded.{total_of}
 use Rattle.framehop_stacks.specs.declared.counts.Counts.{Counts}
 
--- how many lines there are of so many samples: none where a block is written for each
-abbrev pub lines_of : Bool → ℕ → ℕ
-lines_of frames samples = if frames then 0 else samples
+-- how many folded stacks there are of so many samples: none where a block is written for each
+abbrev pub folded_of : Bool → ℕ → ℕ
+folded_of frames samples = if frames then 0 else samples
 
--- So many samples were counted: the counts of ends sum to them, and those of lines.
+-- So many samples were counted: the counts of ends sum to them, and those of stacks.
 pub record AreCounted (frames : Bool) (count : ℕ) (counts : Counts) : Type 0 where
   pub samples : counts.samples ≡ count
   pub ends : total_of counts.ends ≡ count
-  pub lines : total_of counts.lines ≡ lines_of frames count
-
--- one sample more may be counted
-abbrev pub MayCount : Bool → Counts → Type 0
-MayCount frames counts = (samples : ℕ) × AreCounted frames samples counts × (samples < 2 ^ 64 - 1)
+  pub stacks : total_of counts.stacks ≡ folded_of frames count
 
 -- so many samples more are counted
 abbrev pub CountsMore : Bool → ℕ → Counts → Counts → Type 0

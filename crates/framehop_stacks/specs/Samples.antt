@@ -10,6 +10,8 @@ use Rattle.framehop_core.specs.Outcome.{Outcome}
 use Rattle.framehop.specs.Modules.{ModuleView}
 use Rattle.framehop.specs.StackBytes.{memory_of_bytes}
 use Rattle.framehop.specs.Walk.{End, walk_from}
+use Rattle.framehop_folded.specs.Folded.{entry_of}
+use Rattle.framehop_folded.specs.declared.folded.Folded.{Folded}
 use Rattle.framehop_processes.specs.Process.{ProcessView}
 use Rattle.framehop_processes.specs.declared.mapping.Mapping.{Mapping}
 use Rattle.framehop_recording.specs.Attributes.{AttributeView}
@@ -17,6 +19,7 @@ use Rattle.framehop_recording.specs.Numbers.{PERF_RECORD_SAMPLE}
 use Rattle.framehop_recording.specs.Records.{RecordView}
 use Rattle.framehop_recording.specs.Sample.{SampleView, UserView}
 use Rattle.framehop_recording.specs.declared.error.RecordingError.{RecordingError}
+use Rattle.framehop_recording.specs.declared.sample.Sample.{Sample}
 use Rattle.framehop_stacks.specs.Changes.{change_in}
 use Rattle.framehop_stacks.specs.Counts.{CountsOneMore}
 use Rattle.framehop_stacks.specs.Explained.{IsShown}
@@ -25,12 +28,10 @@ use Rattle.framehop_stacks.specs.Names.{Named, named_in, named_after}
 use Rattle.framehop_stacks.specs.Processes.{Mapped, mapped_in, after}
 use Rattle.framehop_stacks.specs.Recording.{sample_in}
 use Rattle.framehop_stacks.specs.Run.{sample_refusal}
-use Rattle.framehop_stacks.specs.Tally.{entry_of, text_of, IsInOrderOfBytes}
 use Rattle.framehop_stacks.specs.declared.changes.Change.{Change}
 use Rattle.framehop_stacks.specs.declared.files.Files.{Files}
 use Rattle.framehop_stacks.specs.declared.machine.Start.{Start}
 use Rattle.framehop_stacks.specs.declared.names.Names.{Names}
-use Rattle.framehop_stacks.specs.declared.tally.Tally.{Tally}
 
 -- what the records before a place lead to: the names of threads, and the mappings of processes
 pub record State : Type 0 where
@@ -106,7 +107,12 @@ stack_text true files name head mappings (no_stack why) = head ++ last_line why
 stack_text false files name head mappings (walked frames end) = line_of name end (frame_label files mappings) frames
 stack_text false files name head mappings (no_stack why) = refused_line name why
 
--- by the name of its thread and the mappings of its process; the thread of a sample that can't be read is not known
+-- the head of a sample's block, by the name of its thread; the thread of a sample that can't be read is not known
+abbrev pub head_text : List ℕ → Option Sample → List ℕ
+head_text name (Some sample) = head_of name sample.pid sample.tid sample.time
+head_text name None = codes "[unknown]:\n"
+
+-- by the name of its thread and the mappings of its process
 abbrev pub sample_text : Bool → Files → State → Result (SampleView × ℕ) RecordingError → StackView → List ℕ
 sample_text frames files state (Ok sample) stack =
     let name = state.named sample.0.tid in
@@ -144,7 +150,7 @@ more entry zero = entry
 more entry (suc n) = Some (unwrap_or entry 0 + suc n)
 
 -- a text is shown, if it is a block, with notes where it is to be explained, or else counted
-abbrev pub IsTaken : Bool → Bool → List ℕ → Tally → Tally → Option (List ℕ) → Option (List ℕ) → Type 0
+abbrev pub IsTaken : Bool → Bool → List ℕ → Folded → Folded → Option (List ℕ) → Option (List ℕ) → Type 0
 IsTaken true explain text old new before after =
     (new ≡ old) × ((shown : List ℕ) × IsShown explain text shown × Appends before after shown)
 IsTaken false explain text old new before after = CountsOneMore old new text × (after ≡ before)
@@ -155,17 +161,16 @@ AreShown explain texts before after =
     (shown : List (List ℕ)) × Each (IsShown explain) texts shown × Appends before after (flat_map (λ text. text) shown)
 
 -- the same of several texts
-abbrev pub AreTaken : Bool → Bool → List (List ℕ) → Tally → Tally → Option (List ℕ) → Option (List ℕ) → Type 0
+abbrev pub AreTaken : Bool → Bool → List (List ℕ) → Folded → Folded → Option (List ℕ) → Option (List ℕ) → Type 0
 AreTaken true explain texts old new before after = (new ≡ old) × AreShown explain texts before after
 AreTaken false explain texts old new before after =
     ((line : List ℕ) → entry_of new line ≡ more (entry_of old line) (occurrences line texts)) × (after ≡ before)
 
--- each line among texts, once, in the order of their bytes, with how often it is there
-pub record AreFolded (texts : List (List ℕ)) (tally : Tally) : Type 0 where
-  pub order : IsInOrderOfBytes tally
-  pub counted : (line : List ℕ) → entry_of tally line ≡ more None (occurrences line texts)
+-- each line among texts is there with how often it occurs, and no other is
+abbrev pub AreFolded : List (List ℕ) → Folded → Type 0
+AreFolded texts folded = (line : List ℕ) → entry_of folded line ≡ more None (occurrences line texts)
 
--- what is printed of texts: blocks one after another, or folded lines
-abbrev pub IsPrinted : Bool → Bool → List (List ℕ) → Option (List ℕ) → Option (List ℕ) → Type 0
-IsPrinted true explain texts before after = AreShown explain texts before after
-IsPrinted false explain texts before after = (tally : Tally) × AreFolded texts tally × Appends before after (text_of tally)
+-- what is made of texts: blocks that are shown, one after another, or folded stacks
+abbrev pub IsMade : Bool → Bool → List (List ℕ) → Folded → Option (List ℕ) → Option (List ℕ) → Type 0
+IsMade true explain texts folded before after = AreFolded [] folded × AreShown explain texts before after
+IsMade false explain texts folded before after = AreFolded texts folded × (after ≡ before)

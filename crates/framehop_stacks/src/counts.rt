@@ -1,10 +1,11 @@
 //! What is counted of samples.
-ghost use Rattle.std.specs.Prelude.{ℕ, ◌≡◌, ◌-◌, ◌<◌, ◌^◌, List, [], None, OnOk};
-ghost use Rattle.framehop_stacks.specs.Counts.{CountsOneMore, HasRoom, HasSampleMore};
-ghost use Rattle.framehop_stacks.specs.Tally.{total_of, entry_of, text_of};
+ghost use Rattle.std.specs.Prelude.{ℕ, ◌≡◌, ◌≤◌, ◌+◌, ◌^◌, ◌⊎◌, List, None, OnOk, IfErr};
+ghost use Rattle.framehop_folded.specs.Folded.{count_in, total_of, entry_of};
+ghost use Rattle.framehop_stacks.specs.Counts.{CountsOneMore, HasSampleMore};
+ghost use Rattle.framehop_stacks.specs.declared.error.StacksError.TheVariants.{OutOfMemory, TooManySamples};
 
 use crate::error::StacksError;
-use crate::tally::Tally;
+use framehop_folded::folded::Folded;
 use std::alloc::Global;
 
 /// What was counted of samples.
@@ -15,9 +16,9 @@ pub struct Counts {
     /// How many records the kernel lost.
     pub lost: u64,
     /// How often walks ended in which way, or why there was none.
-    pub ends: Tally,
-    /// How often there was which folded line.
-    pub lines: Tally,
+    pub ends: Folded,
+    /// How often there was which folded stack.
+    pub stacks: Folded,
 }
 
 impl Counts {
@@ -26,39 +27,51 @@ impl Counts {
         ensures samples { result.samples ≡ 0 }
         ensures lost { result.lost ≡ 0 }
         ensures ends { total_of result.ends ≡ 0 }
-        ensures lines { total_of result.lines ≡ 0 }
-        ensures none { (line : List ℕ) → entry_of result.lines line ≡ None }
-        ensures unwritten { text_of result.lines ≡ [] }
+        ensures stacks { total_of result.stacks ≡ 0 }
+        ensures none { (stack : List ℕ) → entry_of result.stacks stack ≡ None }
     {
         Counts {
             samples: 0,
             lost: 0,
-            ends: Tally::new(alloc),
-            lines: Tally::new(alloc),
+            ends: Folded::new(alloc),
+            stacks: Folded::new(alloc),
         }
     }
 
     /// Counts a sample, by how its walk ended.
+    ///
+    /// # Errors
+    ///
+    /// `TooManySamples` if a count would be 2^64, and `OutOfMemory`.
     pub fn add_sample(&mut self, alloc: Global, end: &[u8]) -> Result<(), StacksError>
-        requires { HasRoom self.old }
         ensures more { OnOk result (HasSampleMore self.old self.new end.now) }
-        ensures lines { self.new.lines ≡ self.old.lines }
+        ensures stacks { self.new.stacks ≡ self.old.stacks }
+        ensures refused { IfErr result (λ refusal. (refusal ≡ OutOfMemory)
+            ⊎ ((refusal ≡ TooManySamples) × ((2 ^ 64 ≤ count_in self.old.ends end.now + 1) ⊎ (2 ^ 64 ≤ self.old.samples + 1)))) }
     {
         let end = Vec::from_slice(alloc, end)?;
-        self.ends.add(end)?;
-        self.samples += 1;
+        let Some(samples) = self.samples.checked_add(1) else {
+            return Err(StacksError::TooManySamples);
+        };
+        self.ends.add(end, 1)?;
+        self.samples = samples;
         Ok(())
     }
 
-    /// Counts the folded line of a sample.
-    pub fn add_line(&mut self, line: Vec<u8>) -> Result<(), StacksError>
-        requires { total_of self.old.lines < 2 ^ 64 - 1 }
-        ensures more { OnOk result (CountsOneMore self.old.lines self.new.lines line.items) }
+    /// Counts the folded stack of a sample.
+    ///
+    /// # Errors
+    ///
+    /// `TooManySamples` if its count would be 2^64, and `OutOfMemory`.
+    pub fn add_stack(&mut self, stack: Vec<u8>) -> Result<(), StacksError>
+        ensures more { OnOk result (CountsOneMore self.old.stacks self.new.stacks stack.items) }
         ensures samples { self.new.samples ≡ self.old.samples }
         ensures ends { self.new.ends ≡ self.old.ends }
         ensures lost { self.new.lost ≡ self.old.lost }
+        ensures refused { IfErr result (λ refusal. (refusal ≡ OutOfMemory)
+            ⊎ ((refusal ≡ TooManySamples) × (2 ^ 64 ≤ count_in self.old.stacks stack.items + 1))) }
     {
-        self.lines.add(line)?;
+        self.stacks.add(stack, 1)?;
         Ok(())
     }
 }

@@ -3,6 +3,7 @@ ghost use Rattle.std.specs.Prelude.{◌≡◌};
 
 use framehop::ModuleListError;
 use framehop::session::SessionError;
+use framehop_folded::error::FoldedError;
 use framehop_processes::ProcessesError;
 use framehop_recording::error::RecordingError;
 use std::alloc::{AllocError, AllocFailed};
@@ -24,6 +25,9 @@ pub enum StacksError {
     /// A mapping has no address: the records that are read give none.
     #[error("a mapping without an address")]
     EmptyMapping,
+    /// There are 2^64 samples or more.
+    #[error("2^64 samples or more")]
+    TooManySamples,
     /// A write failed.
     #[error("cannot write output")]
     CannotWrite,
@@ -52,6 +56,19 @@ impl From<ProcessesError> for StacksError {
             ProcessesError::OutOfMemory => StacksError::OutOfMemory,
             ProcessesError::GenerationsExhausted => StacksError::GenerationsExhausted,
             ProcessesError::EmptyMapping => StacksError::EmptyMapping,
+        }
+    }
+}
+
+impl From<FoldedError> for StacksError {
+    ghost use Rattle.framehop_stacks.specs.Refusal.{of_folded};
+
+    ghost from_gives = { λ value error. error ≡ of_folded value };
+
+    fn from(value: FoldedError) -> Self {
+        match value {
+            FoldedError::OutOfMemory => StacksError::OutOfMemory,
+            FoldedError::CountTooLarge => StacksError::TooManySamples,
         }
     }
 }

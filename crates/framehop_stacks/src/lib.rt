@@ -1,5 +1,5 @@
 //! From a recording of perf to stacks: reads the records of a `perf.data`, unwinds each sample by the
-//! unwinder of its process, and writes folded stacks.
+//! unwinder of its process, and folds the stacks.
 #![tactic(auto)]
 
 pub mod changes;
@@ -18,4 +18,3 @@ pub mod program;
 pub mod recording;
 pub mod run;
 pub mod stack;
-pub mod tally;

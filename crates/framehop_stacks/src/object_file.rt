@@ -3,30 +3,29 @@
 //! The sections are copied and the file's bytes are let go, since a run has many files. The module lies at no
 //! address: the modules of all mappings of the file share its unwind data.
 ghost use Rattle.std.specs.Prelude.{◌≡◌, ◌⊎◌, ◌↔◌, IsTrue, ℕ, List, [], ◌++◌, Some, None, Ok, Err, IfOk, IfErr, OnOk, MatchResult, option_map, option_to_list};
-ghost use Rattle.framehop_elf.specs.Segment.{base_of};
 ghost use Rattle.framehop_elf.specs.Symbol.{symbol_for};
 ghost use Rattle.framehop_elf.specs.declared.error.ElfError.{ElfError};
+ghost use Rattle.framehop_memory.specs.Segment.{base_of};
 ghost use Rattle.framehop_stacks.specs.ObjectFiles.{Contents, Listed, headers_view, headers_of, build_id_in, is_another, problem_by, problem_of, symbols_in, symbols_called, tables_of, debug_tables_of, IsTable, AreTables, module_in, elf_contents_of, pe_contents_of, IsOutOfMemory, IsKeptBy, IsKeptOf};
 ghost use Rattle.framehop_stacks.specs.Place.{option_named, function_at};
 ghost use Rattle.framehop_stacks.specs.declared.object_file.FileProblem.{FileProblem};
 
 use crate::pe_file;
 use framehop::Module;
+use framehop_bytes::string::string_at;
 use framehop_elf::build_id::read_build_id;
 use framehop_elf::error::ElfError;
 use framehop_elf::header::read_file_header;
 use framehop_elf::program_header::{ProgramHeader, read_program_headers};
-use framehop_elf::section::{read_section_names, section_by_name, string_at};
+use framehop_elf::section::{read_section_names, section_by_name};
 use framehop_elf::section_header::{SectionHeader, read_section_headers};
-use framehop_elf::segment::base_avma;
+use framehop_elf::segment::loaded_segments;
 use framehop_elf::symbol::{Symbol, SymbolTable, read_function_symbols, read_symbol_names};
 use framehop_elf::unwind_sections::read_unwind_sections;
+use framehop_memory::segment::{Segment, base_avma};
 use framehop_pe_file::error::PeError;
 use std::alloc::{AllocError, Global};
 use thiserror::Error;
-
-/// The size of a page, in bytes.
-const PAGE_SIZE: u64 = 4096;
 
 /// The functions of a symbol table, and the string table that has their names.
 #[derive(Drop)]
@@ -51,7 +50,7 @@ impl Symbols {
 /// A file that processes map: its segments, its functions, and its unwind data, which is read once.
 #[derive(Drop)]
 pub struct ObjectFile {
-    segments: Vec<ProgramHeader>,
+    segments: Vec<Segment>,
     symbols: Vec<Symbols>,
     /// At no address. The modules of mappings share its unwind data.
     module: Module<Vec<u8>>,
@@ -291,11 +290,12 @@ fn read_elf(alloc: Global, bytes: &[u8], wanted: &[u8]) -> Result<ObjectFile, Fi
     if is_another(wanted, found) {
         return Err(FileProblem::OtherBuildId);
     }
+    let segments = loaded_segments(alloc, headers.segments.as_slice())?;
     let symbols = read_all_symbols(alloc, bytes, &headers)?;
     let module = module_in(alloc, bytes, &headers)?;
     let build_id = Vec::from_slice(alloc, found)?;
     Ok(ObjectFile {
-        segments: headers.segments,
+        segments,
         symbols,
         module,
         build_id,
@@ -374,9 +374,9 @@ impl ObjectFile {
     /// Returns where the stated address 0 of the file is (AVMA), if `size` bytes of it from an offset on are
     /// mapped at an AVMA.
     pub fn base(&self, offset: u64, size: u64, avma: u64) -> Option<u64>
-        ensures { result ≡ base_of self.now.segments.items 4096 offset size avma }
+        ensures { result ≡ base_of self.now.segments.items offset size avma }
     {
-        base_avma(self.segments.as_slice(), PAGE_SIZE, offset, size, avma)
+        base_avma(self.segments.as_slice(), offset, size, avma)
     }
 
     /// Returns a module of the file that lies at no address.

@@ -1,22 +1,16 @@
 //! What is kept of a PE file.
 ghost use Rattle.std.specs.Prelude.{◌≡◌, ◌⊎◌, Ok, Err, IfOk, IfErr, MatchResult, map};
 ghost use Rattle.framehop_pe_file.specs.declared.error.PeError.{PeError};
-ghost use Rattle.framehop_stacks.specs.ObjectFiles.{flags_of, segment_of, identity_by, identity_of, pe_headers_of, pe_module_in, is_pe};
+ghost use Rattle.framehop_stacks.specs.ObjectFiles.{segment_of, identity_by, identity_of, pe_headers_of, pe_module_in, is_pe};
 
 use framehop::Module;
-use framehop_elf::program_header::ProgramHeader;
+use framehop_memory::segment::Segment;
 use framehop_pe_file::codeview::read_rsds;
 use framehop_pe_file::error::PeError;
 use framehop_pe_file::header::{FileHeader, read_file_header};
 use framehop_pe_file::section_header::{SectionHeader, read_section_headers};
 use framehop_pe_file::unwind_sections::read_unwind_sections;
 use std::alloc::{AllocError, Global};
-
-/// `PT_LOAD`.
-const PT_LOAD: u32 = 1;
-
-/// `PF_X`: the segment may be executed.
-const PF_X: u32 = 1;
 
 /// `IMAGE_SCN_MEM_EXECUTE`: the section may be executed.
 const EXECUTE: u32 = 0x2000_0000;
@@ -28,37 +22,21 @@ pub fn is_pe(file: &[u8]) -> bool
     file.starts_with(b"MZ")
 }
 
-/// Returns the flags of the segment that a section is loaded as.
-fn flags_of(section: SectionHeader) -> u32
-    ensures { result ≡ flags_of section }
-{
-    if section.characteristics & EXECUTE == 0 {
-        return 0;
-    }
-    PF_X
-}
-
 /// Returns the segment that a section is loaded as. Its addresses are relative to the base of the image (RVAs).
-fn segment_of(section: SectionHeader) -> ProgramHeader
+fn segment_of(section: SectionHeader) -> Segment
     ensures { result ≡ segment_of section }
 {
-    ProgramHeader {
-        p_type: PT_LOAD,
-        p_flags: flags_of(section),
-        p_offset: u64::from(section.pointer_to_raw_data),
-        p_vaddr: u64::from(section.virtual_address),
-        p_paddr: 0,
-        p_filesz: u64::from(section.size_of_raw_data),
-        p_memsz: u64::from(section.virtual_size),
-        p_align: 0,
+    Segment {
+        address: u64::from(section.virtual_address),
+        size: u64::from(section.virtual_size),
+        offset: u64::from(section.pointer_to_raw_data),
+        file_size: u64::from(section.size_of_raw_data),
+        is_code: section.characteristics & EXECUTE != 0,
     }
 }
 
 /// Returns the segments that sections are loaded as.
-pub fn segments_of(
-    alloc: Global,
-    sections: &[SectionHeader],
-) -> Result<Vec<ProgramHeader>, AllocError>
+pub fn segments_of(alloc: Global, sections: &[SectionHeader]) -> Result<Vec<Segment>, AllocError>
     ensures { IfOk result (λ segments. segments.items ≡ map segment_of sections.now) }
 {
     sections

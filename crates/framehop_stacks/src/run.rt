@@ -6,6 +6,7 @@ ghost use Rattle.std.specs.Prelude.{ℕ, ◌≡◌, ◌≢◌, [], None, IfOk, O
 ghost use Rattle.std.specs.BTreeMap.{get};
 ghost use Rattle.std.specs.Ordering.{nat_cmp};
 ghost use Rattle.framehop.specs.Modules.{ModuleView};
+ghost use Rattle.framehop_folded.specs.Folded.{entry_of};
 ghost use Rattle.framehop_processes.specs.Mappings.{IsInOrder};
 ghost use Rattle.framehop_processes.specs.declared.mapping.Mapping.{Mapping};
 ghost use Rattle.framehop_recording.specs.Attributes.{attribute_view};
@@ -15,10 +16,9 @@ ghost use Rattle.framehop_recording.specs.Sample.{user_view, sample_view};
 ghost use Rattle.framehop_stacks.specs.Names.{named_in};
 ghost use Rattle.framehop_stacks.specs.Processes.{mapped_in, IsServed};
 ghost use Rattle.framehop_stacks.specs.Recording.{sample_in, records_in};
-ghost use Rattle.framehop_stacks.specs.Run.{AreCounted, MayCount, CountsMore, is_sample, samples_in_kind, sample_refusal};
-ghost use Rattle.framehop_stacks.specs.Samples.{State, StackView, beginning, state_in, state_after, state_over, Agrees, samples_from, no_stack, stack_text, IsUserStack, IsTextAt, IsTextOf, Each, IsTaken, AreTaken};
+ghost use Rattle.framehop_stacks.specs.Run.{AreCounted, CountsMore, is_sample, samples_in_kind, sample_refusal};
+ghost use Rattle.framehop_stacks.specs.Samples.{State, StackView, beginning, state_in, state_after, state_over, Agrees, samples_from, no_stack, stack_text, head_text, IsUserStack, IsTextAt, IsTextOf, Each, IsTaken, AreTaken};
 ghost use Rattle.framehop_stacks.specs.Stack.{stack_view, option_stack_view};
-ghost use Rattle.framehop_stacks.specs.Tally.{entry_of, text_of};
 ghost use Rattle.framehop_stacks.specs.declared.files.Files.{Files};
 
 use crate::changes::change_of;
@@ -83,60 +83,82 @@ fn refusal_name(error: RecordingError) -> &'static str
     }
 }
 
-/// Counts or writes the stack of a sample, by its process's mappings in order. `head` is that of its block.
+/// Returns the head of a sample's block, by the name of its thread, where the sample can be read.
+fn head_of(alloc: Global, name: &[u8], sample: Option<Sample<'_>>) -> Result<Vec<u8>, StacksError>
+    ensures { IfOk result (λ head. head.items ≡ head_text name.now sample.entry) }
+{
+    match sample {
+        Some(sample) => block_head(alloc, name, sample.pid, sample.tid, sample.time),
+        None => Ok(Vec::from_slice(alloc, b"[unknown]:\n")?),
+    }
+}
+
+/// Counts or writes the stack of a sample, by the name of its thread and its process's mappings in order.
 fn take_stack<W: Write>(
     alloc: Global,
     counts: &mut Counts,
     files: &Files,
     mappings: &[Mapping],
     name: &[u8],
-    head: &[u8],
+    sample: Sample<'_>,
     stack: &Stack,
     notes: &[Note],
     options: Options,
     out: &mut W,
 ) -> Result<(), StacksError>
-    requires ordered { IsInOrder 0 mappings.now }
-    requires room { MayCount options.frames counts.old }
+    requires { IsInOrder 0 mappings.now }
     ensures counted { OnOk result (CountsMore options.frames 1 counts.old counts.new) }
     ensures taken { OnOk result (IsTaken options.frames options.explain
-        (stack_text options.frames files.now name.now head.now mappings.now (stack_view stack.now))
-        counts.old.lines counts.new.lines (W.contents out.old) (W.contents out.new)) }
+        (stack_text options.frames files.now name.now (head_text name.now (Some sample.entry)) mappings.now (stack_view stack.now))
+        counts.old.stacks counts.new.stacks (W.contents out.old) (W.contents out.new)) }
 {
     counts.add_sample(alloc, end_name(stack.end).as_bytes())?;
     if options.frames {
+        let head = head_of(alloc, name, Some(sample))?;
         let block = frames_block(alloc, files, mappings, stack)?;
-        write_block(alloc, head, block.as_slice(), options.explain, notes, out)?;
+        write_block(
+            alloc,
+            head.as_slice(),
+            block.as_slice(),
+            options.explain,
+            notes,
+            out,
+        )?;
     } else {
-        let line = folded_line(alloc, files, mappings, name, stack)?;
-        counts.add_line(line)?;
+        counts.add_stack(folded_line(alloc, files, mappings, name, stack)?)?;
     }
     Ok(())
 }
 
-/// Counts or writes a sample that has no stack. `head` is that of its block.
+/// Counts or writes a sample that has no stack, or that can't be read.
 fn take_refused<W: Write>(
     alloc: Global,
     counts: &mut Counts,
     name: &[u8],
-    head: &[u8],
+    sample: Option<Sample<'_>>,
     why: &str,
     options: Options,
     out: &mut W,
 ) -> Result<(), StacksError>
-    requires { MayCount options.frames counts.old }
     ensures counted { OnOk result (CountsMore options.frames 1 counts.old counts.new) }
     ensures taken { OnOk result ((files : Files) (mappings : List Mapping) → IsTaken options.frames options.explain
-        (stack_text options.frames files name.now head.now mappings (no_stack why.now))
-        counts.old.lines counts.new.lines (W.contents out.old) (W.contents out.new)) }
+        (stack_text options.frames files name.now (head_text name.now sample.entry) mappings (no_stack why.now))
+        counts.old.stacks counts.new.stacks (W.contents out.old) (W.contents out.new)) }
 {
     counts.add_sample(alloc, why.as_bytes())?;
     if options.frames {
+        let head = head_of(alloc, name, sample)?;
         let block = refused_block(alloc, why)?;
-        write_block(alloc, head, block.as_slice(), options.explain, &[], out)?;
+        write_block(
+            alloc,
+            head.as_slice(),
+            block.as_slice(),
+            options.explain,
+            &[],
+            out,
+        )?;
     } else {
-        let line = refused_line(alloc, name, why)?;
-        counts.add_line(line)?;
+        counts.add_stack(refused_line(alloc, name, why)?)?;
     }
     Ok(())
 }
@@ -167,8 +189,7 @@ where
             → IsServed module_of (λ view. U.is_sound view run.cache) run.processes.by_pid run.processes.generations) }
         ensures none { IfOk result (λ run. (frames : Bool) → AreCounted frames 0 run.counts) }
         ensures begun { IfOk result (λ run. Agrees run.names run.processes.by_pid beginning) }
-        ensures uncounted { IfOk result (λ run. (line : List ℕ) → entry_of run.counts.lines line ≡ None) }
-        ensures unwritten { IfOk result (λ run. text_of run.counts.lines ≡ []) }
+        ensures uncounted { IfOk result (λ run. (stack : List ℕ) → entry_of run.counts.stacks stack ≡ None) }
     {
         Ok(Run {
             processes: Processes::new(alloc),
@@ -191,19 +212,17 @@ where
         sample: Sample<'_>,
         walked: &Option<Stack>,
         notes: &[Note],
-        head: &[u8],
         options: Options,
         out: &mut W,
     ) -> Result<(), StacksError>
-        requires known { IsSome (get nat_cmp self.old.processes.by_pid sample.pid) }
-        requires room { MayCount options.frames self.old.counts }
+        requires { IsSome (get nat_cmp self.old.processes.by_pid sample.pid) }
         ensures counted { OnOk result (CountsMore options.frames 1 self.old.counts self.new.counts) }
         ensures processes { self.new.processes ≡ self.old.processes }
         ensures names { self.new.names ≡ self.old.names }
         ensures cache { self.new.cache ≡ self.old.cache }
         ensures taken { OnOk result (IsTaken options.frames options.explain
-            (stack_text options.frames files.now (named_in self.old.names sample.entry.tid) head.now (mapped_in self.old.processes.by_pid sample.entry.pid) (option_stack_view walked.now))
-            self.old.counts.lines self.new.counts.lines (W.contents out.old) (W.contents out.new)) }
+            (stack_text options.frames files.now (named_in self.old.names sample.entry.tid) (head_text (named_in self.old.names sample.entry.tid) (Some sample.entry)) (mapped_in self.old.processes.by_pid sample.entry.pid) (option_stack_view walked.now))
+            self.old.counts.stacks self.new.counts.stacks (W.contents out.old) (W.contents out.new)) }
     {
         let name = self.names.get(sample.tid);
         match walked {
@@ -215,7 +234,7 @@ where
                     files,
                     mappings,
                     name,
-                    head,
+                    sample,
                     stack,
                     notes,
                     options,
@@ -226,7 +245,7 @@ where
                 alloc,
                 &mut self.counts,
                 name,
-                head,
+                Some(sample),
                 "no-registers",
                 options,
                 out,
@@ -243,12 +262,10 @@ where
         sample: Sample<'_>,
         mask: u64,
         user: UserStack<'_>,
-        head: &[u8],
         options: Options,
         out: &mut W,
     ) -> Result<(), StacksError>
-        requires known { IsSome (get nat_cmp self.old.processes.by_pid sample.pid) }
-        requires room { MayCount options.frames self.old.counts }
+        requires { IsSome (get nat_cmp self.old.processes.by_pid sample.pid) }
         ensures served { OnOk result ((module_of : Mapping → ModuleView)
             → IsServed module_of (λ view. U.is_sound view self.old.cache) self.old.processes.by_pid self.old.processes.generations
             → IsServed module_of (λ view. U.is_sound view self.new.cache) self.new.processes.by_pid self.new.processes.generations) }
@@ -258,8 +275,8 @@ where
         ensures told { OnOk result ((module_of : Mapping → ModuleView)
             → IsServed module_of (λ view. U.is_sound view self.old.cache) self.old.processes.by_pid self.old.processes.generations
             → (stack : StackView) × IsUserStack U.step_by U.starts options.limit (map module_of (mapped_in self.old.processes.by_pid sample.entry.pid)) mask (Ok (user_view user.entry)) stack
-            × IsTaken options.frames options.explain (stack_text options.frames files.now (named_in self.old.names sample.entry.tid) head.now (mapped_in self.old.processes.by_pid sample.entry.pid) stack)
-            self.old.counts.lines self.new.counts.lines (W.contents out.old) (W.contents out.new)) }
+            × IsTaken options.frames options.explain (stack_text options.frames files.now (named_in self.old.names sample.entry.tid) (head_text (named_in self.old.names sample.entry.tid) (Some sample.entry)) (mapped_in self.old.processes.by_pid sample.entry.pid) stack)
+            self.old.counts.stacks self.new.counts.stacks (W.contents out.old) (W.contents out.new)) }
     {
         let unwinder = self.processes.known(sample.pid).unwinder();
         let walked = walk_sample(alloc, unwinder, &mut self.cache, mask, user, options.limit)?;
@@ -270,7 +287,6 @@ where
             sample,
             &walked,
             notes.as_slice(),
-            head,
             options,
             out,
         )?;
@@ -287,7 +303,6 @@ where
         options: Options,
         out: &mut W,
     ) -> Result<(), StacksError>
-        requires { MayCount options.frames self.old.counts }
         ensures served { OnOk result ((module_of : Mapping → ModuleView)
             → IsServed module_of (λ view. U.is_sound view self.old.cache) self.old.processes.by_pid self.old.processes.generations
             → IsServed module_of (λ view. U.is_sound view self.new.cache) self.new.processes.by_pid self.new.processes.generations) }
@@ -297,20 +312,17 @@ where
         ensures told { OnOk result ((module_of : Mapping → ModuleView)
             → IsServed module_of (λ view. U.is_sound view self.old.cache) self.old.processes.by_pid self.old.processes.generations
             → (text : List ℕ) × IsTextAt module_of U.step_by U.starts options.frames options.limit files.now (state_in self.old.names self.old.processes.by_pid) (Ok (sample_view sample.entry, mask)) text
-            × IsTaken options.frames options.explain text self.old.counts.lines self.new.counts.lines (W.contents out.old) (W.contents out.new)) }
+            × IsTaken options.frames options.explain text self.old.counts.stacks self.new.counts.stacks (W.contents out.old) (W.contents out.new)) }
     {
-        let name = self.names.get(sample.tid);
-        let head = block_head(alloc, name, sample.pid, sample.tid, sample.time)?;
         let user = match sample.user {
             Ok(user) => user,
             Err(error) => {
-                let why = refusal_name(error);
                 take_refused(
                     alloc,
                     &mut self.counts,
-                    name,
-                    head.as_slice(),
-                    why,
+                    self.names.get(sample.tid),
+                    Some(sample),
+                    refusal_name(error),
                     options,
                     out,
                 )?;
@@ -318,16 +330,7 @@ where
             }
         };
         self.processes.meet(alloc, sample.pid)?;
-        self.take_user(
-            alloc,
-            files,
-            sample,
-            mask,
-            user,
-            head.as_slice(),
-            options,
-            out,
-        )?;
+        self.take_user(alloc, files, sample, mask, user, options, out)?;
         Ok(())
     }
 
@@ -341,7 +344,6 @@ where
         options: Options,
         out: &mut W,
     ) -> Result<(), StacksError>
-        requires { MayCount options.frames self.old.counts }
         ensures served { OnOk result ((module_of : Mapping → ModuleView)
             → IsServed module_of (λ view. U.is_sound view self.old.cache) self.old.processes.by_pid self.old.processes.generations
             → IsServed module_of (λ view. U.is_sound view self.new.cache) self.new.processes.by_pid self.new.processes.generations) }
@@ -351,18 +353,17 @@ where
         ensures told { OnOk result ((module_of : Mapping → ModuleView)
             → IsServed module_of (λ view. U.is_sound view self.old.cache) self.old.processes.by_pid self.old.processes.generations
             → (text : List ℕ) × IsTextAt module_of U.step_by U.starts options.frames options.limit files.now (state_in self.old.names self.old.processes.by_pid) (sample_in (map attribute_view events.now.attributes.items) (record_view «record».entry)) text
-            × IsTaken options.frames options.explain text self.old.counts.lines self.new.counts.lines (W.contents out.old) (W.contents out.new)) }
+            × IsTaken options.frames options.explain text self.old.counts.stacks self.new.counts.stacks (W.contents out.old) (W.contents out.new)) }
     {
         match sample_of(events, record) {
             Ok((sample, mask)) => self.take_sample(alloc, files, sample, mask, options, out)?,
             Err(error) => {
-                let why = refusal_name(error);
                 take_refused(
                     alloc,
                     &mut self.counts,
                     b"[unknown]",
-                    b"[unknown]:\n",
-                    why,
+                    None,
+                    refusal_name(error),
                     options,
                     out,
                 )?;
@@ -376,7 +377,7 @@ where
         ensures processes { self.new.processes ≡ self.old.processes }
         ensures names { self.new.names ≡ self.old.names }
         ensures cache { self.new.cache ≡ self.old.cache }
-        ensures lines { self.new.counts.lines ≡ self.old.counts.lines }
+        ensures stacks { self.new.counts.stacks ≡ self.old.counts.stacks }
         ensures counted { OnOk result ((frames : Bool) → CountsMore frames 0 self.old.counts self.new.counts) }
     {
         let lost = read_lost(record)?;
@@ -389,7 +390,7 @@ where
     /// # Errors
     ///
     /// - `Recording` where the record is no sample and is too short for its kind;
-    /// - `OutOfMemory`, `GenerationsExhausted` and `CannotWrite`.
+    /// - `OutOfMemory`, `GenerationsExhausted`, `TooManySamples` and `CannotWrite`.
     fn take_record<M: ModuleMaker<U>, W: Write>(
         &mut self,
         alloc: Global,
@@ -401,7 +402,6 @@ where
         out: &mut W,
     ) -> Result<(), StacksError>
         requires served { IsServed (M.module_of maker.now) (λ view. U.is_sound view self.old.cache) self.old.processes.by_pid self.old.processes.generations }
-        requires room { MayCount options.frames self.old.counts }
         ensures served { OnOk result (IsServed (M.module_of maker.now) (λ view. U.is_sound view self.new.cache) self.new.processes.by_pid self.new.processes.generations) }
         ensures counted { OnOk result (CountsMore options.frames (samples_in_kind «record».entry.kind) self.old.counts self.new.counts) }
         ensures state { OnOk result (Agrees self.new.names self.new.processes.by_pid
@@ -409,8 +409,8 @@ where
         ensures sample { «record».entry.kind ≡ PERF_RECORD_SAMPLE → OnOk result ((text : List ℕ)
             × IsTextOf (M.module_of maker.now) U.step_by U.starts options.frames options.limit files.now (map attribute_view events.now.attributes.items)
             (record_view «record».entry, state_in self.old.names self.old.processes.by_pid) text
-            × IsTaken options.frames options.explain text self.old.counts.lines self.new.counts.lines (W.contents out.old) (W.contents out.new)) }
-        ensures other { «record».entry.kind ≢ PERF_RECORD_SAMPLE → (self.new.counts.lines ≡ self.old.counts.lines) × (out.new ≡ out.old) }
+            × IsTaken options.frames options.explain text self.old.counts.stacks self.new.counts.stacks (W.contents out.old) (W.contents out.new)) }
+        ensures other { «record».entry.kind ≢ PERF_RECORD_SAMPLE → (self.new.counts.stacks ≡ self.old.counts.stacks) × (out.new ≡ out.old) }
     {
         if record.kind == SAMPLE {
             self.take_sample_record(alloc, events, files, record, options, out)?;
@@ -446,7 +446,7 @@ where
         ensures told { (state : State) → Agrees self.old.names self.old.processes.by_pid state → OnOk result ((texts : List (List ℕ))
             × Each (IsTextOf (M.module_of maker.now) U.step_by U.starts options.frames options.limit files.now (map attribute_view recording.now.events.attributes.items))
             (samples_from files.now state (records_in recording.now.records.items)) texts
-            × AreTaken options.frames options.explain texts self.old.counts.lines self.new.counts.lines (W.contents out.old) (W.contents out.new)) }
+            × AreTaken options.frames options.explain texts self.old.counts.stacks self.new.counts.stacks (W.contents out.old) (W.contents out.new)) }
     {
         for timed in &recording.records {
             self.take_record(

@@ -11,10 +11,8 @@ use disk::{Disk, files_at};
 use framehop_core_stacks::error::CoreStacksError;
 use framehop_core_stacks::program::{write_core_stacks, write_minidump_stacks};
 use framehop_flame_graph::error::FlameGraphError;
-use framehop_flame_graph::folded::read_folded;
-use framehop_flame_graph::merge::Folded;
 use framehop_flame_graph::svg::flame_graph;
-use framehop_recording::error::RecordingError;
+use framehop_folded::folded::Folded;
 use framehop_stacks::error::StacksError;
 use framehop_stacks::program::write_stacks;
 use framehop_stacks::run::Options;
@@ -98,33 +96,45 @@ fn print_all(
     if options.frames {
         return Ok(status);
     }
-    match print_folded(rt, &folded, form) {
-        Ok(()) => Ok(status),
+    Ok(status.max(print_folded(rt, &folded, form)?))
+}
+
+/// Prints the folded stacks of all recordings, or draws them, and returns the status.
+fn print_folded(rt: &HostRuntime, folded: &Folded, form: Form) -> Result<u8> {
+    let written = match form {
+        Form::Text => write_lines(rt, folded),
+        Form::Graph => match flame_graph(rt.alloc(), folded) {
+            Ok(graph) => write_graph(rt, graph.as_str()),
+            Err(FlameGraphError::OutOfMemory) => Err(StacksError::OutOfMemory),
+            Err(error) => {
+                eprintln!(rt; "framehop-stacks: {error}")?;
+                return Ok(1);
+            }
+        },
+    };
+    match written {
+        Ok(()) => Ok(0),
         Err(error) => {
             eprintln!(rt; "framehop-stacks: {error}")?;
             match error {
-                FlameGraphError::OutOfMemory => Ok(2),
-                _ => Ok(status.max(1)),
+                StacksError::OutOfMemory => Ok(2),
+                _ => Ok(1),
             }
         }
     }
 }
 
-/// Prints the folded stacks of all recordings, or draws them.
-fn print_folded(rt: &HostRuntime, folded: &Folded, form: Form) -> Result<(), FlameGraphError> {
-    let alloc = rt.alloc();
-    let mut out = BufWriter::new(alloc, io::writer(rt))?;
-    match form {
-        Form::Text => folded.write(alloc, &mut out)?,
-        Form::Graph => {
-            let mut text = Vec::new(alloc);
-            folded.write(alloc, &mut text)?;
-            let lines = read_folded(alloc, text.as_slice())?;
-            let graph = flame_graph(alloc, lines.as_slice())?;
-            out.write_all(graph.as_bytes())?;
-        }
-    }
+/// Writes the lines of folded stacks.
+fn write_lines(rt: &HostRuntime, folded: &Folded) -> Result<(), StacksError> {
+    let mut out = BufWriter::new(rt.alloc(), io::writer(rt))?;
+    folded.write(&mut out)?;
     io::Write::flush(&mut out)?;
+    Ok(())
+}
+
+/// Writes a flame graph.
+fn write_graph(rt: &HostRuntime, graph: &str) -> Result<(), StacksError> {
+    io::writer(rt).write_all(graph.as_bytes())?;
     Ok(())
 }
 
@@ -187,8 +197,7 @@ fn print_stacks(
         Ok(bytes) if bytes.starts_with(b"MDMP") => {
             print_minidump(rt, path, bytes.as_slice(), disk, options)
         }
-        Ok(bytes) if options.frames => print_blocks(rt, path, bytes.as_slice(), disk, options),
-        Ok(bytes) => fold_stacks(rt, path, bytes.as_slice(), disk, options, folded),
+        Ok(bytes) => print_recording(rt, path, bytes.as_slice(), disk, options, folded),
         Err(error) => {
             eprintln!(rt; "framehop-stacks: {path}: {error}")?;
             Ok(1)
@@ -201,23 +210,8 @@ fn is_dump(bytes: &[u8]) -> bool {
     bytes.starts_with(b"\x7fELF") || bytes.starts_with(b"MDMP")
 }
 
-/// Prints a block for each sample of a recording, by its bytes.
-fn print_blocks(
-    rt: &HostRuntime,
-    path: &str,
-    bytes: &[u8],
-    disk: &Disk<'_>,
-    options: Options,
-) -> Result<u8> {
-    let mut out = BufWriter::new(rt.alloc(), io::writer(rt))?;
-    let mut err = rt.stderr();
-    let written = write_stacks(rt.alloc(), bytes, disk, options, &mut out, &mut err);
-    io::Write::flush(&mut out)?;
-    recording_status(rt, path, written)
-}
-
-/// Adds the folded stacks of a recording, by its bytes, to those so far.
-fn fold_stacks(
+/// Prints a block for each sample of a recording, by its bytes, or adds its folded stacks to those so far.
+fn print_recording(
     rt: &HostRuntime,
     path: &str,
     bytes: &[u8],
@@ -226,22 +220,18 @@ fn fold_stacks(
     folded: &mut Folded,
 ) -> Result<u8> {
     let alloc = rt.alloc();
-    let mut text = Vec::new(alloc);
+    let mut out = BufWriter::new(alloc, io::writer(rt))?;
     let mut err = rt.stderr();
-    let written = write_stacks(alloc, bytes, disk, options, &mut text, &mut err);
-    for line in read_folded(alloc, text.as_slice())? {
-        folded.add(line)?;
-    }
-    recording_status(rt, path, written)
-}
-
-/// Returns the status of a recording, and prints why it gives no stacks, or no more of them.
-fn recording_status(
-    rt: &HostRuntime,
-    path: &str,
-    written: Result<Option<RecordingError>, StacksError>,
-) -> Result<u8> {
-    match written {
+    let unwound = write_stacks(alloc, bytes, disk, options, &mut out, &mut err);
+    io::Write::flush(&mut out)?;
+    let ended = match unwound {
+        Ok(unwound) => {
+            folded.merge(unwound.folded)?;
+            unwound.ended
+        }
+        Err(error) => Err(error),
+    };
+    match ended {
         Ok(None) => Ok(0),
         Ok(Some(refusal)) => refuse(rt, path, StacksError::Recording(refusal)),
         Err(error) => refuse(rt, path, error),

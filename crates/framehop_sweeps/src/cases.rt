@@ -1,8 +1,9 @@
 //! Steps of the worked examples on x86_64: what each gives, and where its reads fail.
 use crate::sections::{
     ENDLESS_CHAIN, ENDLESS_EXPRESSION, FRAME_REGISTER, HEADER, LINKAGE_TABLE, LONG_LENGTH,
-    MACHINE_FRAME, ONE_FDE, OTHER_OFFSETS, PUSHES_RBX, RESERVED_LENGTH, Sections, TEXT,
-    TEXT_WITH_FRAME_REGISTER, THREE_FDES, UNSORTED_HEADER, UNWIND_INFO, VALUE_OF_RBP,
+    MACHINE_FRAME, NO_LIST_OF_REGISTERS, ONE_FDE, OTHER_OFFSETS, PUSHES_RBX, RESERVED_LENGTH,
+    SAVES_RBP, Sections, TEXT, TEXT_WITH_FRAME_REGISTER, THREE_FDES, UNSORTED_HEADER, UNWIND_INFO,
+    VALUE_OF_RBP,
 };
 use crate::steps::{STACK, Stack};
 use framehop::Error;
@@ -89,6 +90,35 @@ pub(crate) static CALL_FRAMES: [Case; 7] = [
     },
 ];
 
+/// The same FDE by a header, each of whose rows has a rule of its own. An address below it is not covered.
+pub(crate) static BY_HEADER: [Case; 5] = [
+    Case {
+        sections: WITH_HEADER,
+        ..RETURN_ADDRESS_ON_TOP
+    },
+    Case {
+        sections: WITH_HEADER,
+        ..PUSHED_RBP
+    },
+    Case {
+        sections: WITH_HEADER,
+        ..BY_FRAME_POINTER
+    },
+    Case {
+        sections: WITH_HEADER,
+        is_caller: true,
+        lookup: 0x1020,
+        ..BY_FRAME_POINTER
+    },
+    Case {
+        sections: WITH_HEADER,
+        lookup: 0xfff,
+        ..RETURN_ADDRESS_ON_TOP
+    },
+];
+
+const WITH_HEADER: Sections = Sections::EhFrameHdr(ONE_FDE, HEADER);
+
 /// A first frame at the start of a function with compact unwind info.
 const COMPACT: Case = Case {
     sections: Sections::UnwindInfo(UNWIND_INFO),
@@ -125,13 +155,25 @@ const RBX_ON_TOP: Case = Case {
 };
 
 /// Steps by other unwind data.
-pub(crate) static OTHER_UNWIND_DATA: [Case; 7] = [
+pub(crate) static OTHER_UNWIND_DATA: [Case; 9] = [
     COMPACT,
     Case {
         is_caller: true,
         given: (Ok(Some(0x100200)), [0x30, 0x40, 0]),
         refused: &[0x20, 0x20, 0x28],
         ..COMPACT
+    },
+    Case {
+        sections: Sections::UnwindInfo(SAVES_RBP),
+        lookup: 0x101001,
+        given: (Ok(Some(0x40)), [0x28, 4, 0]),
+        refused: &[0x18, 0x18, 0x20],
+        ..COMPACT
+    },
+    Case {
+        sections: Sections::UnwindInfo(NO_LIST_OF_REGISTERS),
+        lookup: 0x101001,
+        ..BY_FRAME_POINTER
     },
     PUSHED_RBX,
     Case {
@@ -309,7 +351,7 @@ pub(crate) static EXAMPLES: [Case; 6] = [
     IN_TABLE,
     PUSHED_RBP,
     Case {
-        sections: Sections::EhFrameHdr(ONE_FDE, HEADER),
+        sections: WITH_HEADER,
         ..BY_FRAME_POINTER
     },
     PUSHED_RBX,

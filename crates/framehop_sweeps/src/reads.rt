@@ -1,6 +1,6 @@
 //! Steps on x86_64 in which reads of the stack fail, and what is stored after them.
 use crate::cases::{
-    CALL_FRAMES, COMPUTED_VALUES, CUT_OFF, Case, CutOff, Given, OTHER_UNWIND_DATA,
+    BY_HEADER, CALL_FRAMES, COMPUTED_VALUES, CUT_OFF, Case, CutOff, Given, OTHER_UNWIND_DATA,
     WITHOUT_END_OR_ORDER,
 };
 use crate::sections::{LONG_LENGTH, RESERVED_LENGTH, Sections};
@@ -8,9 +8,9 @@ use crate::steps::{Caches, Failing, Unwinders, frame_at};
 use crate::totals::holds;
 use framehop::Error;
 use framehop::x86_64::{Reg, UnwindRegsX86_64};
-use framehop_bytes::read_error::ReadError;
 use framehop_cfi::entry::UnwindSectionType;
 use framehop_cfi::pointer::BaseAddresses;
+use framehop_cfi::read_error::ReadError;
 use framehop_dwarf::index::{DwarfCfiIndex, DwarfCfiIndexError};
 use std::alloc::Global;
 use std::test::Fail;
@@ -113,6 +113,7 @@ fn are_given(alloc: Global, unwinders: &mut Unwinders, cases: &[Case]) -> Result
 fn steps(rt: HostRuntime) -> Result<(), Fail> {
     let mut unwinders = Unwinders::new(rt.alloc())?;
     are_given(rt.alloc(), &mut unwinders, &CALL_FRAMES)?;
+    are_given(rt.alloc(), &mut unwinders, &BY_HEADER)?;
     are_given(rt.alloc(), &mut unwinders, &OTHER_UNWIND_DATA)?;
     are_given(rt.alloc(), &mut unwinders, &COMPUTED_VALUES)?;
     are_given(rt.alloc(), &mut unwinders, &WITHOUT_END_OR_ORDER)

@@ -1,9 +1,11 @@
 //! Walks on aarch64 in which one read of the stack fails.
-use crate::steps::{Failing, SWEPT_STACK};
+use crate::steps::{Failing, Stack};
 use crate::totals::holds;
 use framehop::aarch64::{CacheAarch64, UnwindRegsAarch64, UnwinderAarch64};
+use framehop::section::ExplicitModuleSectionInfo;
 use framehop::{
-    Error, FrameAddress, Generations, ModuleListError, MustNotAllocateDuringUnwind, Unwinder,
+    Error, FrameAddress, Generations, Module, ModuleListError, MustNotAllocateDuringUnwind,
+    Unwinder,
 };
 use std::alloc::Global;
 use std::test::Fail;
@@ -19,6 +21,40 @@ pub(crate) struct Walk {
     pub(crate) misses: u64,
 }
 
+/// Frame records at 0x20, 0x40 and 0x70.
+static FRAME_RECORDS: Stack = Stack {
+    base: 0,
+    words: &[
+        1,
+        2,
+        3,
+        4,
+        0x40,
+        0x1004fcdc4,
+        5,
+        6,
+        0x70,
+        0x100528a28,
+        7,
+        8,
+        9,
+        10,
+        0,
+        0,
+    ],
+};
+
+/// A module with an empty `__unwind_info`.
+fn binary(alloc: Global) -> Result<Module<Vec<u8>>, ModuleListError> {
+    let name = String::new(alloc);
+    let sections = ExplicitModuleSectionInfo {
+        base_svma: 0x100000000,
+        unwind_info: Some(Vec::new(alloc)),
+        ..ExplicitModuleSectionInfo::default()
+    };
+    Module::new(alloc, name, 0x1003fc000..0x100634000, 0x1003fc000, sections)
+}
+
 /// Walks by frame pointers under the policy that must not allocate, where these reads fail, or makes only what the walk
 /// needs.
 pub(crate) fn first_calls(
@@ -30,22 +66,25 @@ pub(crate) fn first_calls(
     let Ok(mut cache) = CacheAarch64::<MustNotAllocateDuringUnwind>::new_in(alloc) else {
         return Err(ModuleListError::OutOfMemory);
     };
-    let unwinder: UnwinderAarch64<Vec<u8>, MustNotAllocateDuringUnwind> = UnwinderAarch64::new(
+    let mut unwinder: UnwinderAarch64<Vec<u8>, MustNotAllocateDuringUnwind> = UnwinderAarch64::new(
         alloc,
         &mut generations,
     )?;
+    if let Err(refused) = unwinder.add_module(binary(alloc)?, &mut generations) {
+        return Err(refused.cause);
+    }
     let mut number = 0u32;
     let mut read = |address: u64| -> Result<u64, ()> {
         number = number.saturating_add(1);
         if failing.fails(number) {
             return Err(());
         }
-        SWEPT_STACK.word(address)
+        FRAME_RECORDS.word(address)
     };
     let mut calls = [Ok(None); 5];
     if is_walked {
-        let regs = UnwindRegsAarch64::new(0x100400, 0x10, 0x20);
-        let mut frames = unwinder.iter_frames(0x100400, regs, &mut cache, &mut read);
+        let regs = UnwindRegsAarch64::new(0x1004e0830, 0x10, 0x20);
+        let mut frames = unwinder.iter_frames(0x1005252c0, regs, &mut cache, &mut read);
         for call in &mut calls {
             *call = frames.next();
         }
@@ -62,9 +101,9 @@ pub(crate) fn first_calls(
 #[test]
 fn fails_at_each_read(rt: HostRuntime) -> Result<(), Fail> {
     let frames = [
-        Ok(Some(FrameAddress::from_instruction_pointer(0x100400))),
-        Ok(FrameAddress::from_return_address(0x100200)),
-        Ok(FrameAddress::from_return_address(0x100100)),
+        Ok(Some(FrameAddress::from_instruction_pointer(0x1005252c0))),
+        Ok(FrameAddress::from_return_address(0x1004fcdc4)),
+        Ok(FrameAddress::from_return_address(0x100528a28)),
         Ok(None),
     ];
     let [start, second, third, root] = frames;

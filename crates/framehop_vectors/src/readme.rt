@@ -40,6 +40,17 @@ fn prints_the_stack(rt: HostRuntime) -> Result<(), Fail> {
     holds(prints_frames(rt.alloc())?)
 }
 
+/// What a module's file states: its base (0 in an ELF file), where sections are, their bytes.
+fn sections_of_file(eh_frame: Vec<u8>) -> ExplicitModuleSectionInfo<Vec<u8>> {
+    ExplicitModuleSectionInfo {
+        base_svma: 0,
+        text_svma: Some(0x1000..0x2000),
+        eh_frame_svma: Some(0x2000..0x2038),
+        eh_frame: Some(eh_frame),
+        ..ExplicitModuleSectionInfo::default()
+    }
+}
+
 /// The frames of a stack, the innermost first, and whether its root was found. The words of `stack` begin at the stack pointer.
 fn frames_of_stack(
     alloc: Global,
@@ -52,14 +63,6 @@ fn frames_of_stack(
     let mut cache = CacheX86_64::new(alloc)?;
     let mut unwinder: UnwinderX86_64<Vec<u8>> = UnwinderX86_64::new(alloc, &mut generations)?;
 
-    // What the module's file states: its base (0 in an ELF file), where sections are, their bytes.
-    let sections = ExplicitModuleSectionInfo {
-        base_svma: 0,
-        text_svma: Some(0x1000..0x2000),
-        eh_frame_svma: Some(0x2000..0x2038),
-        eh_frame: Some(eh_frame),
-        ..ExplicitModuleSectionInfo::default()
-    };
     // Where the file is in the process: its code, and its base.
     let name = String::from_str(alloc, "libexample.so")?;
     let module = Module::new(
@@ -67,7 +70,7 @@ fn frames_of_stack(
         name,
         0x7f0000001000..0x7f0000003000,
         0x7f0000000000,
-        sections,
+        sections_of_file(eh_frame),
     )?;
     if let Err(refused) = unwinder.add_module(module, &mut generations) {
         // The module comes back in `refused.module`.
@@ -161,6 +164,25 @@ fn finds_the_frames_of_a_stack(rt: HostRuntime) -> Result<(), Fail> {
     holds(has_frames(alloc, &FRAMES, 4, true)?)?;
     // cut off within the third frame
     holds(has_frames(alloc, &FRAMES[..7], 3, false)?)
+}
+
+/// Whether the sections of the file equal their clone.
+fn equals_its_clone(sections: &ExplicitModuleSectionInfo<Vec<u8>>) -> bool {
+    match sections.clone() {
+        Ok(copy) => copy == *sections,
+        Err(_) => false,
+    }
+}
+
+/// The same of the file with that `.eh_frame`.
+fn clones_the_sections(alloc: Global) -> Result<bool, Fail> {
+    let sections = sections_of_file(section_bytes(alloc, EH_FRAME)?);
+    Ok(equals_its_clone(&sections))
+}
+
+#[test]
+fn clones_the_sections_of_a_file(rt: HostRuntime) -> Result<(), Fail> {
+    holds(clones_the_sections(rt.alloc())?)
 }
 
 /// Whether frames are sampled where there is room for more than there are, and for fewer.

@@ -2,10 +2,9 @@
 //! argument names or from standard input, and prints the replies.
 #![tactic(auto)]
 
-use either::{Either, Left, Right};
 use framehop_walk::{Output, Refusal, refuse, run};
 use std::fs::File;
-use std::io::Stdin;
+use std::io::{Read, Stdin};
 use std::process::ExitCode;
 use std::{env, fs, io};
 
@@ -17,7 +16,7 @@ fn main(rt: HostRuntime) -> ExitCode {
             let (status, _input) = run(
                 rt.alloc(),
                 arguments,
-                |path| open_input(&rt, path),
+                |path| Source::open(&rt, path),
                 &mut out,
                 &mut err,
             );
@@ -28,10 +27,28 @@ fn main(rt: HostRuntime) -> ExitCode {
     ExitCode::from(status)
 }
 
-/// Opens the file at a path, or standard input for `None`.
-fn open_input(rt: &HostRuntime, path: Option<&str>) -> io::Result<Either<File, Stdin>> {
-    match path {
-        Some(path) => Ok(Left(fs::open(rt, path)?)),
-        None => Ok(Right(rt.stdin())),
+/// Where the commands are read from.
+#[derive(Drop)]
+enum Source {
+    File(File),
+    Stdin(Stdin),
+}
+
+impl Source {
+    /// Opens the file at a path, or standard input for `None`.
+    fn open(rt: &HostRuntime, path: Option<&str>) -> io::Result<Self> {
+        match path {
+            Some(path) => Ok(Source::File(fs::open(rt, path)?)),
+            None => Ok(Source::Stdin(rt.stdin())),
+        }
+    }
+}
+
+impl Read for Source {
+    fn read(&mut self, buf: &mut [u8]) -> io::Result<usize> {
+        match self {
+            Source::File(file) => file.read(buf),
+            Source::Stdin(stdin) => stdin.read(buf),
+        }
     }
 }

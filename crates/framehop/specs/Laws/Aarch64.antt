@@ -4,6 +4,7 @@ use Rattle.framehop_core.specs.Memory.{Memory}
 use Rattle.framehop_core.specs.Aarch64.Registers.{Registers}
 use Rattle.framehop_core.specs.Aarch64.Rules.{outcome, Advances}
 use Rattle.framehop_core.specs.Laws.Aarch64.{outcome-Advances}
+use Rattle.framehop_core.specs.declared.aarch64.unwind_rule.UnwindRuleAarch64.{UnwindRuleAarch64}
 use Rattle.framehop_core.specs.declared.aarch64.unwind_rule.UnwindRuleAarch64.TheVariants.{UseFramePointer}
 use Rattle.framehop_dwarf.specs.Aarch64.{Ascends}
 use Rattle.framehop_dwarf.specs.Laws.DirectAarch64.{direct-means}
@@ -47,13 +48,14 @@ pub no-pe-values : (sections : Sections) (relative : ℕ) (first : Bool)
 no-pe-values sections relative first none old new = cc
 
 -- a rule's step ascends
-pub Ascends-rule : (first : Bool) (old new : Registers) → Advances first old new → Ascends first old new
-Ascends-rule first old new advances = record { rises = advances.rises; fits = advances.fits }
+pub Ascends-rule : (rule : UnwindRuleAarch64) (first : Bool) (old new : Registers) → Advances rule first old new
+    → Ascends first old new
+Ascends-rule rule first old new advances = record { rises = advances.up.rises; fits = advances.up.fits }
 
 pub rises-as-said : (policy : Policy) → RisesAsSaid (aarch64 policy)
 unfolding aarch64
 rises-as-said policy = record {
-  rules = λ said rule old new memory address e. (outcome-Advances rule false old memory address new e).rises refl;
+  rules = λ said rule old new memory address e. (outcome-Advances rule false old memory address new e).up.rises refl;
   values = λ said m relative compute e old memory values computed.
       let read =
       values-read aarch64_readers

@@ -25,7 +25,6 @@ use std::alloc::Global;
 /// Reads the stack word at an address (AVMA), aligned or not, from a copy of the stack's bytes that
 /// begins at the address `base`. It is refused where one of its eight bytes is not among them.
 #[inline]
-#[tactic(auto, unfolding(framehop_bytes::specs::Bytes::u64_at))]
 pub fn read_word(base: u64, bytes: &[u8], address: u64) -> Result<u64, ()>
     ensures { result ≡ reply (memory_of_bytes base bytes.now address) }
 {
@@ -33,8 +32,8 @@ pub fn read_word(base: u64, bytes: &[u8], address: u64) -> Result<u64, ()>
         return Err(());
     };
     match read_u64(bytes, offset as usize) {
-        Ok((word, _)) => Ok(word),
-        Err(_) => Err(()),
+        Some((word, _)) => Ok(word),
+        None => Err(()),
     }
 }
 

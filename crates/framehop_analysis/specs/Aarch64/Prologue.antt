@@ -32,8 +32,8 @@ abbrev pub IsRun : List ℕ → ℕ → List ℕ → Type 0
 IsRun bytes at [] = Unit {0}
 IsRun bytes at (word ∷ words) = (word_at bytes at ≡ Some word) × (is_run_word word ≡ true) × IsRun bytes (at + 4) words
 
--- The longest run that ends at the pc, which is the slice's end: words are cut from the slice's start, and bytes
--- before the pc that make no whole word are passed over. A run starts at the word with the number `start`.
+-- The longest run that ends at the pc, which is the slice's end. Words are counted from the slice's start, and one that
+-- the pc cuts in two belongs to no run. A run starts at the word with the number `start`.
 pub record IsLongestRun (bytes : List ℕ) (run : List ℕ) : Type 0 where
   pub start : ℕ
   pub stands : IsRun bytes (4 * start) run

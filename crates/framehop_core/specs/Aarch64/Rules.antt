@@ -1,5 +1,5 @@
 -- What the unwind rules of aarch64 do, as a table (framehop 0.16.0, documentation of `UnwindRuleAarch64`).
-use Rattle.std.specs.Prelude.{◌≡◌, ℕ, ◌*◌, ◌^◌, ◌<◌, ◌≤◌, ℤ, pos, Bool, true, false, not, ◌&&◌, ◌||◌, ◌==◌, if◌then◌else◌, nat_le, OnSome, IfOk, Option, Result, Ok}
+use Rattle.std.specs.Prelude.{◌≡◌, ℕ, ◌*◌, ◌^◌, ◌<◌, ◌≤◌, ℤ, pos, Bool, true, false, not, ◌&&◌, ◌||◌, ◌==◌, if◌then◌else◌, nat_le, List, [], ◌∷◌, OnSome, IfOk, Option, Result, Ok}
 use Rattle.framehop_core.specs.Memory.{Memory}
 use Rattle.framehop_core.specs.Outcome.{Outcome, answered, root, refused, after, address_at, word_from, above, beside}
 use Rattle.framehop_core.specs.Runs.{IsCountWithinRise}
@@ -90,22 +90,39 @@ outcome_of_line (caller sp lr fp demand) first r memory =
 abbrev pub outcome : UnwindRuleAarch64 → Bool → Registers → Memory → Outcome Registers
 outcome rule first r memory = outcome_of_line (line_of rule first r) first r memory
 
+-- the line has the caller's sp at this address, whatever the stack holds
+abbrev pub HasStackPointer : Line → ℕ → Type 0
+HasStackPointer no_advance address = ⊥
+HasStackPointer stack_end address = ⊥
+HasStackPointer (caller sp lr fp demand) address = sp ≡ pos address
+
 -- a step to the caller's frame: sp does not fall, and it rises in a frame that is not the first; it stays one of 64
 -- bits
-pub record Advances (first : Bool) (callee caller : Registers) : Type 0 where
+pub record MovesUp (first : Bool) (callee caller : Registers) : Type 0 where
   pub not_below : callee.sp ≤ caller.sp
   pub rises : first ≡ false → callee.sp < caller.sp
   pub fits : caller.sp < 2 ^ 64
 
--- where a call has answered an address, the registers have advanced
-abbrev pub AdvancesWhereAnswered : Bool → Result (Option ℕ) Error → Registers → Registers → Type 0
-AdvancesWhereAnswered first result old new = IfOk result (λ answer. OnSome answer (Advances first old new))
+-- such a step by a rule: sp is where the rule's line has it
+pub record Advances (rule : UnwindRuleAarch64) (first : Bool) (callee caller : Registers) : Type 0 where
+  pub up : MovesUp first callee caller
+  pub stack_pointer : HasStackPointer (line_of rule first callee) caller.sp
 
--- So many steps lead from these registers to those: none leaves them, and else one leads to the registers after the
--- first step, and no more than sp has risen since follow.
-pub record IsBoundedRun (count : ℕ) (start end : Registers) : Type 0 where
+-- where a call has answered an address, the registers have advanced by the rule
+abbrev pub AdvancesWhereAnswered : UnwindRuleAarch64 → Bool → Result (Option ℕ) Error → Registers → Registers → Type 0
+AdvancesWhereAnswered rule first result old new =
+    IfOk result (λ answer. OnSome answer (Advances rule first old new))
+
+-- the first of these rules leads from these registers to those, in a first frame
+abbrev pub IsFirstStep : List UnwindRuleAarch64 → Registers → Registers → Type 0
+IsFirstStep [] start first = ⊥
+IsFirstStep (rule ∷ rules) start first = Advances rule true start first
+
+-- So many of these rules lead from these registers to those: none leaves them, and else the first one leads to
+-- registers from which no more follow than sp rises.
+pub record IsBoundedRun (rules : List UnwindRuleAarch64) (count : ℕ) (start end : Registers) : Type 0 where
   pub first : Registers
   pub none : count ≡ 0 → end ≡ start
-  pub step : 0 < count → Advances true start first
+  pub step : 0 < count → IsFirstStep rules start first
   pub not_below : first.sp ≤ end.sp
   pub within : IsCountWithinRise count first.sp end.sp

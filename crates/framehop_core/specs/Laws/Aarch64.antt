@@ -6,7 +6,7 @@ use Rattle.std.proofs.lemmas.Bool.Decides.{nat_tests}
 use Rattle.framehop_core.specs.Memory.{Memory}
 use Rattle.framehop_core.specs.Outcome.{Outcome, answered, address_at}
 use Rattle.framehop_core.specs.Aarch64.Registers.{Registers, strip_ptr_auth}
-use Rattle.framehop_core.specs.Aarch64.Rules.{Source, Demand, nothing_more, stack_pointer_rises, frame_pointer_rises, value_from, demanded, finished, Line, caller, no_advance, stack_end, outcome_of_line, line_of, outcome, Advances}
+use Rattle.framehop_core.specs.Aarch64.Rules.{Source, Demand, nothing_more, stack_pointer_rises, frame_pointer_rises, value_from, demanded, finished, Line, caller, no_advance, stack_end, outcome_of_line, line_of, outcome, MovesUp, HasStackPointer, Advances}
 use Rattle.framehop_core.specs.declared.error.Error.TheVariants.{DidNotAdvance, FramepointerUnwindingMovedBackwards}
 use Rattle.framehop_core.specs.declared.aarch64.unwind_rule.UnwindRuleAarch64.{UnwindRuleAarch64}
 use Rattle.framehop_core.specs.declared.aarch64.unwind_rule.UnwindRuleAarch64.TheVariants.{NoOp, NoOpIfFirstFrameOtherwiseFp, OffsetSp, OffsetSpIfFirstFrameOtherwiseStackEndsHere, OffsetSpAndRestoreLr, OffsetSpAndRestoreFpAndLr, UseFramePointer, UseFramepointerWithOffsets}
@@ -103,7 +103,7 @@ caller-answered sp lr fp demand first r memory address new e =
 
 kept_or_raised : (sp : ℤ) (lr fp : Source) (demand : Demand) (first : Bool) (r : Registers) (memory : Memory)
     (address : ℕ) (new : Registers) → ((n : ℕ) (new_fp : ℕ) → sp ≡ pos n → Meets demand r n new_fp → r.sp ≤ n)
-    → outcome_of_line (caller sp lr fp demand) first r memory ≡ answered address new → Advances first r new
+    → outcome_of_line (caller sp lr fp demand) first r memory ≡ answered address new → MovesUp first r new
 kept_or_raised sp lr fp demand first r memory address new least e =
     let c = caller-answered sp lr fp demand first r memory address new e in
     let same : new.sp ≡ c.new_sp = ap (λ t. t.sp) c.end.registers in
@@ -120,12 +120,21 @@ IsUpward no_advance r = Unit {0}
 IsUpward stack_end r = Unit {0}
 IsUpward (caller sp lr fp demand) r = (n new_fp : ℕ) → sp ≡ pos n → Meets demand r n new_fp → r.sp ≤ n
 
-line-Advances : (line : Line) (first : Bool) (r : Registers) (memory : Memory) (address : ℕ) (new : Registers)
-    → IsUpward line r → outcome_of_line line first r memory ≡ answered address new → Advances first r new
-line-Advances no_advance first r memory address new up e = cc
-line-Advances stack_end first r memory address new up e = cc
-line-Advances (caller sp lr fp demand) first r memory address new up e =
+line-MovesUp : (line : Line) (first : Bool) (r : Registers) (memory : Memory) (address : ℕ) (new : Registers)
+    → IsUpward line r → outcome_of_line line first r memory ≡ answered address new → MovesUp first r new
+line-MovesUp no_advance first r memory address new up e = cc
+line-MovesUp stack_end first r memory address new up e = cc
+line-MovesUp (caller sp lr fp demand) first r memory address new up e =
     kept_or_raised sp lr fp demand first r memory address new up e
+
+-- an answer has its sp from the line
+line-HasStackPointer : (line : Line) (first : Bool) (r : Registers) (memory : Memory) (address : ℕ) (new : Registers)
+    → outcome_of_line line first r memory ≡ answered address new → HasStackPointer line new.sp
+line-HasStackPointer no_advance first r memory address new e = cc
+line-HasStackPointer stack_end first r memory address new e = cc
+line-HasStackPointer (caller sp lr fp demand) first r memory address new e =
+    let c = caller-answered sp lr fp demand first r memory address new e in
+    c.sp_is ∙ ap pos (sym (ap (λ t. t.sp) c.end.registers))
 
 IsUpward-line_of : (rule : UnwindRuleAarch64) (first : Bool) (r : Registers) → IsUpward (line_of rule first r) r
 IsUpward-line_of NoOp true r = λ n f is met. let same = pos-same _ n is in omega arith
@@ -144,12 +153,14 @@ IsUpward-line_of (UseFramepointerWithOffsets x y z) first r = λ n f is met. ome
 
 -- a rule that answers an address advances
 pub outcome-Advances : (rule : UnwindRuleAarch64) (first : Bool) (r : Registers) (memory : Memory) (address : ℕ)
-    (new : Registers) → outcome rule first r memory ≡ answered address new → Advances first r new
-outcome-Advances rule first r memory address new e =
-    line-Advances (line_of rule first r) first r memory address new (IsUpward-line_of rule first r) e
+    (new : Registers) → outcome rule first r memory ≡ answered address new → Advances rule first r new
+outcome-Advances rule first r memory address new e = record {
+  up = line-MovesUp (line_of rule first r) first r memory address new (IsUpward-line_of rule first r) e;
+  stack_pointer = line-HasStackPointer (line_of rule first r) first r memory address new e;
+}
 
 pub raises : Raises outcome (λ r. r.sp) (λ memory r. Unit {0})
 raises = record {
   leads = λ rule first old new memory address e. tt;
-  rises = λ rule old new memory address behind e. (outcome-Advances rule false old memory address new e).rises refl;
+  rises = λ rule old new memory address behind e. (outcome-Advances rule false old memory address new e).up.rises refl;
 }

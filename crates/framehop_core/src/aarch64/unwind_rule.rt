@@ -3,11 +3,12 @@
 //! A line says where the new stack pointer comes from, and which words are read in which order. Each arm of `exec`
 //! is one line, so that both can be held side by side, and registers are written by its last step only: a rule that
 //! is refused writes nothing.
-ghost use Rattle.std.specs.Prelude.{◌≡◌, ◌≢◌, ◌≤◌, true, false};
+ghost use Rattle.std.specs.Prelude.{◌≡◌, ◌≢◌, ◌≤◌, true, false, IfOk, OnSome};
 ghost use Rattle.framehop_core.specs.Memory.{Answering};
 ghost use Rattle.framehop_core.specs.Runs.{run_of, after_first, IsCountWithinRise};
-ghost use Rattle.framehop_core.specs.Aarch64.Rules.{outcome, IsBoundedRun, finished, finished_at_frame_pointer, AdvancesWhereAnswered};
+ghost use Rattle.framehop_core.specs.Aarch64.Rules.{outcome, IsBoundedRun, finished, finished_at_frame_pointer, MovesUp, AdvancesWhereAnswered};
 ghost use Rattle.framehop_core.specs.Outcome.{KeptUnlessAnswered, HasDone};
+ghost use Rattle.framehop_core.specs.declared.aarch64.unwind_rule.UnwindRuleAarch64.TheVariants.{NoOpIfFirstFrameOtherwiseFp, UseFramePointer};
 
 use super::unwindregs::UnwindRegsAarch64;
 use crate::error::Error;
@@ -17,24 +18,25 @@ use crate::unwind_rule::{RunEnd, UnwindRule, offset_address, read_stack_word, re
 /// How to get from the registers of a frame to those of its caller, on aarch64.
 ///
 /// A field whose name ends in `by_16` or `by_8` counts units of that many bytes: here `x` stands
-/// for the offset of sp, `y` and `z` for those of the stored fp and lr, all in bytes.
+/// for the offset of sp, `y` and `z` for those of the stored fp and lr, all in bytes. Registers on the
+/// right of `=` are those of the frame, and a register that is not named keeps its value.
 #[derive(Clone, Copy, Debug, PartialEq, Eq)]
 pub enum UnwindRuleAarch64 {
-    /// `(sp, fp, lr) = (sp, fp, lr)`, in a first frame only: any other frame must get its return
-    /// address from somewhere else than lr, or the walk would not end.
+    /// All three registers stay as they are, in a first frame only: any other frame must get its
+    /// return address from somewhere else than lr, or the walk would not end.
     NoOp,
 
-    /// `(sp, fp, lr) = (sp, fp, lr)` in a first frame, else `(fp + 16, *fp, *(fp + 8))`.
+    /// `NoOp` in a first frame, else `sp = fp + 16`, `fp = *fp`, `lr = *(fp + 8)`.
     ///
     /// This serves an address inside a module for which the unwind data has nothing.
     NoOpIfFirstFrameOtherwiseFp,
 
-    /// `(sp, fp, lr) = (sp + x, fp, lr)`, in a first frame only, for the reason given at `NoOp`.
+    /// `sp = sp + x`, in a first frame only, for the reason given at `NoOp`.
     OffsetSp {
         sp_offset_by_16: u16,
     },
 
-    /// `(sp, fp, lr) = (sp + x, fp, lr)` in a first frame; any other frame is the root.
+    /// `sp = sp + x` in a first frame; any other frame is the root.
     ///
     /// DWARF data that leaves the return address undefined can mean two things: that lr still has
     /// it, which only a first frame allows, or that there is no caller.
@@ -42,26 +44,26 @@ pub enum UnwindRuleAarch64 {
         sp_offset_by_16: u16,
     },
 
-    /// `(sp, fp, lr) = (sp + x, fp, *(sp + z))`
+    /// `sp = sp + x`, `lr = *(sp + z)`
     OffsetSpAndRestoreLr {
         sp_offset_by_16: u16,
         lr_storage_offset_from_sp_by_8: i16,
     },
 
-    /// `(sp, fp, lr) = (sp + x, *(sp + y), *(sp + z))`
+    /// `sp = sp + x`, `fp = *(sp + y)`, `lr = *(sp + z)`
     OffsetSpAndRestoreFpAndLr {
         sp_offset_by_16: u16,
         fp_storage_offset_from_sp_by_8: i16,
         lr_storage_offset_from_sp_by_8: i16,
     },
 
-    /// `(sp, fp, lr) = (fp + 16, *fp, *(fp + 8))`
+    /// `sp = fp + 16`, `fp = *fp`, `lr = *(fp + 8)`
     ///
     /// A function with a frame pointer stores the caller's fp and lr next to each other on the
     /// stack, and sets fp to the address of that pair.
     UseFramePointer,
 
-    /// `(sp, fp, lr) = (fp + x, *(fp + y), *(fp + z))`
+    /// `sp = fp + x`, `fp = *(fp + y)`, `lr = *(fp + z)`
     UseFramepointerWithOffsets {
         sp_offset_from_fp_by_8: u16,
         fp_storage_offset_from_fp_by_8: i16,
@@ -203,7 +205,7 @@ pub fn run_rules<F: FnMut(u64) -> Result<u64, ()>>(
 ) -> (usize, RunEnd)
     requires { F.IsAlwaysCallable read_stack.old }
     ensures callable { F.IsAlwaysCallable read_stack.new }
-    ensures bounded { IsBoundedRun result.0 regs.old regs.new }
+    ensures bounded { IsBoundedRun rules.now result.0 regs.old regs.new }
     ensures answers { Answering F.FnMut read_stack.old read_stack.new (λ memory.
         (run_of outcome true rules.now regs.old memory
         ≡ record { count = result.0; end = result.1; registers = regs.new })
@@ -212,7 +214,7 @@ pub fn run_rules<F: FnMut(u64) -> Result<u64, ()>>(
     unwind_rule::run_rules(rules, regs, read_stack)
 }
 
-/// Returns the step by the frame pointer, `(sp, fp, lr) = (fp + 16, *fp, *(fp + 8))`, where both the frame
+/// Returns the step by the frame pointer, `sp = fp + 16`, `fp = *fp`, `lr = *(fp + 8)`, where both the frame
 /// pointer and the stack pointer must rise.
 ///
 /// `bl` puts the return address into lr. A function with a frame pointer lowers sp, stores fp and lr
@@ -234,9 +236,9 @@ fn exec_frame_pointer<F: FnMut(u64) -> Result<u64, ()>>(
     ensures callable { F.IsAlwaysCallable read_stack.new }
     ensures never_out_of_memory { result ≢ Err Error.OutOfMemory }
     ensures kept { KeptUnlessAnswered result regs.old regs.new }
-    ensures advances { AdvancesWhereAnswered is_first_frame result regs.old regs.new }
+    ensures advances { AdvancesWhereAnswered UseFramePointer is_first_frame result regs.old regs.new }
     ensures answers { Answering F.FnMut read_stack.old read_stack.new (λ memory.
-        HasDone (outcome UnwindRuleAarch64.UseFramePointer is_first_frame regs.old memory)
+        HasDone (outcome UseFramePointer is_first_frame regs.old memory)
         result regs.old regs.new) }
 {
     let fp = regs.fp();
@@ -255,9 +257,9 @@ fn exec_frame_record<F: FnMut(u64) -> Result<u64, ()>>(
     ensures callable { F.IsAlwaysCallable read_stack.new }
     ensures never_out_of_memory { result ≢ Err Error.OutOfMemory }
     ensures kept { KeptUnlessAnswered result regs.old regs.new }
-    ensures advances { AdvancesWhereAnswered false result regs.old regs.new }
+    ensures advances { AdvancesWhereAnswered NoOpIfFirstFrameOtherwiseFp false result regs.old regs.new }
     ensures answers { Answering F.FnMut read_stack.old read_stack.new (λ memory.
-        HasDone (outcome UnwindRuleAarch64.NoOpIfFirstFrameOtherwiseFp false regs.old memory)
+        HasDone (outcome NoOpIfFirstFrameOtherwiseFp false regs.old memory)
         result regs.old regs.new) }
 {
     let fp = regs.fp();
@@ -282,7 +284,8 @@ fn finish_at_frame_pointer(
 ) -> Result<Option<u64>, Error>
     ensures done { HasDone (finished_at_frame_pointer is_first_frame regs.old new_sp new_lr new_fp)
         result regs.old regs.new }
-    ensures advances { AdvancesWhereAnswered is_first_frame result regs.old regs.new }
+    ensures up { IfOk result (λ answer. OnSome answer (MovesUp is_first_frame regs.old regs.new)) }
+    ensures stack_pointer { IfOk result (λ answer. OnSome answer (regs.new.sp ≡ new_sp)) }
 {
     if new_fp == 0 {
         return Ok(None);
@@ -305,8 +308,9 @@ fn finish(
 ) -> Result<Option<u64>, Error>
     ensures done { HasDone (finished is_first_frame regs.old new_sp new_lr new_fp)
         result regs.old regs.new }
-    ensures advances { regs.old.sp ≤ new_sp
-        → AdvancesWhereAnswered is_first_frame result regs.old regs.new }
+    ensures up { regs.old.sp ≤ new_sp
+        → IfOk result (λ answer. OnSome answer (MovesUp is_first_frame regs.old regs.new)) }
+    ensures stack_pointer { IfOk result (λ answer. OnSome answer (regs.new.sp ≡ new_sp)) }
 {
     let return_address = regs.lr_mask().strip_ptr_auth(new_lr);
     if return_address == 0 {

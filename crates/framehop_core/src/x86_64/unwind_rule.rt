@@ -29,32 +29,32 @@ pub enum UnwindRuleX86_64 {
     /// There is no caller.
     EndOfStack,
 
-    /// `(sp, bp) = (sp + 8, bp)`
+    /// `sp = sp + 8`
     JustReturn,
 
-    /// `(sp, bp) = (sp + 8, bp)` in a first frame, else `(bp + 16, *bp)`.
+    /// `sp = sp + 8` in a first frame, else `sp = bp + 16`, `bp = *bp`.
     ///
     /// This serves an address inside a module for which the unwind data has nothing.
     JustReturnIfFirstFrameOtherwiseFp,
 
-    /// `(sp, bp) = (sp + x, bp)`
+    /// `sp = sp + x`
     OffsetSp {
         sp_offset_by_8: u16,
     },
 
-    /// `(sp, bp) = (sp + x, *(sp + y))`
+    /// `sp = sp + x`, `bp = *(sp + y)`
     OffsetSpAndRestoreBp {
         sp_offset_by_8: u16,
         bp_storage_offset_from_sp_by_8: i16,
     },
 
-    /// `(sp, bp) = (bp + 16, *bp)`
+    /// `sp = bp + 16`, `bp = *bp`
     ///
     /// A function with a frame pointer pushes the caller's bp after the return address, and sets
     /// bp to the address of that word.
     UseFramePointer,
 
-    /// `(sp, bp) = (bp + x, *(bp + y))`, where `x` and `y` count from bp.
+    /// `sp = bp + x`, `bp = *(bp + y)`, where `x` and `y` count from bp.
     ///
     /// A function whose frame pointer is not next to the return address, as where it aligns its stack.
     UseFramePointerWithOffsets {
@@ -163,7 +163,7 @@ impl UnwindRule for UnwindRuleX86_64 {
 
     ghost outcome = { outcome };
 
-    ghost advances = { Advances };
+    ghost advances = { λ _. Advances };
 
     ghost stack_pointer = { λ r. r.rsp };
 

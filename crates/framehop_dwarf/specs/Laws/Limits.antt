@@ -2,7 +2,7 @@
 use Rattle.std.proofs.Common.{◌≡◌, ℕ, zero, suc, List, [], ◌∷◌, length, Option, Some, None, Ok, Err, sym, subst, inl, inr, ◌==◌}
 use Rattle.std.specs.Prelude.{option_and_then, option_to_list, slice_get}
 use Rattle.std.proofs.lemmas.Bool.{cases_Bool}
-use Rattle.framehop_bytes.specs.Bytes.{Parsed}
+use Rattle.framehop_cfi.specs.Numbers.{Parsed}
 use Rattle.framehop_cfi.specs.declared.rule.Register.{Register}
 use Rattle.framehop_cfi.specs.declared.rule.Expression.{Expression}
 use Rattle.framehop_dwarf.specs.Operation.{operation_at, changed, combined}

@@ -3,10 +3,10 @@ use Rattle.std.proofs.Common.{◌≡◌, ◌≢◌, ℕ, zero, suc, ◌+◌, ◌
 use Rattle.std.proofs.lemmas.Bool.{cases_Bool, lt-leb, le-leb}
 use Rattle.std.proofs.lemmas.Bool.Decides.{nat_tests}
 use Rattle.std.specs.Prelude.{option_and_then, option_to_list, slice_get, slice_range}
-use Rattle.framehop_bytes.specs.Bytes.{u8_at}
+use Rattle.framehop_cfi.specs.Numbers.{u8_at}
 use Rattle.framehop_cfi.specs.declared.rule.Register.{Register}
 use Rattle.framehop_cfi.specs.declared.rule.Expression.{Expression}
-use Rattle.framehop_bytes.specs.declared.read_error.ReadError.TheVariants.{Eof}
+use Rattle.framehop_cfi.specs.declared.read_error.ReadError.TheVariants.{Eof}
 use Rattle.framehop_dwarf.specs.Operation.{operation_at}
 use Rattle.framehop_dwarf.specs.Evaluation.{Evaluation, State, fits, step, Leads, IsValue, value_from, value_of, code_of, value_in, IsValueIn}
 use Rattle.framehop_dwarf.specs.Laws.Values.{ended, stepped}

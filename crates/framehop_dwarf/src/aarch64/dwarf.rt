@@ -13,7 +13,7 @@ use crate::dwarf::{
     DwarfUnwinderError, DwarfUnwinding, eval_cfa_rule, eval_register_rule, units_of, words_of_sum,
 };
 use crate::evaluation::{DwarfUnwindRegs, EvaluationStorage};
-use framehop_bytes::read_error::ReadError;
+use framehop_cfi::read_error::ReadError;
 use framehop_cfi::row::UnwindTableRow;
 use framehop_cfi::rule::{CfaRule, Register, RegisterRule};
 use framehop_cfi::storage::UnwindContextStorage;

@@ -15,7 +15,7 @@ use crate::dwarf::{
     words_of_sum,
 };
 use crate::evaluation::{DwarfUnwindRegs, EvaluationStorage};
-use framehop_bytes::read_error::ReadError;
+use framehop_cfi::read_error::ReadError;
 use framehop_cfi::row::UnwindTableRow;
 use framehop_cfi::rule::{CfaRule, Register, RegisterRule};
 use framehop_cfi::storage::UnwindContextStorage;

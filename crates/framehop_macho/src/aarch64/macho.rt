@@ -67,7 +67,7 @@ impl CompactUnwindInfoUnwinding for ArchAarch64 {
         if let OpcodeArm64::Null = opcode {
             return unwind_by_opcode(opcode, true);
         }
-        // The pc might be in a prologue or an epilogue, which the opcodes do not describe.
+        // No opcode describes a prologue or an epilogue: there the instructions at the pc decide.
         if let Some(code) = function_bytes {
             if let Some(rule) = Self::rule_from_instruction_analysis(
                 code,

@@ -6,7 +6,8 @@ ghost use Rattle.framehop_macho.specs.Table.{index_starts};
 
 use super::error::CompactReadError;
 use super::page::Page;
-use super::table::{IndexEntries, part, row_of_address, u32_at};
+use super::table::{IndexEntries, part, row_of_address};
+use framehop_bytes::bytes::u32_at;
 
 /// A function that `__unwind_info` describes.
 #[derive(Clone, Copy, Debug, PartialEq, Eq)]

@@ -6,9 +6,8 @@ ghost use Rattle.framehop_macho.specs.Table.{regular_starts, compressed_starts, 
 
 use super::error::CompactReadError;
 use super::info::Function;
-use super::table::{
-    CompressedEntries, RegularEntries, opcode_at, part, row_of_address, u16_at, u32_at,
-};
+use super::table::{CompressedEntries, RegularEntries, opcode_at, part, row_of_address};
+use framehop_bytes::bytes::{u16_at, u32_at};
 
 const REGULAR: u32 = 2;
 

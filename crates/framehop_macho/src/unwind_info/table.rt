@@ -1,30 +1,11 @@
 //! Tables of fixed rows inside the bytes of `__unwind_info`, read in place.
-ghost use Rattle.std.specs.Prelude.{◌≡◌, ◌+◌, ◌≤◌, Ok, Err, MatchResult, MatchOption, length};
-ghost use Rattle.framehop_bytes.specs.Bytes.{le2, le4};
+ghost use Rattle.std.specs.Prelude.{◌≡◌, ◌≤◌, Ok, Err, MatchResult, MatchOption, length};
 ghost use Rattle.framehop_macho.specs.Table.{part_of, index_starts, regular_starts, compressed_starts, row_of, IsRow, IsBefore};
 ghost use Rattle.framehop_macho.specs.UnwindInfo.{opcode_by_number};
 
 use super::error::CompactReadError;
+use framehop_bytes::bytes::u32_at;
 use framehop_bytes::place::{Starts, place};
-
-/// Reads a number of two bytes.
-#[inline]
-pub(crate) fn u16_at(bytes: &[u8], at: usize) -> u16
-    requires { at + 2 ≤ length bytes.now }
-    ensures { result ≡ le2 bytes.now at }
-{
-    u16::from_le_bytes([bytes[at], bytes[at + 1]])
-}
-
-/// Reads a number of four bytes. It is not inlined by force: the compiler then makes one load of the four, before it
-/// sees that a caller masks one of them.
-#[inline]
-pub(crate) fn u32_at(bytes: &[u8], at: usize) -> u32
-    requires { at + 4 ≤ length bytes.now }
-    ensures { result ≡ le4 bytes.now at }
-{
-    u32::from_le_bytes([bytes[at], bytes[at + 1], bytes[at + 2], bytes[at + 3]])
-}
 
 /// Returns so many bytes from an offset on, or `Eof` where they are not there.
 pub(crate) fn part(bytes: &[u8], from: usize, size: usize) -> Result<&[u8], CompactReadError>

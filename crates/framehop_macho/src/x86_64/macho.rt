@@ -7,8 +7,8 @@ ghost use Rattle.framehop_macho.specs.X86_64.{with_bp, frameless_rule, indirect_
 use super::opcode::OpcodeX86_64;
 use crate::macho::{CompactUnwindInfoUnwinderError, CompactUnwindInfoUnwinding, CuiUnwindResult};
 use crate::unwind_info::info::Function;
-use crate::unwind_info::table::u32_at;
 use framehop_analysis::InstructionAnalysis;
+use framehop_bytes::bytes::u32_at;
 use framehop_core::x86_64::{ArchX86_64, UnwindRuleX86_64};
 
 /// Returns the rule of a stack of so many words of 8 bytes, with rbp stored at a place, if it is.
@@ -142,7 +142,7 @@ impl CompactUnwindInfoUnwinding for ArchX86_64 {
         function_bytes: Option<&[u8]>,
     ) -> Result<CuiUnwindResult<UnwindRuleX86_64>, CompactUnwindInfoUnwinderError> {
         if is_first_frame {
-            // The pc might be in a prologue or an epilogue, which the opcodes do not describe.
+            // No opcode describes a prologue or an epilogue: there the instructions at the pc decide.
             if let Some(code) = function_bytes {
                 if let Some(rule) = Self::rule_from_instruction_analysis(
                     code,

@@ -1,6 +1,6 @@
 use Rattle.std.proofs.Common.{◌≡◌, drop, map, List}
 use Rattle.framehop_core_file.specs.declared.mapped_file.MappedFile.{MappedFile}
-use Rattle.framehop_core_file.specs.Gathered.{IsGathered}
+use Rattle.framehop_bytes.specs.Gathered.{IsGathered}
 use Rattle.framehop_core_file.proofs.GatherLemmas.{prepended}
 use Rattle.framehop_core_file.specs.MappedFile.{mapped_file_view, files_of}
 use Rattle.framehop_core_file.proofs.mapped_file.read_files.Given as goal

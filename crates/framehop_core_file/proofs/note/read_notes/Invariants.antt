@@ -1,6 +1,6 @@
 use Rattle.std.proofs.Common.{◌≡◌, drop, map, List}
 use Rattle.framehop_core_file.specs.declared.note.PlacedNote.{PlacedNote}
-use Rattle.framehop_core_file.specs.Gathered.{IsGathered}
+use Rattle.framehop_bytes.specs.Gathered.{IsGathered}
 use Rattle.framehop_core_file.proofs.GatherLemmas.{prepended}
 use Rattle.framehop_core_file.specs.Note.{placed_view, notes_among, notes_of}
 use Rattle.framehop_core_file.proofs.note.read_notes.Given as goal

@@ -1,6 +1,6 @@
 use Rattle.std.proofs.Common.{◌≡◌, ◌+◌, ◌≤◌, ◌++◌, length, map, List}
 use Rattle.framehop_core_file.specs.declared.note.PlacedNote.{PlacedNote}
-use Rattle.framehop_core_file.specs.Gathered.{IsGathered}
+use Rattle.framehop_bytes.specs.Gathered.{IsGathered}
 use Rattle.framehop_core_file.proofs.GatherLemmas.{prepended}
 use Rattle.framehop_core_file.specs.Note.{placed_view, notes_in}
 use Rattle.framehop_core_file.proofs.note.with_notes_in.Given as goal

@@ -5,5 +5,5 @@ use Rattle.framehop_core_stacks.proofs.core_dump.segment_at.Given as goal
 
 abbrev pub invariant-loop-segment : goal.invariant-loop-segment
 invariant-loop-segment l =
-    find (has_address l.address) l.memory.segments.items
-    ≡ find (has_address l.address) (drop l.segment-index l.memory.segments.items)
+    find (has_address l.address) l.dumped
+    ≡ find (has_address l.address) (drop l.segment-index l.dumped)

@@ -1,6 +1,7 @@
 use Rattle.std.proofs.Common.{◌≡◌, ◌<◌, ◌+◌, List, [], ◌∷◌, ◌++◌, map, drop, length, refl, sym, ap, ◌∙◌, subst, arith}
 use Rattle.std.proofs.lemmas.List.{at_drop_more, at_drop_all}
-use Rattle.framehop_core_stacks.specs.Dump.{memory_view, mapped_code_view}
+use Rattle.framehop_core_stacks.specs.Dump.{mapped_code_view}
+use Rattle.framehop_memory.specs.Memory.{memory_view}
 use Rattle.framehop_core_stacks.specs.Minidump.{LoadedView, loaded_view, AreCodeOf}
 use Rattle.framehop_core_stacks.specs.declared.dump.MappedCode.{MappedCode}
 use Rattle.framehop_core_stacks.proofs.EachLemmas.{append-none, append-assoc}

@@ -1,5 +1,6 @@
 use Rattle.std.proofs.Common.{List, ◌++◌, map, drop}
-use Rattle.framehop_core_stacks.specs.Dump.{MappedCodeView, memory_view, mapped_code_view}
+use Rattle.framehop_core_stacks.specs.Dump.{MappedCodeView, mapped_code_view}
+use Rattle.framehop_memory.specs.Memory.{memory_view}
 use Rattle.framehop_core_stacks.specs.Minidump.{loaded_view, AreCodeOf}
 use Rattle.framehop_core_stacks.proofs.minidump.code_of.Given as goal
 

@@ -1,7 +1,7 @@
 use Rattle.std.proofs.Common.{◌<◌, ◌∙◌, suc, [], ◌∷◌, length, length-append, map, sym, ap, arith}
 use Rattle.framehop_cfi.specs.Section.{Section}
 use Rattle.framehop_dwarf.specs.Index.{pair_of_key, no_memory}
-use Rattle.framehop_dwarf.proofs.Lengths.{refused-length}
+use Rattle.framehop_dwarf.proofs.Lengths.{refused-length, after-length}
 use Rattle.framehop_dwarf.proofs.Walk.{span-refused, past-other, past-fde, begins, pushed, keyed, offset-small}
 use Rattle.framehop_dwarf.proofs.index.read_keys.Goals as goal
 
@@ -59,6 +59,7 @@ loop-at-preserved-else-is_err c =
     let all = pushed c.push.result _ _ _ (sym c.is_err.ensures.value ∙ c.if-is_err.false) c.push.ensures.items in
     let long = ap length all ∙ length-append c.loop-at.keys.items (c.key_of.result ∷ []) in
     let so = c.loop-at.invariant.few.0 in
+    let past = after-length c.args.section.now.bytes c.loop-at.at c.in-Ok.span (sym read) in
     let at_small = offset-small c.args.section.now c.args.base_svma c.loop-at.at c.in-Some.pair (sym c.visit_entry.ensures.exact ∙ c.in-Some.is) in
     record {
       known = c.visit_entry.ensures.known;

@@ -1,17 +1,17 @@
-use Rattle.std.proofs.Common.{◌≡◌, ◌∙◌, ap, subst, arith, List, map}
+use Rattle.std.proofs.Common.{◌≡◌, ◌∙◌, ◌++◌, append-nil, ap, sym, subst, List, map}
 use Rattle.std.specs.List.Sorted.{IsPermutation}
 use Rattle.std.specs.Ordering.{is_lt, nat_cmp, ordering_then}
-use Rattle.std.proofs.lemmas.List.{take_all}
 use Rattle.std.proofs.lemmas.List.Sorted.{IsPermutation-map}
-use Rattle.framehop_flame_graph.specs.Stacks.{Stacked, viewed, stacks_of}
+use Rattle.framehop_flame_graph.specs.Stacks.{Stacked, viewed, stacked, stacks_of}
 use Rattle.framehop_flame_graph.proofs.StackLemmas.{rises-sorted, then_lt, compare_sorted}
 use Rattle.framehop_flame_graph.proofs.stacks.stacks_in_order.Goals as goal
 
 pub returns-clause-same : goal.returns-clause-same
 returns-clause-same c =
-    let moved = IsPermutation-map viewed c.loop-line.stacks.items c.sort.new.self.items c.sort.ensures.permutation in
-    let all : map viewed c.loop-line.stacks.items ≡ stacks_of c.args.lines.now =
-    c.loop-line.invariant ∙ ap stacks_of (take_all c.loop-line.line-index c.args.lines.now (omega arith)) in
+    let moved = IsPermutation-map viewed c.loop-stack.stacks.items c.sort.new.self.items c.sort.ensures.permutation in
+    let all : map viewed c.loop-stack.stacks.items ≡ stacks_of c.args.folded.now =
+    sym (append-nil (map viewed c.loop-stack.stacks.items))
+    ∙ ap (λ left. map viewed c.loop-stack.stacks.items ++ map stacked left) (sym c.in-None.ensures.steps.0) ∙ c.loop-stack.invariant in
     let P : List Stacked → Type 0 = λ stacks. IsPermutation stacks (map viewed c.sort.new.self.items) in
     subst P all moved
 

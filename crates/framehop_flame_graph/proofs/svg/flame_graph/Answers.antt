@@ -32,14 +32,14 @@ within lines prefixes frames is k d below =
 
 pub shown_of-requires-clause-within : goal.shown_of-requires-clause-within
 shown_of-requires-clause-within c = λ k d below.
-    let lines = stacks_of c.args.lines.now in
+    let lines = stacks_of c.args.folded.now in
     let boxes = are lines c.in_ok-stacks.stacks.items c.as_slice.result.now c.as_slice-2.result.now c.in_ok-boxes.boxes.items
     c.as_slice.ensures.value c.as_slice-2.ensures.value c.in_ok-stacks.ensures.same c.in_ok-stacks.ensures.ordered c.in_ok-boxes.ensures in
     omega (arith, c.in-Some.ensures, within lines (prefixes_along [] (map viewed c.in_ok-stacks.stacks.items)) c.as_slice-2.result.now boxes k d below)
 
 pub returns-clause-drawn : goal.returns-clause-drawn
 returns-clause-drawn c =
-    let lines = stacks_of c.args.lines.now in
+    let lines = stacks_of c.args.folded.now in
     let stacks = map viewed c.in_ok-stacks.stacks.items in
     let prefixes = prefixes_along [] stacks in
     let boxes = are lines c.in_ok-stacks.stacks.items c.as_slice.result.now c.as_slice-2.result.now c.in_ok-boxes.boxes.items

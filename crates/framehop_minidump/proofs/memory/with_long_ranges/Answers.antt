@@ -1,6 +1,6 @@
 use Rattle.std.proofs.Common.{rules, ◌≡◌, ◌+◌, ◌^◌, ◌++◌, ◌∷◌, [], true, false, nat_lt, drop, length, ap, ◌∙◌}
 use Rattle.std.proofs.Math.Seq.{drop-length}
-use Rattle.framehop_minidump.specs.declared.memory.MemoryRange.{MemoryRange}
+use Rattle.framehop_memory.specs.declared.memory.MemoryRange.{MemoryRange}
 use Rattle.framehop_minidump.proofs.GatherLemmas.{append-assoc, items-are, ranges-more, ranges-refused, ranges-none}
 use Rattle.framehop_minidump.proofs.memory.with_long_ranges.Goals as goal
 

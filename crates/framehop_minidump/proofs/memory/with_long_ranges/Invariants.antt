@@ -1,6 +1,6 @@
 use Rattle.std.proofs.Common.{◌≡◌, ◌++◌, drop, List}
-use Rattle.framehop_minidump.specs.declared.memory.MemoryRange.{MemoryRange}
-use Rattle.framehop_minidump.specs.Gathered.{IsGathered}
+use Rattle.framehop_memory.specs.declared.memory.MemoryRange.{MemoryRange}
+use Rattle.framehop_bytes.specs.Gathered.{IsGathered}
 use Rattle.framehop_minidump.specs.Memory.{ranges_from}
 use Rattle.framehop_minidump.proofs.GatherLemmas.{prepended}
 use Rattle.framehop_minidump.proofs.memory.with_long_ranges.Given as goal

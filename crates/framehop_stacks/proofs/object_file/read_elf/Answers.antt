@@ -1,5 +1,5 @@
-use Rattle.std.proofs.Common.{rules, ◌≡◌, [], Ok, refl, ap}
-use Rattle.framehop_stacks.specs.ObjectFiles.{headers_view, headers_of, build_id_in, elf_contents, elf_contents_by}
+use Rattle.std.proofs.Common.{rules, ◌≡◌, Ok, ap}
+use Rattle.framehop_stacks.specs.ObjectFiles.{headers_view, headers_of, elf_contents, elf_contents_by}
 use Rattle.framehop_stacks.proofs.object_file.read_elf.Goals as goal
 
 pub returns-clause-kept : goal.returns-clause-kept
@@ -10,7 +10,7 @@ returns-clause-kept c =
       elf_contents file view,
       ap (elf_contents_by file) read,
       record {
-        segments = refl;
+        segments = search rules;
         build_id = search rules;
         loaded = search rules;
         tables = search rules;

@@ -1,4 +1,4 @@
-use Rattle.std.proofs.Common.{rules, ◌≡◌, [], Ok, refl, ap}
+use Rattle.std.proofs.Common.{rules, ◌≡◌, Ok, ap}
 use Rattle.framehop_stacks.specs.ObjectFiles.{pe_headers_of, pe_contents, pe_contents_by}
 use Rattle.framehop_stacks.proofs.object_file.read_pe.Goals as goal
 

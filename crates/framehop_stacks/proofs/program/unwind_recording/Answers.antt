@@ -6,9 +6,9 @@ use Rattle.framehop_stacks.proofs.program.unwind_recording.Goals as goal
 pub returns-then-is_aarch64 : goal.returns-then-is_aarch64
 returns-then-is_aarch64 g c =
     let of_aarch64 : are_of_aarch64 (map attribute_view c.args.recording.now.events.attributes.items) ≡ true = search rules in
-    rw of_aarch64 c.in_ok-unwind_all.ensures.printed
+    rw of_aarch64 c.unwind_all.ensures
 
 pub returns : goal.returns
 returns g c =
     let of_x86_64 : are_of_aarch64 (map attribute_view c.args.recording.now.events.attributes.items) ≡ false = search rules in
-    rw of_x86_64 c.in_ok-unwind_all-2.ensures.printed
+    rw of_x86_64 c.unwind_all-2.ensures

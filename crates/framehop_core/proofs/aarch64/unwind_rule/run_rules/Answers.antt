@@ -7,7 +7,7 @@ use Rattle.framehop_core.proofs.Aarch64Runs.{IsBoundedRun-steps, run_of-within}
 use Rattle.framehop_core.proofs.aarch64.unwind_rule.run_rules.Goals as goal
 
 pub returns-clause-bounded : goal.returns-clause-bounded
-returns-clause-bounded g c = IsBoundedRun-steps _ _ _ c.run_rules.ensures.advances
+returns-clause-bounded g c = IsBoundedRun-steps _ _ _ _ c.run_rules.ensures.advances
 
 pub returns-clause-answers : goal.returns-clause-answers
 returns-clause-answers g c = Answering-so g.F.FnMut c.run_rules.ensures.answers (λ memory ran.

@@ -7,7 +7,7 @@ use Rattle.framehop_core.proofs.X86_64Runs.{steps-not_below, run_of-within}
 use Rattle.framehop_core.proofs.x86_64.unwind_rule.run_rules.Goals as goal
 
 pub returns-clause-not_below : goal.returns-clause-not_below
-returns-clause-not_below g c = steps-not_below true _ _ _ c.run_rules.ensures.advances
+returns-clause-not_below g c = steps-not_below true _ _ _ _ c.run_rules.ensures.advances
 
 pub returns-clause-answers : goal.returns-clause-answers
 returns-clause-answers g c = Answering-so g.F.FnMut c.run_rules.ensures.answers (λ memory ran.

@@ -26,7 +26,7 @@ returns-in-Ok-clause-found c =
       are_all = list.1;
       have = list.2;
       only = c.in-Ok.ensures.only;
-      ordered = c.in-Ok.ensures.ordered;
+      tree = c.in-Ok.ensures.tree;
       same = λ address. ap (λ o. option_map (λ (pair : ℕ × ℕ). pair.1) o) (sym (pair_for-permutation pairs c.in-Ok.index address c.in-Ok.ensures.only));
     }
 

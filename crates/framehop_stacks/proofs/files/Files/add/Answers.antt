@@ -1,6 +1,6 @@
 use Rattle.std.proofs.Common.{rules, ◌≡◌, None, inr, ◌∙◌}
 use Rattle.framehop_stacks.specs.Changes.{number_in}
-use Rattle.framehop_stacks.proofs.TallyLemmas.{lookup-insert_other}
+use Rattle.framehop_folded.specs.Laws.{lookup-insert_other}
 use Rattle.framehop_stacks.proofs.files.Files.add.Goals as goal
 
 pub returns-clause-added : goal.returns-clause-added

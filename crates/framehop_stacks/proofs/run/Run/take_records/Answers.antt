@@ -22,7 +22,7 @@ loop-timed-init g c = (
     leads = refl;
     samples = refl;
     each = tt;
-    taken = AreTaken-none c.args.options.frames c.args.options.explain c.args.self.now.counts.lines (g.W.Write.contents c.args.out.now);
+    taken = AreTaken-none c.args.options.frames c.args.options.explain c.args.self.now.counts.stacks (g.W.Write.contents c.args.out.now);
   },
 )
 
@@ -47,14 +47,14 @@ loop-timed-preserved g c =
           step c.args.files.now
           (IsTextOf module_of g.U.Sampled.step_by g.U.Sampled.starts c.args.options.frames c.args.options.limit c.args.files.now attributes)
           (λ r state other named mapped. text state other named mapped (sample_in attributes r))
-          c.args.options.frames c.args.options.explain (records_in records) first c.args.self.now.counts.lines (g.W.Write.contents c.args.out.now)
+          c.args.options.frames c.args.options.explain (records_in records) first c.args.self.now.counts.stacks (g.W.Write.contents c.args.out.now)
           _ (records_in (drop (l.timed-index + 1) records)) l.self.names c.take_record.new.self.names
-          l.self.processes.by_pid c.take_record.new.self.processes.by_pid l.self.counts.lines c.take_record.new.self.counts.lines
+          l.self.processes.by_pid c.take_record.new.self.processes.by_pid l.self.counts.stacks c.take_record.new.self.counts.stacks
           (g.W.Write.contents l.out) (g.W.Write.contents c.take_record.new.out)
           (subst (λ rest. IsSoFar c.args.files.now
           (IsTextOf module_of g.U.Sampled.step_by g.U.Sampled.starts c.args.options.frames c.args.options.limit c.args.files.now attributes)
-          c.args.options.frames c.args.options.explain (records_in records) first c.args.self.now.counts.lines (g.W.Write.contents c.args.out.now) rest
-          l.self.names l.self.processes.by_pid l.self.counts.lines (g.W.Write.contents l.out)) left so)
+          c.args.options.frames c.args.options.explain (records_in records) first c.args.self.now.counts.stacks (g.W.Write.contents c.args.out.now) rest
+          l.self.names l.self.processes.by_pid l.self.counts.stacks (g.W.Write.contents l.out)) left so)
           after.state after.sample
           (λ kind. let same = after.other kind in (same.0, ap (λ out. g.W.Write.contents out) same.1)),
     )

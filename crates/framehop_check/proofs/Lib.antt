@@ -1,0 +1,4 @@
+-- Lemmas of this crate.
+pub mod RowLemmas
+pub mod CheckLemmas
+pub mod ContradictionLemmas

@@ -1,0 +1,8 @@
+-- What the contracts of this crate cite: what rows claim, what is known of the CFA, and what contradicts what.
+pub mod Claim
+pub mod Known
+pub mod Rows
+pub mod Tracked
+pub mod Report
+pub mod Check
+pub mod Contradiction

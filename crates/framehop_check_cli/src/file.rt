@@ -1,0 +1,351 @@
+//! The check of a file.
+use crate::allowed::Allowed;
+use crate::text::{push_alarm, push_note, push_summary};
+use anyhow::Result;
+use framehop_bytes::string::string_at;
+use framehop_cfi::entry::{EntryHead, FrameDescriptionEntry, UnwindSection, UnwindSectionType};
+use framehop_cfi::extent::read_extent;
+use framehop_cfi::pointer::BaseAddresses;
+use framehop_cfi::storage::StoreOnHeap;
+use framehop_check::check::Checker;
+use framehop_check::report::{Counts, Report};
+use framehop_code::aarch64::CodeAarch64;
+use framehop_code::effect::Code;
+use framehop_code::x86_64::CodeX86_64;
+use framehop_elf::error::ElfError;
+use framehop_elf::header::{FileHeader, read_file_header};
+use framehop_elf::section::{read_contents, read_section_names, section_by_name};
+use framehop_elf::section_header::{SectionHeader, read_section_headers};
+use framehop_elf::symbol::{SymbolTable, read_function_symbols, read_symbol_names};
+use std::alloc::{AllocError, Global};
+use std::fmt;
+
+/// `EM_X86_64`.
+const EM_X86_64: u16 = 62;
+
+/// `EM_AARCH64`.
+const EM_AARCH64: u16 = 183;
+
+/// `SHF_EXECINSTR`.
+const SHF_EXECINSTR: u64 = 4;
+
+/// What is printed.
+#[derive(Clone, Copy)]
+pub struct Options {
+    /// Only summaries.
+    pub is_quiet: bool,
+    /// Rows that begin inside instructions too.
+    pub has_notes: bool,
+}
+
+/// Why a file can't be checked.
+#[derive(Clone, Copy)]
+pub enum Refusal {
+    /// It is no ELF file, or a damaged one.
+    Elf(ElfError),
+    /// Its machine is neither x86_64 nor aarch64.
+    Machine(u16),
+    /// It has neither `.eh_frame` nor `.debug_frame`.
+    NoRows,
+}
+
+impl fmt::Display for Refusal {
+    fn fmt<W: fmt::Write>(&self, f: &mut fmt::Formatter<W>) -> fmt::Result {
+        match *self {
+            Refusal::Elf(error) => write!(f, "{error}"),
+            Refusal::Machine(machine) => write!(
+                f,
+                "machine {machine} is neither x86_64 nor aarch64"
+            ),
+            Refusal::NoRows => write!(f, "neither .eh_frame nor .debug_frame"),
+        }
+    }
+}
+
+/// What a check of a file gives.
+#[derive(Drop)]
+pub enum Checked {
+    /// The lines to be printed, and whether there are no alarms and each entry was read.
+    Text { text: String, is_good: bool },
+    Refused(Refusal),
+}
+
+/// The parts of a file that are needed.
+#[derive(Drop)]
+struct Parts<'a> {
+    file: &'a [u8],
+    sections: Vec<SectionHeader>,
+    symbols: SymbolTable,
+    /// The names of symbols.
+    strings: &'a [u8],
+}
+
+/// Counts beside those of the report.
+#[derive(Clone, Copy)]
+pub struct Others {
+    /// Functions with alarms that are allowed to have them.
+    pub allowed: u64,
+    /// Entries that can't be read.
+    pub unreadable: u64,
+    /// FDEs whose code is not in the file.
+    pub without_code: u64,
+}
+
+/// What the check of a file has found so far.
+#[derive(Drop)]
+struct Findings {
+    report: Report,
+    others: Others,
+    text: String,
+}
+
+/// Returns the symbols of a file's functions, and their names.
+fn read_symbols<'a>(
+    alloc: Global,
+    file: &'a [u8],
+    sections: &[SectionHeader],
+    names: &[u8],
+) -> Result<(SymbolTable, &'a [u8]), ElfError> {
+    let table = match section_by_name(sections, names, b".symtab") {
+        Some(table) => Some(table),
+        None => section_by_name(sections, names, b".dynsym"),
+    };
+    match table {
+        Some(table) => {
+            let symbols = read_function_symbols(alloc, file, sections, table)?;
+            let strings = read_symbol_names(file, sections, table)?;
+            Ok((SymbolTable::new(symbols)?, strings))
+        }
+        None => Ok((SymbolTable::new(Vec::new(alloc))?, &[])),
+    }
+}
+
+/// Returns the code that a section has of an FDE.
+fn code_in<'a>(
+    file: &'a [u8],
+    section: SectionHeader,
+    fde: &FrameDescriptionEntry,
+) -> Option<&'a [u8]> {
+    let start = fde.initial_address.checked_sub(section.sh_addr)?;
+    if section.sh_flags & SHF_EXECINSTR == 0 || start >= section.sh_size {
+        return None;
+    }
+    let Ok(contents) = read_contents(file, section) else {
+        return None;
+    };
+    let start = usize::try_from(start).ok()?;
+    let end = start.checked_add(usize::try_from(fde.address_range).ok()?)?;
+    contents.get(start..end)
+}
+
+/// Returns the code of an FDE.
+fn code_of<'a>(parts: &Parts<'a>, fde: &FrameDescriptionEntry) -> Option<&'a [u8]> {
+    for section in parts.sections.iter() {
+        if let Some(code) = code_in(parts.file, *section, fde) {
+            return Some(code);
+        }
+    }
+    None
+}
+
+/// Returns the name of the function at an address (SVMA), and where the function begins.
+fn name_of<'a>(parts: &Parts<'a>, address: u64) -> Option<(&'a str, u64)> {
+    let symbol = parts.symbols.symbol_for(address)?;
+    match str::from_utf8(string_at(parts.strings, symbol.st_name)) {
+        Ok(name) => Some((name, symbol.st_value)),
+        Err(_) => None,
+    }
+}
+
+/// Appends the alarms of the function that was checked last.
+fn push_alarms<C: Code>(
+    parts: &Parts<'_>,
+    fde: &FrameDescriptionEntry,
+    code: &[u8],
+    options: Options,
+    allowed: &Allowed<'_>,
+    findings: &mut Findings,
+) -> Result<(), AllocError> {
+    let name = name_of(parts, fde.initial_address);
+    let is_allowed = match name {
+        Some((name, _)) => allowed.has(name.as_bytes()),
+        None => false,
+    };
+    if is_allowed && findings.report.alarms.len() > 0 {
+        findings.others.allowed = findings.others.allowed.saturating_add(1);
+    }
+    if is_allowed || options.is_quiet {
+        return Ok(());
+    }
+    for alarm in findings.report.alarms.iter() {
+        let name = name_of(parts, alarm.address);
+        push_alarm::<C>(name, fde.initial_address, code, *alarm, &mut findings.text)?;
+    }
+    if options.has_notes {
+        for address in findings.report.notes.iter() {
+            let name = name_of(parts, *address);
+            push_note(name, fde.initial_address, *address, &mut findings.text)?;
+        }
+    }
+    Ok(())
+}
+
+/// Checks the FDE at an offset, if one is there and the file has its code.
+fn check_at<C: Code>(
+    checker: &mut Checker<StoreOnHeap>,
+    section: &UnwindSection<'_>,
+    parts: &Parts<'_>,
+    at: usize,
+    options: Options,
+    allowed: &Allowed<'_>,
+    findings: &mut Findings,
+) -> Result<(), AllocError> {
+    match section.head_at(at) {
+        Ok(EntryHead::Fde { .. }) => {}
+        Ok(_) => return Ok(()),
+        Err(_) => {
+            findings.others.unreadable = findings.others.unreadable.saturating_add(1);
+            return Ok(());
+        }
+    }
+    let Ok(fde) = section.fde_from_offset(at) else {
+        findings.others.unreadable = findings.others.unreadable.saturating_add(1);
+        return Ok(());
+    };
+    let Some(code) = code_of(parts, &fde) else {
+        findings.others.without_code = findings.others.without_code.saturating_add(1);
+        return Ok(());
+    };
+    findings.report.alarms.clear();
+    findings.report.notes.clear();
+    checker.check_function::<C>(section, &fde, code, &mut findings.report)?;
+    push_alarms::<C>(parts, &fde, code, options, allowed, findings)
+}
+
+/// Checks all FDEs of a section.
+fn check_section<C: Code>(
+    alloc: Global,
+    section: &UnwindSection<'_>,
+    parts: &Parts<'_>,
+    options: Options,
+    allowed: &Allowed<'_>,
+    findings: &mut Findings,
+) -> Result<(), AllocError> {
+    let mut checker = Checker::new(alloc)?;
+    let mut at = 0;
+    for _count in 0..section.bytes.len() {
+        if at >= section.bytes.len() {
+            return Ok(());
+        }
+        let Ok(span) = read_extent(section.bytes, at) else {
+            findings.others.unreadable = findings.others.unreadable.saturating_add(1);
+            return Ok(());
+        };
+        if span.is_zero_length() && section.section_type == UnwindSectionType::EhFrame {
+            return Ok(());
+        }
+        check_at::<C>(&mut checker, section, parts, at, options, allowed, findings)?;
+        at = span.end;
+    }
+    Ok(())
+}
+
+/// Returns the section that has the rows, and its kind.
+fn rows_section(
+    sections: &[SectionHeader],
+    names: &[u8],
+) -> Option<(SectionHeader, UnwindSectionType)> {
+    match section_by_name(sections, names, b".eh_frame") {
+        Some(section) => Some((section, UnwindSectionType::EhFrame)),
+        None => {
+            let section = section_by_name(sections, names, b".debug_frame")?;
+            Some((section, UnwindSectionType::DebugFrame))
+        }
+    }
+}
+
+/// What a file has to be checked by.
+#[derive(Drop)]
+struct Opened<'a> {
+    header: FileHeader,
+    parts: Parts<'a>,
+    rows: Option<(&'a [u8], u64, UnwindSectionType)>,
+}
+
+/// Reads what a file has to be checked by.
+fn open(alloc: Global, file: &[u8]) -> Result<Opened<'_>, ElfError> {
+    let header = read_file_header(file)?;
+    let sections = read_section_headers(alloc, file, header)?;
+    let names = read_section_names(file, header, sections.as_slice())?;
+    let (symbols, strings) = read_symbols(alloc, file, sections.as_slice(), names)?;
+    let rows = match rows_section(sections.as_slice(), names) {
+        Some((section, kind)) => Some((read_contents(file, section)?, section.sh_addr, kind)),
+        None => None,
+    };
+    Ok(Opened {
+        header,
+        parts: Parts {
+            file,
+            sections,
+            symbols,
+            strings,
+        },
+        rows,
+    })
+}
+
+/// Returns the lines for a file, and whether there are no alarms and each entry was read, or why it can't be checked.
+pub fn check_file(
+    alloc: Global,
+    path: &str,
+    file: &[u8],
+    options: Options,
+    allowed: &Allowed<'_>,
+) -> Result<Checked> {
+    let opened = match open(alloc, file) {
+        Ok(opened) => opened,
+        Err(error) => return Ok(Checked::Refused(Refusal::Elf(error))),
+    };
+    let Some((contents, svma, kind)) = opened.rows else {
+        return Ok(Checked::Refused(Refusal::NoRows));
+    };
+    let bases = BaseAddresses {
+        eh_frame: svma,
+        ..BaseAddresses::default()
+    };
+    let section = UnwindSection::new(contents, kind, &bases);
+    let mut findings = Findings {
+        report: Report::new(alloc),
+        others: Others {
+            allowed: 0,
+            unreadable: 0,
+            without_code: 0,
+        },
+        text: String::new(alloc),
+    };
+    match opened.header.e_machine {
+        EM_X86_64 => check_section::<CodeX86_64>(
+            alloc,
+            &section,
+            &opened.parts,
+            options,
+            allowed,
+            &mut findings,
+        )?,
+        EM_AARCH64 => check_section::<CodeAarch64>(
+            alloc,
+            &section,
+            &opened.parts,
+            options,
+            allowed,
+            &mut findings,
+        )?,
+        machine => return Ok(Checked::Refused(Refusal::Machine(machine))),
+    }
+    let counts: Counts = findings.report.counts;
+    let others = findings.others;
+    let mut text = findings.text;
+    push_summary(path, counts, others, &mut text)?;
+    let is_good = counts.alarmed == others.allowed && others.unreadable == 0;
+    Ok(Checked::Text { text, is_good })
+}

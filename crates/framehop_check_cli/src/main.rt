@@ -1,0 +1,146 @@
+//! The program `framehop-check`: checks the unwind data of ELF files against their code.
+#![tactic(auto)]
+
+mod allowed;
+mod file;
+mod text;
+
+use allowed::Allowed;
+use anyhow::Result;
+use clap::{Arg, ArgAction, Command};
+use file::{Checked, Options, check_file};
+use std::alloc::Global;
+use std::process::ExitCode;
+use std::{env, fs, io};
+
+/// What the program does.
+const ABOUT: &str =
+    "Checks the unwind data of ELF files against their code: where the rows of .eh_frame or .debug_frame and the instructions contradict each other.";
+
+/// The size of the largest file that is read, in bytes: 4 GiB.
+const LARGEST_FILE: u64 = 0x1_0000_0000;
+
+fn main(rt: HostRuntime) -> Result<ExitCode> {
+    Ok(ExitCode::from(run(&rt)?))
+}
+
+/// Returns the command line.
+fn command<'a>(alloc: Global) -> Result<Command<'a>> {
+    let quiet = Arg::new(alloc, "quiet")
+        .short('q')
+        .long("quiet")
+        .help("Print the summary of each file only")
+        .action(ArgAction::SetTrue);
+    let notes = Arg::new(alloc, "notes")
+        .long("notes")
+        .help("Print rows that begin inside instructions too, which are no alarms")
+        .action(ArgAction::SetTrue);
+    let allow = Arg::new(alloc, "allow")
+        .long("allow")
+        .value_name("LIST")
+        .help("A file of names of functions, one a line, of which no alarm is told")
+        .action(ArgAction::Set);
+    let files = Arg::new(alloc, "file")
+        .value_name("FILE")
+        .num_args(1..)
+        .required(true)
+        .help("ELF files of x86_64 or aarch64")
+        .action(ArgAction::Append);
+    let command = Command::new(alloc, "framehop-check")
+        .version("0.1.0")
+        .about(ABOUT)
+        .arg(quiet)?
+        .arg(notes)?
+        .arg(allow)?
+        .arg(files)?;
+    Ok(command)
+}
+
+/// Runs the program, and returns its status: 0, 1 where there are alarms, or a file or an entry of one
+/// is refused, or 2.
+fn run(rt: &HostRuntime) -> Result<u8> {
+    let alloc = rt.alloc();
+    let words: Vec<String> = env::args(rt)?.collect(alloc)?;
+    let matches = match command(alloc)?.try_get_matches_from(&words) {
+        Ok(matches) => matches,
+        Err(error) => return usage(rt, &error),
+    };
+    let list = match read_list(rt, matches.get_str("allow"))? {
+        Some(list) => list,
+        None => return Ok(2),
+    };
+    let allowed = Allowed::new(alloc, list.as_slice())?;
+    let options = Options {
+        is_quiet: matches.get_flag("quiet"),
+        has_notes: matches.get_flag("notes"),
+    };
+    let mut status = 0;
+    for path in matches.get_strs("file").unwrap_or(&[]) {
+        if !check_path(rt, path, options, &allowed)? {
+            status = 1;
+        }
+    }
+    Ok(status)
+}
+
+/// Prints the help, the version or the error of a command line.
+fn usage(rt: &HostRuntime, error: &clap::Error) -> Result<u8> {
+    error.print(rt)?;
+    if error.use_stderr() { Ok(2) } else { Ok(0) }
+}
+
+/// Reads a regular file of at most 4 GiB, or prints why it can't be read.
+fn read_regular(rt: &HostRuntime, path: &str) -> Result<Option<Vec<u8>>> {
+    match read_bytes(rt, path) {
+        Ok(Some(bytes)) => Ok(Some(bytes)),
+        Ok(None) => {
+            eprintln!(rt; "framehop-check: {path}: no regular file of at most 4 GiB")?;
+            Ok(None)
+        }
+        Err(error) => {
+            eprintln!(rt; "framehop-check: {path}: {error}")?;
+            Ok(None)
+        }
+    }
+}
+
+/// Returns the bytes of a regular file, or `None` of any other or of a larger one.
+fn read_bytes(rt: &HostRuntime, path: &str) -> io::Result<Option<Vec<u8>>> {
+    let metadata = fs::metadata(rt, path)?;
+    if !metadata.is_file() || metadata.len() > LARGEST_FILE {
+        return Ok(None);
+    }
+    Ok(Some(fs::read(rt, path)?))
+}
+
+/// Reads the list of names, which is empty without a path.
+fn read_list(rt: &HostRuntime, path: Option<&str>) -> Result<Option<Vec<u8>>> {
+    match path {
+        Some(path) => read_regular(rt, path),
+        None => Ok(Some(Vec::new(rt.alloc()))),
+    }
+}
+
+/// Checks a file and prints what was found, and returns whether there are no alarms.
+fn check_path(
+    rt: &HostRuntime,
+    path: &str,
+    options: Options,
+    allowed: &Allowed<'_>,
+) -> Result<bool> {
+    let Some(bytes) = read_regular(rt, path)? else {
+        return Ok(false);
+    };
+    match check_file(rt.alloc(), path, bytes.as_slice(), options, allowed)? {
+        Checked::Text { text, is_good } => {
+            let mut out = io::writer(rt);
+            io::Write::write_all(&mut out, text.as_bytes())?;
+            io::Write::flush(&mut out)?;
+            Ok(is_good)
+        }
+        Checked::Refused(refusal) => {
+            eprintln!(rt; "framehop-check: {path}: {refusal}")?;
+            Ok(false)
+        }
+    }
+}

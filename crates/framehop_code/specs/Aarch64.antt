@@ -1,0 +1,3 @@
+-- aarch64: the encodings, and what an instruction does.
+pub mod Encodings
+pub mod Instruction

@@ -1,0 +1,4 @@
+-- x86_64: the opcode maps, the parts of an instruction, and what it does.
+pub mod Opcodes
+pub mod Operation
+pub mod Instruction

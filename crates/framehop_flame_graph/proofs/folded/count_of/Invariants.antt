@@ -1,7 +1,0 @@
-use Rattle.std.proofs.Common.{◌≡◌, ◌<◌, ◌^◌, drop}
-use Rattle.framehop_flame_graph.specs.Folded.{count_of}
-use Rattle.framehop_flame_graph.proofs.FoldedLemmas.{count_from}
-use Rattle.framehop_flame_graph.proofs.folded.count_of.Given as goal
-
-abbrev pub invariant-loop-digit : goal.invariant-loop-digit
-invariant-loop-digit l = (count_of l.digits ≡ count_from l.count (drop l.digit-index l.digits)) × (l.count < 2 ^ 64)

@@ -1,8 +1,0 @@
-use Rattle.std.proofs.Common.{◌≡◌, ◌++◌, List, ℕ}
-use Rattle.std.specs.Io.KnownBytes.{Appends}
-use Rattle.framehop_flame_graph.specs.Merge.{folded_lines}
-use Rattle.framehop_flame_graph.proofs.merge.Folded.write.Given as goal
-
-abbrev pub invariant-loop-stack : goal.invariant-loop-stack
-invariant-loop-stack g l = (written : List ℕ) × (written ++ folded_lines l.stack-iterator ≡ folded_lines l.self.counts.entries)
-    × Appends (g.W.Write.contents l.initial.out) (g.W.Write.contents l.out) written

@@ -1,0 +1,3 @@
+mod FoldedLemmas
+mod MergeLemmas
+mod TextLemmas

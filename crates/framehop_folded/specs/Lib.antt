@@ -1,0 +1,4 @@
+-- What the contracts of this crate cite.
+pub mod Text
+pub mod Folded
+pub mod Laws

@@ -1,0 +1,109 @@
+//! Stacks, each once, with how often they were counted.
+ghost use Rattle.std.specs.Prelude.{◌≡◌, ◌≢◌, ◌+◌, ◌≤◌, ◌^◌, ℕ, List, [], Some, None, OnOk, OnErr, IfErr, IsErr, ◌⊎◌};
+ghost use Rattle.std.specs.Io.KnownBytes.{Appends};
+ghost use Rattle.framehop_folded.specs.Folded.{entries_of, entry_of, count_in, total_of, together, folded_line, text_of, IsInOrderOfBytes, IsUnchanged, IsTooLarge};
+ghost use Rattle.framehop_folded.specs.declared.error.FoldedError.TheVariants.{OutOfMemory, CountTooLarge};
+
+use crate::error::FoldedError;
+use std::alloc::Global;
+use std::collections::BTreeMap;
+use std::collections::btree_map::Iter;
+use std::io;
+use std::io::Write;
+
+/// Stacks, each once, with how often they were counted.
+#[derive(Drop)]
+pub struct Folded {
+    counts: BTreeMap<Vec<u8>, u64>,
+}
+
+impl Folded {
+    /// Returns a collection without stacks.
+    pub fn new(alloc: Global) -> Self
+        ensures none { (stack : List ℕ) → entry_of result stack ≡ None }
+        ensures empty { total_of result ≡ 0 }
+        ensures unwritten { text_of result ≡ [] }
+    {
+        Folded {
+            counts: BTreeMap::new(alloc),
+        }
+    }
+
+    /// Adds to the count of a stack. A stack that was not there has been counted 0 times.
+    ///
+    /// # Errors
+    ///
+    /// [`FoldedError::CountTooLarge`] if the sum is 2^64 or more, and [`FoldedError::OutOfMemory`] if an allocation
+    /// fails. Nothing is added then.
+    pub fn add(&mut self, stack: Vec<u8>, count: u64) -> Result<(), FoldedError>
+        ensures counted { OnOk result (entry_of self.new stack.items ≡ Some (count_in self.old stack.items + count)) }
+        ensures others { OnOk result ((other : List ℕ) → other ≢ stack.items
+            → entry_of self.new other ≡ entry_of self.old other) }
+        ensures total { OnOk result (total_of self.new ≡ total_of self.old + count) }
+        ensures too_large { 2 ^ 64 ≤ count_in self.old stack.items + count → result ≡ Err CountTooLarge }
+        ensures refused { IfErr result (λ refusal. (refusal ≡ OutOfMemory)
+            ⊎ (2 ^ 64 ≤ count_in self.old stack.items + count)) }
+        ensures unchanged { OnErr result (IsUnchanged self.old self.new) }
+    {
+        let before = self.counts.get(stack.as_slice()).copied().unwrap_or(0);
+        let Some(sum) = before.checked_add(count) else {
+            return Err(FoldedError::CountTooLarge);
+        };
+        self.counts.insert(stack, sum)?;
+        Ok(())
+    }
+
+    /// Adds the counts of other folded stacks.
+    ///
+    /// # Errors
+    ///
+    /// [`FoldedError::CountTooLarge`] if a sum is 2^64 or more, and [`FoldedError::OutOfMemory`] if an allocation
+    /// fails. The counts of some stacks may have been added then, each whole.
+    pub fn merge(&mut self, other: Folded) -> Result<(), FoldedError>
+        ensures counted { OnOk result ((stack : List ℕ) → entry_of self.new stack
+            ≡ together (entry_of self.old stack) (entry_of other stack)) }
+        ensures total { OnOk result (total_of self.new ≡ total_of self.old + total_of other) }
+        ensures too_large { (stack : List ℕ) → IsTooLarge self.old other stack → IsErr result }
+        ensures refused { IfErr result (λ refusal. (refusal ≡ OutOfMemory)
+            ⊎ ((refusal ≡ CountTooLarge) × (stack : List ℕ) × IsTooLarge self.old other stack)) }
+        ensures part { OnErr result ((stack : List ℕ) → (entry_of self.new stack ≡ entry_of self.old stack)
+            ⊎ (entry_of self.new stack ≡ together (entry_of self.old stack) (entry_of other stack))) }
+    {
+        for (stack, count) in other.counts {
+            self.add(stack, count)?;
+        }
+        Ok(())
+    }
+
+    /// Returns the stacks with their counts, in the order of their bytes.
+    pub fn iter(&self) -> Iter<'_, Vec<u8>, u64>
+        ensures entries { result ≡ entries_of self.now }
+        ensures ordered { IsInOrderOfBytes self.now }
+    {
+        self.counts.iter()
+    }
+
+    /// Writes each stack with its count after a blank as a line, in the order of their bytes.
+    ///
+    /// # Errors
+    ///
+    /// If a write fails.
+    pub fn write<W: Write>(&self, out: &mut W) -> io::Result<()>
+        ensures written { OnOk result (Appends (W.contents out.old) (W.contents out.new) (text_of self.now)) }
+        ensures ordered { IsInOrderOfBytes self.now }
+    {
+        for (stack, count) in self.counts.iter() {
+            write_line(stack.as_slice(), *count, out)?;
+        }
+        Ok(())
+    }
+}
+
+/// Writes a stack with its count.
+fn write_line<W: Write>(stack: &[u8], count: u64, out: &mut W) -> io::Result<()>
+    ensures { OnOk result (Appends (W.contents out.old) (W.contents out.new) (folded_line stack.now count)) }
+{
+    out.write_all(stack)?;
+    writeln!(out, " {count}")?;
+    Ok(())
+}

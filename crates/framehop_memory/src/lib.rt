@@ -1,0 +1,6 @@
+//! The memory of a process as files tell of it: ranges of memory whose bytes a file has, and segments of files that are
+//! loaded into memory, whatever format they are of.
+#![tactic(auto)]
+
+pub mod memory;
+pub mod segment;
