@@ -1,5 +1,5 @@
 //! A minidump of x86_64 that LLDB 19.1 wrote on Linux 6.18 (`process save-core --plugin-name=minidump --style
-//! stack`) for the program of `framehop_core_file_vectors/scripts/crash.c`. The bytes of the streams of text
+//! stack`) for the program of `framehop_coredump_vectors/scripts/crash.c`. The bytes of the streams of text
 //! that Linux has in `/proc` are 0. The expected values are those that LLDB printed of the process:
 //! `register read`, `thread list`, `thread backtrace all` and `image list`.
 use crate::pieces::{Dump, file_of, holds, memory, read_dump};

@@ -1,7 +1,7 @@
 //! The command line.
 use anyhow::Result;
 use clap::{Arg, ArgAction, ArgMatches, Command};
-use framehop_stacks::run::Options;
+use framehop_perf_stacks::run::Options;
 use std::alloc::Global;
 
 /// The most frames of a stack, where no limit is asked for.

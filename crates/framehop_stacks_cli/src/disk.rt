@@ -1,6 +1,6 @@
 //! The files of a disk: those that were mapped, and those of a folder.
 use anyhow::Result;
-use framehop_stacks::files::{FileSource, is_windows_path};
+use framehop_symbols::files::{FileSource, is_windows_path};
 use std::alloc::{AllocError, Global};
 use std::fs;
 

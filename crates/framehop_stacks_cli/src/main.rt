@@ -8,14 +8,14 @@ mod disk;
 use anyhow::Result;
 use arguments::{command, options};
 use disk::{Disk, files_at};
-use framehop_core_stacks::error::CoreStacksError;
-use framehop_core_stacks::program::{write_core_stacks, write_minidump_stacks};
+use framehop_dump_stacks::error::DumpStacksError;
+use framehop_dump_stacks::program::{write_core_stacks, write_minidump_stacks};
 use framehop_flame_graph::error::FlameGraphError;
 use framehop_flame_graph::svg::flame_graph;
 use framehop_folded::folded::Folded;
-use framehop_stacks::error::StacksError;
-use framehop_stacks::program::write_stacks;
-use framehop_stacks::run::Options;
+use framehop_perf_stacks::error::StacksError;
+use framehop_perf_stacks::program::write_stacks;
+use framehop_perf_stacks::run::Options;
 use std::io::{BufWriter, Write};
 use std::process::ExitCode;
 use std::{env, fs, io};
@@ -285,13 +285,15 @@ fn print_minidump(
 }
 
 /// Returns the status for what was written of a core file or a minidump, and prints why it was refused, if it was.
-fn status_of(rt: &HostRuntime, path: &str, written: Result<(), CoreStacksError>) -> Result<u8> {
+fn status_of(rt: &HostRuntime, path: &str, written: Result<(), DumpStacksError>) -> Result<u8> {
     match written {
         Ok(()) => Ok(0),
-        Err(CoreStacksError::Stacks(error)) => refuse(rt, path, error),
         Err(error) => {
             eprintln!(rt; "framehop-stacks: {path}: {error}")?;
-            Ok(1)
+            match error {
+                DumpStacksError::OutOfMemory | DumpStacksError::GenerationsExhausted => Ok(2),
+                _ => Ok(1),
+            }
         }
     }
 }

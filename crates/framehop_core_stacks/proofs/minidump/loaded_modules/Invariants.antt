@@ -1,6 +1,0 @@
-use Rattle.framehop_core_stacks.specs.Minidump.{loaded_view, loaded_in}
-use Rattle.framehop_core_stacks.proofs.EachLemmas.{IsSoFar}
-use Rattle.framehop_core_stacks.proofs.minidump.loaded_modules.Given as goal
-
-abbrev pub invariant-loop-module : goal.invariant-loop-module
-invariant-loop-module l = IsSoFar loaded_view (loaded_in l.file) l.modules l.module-index l.loaded.items

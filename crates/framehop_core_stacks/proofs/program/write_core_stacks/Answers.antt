@@ -1,6 +1,0 @@
-use Rattle.framehop_core_stacks.specs.Dump.{dump_view}
-use Rattle.framehop_core_stacks.proofs.program.write_core_stacks.Goals as goal
-
-pub returns-clause-printed : goal.returns-clause-printed
-returns-clause-printed g c =
-    (dump_view c.in_ok-dump.dump, c.in_ok-dump.ensures, (c.in_ok-files.files, c.in_ok-files.ensures, c.in_ok-write_dump.ensures))

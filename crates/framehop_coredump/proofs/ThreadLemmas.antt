@@ -1,0 +1,58 @@
+-- Threads that are read one by one, and the masks among their notes.
+use Rattle.std.proofs.Common.{◌≡◌, ℕ, ◌+◌, Bool, true, false, cond, suc, List, [], ◌∷◌, ◌++◌, Option, Some, None, Ok, Err, refl, ap, ◌∙◌, take, if◌then◌else◌, arith}
+use Rattle.std.specs.List.{find, before_first, position_or_len}
+use Rattle.framehop_bytes.specs.Bytes.{◌>>=◌}
+use Rattle.framehop_coredump.specs.declared.core_file.Machine.{Machine}
+use Rattle.framehop_coredump.specs.declared.error.CoreFileError.{CoreFileError}
+use Rattle.framehop_coredump.specs.Note.{PlacedView}
+use Rattle.framehop_coredump.specs.Thread.{ThreadView, is_thread, is_pac_mask, thread_of, threads_of}
+
+-- the first note of masks before the next thread
+abbrev pub mask_in : List PlacedView → Option PlacedView
+mask_in notes = find is_pac_mask (before_first is_thread notes)
+
+take-more : (n : ℕ) (placed : PlacedView) (notes : List PlacedView) → take (1 + n) (placed ∷ notes) ≡ placed ∷ take n notes
+take-more n placed notes = ap (λ m. take m (placed ∷ notes)) (let more : 1 + n ≡ suc n = omega arith in more)
+
+before-more : (b : Bool) (placed : PlacedView) (notes : List PlacedView) → is_thread placed ≡ b → before_first is_thread (placed ∷ notes) ≡ (if b then [] else placed ∷ before_first is_thread notes)
+before-more true placed notes e = rw e refl
+before-more false placed notes e = rw e (take-more (position_or_len is_thread notes) placed notes)
+
+module _ (left notes : List PlacedView) (placed : PlacedView) (is : left ≡ placed ∷ notes) where
+  pub mask-ends : is_thread placed ≡ true → mask_in left ≡ None
+  mask-ends next = ap mask_in is ∙ ap (find is_pac_mask) (before-more true placed notes next)
+
+  pub mask-first : is_thread placed ≡ false → is_pac_mask placed ≡ true → mask_in left ≡ Some placed
+  mask-first next mask =
+      ap mask_in is ∙ ap (find is_pac_mask) (before-more false placed notes next)
+      ∙ ap (λ (b : Bool). cond b (Some placed) (mask_in notes)) mask
+
+  pub mask-later : is_thread placed ≡ false → is_pac_mask placed ≡ false → mask_in left ≡ mask_in notes
+  mask-later next mask =
+      ap mask_in is ∙ ap (find is_pac_mask) (before-more false placed notes next)
+      ∙ ap (λ (b : Bool). cond b (Some placed) (mask_in notes)) mask
+
+  module _ (machine : Machine) where
+    pub threads-more : (thread : ThreadView) (later : List PlacedView) → notes ≡ later → is_thread placed ≡ true → thread_of machine placed later ≡ Ok thread → threads_of machine left ≡ threads_of machine notes >>= (λ others. Ok ((thread ∷ []) ++ others))
+    unfolding threads_of
+    threads-more thread later same first read =
+        ap (threads_of machine) is
+        ∙ ap (λ (b : Bool). if b then thread_of machine placed notes >>= (λ t. threads_of machine notes >>= (λ others. Ok (t ∷ others))) else threads_of machine notes) first
+        ∙ ap (λ r. r >>= (λ t. threads_of machine notes >>= (λ others. Ok (t ∷ others)))) (ap (thread_of machine placed) same ∙ read)
+
+    pub threads-refused : (error : CoreFileError) (later : List PlacedView) → notes ≡ later → is_thread placed ≡ true → thread_of machine placed later ≡ Err error → threads_of machine left ≡ Err error
+    unfolding threads_of
+    threads-refused error later same first read =
+        ap (threads_of machine) is
+        ∙ ap (λ (b : Bool). if b then thread_of machine placed notes >>= (λ t. threads_of machine notes >>= (λ others. Ok (t ∷ others))) else threads_of machine notes) first
+        ∙ ap (λ r. r >>= (λ t. threads_of machine notes >>= (λ others. Ok (t ∷ others)))) (ap (thread_of machine placed) same ∙ read)
+
+    pub threads-later : is_thread placed ≡ false → threads_of machine left ≡ threads_of machine notes
+    unfolding threads_of
+    threads-later first =
+        ap (threads_of machine) is
+        ∙ ap (λ (b : Bool). if b then thread_of machine placed notes >>= (λ t. threads_of machine notes >>= (λ others. Ok (t ∷ others))) else threads_of machine notes) first
+
+pub threads-none : (machine : Machine) (left : List PlacedView) → left ≡ [] → threads_of machine left ≡ Ok []
+unfolding threads_of
+threads-none machine left is = ap (threads_of machine) is

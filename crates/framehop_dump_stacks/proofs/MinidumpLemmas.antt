@@ -1,0 +1,70 @@
+-- The names of files, and minidumps that are read.
+use Rattle.std.proofs.Common.{◌≡◌, ◌≢◌, ℕ, Bool, cond, List, [], ◌∷◌, map, length, ◌-◌, ◌<◌, ◌≤◌, drop, take, ◌+◌, ◌^◌, min, max, get_or, Option, Some, None, option_map, Ok, Err, true, false, refl, ap, sym, subst, Result, ◌∙◌, arith}
+use Rattle.std.specs.Prelude.{not, ◌==◌}
+use Rattle.std.specs.List.{find, suffix_len}
+use Rattle.std.proofs.lemmas.Grind.{common_steps}
+use Rattle.std.proofs.lemmas.List.{map-append, take_more}
+use Rattle.std.proofs.lemmas.List.Sums.{fold-append, suffix_len_is}
+use Rattle.framehop_bytes.specs.Bytes.{◌>>=◌}
+use Rattle.framehop_minidump.specs.declared.error.MinidumpError.{MinidumpError}
+use Rattle.framehop_minidump.specs.declared.stream.Stream.{Stream}
+use Rattle.framehop_dump_stacks.specs.Dump.{DumpView}
+use Rattle.framehop_dump_stacks.specs.Minidump.{file_name, LoadedView, loaded_view, last_address, streams_and_modules_of, dump_in, minidump_of}
+use Rattle.framehop_dump_stacks.specs.declared.minidump.LoadedModule.{LoadedModule}
+
+no_separator : (x separator : ℕ) → x ≢ separator → not (x == separator) ≡ true
+no_separator x separator ne = grind (arith, common_steps)
+
+is_separator : (x separator : ℕ) → x ≡ separator → not (x == separator) ≡ false
+is_separator x separator e = grind (arith, common_steps)
+
+-- the part of a path after its last separator
+pub file_name_from : (separator : ℕ) (path : List ℕ) (start : ℕ) → start ≤ length path
+    → ((k : ℕ) → start ≤ k → k < length path → get_or path k 0 ≢ separator)
+    → (0 < start → get_or path (start - 1) 0 ≡ separator)
+    → file_name separator path ≡ drop start path
+file_name_from separator path start fits none one =
+    let size : suffix_len (λ byte. not (byte == separator)) path ≡ length path - start =
+    suffix_len_is (λ byte. not (byte == separator)) path start 0 fits (λ k from below. no_separator (get_or path k 0) separator (none k from below))
+    (λ above. is_separator (get_or path (start - 1) 0) separator (one above)) in
+    ap (λ n. drop (length path - n) path) size ∙ ap (λ n. drop n path) (omega arith)
+
+-- the last address of one more module
+pub last-next : (modules : List LoadedModule) (i : ℕ) (d : LoadedModule) → i < length modules
+    → last_address (map loaded_view (take (i + 1) modules))
+    ≡ max (last_address (map loaded_view (take i modules))) (min ((get_or modules i d).base + (get_or modules i d).size) (2 ^ 64 - 1))
+last-next modules i d within =
+    ap (λ some. last_address (map loaded_view some)) (take_more modules i d within)
+    ∙ ap last_address (map-append loaded_view (take i modules) (get_or modules i d ∷ []))
+    ∙ fold-append (λ last m. max last (min (m.base + m.size) (2 ^ 64 - 1))) 0 (map loaded_view (take i modules)) (map loaded_view (get_or modules i d ∷ []))
+
+module _ (file : List ℕ) where
+  -- a minidump that is read
+  pub minidump-is : (read : List Stream × List LoadedView) (dump : DumpView) → streams_and_modules_of file ≡ Ok read
+      → dump_in file read.0 read.1 ≡ Ok dump → minidump_of file ≡ Ok (dump, read.1)
+  unfolding minidump_of
+  minidump-is read dump first second =
+      ap (λ r. r >>= (λ read. dump_in file read.0 read.1 >>= (λ dump. Ok (dump, read.1)))) first
+      ∙ ap (λ d. d >>= (λ dump. Ok (dump, read.1))) second
+
+  -- one that is refused by its streams or its modules
+  pub refused-first : (error : MinidumpError) → streams_and_modules_of file ≡ Err error → minidump_of file ≡ Err error
+  unfolding minidump_of
+  refused-first error first =
+      ap (λ r. r >>= (λ read. dump_in file read.0 read.1 >>= (λ dump. Ok (dump, read.1)))) first
+
+  -- one that is refused by the rest
+  pub refused-second : (read : List Stream × List LoadedView) (error : MinidumpError) → streams_and_modules_of file ≡ Ok read
+      → dump_in file read.0 read.1 ≡ Err error → minidump_of file ≡ Err error
+  unfolding minidump_of
+  refused-second read error first second =
+      ap (λ r. r >>= (λ read. dump_in file read.0 read.1 >>= (λ dump. Ok (dump, read.1)))) first
+      ∙ ap (λ d. d >>= (λ dump. Ok (dump, read.1))) second
+
+abbrev is_ok : {A E : Type 0} → Result A E → Type 0
+is_ok (Ok value) = Unit {0}
+is_ok (Err error) = ⊥
+
+-- what is read is not refused
+pub not-both : {A E P : Type 0} (read : Result A E) (value : A) (error : E) → read ≡ Ok value → read ≡ Err error → P
+not-both read value error accepted refused = absurd (subst is_ok (sym accepted ∙ refused) tt)

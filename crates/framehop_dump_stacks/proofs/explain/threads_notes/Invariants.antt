@@ -1,0 +1,11 @@
+use Rattle.std.proofs.Common.{◌≡◌, length, take}
+use Rattle.std.specs.List.{sum_by}
+use Rattle.framehop_dump_stacks.specs.Dump.{thread_view, dump_view}
+use Rattle.framehop_dump_stacks.specs.Thread.{thread_stack}
+use Rattle.framehop_frames.specs.Stack.{line_count}
+use Rattle.framehop_dump_stacks.proofs.explain.threads_notes.Given as goal
+
+abbrev pub invariant-loop-thread : goal.invariant-loop-thread
+invariant-loop-thread g l =
+    length l.notes.items ≡ sum_by (λ thread. line_count (thread_stack g.U.Steps.step_by g.U.Dumped.begins l.limit l.process.unwinder.modules (dump_view l.dump) (thread_view thread)))
+    (take l.thread-index l.dump.threads.items)

@@ -1,0 +1,114 @@
+-- What a core file says of a process (gABI, chapter 5, "Program Loading"; `core(5)`).
+use Rattle.std.specs.Prelude.{ℕ, ◌+◌, ◌-◌, List, [], ◌∷◌, map, Bool, nat_le, nat_lt, nat_eq, ◌&&◌, ◌==◌, if◌then◌else◌, Option, Some, None, option_map, Result, Ok}
+use Rattle.std.specs.Cmp.Lexicographic.{pointwise}
+use Rattle.std.specs.List.{find, flat_map}
+use Rattle.std.specs.Option.{is_some}
+use Rattle.framehop_bytes.specs.Bytes.{◌>>=◌}
+use Rattle.framehop_coredump.specs.CoreFile.{core_file_of}
+use Rattle.framehop_coredump.specs.MappedFile.{MappedFileView, mapped_files_of}
+use Rattle.framehop_coredump.specs.Note.{notes_of}
+use Rattle.framehop_coredump.specs.Process.{ProcessView, process_of}
+use Rattle.framehop_coredump.specs.Thread.{ThreadView as NotedView, threads_of}
+use Rattle.framehop_coredump.specs.declared.error.CoreFileError.{CoreFileError}
+use Rattle.framehop_coredump.specs.Memory.{range_of}
+use Rattle.framehop_elf.specs.Segment.{loaded_segments_of}
+use Rattle.framehop_memory.specs.Memory.{MemoryView}
+use Rattle.framehop_memory.specs.Segment.{base_of}
+use Rattle.framehop_memory.specs.declared.segment.Segment.{Segment}
+use Rattle.framehop_dump_stacks.specs.Dump.{ThreadView, MappedCodeView, DumpView, of_kernel}
+use Rattle.framehop_dump_stacks.specs.Image.{head_at, segments_in, build_id_in}
+use Rattle.framehop_dump_stacks.specs.declared.dump.Cause.{Cause}
+use Rattle.framehop_dump_stacks.specs.declared.dump.Cause.TheVariants.{Signal}
+
+-- the signal of a thread; 0 is none
+abbrev pub cause_of_signal : ℕ → Option Cause
+cause_of_signal signal = if signal == 0 then None else Some (Signal signal)
+
+-- a thread by its note
+abbrev pub thread_of : NotedView → ThreadView
+thread_of thread = record {
+  tid = thread.tid;
+  cause = cause_of_signal thread.signal;
+  registers = of_kernel thread.registers thread.pac_mask;
+}
+
+-- the name of the program and the number of the process
+abbrev pub name_of : Option ProcessView → Option (List ℕ)
+name_of process = option_map (λ process. process.name) process
+
+abbrev pub pid_of : Option ProcessView → Option ℕ
+pid_of process = option_map (λ process. process.pid) process
+
+-- a file of a path is mapped from its first byte on
+abbrev pub is_beginning : List ℕ → MappedFileView → Bool
+is_beginning path mapped = (mapped.offset == 0) && pointwise nat_eq mapped.path path
+
+-- the first bytes of a mapped file, as far as memory has them: at its first mapping that has the first byte
+abbrev pub head_by : MemoryView → Option MappedFileView → List ℕ
+head_by memory (Some mapped) = head_at memory mapped.start
+head_by memory None = []
+
+abbrev pub head_in : MemoryView → List MappedFileView → List ℕ → List ℕ
+head_in memory files path = head_by memory (find (is_beginning path) files)
+
+-- where the stated address 0 of a mapped file is, by the segments that its first bytes tell
+abbrev pub base_in_memory : List Segment → MappedFileView → Option ℕ
+base_in_memory segments mapped = base_of segments mapped.offset (mapped.end - mapped.start) mapped.start
+
+-- a segment of memory has an address
+abbrev pub has_address : ℕ → Segment → Bool
+has_address address segment = nat_le segment.address address && nat_lt address (segment.address + segment.size)
+
+-- A file is mapped to be executed. NT_FILE does not tell, but the segment that has its first address does. gdb writes
+-- no segment for what it does not dump; then the program headers tell that memory has of the file.
+abbrev pub is_code_by : List Segment → MappedFileView → Option Segment → Bool
+is_code_by segments mapped (Some segment) = segment.is_code
+is_code_by segments mapped None = is_some (base_in_memory segments mapped)
+
+abbrev pub is_mapped_code : List Segment → List Segment → MappedFileView → Bool
+is_mapped_code dumped segments mapped = is_code_by segments mapped (find (has_address mapped.start) dumped)
+
+-- a file that is mapped to be executed, with the build id that memory has of it
+abbrev pub mapped_code : List ℕ → MappedFileView → MappedCodeView
+mapped_code head mapped = record {
+  start = mapped.start;
+  end = mapped.end;
+  offset = mapped.offset;
+  path = mapped.path;
+  head = head;
+  build_id = build_id_in head (segments_in head);
+  base = None;
+}
+
+abbrev pub code_by : List Segment → List ℕ → MappedFileView → List MappedCodeView
+code_by dumped head mapped =
+    if is_mapped_code dumped (loaded_segments_of (segments_in head)) mapped then mapped_code head mapped ∷ [] else []
+
+-- of a process with this memory, of which these segments were dumped
+abbrev pub code_if : MemoryView → List Segment → List MappedFileView → MappedFileView → List MappedCodeView
+code_if memory dumped files mapped = code_by dumped (head_in memory files mapped.path) mapped
+
+-- those of mapped files
+abbrev pub code_of : MemoryView → List Segment → List MappedFileView → List MappedCodeView
+code_of memory dumped files = flat_map (code_if memory dumped files) files
+
+-- the memory that was dumped of these segments
+abbrev pub dumped_memory : List ℕ → List Segment → MemoryView
+dumped_memory file dumped = record { file = file; ranges = map range_of dumped }
+
+-- what the headers and the notes of a core file say, or the first refusal
+unfoldable pub core_dump_of : List ℕ → Result DumpView CoreFileError
+core_dump_of file = do
+  core ← core_file_of file
+  notes ← notes_of file core.1
+  threads ← threads_of core.0 notes
+  files ← mapped_files_of notes
+  process ← process_of notes
+  Ok (record {
+    memory = dumped_memory file (loaded_segments_of core.1);
+    machine = core.0;
+    threads = map thread_of threads;
+    code = code_of (dumped_memory file (loaded_segments_of core.1)) (loaded_segments_of core.1) files;
+    name = name_of process;
+    pid = pid_of process;
+  })

@@ -1,0 +1,87 @@
+-- What is known of a process that is gone, by a core file or a minidump.
+use Rattle.std.specs.Prelude.{nat_eq, ℕ, List, [], map, Bool, Option, option_map, unwrap_or}
+use Rattle.std.specs.Cmp.Lexicographic.{pointwise}
+use Rattle.std.specs.List.{find}
+use Rattle.framehop_core.specs.Memory.{Memory}
+use Rattle.framehop_coredump.specs.declared.core_file.Machine.{Machine}
+use Rattle.framehop_memory.specs.Memory.{MemoryView, memory_view, word_of}
+use Rattle.framehop_dump_stacks.specs.declared.dump.Cause.{Cause}
+use Rattle.framehop_dump_stacks.specs.declared.dump.Dump.{Dump}
+use Rattle.framehop_dump_stacks.specs.declared.dump.MappedCode.{MappedCode}
+use Rattle.framehop_dump_stacks.specs.declared.dump.Registers.{Registers}
+use Rattle.framehop_dump_stacks.specs.declared.dump.Registers.TheVariants.{Kernel, Context}
+use Rattle.framehop_dump_stacks.specs.declared.dump.Thread.{Thread}
+
+-- registers by their values: as Linux keeps them, and the bits of an address of code that are its signature; or a
+-- context, and the bits that are none
+pub data RegistersView : Type 0 where
+  of_kernel : List ℕ → Option ℕ → RegistersView
+  of_context : List ℕ → ℕ → RegistersView
+
+abbrev pub registers_view : Registers → RegistersView
+registers_view (Kernel values pac_mask) = of_kernel values.now pac_mask
+registers_view (Context values code_mask) = of_context values.now code_mask
+
+-- a thread by its values
+pub record ThreadView : Type 0 where
+  pub tid : ℕ
+  pub cause : Option Cause
+  pub registers : RegistersView
+
+abbrev pub thread_view : Thread → ThreadView
+thread_view thread =
+    record { tid = thread.tid; cause = thread.cause; registers = registers_view thread.registers }
+
+-- mapped code by its values
+pub record MappedCodeView : Type 0 where
+  pub start : ℕ
+  pub end : ℕ
+  pub offset : ℕ
+  pub path : List ℕ
+  pub head : List ℕ
+  pub build_id : List ℕ
+  pub base : Option ℕ
+
+abbrev pub mapped_code_view : MappedCode → MappedCodeView
+mapped_code_view code = record {
+  start = code.start;
+  end = code.end;
+  offset = code.offset;
+  path = code.path.now;
+  head = code.head.now;
+  build_id = code.build_id.now;
+  base = code.base;
+}
+
+-- what is known of a process, by its values
+pub record DumpView : Type 0 where
+  pub memory : MemoryView
+  pub machine : Machine
+  pub threads : List ThreadView
+  pub code : List MappedCodeView
+  pub name : Option (List ℕ)
+  pub pid : Option ℕ
+
+abbrev pub dump_view : Dump → DumpView
+dump_view dump = record {
+  memory = memory_view dump.memory;
+  machine = dump.machine;
+  threads = map thread_view dump.threads.items;
+  code = map mapped_code_view dump.code.items;
+  name = option_map (λ name. name.now) dump.name;
+  pid = dump.pid;
+}
+
+-- the words of memory, as far as it was dumped
+abbrev pub words_in : MemoryView → Memory
+words_in memory address = word_of memory address
+
+abbrev pub memory_in : DumpView → Memory
+memory_in dump = words_in dump.memory
+
+-- the first bytes of a file whose code was mapped, as far as memory has them: those of its first mapping
+abbrev pub is_of_path : List ℕ → MappedCodeView → Bool
+is_of_path path code = pointwise nat_eq code.path path
+
+abbrev pub head_of : DumpView → List ℕ → List ℕ
+head_of dump path = unwrap_or (option_map (λ code. code.head) (find (is_of_path path) dump.code)) []

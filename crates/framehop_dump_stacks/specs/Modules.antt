@@ -1,0 +1,109 @@
+-- The files whose code a process had mapped, and the modules of their mappings.
+use Rattle.std.specs.Prelude.{◌≡◌, ℕ, ◌-◌, List, [], ◌∷◌, Bool, true, false, nat_lt, if◌then◌else◌, Option, Some, None, slice_get}
+use Rattle.framehop_bytes.specs.ExplicitSections.{table_of}
+use Rattle.framehop_bytes.specs.declared.section.ExplicitModuleSectionInfo.{ExplicitModuleSectionInfo}
+use Rattle.framehop_elf.specs.Segment.{loaded_segments_of}
+use Rattle.framehop_memory.specs.Segment.{base_of}
+use Rattle.framehop_memory.specs.declared.segment.Segment.{Segment}
+use Rattle.framehop.specs.ModuleData.{unwind_data_in}
+use Rattle.framehop.specs.Modules.{ModuleView}
+use Rattle.framehop_processes.specs.Mappings.{with_mapping}
+use Rattle.framehop_processes.specs.declared.mapping.Mapping.{Mapping}
+use Rattle.framehop_symbols.specs.Files.{number_in, object_in}
+use Rattle.framehop_symbols.specs.Files.{placed_at, IsWithoutFiles, IsAdded}
+use Rattle.framehop_symbols.specs.declared.object_file.ObjectFile.{ObjectFile}
+use Rattle.framehop_symbols.specs.declared.files.Files.{Files}
+use Rattle.framehop_symbols.specs.declared.files.NamedFile.{NamedFile}
+use Rattle.framehop_dump_stacks.specs.Dump.{MappedCodeView, DumpView, head_of}
+use Rattle.framehop_dump_stacks.specs.Image.{segments_in, sections_of, sections_in}
+
+module _ (gives gives_debug : List ℕ → Option (List ℕ) → Type 0) where
+  -- The files of mapped code are added one after another. The build id of each is to be the one that is told.
+  abbrev pub AreAdded : List MappedCodeView → Files → Files → Type 0
+  AreAdded [] old new = new ≡ old
+  AreAdded (code ∷ others) old new =
+      (between : Files) × IsAdded gives gives_debug code.path code.build_id old between × AreAdded others between new
+
+  -- the files whose code is mapped, each once
+  abbrev pub AreFilesOf : DumpView → Files → Type 0
+  AreFilesOf dump files = (none : Files) × IsWithoutFiles none × AreAdded dump.code none files
+
+-- where the stated address 0 of a file is, by its segments
+abbrev pub base_by : List Segment → MappedCodeView → Option ℕ
+base_by segments code = base_of segments code.offset (code.end - code.start) code.start
+
+-- by what was read of the file, or else by its first bytes in memory
+abbrev pub base_with : MappedCodeView → Option ObjectFile → Option ℕ
+base_with code (Some object) = base_by object.segments.items code
+base_with code None = base_by (loaded_segments_of (segments_in code.head)) code
+
+-- unless it is known
+abbrev pub base_unless : Option ℕ → Option ℕ → Option ℕ
+base_unless (Some known) base = Some known
+base_unless None base = base
+
+abbrev pub base_in : Files → ℕ → MappedCodeView → Option ℕ
+base_in files number code = base_unless code.base (base_with code (object_in files number))
+
+-- with unwind data where the base is known; else its relative addresses are offsets of the file
+abbrev pub mapping_based : MappedCodeView → ℕ → Option ℕ → Mapping
+mapping_based code number (Some base) =
+    record { start = code.start; end = code.end; base_avma = base; file = number; has_sections = true }
+mapping_based code number None = record {
+  start = code.start;
+  end = code.end;
+  base_avma = code.start - code.offset;
+  file = number;
+  has_sections = false;
+}
+
+abbrev pub mapping_numbered : Files → MappedCodeView → Option ℕ → Option Mapping
+mapping_numbered files code (Some number) = Some (mapping_based code number (base_in files number code))
+mapping_numbered files code None = None
+
+-- the mapping of mapped code, if it has an address
+abbrev pub mapping_in : Files → MappedCodeView → Option Mapping
+mapping_in files code =
+    if nat_lt code.start code.end then mapping_numbered files code (number_in files code.path) else None
+
+-- each mapping after the others, in the place of what it overlaps
+abbrev pub mapped_by : Option Mapping → List Mapping → List Mapping
+mapped_by (Some mapping) mappings = with_mapping mapping mappings
+mapped_by None mappings = mappings
+
+abbrev pub mappings_over : Files → List MappedCodeView → List Mapping → List Mapping
+mappings_over files [] mappings = mappings
+mappings_over files (code ∷ others) mappings = mappings_over files others (mapped_by (mapping_in files code) mappings)
+
+-- the mappings of the process
+abbrev pub mappings_in : DumpView → Files → List Mapping
+mappings_in dump files = mappings_over files dump.code []
+
+-- a module with sections that lies at no address
+abbrev pub module_with : ExplicitModuleSectionInfo (List ℕ) → ModuleView
+module_with info = record {
+  name = [];
+  start = 0;
+  end = 0;
+  base_avma = 0;
+  unwind_data = unwind_data_in (λ bytes. bytes) (table_of info);
+}
+
+-- by the unwind sections that memory has of a file
+abbrev pub sections_by : DumpView → Option NamedFile → ℕ → ExplicitModuleSectionInfo (List ℕ)
+sections_by dump (Some file) base = sections_in dump.memory (head_of dump file.name.items) base
+sections_by dump None base = sections_of None
+
+abbrev pub loaded_by : DumpView → Files → Mapping → Option ObjectFile → ModuleView
+loaded_by dump files mapping (Some object) = object.«module»
+loaded_by dump files mapping None =
+    module_with (sections_by dump (slice_get files.list.items mapping.file) mapping.base_avma)
+
+abbrev pub loaded_with : Bool → DumpView → Files → Mapping → ModuleView
+loaded_with true dump files mapping = loaded_by dump files mapping (object_in files mapping.file)
+loaded_with false dump files mapping = module_with (sections_of None)
+
+-- The module of a mapping: by what was read of the file, or else by what memory has of it. One without sections has no
+-- unwind data.
+abbrev pub module_at : DumpView → Files → Mapping → ModuleView
+module_at dump files mapping = placed_at (loaded_with mapping.has_sections dump files mapping) mapping

@@ -1,0 +1,22 @@
+-- Why a core file or a minidump gives no stacks, by what refused it.
+use Rattle.framehop_coredump.specs.declared.error.CoreFileError.{CoreFileError}
+use Rattle.framehop_coredump.specs.declared.error.CoreFileError.TheVariants as file
+use Rattle.framehop_minidump.specs.declared.error.MinidumpError.{MinidumpError}
+use Rattle.framehop_minidump.specs.declared.error.MinidumpError.TheVariants as minidump
+use Rattle.framehop_processes.specs.declared.error.ProcessesError.{ProcessesError}
+use Rattle.framehop_processes.specs.declared.error.ProcessesError.TheVariants as processes
+use Rattle.framehop_dump_stacks.specs.declared.error.DumpStacksError.{DumpStacksError}
+use Rattle.framehop_dump_stacks.specs.declared.error.DumpStacksError.TheVariants.{Core, Minidump, OutOfMemory, GenerationsExhausted, EmptyMapping}
+
+abbrev pub of_core_file : CoreFileError → DumpStacksError
+of_core_file file.OutOfMemory = OutOfMemory
+of_core_file refusal = Core refusal
+
+abbrev pub of_minidump : MinidumpError → DumpStacksError
+of_minidump minidump.OutOfMemory = OutOfMemory
+of_minidump refusal = Minidump refusal
+
+abbrev pub of_processes : ProcessesError → DumpStacksError
+of_processes processes.OutOfMemory = OutOfMemory
+of_processes processes.GenerationsExhausted = GenerationsExhausted
+of_processes processes.EmptyMapping = EmptyMapping

@@ -1,0 +1,37 @@
+-- The threads of a process as text.
+use Rattle.std.specs.Prelude.{ℕ, true, List, [], ◌∷◌, ◌++◌, codes, Option, Some, None}
+use Rattle.std.specs.Fmt.{decimal}
+use Rattle.framehop_processes.specs.declared.mapping.Mapping.{Mapping}
+use Rattle.framehop_frames.specs.Line.{plain, hexadecimal}
+use Rattle.framehop_frames.specs.Stack.{StackView, stack_text}
+use Rattle.framehop_symbols.specs.declared.files.Files.{Files}
+use Rattle.framehop_dump_stacks.specs.Dump.{ThreadView, DumpView}
+use Rattle.framehop_dump_stacks.specs.declared.dump.Cause.{Cause}
+use Rattle.framehop_dump_stacks.specs.declared.dump.Cause.TheVariants.{Signal, Exception}
+
+-- the name of the program and the number of the process, as far as the file tells them, and the thread
+abbrev pub name_text : Option (List ℕ) → List ℕ
+name_text (Some name) = plain name
+name_text None = codes "[unknown]"
+
+abbrev pub numbers_text : Option ℕ → ℕ → List ℕ
+numbers_text (Some pid) tid = 32 ∷ decimal pid ++ 47 ∷ decimal tid
+numbers_text None tid = 32 ∷ decimal tid
+
+abbrev pub names_text : Option (List ℕ) → Option ℕ → ℕ → List ℕ
+names_text name pid tid = name_text name ++ numbers_text pid tid
+
+-- the signal or the exception that a thread got, if it got one
+abbrev pub cause_text : Option Cause → List ℕ
+cause_text None = codes ":\n"
+cause_text (Some (Signal signal)) = codes " signal " ++ decimal signal ++ codes ":\n"
+cause_text (Some (Exception code)) = codes " exception 0x" ++ hexadecimal code ++ codes ":\n"
+
+-- the head of a thread's block
+unfoldable pub thread_head : Option (List ℕ) → Option ℕ → ThreadView → List ℕ
+thread_head name pid thread = names_text name pid thread.tid ++ cause_text thread.cause
+
+-- the block of a thread: its head, a line for each frame, and how the walk ended
+abbrev pub thread_text : DumpView → Files → List Mapping → ThreadView → StackView → List ℕ
+thread_text dump files mappings thread stack =
+    stack_text true files [] (thread_head dump.name dump.pid thread) mappings stack

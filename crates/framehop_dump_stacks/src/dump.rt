@@ -1,0 +1,122 @@
+//! What is known of a process that is gone, by a core file or a minidump: its memory, its threads, and the code
+//! that it had mapped.
+ghost use Rattle.std.specs.Prelude.{◌≡◌, find, option_map};
+ghost use Rattle.framehop_dump_stacks.specs.Dump.{dump_view, mapped_code_view, is_of_path, head_of};
+
+use framehop_coredump::core_file::Machine;
+use framehop_memory::memory::ProcessMemory;
+
+/// Which kind of file tells of a process.
+#[derive(Clone, Copy, Debug, PartialEq, Eq)]
+pub enum Kind {
+    /// A core file.
+    CoreFile,
+    /// A minidump.
+    Minidump,
+}
+
+/// The registers of a thread, for its machine.
+#[derive(Clone, Copy, Drop)]
+pub enum Registers<'a> {
+    /// As Linux keeps them: `framehop_coredump::registers` reads them.
+    Kernel {
+        /// Eight bytes for each register.
+        values: &'a [u8],
+        /// The bits of an address of code that are its signature, where they are known.
+        pac_mask: Option<u64>,
+    },
+    /// A context: `framehop_minidump::registers` reads it.
+    Context {
+        /// Its bytes.
+        values: &'a [u8],
+        /// The bits of an address of code that are no signature.
+        code_mask: u64,
+    },
+}
+
+/// Why a thread ended its process.
+#[derive(Clone, Copy, Debug, PartialEq, Eq)]
+pub enum Cause {
+    /// A signal.
+    Signal(u32),
+    /// An exception, of Windows or of macOS.
+    Exception(u32),
+}
+
+/// A thread, as it was when the file was made.
+#[derive(Clone, Copy, Drop)]
+pub struct Thread<'a> {
+    /// Its number.
+    pub tid: u32,
+    /// What ended the process, if it was this thread that got it.
+    pub cause: Option<Cause>,
+    /// Its registers.
+    pub registers: Registers<'a>,
+}
+
+/// Addresses at which code of a file was mapped.
+#[derive(Clone, Copy, Drop)]
+pub struct MappedCode<'a> {
+    /// The first address (AVMA).
+    pub start: u64,
+    /// The address after the last (AVMA).
+    pub end: u64,
+    /// Where the mapping begins in the file, in bytes.
+    pub offset: u64,
+    /// The file's path.
+    pub path: &'a [u8],
+    /// The first bytes of the file, as far as memory has them.
+    pub head: &'a [u8],
+    /// The build id that the file must have, or no bytes.
+    pub build_id: &'a [u8],
+    /// Where the file's SVMA 0 is (AVMA), where that is known before the file is read.
+    pub base: Option<u64>,
+}
+
+/// What is known of a process that is gone.
+#[derive(Drop)]
+pub struct Dump<'a> {
+    /// Which kind of file tells it.
+    pub kind: Kind,
+    /// Its memory.
+    pub memory: ProcessMemory<'a>,
+    /// The machine on which it ran.
+    pub machine: Machine,
+    /// Its threads.
+    pub threads: Vec<Thread<'a>>,
+    /// The code that it had mapped.
+    pub code: Vec<MappedCode<'a>>,
+    /// The name of its program, if the file tells it.
+    pub name: Option<&'a [u8]>,
+    /// Its number, if the file tells it.
+    pub pid: Option<u32>,
+}
+
+/// Returns whether code is of the file of a path.
+fn is_of_path(code: MappedCode<'_>, path: &[u8]) -> bool
+    ensures { result ≡ is_of_path path.now (mapped_code_view code.entry) }
+{
+    code.path == path
+}
+
+/// Returns the first mapping of code of the file of a path.
+fn code_of_path<'a>(dump: &Dump<'a>, path: &[u8]) -> Option<MappedCode<'a>>
+    ensures { option_map mapped_code_view result ≡ find (is_of_path path.now) (dump_view dump.now).code }
+{
+    for code in &dump.code {
+        if is_of_path(*code, path) {
+            return Some(*code);
+        }
+    }
+    None
+}
+
+/// Returns the first bytes of a file whose code was mapped, as far as memory has them.
+pub fn head_of<'a>(dump: &Dump<'a>, path: &[u8]) -> &'a [u8]
+    ensures { result.now ≡ head_of (dump_view dump.now) path.now }
+{
+    match code_of_path(dump, path) {
+        Some(code) => code.head,
+        None => &[],
+    }
+}

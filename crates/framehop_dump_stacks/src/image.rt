@@ -1,0 +1,161 @@
+//! What the memory of a process has of the files that it had mapped: their build ids and their unwind data.
+ghost use Rattle.std.specs.Prelude.{◌≡◌, IfOk, find, option_map};
+ghost use Rattle.framehop_elf.specs.UnwindSections.{sections_view};
+ghost use Rattle.framehop_memory.specs.Memory.{memory_view};
+ghost use Rattle.framehop_dump_stacks.specs.Image.{head_at, segments_in, build_id_in, is_eh_frame_header, memory_at, memory_after, call_frames_at, call_frames_view, range_of, sections_of, sections_in};
+
+use framehop_bytes::section::ExplicitModuleSectionInfo;
+use framehop_cfi::header::TableLayout;
+use framehop_cfi::pointer::SectionBaseAddresses;
+use framehop_elf::build_id::read_build_id;
+use framehop_elf::error::ElfError;
+use framehop_elf::header::read_file_header;
+use framehop_elf::program_header::{ProgramHeader, read_program_headers};
+use framehop_memory::memory::ProcessMemory;
+use std::alloc::{AllocError, Global};
+use std::ops::Range;
+
+/// `PT_GNU_EH_FRAME`: the segment that has `.eh_frame_hdr`.
+const PT_GNU_EH_FRAME: u32 = 0x6474_e550;
+
+/// Returns the bytes of memory from an address (AVMA) on, as far as it has them, or none.
+pub fn head_at<'a>(memory: &ProcessMemory<'a>, address: u64) -> &'a [u8]
+    ensures { result.now ≡ head_at (memory_view memory.now) address }
+{
+    match memory.bytes_from(address) {
+        Some(head) => head,
+        None => &[],
+    }
+}
+
+/// Returns the program headers in the first bytes of a file: none where they can't be read.
+#[tactic(auto, unfolding(crate::specs::Image::headers_in))]
+pub fn segments_in(alloc: Global, head: &[u8]) -> Result<Vec<ProgramHeader>, AllocError>
+    ensures { IfOk result (λ segments. segments.items ≡ segments_in head.now) }
+{
+    let Ok(header) = read_file_header(head) else {
+        return Ok(Vec::new(alloc));
+    };
+    match read_program_headers(alloc, head, header) {
+        Ok(segments) => Ok(segments),
+        Err(ElfError::OutOfMemory) => Err(AllocError),
+        Err(_) => Ok(Vec::new(alloc)),
+    }
+}
+
+/// Returns the build id in the first bytes of a file, or no bytes.
+pub fn build_id_in<'a>(head: &'a [u8], segments: &[ProgramHeader]) -> &'a [u8]
+    ensures { result.now ≡ build_id_in head.entry.now segments.now }
+{
+    match read_build_id(head, segments, &[]) {
+        Some(build_id) => build_id,
+        None => &[],
+    }
+}
+
+/// Returns the segment that has `.eh_frame_hdr`.
+fn eh_frame_header(segments: &[ProgramHeader]) -> Option<ProgramHeader>
+    ensures { result ≡ find is_eh_frame_header segments.now }
+{
+    for segment in segments {
+        if segment.p_type == PT_GNU_EH_FRAME {
+            return Some(*segment);
+        }
+    }
+    None
+}
+
+/// Returns so many bytes from an SVMA on of what lies at a base, if memory has them.
+fn memory_at<'a>(memory: &ProcessMemory<'a>, base: u64, svma: u64, size: u64) -> Option<&'a [u8]>
+    ensures { option_map (λ bytes. bytes.now) result ≡ memory_at (memory_view memory.now) base svma size }
+{
+    let avma = base.checked_add(svma)?;
+    memory.bytes_at(avma, size)
+}
+
+/// Returns the bytes from an SVMA on of what lies at a base, as far as memory has them.
+fn memory_after<'a>(memory: &ProcessMemory<'a>, base: u64, svma: u64) -> Option<&'a [u8]>
+    ensures { option_map (λ bytes. bytes.now) result ≡ memory_after (memory_view memory.now) base svma }
+{
+    let avma = base.checked_add(svma)?;
+    memory.bytes_from(avma)
+}
+
+/// The call frame sections of a file, and where they begin (SVMA).
+#[derive(Clone, Copy, Drop)]
+struct CallFrames<'a> {
+    header_svma: u64,
+    header: &'a [u8],
+    frames_svma: u64,
+    frames: &'a [u8],
+}
+
+/// Returns the call frame sections of a file that lies at a base, if memory has them: `.eh_frame_hdr`, and
+/// what is at the address that it tells.
+///
+/// Source: LSB Core, "Exception Frames", "The .eh_frame_hdr section".
+#[tactic(auto, unfolding(crate::specs::Image::call_frames_at))]
+fn call_frames_at<'a>(
+    memory: &ProcessMemory<'a>,
+    segments: &[ProgramHeader],
+    base: u64,
+) -> Option<CallFrames<'a>>
+    ensures { option_map call_frames_view result ≡ call_frames_at (memory_view memory.now) segments.now base }
+{
+    let segment = eh_frame_header(segments)?;
+    let header_svma = segment.p_vaddr;
+    let header = memory_at(memory, base, header_svma, segment.p_memsz)?;
+    let bases = SectionBaseAddresses {
+        section: header_svma,
+        text: 0,
+        data: header_svma,
+    };
+    let layout = TableLayout::parse(header, &bases).ok()?;
+    let frames_svma = layout.eh_frame_pointer();
+    let frames = memory_after(memory, base, frames_svma)?;
+    Some(CallFrames {
+        header_svma,
+        header,
+        frames_svma,
+        frames,
+    })
+}
+
+/// Returns where bytes are from an SVMA on. What ends above the last address ends at it.
+fn range_of(svma: u64, bytes: &[u8]) -> Range<u64>
+    ensures { result ≡ range_of svma bytes.now }
+{
+    svma..svma.saturating_add(bytes.len() as u64)
+}
+
+/// Returns what an unwinder is to know of call frame sections, with copies of them.
+fn sections_of(
+    alloc: Global,
+    found: Option<CallFrames<'_>>,
+) -> Result<ExplicitModuleSectionInfo<Vec<u8>>, AllocError>
+    ensures { IfOk result (λ info. sections_view info ≡ sections_of (option_map call_frames_view found.entry)) }
+{
+    let mut info: ExplicitModuleSectionInfo<Vec<u8>> = ExplicitModuleSectionInfo::default();
+    if let Some(found) = found {
+        info.eh_frame_svma = Some(range_of(found.frames_svma, found.frames));
+        info.eh_frame = Some(Vec::from_slice(alloc, found.frames)?);
+        info.eh_frame_hdr_svma = Some(range_of(found.header_svma, found.header));
+        info.eh_frame_hdr = Some(Vec::from_slice(alloc, found.header)?);
+    }
+    Ok(info)
+}
+
+/// Returns the unwind sections of a file of these first bytes that lies at a base, as memory has them: none where
+/// it has not both `.eh_frame_hdr` and `.eh_frame`.
+pub fn sections_in(
+    alloc: Global,
+    memory: &ProcessMemory<'_>,
+    head: &[u8],
+    base: u64,
+) -> Result<ExplicitModuleSectionInfo<Vec<u8>>, AllocError>
+    ensures { IfOk result (λ info. sections_view info ≡ sections_in (memory_view memory.now) head.now base) }
+{
+    let segments = segments_in(alloc, head)?;
+    let found = call_frames_at(memory, segments.as_slice(), base);
+    sections_of(alloc, found)
+}

@@ -1,0 +1,211 @@
+//! The files whose code a process had mapped, and the modules of their mappings.
+ghost use Rattle.std.specs.Prelude.{◌≡◌, IfOk, slice_get};
+ghost use Rattle.framehop_elf.specs.Segment.{loaded_segments_of};
+ghost use Rattle.framehop_elf.specs.UnwindSections.{sections_view};
+ghost use Rattle.framehop_processes.specs.Process.{HasModules};
+ghost use Rattle.framehop_symbols.specs.Files.{placed_at};
+ghost use Rattle.framehop_dump_stacks.specs.Dump.{mapped_code_view, dump_view};
+ghost use Rattle.framehop_dump_stacks.specs.Image.{segments_in};
+ghost use Rattle.framehop_dump_stacks.specs.Modules.{AreFilesOf, base_by, base_in, mapping_based, mapping_in, mappings_in, module_with, sections_by, module_at};
+
+use crate::dump::{Dump, MappedCode, head_of};
+use crate::error::DumpStacksError;
+use crate::image::{sections_in, segments_in};
+use framehop::Module;
+use framehop::generations::Generations;
+use framehop::section::ExplicitModuleSectionInfo;
+use framehop_elf::segment::loaded_segments;
+use framehop_memory::segment::base_avma;
+use framehop_processes::{Mapping, ModuleMaker, Process, ProcessUnwinder};
+use framehop_symbols::files::{FileSource, FileUnwinder, Files, placed_at};
+use std::alloc::{AllocError, Global};
+
+/// Reads the files whose code is mapped, each once.
+pub fn read_files<S: FileSource>(
+    alloc: Global,
+    dump: &Dump<'_>,
+    source: &S,
+) -> Result<Files, AllocError>
+    ensures { IfOk result (λ files.
+        AreFilesOf (S.gives source.now) (S.gives_debug source.now) (dump_view dump.now) files) }
+{
+    let mut files = Files::new(alloc)?;
+    for code in &dump.code {
+        files.add(alloc, source, code.path, code.build_id)?;
+    }
+    Ok(files)
+}
+
+/// Returns where the stated address 0 of the file of mapped code is (AVMA), by the program headers in its first
+/// bytes.
+fn base_in_memory(alloc: Global, code: MappedCode<'_>) -> Result<Option<u64>, AllocError>
+    ensures { IfOk result (λ base. base
+        ≡ base_by (loaded_segments_of (segments_in (mapped_code_view code.entry).head)) (mapped_code_view code.entry)) }
+{
+    let headers = segments_in(alloc, code.head)?;
+    let segments = loaded_segments(alloc, headers.as_slice())?;
+    let size = code.end.saturating_sub(code.start);
+    Ok(base_avma(segments.as_slice(), code.offset, size, code.start))
+}
+
+/// Returns where the stated address 0 of the file of mapped code is (AVMA): as it is known, by what was read of
+/// the file, or else by what memory has of it.
+fn base_in(
+    alloc: Global,
+    files: &Files,
+    number: u32,
+    code: MappedCode<'_>,
+) -> Result<Option<u64>, AllocError>
+    ensures { IfOk result (λ base. base ≡ base_in files.now number (mapped_code_view code.entry)) }
+{
+    if let Some(base) = code.base {
+        return Ok(Some(base));
+    }
+    if let Some(object) = files.object(number) {
+        let size = code.end.saturating_sub(code.start);
+        return Ok(object.base(code.offset, size, code.start));
+    }
+    base_in_memory(alloc, code)
+}
+
+/// Returns the mapping of mapped code: with its unwind data where its base is known.
+fn mapping_based(code: MappedCode<'_>, number: u32, base: Option<u64>) -> Mapping
+    ensures { result ≡ mapping_based (mapped_code_view code.entry) number base }
+{
+    match base {
+        Some(base) => Mapping {
+            start: code.start,
+            end: code.end,
+            base_avma: base,
+            file: number,
+            has_sections: true,
+        },
+        None => Mapping {
+            start: code.start,
+            end: code.end,
+            base_avma: code.start.saturating_sub(code.offset),
+            file: number,
+            has_sections: false,
+        },
+    }
+}
+
+/// Returns the mapping of mapped code, if it has an address.
+fn mapping_in(
+    alloc: Global,
+    files: &Files,
+    code: MappedCode<'_>,
+) -> Result<Option<Mapping>, AllocError>
+    ensures { IfOk result (λ mapping. mapping ≡ mapping_in files.now (mapped_code_view code.entry)) }
+{
+    if code.end <= code.start {
+        return Ok(None);
+    }
+    let Some(number) = files.number_of(code.path) else {
+        return Ok(None);
+    };
+    let base = base_in(alloc, files, number, code)?;
+    Ok(Some(mapping_based(code, number, base)))
+}
+
+/// Returns a module with these sections that lies at no address.
+fn module_with(
+    alloc: Global,
+    info: ExplicitModuleSectionInfo<Vec<u8>>,
+) -> Result<Module<Vec<u8>>, AllocError>
+    ensures { IfOk result (λ made. made ≡ module_with (sections_view info)) }
+{
+    match Module::new(alloc, String::new(alloc), 0..0, 0, info) {
+        Ok(made) => Ok(made),
+        Err(_) => Err(AllocError),
+    }
+}
+
+/// Makes the modules of mappings, by the files of a dump and by its memory.
+#[derive(Clone, Copy, Drop)]
+pub struct DumpModules<'a> {
+    pub dump: &'a Dump<'a>,
+    pub files: &'a Files,
+}
+
+impl DumpModules<'_> {
+    /// Returns the unwind sections of a mapping's file, as memory has them.
+    fn sections(
+        &self,
+        alloc: Global,
+        mapping: &Mapping,
+    ) -> Result<ExplicitModuleSectionInfo<Vec<u8>>, AllocError>
+        ensures { IfOk result (λ info. sections_view info ≡ sections_by (dump_view self.now.dump.now) (slice_get self.now.files.now.list.items mapping.now.file) mapping.now.base_avma) }
+    {
+        match self.files.get(mapping.file) {
+            Some(file) => {
+                let head = head_of(self.dump, file.name.as_slice());
+                sections_in(alloc, &self.dump.memory, head, mapping.base_avma)
+            }
+            None => Ok(ExplicitModuleSectionInfo::default()),
+        }
+    }
+
+    /// Returns the module of a mapping, by what memory has of its file.
+    fn module_in_memory(
+        &self,
+        alloc: Global,
+        mapping: &Mapping,
+    ) -> Result<Module<Vec<u8>>, AllocError>
+        ensures { IfOk result (λ made. made ≡ placed_at (module_with (sections_by (dump_view self.now.dump.now)
+            (slice_get self.now.files.now.list.items mapping.now.file) mapping.now.base_avma)) mapping.now) }
+    {
+        let info = self.sections(alloc, mapping)?;
+        placed_at(&module_with(alloc, info)?, mapping)
+    }
+
+    /// Returns the module of a mapping.
+    fn module_at(&self, alloc: Global, mapping: &Mapping) -> Result<Module<Vec<u8>>, AllocError>
+        ensures { IfOk result (λ made. made ≡ module_at (dump_view self.now.dump.now) self.now.files.now mapping.now) }
+    {
+        if !mapping.has_sections {
+            let info = ExplicitModuleSectionInfo::default();
+            return placed_at(&module_with(alloc, info)?, mapping);
+        }
+        match self.files.object(mapping.file) {
+            Some(object) => placed_at(object.module(), mapping),
+            None => self.module_in_memory(alloc, mapping),
+        }
+    }
+}
+
+impl<U: FileUnwinder> ModuleMaker<U> for DumpModules<'_> {
+    ghost use Rattle.std.specs.Prelude.{refl};
+
+    ghost module_of = { λ maker mapping. module_at (dump_view maker.dump.now) maker.files.now mapping };
+
+    ghost start_is = { λ maker mapping. refl };
+
+    ghost end_is = { λ maker mapping. refl };
+
+    fn make_module(&self, alloc: Global, mapping: &Mapping) -> Result<Module<Vec<u8>>, AllocError> {
+        self.module_at(alloc, mapping)
+    }
+}
+
+/// Returns the process of a dump, with the mappings of its code in their order.
+pub fn map_files<U: ProcessUnwinder, M: ModuleMaker<U>>(
+    alloc: Global,
+    maker: &M,
+    dump: &Dump<'_>,
+    files: &Files,
+) -> Result<Process<U>, DumpStacksError>
+where
+    U::Module: Drop,
+    ensures served { IfOk result (λ process. HasModules (M.module_of maker.now) process) }
+    ensures mapped { IfOk result (λ process. process.mappings ≡ mappings_in (dump_view dump.now) files.now) }
+{
+    let mut generations = Generations::new();
+    let mut process: Process<U> = Process::new(alloc, &mut generations)?;
+    for code in &dump.code {
+        if let Some(mapping) = mapping_in(alloc, files, *code)? {
+            process.map(alloc, maker, mapping, &mut generations)?;
+        }
+    }
+    Ok(process)
+}

@@ -1,0 +1,5 @@
+-- What the contracts of this crate cite: stacks and their text.
+pub mod Start
+pub mod Line
+pub mod Stack
+pub mod Explained

@@ -1,0 +1,318 @@
+//! Stacks as text.
+//!
+//! A frame is named by the nearest symbol at or before its address, as debuggers do, and otherwise by its place in
+//! the file.
+ghost use Rattle.std.specs.Prelude.{◌≡◌, ◌++◌, ◌∷◌, [], map, OnOk, IfOk, codes, string_bytes};
+ghost use Rattle.std.specs.List.{flat_map};
+ghost use Rattle.framehop_core.specs.CodeAddress.{location_of};
+ghost use Rattle.framehop.specs.SessionView.{end_of};
+ghost use Rattle.framehop_processes.specs.Mappings.{IsInOrder};
+ghost use Rattle.framehop_symbols.specs.Place.{place_view};
+ghost use Rattle.framehop_frames.specs.Line.{plain_byte, plain, base_name, hexadecimal, label_of, refusal_name, end_name, mark, mark_of, frames_text, frame_label, line_of, refused_line, described, frame_line, last_line, block_of, time_text, head_of};
+
+use crate::stack::Stack;
+use framehop::session::WalkEnd;
+use framehop::{Error, FrameAddress};
+use framehop_processes::Mapping;
+use framehop_symbols::files::Files;
+use framehop_symbols::place::{Place, place_of};
+use std::alloc::{AllocError, Global};
+
+/// Returns what a refusal is called.
+fn refusal_name(error: Error) -> &'static str
+    ensures { result.now ≡ refusal_name error }
+{
+    match error {
+        Error::CouldNotReadStack(_) => "could-not-read-stack",
+        Error::FramepointerUnwindingMovedBackwards => "moved-backwards",
+        Error::DidNotAdvance => "did-not-advance",
+        Error::IntegerOverflow => "integer-overflow",
+        Error::ReturnAddressIsNull => "null-return-address",
+        Error::OutOfMemory => "out-of-memory",
+    }
+}
+
+/// Returns what the end of a walk is called.
+pub fn end_name(end: WalkEnd) -> &'static str
+    ensures { result.now ≡ end_name (end_of end) }
+{
+    match end {
+        WalkEnd::Root => "root",
+        WalkEnd::Limit => "limit",
+        WalkEnd::Refused(error) => refusal_name(error),
+    }
+}
+
+/// Returns a file's name without its folders.
+fn base_name(path: &[u8]) -> &[u8]
+    ensures { result.now ≡ base_name path.entry.now }
+{
+    let mut start = 0;
+    for (at, byte) in path.iter().enumerate() {
+        if *byte == b'/' {
+            start = at + 1;
+        }
+    }
+    &path[start..]
+}
+
+/// Returns the byte that is printed for a byte of a name.
+fn plain_byte(byte: u8) -> u8
+    ensures { result ≡ plain_byte byte }
+{
+    match byte {
+        b';' => b':',
+        b'\n' => b' ',
+        other => other,
+    }
+}
+
+/// Appends a name, each `;` of which becomes a colon, and each line feed a blank.
+pub fn push_name(line: &mut Vec<u8>, name: &[u8]) -> Result<(), AllocError>
+    ensures { OnOk result (line.new.items ≡ line.old.items ++ plain name.now) }
+{
+    for byte in name {
+        line.push(plain_byte(*byte))?;
+    }
+    Ok(())
+}
+
+/// Appends an offset or an address after a plus sign.
+fn push_offset(alloc: Global, line: &mut Vec<u8>, offset: u64) -> Result<(), AllocError>
+    ensures { OnOk result (line.new.items ≡ line.old.items ++ codes "+0x" ++ hexadecimal offset) }
+{
+    let text = format!(in alloc; "+0x{offset:x}")?;
+    line.extend_from_slice(text.as_bytes())?;
+    Ok(())
+}
+
+/// Appends what a place is called.
+#[tactic(auto, unfolding(crate::specs::Line::label_of))]
+fn push_label(alloc: Global, line: &mut Vec<u8>, place: Place<'_>) -> Result<(), AllocError>
+    ensures { OnOk result (line.new.items ≡ line.old.items ++ label_of (place_view place.entry)) }
+{
+    match place {
+        Place::Function { name, .. } => push_name(line, name)?,
+        Place::File { file, address } => {
+            push_name(line, base_name(file))?;
+            push_offset(alloc, line, address)?;
+        }
+        Place::Unmapped => line.extend_from_slice(b"[unknown]")?,
+    }
+    Ok(())
+}
+
+/// Appends what a frame is called, by mappings in order.
+fn push_frame(
+    alloc: Global,
+    line: &mut Vec<u8>,
+    files: &Files,
+    mappings: &[Mapping],
+    frame: FrameAddress,
+) -> Result<(), AllocError>
+    requires { IsInOrder 0 mappings.now }
+    ensures { OnOk result (line.new.items ≡ line.old.items ++ frame_label files.now mappings.now (location_of frame)) }
+{
+    let place = place_of(files, mappings, frame.address_for_lookup());
+    push_label(alloc, line, place)
+}
+
+/// Appends the frames of a stack from the outermost on, each after a `;`.
+fn push_frames(
+    alloc: Global,
+    line: &mut Vec<u8>,
+    files: &Files,
+    mappings: &[Mapping],
+    frames: &Vec<FrameAddress>,
+) -> Result<(), AllocError>
+    requires { IsInOrder 0 mappings.now }
+    ensures { OnOk result (line.new.items ≡ line.old.items
+        ++ frames_text (λ frame. frame_label files.now mappings.now (location_of frame)) frames.now.items) }
+{
+    for frame in frames.iter().rev() {
+        line.push(b';')?;
+        push_frame(alloc, line, files, mappings, *frame)?;
+    }
+    Ok(())
+}
+
+/// Appends a mark after a `;`.
+fn push_mark(line: &mut Vec<u8>, name: &str) -> Result<(), AllocError>
+    ensures { OnOk result (line.new.items ≡ line.old.items ++ mark name.now) }
+{
+    line.extend_from_slice(b";[")?;
+    line.extend_from_slice(name.as_bytes())?;
+    line.extend_from_slice(b"]")?;
+    Ok(())
+}
+
+/// Appends the mark of a walk that did not reach the root.
+fn push_end(line: &mut Vec<u8>, end: WalkEnd) -> Result<(), AllocError>
+    ensures { OnOk result (line.new.items ≡ line.old.items ++ mark_of (end_of end)) }
+{
+    match end {
+        WalkEnd::Root => Ok(()),
+        WalkEnd::Limit => push_mark(line, "limit"),
+        WalkEnd::Refused(error) => push_mark(line, refusal_name(error)),
+    }
+}
+
+/// Returns the line of a stack without its count, by the name of its thread and by its process's mappings
+/// in order.
+#[tactic(auto, unfolding(crate::specs::Line::line_of))]
+pub fn folded_line(
+    alloc: Global,
+    files: &Files,
+    mappings: &[Mapping],
+    name: &[u8],
+    stack: &Stack,
+) -> Result<Vec<u8>, AllocError>
+    requires { IsInOrder 0 mappings.now }
+    ensures { IfOk result (λ line. line.items ≡ line_of name.now (end_of stack.now.end)
+        (frame_label files.now mappings.now) (map location_of stack.now.frames.items)) }
+{
+    let mut line = Vec::new(alloc);
+    push_name(&mut line, name)?;
+    push_end(&mut line, stack.end)?;
+    push_frames(alloc, &mut line, files, mappings, &stack.frames)?;
+    Ok(line)
+}
+
+/// Returns the line of a sample that has no stack, without its count, by the name of its thread.
+#[tactic(auto, unfolding(crate::specs::Line::refused_line))]
+pub fn refused_line(alloc: Global, name: &[u8], why: &str) -> Result<Vec<u8>, AllocError>
+    ensures { IfOk result (λ line. line.items ≡ refused_line name.now why.now) }
+{
+    let mut line = Vec::new(alloc);
+    push_name(&mut line, name)?;
+    push_mark(&mut line, why)?;
+    Ok(line)
+}
+
+/// Appends where a place is.
+#[tactic(auto, unfolding(crate::specs::Line::described))]
+fn push_place(alloc: Global, line: &mut Vec<u8>, place: Place<'_>) -> Result<(), AllocError>
+    ensures { OnOk result (line.new.items ≡ line.old.items ++ described (place_view place.entry)) }
+{
+    match place {
+        Place::Function { file, name, offset } => {
+            push_name(line, name)?;
+            push_offset(alloc, line, offset)?;
+            line.extend_from_slice(b" (")?;
+            push_name(line, file)?;
+            line.extend_from_slice(b")")?;
+        }
+        Place::File { file, address } => {
+            line.extend_from_slice(b"[unknown] (")?;
+            push_name(line, file)?;
+            push_offset(alloc, line, address)?;
+            line.extend_from_slice(b")")?;
+        }
+        Place::Unmapped => line.extend_from_slice(b"[unknown] ([unknown])")?,
+    }
+    Ok(())
+}
+
+/// Appends the line of a frame in a block, by mappings in order.
+fn push_frame_line(
+    alloc: Global,
+    block: &mut Vec<u8>,
+    files: &Files,
+    mappings: &[Mapping],
+    frame: FrameAddress,
+) -> Result<(), AllocError>
+    requires { IsInOrder 0 mappings.now }
+    ensures { OnOk result (block.new.items ≡ block.old.items ++ frame_line files.now mappings.now (location_of frame)) }
+{
+    let address = frame.address();
+    let text = format!(in alloc; "{address:x} ")?;
+    block.extend_from_slice(text.as_bytes())?;
+    let place = place_of(files, mappings, frame.address_for_lookup());
+    push_place(alloc, block, place)?;
+    block.push(b'\n')?;
+    Ok(())
+}
+
+/// Appends the lines of a stack's frames, the innermost first, by mappings in order.
+fn push_frame_lines(
+    alloc: Global,
+    block: &mut Vec<u8>,
+    files: &Files,
+    mappings: &[Mapping],
+    frames: &Vec<FrameAddress>,
+) -> Result<(), AllocError>
+    requires { IsInOrder 0 mappings.now }
+    ensures { OnOk result (block.new.items ≡ block.old.items
+        ++ flat_map (λ frame. frame_line files.now mappings.now (location_of frame)) frames.now.items) }
+{
+    for frame in frames {
+        push_frame_line(alloc, block, files, mappings, *frame)?;
+    }
+    Ok(())
+}
+
+/// Appends the last line of a block, and a blank line.
+fn push_last_line(block: &mut Vec<u8>, end: &str) -> Result<(), AllocError>
+    ensures { OnOk result (block.new.items ≡ block.old.items ++ last_line end.now) }
+{
+    block.extend_from_slice(b"[")?;
+    block.extend_from_slice(end.as_bytes())?;
+    block.extend_from_slice(b"]\n\n")?;
+    Ok(())
+}
+
+/// Returns the lines of a stack's frames and of its end, by its process's mappings in order.
+pub fn frames_block(
+    alloc: Global,
+    files: &Files,
+    mappings: &[Mapping],
+    stack: &Stack,
+) -> Result<Vec<u8>, AllocError>
+    requires { IsInOrder 0 mappings.now }
+    ensures { IfOk result (λ block. block.items ≡ block_of (end_of stack.now.end)
+        (frame_line files.now mappings.now) (map location_of stack.now.frames.items)) }
+{
+    let mut block = Vec::new(alloc);
+    push_frame_lines(alloc, &mut block, files, mappings, &stack.frames)?;
+    push_last_line(&mut block, end_name(stack.end))?;
+    Ok(block)
+}
+
+/// Returns the last line of the block of a sample that has no stack.
+pub fn refused_block(alloc: Global, why: &str) -> Result<Vec<u8>, AllocError>
+    ensures { IfOk result (λ block. block.items ≡ last_line why.now) }
+{
+    let mut block = Vec::new(alloc);
+    push_last_line(&mut block, why)?;
+    Ok(block)
+}
+
+/// Returns the time of a sample with which the head of its block ends.
+fn time_text(alloc: Global, time: Option<u64>) -> Result<String, AllocError>
+    ensures { IfOk result (λ text. string_bytes text ≡ time_text time) }
+{
+    match time {
+        Some(time) => Ok(format!(in alloc; " {time}:\n")?),
+        None => Ok(format!(in alloc; ":\n")?),
+    }
+}
+
+/// Returns the head of a sample's block, by the name of its thread.
+#[tactic(auto, unfolding(crate::specs::Line::head_of))]
+pub fn block_head(
+    alloc: Global,
+    name: &[u8],
+    pid: u32,
+    tid: u32,
+    time: Option<u64>,
+) -> Result<Vec<u8>, AllocError>
+    ensures { IfOk result (λ head. head.items ≡ head_of name.now pid tid time) }
+{
+    let mut head = Vec::new(alloc);
+    push_name(&mut head, name)?;
+    let numbers = format!(in alloc; " {pid}/{tid}")?;
+    head.extend_from_slice(numbers.as_bytes())?;
+    let time = time_text(alloc, time)?;
+    head.extend_from_slice(time.as_bytes())?;
+    Ok(head)
+}

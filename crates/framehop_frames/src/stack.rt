@@ -1,0 +1,10 @@
+//! The stack of a thread at a time.
+use framehop::FrameAddress;
+use framehop::session::WalkEnd;
+
+/// The frames of a stack, the innermost first, and how the walk ended.
+#[derive(Drop)]
+pub struct Stack {
+    pub frames: Vec<FrameAddress>,
+    pub end: WalkEnd,
+}

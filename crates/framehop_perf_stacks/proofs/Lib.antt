@@ -1,0 +1,5 @@
+mod ServedLemmas
+mod StateLemmas
+mod TakenLemmas
+mod EventLemmas
+mod SoFarLemmas

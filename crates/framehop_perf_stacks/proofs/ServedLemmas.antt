@@ -1,0 +1,60 @@
+-- What a walk keeps of the processes.
+use Rattle.std.proofs.Common.{◌≡◌, ℕ, ◌<◌, ◌≤◌, Option, Some, None, IfSome, arith, [], map, ap, sym, ◌∙◌}
+use Rattle.std.specs.Prelude.{unwrap_or, option_map}
+use Rattle.std.specs.BTreeMap.{BTreeMap, get}
+use Rattle.std.specs.Ordering.{nat_cmp}
+use Rattle.framehop.specs.Modules.{ModuleView, UnwinderView}
+use Rattle.framehop.specs.Soundness.{AreApart}
+use Rattle.framehop_processes.specs.Process.{ProcessView}
+use Rattle.framehop_processes.specs.declared.mapping.Mapping.{Mapping}
+use Rattle.framehop_perf_stacks.specs.Processes.{mapped_in, IsFit, IsServed}
+
+-- an unwinder of a later generation is apart from one that was drawn
+pub later-apart : (unwinder later : UnwinderView) (next : ℕ) → unwinder.generation < next → next ≤ later.generation
+    → AreApart unwinder later
+later-apart unwinder later next drawn at_least = λ same. absurd (omega (arith, same, drawn, at_least))
+
+-- the mappings of a known process, and its modules
+mapped-known : (processes : BTreeMap ℕ ProcessView) (pid : ℕ) (process : ProcessView) → get nat_cmp processes pid ≡ Some process
+    → mapped_in processes pid ≡ process.mappings
+mapped-known processes pid process here =
+    ap (λ found. unwrap_or (option_map (λ (p : ProcessView). p.mappings) found) []) here
+
+pub fit-known : (module_of : Mapping → ModuleView) (is_sound : UnwinderView → Type 0) (processes : BTreeMap ℕ ProcessView)
+    (next pid : ℕ) (process : ProcessView) → get nat_cmp processes pid ≡ Some process
+    → IsServed module_of is_sound processes next → IsFit module_of is_sound processes next process
+fit-known module_of is_sound processes next pid process here served = rw here at (served.each pid)
+
+pub modules-known : (module_of : Mapping → ModuleView) (is_sound : UnwinderView → Type 0) (processes : BTreeMap ℕ ProcessView)
+    (next pid : ℕ) (process : ProcessView) → get nat_cmp processes pid ≡ Some process
+    → IsServed module_of is_sound processes next → process.unwinder.modules ≡ map module_of (mapped_in processes pid)
+modules-known module_of is_sound processes next pid process here served =
+    (fit-known module_of is_sound processes next pid process here served).modules
+    ∙ ap (map module_of) (sym (mapped-known processes pid process here))
+
+module _ (module_of : Mapping → ModuleView) (old new : UnwinderView → Type 0) (processes : BTreeMap ℕ ProcessView)
+    (next : ℕ) (process : ProcessView)
+    (keeps : (other : UnwinderView) → AreApart process.unwinder other → old other → new other) where
+  -- a process stays fit
+  fit-after : (found : Option ProcessView) → IfSome found (IsFit module_of old processes next)
+      → IfSome found (λ other. AreApart process.unwinder other.unwinder) → IfSome found (IsFit module_of new processes next)
+  fit-after (Some other) fit apart = record {
+    modules = fit.modules;
+    drawn = fit.drawn;
+    sound = keeps other.unwinder apart fit.sound;
+    apart = fit.apart;
+  }
+  fit-after None fit apart = fit
+
+  after-walk : IsFit module_of old processes next process → IsServed module_of old processes next
+      → IsServed module_of new processes next
+  after-walk fit served = record {
+    each = λ pid. fit-after (get nat_cmp processes pid) (served.each pid) (fit.apart pid);
+    later = λ unwinder at_least. keeps unwinder (later-apart process.unwinder unwinder next fit.drawn at_least)
+        (served.later unwinder at_least);
+  }
+
+  -- after a walk with the unwinder of a process, what holds of the processes holds of them over the cache after it
+  pub served-after : (pid : ℕ) → get nat_cmp processes pid ≡ Some process → IsServed module_of old processes next
+      → IsServed module_of new processes next
+  served-after pid here served = after-walk (rw here at (served.each pid)) served

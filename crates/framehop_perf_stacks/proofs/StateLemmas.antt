@@ -1,0 +1,107 @@
+-- States that agree lead to states that agree, and a sample has the same text at both.
+use Rattle.std.proofs.Common.{◌≡◌, ℕ, Bool, true, false, cond, List, map, Option, Some, None, Result, Ok, Err, refl, ap, ◌∙◌, subst}
+use Rattle.std.specs.Prelude.{◌==◌, ◌||◌}
+use Rattle.framehop_core.specs.CodeAddress.{FrameLocation}
+use Rattle.framehop_core.specs.Memory.{Memory}
+use Rattle.framehop_core.specs.Outcome.{Outcome}
+use Rattle.framehop.specs.Modules.{ModuleView}
+use Rattle.framehop_processes.specs.Mappings.{with_mapping}
+use Rattle.framehop_processes.specs.declared.mapping.Mapping.{Mapping}
+use Rattle.framehop_recording.specs.Numbers.{PERF_RECORD_MMAP, PERF_RECORD_MMAP2, PERF_RECORD_COMM, PERF_RECORD_FORK}
+use Rattle.framehop_recording.specs.Records.{RecordView}
+use Rattle.framehop_recording.specs.Sample.{SampleView}
+use Rattle.framehop_recording.specs.Tasks.{CommandView, command_at, task_at}
+use Rattle.framehop_recording.specs.declared.error.RecordingError.{RecordingError}
+use Rattle.framehop_recording.specs.declared.tasks.Task.{Task}
+use Rattle.framehop_perf_stacks.specs.Changes.{change_in}
+use Rattle.framehop_frames.specs.Line.{head_of}
+use Rattle.framehop_perf_stacks.specs.Names.{Named, named_by, named_as_parent, named_after}
+use Rattle.framehop_perf_stacks.specs.Processes.{Mapped, after}
+use Rattle.framehop_perf_stacks.specs.Samples.{State, mapped_by, IsUserStack, IsTextAt}
+use Rattle.framehop_frames.specs.Stack.{stack_text}
+use Rattle.framehop_perf_stacks.specs.declared.changes.Change.{Change}
+use Rattle.framehop_perf_stacks.specs.declared.changes.Change.TheVariants.{Map, Begin, Fork}
+use Rattle.framehop_symbols.specs.declared.files.Files.{Files}
+use Rattle.framehop_frames.specs.declared.machine.Start.{Start}
+
+-- a choice between values that are the same is the same
+cond-same : {A : Type 0} (b : Bool) (x x' y y' : A) → x ≡ x' → y ≡ y' → cond b x y ≡ cond b x' y'
+cond-same true x x' y y' e f = e
+cond-same false x x' y y' e f = f
+
+-- a choice between functions, at an argument
+cond-at : {A B : Type 0} (b : Bool) (f g : A → B) (a : A) → cond b f g a ≡ cond b (f a) (g a)
+cond-at true f g a = refl
+cond-at false f g a = refl
+
+module _ (named other : Named) (same : (tid : ℕ) → named tid ≡ other tid) where
+  by-command : (read : Result CommandView RecordingError) (tid : ℕ) → named_by read named tid ≡ named_by read other tid
+  by-command (Ok command) tid =
+      cond-same (tid == command.tid) command.name command.name (named tid) (other tid) refl (same tid)
+  by-command (Err refusal) tid = same tid
+
+  by-parent : (read : Result Task RecordingError) (tid : ℕ) → named_as_parent read named tid ≡ named_as_parent read other tid
+  by-parent (Ok task) tid =
+      cond-same (tid == task.tid) (named task.parent_tid) (other task.parent_tid) (named tid) (other tid) (same task.parent_tid) (same tid)
+  by-parent (Err refusal) tid = same tid
+
+  by-kind : (is_command is_task : Bool) (command : Result CommandView RecordingError) (task : Result Task RecordingError) (tid : ℕ)
+      → cond is_command (named_by command named) (cond is_task (named_as_parent task named) named) tid
+      ≡ cond is_command (named_by command other) (cond is_task (named_as_parent task other) other) tid
+  by-kind true is_task command task tid = by-command command tid
+  by-kind false true command task tid = by-parent task tid
+  by-kind false false command task tid = same tid
+
+  pub named-same : (r : RecordView) (tid : ℕ) → named_after r named tid ≡ named_after r other tid
+  named-same r tid =
+      by-kind (r.kind == PERF_RECORD_COMM) (r.kind == PERF_RECORD_FORK) (command_at r) (task_at r) tid
+
+module _ (mapped other : Mapped) (same : (pid : ℕ) → mapped pid ≡ other pid) where
+  after-same : (change : Change) (pid : ℕ) → after change mapped pid ≡ after change other pid
+  after-same (Map number mapping) pid =
+      cond-same (pid == number) (with_mapping mapping (mapped number)) (with_mapping mapping (other number)) (mapped pid) (other pid)
+      (ap (with_mapping mapping) (same number)) (same pid)
+  after-same (Begin number) pid = cond-same (pid == number) _ _ (mapped pid) (other pid) refl (same pid)
+  after-same (Fork number parent) pid =
+      cond-same (pid == number) (mapped parent) (other parent) (mapped pid) (other pid) (same parent) (same pid)
+
+  by-change : (read : Result (Option Change) RecordingError) (pid : ℕ) → mapped_by read mapped pid ≡ mapped_by read other pid
+  by-change (Ok (Some change)) pid = after-same change pid
+  by-change (Ok None) pid = same pid
+  by-change (Err refusal) pid = same pid
+
+  pub mapped-same : (files : Files) (r : RecordView) (pid : ℕ) → mapped_by (change_in files r) mapped pid ≡ mapped_by (change_in files r) other pid
+  mapped-same files r pid = by-change (change_in files r) pid
+
+module _ {Regs : Type 0} (module_of : Mapping → ModuleView)
+    (step_by : List ModuleView → FrameLocation → Regs → Memory → Outcome Regs)
+    (starts : List ModuleView → ℕ → List ℕ → Option (Start Regs) → Type 0) (frames : Bool) (limit : ℕ) (files : Files)
+    (state other : State) (named : (tid : ℕ) → state.named tid ≡ other.named tid)
+    (mapped : (pid : ℕ) → state.mapped pid ≡ other.mapped pid) where
+  pub text-same : (sample : Result (SampleView × ℕ) RecordingError) (text : List ℕ)
+      → IsTextAt module_of step_by starts frames limit files state sample text
+      → IsTextAt module_of step_by starts frames limit files other sample text
+  text-same (Ok sample) text told =
+      let pid = sample.0.pid in
+      let tid = sample.0.tid in
+      let P : List Mapping → Type 0 = λ mappings. IsUserStack step_by starts limit (map module_of mappings) sample.1 sample.0.user told.0 in (
+        told.0,
+        subst P (mapped pid) told.1,
+        told.2
+            ∙ ap (λ name. stack_text frames files name (head_of name pid tid sample.0.time) (state.mapped pid) told.0) (named tid)
+            ∙ ap (λ mappings. stack_text frames files (other.named tid) (head_of (other.named tid) pid tid sample.0.time) mappings told.0) (mapped pid),
+      )
+  text-same (Err refusal) text told = told
+
+-- a record of another kind changes nothing
+module _ (r : RecordView) (maps : ((r.kind == PERF_RECORD_MMAP) || (r.kind == PERF_RECORD_MMAP2)) ≡ false)
+    (names : (r.kind == PERF_RECORD_COMM) ≡ false) (forks : (r.kind == PERF_RECORD_FORK) ≡ false) where
+  pub named-kept : (named : Named) (tid : ℕ) → named_after r named tid ≡ named tid
+  named-kept named tid = rw (names, forks) refl
+
+  change-none : (files : Files) → change_in files r ≡ Ok None
+  unfolding change_in
+  change-none files = rw (maps, names, forks) refl
+
+  pub mapped-kept : (files : Files) (mapped : Mapped) (pid : ℕ) → mapped_by (change_in files r) mapped pid ≡ mapped pid
+  mapped-kept files mapped pid = ap (λ change. mapped_by change mapped pid) (change-none files)

@@ -1,0 +1,94 @@
+-- Texts that are taken one after another.
+use Rattle.std.proofs.Common.{◌≡◌, ℕ, zero, suc, ◌+◌, Bool, true, false, nat_eq, List, [], ◌∷◌, ◌++◌, Option, Some, None, Result, Ok, Err, OnOk, cond, refl, ap, sym, ◌∙◌, subst, append-nil, true≢false, arith}
+use Rattle.std.specs.Prelude.{unwrap_or}
+use Rattle.std.specs.Cmp.Lexicographic.{pointwise, same_text, other_text}
+use Rattle.std.specs.Io.KnownBytes.{Appends}
+use Rattle.std.specs.List.{flat_map}
+use Rattle.std.specs.Result.{IfOk, is_err, result_and}
+use Rattle.std.proofs.lemmas.List.{flat_map_more}
+use Rattle.std.proofs.lemmas.List.Sums.{sum_by_push}
+use Rattle.std.proofs.KnownBytes.{Appends-trans}
+use Rattle.framehop_folded.specs.Folded.{entry_of, count_in}
+use Rattle.framehop_folded.specs.declared.folded.Folded.{Folded}
+use Rattle.framehop_perf_stacks.specs.Counts.{CountsOneMore}
+use Rattle.framehop_frames.specs.Explained.{IsShown}
+use Rattle.framehop_perf_stacks.specs.Samples.{Each, occurrences, more, IsTaken, AreTaken, IsMade}
+
+-- one more of each list
+pub Each-more : {A B : Type 0} (R : A → B → Type 0) (xs : List A) (ys : List B) (a : A) (b : B) → Each R xs ys → R a b
+    → Each R (xs ++ a ∷ []) (ys ++ b ∷ [])
+Each-more R [] [] a b each last = (last, tt)
+Each-more R [] (y ∷ ys) a b each last = absurd each
+Each-more R (x ∷ xs) [] a b each last = absurd each
+Each-more R (x ∷ xs) (y ∷ ys) a b each last = (each.0, Each-more R xs ys a b each.1 last)
+
+occurrences-more : (line : List ℕ) (texts : List (List ℕ)) (text : List ℕ) (b : Bool) → b ≡ pointwise nat_eq line text
+    → occurrences line (texts ++ text ∷ []) ≡ occurrences line texts + cond b 1 0
+occurrences-more line texts text b e =
+    sum_by_push (λ t. cond (pointwise nat_eq line t) 1 0) texts text
+    ∙ ap (λ c. occurrences line texts + cond c 1 0) (sym e)
+
+more-one : (entry : Option ℕ) (n : ℕ) → Some (unwrap_or (more entry n) 0 + 1) ≡ more entry (n + 1)
+more-one entry zero = refl
+more-one entry (suc n) =
+    let next : suc n + 1 ≡ suc (suc n) = omega arith in
+    let sum : unwrap_or entry 0 + suc n + 1 ≡ unwrap_or entry 0 + suc (suc n) = omega arith in
+    ap Some sum ∙ ap (more entry) (sym next)
+
+module _ (texts : List (List ℕ)) (text : List ℕ) (old mid new : Folded)
+    (before : (line : List ℕ) → entry_of mid line ≡ more (entry_of old line) (occurrences line texts))
+    (one : CountsOneMore mid new text) where
+  counted-by : (line : List ℕ) (b : Bool) → b ≡ pointwise nat_eq line text
+      → entry_of new line ≡ more (entry_of old line) (occurrences line texts + cond b 1 0)
+  counted-by line true e =
+      let same : line ≡ text = same_text line text e in
+      ap (entry_of new) same ∙ one.counted ∙ ap (λ l. Some (count_in mid l + 1)) (sym same)
+      ∙ ap (λ entry. Some (unwrap_or entry 0 + 1)) (before line) ∙ more-one (entry_of old line) (occurrences line texts)
+  counted-by line false e =
+      one.others line (other_text line text e) ∙ before line
+      ∙ ap (more (entry_of old line)) (omega arith)
+
+  pub counted-more : (line : List ℕ) → entry_of new line ≡ more (entry_of old line) (occurrences line (texts ++ text ∷ []))
+  counted-more line =
+      counted-by line (pointwise nat_eq line text) refl
+      ∙ ap (more (entry_of old line)) (sym (occurrences-more line texts text (pointwise nat_eq line text) refl))
+
+-- a text that is taken after others
+pub AreTaken-more : (frames explain : Bool) (texts : List (List ℕ)) (text : List ℕ) (old mid new : Folded) (first before after : Option (List ℕ))
+    → AreTaken frames explain texts old mid first before → IsTaken frames explain text mid new before after
+    → AreTaken frames explain (texts ++ text ∷ []) old new first after
+AreTaken-more true explain texts text old mid new first before after taken one =
+    let shown = taken.1.0 in
+    let last = one.1.0 in (
+      one.0 ∙ taken.0,
+      (
+        shown ++ last ∷ [],
+        Each-more (IsShown explain) texts shown text last taken.1.1 one.1.1,
+        subst (λ bytes. Appends first after bytes) (flat_map_more (λ t. t) [] shown last)
+            (Appends-trans first before after (flat_map (λ t. t) shown) last taken.1.2 one.1.2),
+      ),
+    )
+AreTaken-more false explain texts text old mid new first before after taken one =
+    (counted-more texts text old mid new taken.0 one.0, one.1 ∙ taken.1)
+
+-- nothing that is taken
+pub AreTaken-none : (frames explain : Bool) (folded : Folded) (bytes : Option (List ℕ)) → AreTaken frames explain [] folded folded bytes bytes
+AreTaken-none true explain folded None = (refl, ([], tt, tt))
+AreTaken-none true explain folded (Some bytes) = (refl, ([], tt, sym (append-nil bytes)))
+AreTaken-none false explain folded bytes = (λ line. refl, refl)
+
+-- what is made of all texts
+pub made : (frames explain : Bool) (texts : List (List ℕ)) (old new : Folded) (before after : Option (List ℕ))
+    → AreTaken frames explain texts old new before after → ((line : List ℕ) → entry_of old line ≡ None) → IsMade frames explain texts new before after
+made true explain texts old new before after taken none = (λ line. ap (λ folded. entry_of folded line) taken.0 ∙ none line, taken.1)
+made false explain texts old new before after taken none =
+    (λ line. taken.0 line ∙ ap (λ entry. more entry (occurrences line texts)) (none line), taken.1)
+
+-- what holds where the second of two results is `Ok`, holds where both are
+pub both_ok : {T U E : Type 0} {A : Type 0} (first : Result T E) (second : Result U E) (value : U) → result_and first second ≡ Ok value → OnOk second A → A
+both_ok (Ok x) (Ok y) value is told = told
+both_ok (Ok x) (Err refusal) value is told = absurd (true≢false (ap is_err is))
+both_ok (Err refusal) second value is told = absurd (true≢false (ap is_err is))
+
+pub at_ok : {T E : Type 0} (result : Result T E) (value : T) (P : T → Type 0) → result ≡ Ok value → P value → IfOk result P
+at_ok result value P is holds = subst (λ r. IfOk r P) (sym is) holds

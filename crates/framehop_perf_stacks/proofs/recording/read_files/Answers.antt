@@ -1,0 +1,38 @@
+use Rattle.std.proofs.Common.{◌≡◌, ◌<◌, List, [], map, drop, length, refl, sym, subst, arith}
+use Rattle.std.proofs.lemmas.List.{at_drop_all}
+use Rattle.framehop_recording.specs.BuildIds.{file_build_id_view}
+use Rattle.framehop_recording.specs.Records.{RecordView}
+use Rattle.framehop_perf_stacks.specs.Files.{AreAdded}
+use Rattle.framehop_perf_stacks.specs.Recording.{records_in}
+use Rattle.framehop_perf_stacks.proofs.SoFarLemmas.{records-left}
+use Rattle.framehop_perf_stacks.proofs.recording.read_files.Goals as goal
+
+pub loop-timed-init : goal.loop-timed-init
+loop-timed-init g c = (c.in_ok-files.files, c.in_ok-files.ensures, λ last added. added)
+
+pub loop-timed-preserved : goal.loop-timed-preserved
+loop-timed-preserved g c =
+    let l = c.loop-timed in
+    let gives = g.S.FileSource.gives c.args.source.now in
+    let gives_debug = g.S.FileSource.gives_debug c.args.source.now in
+    let build_ids = map file_build_id_view c.args.recording.now.build_ids.items in
+    let records = c.args.recording.now.records.items in
+    let items = c.deref-timed-items.result.now in
+    let within : l.timed-index < length items = omega arith in
+    let left = records-left items records c.deref-timed-items.ensures.value l.timed-index _ within in (
+      l.invariant.0,
+      l.invariant.1,
+      λ last rest. l.invariant.2 last
+          (subst (λ records. AreAdded gives gives_debug build_ids records l.files last) (sym left) (c.add_file.new.files, c.in_ok-add_file.ensures, rest)),
+    )
+
+pub returns : goal.returns
+returns g c =
+    let l = c.loop-timed in
+    let records = c.args.recording.now.records.items in
+    let none : records_in (drop l.timed-index records) ≡ [] = at_drop_all records_in records l.timed-index (omega arith) in (
+      l.invariant.0,
+      l.invariant.1,
+      l.invariant.2 l.files (subst (λ (records : List RecordView). AreAdded (g.S.FileSource.gives c.args.source.now) (g.S.FileSource.gives_debug c.args.source.now)
+          (map file_build_id_view c.args.recording.now.build_ids.items) records l.files l.files) (sym none) refl),
+    )

@@ -1,0 +1,15 @@
+use Rattle.std.proofs.Common.{map, drop}
+use Rattle.framehop_recording.specs.BuildIds.{file_build_id_view}
+use Rattle.framehop_symbols.specs.Files.{IsWithoutFiles}
+use Rattle.framehop_perf_stacks.specs.Files.{AreAdded}
+use Rattle.framehop_perf_stacks.specs.Recording.{records_in}
+use Rattle.framehop_symbols.specs.declared.files.Files.{Files}
+use Rattle.framehop_perf_stacks.proofs.recording.read_files.Given as goal
+
+abbrev pub invariant-loop-timed : goal.invariant-loop-timed
+invariant-loop-timed g l =
+    (none : Files) × IsWithoutFiles none × ((last : Files)
+    → AreAdded (g.S.FileSource.gives l.source) (g.S.FileSource.gives_debug l.source) (map file_build_id_view l.recording.build_ids.items)
+    (records_in (drop l.timed-index l.recording.records.items)) l.files last
+    → AreAdded (g.S.FileSource.gives l.source) (g.S.FileSource.gives_debug l.source) (map file_build_id_view l.recording.build_ids.items)
+    (records_in l.recording.records.items) none last)

@@ -1,0 +1,85 @@
+use Rattle.std.proofs.Common.{◌≡◌, ◌+◌, ◌<◌, ◌++◌, [], map, take, drop, length, refl, ap, sym, ◌∙◌, subst, append-nil, arith}
+use Rattle.std.specs.List.{count_by}
+use Rattle.std.proofs.lemmas.List.{at_drop_all}
+use Rattle.framehop_recording.specs.Attributes.{attribute_view}
+use Rattle.framehop_perf_stacks.specs.Recording.{records_in, sample_in}
+use Rattle.framehop_perf_stacks.specs.Run.{AreCounted, is_sample}
+use Rattle.framehop_perf_stacks.specs.Samples.{state_over, samples_from, Agrees, Each, IsTextOf}
+use Rattle.framehop_perf_stacks.proofs.SoFarLemmas.{IsSoFar, step, records-left, samples-next}
+use Rattle.framehop_perf_stacks.proofs.StateLemmas.{text-same}
+use Rattle.framehop_perf_stacks.proofs.TakenLemmas.{AreTaken-none}
+use Rattle.framehop_perf_stacks.proofs.run.Run.take_records.Goals as goal
+
+pub loop-timed-init : goal.loop-timed-init
+loop-timed-init g c = (
+  c.requires.served,
+  c.requires.none,
+  λ first agrees. record {
+    state = first;
+    told = [];
+    texts = [];
+    agrees = agrees;
+    leads = refl;
+    samples = refl;
+    each = tt;
+    taken = AreTaken-none c.args.options.frames c.args.options.explain c.args.self.now.counts.stacks (g.W.Write.contents c.args.out.now);
+  },
+)
+
+pub loop-timed-preserved : goal.loop-timed-preserved
+loop-timed-preserved g c =
+    let l = c.loop-timed in
+    let records = c.args.recording.now.records.items in
+    let attributes = map attribute_view c.args.recording.now.events.attributes.items in
+    let module_of = g.M.ModuleMaker.module_of c.args.maker.now in
+    let text = text-same module_of g.U.Steps.step_by g.U.Sampled.starts c.args.options.frames c.args.options.limit c.args.files.now in
+    let after = c.in_ok-take_record.ensures in
+    let items = c.deref-timed-items.result.now in
+    let same = c.deref-timed-items.ensures.value in
+    let within : l.timed-index < length items = omega arith in
+    let before = count_by is_sample (take l.timed-index records) in (
+      after.served,
+      subst (λ samples. AreCounted c.args.options.frames samples c.take_record.new.self.counts)
+          (samples-next items records same l.timed-index _ within) (after.counted before l.invariant.1),
+      λ first agrees.
+          let so = l.invariant.2 first agrees in
+          let left = records-left items records same l.timed-index _ within in
+          step c.args.files.now
+          (IsTextOf module_of g.U.Steps.step_by g.U.Sampled.starts c.args.options.frames c.args.options.limit c.args.files.now attributes)
+          (λ r state other named mapped. text state other named mapped (sample_in attributes r))
+          c.args.options.frames c.args.options.explain (records_in records) first c.args.self.now.counts.stacks (g.W.Write.contents c.args.out.now)
+          _ (records_in (drop (l.timed-index + 1) records)) l.self.names c.take_record.new.self.names
+          l.self.processes.by_pid c.take_record.new.self.processes.by_pid l.self.counts.stacks c.take_record.new.self.counts.stacks
+          (g.W.Write.contents l.out) (g.W.Write.contents c.take_record.new.out)
+          (subst (λ rest. IsSoFar c.args.files.now
+          (IsTextOf module_of g.U.Steps.step_by g.U.Sampled.starts c.args.options.frames c.args.options.limit c.args.files.now attributes)
+          c.args.options.frames c.args.options.explain (records_in records) first c.args.self.now.counts.stacks (g.W.Write.contents c.args.out.now) rest
+          l.self.names l.self.processes.by_pid l.self.counts.stacks (g.W.Write.contents l.out)) left so)
+          after.state after.sample
+          (λ kind. let same = after.other kind in (same.0, ap (λ out. g.W.Write.contents out) same.1)),
+    )
+
+pub returns-clause-state : goal.returns-clause-state
+returns-clause-state g c = λ first agrees.
+    let l = c.loop-timed in
+    let records = c.args.recording.now.records.items in
+    let so = l.invariant.2 first agrees in
+    let last : state_over c.args.files.now (records_in (drop l.timed-index records)) so.state ≡ so.state =
+    at_drop_all (λ rest. state_over c.args.files.now (records_in rest) so.state) records l.timed-index (omega arith) in
+    subst (λ state. Agrees l.self.names l.self.processes.by_pid state) (sym last ∙ so.leads) so.agrees
+
+pub returns-clause-told : goal.returns-clause-told
+returns-clause-told g c = λ first agrees.
+    let l = c.loop-timed in
+    let files = c.args.files.now in
+    let records = c.args.recording.now.records.items in
+    let so = l.invariant.2 first agrees in
+    let none : samples_from files so.state (records_in (drop l.timed-index records)) ≡ [] =
+    at_drop_all (λ rest. samples_from files so.state (records_in rest)) records l.timed-index (omega arith) in
+    let all : so.told ≡ samples_from files first (records_in records) =
+    sym (append-nil so.told) ∙ ap (λ rest. so.told ++ rest) (sym none) ∙ so.samples in (
+      so.texts,
+      subst (λ told. Each (IsTextOf (g.M.ModuleMaker.module_of c.args.maker.now) g.U.Steps.step_by g.U.Sampled.starts
+          c.args.options.frames c.args.options.limit files (map attribute_view c.args.recording.now.events.attributes.items)) told so.texts) all so.each,
+      so.taken,
+    )

@@ -1,0 +1,39 @@
+-- The files of a recording.
+use Rattle.std.specs.Prelude.{◌≡◌, ℕ, nat_eq, unwrap_or, option_map, List, [], ◌∷◌, Option, Some, None}
+use Rattle.std.specs.Cmp.Lexicographic.{pointwise}
+use Rattle.std.specs.List.{find}
+use Rattle.framehop_recording.specs.BuildIds.{FileBuildIdView}
+use Rattle.framehop_recording.specs.Mapping.{MappingView}
+use Rattle.framehop_recording.specs.Records.{RecordView}
+use Rattle.framehop_symbols.specs.Files.{IsWithoutFiles, IsAdded}
+use Rattle.framehop_symbols.specs.declared.files.Files.{Files}
+use Rattle.framehop_perf_stacks.specs.Changes.{code_mapping_in}
+
+-- the build id that a recording has of the file of a name: the first, or no bytes
+abbrev pub build_id_for : List FileBuildIdView → List ℕ → List ℕ
+build_id_for build_ids name =
+    unwrap_or (option_map (λ b. b.build_id) (find (λ b. pointwise nat_eq b.name name) build_ids)) []
+
+abbrev pub wanted_by : List FileBuildIdView → List ℕ → List ℕ → List ℕ
+wanted_by build_ids name [] = build_id_for build_ids name
+wanted_by build_ids name (byte ∷ bytes) = byte ∷ bytes
+
+abbrev pub wanted_for : List FileBuildIdView → MappingView → List ℕ
+wanted_for build_ids m = wanted_by build_ids m.name m.build_id
+
+module _ (gives gives_debug : List ℕ → Option (List ℕ) → Type 0) where
+  -- The files after a record: that of a mapping of code is added. The build id that is wanted of it is the mapping's, or
+  -- else the one that the recording has of its name.
+  abbrev pub IsAddedFor : List FileBuildIdView → Option MappingView → Files → Files → Type 0
+  IsAddedFor build_ids (Some m) old new = IsAdded gives gives_debug m.name (wanted_for build_ids m) old new
+  IsAddedFor build_ids None old new = new ≡ old
+
+  -- the same of records, one after another
+  abbrev pub AreAdded : List FileBuildIdView → List RecordView → Files → Files → Type 0
+  AreAdded build_ids [] old new = new ≡ old
+  AreAdded build_ids (r ∷ records) old new =
+      (between : Files) × IsAddedFor build_ids (code_mapping_in r) old between × AreAdded build_ids records between new
+
+  -- the files whose code is mapped, each once
+  abbrev pub AreFilesOf : List FileBuildIdView → List RecordView → Files → Type 0
+  AreFilesOf build_ids records files = (none : Files) × IsWithoutFiles none × AreAdded build_ids records none files

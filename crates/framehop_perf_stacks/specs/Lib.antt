@@ -1,0 +1,12 @@
+-- What the contracts of this crate cite: recordings and their stacks.
+pub mod Refusal
+pub mod Changes
+pub mod Files
+pub mod Names
+pub mod Processes
+pub mod Start
+pub mod Counts
+pub mod Run
+pub mod Recording
+pub mod Samples
+pub mod Printed

@@ -1,0 +1,165 @@
+-- The samples of a recording one after another, and what is told of each: a block or a folded line.
+use Rattle.std.specs.Prelude.{◌≡◌, ℕ, zero, suc, ◌+◌, unwrap_or, Bool, true, false, nat_eq, List, [], ◌∷◌, ◌++◌, codes, map, count_by, Option, Some, None, Result, Ok, Err, ◌==◌, if◌then◌else◌}
+use Rattle.std.specs.BTreeMap.{BTreeMap}
+use Rattle.std.specs.Cmp.Lexicographic.{pointwise}
+use Rattle.std.specs.Io.KnownBytes.{Appends}
+use Rattle.std.specs.List.{flat_map}
+use Rattle.framehop_core.specs.CodeAddress.{FrameLocation}
+use Rattle.framehop_core.specs.Memory.{Memory}
+use Rattle.framehop_core.specs.Outcome.{Outcome}
+use Rattle.framehop.specs.Modules.{ModuleView}
+use Rattle.framehop.specs.StackBytes.{memory_of_bytes}
+use Rattle.framehop.specs.Walk.{walk_from}
+use Rattle.framehop_folded.specs.Folded.{entry_of}
+use Rattle.framehop_folded.specs.declared.folded.Folded.{Folded}
+use Rattle.framehop_processes.specs.Process.{ProcessView}
+use Rattle.framehop_processes.specs.declared.mapping.Mapping.{Mapping}
+use Rattle.framehop_recording.specs.Attributes.{AttributeView}
+use Rattle.framehop_recording.specs.Numbers.{PERF_RECORD_SAMPLE}
+use Rattle.framehop_recording.specs.Records.{RecordView}
+use Rattle.framehop_recording.specs.Sample.{SampleView, UserView}
+use Rattle.framehop_recording.specs.declared.error.RecordingError.{RecordingError}
+use Rattle.framehop_recording.specs.declared.sample.Sample.{Sample}
+use Rattle.framehop_perf_stacks.specs.Changes.{change_in}
+use Rattle.framehop_perf_stacks.specs.Counts.{CountsOneMore}
+use Rattle.framehop_frames.specs.Explained.{IsShown}
+use Rattle.framehop_frames.specs.Line.{head_of}
+use Rattle.framehop_frames.specs.Stack.{StackView, walked, no_stack, stack_text}
+use Rattle.framehop_perf_stacks.specs.Names.{Named, named_in, named_after}
+use Rattle.framehop_perf_stacks.specs.Processes.{Mapped, mapped_in, after}
+use Rattle.framehop_perf_stacks.specs.Recording.{sample_in}
+use Rattle.framehop_perf_stacks.specs.Run.{sample_refusal}
+use Rattle.framehop_perf_stacks.specs.declared.changes.Change.{Change}
+use Rattle.framehop_symbols.specs.declared.files.Files.{Files}
+use Rattle.framehop_frames.specs.declared.machine.Start.{Start}
+use Rattle.framehop_perf_stacks.specs.declared.names.Names.{Names}
+
+-- what the records before a place lead to: the names of threads, and the mappings of processes
+pub record State : Type 0 where
+  pub named : Named
+  pub mapped : Mapped
+
+-- before the first record
+abbrev pub beginning : State
+beginning = record { named = λ tid. codes "[unknown]"; mapped = λ pid. [] }
+
+-- the mappings after what a record changes
+abbrev pub mapped_by : Result (Option Change) RecordingError → Mapped → Mapped
+mapped_by (Ok (Some change)) mapped = after change mapped
+mapped_by (Ok None) mapped = mapped
+mapped_by (Err refusal) mapped = mapped
+
+abbrev pub state_after : Files → RecordView → State → State
+state_after files r state =
+    record { named = named_after r state.named; mapped = mapped_by (change_in files r) state.mapped }
+
+-- the state after records, one after another
+abbrev pub state_over : Files → List RecordView → State → State
+state_over files [] state = state
+state_over files (r ∷ records) state = state_over files records (state_after files r state)
+
+-- that of the names and the processes that there are
+abbrev pub state_in : Names → BTreeMap ℕ ProcessView → State
+state_in names processes = record { named = named_in names; mapped = mapped_in processes }
+
+-- they are those of a state
+pub record Agrees (names : Names) (processes : BTreeMap ℕ ProcessView) (state : State) : Type 0 where
+  pub named : (tid : ℕ) → named_in names tid ≡ state.named tid
+  pub mapped : (pid : ℕ) → mapped_in processes pid ≡ state.mapped pid
+
+-- each sample among records, with the state at it
+abbrev pub samples_from : Files → State → List RecordView → List (RecordView × State)
+samples_from files state [] = []
+samples_from files state (r ∷ records) =
+    if r.kind == PERF_RECORD_SAMPLE then (r, state) ∷ samples_from files (state_after files r state) records
+    else samples_from files (state_after files r state) records
+
+module _ {Regs : Type 0} (step_by : List ModuleView → FrameLocation → Regs → Memory → Outcome Regs)
+    (starts : List ModuleView → ℕ → List ℕ → Option (Start Regs) → Type 0) (limit : ℕ) where
+  -- the walk over the bytes of a stack by the bytes of modules, from the registers with which it begins
+  abbrev pub stack_from : List ModuleView → List ℕ → Option (Start Regs) → StackView
+  stack_from modules bytes (Some start) =
+      let memory = memory_of_bytes start.sp bytes in
+      let walk = walk_from (λ location regs. step_by modules location regs memory) limit start.pc start.regs in
+      walked walk.frames walk.end
+  stack_from modules bytes None = no_stack (codes "no-registers")
+
+  -- the same of the user's side of a sample, if it can be read
+  abbrev pub IsUserStack : List ModuleView → ℕ → Result UserView RecordingError → StackView → Type 0
+  IsUserStack modules mask (Ok user) stack =
+      (start : Option (Start Regs)) × starts modules mask user.registers start × (stack ≡ stack_from modules user.stack start)
+  IsUserStack modules mask (Err refusal) stack = stack ≡ no_stack (sample_refusal refusal)
+
+  -- the same of a sample with the mask of its registers: its modules are those of its process's mappings
+  abbrev pub IsSampleStack : (Mapping → ModuleView) → Mapped → Result (SampleView × ℕ) RecordingError → StackView → Type 0
+  IsSampleStack module_of mapped (Ok sample) stack =
+      IsUserStack (map module_of (mapped sample.0.pid)) sample.1 sample.0.user stack
+  IsSampleStack module_of mapped (Err refusal) stack = stack ≡ no_stack (sample_refusal refusal)
+
+-- the head of a sample's block, by the name of its thread; the thread of a sample that can't be read is not known
+abbrev pub head_text : List ℕ → Option Sample → List ℕ
+head_text name (Some sample) = head_of name sample.pid sample.tid sample.time
+head_text name None = codes "[unknown]:\n"
+
+-- by the name of its thread and the mappings of its process
+abbrev pub sample_text : Bool → Files → State → Result (SampleView × ℕ) RecordingError → StackView → List ℕ
+sample_text frames files state (Ok sample) stack =
+    let name = state.named sample.0.tid in
+    stack_text frames files name (head_of name sample.0.pid sample.0.tid sample.0.time) (state.mapped sample.0.pid) stack
+sample_text frames files state (Err refusal) stack =
+    stack_text frames files (codes "[unknown]") (codes "[unknown]:\n") [] stack
+
+module _ {Regs : Type 0} (module_of : Mapping → ModuleView)
+    (step_by : List ModuleView → FrameLocation → Regs → Memory → Outcome Regs)
+    (starts : List ModuleView → ℕ → List ℕ → Option (Start Regs) → Type 0) (frames : Bool) (limit : ℕ) (files : Files) where
+  -- a text is that of a sample at a state: of its stack, by the modules of its process
+  abbrev pub IsTextAt : State → Result (SampleView × ℕ) RecordingError → List ℕ → Type 0
+  IsTextAt state sample text =
+      (stack : StackView) × IsSampleStack step_by starts limit module_of state.mapped sample stack
+      × (text ≡ sample_text frames files state sample stack)
+
+  -- the same of a record of a recording with these events
+  abbrev pub IsTextOf : List AttributeView → RecordView × State → List ℕ → Type 0
+  IsTextOf attributes at text = IsTextAt at.1 (sample_in attributes at.0) text
+
+-- the members of two lists belong together, one by one
+abbrev pub Each : {A B : Type 0} → (A → B → Type 0) → List A → List B → Type 0
+Each R [] [] = Unit {0}
+Each R [] (y ∷ ys) = ⊥
+Each R (x ∷ xs) [] = ⊥
+Each R (x ∷ xs) (y ∷ ys) = R x y × Each R xs ys
+
+-- how often a line is among others
+abbrev pub occurrences : List ℕ → List (List ℕ) → ℕ
+occurrences line texts = count_by (λ text. pointwise nat_eq line text) texts
+
+-- how often a line was counted, if it was, after so many times more
+abbrev pub more : Option ℕ → ℕ → Option ℕ
+more entry zero = entry
+more entry (suc n) = Some (unwrap_or entry 0 + suc n)
+
+-- a text is shown, if it is a block, with notes where it is to be explained, or else counted
+abbrev pub IsTaken : Bool → Bool → List ℕ → Folded → Folded → Option (List ℕ) → Option (List ℕ) → Type 0
+IsTaken true explain text old new before after =
+    (new ≡ old) × ((shown : List ℕ) × IsShown explain text shown × Appends before after shown)
+IsTaken false explain text old new before after = CountsOneMore old new text × (after ≡ before)
+
+-- several blocks are shown, one after another
+abbrev pub AreShown : Bool → List (List ℕ) → Option (List ℕ) → Option (List ℕ) → Type 0
+AreShown explain texts before after =
+    (shown : List (List ℕ)) × Each (IsShown explain) texts shown × Appends before after (flat_map (λ text. text) shown)
+
+-- the same of several texts
+abbrev pub AreTaken : Bool → Bool → List (List ℕ) → Folded → Folded → Option (List ℕ) → Option (List ℕ) → Type 0
+AreTaken true explain texts old new before after = (new ≡ old) × AreShown explain texts before after
+AreTaken false explain texts old new before after =
+    ((line : List ℕ) → entry_of new line ≡ more (entry_of old line) (occurrences line texts)) × (after ≡ before)
+
+-- each line among texts is there with how often it occurs, and no other is
+abbrev pub AreFolded : List (List ℕ) → Folded → Type 0
+AreFolded texts folded = (line : List ℕ) → entry_of folded line ≡ more None (occurrences line texts)
+
+-- what is made of texts: blocks that are shown, one after another, or folded stacks
+abbrev pub IsMade : Bool → Bool → List (List ℕ) → Folded → Option (List ℕ) → Option (List ℕ) → Type 0
+IsMade true explain texts folded before after = AreFolded [] folded × AreShown explain texts before after
+IsMade false explain texts folded before after = AreFolded texts folded × (after ≡ before)

@@ -1,0 +1,77 @@
+//! What is counted of samples.
+ghost use Rattle.std.specs.Prelude.{ℕ, ◌≡◌, ◌≤◌, ◌+◌, ◌^◌, ◌⊎◌, List, None, OnOk, IfErr};
+ghost use Rattle.framehop_folded.specs.Folded.{count_in, total_of, entry_of};
+ghost use Rattle.framehop_perf_stacks.specs.Counts.{CountsOneMore, HasSampleMore};
+ghost use Rattle.framehop_perf_stacks.specs.declared.error.StacksError.TheVariants.{OutOfMemory, TooManySamples};
+
+use crate::error::StacksError;
+use framehop_folded::folded::Folded;
+use std::alloc::Global;
+
+/// What was counted of samples.
+#[derive(Drop)]
+pub struct Counts {
+    /// How many samples there were.
+    pub samples: u64,
+    /// How many records the kernel lost.
+    pub lost: u64,
+    /// How often walks ended in which way, or why there was none.
+    pub ends: Folded,
+    /// How often there was which folded stack.
+    pub stacks: Folded,
+}
+
+impl Counts {
+    /// Returns counts of no samples.
+    pub fn new(alloc: Global) -> Self
+        ensures samples { result.samples ≡ 0 }
+        ensures lost { result.lost ≡ 0 }
+        ensures ends { total_of result.ends ≡ 0 }
+        ensures stacks { total_of result.stacks ≡ 0 }
+        ensures none { (stack : List ℕ) → entry_of result.stacks stack ≡ None }
+    {
+        Counts {
+            samples: 0,
+            lost: 0,
+            ends: Folded::new(alloc),
+            stacks: Folded::new(alloc),
+        }
+    }
+
+    /// Counts a sample, by how its walk ended.
+    ///
+    /// # Errors
+    ///
+    /// `TooManySamples` if a count would be 2^64, and `OutOfMemory`.
+    pub fn add_sample(&mut self, alloc: Global, end: &[u8]) -> Result<(), StacksError>
+        ensures more { OnOk result (HasSampleMore self.old self.new end.now) }
+        ensures stacks { self.new.stacks ≡ self.old.stacks }
+        ensures refused { IfErr result (λ refusal. (refusal ≡ OutOfMemory)
+            ⊎ ((refusal ≡ TooManySamples) × ((2 ^ 64 ≤ count_in self.old.ends end.now + 1) ⊎ (2 ^ 64 ≤ self.old.samples + 1)))) }
+    {
+        let end = Vec::from_slice(alloc, end)?;
+        let Some(samples) = self.samples.checked_add(1) else {
+            return Err(StacksError::TooManySamples);
+        };
+        self.ends.add(end, 1)?;
+        self.samples = samples;
+        Ok(())
+    }
+
+    /// Counts the folded stack of a sample.
+    ///
+    /// # Errors
+    ///
+    /// `TooManySamples` if its count would be 2^64, and `OutOfMemory`.
+    pub fn add_stack(&mut self, stack: Vec<u8>) -> Result<(), StacksError>
+        ensures more { OnOk result (CountsOneMore self.old.stacks self.new.stacks stack.items) }
+        ensures samples { self.new.samples ≡ self.old.samples }
+        ensures ends { self.new.ends ≡ self.old.ends }
+        ensures lost { self.new.lost ≡ self.old.lost }
+        ensures refused { IfErr result (λ refusal. (refusal ≡ OutOfMemory)
+            ⊎ ((refusal ≡ TooManySamples) × (2 ^ 64 ≤ count_in self.old.stacks stack.items + 1))) }
+    {
+        self.stacks.add(stack, 1)?;
+        Ok(())
+    }
+}

@@ -1,0 +1,15 @@
+//! From a recording of perf to stacks: reads the records of a `perf.data`, unwinds each sample by the
+//! unwinder of its process, and folds the stacks.
+#![tactic(auto)]
+
+pub mod changes;
+pub mod counts;
+pub mod error;
+pub mod explain;
+pub mod machine;
+pub mod names;
+pub mod processes;
+pub mod program;
+pub mod recording;
+pub mod run;
+pub mod stack;

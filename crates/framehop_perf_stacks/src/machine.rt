@@ -1,0 +1,54 @@
+//! What differs by the architecture of a recording.
+ghost use Rattle.std.specs.Prelude.{ℕ, List, Option};
+ghost use Rattle.framehop.specs.Modules.{ModuleView};
+ghost use Rattle.framehop_frames.specs.declared.machine.Start.{Start};
+
+use framehop::Unwinder;
+use framehop::aarch64::{UnwindRegsAarch64, UnwinderAarch64};
+use framehop::cache::MayAllocateDuringUnwind;
+use framehop::section::SectionBytes;
+use framehop::x86_64::{UnwindRegsX86_64, UnwinderX86_64};
+use framehop_core::aarch64::PtrAuthMask;
+use framehop_frames::machine::{Start, Steps};
+use framehop_recording::registers::{aarch64_registers, x86_64_registers};
+
+/// An unwinder for the samples of its architecture.
+pub trait Sampled: Steps {
+    // the registers of a sample, by the modules of its process
+    ghost starts: { List ModuleView → ℕ → List ℕ → Option (Start Self.UnwindRegs) → Type 0 };
+
+    /// Returns the registers of a sample, from the mask of those that were recorded and their values.
+    fn start(&self, mask: u64, values: &[u8]) -> Option<Start<Self::UnwindRegs>>
+        ensures { starts (Self.unwinder_view self.now).modules mask values.now result };
+}
+
+impl<D: SectionBytes + Drop> Sampled for UnwinderX86_64<D, MayAllocateDuringUnwind> {
+    ghost use Rattle.framehop_perf_stacks.specs.Start.{StartsX86_64};
+
+    ghost starts = { StartsX86_64 };
+
+    fn start(&self, mask: u64, values: &[u8]) -> Option<Start<UnwindRegsX86_64>> {
+        let regs = x86_64_registers(mask, values)?;
+        Some(Start {
+            pc: regs.ip(),
+            sp: regs.sp(),
+            regs,
+        })
+    }
+}
+
+impl<D: SectionBytes + Drop> Sampled for UnwinderAarch64<D, MayAllocateDuringUnwind> {
+    ghost use Rattle.framehop_perf_stacks.specs.Start.{StartsAarch64};
+
+    ghost starts = { StartsAarch64 };
+
+    fn start(&self, mask: u64, values: &[u8]) -> Option<Start<UnwindRegsAarch64>> {
+        let known = PtrAuthMask::from_max_known_address(self.max_known_code_address());
+        let (pc, regs) = aarch64_registers(known, mask, values)?;
+        Some(Start {
+            pc,
+            sp: regs.sp(),
+            regs,
+        })
+    }
+}

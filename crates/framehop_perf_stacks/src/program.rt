@@ -1,0 +1,151 @@
+//! From the bytes of a recording to folded stacks or blocks.
+ghost use Rattle.std.specs.Prelude.{ℕ, ◌≡◌, IfOk, List, map};
+ghost use Rattle.framehop_recording.specs.Attributes.{attribute_view};
+ghost use Rattle.framehop_recording.specs.BuildIds.{file_build_id_view};
+ghost use Rattle.framehop_perf_stacks.specs.Files.{AreFilesOf};
+ghost use Rattle.framehop_perf_stacks.specs.Printed.{IsMadeOf};
+ghost use Rattle.framehop_perf_stacks.specs.Recording.{records_in, IsReadOf};
+ghost use Rattle.framehop_perf_stacks.specs.Samples.{beginning, samples_from, Each, IsTextOf, IsMade};
+ghost use Rattle.framehop_symbols.specs.declared.files.Files.{Files};
+ghost use Rattle.framehop_perf_stacks.specs.declared.recording.Recording.{Recording};
+
+use crate::counts::Counts;
+use crate::error::StacksError;
+use crate::machine::Sampled;
+use crate::recording::{Recording, is_aarch64, read_files, read_recording};
+use crate::run::{Options, Run};
+use framehop::aarch64::UnwinderAarch64;
+use framehop::cache::MayAllocateDuringUnwind;
+use framehop::x86_64::UnwinderX86_64;
+use framehop_folded::folded::Folded;
+use framehop_processes::ModuleMaker;
+use framehop_recording::error::RecordingError;
+use framehop_symbols::files::{FileModules, FileSource, Files};
+use std::alloc::Global;
+use std::io::Write;
+
+/// What a recording gives.
+#[derive(Drop)]
+pub struct Unwound {
+    /// The folded stacks of its samples: none where blocks are written.
+    pub folded: Folded,
+    /// The refusal of the record with which the recording ends, if one is refused; or why no more could be taken of it.
+    /// The samples before that have their stacks.
+    pub ended: Result<Option<RecordingError>, StacksError>,
+}
+
+/// Writes what was counted.
+fn write_counts<E: Write>(
+    err: &mut E,
+    counts: &Counts,
+    hits: u64,
+    steps: u64,
+) -> Result<(), StacksError> {
+    let samples = counts.samples;
+    let lost = counts.lost;
+    writeln!(err, "{samples} samples, {lost} records lost by the kernel")?;
+    writeln!(err, "cache hits: {hits} of {steps} frames")?;
+    writeln!(err, "how the stacks ended:")?;
+    counts.ends.write(err)?;
+    Ok(())
+}
+
+/// Unwinds all samples of a recording.
+fn unwind_all<U: Sampled, M: ModuleMaker<U>, W: Write, E: Write>(
+    alloc: Global,
+    recording: &Recording<'_>,
+    files: &Files,
+    maker: &M,
+    options: Options,
+    out: &mut W,
+    err: &mut E,
+) -> Result<Unwound, StacksError>
+where
+    U::Cache: Drop,
+    U::Module: Drop,
+    ensures { IfOk result (λ unwound. IfOk unwound.ended (λ refusal. (refusal ≡ recording.now.refusal)
+        × ((texts : List (List ℕ))
+        × Each (IsTextOf (M.module_of maker.now) U.step_by U.starts options.frames options.limit files.now (map attribute_view recording.now.events.attributes.items))
+        (samples_from files.now beginning (records_in recording.now.records.items)) texts
+        × IsMade options.frames options.explain texts unwound.folded (W.contents out.old) (W.contents out.new)))) }
+{
+    let mut run: Run<U> = Run::new(alloc)?;
+    let taken = run.take_records(alloc, recording, files, maker, options, out);
+    let stats = U::stats(run.cache());
+    let counted = write_counts(err, &run.counts, stats.hits(), stats.total());
+    let ended = match counted.and(taken) {
+        Ok(()) => Ok(recording.refusal),
+        Err(error) => Err(error),
+    };
+    let counts = run.counts;
+    Ok(Unwound {
+        folded: counts.stacks,
+        ended,
+    })
+}
+
+/// Writes a line for each file of which nothing was read.
+fn write_problems<E: Write>(err: &mut E, files: &Files) -> Result<(), StacksError> {
+    for file in files.list() {
+        if let Some(problem) = file.problem {
+            err.write_all(file.name.as_slice())?;
+            writeln!(err, ": {problem}")?;
+        }
+    }
+    Ok(())
+}
+
+/// Unwinds all samples of a recording by the unwinder of its architecture.
+fn unwind_recording<W: Write, E: Write>(
+    alloc: Global,
+    recording: &Recording<'_>,
+    files: &Files,
+    options: Options,
+    out: &mut W,
+    err: &mut E,
+) -> Result<Unwound, StacksError>
+    ensures { IfOk result (λ unwound. IfOk unwound.ended (λ refusal. (refusal ≡ recording.now.refusal)
+        × IsMadeOf recording.now files.now options.frames options.explain options.limit unwound.folded (W.contents out.old) (W.contents out.new))) }
+{
+    let maker = FileModules { files };
+    if is_aarch64(&recording.events) {
+        return unwind_all::<
+            UnwinderAarch64<Vec<u8>, MayAllocateDuringUnwind>,
+            FileModules<'_>,
+            W,
+            E,
+        >(alloc, recording, files, &maker, options, out, err);
+    }
+    unwind_all::<UnwinderX86_64<Vec<u8>, MayAllocateDuringUnwind>, FileModules<'_>, W, E>(
+        alloc, recording, files, &maker, options, out, err,
+    )
+}
+
+/// Folds the stacks of a recording, or writes them to `out` as blocks, and writes to `err` what was counted and which
+/// files were not read.
+///
+/// # Errors
+///
+/// `Recording` with the first refusal of the header or of the events, `OutOfMemory`, and `CannotWrite` if a file that was
+/// not read can't be told: nothing was folded or written to `out` then. What is refused later is in [`Unwound::ended`]:
+/// `Recording` with the first refusal of a record that is no sample, `OutOfMemory`, `GenerationsExhausted`,
+/// `TooManySamples` and `CannotWrite`.
+pub fn write_stacks<S: FileSource, W: Write, E: Write>(
+    alloc: Global,
+    file: &[u8],
+    source: &S,
+    options: Options,
+    out: &mut W,
+    err: &mut E,
+) -> Result<Unwound, StacksError>
+    ensures made { IfOk result (λ unwound. IfOk unwound.ended (λ refusal. (recording : Recording) × IsReadOf file.now recording
+        × (refusal ≡ recording.refusal)
+        × ((files : Files) × AreFilesOf (S.gives source.now) (S.gives_debug source.now)
+        (map file_build_id_view recording.build_ids.items) (records_in recording.records.items) files
+        × IsMadeOf recording files options.frames options.explain options.limit unwound.folded (W.contents out.old) (W.contents out.new)))) }
+{
+    let recording = read_recording(alloc, file)?;
+    let files = read_files(alloc, &recording, source)?;
+    write_problems(err, &files)?;
+    unwind_recording(alloc, &recording, &files, options, out, err)
+}

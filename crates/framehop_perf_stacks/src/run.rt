@@ -1,0 +1,467 @@
+//! The records of a recording one after another: its processes, and the stacks of its samples.
+//!
+//! The files that a recording maps are read before, so what makes modules stays as it is while processes change.
+//! All processes share one cache, since generations tell their lists of modules apart.
+ghost use Rattle.std.specs.Prelude.{ℕ, ◌≡◌, ◌≢◌, [], None, IfOk, OnOk, Ok, IsSome, Bool, List, map, count_by};
+ghost use Rattle.std.specs.BTreeMap.{get};
+ghost use Rattle.std.specs.Ordering.{nat_cmp};
+ghost use Rattle.framehop.specs.Modules.{ModuleView};
+ghost use Rattle.framehop_folded.specs.Folded.{entry_of};
+ghost use Rattle.framehop_processes.specs.Mappings.{IsInOrder};
+ghost use Rattle.framehop_processes.specs.declared.mapping.Mapping.{Mapping};
+ghost use Rattle.framehop_recording.specs.Attributes.{attribute_view};
+ghost use Rattle.framehop_recording.specs.Numbers.{PERF_RECORD_SAMPLE};
+ghost use Rattle.framehop_recording.specs.Records.{record_view};
+ghost use Rattle.framehop_recording.specs.Sample.{user_view, sample_view};
+ghost use Rattle.framehop_perf_stacks.specs.Names.{named_in};
+ghost use Rattle.framehop_perf_stacks.specs.Processes.{mapped_in, IsServed};
+ghost use Rattle.framehop_perf_stacks.specs.Recording.{sample_in, records_in};
+ghost use Rattle.framehop_perf_stacks.specs.Run.{AreCounted, CountsMore, is_sample, samples_in_kind, sample_refusal};
+ghost use Rattle.framehop_perf_stacks.specs.Samples.{State, beginning, state_in, state_after, state_over, Agrees, samples_from, head_text, IsUserStack, IsTextAt, IsTextOf, Each, IsTaken, AreTaken};
+ghost use Rattle.framehop_frames.specs.Stack.{StackView, no_stack, stack_text, stack_view, option_stack_view};
+ghost use Rattle.framehop_symbols.specs.declared.files.Files.{Files};
+
+use crate::changes::change_of;
+use crate::counts::Counts;
+use crate::error::StacksError;
+use crate::explain::{sample_notes, write_block};
+use crate::machine::Sampled;
+use crate::names::Names;
+use crate::processes::Processes;
+use crate::recording::{Recording, sample_of};
+use crate::stack::walk_sample;
+use framehop_explain::Note;
+use framehop_frames::line::{
+    block_head, end_name, folded_line, frames_block, refused_block, refused_line,
+};
+use framehop_frames::stack::Stack;
+use framehop_processes::{Mapping, ModuleMaker};
+use framehop_recording::error::RecordingError;
+use framehop_recording::events::Events;
+use framehop_recording::kind::{LOST, SAMPLE};
+use framehop_recording::records::Record;
+use framehop_recording::sample::{Sample, UserStack};
+use framehop_recording::tasks::read_lost;
+use framehop_symbols::files::Files;
+use std::alloc::{AllocError, Global};
+use std::io::Write;
+
+/// What is asked for.
+#[derive(Clone, Copy, Debug)]
+pub struct Options {
+    /// A block for each sample, in the place of folded stacks.
+    pub frames: bool,
+    /// Notes under the lines of the blocks: where each frame's caller came from, and why walks ended.
+    pub explain: bool,
+    /// The most frames of a stack.
+    pub limit: u32,
+}
+
+/// The state of a run: what is known after the records so far.
+#[derive(Drop)]
+pub struct Run<U: Sampled>
+where
+    U::Cache: Drop,
+{
+    processes: Processes<U>,
+    names: Names,
+    cache: U::Cache,
+    /// What was counted of the samples so far.
+    pub counts: Counts,
+}
+
+/// Returns what is said of a sample that can't be unwound.
+fn refusal_name(error: RecordingError) -> &'static str
+    ensures { result.now ≡ sample_refusal error }
+{
+    match error {
+        RecordingError::NoThread { .. } => "no-thread",
+        RecordingError::NoUserStack { .. } => "no-user-stack",
+        RecordingError::NoUserRegisters { .. } => "no-user-registers",
+        RecordingError::Process32Bit { .. } => "32-bit-process",
+        RecordingError::UnknownAbi { .. } => "unknown-abi",
+        RecordingError::UnsupportedField { .. } => "unsupported-field",
+        RecordingError::ShortRecord { .. } => "short-record",
+        _ => "unreadable",
+    }
+}
+
+/// Returns the head of a sample's block, by the name of its thread, where the sample can be read.
+fn head_of(alloc: Global, name: &[u8], sample: Option<Sample<'_>>) -> Result<Vec<u8>, AllocError>
+    ensures { IfOk result (λ head. head.items ≡ head_text name.now sample.entry) }
+{
+    match sample {
+        Some(sample) => block_head(alloc, name, sample.pid, sample.tid, sample.time),
+        None => Ok(Vec::from_slice(alloc, b"[unknown]:\n")?),
+    }
+}
+
+/// Counts or writes the stack of a sample, by the name of its thread and its process's mappings in order.
+fn take_stack<W: Write>(
+    alloc: Global,
+    counts: &mut Counts,
+    files: &Files,
+    mappings: &[Mapping],
+    name: &[u8],
+    sample: Sample<'_>,
+    stack: &Stack,
+    notes: &[Note],
+    options: Options,
+    out: &mut W,
+) -> Result<(), StacksError>
+    requires { IsInOrder 0 mappings.now }
+    ensures counted { OnOk result (CountsMore options.frames 1 counts.old counts.new) }
+    ensures taken { OnOk result (IsTaken options.frames options.explain
+        (stack_text options.frames files.now name.now (head_text name.now (Some sample.entry)) mappings.now (stack_view stack.now))
+        counts.old.stacks counts.new.stacks (W.contents out.old) (W.contents out.new)) }
+{
+    counts.add_sample(alloc, end_name(stack.end).as_bytes())?;
+    if options.frames {
+        let head = head_of(alloc, name, Some(sample))?;
+        let block = frames_block(alloc, files, mappings, stack)?;
+        write_block(
+            alloc,
+            head.as_slice(),
+            block.as_slice(),
+            options.explain,
+            notes,
+            out,
+        )?;
+    } else {
+        counts.add_stack(folded_line(alloc, files, mappings, name, stack)?)?;
+    }
+    Ok(())
+}
+
+/// Counts or writes a sample that has no stack, or that can't be read.
+fn take_refused<W: Write>(
+    alloc: Global,
+    counts: &mut Counts,
+    name: &[u8],
+    sample: Option<Sample<'_>>,
+    why: &str,
+    options: Options,
+    out: &mut W,
+) -> Result<(), StacksError>
+    ensures counted { OnOk result (CountsMore options.frames 1 counts.old counts.new) }
+    ensures taken { OnOk result ((files : Files) (mappings : List Mapping) → IsTaken options.frames options.explain
+        (stack_text options.frames files name.now (head_text name.now sample.entry) mappings (no_stack why.now))
+        counts.old.stacks counts.new.stacks (W.contents out.old) (W.contents out.new)) }
+{
+    counts.add_sample(alloc, why.as_bytes())?;
+    if options.frames {
+        let head = head_of(alloc, name, sample)?;
+        let block = refused_block(alloc, why)?;
+        write_block(
+            alloc,
+            head.as_slice(),
+            block.as_slice(),
+            options.explain,
+            &[],
+            out,
+        )?;
+    } else {
+        counts.add_stack(refused_line(alloc, name, why)?)?;
+    }
+    Ok(())
+}
+
+/// Returns a note for each line of the block of a sample, where it is to be explained, and else none.
+fn notes_of<U: Sampled>(
+    alloc: Global,
+    unwinder: &U,
+    mask: u64,
+    user: UserStack<'_>,
+    walked: &Option<Stack>,
+    options: Options,
+) -> Result<Vec<Note>, StacksError> {
+    if options.frames && options.explain {
+        return Ok(sample_notes(alloc, unwinder, mask, user, walked, options.limit)?);
+    }
+    Ok(Vec::new(alloc))
+}
+
+impl<U: Sampled> Run<U>
+where
+    U::Cache: Drop,
+    U::Module: Drop,
+{
+    /// Returns the state before the first record.
+    pub fn new(alloc: Global) -> Result<Self, StacksError>
+        ensures served { IfOk result (λ run. (module_of : Mapping → ModuleView)
+            → IsServed module_of (λ view. U.is_sound view run.cache) run.processes.by_pid run.processes.generations) }
+        ensures none { IfOk result (λ run. (frames : Bool) → AreCounted frames 0 run.counts) }
+        ensures begun { IfOk result (λ run. Agrees run.names run.processes.by_pid beginning) }
+        ensures uncounted { IfOk result (λ run. (stack : List ℕ) → entry_of run.counts.stacks stack ≡ None) }
+    {
+        Ok(Run {
+            processes: Processes::new(alloc),
+            names: Names::new(alloc),
+            cache: U::new_cache(alloc)?,
+            counts: Counts::new(alloc),
+        })
+    }
+
+    /// Returns the cache.
+    pub fn cache(&self) -> &U::Cache {
+        &self.cache
+    }
+
+    /// Counts or writes the stack of a sample, whose process is known, or that it has none.
+    fn take_walked<W: Write>(
+        &mut self,
+        alloc: Global,
+        files: &Files,
+        sample: Sample<'_>,
+        walked: &Option<Stack>,
+        notes: &[Note],
+        options: Options,
+        out: &mut W,
+    ) -> Result<(), StacksError>
+        requires { IsSome (get nat_cmp self.old.processes.by_pid sample.pid) }
+        ensures counted { OnOk result (CountsMore options.frames 1 self.old.counts self.new.counts) }
+        ensures processes { self.new.processes ≡ self.old.processes }
+        ensures names { self.new.names ≡ self.old.names }
+        ensures cache { self.new.cache ≡ self.old.cache }
+        ensures taken { OnOk result (IsTaken options.frames options.explain
+            (stack_text options.frames files.now (named_in self.old.names sample.entry.tid) (head_text (named_in self.old.names sample.entry.tid) (Some sample.entry)) (mapped_in self.old.processes.by_pid sample.entry.pid) (option_stack_view walked.now))
+            self.old.counts.stacks self.new.counts.stacks (W.contents out.old) (W.contents out.new)) }
+    {
+        let name = self.names.get(sample.tid);
+        match walked {
+            Some(stack) => {
+                let mappings = self.processes.mappings(sample.pid);
+                take_stack(
+                    alloc,
+                    &mut self.counts,
+                    files,
+                    mappings,
+                    name,
+                    sample,
+                    stack,
+                    notes,
+                    options,
+                    out,
+                )?;
+            }
+            None => take_refused(
+                alloc,
+                &mut self.counts,
+                name,
+                Some(sample),
+                "no-registers",
+                options,
+                out,
+            )?,
+        }
+        Ok(())
+    }
+
+    /// Unwinds the stack of a sample, whose process is known.
+    fn take_user<W: Write>(
+        &mut self,
+        alloc: Global,
+        files: &Files,
+        sample: Sample<'_>,
+        mask: u64,
+        user: UserStack<'_>,
+        options: Options,
+        out: &mut W,
+    ) -> Result<(), StacksError>
+        requires { IsSome (get nat_cmp self.old.processes.by_pid sample.pid) }
+        ensures served { OnOk result ((module_of : Mapping → ModuleView)
+            → IsServed module_of (λ view. U.is_sound view self.old.cache) self.old.processes.by_pid self.old.processes.generations
+            → IsServed module_of (λ view. U.is_sound view self.new.cache) self.new.processes.by_pid self.new.processes.generations) }
+        ensures counted { OnOk result (CountsMore options.frames 1 self.old.counts self.new.counts) }
+        ensures processes { self.new.processes ≡ self.old.processes }
+        ensures names { self.new.names ≡ self.old.names }
+        ensures told { OnOk result ((module_of : Mapping → ModuleView)
+            → IsServed module_of (λ view. U.is_sound view self.old.cache) self.old.processes.by_pid self.old.processes.generations
+            → (stack : StackView) × IsUserStack U.step_by U.starts options.limit (map module_of (mapped_in self.old.processes.by_pid sample.entry.pid)) mask (Ok (user_view user.entry)) stack
+            × IsTaken options.frames options.explain (stack_text options.frames files.now (named_in self.old.names sample.entry.tid) (head_text (named_in self.old.names sample.entry.tid) (Some sample.entry)) (mapped_in self.old.processes.by_pid sample.entry.pid) stack)
+            self.old.counts.stacks self.new.counts.stacks (W.contents out.old) (W.contents out.new)) }
+    {
+        let unwinder = self.processes.known(sample.pid).unwinder();
+        let walked = walk_sample(alloc, unwinder, &mut self.cache, mask, user, options.limit)?;
+        let notes = notes_of(alloc, unwinder, mask, user, &walked, options)?;
+        self.take_walked(
+            alloc,
+            files,
+            sample,
+            &walked,
+            notes.as_slice(),
+            options,
+            out,
+        )?;
+        Ok(())
+    }
+
+    /// Unwinds a sample, or counts why that can't be done.
+    fn take_sample<W: Write>(
+        &mut self,
+        alloc: Global,
+        files: &Files,
+        sample: Sample<'_>,
+        mask: u64,
+        options: Options,
+        out: &mut W,
+    ) -> Result<(), StacksError>
+        ensures served { OnOk result ((module_of : Mapping → ModuleView)
+            → IsServed module_of (λ view. U.is_sound view self.old.cache) self.old.processes.by_pid self.old.processes.generations
+            → IsServed module_of (λ view. U.is_sound view self.new.cache) self.new.processes.by_pid self.new.processes.generations) }
+        ensures counted { OnOk result (CountsMore options.frames 1 self.old.counts self.new.counts) }
+        ensures names { self.new.names ≡ self.old.names }
+        ensures mapped { OnOk result ((pid : ℕ) → mapped_in self.new.processes.by_pid pid ≡ mapped_in self.old.processes.by_pid pid) }
+        ensures told { OnOk result ((module_of : Mapping → ModuleView)
+            → IsServed module_of (λ view. U.is_sound view self.old.cache) self.old.processes.by_pid self.old.processes.generations
+            → (text : List ℕ) × IsTextAt module_of U.step_by U.starts options.frames options.limit files.now (state_in self.old.names self.old.processes.by_pid) (Ok (sample_view sample.entry, mask)) text
+            × IsTaken options.frames options.explain text self.old.counts.stacks self.new.counts.stacks (W.contents out.old) (W.contents out.new)) }
+    {
+        let user = match sample.user {
+            Ok(user) => user,
+            Err(error) => {
+                take_refused(
+                    alloc,
+                    &mut self.counts,
+                    self.names.get(sample.tid),
+                    Some(sample),
+                    refusal_name(error),
+                    options,
+                    out,
+                )?;
+                return Ok(());
+            }
+        };
+        self.processes.meet(alloc, sample.pid)?;
+        self.take_user(alloc, files, sample, mask, user, options, out)?;
+        Ok(())
+    }
+
+    /// Unwinds the sample of a record, or counts why that can't be done.
+    fn take_sample_record<W: Write>(
+        &mut self,
+        alloc: Global,
+        events: &Events<'_>,
+        files: &Files,
+        record: Record<'_>,
+        options: Options,
+        out: &mut W,
+    ) -> Result<(), StacksError>
+        ensures served { OnOk result ((module_of : Mapping → ModuleView)
+            → IsServed module_of (λ view. U.is_sound view self.old.cache) self.old.processes.by_pid self.old.processes.generations
+            → IsServed module_of (λ view. U.is_sound view self.new.cache) self.new.processes.by_pid self.new.processes.generations) }
+        ensures counted { OnOk result (CountsMore options.frames 1 self.old.counts self.new.counts) }
+        ensures names { self.new.names ≡ self.old.names }
+        ensures mapped { OnOk result ((pid : ℕ) → mapped_in self.new.processes.by_pid pid ≡ mapped_in self.old.processes.by_pid pid) }
+        ensures told { OnOk result ((module_of : Mapping → ModuleView)
+            → IsServed module_of (λ view. U.is_sound view self.old.cache) self.old.processes.by_pid self.old.processes.generations
+            → (text : List ℕ) × IsTextAt module_of U.step_by U.starts options.frames options.limit files.now (state_in self.old.names self.old.processes.by_pid) (sample_in (map attribute_view events.now.attributes.items) (record_view «record».entry)) text
+            × IsTaken options.frames options.explain text self.old.counts.stacks self.new.counts.stacks (W.contents out.old) (W.contents out.new)) }
+    {
+        match sample_of(events, record) {
+            Ok((sample, mask)) => self.take_sample(alloc, files, sample, mask, options, out)?,
+            Err(error) => {
+                take_refused(
+                    alloc,
+                    &mut self.counts,
+                    b"[unknown]",
+                    None,
+                    refusal_name(error),
+                    options,
+                    out,
+                )?;
+            }
+        }
+        Ok(())
+    }
+
+    /// Counts what a record says that the kernel lost.
+    fn lose(&mut self, record: Record<'_>) -> Result<(), StacksError>
+        ensures processes { self.new.processes ≡ self.old.processes }
+        ensures names { self.new.names ≡ self.old.names }
+        ensures cache { self.new.cache ≡ self.old.cache }
+        ensures stacks { self.new.counts.stacks ≡ self.old.counts.stacks }
+        ensures counted { OnOk result ((frames : Bool) → CountsMore frames 0 self.old.counts self.new.counts) }
+    {
+        let lost = read_lost(record)?;
+        self.counts.lost = self.counts.lost.saturating_add(lost);
+        Ok(())
+    }
+
+    /// Takes a record in.
+    ///
+    /// # Errors
+    ///
+    /// - `Recording` where the record is no sample and is too short for its kind;
+    /// - `OutOfMemory`, `GenerationsExhausted`, `TooManySamples` and `CannotWrite`.
+    fn take_record<M: ModuleMaker<U>, W: Write>(
+        &mut self,
+        alloc: Global,
+        events: &Events<'_>,
+        files: &Files,
+        maker: &M,
+        record: Record<'_>,
+        options: Options,
+        out: &mut W,
+    ) -> Result<(), StacksError>
+        requires served { IsServed (M.module_of maker.now) (λ view. U.is_sound view self.old.cache) self.old.processes.by_pid self.old.processes.generations }
+        ensures served { OnOk result (IsServed (M.module_of maker.now) (λ view. U.is_sound view self.new.cache) self.new.processes.by_pid self.new.processes.generations) }
+        ensures counted { OnOk result (CountsMore options.frames (samples_in_kind «record».entry.kind) self.old.counts self.new.counts) }
+        ensures state { OnOk result (Agrees self.new.names self.new.processes.by_pid
+            (state_after files.now (record_view «record».entry) (state_in self.old.names self.old.processes.by_pid))) }
+        ensures sample { «record».entry.kind ≡ PERF_RECORD_SAMPLE → OnOk result ((text : List ℕ)
+            × IsTextOf (M.module_of maker.now) U.step_by U.starts options.frames options.limit files.now (map attribute_view events.now.attributes.items)
+            (record_view «record».entry, state_in self.old.names self.old.processes.by_pid) text
+            × IsTaken options.frames options.explain text self.old.counts.stacks self.new.counts.stacks (W.contents out.old) (W.contents out.new)) }
+        ensures other { «record».entry.kind ≢ PERF_RECORD_SAMPLE → (self.new.counts.stacks ≡ self.old.counts.stacks) × (out.new ≡ out.old) }
+    {
+        if record.kind == SAMPLE {
+            self.take_sample_record(alloc, events, files, record, options, out)?;
+            return Ok(());
+        }
+        if record.kind == LOST {
+            self.lose(record)?;
+            return Ok(());
+        }
+        self.names.note(alloc, record)?;
+        if let Some(change) = change_of(files, record)? {
+            self.processes.apply(alloc, maker, change)?;
+        }
+        Ok(())
+    }
+
+    /// Takes the records of a recording in, in order.
+    pub fn take_records<M: ModuleMaker<U>, W: Write>(
+        &mut self,
+        alloc: Global,
+        recording: &Recording<'_>,
+        files: &Files,
+        maker: &M,
+        options: Options,
+        out: &mut W,
+    ) -> Result<(), StacksError>
+        requires served { IsServed (M.module_of maker.now) (λ view. U.is_sound view self.old.cache) self.old.processes.by_pid self.old.processes.generations }
+        requires none { AreCounted options.frames 0 self.old.counts }
+        ensures served { OnOk result (IsServed (M.module_of maker.now) (λ view. U.is_sound view self.new.cache) self.new.processes.by_pid self.new.processes.generations) }
+        ensures counted { OnOk result (AreCounted options.frames (count_by is_sample recording.now.records.items) self.new.counts) }
+        ensures state { (state : State) → Agrees self.old.names self.old.processes.by_pid state → OnOk result
+            (Agrees self.new.names self.new.processes.by_pid (state_over files.now (records_in recording.now.records.items) state)) }
+        ensures told { (state : State) → Agrees self.old.names self.old.processes.by_pid state → OnOk result ((texts : List (List ℕ))
+            × Each (IsTextOf (M.module_of maker.now) U.step_by U.starts options.frames options.limit files.now (map attribute_view recording.now.events.attributes.items))
+            (samples_from files.now state (records_in recording.now.records.items)) texts
+            × AreTaken options.frames options.explain texts self.old.counts.stacks self.new.counts.stacks (W.contents out.old) (W.contents out.new)) }
+    {
+        for timed in &recording.records {
+            self.take_record(
+                alloc,
+                &recording.events,
+                files,
+                maker,
+                timed.record,
+                options,
+                out,
+            )?;
+        }
+        Ok(())
+    }
+}

@@ -1,0 +1,19 @@
+use Rattle.std.proofs.Common.{rules, ◌≡◌, Ok, ap}
+use Rattle.framehop_symbols.specs.ObjectFiles.{pe_headers_of, pe_contents, pe_contents_by}
+use Rattle.framehop_symbols.proofs.object_file.read_pe.Goals as goal
+
+pub returns-clause-kept : goal.returns-clause-kept
+returns-clause-kept c =
+    let file = c.args.bytes.now in
+    let header = c.in_ok-header.header in
+    let sections = c.in_ok-header.sections.items in
+    let read : pe_headers_of file ≡ Ok (header, sections) = search rules in (
+      pe_contents file header sections,
+      ap (pe_contents_by file) read,
+      record {
+        segments = search rules;
+        build_id = search rules;
+        loaded = search rules;
+        tables = search rules;
+      },
+    )

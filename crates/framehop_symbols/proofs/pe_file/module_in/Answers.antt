@@ -1,0 +1,18 @@
+use Rattle.std.proofs.Common.{ℕ, [], sym, ap, ◌∙◌}
+use Rattle.std.specs.Global.{Global}
+use Rattle.std.specs.declared.vec.Vec.{Vec}
+use Rattle.framehop_pe_file.specs.UnwindSections.{table_of}
+use Rattle.framehop.specs.Laws.SectionContents.{data-of_bytes}
+use Rattle.framehop.specs.ModuleData.{unwind_data_in}
+use Rattle.framehop.specs.Modules.{ModuleView, UnwindData}
+use Rattle.framehop_symbols.proofs.pe_file.module_in.Goals as goal
+
+with_data : UnwindData → ModuleView
+with_data found = record { name = []; start = 0; end = 0; base_avma = 0; unwind_data = found }
+
+pub returns-in-Ok-clause-loaded : goal.returns-in-Ok-clause-loaded
+unfolding with_data
+returns-in-Ok-clause-loaded c =
+    rw c.new.ensures.bytes at c.in-Ok.ensures.made
+    ∙ ap with_data (sym (data-of_bytes (λ (bytes : Vec ℕ Global). bytes.items) (table_of c.in_ok-info.info)))
+    ∙ ap (λ sections. with_data (unwind_data_in (λ bytes. bytes) (table_of sections))) c.in_ok-info.ensures.exact

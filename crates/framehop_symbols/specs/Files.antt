@@ -1,0 +1,112 @@
+-- The files that processes map, and the modules of mappings.
+use Rattle.std.specs.Prelude.{◌≡◌, ◌≢◌, ◌⊎◌, ℕ, nat_eq, IsSome, List, [], ◌∷◌, ◌++◌, length, codes, Option, Some, None, option_and_then, slice_get, Bool, true, false, not, ◌&&◌, ◌||◌}
+use Rattle.std.specs.BTreeMap.{get_by}
+use Rattle.std.specs.Cmp.Lexicographic.{slice_cmp}
+use Rattle.std.specs.List.{starts_with}
+use Rattle.std.specs.Ordering.{nat_cmp}
+use Rattle.framehop.specs.Modules.{ModuleView}
+use Rattle.framehop_processes.specs.declared.mapping.Mapping.{Mapping}
+use Rattle.framehop_symbols.specs.ObjectFiles.{Listed, problem_of, debug_tables_of, IsKeptOf}
+use Rattle.framehop_symbols.specs.declared.object_file.ObjectFile.{ObjectFile}
+use Rattle.framehop_symbols.specs.declared.object_file.FileProblem.{FileProblem}
+use Rattle.framehop_symbols.specs.declared.object_file.FileProblem.TheVariants.{NotRead}
+use Rattle.framehop_symbols.specs.declared.files.Files.{Files}
+use Rattle.framehop_symbols.specs.declared.files.NamedFile.{NamedFile}
+
+-- the number of a file by its name
+abbrev pub number_in : Files → List ℕ → Option ℕ
+number_in files name = get_by (λ key. slice_cmp nat_cmp name key.items) files.numbers
+
+-- what was read of the file of a number
+abbrev pub object_in : Files → ℕ → Option ObjectFile
+object_in files number = option_and_then (λ file. file.object) (slice_get files.list.items number)
+
+-- a module at the addresses of a mapping
+abbrev pub placed_at : ModuleView → Mapping → ModuleView
+placed_at loaded mapping =
+    record loaded { start = mapping.start; end = mapping.end; base_avma = mapping.base_avma }
+
+-- that of a file; one without unwind data where nothing was read of it
+abbrev pub loaded_of : ModuleView → Option ObjectFile → ModuleView
+loaded_of bare (Some object) = object.«module»
+loaded_of bare None = bare
+
+abbrev pub loaded_with : Bool → Files → Mapping → ModuleView
+loaded_with true files mapping = loaded_of files.bare (object_in files mapping.file)
+loaded_with false files mapping = files.bare
+
+-- the module of a mapping: one without sections has no unwind data
+abbrev pub module_at : Files → Mapping → ModuleView
+module_at files mapping = placed_at (loaded_with mapping.has_sections files mapping) mapping
+
+-- a path of Unix: perf calls memory that is no file `[vdso]`, `//anon` and the like
+abbrev pub is_unix_path : List ℕ → Bool
+is_unix_path name = starts_with nat_eq name (codes "/") && not (starts_with nat_eq name (codes "//"))
+
+-- a path of Windows: after its drive, or from a root on
+abbrev pub has_drive : List ℕ → Bool
+has_drive [] = false
+has_drive (drive ∷ rest) = starts_with nat_eq rest (codes ":\\")
+
+abbrev pub is_windows_path : List ℕ → Bool
+is_windows_path name = has_drive name || starts_with nat_eq name (codes "\\")
+
+-- a path of either
+unfoldable pub is_path : List ℕ → Bool
+is_path name = is_unix_path name || is_windows_path name
+
+-- why nothing is kept of a file that is given or not
+abbrev pub IsProblem : Option (List ℕ) → List ℕ → FileProblem → Type 0
+IsProblem None wanted problem = problem ≡ NotRead
+IsProblem (Some bytes) wanted problem = problem_of bytes wanted ≡ Some problem
+
+-- the symbol tables of a debug file that is given or not
+abbrev pub debug_tables_in : List ℕ → Option (List ℕ) → List Listed
+debug_tables_in build_id None = []
+debug_tables_in build_id (Some bytes) = debug_tables_of build_id bytes
+
+-- there are no files, and the module without sections has no unwind data
+pub record IsWithoutFiles (files : Files) : Type 0 where
+  pub list : files.list.items ≡ []
+  pub numbers : (name : List ℕ) → number_in files name ≡ None
+
+module _ (gives gives_debug : List ℕ → Option (List ℕ) → Type 0) where
+  -- the symbol tables of the debug file of a build id: none without one
+  abbrev pub AreDebugTables : List ℕ → List Listed → Type 0
+  AreDebugTables [] tables = tables ≡ []
+  AreDebugTables (byte ∷ bytes) tables =
+      (given : Option (List ℕ)) × gives_debug (byte ∷ bytes) given × (tables ≡ debug_tables_in (byte ∷ bytes) given)
+
+  -- a file that is kept, with its debug names, by what is given of both
+  abbrev pub IsKept : List ℕ → List ℕ → ObjectFile → Type 0
+  IsKept name wanted object =
+      (bytes : List ℕ) × gives name (Some bytes) × (problem_of bytes wanted ≡ None)
+      × ((debug : List Listed) × AreDebugTables object.build_id.items debug × IsKeptOf bytes debug object)
+
+  -- or else why nothing is
+  abbrev pub IsLoaded : List ℕ → List ℕ → Option ObjectFile → Option FileProblem → Type 0
+  IsLoaded name wanted (Some object) None = IsKept name wanted object
+  IsLoaded name wanted None (Some problem) = (given : Option (List ℕ)) × gives name given × IsProblem given wanted problem
+  IsLoaded name wanted None None = ⊥
+  IsLoaded name wanted (Some object) (Some problem) = ⊥
+
+  -- only a path is read
+  abbrev pub IsLoadedIf : Bool → List ℕ → List ℕ → Option ObjectFile → Option FileProblem → Type 0
+  IsLoadedIf true name wanted object problem = IsLoaded name wanted object problem
+  IsLoadedIf false name wanted object problem = (object ≡ None) × (problem ≡ None)
+
+  -- a file of a name, of which a build id is wanted, is what the source gives
+  pub record IsFileOf (name wanted : List ℕ) (file : NamedFile) : Type 0 where
+    pub called : file.name.items ≡ name
+    pub loaded : IsLoadedIf (is_path name) name wanted file.object file.problem
+
+  -- a file is the next of all, under its name
+  pub record IsNext (name wanted : List ℕ) (old new : Files) : Type 0 where
+    pub file : (file : NamedFile) × (new.list.items ≡ old.list.items ++ file ∷ []) × IsFileOf name wanted file
+    pub number : number_in new name ≡ Some (length old.list.items)
+    pub others : (other : List ℕ) → other ≢ name → number_in new other ≡ number_in old other
+
+  -- a file is added, unless one has its name
+  abbrev pub IsAdded : List ℕ → List ℕ → Files → Files → Type 0
+  IsAdded name wanted old new =
+      (IsSome (number_in old name) × (new ≡ old)) ⊎ ((number_in old name ≡ None) × IsNext name wanted old new)

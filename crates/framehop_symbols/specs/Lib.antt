@@ -1,0 +1,4 @@
+-- What the contracts of this crate cite: the files that processes map, and where addresses are in them.
+pub mod ObjectFiles
+pub mod Files
+pub mod Place

@@ -1,0 +1,228 @@
+-- What is kept of the files that processes map, ELF files and PE files, by their bytes.
+use Rattle.std.specs.Prelude.{◌≡◌, ◌⊎◌, ℕ, nat_eq, bit_and, ◌==◌, List, [], ◌∷◌, ◌++◌, map, codes, Bool, false, not, if◌then◌else◌, Option, Some, None, option_to_list, unwrap_or, Result, Ok, Err}
+use Rattle.std.specs.List.{starts_with}
+use Rattle.std.specs.Cmp.Lexicographic.{pointwise}
+use Rattle.std.specs.List.Sorted.{IsPermutation, IsStableByKey}
+use Rattle.std.specs.Ordering.{nat_cmp}
+use Rattle.std.specs.Result.{result_ok}
+use Rattle.framehop_bytes.specs.Bytes.{◌>>=◌}
+use Rattle.framehop_bytes.specs.ExplicitSections.{table_of}
+use Rattle.framehop_elf.specs.BuildId.{build_id_of_file}
+use Rattle.framehop_elf.specs.Header.{file_header_of}
+use Rattle.framehop_elf.specs.ProgramHeader.{program_headers_of}
+use Rattle.framehop_elf.specs.Segment.{loaded_segments_of}
+use Rattle.framehop_elf.specs.Section.{section_called, section_names_of}
+use Rattle.framehop_elf.specs.SectionHeader.{section_headers_of}
+use Rattle.framehop_elf.specs.Symbol.{start_of, function_symbols_of, symbol_names_of}
+use Rattle.framehop_elf.specs.UnwindSections.{unwind_sections_of}
+use Rattle.framehop_elf.specs.declared.error.ElfError.{ElfError}
+use Rattle.framehop_elf.specs.declared.program_header.ProgramHeader.{ProgramHeader}
+use Rattle.framehop_elf.specs.declared.section_header.SectionHeader.{SectionHeader}
+use Rattle.framehop_elf.specs.declared.symbol.Symbol.{Symbol}
+use Rattle.framehop_elf.specs.declared.error.ElfError.TheVariants.{OutOfMemory as ElfOutOfMemory}
+use Rattle.framehop_memory.specs.declared.segment.Segment.{Segment}
+use Rattle.framehop_pe_file.specs.CodeView.{RsdsView, rsds_of}
+use Rattle.framehop_pe_file.specs.Header.{file_header_of as pe_file_header_of}
+use Rattle.framehop_pe_file.specs.SectionHeader.{section_headers_of as pe_section_headers_of}
+use Rattle.framehop_pe_file.specs.UnwindSections.{table_of as pe_table_of, unwind_sections_of as pe_unwind_sections_of}
+use Rattle.framehop_pe_file.specs.declared.error.PeError.{PeError}
+use Rattle.framehop_pe_file.specs.declared.error.PeError.TheVariants.{OutOfMemory as PeOutOfMemory}
+use Rattle.framehop_pe_file.specs.declared.header.FileHeader.{FileHeader}
+use Rattle.framehop_pe_file.specs.declared.section_header.SectionHeader.{SectionHeader as PeSectionHeader}
+use Rattle.framehop.specs.Modules.{ModuleView}
+use Rattle.framehop.specs.ModuleData.{unwind_data_in}
+use Rattle.framehop_symbols.specs.declared.object_file.ObjectFile.{ObjectFile}
+use Rattle.framehop_symbols.specs.declared.object_file.FileProblem.{FileProblem}
+use Rattle.framehop_symbols.specs.declared.object_file.FileProblem.TheVariants.{OtherBuildId, Elf, Pe}
+use Rattle.framehop_symbols.specs.declared.object_file.Headers.{Headers}
+use Rattle.framehop_symbols.specs.declared.object_file.Symbols.{Symbols}
+
+-- the segments and the sections of a file, and the names of its sections
+pub record HeadersView : Type 0 where
+  pub segments : List ProgramHeader
+  pub sections : List SectionHeader
+  pub names : List ℕ
+
+abbrev pub headers_view : Headers → HeadersView
+headers_view h = record { segments = h.segments.items; sections = h.sections.items; names = h.names.now }
+
+unfoldable pub headers_of : List ℕ → Result HeadersView ElfError
+headers_of file = do
+  header ← file_header_of file
+  segments ← program_headers_of file header
+  sections ← section_headers_of file header
+  names ← section_names_of file header sections
+  Ok (record { segments = segments; sections = sections; names = names })
+
+-- the build id of a file, no bytes where it has none
+abbrev pub build_id_in : List ℕ → HeadersView → List ℕ
+build_id_in file headers = unwrap_or (build_id_of_file file headers.segments headers.sections) []
+
+-- a build id that is wanted is another
+abbrev pub is_another : List ℕ → List ℕ → Bool
+is_another [] found = false
+is_another (byte ∷ bytes) found = not (pointwise nat_eq found (byte ∷ bytes))
+
+-- the functions of a symbol table in its order, and the strings that have their names
+abbrev pub Listed : Type 0
+Listed = List Symbol × List ℕ
+
+-- those of a section, if both can be read
+unfoldable pub symbols_of : List ℕ → List SectionHeader → SectionHeader → Result Listed ElfError
+symbols_of file sections table = do
+  names ← symbol_names_of file sections table
+  functions ← function_symbols_of file sections table
+  Ok (functions, names)
+
+abbrev pub symbols_in : List ℕ → List SectionHeader → Option SectionHeader → Option Listed
+symbols_in file sections None = None
+symbols_in file sections (Some table) = result_ok (symbols_of file sections table)
+
+-- the symbols of the section of a name
+abbrev pub symbols_called : List ℕ → HeadersView → List ℕ → Option Listed
+symbols_called file headers name = symbols_in file headers.sections (section_called headers.sections headers.names name)
+
+-- the symbol tables of a file, as they are asked
+abbrev pub tables_of : List ℕ → HeadersView → List Listed
+tables_of file headers =
+    option_to_list (symbols_called file headers (codes ".symtab")) ++ option_to_list (symbols_called file headers (codes ".dynsym"))
+
+-- that of a debug file, unless its build id is another than the file's
+abbrev pub debug_tables_by : List ℕ → List ℕ → Result HeadersView ElfError → List Listed
+debug_tables_by build_id file (Err refusal) = []
+debug_tables_by build_id file (Ok headers) =
+    if is_another (build_id_in file headers) build_id then [] else option_to_list (symbols_called file headers (codes ".symtab"))
+
+abbrev pub debug_tables_of : List ℕ → List ℕ → List Listed
+debug_tables_of build_id file = debug_tables_by build_id file (headers_of file)
+
+-- A table as it is kept: its functions in the order of their starts, those of one start in that of the table.
+pub record IsTable (listed : Listed) (symbols : Symbols) : Type 0 where
+  pub all : IsPermutation listed.0 symbols.table
+  pub order : IsStableByKey start_of nat_cmp listed.0 symbols.table
+  pub names : symbols.names.items ≡ listed.1
+
+abbrev pub AreTables : List Listed → List Symbols → Type 0
+AreTables [] [] = Unit {0}
+AreTables [] (s ∷ symbols) = ⊥
+AreTables (l ∷ listed) [] = ⊥
+AreTables (l ∷ listed) (s ∷ symbols) = IsTable l s × AreTables listed symbols
+
+-- a module that lies at no address, with the unwind data of the file's sections
+abbrev pub module_in : List ℕ → HeadersView → ModuleView
+module_in file headers = record {
+  name = [];
+  start = 0;
+  end = 0;
+  base_avma = 0;
+  unwind_data = unwind_data_in (λ bytes. bytes) (table_of (unwind_sections_of file headers.sections headers.names));
+}
+
+-- what a file says that is kept: its segments, its build id, its module and its symbol tables
+pub record Contents : Type 0 where
+  pub segments : List Segment
+  pub build_id : List ℕ
+  pub loaded : ModuleView
+  pub tables : List Listed
+
+-- an ELF file
+abbrev pub elf_contents : List ℕ → HeadersView → Contents
+elf_contents file headers = record {
+  segments = loaded_segments_of headers.segments;
+  build_id = build_id_in file headers;
+  loaded = module_in file headers;
+  tables = tables_of file headers;
+}
+
+abbrev pub elf_contents_by : List ℕ → Result HeadersView ElfError → Result Contents FileProblem
+elf_contents_by file (Ok headers) = Ok (elf_contents file headers)
+elf_contents_by file (Err error) = Err (Elf error)
+
+abbrev pub elf_contents_of : List ℕ → Result Contents FileProblem
+elf_contents_of file = elf_contents_by file (headers_of file)
+
+-- ---- PE files
+
+-- a section of a PE file as a segment: `IMAGE_SCN_MEM_EXECUTE` is the bit of code, and addresses are RVAs
+abbrev pub segment_of : PeSectionHeader → Segment
+segment_of section = record {
+  address = section.virtual_address;
+  size = section.virtual_size;
+  offset = section.pointer_to_raw_data;
+  file_size = section.size_of_raw_data;
+  is_code = not (bit_and section.characteristics 0x20000000 == 0);
+}
+
+-- what stands for the build id of a PE file: the GUID and the age of its program database, or no bytes
+abbrev pub identity_by : Result (Option RsdsView) PeError → List ℕ
+identity_by (Ok (Some rsds)) = rsds.guid_and_age
+identity_by (Ok None) = []
+identity_by (Err error) = []
+
+abbrev pub identity_of : List ℕ → FileHeader → List PeSectionHeader → List ℕ
+identity_of file header sections = identity_by (rsds_of file header sections)
+
+-- a module that lies at no address, with the unwind data of the file's sections
+abbrev pub pe_module_in : List ℕ → FileHeader → List PeSectionHeader → ModuleView
+pe_module_in file header sections = record {
+  name = [];
+  start = 0;
+  end = 0;
+  base_avma = 0;
+  unwind_data = unwind_data_in (λ bytes. bytes) (pe_table_of (pe_unwind_sections_of file header sections));
+}
+
+-- a PE file: it has no symbol tables
+abbrev pub pe_contents : List ℕ → FileHeader → List PeSectionHeader → Contents
+pe_contents file header sections = record {
+  segments = map segment_of sections;
+  build_id = identity_of file header sections;
+  loaded = pe_module_in file header sections;
+  tables = [];
+}
+
+-- the headers and the sections of a PE file
+unfoldable pub pe_headers_of : List ℕ → Result (FileHeader × List PeSectionHeader) PeError
+pe_headers_of file = do
+  header ← pe_file_header_of file
+  sections ← pe_section_headers_of file header
+  Ok (header, sections)
+
+abbrev pub pe_contents_by : List ℕ → Result (FileHeader × List PeSectionHeader) PeError → Result Contents FileProblem
+pe_contents_by file (Ok headers) = Ok (pe_contents file headers.0 headers.1)
+pe_contents_by file (Err error) = Err (Pe error)
+
+abbrev pub pe_contents_of : List ℕ → Result Contents FileProblem
+pe_contents_of file = pe_contents_by file (pe_headers_of file)
+
+-- ---- either
+
+-- a PE file begins with "MZ"
+abbrev pub is_pe : List ℕ → Bool
+is_pe file = starts_with nat_eq file (codes "MZ")
+
+abbrev pub contents_of : List ℕ → Result Contents FileProblem
+contents_of file = if is_pe file then pe_contents_of file else elf_contents_of file
+
+-- why nothing is kept of a file: the first refusal, or its build id is another than the one that is wanted
+abbrev pub problem_by : List ℕ → Result Contents FileProblem → Option FileProblem
+problem_by wanted (Err problem) = Some problem
+problem_by wanted (Ok contents) = if is_another wanted contents.build_id then Some OtherBuildId else None
+
+abbrev pub problem_of : List ℕ → List ℕ → Option FileProblem
+problem_of file wanted = problem_by wanted (contents_of file)
+
+-- out of memory, at a file of either kind
+abbrev pub IsOutOfMemory : FileProblem → Type 0
+IsOutOfMemory problem = (problem ≡ Elf ElfOutOfMemory) ⊎ (problem ≡ Pe PeOutOfMemory)
+
+-- what is kept of a file with these contents, and of the symbol tables of its debug file
+pub record IsKeptBy (contents : Contents) (debug : List Listed) (object : ObjectFile) : Type 0 where
+  pub segments : object.segments.items ≡ contents.segments
+  pub build_id : object.build_id.items ≡ contents.build_id
+  pub loaded : object.«module» ≡ contents.loaded
+  pub tables : AreTables (debug ++ contents.tables) object.symbols.items
+
+abbrev pub IsKeptOf : List ℕ → List Listed → ObjectFile → Type 0
+IsKeptOf file debug object =
+    (contents : Contents) × (contents_of file ≡ Ok contents) × IsKeptBy contents debug object

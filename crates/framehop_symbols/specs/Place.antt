@@ -1,0 +1,74 @@
+-- Where an address is: in which function of which file.
+use Rattle.std.specs.Prelude.{ℕ, ◌-◌, List, [], ◌∷◌, ◌&&◌, nat_le, nat_lt, Bool, true, false, if◌then◌else◌, Option, Some, None, slice_get}
+use Rattle.std.specs.List.{find}
+use Rattle.framehop_bytes.specs.String.{string_of}
+use Rattle.framehop_elf.specs.Symbol.{symbol_for}
+use Rattle.framehop_elf.specs.declared.symbol.Symbol.{Symbol}
+use Rattle.framehop_processes.specs.declared.mapping.Mapping.{Mapping}
+use Rattle.framehop_symbols.specs.declared.object_file.ObjectFile.{ObjectFile}
+use Rattle.framehop_symbols.specs.declared.object_file.Symbols.{Symbols}
+use Rattle.framehop_symbols.specs.declared.files.Files.{Files}
+use Rattle.framehop_symbols.specs.declared.files.NamedFile.{NamedFile}
+use Rattle.framehop_symbols.specs.declared.place.Place.{Place}
+use Rattle.framehop_symbols.specs.declared.place.Place.TheVariants.{Function, File, Unmapped}
+
+-- a place by its values
+pub data PlaceView : Type 0 where
+  in_function : List ℕ → List ℕ → ℕ → PlaceView
+  in_file : List ℕ → ℕ → PlaceView
+  unmapped : PlaceView
+
+abbrev pub place_view : Place → PlaceView
+place_view (Function file name offset) = in_function file.now name.now offset
+place_view (File file address) = in_file file.now address
+place_view Unmapped = unmapped
+
+-- the name of a function and how far an address is from its start
+abbrev pub named_from : Symbols → ℕ → Symbol → List ℕ × ℕ
+named_from symbols svma symbol = (string_of symbols.names.items symbol.st_name, svma - symbol.st_value)
+
+-- the function that has an address (SVMA), by the first of the symbol tables that has one
+abbrev pub or_else : {A : Type 0} → Option A → Option A → Option A
+or_else (Some first) second = Some first
+or_else None second = second
+
+abbrev pub option_named : Symbols → ℕ → Option Symbol → Option (List ℕ × ℕ)
+option_named symbols svma (Some symbol) = Some (named_from symbols svma symbol)
+option_named symbols svma None = None
+
+abbrev pub function_at : List Symbols → ℕ → Option (List ℕ × ℕ)
+function_at [] svma = None
+function_at (symbols ∷ others) svma =
+    or_else (option_named symbols svma (symbol_for symbols.table svma)) (function_at others svma)
+
+-- a mapping has an address (AVMA)
+abbrev pub has_address : ℕ → Mapping → Bool
+has_address address mapping = nat_le mapping.start address && nat_lt address mapping.end
+
+-- a mapping that starts at or below an address
+abbrev pub starting_by : ℕ → Option Mapping → Option Mapping
+starting_by address (Some mapping) = if nat_le mapping.start address then Some mapping else None
+starting_by address None = None
+
+abbrev pub place_named : List ℕ → ℕ → Option (List ℕ × ℕ) → PlaceView
+place_named file svma (Some function) = in_function file function.0 function.1
+place_named file svma None = in_file file svma
+
+abbrev pub place_in_object : Bool → List ℕ → Option ObjectFile → ℕ → PlaceView
+place_in_object true file (Some object) svma = place_named file svma (function_at object.symbols.items svma)
+place_in_object true file None svma = in_file file svma
+place_in_object false file object svma = in_file file svma
+
+-- by the names of the file, where the mapping has its sections
+abbrev pub place_in_file : Option NamedFile → Mapping → ℕ → PlaceView
+place_in_file (Some file) mapping address =
+    place_in_object mapping.has_sections file.name.items file.object (address - mapping.base_avma)
+place_in_file None mapping address = unmapped
+
+abbrev pub place_mapped : Files → Option Mapping → ℕ → PlaceView
+place_mapped files (Some mapping) address = place_in_file (slice_get files.list.items mapping.file) mapping address
+place_mapped files None address = unmapped
+
+-- where an address (AVMA) is, by the mapping that has it
+unfoldable pub place_at : Files → List Mapping → ℕ → PlaceView
+place_at files mappings address = place_mapped files (find (has_address address) mappings) address

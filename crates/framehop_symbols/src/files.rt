@@ -1,0 +1,295 @@
+//! The files that processes map by their numbers, and the modules of their mappings.
+ghost use Rattle.std.specs.Prelude.{◌≡◌, ◌⊎◌, ℕ, List, [], Option, Some, None, Ok, IsSome, IfOk, IfErr, OnOk, option_map, option_copied, slice_get};
+ghost use Rattle.framehop.specs.Modules.{ModuleView};
+ghost use Rattle.framehop_elf.specs.UnwindSections.{bytes_in};
+ghost use Rattle.framehop_elf.specs.declared.error.ElfError.{ElfError};
+ghost use Rattle.framehop_symbols.specs.ObjectFiles.{Listed, problem_of, IsOutOfMemory, IsKeptOf};
+ghost use Rattle.framehop_symbols.specs.Files.{number_in, object_in, module_at, placed_at, is_unix_path, has_drive, is_windows_path, is_path, IsProblem, AreDebugTables, IsFileOf, IsNext, IsAdded, IsWithoutFiles};
+ghost use Rattle.framehop_symbols.specs.declared.object_file.FileProblem.{FileProblem};
+
+use crate::object_file::{FileProblem, ObjectFile};
+use framehop::Module;
+use framehop::aarch64::UnwinderAarch64;
+use framehop::cache::AllocationPolicy;
+use framehop::section::ExplicitModuleSectionInfo;
+use framehop::x86_64::UnwinderX86_64;
+use framehop_processes::{Mapping, ModuleMaker, ProcessUnwinder};
+use std::alloc::{AllocError, Global};
+use std::collections::BTreeMap;
+
+/// What gives files by their names, as a disk does.
+pub trait FileSource {
+    // what it can give for the name of a file
+    ghost gives: { Self → List ℕ → Option (List ℕ) → Type 0 };
+
+    // what it can give for the build id of a debug file
+    ghost gives_debug: { Self → List ℕ → Option (List ℕ) → Type 0 };
+
+    /// Returns the bytes of a file, if it is there and can be read.
+    fn read_file(&self, name: &[u8]) -> Option<Vec<u8>>
+        ensures { gives self.now name.now (bytes_in result) };
+
+    /// Returns the bytes of the debug file of a build id, if it is there and can be read.
+    fn read_debug_file(&self, build_id: &[u8]) -> Option<Vec<u8>>
+        ensures { gives_debug self.now build_id.now (bytes_in result) };
+}
+
+/// A file that processes map, by its name.
+#[derive(Drop)]
+pub struct NamedFile {
+    /// Its name, as the input has it: a recording, a core file or a minidump.
+    pub name: Vec<u8>,
+    /// What was read of it.
+    pub object: Option<ObjectFile>,
+    /// Why nothing was read of it. The vdso and other memory that is no file have no problem.
+    pub problem: Option<FileProblem>,
+}
+
+/// The files that processes map.
+#[derive(Drop)]
+pub struct Files {
+    list: Vec<NamedFile>,
+    numbers: BTreeMap<Vec<u8>, u32>,
+    bare: Module<Vec<u8>>,
+}
+
+/// Returns whether a name is a path of Unix: perf calls memory that is no file `[vdso]`, `//anon` and the like, and
+/// LLDB adds an address in brackets to that of the vdso.
+pub fn is_unix_path(name: &[u8]) -> bool
+    ensures { result ≡ is_unix_path name.now }
+{
+    name.starts_with(b"/") && !name.starts_with(b"//")
+}
+
+/// Returns whether a name begins with a drive of Windows.
+fn has_drive(name: &[u8]) -> bool
+    ensures { result ≡ has_drive name.now }
+{
+    match name.split_first() {
+        Some((_, rest)) => rest.starts_with(b":\\"),
+        None => false,
+    }
+}
+
+/// Returns whether a name is a path of Windows: after its drive, or from a root on.
+pub fn is_windows_path(name: &[u8]) -> bool
+    ensures { result ≡ is_windows_path name.now }
+{
+    has_drive(name) || name.starts_with(b"\\")
+}
+
+/// Returns whether a name is a path.
+#[tactic(auto, unfolding(crate::specs::Files::is_path))]
+fn is_path(name: &[u8]) -> bool
+    ensures { result ≡ is_path name.now }
+{
+    is_unix_path(name) || is_windows_path(name)
+}
+
+/// Reads a file from its source.
+fn read_object<S: FileSource>(
+    alloc: Global,
+    source: &S,
+    name: &[u8],
+    build_id: &[u8],
+) -> Result<ObjectFile, FileProblem>
+    ensures kept { IfOk result (λ object. (bytes : List ℕ) × S.gives source.now name.now (Some bytes)
+        × (problem_of bytes build_id.now ≡ None) × IsKeptOf bytes [] object) }
+    ensures refused { IfErr result (λ problem. IsOutOfMemory problem
+        ⊎ ((given : Option (List ℕ)) × S.gives source.now name.now given × IsProblem given build_id.now problem)) }
+{
+    match source.read_file(name) {
+        Some(bytes) => ObjectFile::new(alloc, bytes.as_slice(), build_id),
+        None => Err(FileProblem::NotRead),
+    }
+}
+
+/// Reads the names of a file's functions in its debug file. One that can't be read counts as absent.
+fn add_debug_names<S: FileSource>(
+    alloc: Global,
+    source: &S,
+    object: &mut ObjectFile,
+) -> Result<(), AllocError>
+    ensures kept { (file : List ℕ) → IsKeptOf file [] object.old → OnOk result ((debug : List Listed)
+        × AreDebugTables (S.gives source.now) (S.gives_debug source.now) object.new.build_id.items debug × IsKeptOf file debug object.new) }
+{
+    if object.build_id().is_empty() {
+        return Ok(());
+    }
+    let Some(bytes) = source.read_debug_file(object.build_id()) else {
+        return Ok(());
+    };
+    match object.add_debug_names(alloc, bytes.as_slice()) {
+        Ok(()) => Ok(()),
+        Err(_) => Err(AllocError),
+    }
+}
+
+/// Reads a file, if its name is a path.
+fn load<S: FileSource>(
+    alloc: Global,
+    source: &S,
+    name: &[u8],
+    build_id: &[u8],
+) -> Result<NamedFile, AllocError>
+    ensures { IfOk result (λ file. IsFileOf (S.gives source.now) (S.gives_debug source.now) name.now build_id.now file) }
+{
+    let mut file = NamedFile {
+        name: Vec::from_slice(alloc, name)?,
+        object: None,
+        problem: None,
+    };
+    if is_path(name) {
+        match read_object(alloc, source, name, build_id) {
+            Ok(mut object) => {
+                add_debug_names(alloc, source, &mut object)?;
+                file.object = Some(object);
+            }
+            Err(problem) => {
+                if problem.is_out_of_memory() {
+                    return Err(AllocError);
+                }
+                file.problem = Some(problem);
+            }
+        }
+    }
+    Ok(file)
+}
+
+impl Files {
+    /// Returns no files.
+    pub fn new(alloc: Global) -> Result<Self, AllocError>
+        ensures { IfOk result (λ files. IsWithoutFiles files) }
+    {
+        Ok(Files {
+            list: Vec::new(alloc),
+            numbers: BTreeMap::new(alloc),
+            bare: bare_module(alloc)?,
+        })
+    }
+
+    /// Reads a file that a process maps, if it has not been read. Where a build id is wanted, the file's must be
+    /// the same. Fails only where an allocation does, or from 2^32 files on.
+    pub fn add<S: FileSource>(
+        &mut self,
+        alloc: Global,
+        source: &S,
+        name: &[u8],
+        build_id: &[u8],
+    ) -> Result<(), AllocError>
+        ensures bare { self.new.bare ≡ self.old.bare }
+        ensures known { IsSome (number_in self.old name.now) → (result ≡ Ok tt) × (self.new ≡ self.old) }
+        ensures added { number_in self.old name.now ≡ None → OnOk result
+            (IsNext (S.gives source.now) (S.gives_debug source.now) name.now build_id.now self.old self.new) }
+        ensures either { OnOk result (IsAdded (S.gives source.now) (S.gives_debug source.now) name.now build_id.now self.old self.new) }
+    {
+        if self.numbers.get(name).is_some() {
+            return Ok(());
+        }
+        let Ok(number) = u32::try_from(self.list.len()) else {
+            return Err(AllocError);
+        };
+        let key = Vec::from_slice(alloc, name)?;
+        let file = load(alloc, source, name, build_id)?;
+        self.numbers.insert(key, number)?;
+        self.list.push(file)?;
+        Ok(())
+    }
+
+    /// Returns the number of a file by its name.
+    pub fn number_of(&self, name: &[u8]) -> Option<u32>
+        ensures { result ≡ number_in self.now name.now }
+    {
+        self.numbers.get(name).copied()
+    }
+
+    /// Returns the file of a number.
+    pub fn get(&self, number: u32) -> Option<&NamedFile>
+        ensures { option_map (λ file. file.now) result ≡ slice_get self.now.list.items number }
+    {
+        self.list.get(number as usize)
+    }
+
+    /// Returns all of them, in the order of their numbers.
+    pub fn list(&self) -> &[NamedFile] {
+        self.list.as_slice()
+    }
+
+    /// Returns what was read of the file of a number.
+    pub fn object(&self, number: u32) -> Option<&ObjectFile>
+        ensures { option_copied result ≡ object_in self.now number }
+    {
+        match self.get(number) {
+            Some(file) => file.object.as_ref(),
+            None => None,
+        }
+    }
+
+    /// Returns the module of a mapping. It has no unwind data where the mapping is without sections, or
+    /// where nothing was read of the file.
+    fn module_at(&self, mapping: &Mapping) -> Result<Module<Vec<u8>>, AllocError>
+        ensures { IfOk result (λ made. made ≡ module_at self.now mapping.now) }
+    {
+        if !mapping.has_sections {
+            return placed_at(&self.bare, mapping);
+        }
+        match self.object(mapping.file) {
+            Some(object) => placed_at(object.module(), mapping),
+            None => placed_at(&self.bare, mapping),
+        }
+    }
+}
+
+/// Returns a module without unwind data that lies at no address.
+fn bare_module(alloc: Global) -> Result<Module<Vec<u8>>, AllocError> {
+    let info: ExplicitModuleSectionInfo<Vec<u8>> = ExplicitModuleSectionInfo::default();
+    match Module::new(alloc, String::new(alloc), 0..0, 0, info) {
+        Ok(made) => Ok(made),
+        Err(_) => Err(AllocError),
+    }
+}
+
+/// Returns a module at the addresses of a mapping.
+pub fn placed_at(loaded: &Module<Vec<u8>>, mapping: &Mapping) -> Result<Module<Vec<u8>>, AllocError>
+    ensures { IfOk result (λ made. made ≡ placed_at loaded.now mapping.now) }
+{
+    loaded.placed_at(mapping.start..mapping.end, mapping.base_avma)
+}
+
+/// An unwinder whose modules own their bytes, as those of files do.
+pub trait FileUnwinder: ProcessUnwinder<Module = Module<Vec<u8>>> {
+    // a module is what it is for all unwinders
+    ghost module_is: { (made : ModuleView) → Self.module_view made ≡ made };
+}
+
+impl<P: AllocationPolicy> FileUnwinder for UnwinderX86_64<Vec<u8>, P> {
+    ghost use Rattle.std.specs.Prelude.{refl};
+
+    ghost module_is = { λ made. refl };
+}
+
+impl<P: AllocationPolicy> FileUnwinder for UnwinderAarch64<Vec<u8>, P> {
+    ghost use Rattle.std.specs.Prelude.{refl};
+
+    ghost module_is = { λ made. refl };
+}
+
+/// Makes the modules of mappings, by the files that processes map.
+#[derive(Clone, Copy, Drop)]
+pub struct FileModules<'a> {
+    pub files: &'a Files,
+}
+
+impl<U: FileUnwinder> ModuleMaker<U> for FileModules<'_> {
+    ghost use Rattle.std.specs.Prelude.{refl};
+
+    ghost module_of = { λ maker mapping. module_at maker.files.now mapping };
+
+    ghost start_is = { λ maker mapping. refl };
+
+    ghost end_is = { λ maker mapping. refl };
+
+    fn make_module(&self, alloc: Global, mapping: &Mapping) -> Result<Module<Vec<u8>>, AllocError> {
+        self.files.module_at(mapping)
+    }
+}

@@ -1,0 +1,401 @@
+//! A file that processes map, an ELF file or a PE file: where it is loaded, its unwind data and its symbols.
+//!
+//! The sections are copied and the file's bytes are let go, since a run has many files. The module lies at no
+//! address: the modules of all mappings of the file share its unwind data.
+ghost use Rattle.std.specs.Prelude.{◌≡◌, ◌⊎◌, ◌↔◌, IsTrue, ℕ, List, [], ◌++◌, Some, None, Ok, Err, IfOk, IfErr, OnOk, MatchResult, option_map, option_to_list};
+ghost use Rattle.framehop_elf.specs.Symbol.{symbol_for};
+ghost use Rattle.framehop_elf.specs.declared.error.ElfError.{ElfError};
+ghost use Rattle.framehop_memory.specs.Segment.{base_of};
+ghost use Rattle.framehop_symbols.specs.ObjectFiles.{Contents, Listed, headers_view, headers_of, build_id_in, is_another, problem_by, problem_of, symbols_in, symbols_called, tables_of, debug_tables_of, IsTable, AreTables, module_in, elf_contents_of, pe_contents_of, IsOutOfMemory, IsKeptBy, IsKeptOf};
+ghost use Rattle.framehop_symbols.specs.Place.{option_named, function_at};
+ghost use Rattle.framehop_symbols.specs.declared.object_file.FileProblem.{FileProblem};
+
+use crate::pe_file;
+use framehop::Module;
+use framehop_bytes::string::string_at;
+use framehop_elf::build_id::read_build_id;
+use framehop_elf::error::ElfError;
+use framehop_elf::header::read_file_header;
+use framehop_elf::program_header::{ProgramHeader, read_program_headers};
+use framehop_elf::section::{read_section_names, section_by_name};
+use framehop_elf::section_header::{SectionHeader, read_section_headers};
+use framehop_elf::segment::loaded_segments;
+use framehop_elf::symbol::{Symbol, SymbolTable, read_function_symbols, read_symbol_names};
+use framehop_elf::unwind_sections::read_unwind_sections;
+use framehop_memory::segment::{Segment, base_avma};
+use framehop_pe_file::error::PeError;
+use std::alloc::{AllocError, Global};
+use thiserror::Error;
+
+/// The functions of a symbol table, and the string table that has their names.
+#[derive(Drop)]
+struct Symbols {
+    table: SymbolTable,
+    names: Vec<u8>,
+}
+
+impl Symbols {
+    /// Returns the name of the function that has an address (SVMA), and how far the address is from its
+    /// start.
+    fn function_at(&self, svma: u64) -> Option<(&[u8], u64)>
+        ensures { option_map (λ found. (found.0.now, found.1)) result
+            ≡ option_named self.now svma (symbol_for self.now.table svma) }
+    {
+        let symbol = self.table.symbol_for(svma)?;
+        let name = string_at(self.names.as_slice(), symbol.st_name);
+        Some((name, svma.saturating_sub(symbol.st_value)))
+    }
+}
+
+/// A file that processes map: its segments, its functions, and its unwind data, which is read once.
+#[derive(Drop)]
+pub struct ObjectFile {
+    segments: Vec<Segment>,
+    symbols: Vec<Symbols>,
+    /// At no address. The modules of mappings share its unwind data.
+    module: Module<Vec<u8>>,
+    /// Its build id, or the GUID and the age of its program database: no bytes where it has none.
+    build_id: Vec<u8>,
+}
+
+/// Why a file gives no unwind data and no names.
+#[derive(Clone, Copy, Debug, PartialEq, Eq, Error)]
+pub enum FileProblem {
+    /// It is not there, is no regular file, or can't be read.
+    #[error("can't be read")]
+    NotRead,
+    /// It is no ELF file that can be read.
+    #[error("{0}")]
+    Elf(ElfError),
+    /// It is a PE file that can't be read.
+    #[error("{0}")]
+    Pe(PeError),
+    /// Its build id is not the one that is wanted.
+    #[error("its build id is not the recording's")]
+    OtherBuildId,
+}
+
+impl FileProblem {
+    /// Returns whether memory ran out.
+    pub(crate) fn is_out_of_memory(self) -> bool
+        ensures { IsTrue result ↔ IsOutOfMemory self }
+    {
+        self == FileProblem::Elf(ElfError::OutOfMemory)
+            || self == FileProblem::Pe(PeError::OutOfMemory)
+    }
+}
+
+impl From<ElfError> for FileProblem {
+    ghost use Rattle.framehop_symbols.specs.declared.object_file.FileProblem.TheVariants.{Elf};
+
+    ghost from_gives = { λ value error. error ≡ Elf value };
+
+    fn from(value: ElfError) -> Self {
+        FileProblem::Elf(value)
+    }
+}
+
+impl From<PeError> for FileProblem {
+    ghost use Rattle.framehop_symbols.specs.declared.object_file.FileProblem.TheVariants.{Pe};
+
+    ghost from_gives = { λ value error. error ≡ Pe value };
+
+    fn from(value: PeError) -> Self {
+        FileProblem::Pe(value)
+    }
+}
+
+impl From<AllocError> for FileProblem {
+    ghost use Rattle.framehop_elf.specs.declared.error.ElfError.TheVariants.{OutOfMemory};
+    ghost use Rattle.framehop_symbols.specs.declared.object_file.FileProblem.TheVariants.{Elf};
+
+    ghost from_gives = { λ value error. error ≡ Elf OutOfMemory };
+
+    fn from(_value: AllocError) -> Self {
+        FileProblem::Elf(ElfError::OutOfMemory)
+    }
+}
+
+/// The segments and the sections of a file.
+#[derive(Drop)]
+struct Headers<'a> {
+    segments: Vec<ProgramHeader>,
+    sections: Vec<SectionHeader>,
+    /// The string table that has the names of the sections.
+    names: &'a [u8],
+}
+
+/// Reads the segments and the sections of a file.
+#[tactic(auto, unfolding(crate::specs::ObjectFiles::headers_of))]
+fn read_headers<'a>(alloc: Global, file: &'a [u8]) -> Result<Headers<'a>, ElfError>
+    ensures { MatchResult result
+        (λ headers. headers_of file.entry.now ≡ Ok (headers_view headers))
+        (λ error. (error ≡ ElfError.OutOfMemory) ⊎ (headers_of file.entry.now ≡ Err error)) }
+{
+    let header = read_file_header(file)?;
+    let segments = read_program_headers(alloc, file, header)?;
+    let sections = read_section_headers(alloc, file, header)?;
+    let names = read_section_names(file, header, sections.as_slice())?;
+    Ok(Headers {
+        segments,
+        sections,
+        names,
+    })
+}
+
+/// Returns the build id of a file, or no bytes.
+fn build_id_in<'a>(file: &'a [u8], headers: &Headers<'_>) -> &'a [u8]
+    ensures { result.now ≡ build_id_in file.entry.now (headers_view headers.now) }
+{
+    let found = read_build_id(
+        file,
+        headers.segments.as_slice(),
+        headers.sections.as_slice(),
+    );
+    match found {
+        Some(build_id) => build_id,
+        None => &[],
+    }
+}
+
+/// Returns whether a build id that is wanted is another.
+pub fn is_another(wanted: &[u8], found: &[u8]) -> bool
+    ensures { result ≡ is_another wanted.now found.now }
+{
+    !wanted.is_empty() && found != wanted
+}
+
+/// Keeps the functions of a symbol table with the strings that have their names.
+fn kept_symbols(alloc: Global, functions: Vec<Symbol>, names: &[u8]) -> Result<Symbols, ElfError>
+    ensures kept { IfOk result (λ symbols. IsTable (functions.items, names.now) symbols) }
+    ensures refused { IfErr result (λ error. error ≡ ElfError.OutOfMemory) }
+{
+    let table = SymbolTable::new(functions)?;
+    match Vec::from_slice(alloc, names) {
+        Ok(names) => Ok(Symbols { table, names }),
+        Err(_) => Err(ElfError::OutOfMemory),
+    }
+}
+
+/// Reads the symbols of a section, if the file has it. They count as absent where they can't be read.
+#[tactic(auto, unfolding(crate::specs::ObjectFiles::symbols_of))]
+fn read_symbols(
+    alloc: Global,
+    file: &[u8],
+    sections: &[SectionHeader],
+    section: Option<SectionHeader>,
+) -> Result<Option<Symbols>, ElfError>
+    ensures kept { IfOk result (λ symbols. AreTables (option_to_list (symbols_in file.now sections.now section)) (option_to_list symbols)) }
+    ensures refused { IfErr result (λ error. error ≡ ElfError.OutOfMemory) }
+{
+    let Some(section) = section else {
+        return Ok(None);
+    };
+    let Ok(names) = read_symbol_names(file, sections, section) else {
+        return Ok(None);
+    };
+    match read_function_symbols(alloc, file, sections, section) {
+        Ok(functions) => {
+            let symbols = kept_symbols(alloc, functions, names)?;
+            Ok(Some(symbols))
+        }
+        Err(ElfError::OutOfMemory) => Err(ElfError::OutOfMemory),
+        Err(_) => Ok(None),
+    }
+}
+
+/// Appends the symbols of a section of a name, if they can be read.
+fn push_symbols(
+    alloc: Global,
+    all: &mut Vec<Symbols>,
+    file: &[u8],
+    headers: &Headers<'_>,
+    name: &[u8],
+) -> Result<(), ElfError>
+    ensures kept { (listed : List Listed) → AreTables listed all.old.items → OnOk result
+        (AreTables (listed ++ option_to_list (symbols_called file.now (headers_view headers.now) name.now)) all.new.items) }
+    ensures refused { IfErr result (λ error. error ≡ ElfError.OutOfMemory) }
+{
+    let sections = headers.sections.as_slice();
+    let section = section_by_name(sections, headers.names, name);
+    let Some(symbols) = read_symbols(alloc, file, sections, section)? else {
+        return Ok(());
+    };
+    let Ok(()) = all.push(symbols) else {
+        return Err(ElfError::OutOfMemory);
+    };
+    Ok(())
+}
+
+/// Reads the symbols of both symbol tables.
+fn read_all_symbols(
+    alloc: Global,
+    file: &[u8],
+    headers: &Headers<'_>,
+) -> Result<Vec<Symbols>, ElfError>
+    ensures kept { IfOk result (λ all. AreTables (tables_of file.now (headers_view headers.now)) all.items) }
+    ensures refused { IfErr result (λ error. error ≡ ElfError.OutOfMemory) }
+{
+    let mut all = Vec::new(alloc);
+    push_symbols(alloc, &mut all, file, headers, b".symtab")?;
+    push_symbols(alloc, &mut all, file, headers, b".dynsym")?;
+    Ok(all)
+}
+
+/// Reads the symbols of the debug file of a build id: none where it can't be read, or has another build id.
+fn read_debug_symbols(
+    alloc: Global,
+    build_id: &[u8],
+    file: &[u8],
+) -> Result<Option<Symbols>, ElfError>
+    ensures kept { IfOk result (λ symbols. AreTables (debug_tables_of build_id.now file.now) (option_to_list symbols)) }
+    ensures refused { IfErr result (λ error. error ≡ ElfError.OutOfMemory) }
+{
+    let headers = match read_headers(alloc, file) {
+        Ok(headers) => headers,
+        Err(ElfError::OutOfMemory) => return Err(ElfError::OutOfMemory),
+        Err(_) => return Ok(None),
+    };
+    if is_another(build_id_in(file, &headers), build_id) {
+        return Ok(None);
+    }
+    let sections = headers.sections.as_slice();
+    let section = section_by_name(sections, headers.names, b".symtab");
+    let symbols = read_symbols(alloc, file, sections, section)?;
+    Ok(symbols)
+}
+
+/// Returns a module of a file that lies at no address.
+fn module_in(alloc: Global, file: &[u8], headers: &Headers<'_>) -> Result<Module<Vec<u8>>, ElfError>
+    ensures loaded { IfOk result (λ made. made ≡ module_in file.now (headers_view headers.now)) }
+    ensures refused { IfErr result (λ error. error ≡ ElfError.OutOfMemory) }
+{
+    let info = read_unwind_sections(alloc, file, headers.sections.as_slice(), headers.names)?;
+    match Module::new(alloc, String::new(alloc), 0..0, 0, info) {
+        Ok(made) => Ok(made),
+        Err(_) => Err(ElfError::OutOfMemory),
+    }
+}
+
+/// Reads an ELF file. Where a build id is wanted, the file's must be the same.
+fn read_elf(alloc: Global, bytes: &[u8], wanted: &[u8]) -> Result<ObjectFile, FileProblem>
+    ensures kept { IfOk result (λ object. (contents : Contents) × (elf_contents_of bytes.now ≡ Ok contents)
+        × IsKeptBy contents [] object) }
+    ensures wanted { IfOk result (λ _. problem_by wanted.now (elf_contents_of bytes.now) ≡ None) }
+    ensures refused { IfErr result (λ problem. IsOutOfMemory problem
+        ⊎ (problem_by wanted.now (elf_contents_of bytes.now) ≡ Some problem)) }
+{
+    let headers = read_headers(alloc, bytes)?;
+    let found = build_id_in(bytes, &headers);
+    if is_another(wanted, found) {
+        return Err(FileProblem::OtherBuildId);
+    }
+    let segments = loaded_segments(alloc, headers.segments.as_slice())?;
+    let symbols = read_all_symbols(alloc, bytes, &headers)?;
+    let module = module_in(alloc, bytes, &headers)?;
+    let build_id = Vec::from_slice(alloc, found)?;
+    Ok(ObjectFile {
+        segments,
+        symbols,
+        module,
+        build_id,
+    })
+}
+
+/// Reads a PE file. Where the GUID and the age of a program database are wanted, the file's must be the same.
+fn read_pe(alloc: Global, bytes: &[u8], wanted: &[u8]) -> Result<ObjectFile, FileProblem>
+    ensures kept { IfOk result (λ object. (contents : Contents) × (pe_contents_of bytes.now ≡ Ok contents)
+        × IsKeptBy contents [] object) }
+    ensures wanted { IfOk result (λ _. problem_by wanted.now (pe_contents_of bytes.now) ≡ None) }
+    ensures refused { IfErr result (λ problem. IsOutOfMemory problem
+        ⊎ (problem_by wanted.now (pe_contents_of bytes.now) ≡ Some problem)) }
+{
+    let (header, sections) = pe_file::read_headers(alloc, bytes)?;
+    let identity = pe_file::identity_in(bytes, header, sections.as_slice());
+    if is_another(wanted, identity) {
+        return Err(FileProblem::OtherBuildId);
+    }
+    let module = pe_file::module_in(alloc, bytes, header, sections.as_slice())?;
+    let segments = pe_file::segments_of(alloc, sections.as_slice())?;
+    let build_id = Vec::from_slice(alloc, identity)?;
+    Ok(ObjectFile {
+        segments,
+        symbols: Vec::new(alloc),
+        module,
+        build_id,
+    })
+}
+
+impl ObjectFile {
+    /// Reads an ELF file or a PE file. Where a build id is wanted, the file's must be the same; that of a PE file
+    /// is the GUID and the age of its program database.
+    ///
+    /// # Errors
+    ///
+    /// `OtherBuildId`, and the refusals of the file's headers and of its section names; `OutOfMemory`. A section
+    /// that can't be read counts as absent.
+    pub fn new(alloc: Global, bytes: &[u8], wanted: &[u8]) -> Result<Self, FileProblem>
+        ensures kept { IfOk result (λ object. IsKeptOf bytes.now [] object) }
+        ensures wanted { IfOk result (λ _. problem_of bytes.now wanted.now ≡ None) }
+        ensures refused { IfErr result (λ problem. IsOutOfMemory problem
+            ⊎ (problem_of bytes.now wanted.now ≡ Some problem)) }
+    {
+        if pe_file::is_pe(bytes) {
+            return read_pe(alloc, bytes, wanted);
+        }
+        read_elf(alloc, bytes, wanted)
+    }
+
+    /// Takes the functions of the file's debug file, which are asked before its own: nothing where it can't be
+    /// read, or has a build id that is another. Fails only where an allocation does.
+    pub fn add_debug_names(&mut self, alloc: Global, bytes: &[u8]) -> Result<(), ElfError>
+        ensures kept { (file : List ℕ) → IsKeptOf file [] self.old
+            → OnOk result (IsKeptOf file (debug_tables_of self.old.build_id.items bytes.now) self.new) }
+        ensures same { self.new.build_id ≡ self.old.build_id }
+        ensures refused { IfErr result (λ error. error ≡ ElfError.OutOfMemory) }
+    {
+        let build_id = self.build_id.as_slice();
+        let Some(symbols) = read_debug_symbols(alloc, build_id, bytes)? else {
+            return Ok(());
+        };
+        match self.symbols.insert(0, symbols) {
+            Ok(()) => Ok(()),
+            Err(_) => Err(ElfError::OutOfMemory),
+        }
+    }
+
+    /// Returns the build id of the file, or no bytes.
+    pub fn build_id(&self) -> &[u8]
+        ensures { result.now ≡ self.now.build_id.items }
+    {
+        self.build_id.as_slice()
+    }
+
+    /// Returns where the stated address 0 of the file is (AVMA), if `size` bytes of it from an offset on are
+    /// mapped at an AVMA.
+    pub fn base(&self, offset: u64, size: u64, avma: u64) -> Option<u64>
+        ensures { result ≡ base_of self.now.segments.items offset size avma }
+    {
+        base_avma(self.segments.as_slice(), offset, size, avma)
+    }
+
+    /// Returns a module of the file that lies at no address.
+    pub fn module(&self) -> &Module<Vec<u8>>
+        ensures { result.now ≡ self.now.«module» }
+    {
+        &self.module
+    }
+
+    /// Returns the name of the function that has an address (SVMA), and how far the address is from its
+    /// start: by the debug file, then by `.symtab`, and where these have none by `.dynsym`.
+    pub fn function_at(&self, svma: u64) -> Option<(&[u8], u64)>
+        ensures { option_map (λ found. (found.0.now, found.1)) result ≡ function_at self.now.symbols.items svma }
+    {
+        for symbols in &self.symbols {
+            if let Some(found) = symbols.function_at(svma) {
+                return Some(found);
+            }
+        }
+        None
+    }
+}

@@ -1,0 +1,85 @@
+//! What is kept of a PE file.
+ghost use Rattle.std.specs.Prelude.{◌≡◌, ◌⊎◌, Ok, Err, IfOk, IfErr, MatchResult, map};
+ghost use Rattle.framehop_pe_file.specs.declared.error.PeError.{PeError};
+ghost use Rattle.framehop_symbols.specs.ObjectFiles.{segment_of, identity_by, identity_of, pe_headers_of, pe_module_in, is_pe};
+
+use framehop::Module;
+use framehop_memory::segment::Segment;
+use framehop_pe_file::codeview::read_rsds;
+use framehop_pe_file::error::PeError;
+use framehop_pe_file::header::{FileHeader, read_file_header};
+use framehop_pe_file::section_header::{SectionHeader, read_section_headers};
+use framehop_pe_file::unwind_sections::read_unwind_sections;
+use std::alloc::{AllocError, Global};
+
+/// `IMAGE_SCN_MEM_EXECUTE`: the section may be executed.
+const EXECUTE: u32 = 0x2000_0000;
+
+/// Returns whether a file is a PE file, by its first two bytes.
+pub fn is_pe(file: &[u8]) -> bool
+    ensures { result ≡ is_pe file.now }
+{
+    file.starts_with(b"MZ")
+}
+
+/// Returns the segment that a section is loaded as. Its addresses are relative to the base of the image (RVAs).
+fn segment_of(section: SectionHeader) -> Segment
+    ensures { result ≡ segment_of section }
+{
+    Segment {
+        address: u64::from(section.virtual_address),
+        size: u64::from(section.virtual_size),
+        offset: u64::from(section.pointer_to_raw_data),
+        file_size: u64::from(section.size_of_raw_data),
+        is_code: section.characteristics & EXECUTE != 0,
+    }
+}
+
+/// Returns the segments that sections are loaded as.
+pub fn segments_of(alloc: Global, sections: &[SectionHeader]) -> Result<Vec<Segment>, AllocError>
+    ensures { IfOk result (λ segments. segments.items ≡ map segment_of sections.now) }
+{
+    sections
+        .iter()
+        .map(|section| segment_of(*section))
+        .collect(alloc)
+}
+
+/// Returns what tells a file from others of its name: the GUID and the age of its program database, or no bytes.
+pub fn identity_in<'a>(file: &'a [u8], header: FileHeader, sections: &[SectionHeader]) -> &'a [u8]
+    ensures { result.now ≡ identity_of file.entry.now header sections.now }
+{
+    match read_rsds(file, header, sections) {
+        Ok(Some(rsds)) => rsds.guid_and_age,
+        _ => &[],
+    }
+}
+
+/// Reads the headers and the sections of a file.
+#[tactic(auto, unfolding(crate::specs::ObjectFiles::pe_headers_of))]
+pub fn read_headers(alloc: Global, file: &[u8]) -> Result<(FileHeader, Vec<SectionHeader>), PeError>
+    ensures { MatchResult result
+        (λ headers. pe_headers_of file.now ≡ Ok (headers.0, headers.1.items))
+        (λ error. (error ≡ PeError.OutOfMemory) ⊎ (pe_headers_of file.now ≡ Err error)) }
+{
+    let header = read_file_header(file)?;
+    let sections = read_section_headers(alloc, file, header)?;
+    Ok((header, sections))
+}
+
+/// Returns a module of a file that lies at no address.
+pub fn module_in(
+    alloc: Global,
+    file: &[u8],
+    header: FileHeader,
+    sections: &[SectionHeader],
+) -> Result<Module<Vec<u8>>, PeError>
+    ensures loaded { IfOk result (λ made. made ≡ pe_module_in file.now header sections.now) }
+    ensures refused { IfErr result (λ error. error ≡ PeError.OutOfMemory) }
+{
+    let info = read_unwind_sections(alloc, file, header, sections)?;
+    match Module::new(alloc, String::new(alloc), 0..0, 0, info) {
+        Ok(made) => Ok(made),
+        Err(_) => Err(PeError::OutOfMemory),
+    }
+}

@@ -1,0 +1,96 @@
+//! Where an address is: in which function of which file.
+ghost use Rattle.std.specs.Prelude.{◌≡◌, true, Some, slice_get};
+ghost use Rattle.std.specs.List.{find};
+ghost use Rattle.framehop_processes.specs.Mappings.{IsInOrder};
+ghost use Rattle.framehop_symbols.specs.Place.{place_view, starting_by, has_address, place_at, place_in_object, place_in_file};
+
+use crate::files::{Files, NamedFile};
+use crate::object_file::ObjectFile;
+use framehop_processes::Mapping;
+
+/// Where an address is.
+#[derive(Clone, Copy, Drop)]
+pub enum Place<'a> {
+    /// In a function of a file.
+    Function {
+        /// The name of the file, as the input has it.
+        file: &'a [u8],
+        /// The name of the function.
+        name: &'a [u8],
+        /// From the start of the function, in bytes.
+        offset: u64,
+    },
+    /// In a file, at no function of which it has a name.
+    File {
+        /// The name of the file, as the input has it.
+        file: &'a [u8],
+        /// The address in the file (SVMA), or the offset in it where no ELF file could be read.
+        address: u64,
+    },
+    /// In no mapping.
+    Unmapped,
+}
+
+/// Returns the mapping at a place if it starts at or below an address (AVMA).
+fn mapping_from(mappings: &[Mapping], place: usize, address: u64) -> Option<Mapping>
+    ensures { result ≡ starting_by address (slice_get mappings.now place) }
+{
+    match mappings.get(place) {
+        Some(mapping) if mapping.start <= address => Some(*mapping),
+        _ => None,
+    }
+}
+
+/// Returns the mapping that has an address (AVMA), of mappings in order.
+fn mapping_at(mappings: &[Mapping], address: u64) -> Option<Mapping>
+    requires { IsInOrder 0 mappings.now }
+    ensures { result ≡ find (has_address address) mappings.now }
+{
+    let place = mappings.partition_point(|mapping| mapping.end <= address);
+    mapping_from(mappings, place, address)
+}
+
+/// Returns where an address (SVMA) of an ELF file is.
+fn place_in_object<'a>(file: &'a [u8], object: &'a ObjectFile, svma: u64) -> Place<'a>
+    ensures { place_view result ≡ place_in_object true file.entry.now (Some object.entry.now) svma }
+{
+    match object.function_at(svma) {
+        Some((name, offset)) => Place::Function { file, name, offset },
+        None => Place::File {
+            file,
+            address: svma,
+        },
+    }
+}
+
+/// Returns where an address (AVMA) of a mapping of a file is.
+fn place_in_file<'a>(file: &'a NamedFile, mapping: Mapping, address: u64) -> Place<'a>
+    ensures { place_view result ≡ place_in_file (Some file.entry.now) mapping address }
+{
+    let name = file.name.as_slice();
+    let svma = address.saturating_sub(mapping.base_avma);
+    if mapping.has_sections {
+        if let Some(object) = &file.object {
+            return place_in_object(name, object, svma);
+        }
+    }
+    Place::File {
+        file: name,
+        address: svma,
+    }
+}
+
+/// Returns where an address (AVMA) is, by mappings in order.
+#[tactic(auto, unfolding(crate::specs::Place::place_at))]
+pub fn place_of<'a>(files: &'a Files, mappings: &[Mapping], address: u64) -> Place<'a>
+    requires { IsInOrder 0 mappings.now }
+    ensures { place_view result ≡ place_at files.entry.now mappings.now address }
+{
+    let Some(mapping) = mapping_at(mappings, address) else {
+        return Place::Unmapped;
+    };
+    match files.get(mapping.file) {
+        Some(file) => place_in_file(file, mapping, address),
+        None => Place::Unmapped,
+    }
+}
