@@ -34,13 +34,16 @@ LIBRARIES = [
     "framehop_check",
     "framehop_elf",
     "framehop_pe_file",
-    "framehop_core_file",
+    "framehop_coredump",
     "framehop_minidump",
     "framehop_folded",
     "framehop_flame_graph",
     "framehop_explain",
     "framehop_processes",
-    "framehop_stacks",
+    "framehop_symbols",
+    "framehop_frames",
+    "framehop_perf_stacks",
+    "framehop_dump_stacks",
 ]
 ITEM = re.compile(r"(\s*)pub (?:const |extern \"C\" )?(fn|struct|enum|trait|const|type) (\w+)")
 BLOCK = re.compile(r"(\s*)(?:pub )?(impl|trait)\b(.*)")
