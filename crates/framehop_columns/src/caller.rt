@@ -18,7 +18,7 @@ pub struct Caller {
     pub regs: RegisterFile,
     /// The canonical frame address (CFA) of the frame that is left, an AVMA.
     pub cfa: u64,
-    /// The return address, an AVMA.
+    /// The return address, an AVMA, with its pointer authentication bits.
     pub return_address: u64,
 }
 

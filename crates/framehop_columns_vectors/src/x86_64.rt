@@ -3,6 +3,7 @@
 //! frame, by `scripts/callers.py`, but for registers that the row doesn't name and that calls may change: gdb keeps their
 //! values, and nothing is known of them.
 use crate::frames::{Section, bytes_of, caller_at, memory_of, registers_of};
+use framehop_bytes::bytes::front;
 use framehop_cfi::rule::Register;
 use framehop_cfi::storage::{StoreOnHeap, StoreOnStack};
 use framehop_columns::caller::RowRefusal;
@@ -107,6 +108,7 @@ const REGISTERS: [u64; 17] = [
 ];
 
 /// A section, an address, another value of a register, and the caller's CFA and columns.
+#[derive(Clone, Copy)]
 struct Case {
     section: Section,
     address: u32,
@@ -248,23 +250,25 @@ fn finds_callers(rt: HostRuntime) -> Result<(), Fail> {
     let alloc = rt.alloc();
     let bytes = bytes_of(alloc, &WORDS)?;
     let memory = memory_of(alloc, START, bytes.as_slice())?;
-    for case in &CASES {
-        let regs = registers_of(&REGISTERS, case.changed);
-        let convention = Convention::X86_64;
+    let convention = Convention::X86_64;
+    for case in CASES {
+        let Case {
+            section,
+            address,
+            changed,
+            cfa,
+            caller: columns,
+        } = case;
+        let regs = registers_of(&REGISTERS, changed);
         let found = caller_at::<StoreOnStack, _>(
-            alloc,
-            convention,
-            &case.section,
-            case.address,
-            &regs,
-            &memory,
+            alloc, convention, &section, address, &regs, &memory,
         )?;
         let Ok(caller) = found else {
             return Err(Fail::from("no caller"));
         };
-        assert_eq!(rt; caller.cfa, case.cfa);
-        assert_eq!(rt; Some(caller.return_address), case.caller[16]);
-        for (column, value) in case.caller.iter().enumerate() {
+        assert_eq!(rt; caller.cfa, cfa);
+        assert_eq!(rt; Some(caller.return_address), columns[16]);
+        for (column, value) in columns.iter().enumerate() {
             assert_eq!(rt; caller.regs.get(Register(column as u16)), *value);
         }
         for column in 17..33u16 {
@@ -272,33 +276,28 @@ fn finds_callers(rt: HostRuntime) -> Result<(), Fail> {
         }
         // the same with rows that grow in memory
         let found = caller_at::<StoreOnHeap, _>(
-            alloc,
-            convention,
-            &case.section,
-            case.address,
-            &regs,
-            &memory,
+            alloc, convention, &section, address, &regs, &memory,
         )?;
-        assert_eq!(rt; found.map(|caller| caller.cfa), Ok(case.cfa));
+        assert_eq!(rt; found.map(|caller| caller.cfa), Ok(cfa));
     }
     Ok(())
 }
 
-/// A case of `CASES`, how many words of the memory are there, a register that isn't known, and the refusal.
+/// A case of `CASES`, how many bytes of the memory are there, a register that isn't known, and the refusal.
 const REFUSED: [(usize, usize, u16, FrameRefusal); 4] = [
     // the word at rsp + 24 is missing, or rsp
-    (0, 3, 16, FrameRefusal::ByRow(RowRefusal::CfaUnknown)),
-    (0, 22, 7, FrameRefusal::ByRow(RowRefusal::CfaUnknown)),
+    (0, 24, 16, FrameRefusal::ByRow(RowRefusal::CfaUnknown)),
+    (0, 176, 7, FrameRefusal::ByRow(RowRefusal::CfaUnknown)),
     // the CFA is known, and the word below it is missing
     (
         0,
-        15,
+        120,
         16,
         FrameRefusal::ByRow(RowRefusal::ReturnAddressUnknown),
     ),
     (
         1,
-        15,
+        120,
         16,
         FrameRefusal::ByRow(RowRefusal::ReturnAddressUnknown),
     ),
@@ -308,19 +307,20 @@ const REFUSED: [(usize, usize, u16, FrameRefusal); 4] = [
 fn refuses_what_is_not_known(rt: HostRuntime) -> Result<(), Fail> {
     let alloc = rt.alloc();
     let bytes = bytes_of(alloc, &WORDS)?;
-    for (case, words, register, refusal) in REFUSED {
-        let case = CASES.get(case).ok_or("no case")?;
-        let memory = memory_of(alloc, START, &bytes.as_slice()[..8 * words])?;
-        let mut regs = registers_of(&REGISTERS, case.changed);
+    for (case, size, register, refusal) in REFUSED {
+        let case = CASES.get(case).copied().ok_or("no case")?;
+        let Case {
+            section,
+            address,
+            changed,
+            ..
+        } = case;
+        let memory = memory_of(alloc, START, front(bytes.as_slice(), size))?;
+        let mut regs = registers_of(&REGISTERS, changed);
         regs.set(Register(register), None);
         let convention = Convention::X86_64;
         let found = caller_at::<StoreOnStack, _>(
-            alloc,
-            convention,
-            &case.section,
-            case.address,
-            &regs,
-            &memory,
+            alloc, convention, &section, address, &regs, &memory,
         )?;
         assert_eq!(rt; found.map(|caller| caller.cfa), Err(refusal));
     }
