@@ -15,7 +15,7 @@ pub enum Width {
 }
 
 /// Reads the operation at an offset of an expression, if it is one that reads memory: how many bytes it reads, and the
-/// offset after it. `None` stands for every other operation, and for one that the bytes don't hold whole.
+/// offset after it. `None` for every other operation, and for one that the bytes don't hold whole.
 #[tactic(auto, unfolding(crate::specs::Load::load_at))]
 pub fn read_load(code: &[u8], at: usize) -> Option<(Width, usize)>
     ensures { result ≡ load_at code.now at }

@@ -4,7 +4,7 @@ ghost use Rattle.framehop_core.specs.Memory.{Memory};
 
 use framehop_memory::memory::ProcessMemory;
 
-/// The memory of a thread or a process that stands still, as far as it is known.
+/// The memory of a process, as far as it is known. It doesn't change.
 pub trait WordMemory {
     ghost memory: { Self → Memory };
 
