@@ -23,6 +23,8 @@ LIBRARIES = [
     "framehop_bytes",
     "framehop_cfi",
     "framehop_dwarf",
+    "framehop_columns",
+    "framehop_signal",
     "framehop_macho",
     "framehop_pe",
     "framehop_walk",

@@ -135,8 +135,8 @@ impl EvaluationStorage for StoreOnStack {
     type Stack = FixedStack;
 }
 
-/// Takes the top value away.
-fn pop<V: ValueStack>(values: &mut V) -> Result<u64, Refusal>
+/// Takes the top value away. `NoValue` is refused where the stack is empty.
+pub fn pop<V: ValueStack>(values: &mut V) -> Result<u64, Refusal>
     ensures top { IfOk result (λ top. V.values values.old ≡ top ∷ V.values values.new) }
     ensures none { IfErr result (λ error. (error ≡ Refusal.NoValue) × (V.values values.old ≡ [])) }
 {
@@ -280,9 +280,14 @@ fn apply<R: DwarfUnwindRegs, V: ValueStack>(
     }
 }
 
-/// Does the operation at a position, and returns the position after it.
+/// Does the operation at a position of an expression's bytes over the registers, and returns the position after it.
+///
+/// # Errors
+///
+/// `NoValue` where no operation can be read at the position, or it has no result; `OutOfMemory` where the stack has no
+/// limit and an allocation fails.
 #[tactic(auto, unfolding(crate::specs::Evaluation::step))]
-fn step<R: DwarfUnwindRegs, V: ValueStack>(
+pub fn step<R: DwarfUnwindRegs, V: ValueStack>(
     code: &[u8],
     regs: &R,
     at: usize,

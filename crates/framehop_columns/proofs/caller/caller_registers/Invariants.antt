@@ -1,0 +1,17 @@
+use Rattle.std.proofs.Common.{◌≡◌, ◌≤◌, ◌-◌, length}
+use Rattle.framehop_columns.specs.Rules.{Source}
+use Rattle.framehop_columns.specs.Caller.{caller_column}
+use Rattle.framehop_columns.proofs.Columns.{HasBefore}
+use Rattle.framehop_columns.proofs.caller.caller_registers.Given as goal
+
+abbrev pub invariant-loop-column : goal.invariant-loop-column
+invariant-loop-column g l =
+    let source : Source = record { bytes = l.section; words = l.regs; memory = g.M.WordMemory.memory l.memory } in
+    record {
+      within : l.column ≤ 33;
+      long : length l.caller ≡ 33;
+      set : HasBefore (caller_column l.convention source l.row l.cfa) l.column l.caller;
+    }
+
+abbrev pub decreases-loop-column : goal.decreases-loop-column
+decreases-loop-column g l = 33 - l.column
