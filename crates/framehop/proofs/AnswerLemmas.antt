@@ -1,8 +1,9 @@
 -- A module's answer, with the fallback rule where its bytes give none.
-use Rattle.std.proofs.Common.{◌≡◌, ◌≢◌, ℕ, ◌-◌, Bool, true, List, Option, Some, None, Result, Ok, Err, IfOk, IfErr, refl, sym, ap, ◌∙◌}
+use Rattle.std.proofs.Common.{◌≡◌, ◌≢◌, ◌⊎◌, inl, inr, ℕ, ◌-◌, Bool, true, List, Option, Some, None, Result, Ok, Err, IfOk, IfErr, refl, sym, ap, ◌∙◌}
 use Rattle.std.specs.Option.{unwrap_or}
 use Rattle.std.proofs.lemmas.Bool.{MatchBool-at_true, MatchBool-at_false}
 use Rattle.framehop_core.specs.Memory.{Memory}
+use Rattle.framehop_core.specs.Outcome.{answered}
 use Rattle.framehop_core.specs.Step.{IfRule, WritesWithAddress}
 use Rattle.framehop_core.specs.declared.error.Error.{Error}
 use Rattle.framehop_core.specs.declared.error.Error.TheVariants.{OutOfMemory as NoMemory}
@@ -19,6 +20,7 @@ use Rattle.framehop.specs.Laws.Meaning.{fresh-covered}
 use Rattle.framehop.proofs.ToldLemmas.{err-same}
 use Rattle.framehop.specs.declared.modules.UnwinderError.{UnwinderError}
 use Rattle.framehop.specs.declared.frame_answer.FrameAnswer.{FrameAnswer}
+use Rattle.framehop.specs.declared.frame_answer.FrameAnswer.TheVariants.{Rule, Fallback, Computed, NotComputed}
 
 -- what the modules give where none covers the address
 pub fresh-uncovered : {R Regs : Type 0} (unwinding : Unwinding R Regs) (modules : List ModuleView) (address : ℕ) (first : Bool) → covering modules address ≡ None → fresh unwinding modules address first ≡ by_rule unwinding.fallback
@@ -105,3 +107,19 @@ rule-outcome unwinding answer rule first regs memory is = rw is refl
 pub failed-outcome : {R Regs : Type 0} (unwinding : Unwinding R Regs) (answer : Fresh R Regs) (first : Bool) (regs : Regs) (memory : Memory) → IsDirect (Some answer) → values_in (Some answer) regs memory ≡ None → outcome_of unwinding answer first regs memory ≡ unwinding.outcome unwinding.fallback first regs memory
 failed-outcome unwinding (by_rule rule) first regs memory direct' none = absurd direct'
 failed-outcome unwinding (direct compute) first regs memory direct' none = rw none refl
+
+-- values that are computed are answered
+pub computed-outcome : {R Regs : Type 0} (unwinding : Unwinding R Regs) (answer : Fresh R Regs) (first : Bool) (old new : Regs) (memory : Memory) (address : ℕ) → IsDirect (Some answer) → values_in (Some answer) old memory ≡ Some (address, new) → outcome_of unwinding answer first old memory ≡ answered address new
+computed-outcome unwinding (by_rule rule) first old new memory address direct' is = absurd direct'
+computed-outcome unwinding (direct compute) first old new memory address direct' is = rw is refl
+
+-- the fallback rule is run where there is no rule, or values can't be computed: the registers are as they were
+pub fallback-outcome : {R Regs : Type 0} (unwinding : Unwinding R Regs) (fallback : R) (Advances : Regs → Regs → Type 0) (answer : Fresh R Regs) (made : FrameAnswer R) (first : Bool) (old new : Regs) (memory : Memory) → unwinding.fallback ≡ fallback → (made ≡ Fallback) ⊎ (made ≡ NotComputed) → TellsFresh fallback answer made → WritesComputed Advances made old new → TellsFreshValues answer old memory made new → (new ≡ old) × (outcome_of unwinding answer first old memory ≡ unwinding.outcome fallback first old memory)
+fallback-outcome unwinding fallback Advances answer Fallback first old new memory is which told same values =
+    (same, rule-outcome unwinding answer fallback first old memory told)
+fallback-outcome unwinding fallback Advances answer NotComputed first old new memory is which told same values =
+    (same, failed-outcome unwinding answer first old memory told values ∙ ap (λ rule. unwinding.outcome rule first old memory) is)
+fallback-outcome unwinding fallback Advances answer (Rule rule) first old new memory is (inl e) told same values = (let no = e in cc)
+fallback-outcome unwinding fallback Advances answer (Rule rule) first old new memory is (inr e) told same values = (let no = e in cc)
+fallback-outcome unwinding fallback Advances answer (Computed address) first old new memory is (inl e) told same values = (let no = e in cc)
+fallback-outcome unwinding fallback Advances answer (Computed address) first old new memory is (inr e) told same values = (let no = e in cc)

@@ -17,7 +17,7 @@ use Rattle.framehop.proofs.RiseLemmas.{walk-rise}
 use Rattle.framehop_core.specs.declared.error.Error.{Error}
 use Rattle.framehop.specs.Walk.{End, at_limit, walk_from}
 use Rattle.framehop.specs.SessionView.{end_of}
-use Rattle.framehop.specs.declared.session.commands.WalkEnd.{WalkEnd}
+use Rattle.framehop.specs.declared.walk.WalkEnd.{WalkEnd}
 use Rattle.framehop.specs.Iterator.{Progress, before, at_frame, at_end, Moves, end_in}
 
 -- how many calls can still follow, with the one that finds the end

@@ -8,7 +8,7 @@ use Rattle.framehop_core.specs.declared.error.Error.{Error}
 use Rattle.framehop_core.specs.declared.error.Error.TheVariants.{ReturnAddressIsNull}
 use Rattle.framehop.specs.Walk.{Walk, End, at_root, at_refusal, at_limit, frame_before, onward, onward_cache, callers, walk_from, cache_after_callers, cache_after_walk}
 use Rattle.framehop.specs.SessionView.{end_of}
-use Rattle.framehop.specs.declared.session.commands.WalkEnd.{WalkEnd}
+use Rattle.framehop.specs.declared.walk.WalkEnd.{WalkEnd}
 use Rattle.framehop.specs.Iterator.{Progress, before, at_frame, at_end, Next, next_of, next_after, frames_in, end_in, walk_on, cache_on, cache_after_next}
 
 -- what was done holds where the callback is then

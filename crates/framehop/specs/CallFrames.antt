@@ -29,6 +29,16 @@ frames_with_header header bytes bases base_svma = record {
   base_svma = base_svma;
 }
 
+-- the bytes of both, the module's base addresses and the base that its file states
+pub record HeaderData : Type 0 where
+  pub eh_frame_hdr : List ℕ
+  pub eh_frame : List ℕ
+  pub base_addresses : BaseAddresses
+  pub base_svma : ℕ
+
+abbrev pub header_frames : HeaderData → CallFrames
+header_frames d = frames_with_header d.eh_frame_hdr d.eh_frame d.base_addresses d.base_svma
+
 -- `.eh_frame` by itself
 abbrev pub frames_without_header : List ℕ → BaseAddresses → ℕ → CallFrames
 frames_without_header bytes bases base_svma =

@@ -5,6 +5,7 @@ pub mod Compact
 pub mod Modules
 pub mod ModuleData
 pub mod TextData
+pub mod PlacedData
 pub mod UnwindData
 pub mod Policy
 pub mod Unwinding

@@ -10,8 +10,8 @@ use Rattle.framehop.specs.CachedWorld.{CachedWorld, CachedReply, of_world, count
 use Rattle.framehop.specs.declared.session.commands.Reply.{Reply}
 use Rattle.framehop.specs.declared.session.commands.Reply.TheVariants.{Made, Done, Step as StepReply, Walk as WalkReply, Stats}
 use Rattle.framehop.specs.declared.session.commands.SessionError.{SessionError}
-use Rattle.framehop.specs.declared.session.commands.WalkEnd.{WalkEnd}
-use Rattle.framehop.specs.declared.session.commands.WalkEnd.TheVariants.{Root, Refused, Limit}
+use Rattle.framehop.specs.declared.walk.WalkEnd.{WalkEnd}
+use Rattle.framehop.specs.declared.walk.WalkEnd.TheVariants.{Root, Refused, Limit}
 use Rattle.framehop.specs.declared.session.world.Session.{Session}
 
 -- the unwinders and the caches of a session, with the next generation

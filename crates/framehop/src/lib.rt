@@ -15,6 +15,7 @@ pub mod unwind_data;
 pub mod unwinder;
 pub mod unwinder_internal;
 pub mod unwinding;
+pub mod walk;
 pub mod x86_64;
 
 pub use cache::{AllocationPolicy, Cache, MayAllocateDuringUnwind, MustNotAllocateDuringUnwind};

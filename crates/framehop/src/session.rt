@@ -20,12 +20,12 @@ mod world;
 use crate::aarch64::{CacheAarch64, UnwindRegsAarch64, UnwinderAarch64};
 use crate::cache::AllocationPolicy;
 use crate::unwinder::{Unwinder, Unwinding};
-pub use commands::{Command, Memory, Reply, SessionError, WalkEnd};
+pub use crate::walk::WalkEnd;
+use crate::walk::push_next_frame;
+pub use commands::{Command, Memory, Reply, SessionError};
 use framehop_bytes::section::SectionBytes;
 use framehop_cache::generations::Generations;
 use std::alloc::Global;
-use walks::push_next_frame;
-pub use walks::{read_word, walk};
 use world::Session;
 
 /// Carries out a list of commands, over so many caches that all its unwinders share, and returns

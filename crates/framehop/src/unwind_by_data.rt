@@ -6,9 +6,9 @@
 ghost use Rattle.std.specs.Prelude.{◌≡◌, ◌≢◌, ◌+◌, true, IsTrue, option_map, ℕ, List, Ok, Err};
 ghost use Rattle.framehop_core.specs.Step.{IfRule, WritesWithAddress};
 ghost use Rattle.framehop.specs.Unwinding.{Unwinding, answer_by, may_take_memory_by};
-ghost use Rattle.framehop.specs.CallFrames.{frames_with_header, frames_answer, fde_answer, fde_offset_of, fde_may_take_memory};
+ghost use Rattle.framehop.specs.CallFrames.{header_frames, frames_answer, fde_answer, fde_offset_of, fde_may_take_memory};
 ghost use Rattle.framehop_dwarf.specs.MayTakeMemory.{may_take_memory};
-ghost use Rattle.framehop.specs.UnwindData.{placed_data};
+ghost use Rattle.framehop.specs.PlacedData.{placed_data};
 ghost use Rattle.framehop.specs.Compact.{by_info, compact_answer, eh_frame_may_take_memory, info_may_take_memory};
 ghost use Rattle.framehop_macho.specs.Answer.{IfRule as IfCompactRule};
 ghost use Rattle.framehop_macho.specs.Unwinder.{unwound};
@@ -19,12 +19,14 @@ ghost use Rattle.framehop.specs.Told.{out_of_memory, UnwindsBy};
 
 use crate::cache::AllocationPolicy;
 use crate::modules::{Module, UnwinderError};
-use crate::unwind_data::{CompactInfo, IndexedFrames, ModuleUnwindDataInternal};
+use crate::unwind_data::{
+    CompactInfo, HeaderFrames, IndexedFrames, ModuleUnwindDataInternal, PeInfo,
+};
 use crate::unwinder::Unwinding;
 use framehop_bytes::section::SectionBytes;
 use framehop_cfi::context::UnwindContext;
 use framehop_cfi::entry::UnwindSectionType;
-use framehop_cfi::pointer::BaseAddresses;
+use framehop_cfi::storage::UnwindContextStorage;
 use framehop_core::unwind_result::UnwindResult;
 use framehop_dwarf::unwinder::DwarfUnwinder;
 use framehop_macho::macho::{
@@ -33,14 +35,22 @@ use framehop_macho::macho::{
 use framehop_pe::pe::{DataAtRvaRange, PeSections, PeUnwinding};
 use std::alloc::Global;
 
+/// What a frame is looked up by.
+#[derive(Clone, Copy)]
+pub struct Lookup {
+    /// The lookup address, relative to the module's base.
+    pub relative_address: u32,
+    /// Whether the frame's address is an instruction pointer, and no return address.
+    pub is_first_frame: bool,
+}
+
 /// Unwinds a frame by the FDE at an offset.
 #[tactic(auto, unfolding(crate::specs::CallFrames::fde_answer))]
 fn unwind_by_fde<A: Unwinding, P: AllocationPolicy, F>(
     unwinder: &mut DwarfUnwinder<'_, A, P::GimliUnwindContextStorage>,
     alloc: Global,
-    relative_address: u32,
+    lookup: Lookup,
     fde_offset: u32,
-    is_first_frame: bool,
     regs: &mut A::UnwindRegs,
     read_stack: &mut F,
 ) -> Result<UnwindResult<A::UnwindRule>, UnwinderError>
@@ -48,21 +58,21 @@ where
     F: FnMut(u64) -> Result<u64, ()>,
     requires { F.IsAlwaysCallable read_stack.old }
     ensures callable { F.IsAlwaysCallable read_stack.new }
-    ensures written { WritesWithAddress (A.step_advances is_first_frame) result regs.old regs.new }
+    ensures written { WritesWithAddress (A.step_advances lookup.is_first_frame) result regs.old regs.new }
     ensures executable { IfRule result (λ rule. IsTrue (A.UnwindRule.executable rule)) }
     ensures memory { result ≡ Err out_of_memory → may_take_memory
-        P.policy.rows P.policy.values unwinder.old.section (unwinder.old.base_svma + relative_address) fde_offset
+        P.policy.rows P.policy.values unwinder.old.section (unwinder.old.base_svma + lookup.relative_address) fde_offset
         ≡ true }
     ensures unwound { UnwindsBy
         (fde_answer A.readers.rows P.policy unwinder.old.section
-        (unwinder.old.base_svma + relative_address) is_first_frame fde_offset)
+        (unwinder.old.base_svma + lookup.relative_address) lookup.is_first_frame fde_offset)
         regs.old result regs.new F.FnMut read_stack.old read_stack.new }
 {
     match unwinder.unwind_frame_with_fde::<P::GimliEvaluationStorage, F>(
         alloc,
         regs,
-        is_first_frame,
-        relative_address,
+        lookup.is_first_frame,
+        lookup.relative_address,
         fde_offset,
         read_stack,
     ) {
@@ -71,54 +81,60 @@ where
     }
 }
 
-/// Unwinds a frame by `.eh_frame` and its table of FDEs.
-fn unwind_by_header<A: Unwinding, P: AllocationPolicy, F>(
-    eh_frame_hdr: &[u8],
-    eh_frame: &[u8],
-    base_addresses: BaseAddresses,
-    base_svma: u64,
-    alloc: Global,
-    unwind_context: &mut UnwindContext<P::GimliUnwindContextStorage>,
-    relative_address: u32,
-    is_first_frame: bool,
-    regs: &mut A::UnwindRegs,
-    read_stack: &mut F,
-) -> Result<UnwindResult<A::UnwindRule>, UnwinderError>
-where
-    F: FnMut(u64) -> Result<u64, ()>,
-    requires { F.IsAlwaysCallable read_stack.old }
-    ensures callable { F.IsAlwaysCallable read_stack.new }
-    ensures written { WritesWithAddress (A.step_advances is_first_frame) result regs.old regs.new }
-    ensures executable { IfRule result (λ rule. IsTrue (A.UnwindRule.executable rule)) }
-    ensures memory { result ≡ Err out_of_memory → fde_may_take_memory
-        P.policy (frames_with_header eh_frame_hdr.now eh_frame.now base_addresses base_svma) relative_address
-        (fde_offset_of (frames_with_header eh_frame_hdr.now eh_frame.now base_addresses base_svma) relative_address)
-        ≡ true }
-    ensures unwound { UnwindsBy
-        (frames_answer A.readers.rows P.policy
-        (frames_with_header eh_frame_hdr.now eh_frame.now base_addresses base_svma)
-        relative_address is_first_frame)
-        regs.old result regs.new F.FnMut read_stack.old read_stack.new }
-{
-    let mut unwinder = DwarfUnwinder::new(
-        eh_frame,
-        UnwindSectionType::EhFrame,
-        Some(eh_frame_hdr),
-        unwind_context,
-        base_addresses,
-        base_svma,
-    );
-    match unwinder.get_fde_offset_for_relative_address(relative_address) {
-        Some(fde_offset) => unwind_by_fde::<A, P, F>(
-            &mut unwinder,
-            alloc,
-            relative_address,
-            fde_offset,
-            is_first_frame,
-            regs,
-            read_stack,
-        ),
-        None => Err(UnwinderError::EhFrameHdrCouldNotFindAddress),
+impl<D: SectionBytes> HeaderFrames<D> {
+    /// Returns an unwinder by the section, and the offset of the FDE that the table names for a
+    /// relative address, if it names one.
+    pub fn unwinder_at<'a, A: Unwinding, S: UnwindContextStorage>(
+        &'a self,
+        unwind_context: &'a mut UnwindContext<S>,
+        relative_address: u32,
+    ) -> (DwarfUnwinder<'a, A, S>, Option<u32>)
+        ensures section { result.0.section ≡ (header_frames self.entry.now).section }
+        ensures base { result.0.base_svma ≡ self.entry.now.base_svma }
+        ensures offset { result.1 ≡ fde_offset_of (header_frames self.entry.now) relative_address }
+    {
+        let unwinder = DwarfUnwinder::new(
+            self.eh_frame.bytes(),
+            UnwindSectionType::EhFrame,
+            Some(self.eh_frame_hdr.bytes()),
+            unwind_context,
+            self.base_addresses,
+            self.base_svma,
+        );
+        let fde_offset = unwinder.get_fde_offset_for_relative_address(relative_address);
+        (unwinder, fde_offset)
+    }
+
+    /// Unwinds a frame by the section.
+    fn unwind_by_header<A: Unwinding, P: AllocationPolicy, F>(
+        &self,
+        alloc: Global,
+        unwind_context: &mut UnwindContext<P::GimliUnwindContextStorage>,
+        lookup: Lookup,
+        regs: &mut A::UnwindRegs,
+        read_stack: &mut F,
+    ) -> Result<UnwindResult<A::UnwindRule>, UnwinderError>
+    where
+        F: FnMut(u64) -> Result<u64, ()>,
+        requires { F.IsAlwaysCallable read_stack.old }
+        ensures callable { F.IsAlwaysCallable read_stack.new }
+        ensures written { WritesWithAddress (A.step_advances lookup.is_first_frame) result regs.old regs.new }
+        ensures executable { IfRule result (λ rule. IsTrue (A.UnwindRule.executable rule)) }
+        ensures memory { result ≡ Err out_of_memory → fde_may_take_memory
+            P.policy (header_frames self.now) lookup.relative_address
+            (fde_offset_of (header_frames self.now) lookup.relative_address) ≡ true }
+        ensures unwound { UnwindsBy
+            (frames_answer A.readers.rows P.policy (header_frames self.now) lookup.relative_address lookup.is_first_frame)
+            regs.old result regs.new F.FnMut read_stack.old read_stack.new }
+    {
+        let (mut unwinder, fde_offset) = self.unwinder_at::<A, P::GimliUnwindContextStorage>(
+            unwind_context,
+            lookup.relative_address,
+        );
+        let Some(fde_offset) = fde_offset else {
+            return Err(UnwinderError::EhFrameHdrCouldNotFindAddress);
+        };
+        unwind_by_fde::<A, P, F>(&mut unwinder, alloc, lookup, fde_offset, regs, read_stack)
     }
 }
 
@@ -135,8 +151,7 @@ impl<D: SectionBytes> IndexedFrames<D> {
         &self,
         alloc: Global,
         unwind_context: &mut UnwindContext<P::GimliUnwindContextStorage>,
-        relative_address: u32,
-        is_first_frame: bool,
+        lookup: Lookup,
         regs: &mut A::UnwindRegs,
         read_stack: &mut F,
     ) -> Result<UnwindResult<A::UnwindRule>, UnwinderError>
@@ -144,15 +159,15 @@ impl<D: SectionBytes> IndexedFrames<D> {
         F: FnMut(u64) -> Result<u64, ()>,
         requires { F.IsAlwaysCallable read_stack.old }
         ensures callable { F.IsAlwaysCallable read_stack.new }
-        ensures written { WritesWithAddress (A.step_advances is_first_frame) result regs.old regs.new }
+        ensures written { WritesWithAddress (A.step_advances lookup.is_first_frame) result regs.old regs.new }
         ensures executable { IfRule result (λ rule. IsTrue (A.UnwindRule.executable rule)) }
         ensures memory { result ≡ Err out_of_memory → fde_may_take_memory
-            P.policy self.now relative_address (fde_offset_of self.now relative_address) ≡ true }
+            P.policy self.now lookup.relative_address (fde_offset_of self.now lookup.relative_address) ≡ true }
         ensures unwound { UnwindsBy
-            (frames_answer A.readers.rows P.policy self.now relative_address is_first_frame)
+            (frames_answer A.readers.rows P.policy self.now lookup.relative_address lookup.is_first_frame)
             regs.old result regs.new F.FnMut read_stack.old read_stack.new }
     {
-        let Some(fde_offset) = self.fde_offset(relative_address) else {
+        let Some(fde_offset) = self.fde_offset(lookup.relative_address) else {
             return Err(UnwinderError::DwarfCfiIndexCouldNotFindAddress);
         };
         let mut unwinder = DwarfUnwinder::new(
@@ -163,15 +178,7 @@ impl<D: SectionBytes> IndexedFrames<D> {
             self.base_addresses,
             self.base_svma,
         );
-        unwind_by_fde::<A, P, F>(
-            &mut unwinder,
-            alloc,
-            relative_address,
-            fde_offset,
-            is_first_frame,
-            regs,
-            read_stack,
-        )
+        unwind_by_fde::<A, P, F>(&mut unwinder, alloc, lookup, fde_offset, regs, read_stack)
     }
 }
 
@@ -179,10 +186,9 @@ impl<D: SectionBytes> CompactInfo<D> {
     /// Returns what the info gives: a rule, or the offset of an FDE.
     pub fn rule_or_fde_offset<A: Unwinding>(
         &self,
-        relative_address: u32,
-        is_first_frame: bool,
+        lookup: Lookup,
     ) -> Result<CuiUnwindResult<A::UnwindRule>, CompactUnwindInfoUnwinderError>
-        ensures says { result ≡ unwound A.readers.compact self.now.info relative_address is_first_frame }
+        ensures says { result ≡ unwound A.readers.compact self.now.info lookup.relative_address lookup.is_first_frame }
         ensures executable { IfCompactRule result (λ rule. IsTrue (A.UnwindRule.executable rule)) }
     {
         let text = match &self.text {
@@ -195,7 +201,7 @@ impl<D: SectionBytes> CompactInfo<D> {
             self.stubs,
             self.stub_helper,
         );
-        unwinder.unwind_frame(relative_address, is_first_frame)
+        unwinder.unwind_frame(lookup.relative_address, lookup.is_first_frame)
     }
 
     // unwinds a frame by the FDE that the info names
@@ -203,9 +209,8 @@ impl<D: SectionBytes> CompactInfo<D> {
         &self,
         alloc: Global,
         unwind_context: &mut UnwindContext<P::GimliUnwindContextStorage>,
-        relative_address: u32,
+        lookup: Lookup,
         fde_offset: u32,
-        is_first_frame: bool,
         regs: &mut A::UnwindRegs,
         read_stack: &mut F,
     ) -> Result<UnwindResult<A::UnwindRule>, UnwinderError>
@@ -213,12 +218,12 @@ impl<D: SectionBytes> CompactInfo<D> {
         F: FnMut(u64) -> Result<u64, ()>,
         requires { F.IsAlwaysCallable read_stack.old }
         ensures callable { F.IsAlwaysCallable read_stack.new }
-        ensures written { WritesWithAddress (A.step_advances is_first_frame) result regs.old regs.new }
+        ensures written { WritesWithAddress (A.step_advances lookup.is_first_frame) result regs.old regs.new }
         ensures executable { IfRule result (λ rule. IsTrue (A.UnwindRule.executable rule)) }
         ensures memory { result ≡ Err out_of_memory
-            → eh_frame_may_take_memory P.policy self.now.frames relative_address fde_offset ≡ true }
+            → eh_frame_may_take_memory P.policy self.now.frames lookup.relative_address fde_offset ≡ true }
         ensures unwound { UnwindsBy
-            (by_info A.readers.rows P.policy self.now.frames relative_address is_first_frame
+            (by_info A.readers.rows P.policy self.now.frames lookup.relative_address lookup.is_first_frame
             (Ok (NeedDwarf fde_offset)))
             regs.old result regs.new F.FnMut read_stack.old read_stack.new }
     {
@@ -233,15 +238,7 @@ impl<D: SectionBytes> CompactInfo<D> {
             self.base_addresses,
             self.base_svma,
         );
-        unwind_by_fde::<A, P, F>(
-            &mut unwinder,
-            alloc,
-            relative_address,
-            fde_offset,
-            is_first_frame,
-            regs,
-            read_stack,
-        )
+        unwind_by_fde::<A, P, F>(&mut unwinder, alloc, lookup, fde_offset, regs, read_stack)
     }
 
     /// Unwinds a frame by the info.
@@ -249,8 +246,7 @@ impl<D: SectionBytes> CompactInfo<D> {
         &self,
         alloc: Global,
         unwind_context: &mut UnwindContext<P::GimliUnwindContextStorage>,
-        relative_address: u32,
-        is_first_frame: bool,
+        lookup: Lookup,
         regs: &mut A::UnwindRegs,
         read_stack: &mut F,
     ) -> Result<UnwindResult<A::UnwindRule>, UnwinderError>
@@ -258,24 +254,23 @@ impl<D: SectionBytes> CompactInfo<D> {
         F: FnMut(u64) -> Result<u64, ()>,
         requires { F.IsAlwaysCallable read_stack.old }
         ensures callable { F.IsAlwaysCallable read_stack.new }
-        ensures written { WritesWithAddress (A.step_advances is_first_frame) result regs.old regs.new }
+        ensures written { WritesWithAddress (A.step_advances lookup.is_first_frame) result regs.old regs.new }
         ensures executable { IfRule result (λ rule. IsTrue (A.UnwindRule.executable rule)) }
         ensures memory { result ≡ Err out_of_memory → info_may_take_memory
-            P.policy self.now.frames relative_address
-            (unwound A.readers.compact self.now.info relative_address is_first_frame) ≡ true }
+            P.policy self.now.frames lookup.relative_address
+            (unwound A.readers.compact self.now.info lookup.relative_address lookup.is_first_frame) ≡ true }
         ensures unwound { UnwindsBy
             (compact_answer A.readers.compact
-            A.readers.rows P.policy self.now relative_address is_first_frame)
+            A.readers.rows P.policy self.now lookup.relative_address lookup.is_first_frame)
             regs.old result regs.new F.FnMut read_stack.old read_stack.new }
     {
-        match self.rule_or_fde_offset::<A>(relative_address, is_first_frame) {
+        match self.rule_or_fde_offset::<A>(lookup) {
             Ok(CuiUnwindResult::ExecRule(rule)) => Ok(UnwindResult::ExecRule(rule)),
             Ok(CuiUnwindResult::NeedDwarf(fde_offset)) => self.unwind_by_eh_frame::<A, P, F>(
                 alloc,
                 unwind_context,
-                relative_address,
+                lookup,
                 fde_offset,
-                is_first_frame,
                 regs,
                 read_stack,
             ),
@@ -284,41 +279,54 @@ impl<D: SectionBytes> CompactInfo<D> {
     }
 }
 
-/// Unwinds a frame by the unwind info of a PE module.
-fn unwind_by_pe<D: SectionBytes, A: Unwinding, F>(
-    sections: PeSections<'_, D>,
-    relative_address: u32,
-    is_first_frame: bool,
-    regs: &mut A::UnwindRegs,
-    read_stack: &mut F,
-) -> Result<UnwindResult<A::UnwindRule>, UnwinderError>
-where
-    F: FnMut(u64) -> Result<u64, ()>,
-    requires { F.IsAlwaysCallable read_stack.old }
-    ensures callable { F.IsAlwaysCallable read_stack.new }
-    ensures written { WritesWithAddress (A.step_advances is_first_frame) result regs.old regs.new }
-    ensures executable { IfRule result (λ rule. IsTrue (A.UnwindRule.executable rule)) }
-    ensures memory { result ≢ Err out_of_memory }
-    ensures unwound { UnwindsBy
-        (fresh_of (A.found (sections_of D.contents sections.entry) relative_address is_first_frame)
-        (λ old memory. A.computed (sections_of D.contents sections.entry)
-        relative_address is_first_frame memory old))
-        regs.old result regs.new F.FnMut read_stack.old read_stack.new }
-{
-    match <A as PeUnwinding>::unwind_frame(
-        sections,
-        relative_address,
-        regs,
-        is_first_frame,
-        read_stack,
-    ) {
-        Ok(found) => Ok(found),
-        Err(error) => Err(UnwinderError::Pe(error)),
+impl<D: SectionBytes> PeInfo<D> {
+    /// Returns the sections, lent.
+    pub fn sections(&self) -> PeSections<'_, D>
+        ensures { sections_of D.contents result ≡ self.now }
+    {
+        PeSections {
+            pdata: &self.pdata,
+            rdata: lent(&self.rdata),
+            xdata: lent(&self.xdata),
+            text: lent(&self.text),
+        }
+    }
+
+    /// Unwinds a frame by the info.
+    fn unwind_by_pe<A: Unwinding, F>(
+        &self,
+        lookup: Lookup,
+        regs: &mut A::UnwindRegs,
+        read_stack: &mut F,
+    ) -> Result<UnwindResult<A::UnwindRule>, UnwinderError>
+    where
+        F: FnMut(u64) -> Result<u64, ()>,
+        requires { F.IsAlwaysCallable read_stack.old }
+        ensures callable { F.IsAlwaysCallable read_stack.new }
+        ensures written { WritesWithAddress (A.step_advances lookup.is_first_frame) result regs.old regs.new }
+        ensures executable { IfRule result (λ rule. IsTrue (A.UnwindRule.executable rule)) }
+        ensures memory { result ≢ Err out_of_memory }
+        ensures unwound { UnwindsBy
+            (fresh_of (A.found (self.now) lookup.relative_address lookup.is_first_frame)
+            (λ old memory. A.computed (self.now)
+            lookup.relative_address lookup.is_first_frame memory old))
+            regs.old result regs.new F.FnMut read_stack.old read_stack.new }
+    {
+        match <A as PeUnwinding>::unwind_frame(
+            self.sections(),
+            lookup.relative_address,
+            regs,
+            lookup.is_first_frame,
+            read_stack,
+        ) {
+            Ok(found) => Ok(found),
+            Err(error) => Err(UnwinderError::Pe(error)),
+        }
     }
 }
 
 /// Returns the data of a section that a module may not have, lent.
-pub fn lent<D>(section: &Option<DataAtRvaRange<D>>) -> Option<&DataAtRvaRange<D>>
+fn lent<D>(section: &Option<DataAtRvaRange<D>>) -> Option<&DataAtRvaRange<D>>
     ensures { (contents : D → List ℕ) → placed_of contents result ≡ option_map (placed_data contents) section.now }
 {
     match section {
@@ -336,8 +344,7 @@ impl<D: SectionBytes + Drop> Module<D> {
         &self,
         alloc: Global,
         unwind_context: &mut UnwindContext<P::GimliUnwindContextStorage>,
-        relative_address: u32,
-        is_first_frame: bool,
+        lookup: Lookup,
         regs: &mut A::UnwindRegs,
         read_stack: &mut F,
     ) -> Result<UnwindResult<A::UnwindRule>, UnwinderError>
@@ -345,70 +352,27 @@ impl<D: SectionBytes + Drop> Module<D> {
         F: FnMut(u64) -> Result<u64, ()>,
         requires { F.IsAlwaysCallable read_stack.old }
         ensures callable { F.IsAlwaysCallable read_stack.new }
-        ensures written { WritesWithAddress (A.step_advances is_first_frame) result regs.old regs.new }
+        ensures written { WritesWithAddress (A.step_advances lookup.is_first_frame) result regs.old regs.new }
         ensures executable { IfRule result (λ rule. IsTrue (A.UnwindRule.executable rule)) }
         ensures memory { result ≡ Err out_of_memory → may_take_memory_by
-            A.readers P.policy self.now relative_address is_first_frame ≡ true }
+            A.readers P.policy self.now lookup.relative_address lookup.is_first_frame ≡ true }
         ensures unwound { UnwindsBy
-            (answer_by A.readers P.policy self.now relative_address is_first_frame)
+            (answer_by A.readers P.policy self.now lookup.relative_address lookup.is_first_frame)
             regs.old result regs.new F.FnMut read_stack.old read_stack.new }
     {
         match self.unwind_data() {
-            ModuleUnwindDataInternal::EhFrameHdrAndEhFrame {
-                eh_frame_hdr,
-                eh_frame,
-                base_addresses,
-                base_svma,
-            } => unwind_by_header::<A, P, F>(
-                eh_frame_hdr.bytes(),
-                eh_frame.bytes(),
-                *base_addresses,
-                *base_svma,
-                alloc,
-                unwind_context,
-                relative_address,
-                is_first_frame,
-                regs,
-                read_stack,
-            ),
-            ModuleUnwindDataInternal::CompactUnwindInfoAndEhFrame(compact) =>
-                compact.unwind_by_info::<A, P, F>(
-                    alloc,
-                    unwind_context,
-                    relative_address,
-                    is_first_frame,
-                    regs,
-                    read_stack,
-                ),
-            ModuleUnwindDataInternal::DwarfCfiIndexAndFrames(frames) => frames.unwind_by_index::<
-                A,
-                P,
-                F,
-            >(
-                alloc,
-                unwind_context,
-                relative_address,
-                is_first_frame,
-                regs,
-                read_stack,
-            ),
-            ModuleUnwindDataInternal::PeUnwindInfo {
-                pdata,
-                rdata,
-                xdata,
-                text,
-            } => unwind_by_pe::<D, A, F>(
-                PeSections {
-                    pdata,
-                    rdata: lent(rdata),
-                    xdata: lent(xdata),
-                    text: lent(text),
-                },
-                relative_address,
-                is_first_frame,
-                regs,
-                read_stack,
-            ),
+            ModuleUnwindDataInternal::EhFrameHdrAndEhFrame(frames) => {
+                frames.unwind_by_header::<A, P, F>(alloc, unwind_context, lookup, regs, read_stack)
+            }
+            ModuleUnwindDataInternal::CompactUnwindInfoAndEhFrame(compact) => {
+                compact.unwind_by_info::<A, P, F>(alloc, unwind_context, lookup, regs, read_stack)
+            }
+            ModuleUnwindDataInternal::DwarfCfiIndexAndFrames(frames) => {
+                frames.unwind_by_index::<A, P, F>(alloc, unwind_context, lookup, regs, read_stack)
+            }
+            ModuleUnwindDataInternal::PeUnwindInfo(info) => {
+                info.unwind_by_pe::<A, F>(lookup, regs, read_stack)
+            }
             ModuleUnwindDataInternal::None(_) => Err(UnwinderError::NoModuleUnwindData),
         }
     }

@@ -3,7 +3,8 @@
 //! The kinds are tried in a fixed order. A section is asked for when its turn comes and not before, since its data
 //! is taken out of the caller's hands. An index is made here, once for a module and all its clones.
 ghost use Rattle.std.specs.Prelude.{◌≡◌, IfOk, IfErr, codes, option_map, ℕ, Ok, Err, None, Option};
-ghost use Rattle.framehop.specs.UnwindData.{unwind_data_of, placed_data};
+ghost use Rattle.framehop.specs.PlacedData.{placed_data};
+ghost use Rattle.framehop.specs.UnwindData.{unwind_data_of};
 ghost use Rattle.framehop.specs.TextData.{text_data};
 ghost use Rattle.framehop.specs.Modules.{compact_info};
 ghost use Rattle.framehop_bytes.specs.SectionTable.{range_of};
@@ -30,22 +31,11 @@ pub enum ModuleUnwindDataInternal<D: SectionBytes> {
     /// `__unwind_info`, `__eh_frame`, the code and the stubs.
     CompactUnwindInfoAndEhFrame(CompactInfo<D>),
     /// `.eh_frame`, and its table of FDEs.
-    EhFrameHdrAndEhFrame {
-        eh_frame_hdr: D,
-        eh_frame: D,
-        base_addresses: BaseAddresses,
-        /// The module's base, an SVMA.
-        base_svma: u64,
-    },
+    EhFrameHdrAndEhFrame(HeaderFrames<D>),
     /// `.eh_frame` or `.debug_frame`, and an index of its FDEs.
     DwarfCfiIndexAndFrames(IndexedFrames<D>),
     /// `.pdata`, and the sections with unwind info and code.
-    PeUnwindInfo {
-        pdata: D,
-        rdata: Option<DataAtRvaRange<D>>,
-        xdata: Option<DataAtRvaRange<D>>,
-        text: Option<DataAtRvaRange<D>>,
-    },
+    PeUnwindInfo(PeInfo<D>),
     /// None that can be used, or an index of the FDEs that was refused.
     None(Option<IndexRefusal>),
 }
@@ -97,6 +87,29 @@ pub struct TextByteData<D> {
     pub offset_from_base: u32,
 }
 
+/// `.eh_frame`, and the table of its FDEs in `.eh_frame_hdr`.
+#[derive(Drop)]
+pub struct HeaderFrames<D: SectionBytes> {
+    pub eh_frame_hdr: D,
+    pub eh_frame: D,
+    pub base_addresses: BaseAddresses,
+    /// The module's base, an SVMA.
+    pub base_svma: u64,
+}
+
+impl<D: SectionBytes> Model for HeaderFrames<D> {
+    ghost use Rattle.framehop.specs.CallFrames.{HeaderData};
+
+    ghost Value = { HeaderData };
+
+    ghost view = { λ f. record {
+      eh_frame_hdr = D.contents f.eh_frame_hdr;
+      eh_frame = D.contents f.eh_frame;
+      base_addresses = f.base_addresses;
+      base_svma = f.base_svma;
+    } };
+}
+
 /// A call frame section, and an index of its FDEs.
 #[derive(Drop)]
 pub struct IndexedFrames<D: SectionBytes> {
@@ -126,6 +139,30 @@ impl<D: SectionBytes> Model for IndexedFrames<D> {
         IsIndexOfAll (section_of f.section_type f.base_addresses (D.contents f.section_data)) f.base_svma f.index };
 }
 
+/// The function table of a PE module, and the sections with unwind info and code.
+#[derive(Drop)]
+pub struct PeInfo<D: SectionBytes> {
+    pub pdata: D,
+    pub rdata: Option<DataAtRvaRange<D>>,
+    pub xdata: Option<DataAtRvaRange<D>>,
+    pub text: Option<DataAtRvaRange<D>>,
+}
+
+impl<D: SectionBytes> Model for PeInfo<D> {
+    ghost use Rattle.std.specs.Prelude.{option_map};
+    ghost use Rattle.framehop_pe.specs.Sections.{Sections};
+    ghost use Rattle.framehop.specs.PlacedData.{placed_data};
+
+    ghost Value = { Sections };
+
+    ghost view = { λ p. record {
+      pdata = D.contents p.pdata;
+      rdata = option_map (placed_data D.contents) p.rdata;
+      xdata = option_map (placed_data D.contents) p.xdata;
+      text = option_map (placed_data D.contents) p.text;
+    } };
+}
+
 impl<D: SectionBytes + Drop> ModuleUnwindDataInternal<D> {
     /// Returns the unwind data of a module with these sections: the first that there is. Each name is asked
     /// at most once, and its data is taken out. Fails only with `OutOfMemory`.
@@ -142,12 +179,12 @@ impl<D: SectionBytes + Drop> ModuleUnwindDataInternal<D> {
             Some(unwind_info) => Ok(ModuleUnwindDataInternal::CompactUnwindInfoAndEhFrame(
                 CompactInfo::new(unwind_info, section_info),
             )),
-            None => Self::with_pdata(alloc, section_info),
+            None => Self::by_pdata_or_call_frames(alloc, section_info),
         }
     }
 
     // the unwind data of a module without `__unwind_info`
-    fn with_pdata<I: ModuleSectionInfo<D>>(
+    fn by_pdata_or_call_frames<I: ModuleSectionInfo<D>>(
         alloc: Global,
         section_info: &mut I,
     ) -> Result<Self, ModuleListError>
@@ -156,18 +193,18 @@ impl<D: SectionBytes + Drop> ModuleUnwindDataInternal<D> {
         ensures refused { IfErr result (λ error. error ≡ ModuleListError.OutOfMemory) }
     {
         match section_info.section_data(b".pdata") {
-            Some(pdata) => Ok(ModuleUnwindDataInternal::PeUnwindInfo {
+            Some(pdata) => Ok(ModuleUnwindDataInternal::PeUnwindInfo(PeInfo {
                 pdata,
                 rdata: data_at_rva_range(section_info, b".rdata"),
                 xdata: data_at_rva_range(section_info, b".xdata"),
                 text: data_at_rva_range(section_info, b".text"),
-            }),
-            None => Self::with_call_frames(alloc, section_info),
+            })),
+            None => Self::by_call_frames(alloc, section_info),
         }
     }
 
     // the unwind data of a module by its call frame sections
-    fn with_call_frames<I: ModuleSectionInfo<D>>(
+    fn by_call_frames<I: ModuleSectionInfo<D>>(
         alloc: Global,
         section_info: &mut I,
     ) -> Result<Self, ModuleListError>
@@ -176,13 +213,13 @@ impl<D: SectionBytes + Drop> ModuleUnwindDataInternal<D> {
         ensures refused { IfErr result (λ error. error ≡ ModuleListError.OutOfMemory) }
     {
         match data_under(section_info, b".eh_frame", b"__eh_frame") {
-            Some(eh_frame) => Self::with_eh_frame(alloc, eh_frame, section_info),
-            None => Self::with_debug_frame(alloc, section_info),
+            Some(eh_frame) => Self::by_eh_frame(alloc, eh_frame, section_info),
+            None => Self::by_debug_frame(alloc, section_info),
         }
     }
 
     // `.debug_frame` with an index, if there is one
-    fn with_debug_frame<I: ModuleSectionInfo<D>>(
+    fn by_debug_frame<I: ModuleSectionInfo<D>>(
         alloc: Global,
         section_info: &mut I,
     ) -> Result<Self, ModuleListError>
@@ -192,7 +229,7 @@ impl<D: SectionBytes + Drop> ModuleUnwindDataInternal<D> {
     {
         match section_info.section_data(b".debug_frame") {
             Some(debug_frame) => {
-                Self::with_index(
+                Self::by_index(
                     alloc,
                     debug_frame,
                     UnwindSectionType::DebugFrame,
@@ -204,7 +241,7 @@ impl<D: SectionBytes + Drop> ModuleUnwindDataInternal<D> {
     }
 
     // `.eh_frame` with its table of FDEs or, where there is none, with an index
-    fn with_eh_frame<I: ModuleSectionInfo<D>>(
+    fn by_eh_frame<I: ModuleSectionInfo<D>>(
         alloc: Global,
         eh_frame: D,
         section_info: &mut I,
@@ -214,18 +251,20 @@ impl<D: SectionBytes + Drop> ModuleUnwindDataInternal<D> {
         ensures refused { IfErr result (λ error. error ≡ ModuleListError.OutOfMemory) }
     {
         match data_under(section_info, b".eh_frame_hdr", b"__eh_frame_hdr") {
-            Some(eh_frame_hdr) => Ok(ModuleUnwindDataInternal::EhFrameHdrAndEhFrame {
-                eh_frame_hdr,
-                eh_frame,
-                base_addresses: base_addresses_for_sections(section_info),
-                base_svma: section_info.base_svma(),
-            }),
-            None => Self::with_index(alloc, eh_frame, UnwindSectionType::EhFrame, section_info),
+            Some(eh_frame_hdr) => {
+                Ok(ModuleUnwindDataInternal::EhFrameHdrAndEhFrame(HeaderFrames {
+                    eh_frame_hdr,
+                    eh_frame,
+                    base_addresses: base_addresses_for_sections(section_info),
+                    base_svma: section_info.base_svma(),
+                }))
+            }
+            None => Self::by_index(alloc, eh_frame, UnwindSectionType::EhFrame, section_info),
         }
     }
 
     // a call frame section with an index of its FDEs, if it has one
-    fn with_index<I: ModuleSectionInfo<D>>(
+    fn by_index<I: ModuleSectionInfo<D>>(
         alloc: Global,
         section_data: D,
         section_type: UnwindSectionType,

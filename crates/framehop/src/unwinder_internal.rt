@@ -5,10 +5,10 @@
 ghost use Rattle.std.specs.Prelude.{◌≡◌, ◌≢◌, ◌-◌, true, IfOk, IfErr, IfNone, OnSome, MatchOption, MatchResult, Err, None, Some};
 ghost use Rattle.framehop.specs.Memory.{Answering};
 ghost use Rattle.framehop.specs.Outcome.{answer_of, registers_after};
-ghost use Rattle.framehop.specs.CodeAddress.{location_of};
+ghost use Rattle.framehop.specs.CodeAddress.{location_of, lookup_address, is_first_frame};
 ghost use Rattle.framehop.specs.Meaning.{MeansAt};
 ghost use Rattle.framehop.specs.Told.{TellsFresh, TellsFreshValues, WritesComputed, AnswerHas};
-ghost use Rattle.framehop.specs.Fresh.{fresh, outcome_of};
+ghost use Rattle.framehop.specs.Fresh.{fresh, outcome_of, step};
 ghost use Rattle.framehop_cache.specs.Cache.{found, counted, ways};
 ghost use Rattle.framehop_cache.specs.CacheResult.{result_of, HitRuns};
 ghost use Rattle.framehop.specs.Soundness.{key_of, sets_after_miss, MayTakeMemory};
@@ -18,11 +18,13 @@ use crate::cache::{AllocationPolicy, Cache};
 use crate::frame_answer::{FrameAnswer, frame_answer};
 use crate::module_list::ModuleList;
 use crate::modules::{Module, ModuleListError};
+use crate::unwind_by_data::Lookup;
 use crate::unwinder::{RefusedModule, Unwinder};
 use crate::unwinding::Unwinding;
 use framehop_bytes::section::SectionBytes;
 use framehop_cache::generations::Generations;
 use framehop_cache::rule_cache::{CacheHandle, CacheResult};
+use framehop_cfi::context::UnwindContext;
 use framehop_core::unwind_rule::UnwindRule;
 use framehop_core::{Error, FrameAddress};
 use std::alloc::{AllocError, Global};
@@ -93,6 +95,50 @@ impl<D: SectionBytes + Drop, A: Unwinding, P: AllocationPolicy> UnwinderInternal
         self.modules.covering(address)
     }
 
+    /// Unwinds a frame as [`Unwinder::unwind_frame`] does with an empty cache, which it doesn't take:
+    /// the rows of call frame tables are made in the context.
+    ///
+    /// # Errors
+    ///
+    /// Those of `unwind_frame`. The registers are then as they were.
+    pub fn step_fresh<F>(
+        &self,
+        unwind_context: &mut UnwindContext<P::GimliUnwindContextStorage>,
+        address: FrameAddress,
+        regs: &mut A::UnwindRegs,
+        read_stack: &mut F,
+    ) -> Result<Option<u64>, Error>
+    where
+        F: FnMut(u64) -> Result<u64, ()>,
+        requires { F.IsAlwaysCallable read_stack.old }
+        ensures callable { F.IsAlwaysCallable read_stack.new }
+        ensures kept { MatchResult result
+            (λ answer. IfNone answer (regs.new ≡ regs.old))
+            (λ _. regs.new ≡ regs.old) }
+        ensures may_run_out { result ≡ Err Error.OutOfMemory
+            → MayTakeMemory (A.unwinding P.policy) self.now.modules (lookup_address (location_of address))
+            (is_first_frame (location_of address)) }
+        ensures answers { Answering F.FnMut read_stack.old read_stack.new (λ memory.
+            result ≢ Err Error.OutOfMemory →
+            let outcome = step (A.unwinding P.policy) self.now.modules (location_of address) regs.old memory in
+            (result ≡ answer_of outcome) × (regs.new ≡ registers_after regs.old outcome)) }
+    {
+        let is_first_frame = !address.is_return_address();
+        match self.unwind_by_modules(
+            address.address_for_lookup(),
+            is_first_frame,
+            regs,
+            unwind_context,
+            read_stack,
+        )? {
+            FrameAnswer::Rule(rule) => rule.exec(is_first_frame, regs, read_stack),
+            FrameAnswer::Computed(return_address) => Ok(Some(return_address)),
+            FrameAnswer::Fallback | FrameAnswer::NotComputed => {
+                A::UnwindRule::fallback_rule().exec(is_first_frame, regs, read_stack)
+            }
+        }
+    }
+
     // looks for the rule of a frame in the cache
     #[inline(always)]
     fn lookup_rule(
@@ -121,14 +167,13 @@ impl<D: SectionBytes + Drop, A: Unwinding, P: AllocationPolicy> UnwinderInternal
         lookup_address: u64,
         is_first_frame: bool,
         regs: &mut A::UnwindRegs,
-        cache: &mut Cache<A::UnwindRule, P>,
+        unwind_context: &mut UnwindContext<P::GimliUnwindContextStorage>,
         read_stack: &mut F,
     ) -> Result<FrameAnswer<A::UnwindRule>, Error>
     where
         F: FnMut(u64) -> Result<u64, ()>,
         requires { F.IsAlwaysCallable read_stack.old }
         ensures callable { F.IsAlwaysCallable read_stack.new }
-        ensures kept { cache.new ≡ cache.old }
         ensures refused { IfErr result (λ error. (error ≡ Error.OutOfMemory) × (regs.new ≡ regs.old)
             × MayTakeMemory (A.unwinding P.policy) self.now.modules lookup_address is_first_frame) }
         ensures written { IfOk result (λ answer.
@@ -146,9 +191,11 @@ impl<D: SectionBytes + Drop, A: Unwinding, P: AllocationPolicy> UnwinderInternal
         };
         frame_answer(module.unwind_by_data::<A, P, F>(
             self.modules.allocator(),
-            &mut cache.gimli_unwind_context,
-            relative_address,
-            is_first_frame,
+            unwind_context,
+            Lookup {
+                relative_address,
+                is_first_frame,
+            },
             regs,
             read_stack,
         ))
@@ -187,7 +234,13 @@ impl<D: SectionBytes + Drop, A: Unwinding, P: AllocationPolicy> UnwinderInternal
             is_first_frame regs.old memory in
             (result ≡ answer_of outcome) × (regs.new ≡ registers_after regs.old outcome)) }
     {
-        match self.unwind_by_modules(lookup_address, is_first_frame, regs, cache, read_stack)? {
+        match self.unwind_by_modules(
+            lookup_address,
+            is_first_frame,
+            regs,
+            &mut cache.gimli_unwind_context,
+            read_stack,
+        )? {
             FrameAnswer::Rule(rule) => {
                 cache.insert(handle, rule);
                 rule.exec(is_first_frame, regs, read_stack)

@@ -4,7 +4,7 @@ use Rattle.framehop_core.specs.Outcome.{Outcome}
 use Rattle.framehop_core.specs.CodeAddress.{FrameLocation}
 use Rattle.framehop_core.specs.declared.error.Error.TheVariants.{OutOfMemory}
 use Rattle.framehop.specs.Walk.{callers}
-use Rattle.framehop.specs.declared.session.commands.WalkEnd.TheVariants.{Refused}
+use Rattle.framehop.specs.declared.walk.WalkEnd.TheVariants.{Refused}
 use Rattle.framehop_lent.specs.Walk.{IsWrittenUpTo}
 use Rattle.framehop_lent.specs.declared.walk.WalkStop.{WalkStop}
 use Rattle.framehop_lent.specs.declared.walk.WalkStop.TheVariants.{Ended, Missing}

@@ -10,8 +10,7 @@ ghost use Rattle.framehop_dump_stacks.specs.Thread.{thread_stack};
 
 use crate::dump::{Dump, Thread};
 use crate::machine::Dumped;
-use framehop::session::walk;
-use framehop_explain::Words;
+use framehop::walk::{Words, walk};
 use framehop_frames::stack::Stack;
 use framehop_memory::memory::ProcessMemory;
 use std::alloc::{AllocError, Global};
@@ -58,7 +57,7 @@ pub fn walk_thread<U: Dumped>(
     let mut read_stack = |address: u64| -> Result<u64, ()>
         ensures { result ≡ reply (word_of (memory_view memory.entry.now) address) }
     { read_memory(memory, address) };
-    let walked = walk(
+    let (frames, end, _) = walk(
         alloc,
         unwinder,
         cache,
@@ -66,9 +65,6 @@ pub fn walk_thread<U: Dumped>(
         start.regs,
         &mut read_stack,
         limit,
-    );
-    match walked {
-        Ok((frames, end, _)) => Ok(Some(Stack { frames, end })),
-        Err(_) => Err(AllocError),
-    }
+    )?;
+    Ok(Some(Stack { frames, end }))
 }

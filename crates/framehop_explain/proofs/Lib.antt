@@ -2,7 +2,6 @@ pub mod AnnotatedLemmas
 pub mod CallerLemmas
 pub mod CodeLemmas
 pub mod DecidedLemmas
-pub mod FramesLemmas
 pub mod NoteLemmas
 pub mod ToldLemmas
 pub mod UncoveredLemmas

@@ -10,6 +10,7 @@ use crate::frames::explain_fde;
 use crate::pe::Sources;
 use crate::source::{CompactSource, RowSource, Source};
 use crate::told::Told;
+use framehop::unwind_by_data::Lookup;
 use framehop::unwind_data::CompactInfo;
 use framehop::{AllocationPolicy, UnwinderError, Unwinding};
 use framehop_bytes::section::SectionBytes;
@@ -110,8 +111,7 @@ fn explain_by_eh_frame<D: SectionBytes, A: Unwinding, P: AllocationPolicy, F>(
     fde_offset: u32,
     alloc: Global,
     unwind_context: &mut UnwindContext<P::GimliUnwindContextStorage>,
-    relative_address: u32,
-    is_first_frame: bool,
+    lookup: Lookup,
     regs: A::UnwindRegs,
     read_stack: &mut F,
 ) -> Result<(Source, Told<A::UnwindRule>), AllocError>
@@ -120,11 +120,11 @@ where
     requires { F.IsAlwaysCallable read_stack.old }
     ensures callable { F.IsAlwaysCallable read_stack.new }
     ensures source { IfOk result (λ found. found.0 ≡ eh_frame_source
-        P.GimliUnwindContextStorage.limits info.now.frames relative_address fde_offset place) }
+        P.GimliUnwindContextStorage.limits info.now.frames lookup.relative_address fde_offset place) }
     ensures answers { Answering F.FnMut read_stack.old read_stack.new (λ memory.
         IfOk result (λ found. found.1 ≡ eh_frame_told A.translated A.uncovered
-        (λ bytes row. A.direct bytes P.GimliEvaluationStorage.Stack.limit memory row is_first_frame regs)
-        P.GimliUnwindContextStorage.limits info.now.frames relative_address fde_offset)) }
+        (λ bytes row. A.direct bytes P.GimliEvaluationStorage.Stack.limit memory row lookup.is_first_frame regs)
+        P.GimliUnwindContextStorage.limits info.now.frames lookup.relative_address fde_offset)) }
 {
     let Some(eh_frame) = &info.eh_frame else {
         return Ok((
@@ -143,9 +143,8 @@ where
     let (row, told) = explain_fde::<A, P, F>(
         &mut unwinder,
         alloc,
-        relative_address,
+        lookup,
         fde_offset,
-        is_first_frame,
         regs,
         read_stack,
     )?;
@@ -157,12 +156,11 @@ where
 /// # Errors
 ///
 /// An allocation failed.
-pub fn explain_compact<D: SectionBytes, A: Sources, P: AllocationPolicy, F>(
+pub fn explain_by_info<D: SectionBytes, A: Sources, P: AllocationPolicy, F>(
     info: &CompactInfo<D>,
     alloc: Global,
     unwind_context: &mut UnwindContext<P::GimliUnwindContextStorage>,
-    relative_address: u32,
-    is_first_frame: bool,
+    lookup: Lookup,
     regs: A::UnwindRegs,
     read_stack: &mut F,
 ) -> Result<(Source, Told<A::UnwindRule>), AllocError>
@@ -172,15 +170,15 @@ where
     ensures callable { F.IsAlwaysCallable read_stack.new }
     ensures source { IfOk result (λ found. IsCompactSource
         (record { by_code = A.by_code; prologue = A.prologue_rule; epilogue = A.epilogue_rule })
-        A.readers.compact P.GimliUnwindContextStorage.limits info.now relative_address is_first_frame found.0) }
+        A.readers.compact P.GimliUnwindContextStorage.limits info.now lookup.relative_address lookup.is_first_frame found.0) }
     ensures answers { Answering F.FnMut read_stack.old read_stack.new (λ memory.
         IfOk result (λ found. found.1 ≡ compact_told A.translated A.uncovered
-        (λ bytes row. A.direct bytes P.GimliEvaluationStorage.Stack.limit memory row is_first_frame regs)
-        P.GimliUnwindContextStorage.limits info.now.frames relative_address
-        (unwound A.readers.compact info.now.info relative_address is_first_frame))) }
+        (λ bytes row. A.direct bytes P.GimliEvaluationStorage.Stack.limit memory row lookup.is_first_frame regs)
+        P.GimliUnwindContextStorage.limits info.now.frames lookup.relative_address
+        (unwound A.readers.compact info.now.info lookup.relative_address lookup.is_first_frame))) }
 {
-    let place = place_of::<D, A>(info, relative_address, is_first_frame);
-    match info.rule_or_fde_offset::<A>(relative_address, is_first_frame) {
+    let place = place_of::<D, A>(info, lookup.relative_address, lookup.is_first_frame);
+    match info.rule_or_fde_offset::<A>(lookup) {
         Ok(CuiUnwindResult::ExecRule(rule)) => Ok((Source::Compact(place), Told::Rule(rule))),
         Ok(CuiUnwindResult::NeedDwarf(fde_offset)) => explain_by_eh_frame::<D, A, P, F>(
             info,
@@ -188,8 +186,7 @@ where
             fde_offset,
             alloc,
             unwind_context,
-            relative_address,
-            is_first_frame,
+            lookup,
             regs,
             read_stack,
         ),

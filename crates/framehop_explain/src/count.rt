@@ -49,14 +49,12 @@ impl UnwindDataCount {
     {
         match loaded.unwind_data() {
             ModuleUnwindDataInternal::None(_) => UnwindDataCount::None,
-            ModuleUnwindDataInternal::EhFrameHdrAndEhFrame {
-                eh_frame_hdr,
-                base_addresses,
-                ..
-            } => count_rows(eh_frame_hdr.bytes(), base_addresses),
+            ModuleUnwindDataInternal::EhFrameHdrAndEhFrame(frames) => {
+                count_rows(frames.eh_frame_hdr.bytes(), &frames.base_addresses)
+            }
             ModuleUnwindDataInternal::DwarfCfiIndexAndFrames(frames) => count_fdes(frames),
-            ModuleUnwindDataInternal::PeUnwindInfo { pdata, .. } => {
-                UnwindDataCount::Functions(pdata.bytes().len() / RUNTIME_FUNCTION)
+            ModuleUnwindDataInternal::PeUnwindInfo(info) => {
+                UnwindDataCount::Functions(info.pdata.bytes().len() / RUNTIME_FUNCTION)
             }
             ModuleUnwindDataInternal::CompactUnwindInfoAndEhFrame(info) => {
                 count_pages(info.unwind_info.bytes())

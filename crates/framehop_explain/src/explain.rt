@@ -6,24 +6,21 @@ ghost use Rattle.framehop_core.specs.CodeAddress.{location_of, lookup_address, i
 ghost use Rattle.framehop_pe.specs.Sections.{sections_of};
 ghost use Rattle.framehop.specs.Fresh.{step};
 ghost use Rattle.framehop.specs.Modules.{covering, pe_sections};
-ghost use Rattle.framehop.specs.UnwindData.{placed_data};
 ghost use Rattle.framehop_explain.specs.Decided.{IsDecidedBy};
 ghost use Rattle.framehop_explain.specs.Explain.{IsSource, IsTold};
 
-use crate::compact::explain_compact;
-use crate::frames::{explain_by_header, explain_indexed};
+use crate::compact::explain_by_info;
+use crate::frames::{explain_by_header, explain_by_index};
 use crate::pe::{Sources, told_by_sections};
 use crate::source::Source;
 use crate::told::Told;
-use framehop::cache::Cache;
-use framehop::unwind_by_data::lent;
+use framehop::unwind_by_data::Lookup;
 use framehop::unwind_data::ModuleUnwindDataInternal;
-use framehop::unwinder::{Unwinder, UnwinderInternal};
+use framehop::unwinder::UnwinderInternal;
 use framehop::{AllocationPolicy, Error, FrameAddress, Module, UnwinderError};
 use framehop_bytes::section::SectionBytes;
 use framehop_cfi::context::UnwindContext;
 use framehop_core::arch::Arch;
-use framehop_pe::pe::{DataAtRvaRange, PeSections};
 use std::alloc::{AllocError, Global};
 
 /// What the module that covers a frame tells for it.
@@ -56,35 +53,12 @@ fn is_out_of_memory(outcome: &Result<Option<u64>, Error>) -> bool
     }
 }
 
-/// Returns the unwind info of a PE module, lent.
-fn lent_sections<'a, D: SectionBytes>(
-    pdata: &'a D,
-    rdata: &'a Option<DataAtRvaRange<D>>,
-    xdata: &'a Option<DataAtRvaRange<D>>,
-    text: &'a Option<DataAtRvaRange<D>>,
-) -> PeSections<'a, D>
-    ensures { sections_of D.contents result ≡ record {
-      pdata = D.contents pdata.entry.now;
-      rdata = option_map (placed_data D.contents) rdata.entry.now;
-      xdata = option_map (placed_data D.contents) xdata.entry.now;
-      text = option_map (placed_data D.contents) text.entry.now;
-    } }
-{
-    PeSections {
-        pdata,
-        rdata: lent(rdata),
-        xdata: lent(xdata),
-        text: lent(text),
-    }
-}
-
 /// Explains a frame by the unwind data of the module that covers it.
 pub fn explain_module<D: SectionBytes + Drop, A: Sources, P: AllocationPolicy, F>(
     module: &Module<D>,
     alloc: Global,
     unwind_context: &mut UnwindContext<P::GimliUnwindContextStorage>,
-    relative_address: u32,
-    is_first_frame: bool,
+    lookup: Lookup,
     regs: A::UnwindRegs,
     read_stack: &mut F,
 ) -> Result<(Source, Told<A::UnwindRule>), AllocError>
@@ -97,79 +71,37 @@ where
           pe = A.pe_source;
           code = record { by_code = A.by_code; prologue = A.prologue_rule; epilogue = A.epilogue_rule };
           compact = A.readers.compact;
-        }) P.GimliUnwindContextStorage.limits module.now.unwind_data relative_address is_first_frame found.0) }
+        }) P.GimliUnwindContextStorage.limits module.now.unwind_data lookup.relative_address lookup.is_first_frame found.0) }
     ensures answers { Answering F.FnMut read_stack.old read_stack.new (λ memory.
         IfOk result (λ found. IsTold (record {
           translated = A.translated;
           uncovered = A.uncovered;
-          direct = λ bytes row. A.direct bytes P.GimliEvaluationStorage.Stack.limit memory row is_first_frame regs;
+          direct = λ bytes row. A.direct bytes P.GimliEvaluationStorage.Stack.limit memory row lookup.is_first_frame regs;
           found = A.found;
           computed = λ sections relative first. A.computed sections relative first memory regs;
           compact = A.readers.compact;
-        }) P.GimliUnwindContextStorage.limits module.now.unwind_data relative_address is_first_frame found.1)) }
+        }) P.GimliUnwindContextStorage.limits module.now.unwind_data lookup.relative_address lookup.is_first_frame found.1)) }
 {
     match module.unwind_data() {
         ModuleUnwindDataInternal::None(refusal) => Ok((
             Source::NoUnwindData(*refusal),
             Told::Refused(UnwinderError::NoModuleUnwindData),
         )),
-        ModuleUnwindDataInternal::DwarfCfiIndexAndFrames(frames) => explain_indexed::<D, A, P, F>(
-            frames,
-            alloc,
-            unwind_context,
-            relative_address,
-            is_first_frame,
-            regs,
-            read_stack,
-        ),
-        ModuleUnwindDataInternal::EhFrameHdrAndEhFrame {
-            eh_frame_hdr,
-            eh_frame,
-            base_addresses,
-            base_svma,
-        } => explain_by_header::<A, P, F>(
-            eh_frame_hdr.bytes(),
-            eh_frame.bytes(),
-            *base_addresses,
-            *base_svma,
-            alloc,
-            unwind_context,
-            relative_address,
-            is_first_frame,
-            regs,
-            read_stack,
-        ),
-        ModuleUnwindDataInternal::PeUnwindInfo {
-            pdata,
-            rdata,
-            xdata,
-            text,
-        } => {
-            let sections = lent_sections(pdata, rdata, xdata, text);
-            let source = A::pe_source(sections, relative_address, is_first_frame);
-            let told = told_by_sections::<D, A, F>(
-                sections,
-                relative_address,
-                is_first_frame,
-                regs,
-                read_stack,
-            );
+        ModuleUnwindDataInternal::DwarfCfiIndexAndFrames(frames) => {
+            explain_by_index::<D, A, P, F>(frames, alloc, unwind_context, lookup, regs, read_stack)
+        }
+        ModuleUnwindDataInternal::EhFrameHdrAndEhFrame(frames) => {
+            explain_by_header::<D, A, P, F>(frames, alloc, unwind_context, lookup, regs, read_stack)
+        }
+        ModuleUnwindDataInternal::PeUnwindInfo(info) => {
+            let sections = info.sections();
+            let source = A::pe_source(sections, lookup.relative_address, lookup.is_first_frame);
+            let told = told_by_sections::<D, A, F>(sections, lookup, regs, read_stack);
             Ok((Source::Pe(source), told))
         }
-        ModuleUnwindDataInternal::CompactUnwindInfoAndEhFrame(info) => explain_compact::<
-            D,
-            A,
-            P,
-            F,
-        >(
-            info,
-            alloc,
-            unwind_context,
-            relative_address,
-            is_first_frame,
-            regs,
-            read_stack,
-        ),
+        ModuleUnwindDataInternal::CompactUnwindInfoAndEhFrame(info) => {
+            explain_by_info::<D, A, P, F>(info, alloc, unwind_context, lookup, regs, read_stack)
+        }
     }
 }
 
@@ -177,6 +109,7 @@ where
 fn explain_address<'a, D: SectionBytes + Drop, A: Sources, P: AllocationPolicy, F>(
     unwinder: &'a UnwinderInternal<D, A, P>,
     alloc: Global,
+    unwind_context: &mut UnwindContext<P::GimliUnwindContextStorage>,
     address: u64,
     is_first_frame: bool,
     regs: A::UnwindRegs,
@@ -208,13 +141,14 @@ where
     let Some((module, relative_address)) = unwinder.find_module_for_address(address) else {
         return Ok(None);
     };
-    let mut unwind_context = UnwindContext::new_in(alloc)?;
     let (source, told) = explain_module::<D, A, P, F>(
         module,
         alloc,
-        &mut unwind_context,
-        relative_address,
-        is_first_frame,
+        unwind_context,
+        Lookup {
+            relative_address,
+            is_first_frame,
+        },
         regs,
         read_stack,
     )?;
@@ -268,17 +202,18 @@ where
         → IfOk result (λ explanation. IsDecidedBy A.UnwindRule.outcome A.UnwindRule.fallback (is_first_frame (location_of address)) regs memory
         (option_map (λ found. found.told) explanation.finding) explanation.outcome explanation.regs) }
 {
-    let mut cache: Cache<A::UnwindRule, P> = Cache::new(alloc)?;
+    let mut unwind_context = UnwindContext::new_in(alloc)?;
     let finding = explain_address(
         unwinder,
         alloc,
+        &mut unwind_context,
         address.address_for_lookup(),
         !address.is_return_address(),
         regs,
         read_stack,
     )?;
     let mut caller = regs;
-    let outcome = unwinder.unwind_frame(address, &mut caller, &mut cache, read_stack);
+    let outcome = unwinder.step_fresh(&mut unwind_context, address, &mut caller, read_stack);
     if is_out_of_memory(&outcome) {
         return Err(AllocError);
     }

@@ -2,18 +2,18 @@
 ghost use Rattle.std.specs.Prelude.{◌≡◌, ◌+◌, IfOk};
 ghost use Rattle.framehop_core.specs.Memory.{Answering};
 ghost use Rattle.framehop_dwarf.specs.Unwinder.{reading_of};
-ghost use Rattle.framehop.specs.CallFrames.{frames_with_header};
+ghost use Rattle.framehop.specs.CallFrames.{header_frames};
 ghost use Rattle.framehop_explain.specs.Told.{dwarf_told, frames_told};
 ghost use Rattle.framehop_explain.specs.Source.{row_source, frames_source};
 
 use crate::source::{RowSource, Source};
 use crate::told::{Told, told_by_dwarf};
-use framehop::unwind_data::IndexedFrames;
+use framehop::unwind_by_data::Lookup;
+use framehop::unwind_data::{HeaderFrames, IndexedFrames};
 use framehop::{AllocationPolicy, UnwinderError, Unwinding};
 use framehop_bytes::section::SectionBytes;
 use framehop_cfi::context::UnwindContext;
 use framehop_cfi::entry::{UnwindSection, UnwindSectionType};
-use framehop_cfi::pointer::BaseAddresses;
 use framehop_cfi::storage::UnwindContextStorage;
 use framehop_dwarf::dwarf::DwarfUnwinderError;
 use framehop_dwarf::unwinder::{DwarfUnwinder, find_row};
@@ -47,9 +47,8 @@ pub fn row_of<S: UnwindContextStorage>(
 pub fn told_by_fde<A: Unwinding, P: AllocationPolicy, F>(
     unwinder: &mut DwarfUnwinder<'_, A, P::GimliUnwindContextStorage>,
     alloc: Global,
-    relative_address: u32,
+    lookup: Lookup,
     fde_offset: u32,
-    is_first_frame: bool,
     regs: A::UnwindRegs,
     read_stack: &mut F,
 ) -> Result<Told<A::UnwindRule>, AllocError>
@@ -59,15 +58,15 @@ where
     ensures callable { F.IsAlwaysCallable read_stack.new }
     ensures answers { Answering F.FnMut read_stack.old read_stack.new (λ memory.
         IfOk result (λ told. told ≡ dwarf_told A.translated A.uncovered
-        (λ row. A.direct unwinder.old.section.bytes P.GimliEvaluationStorage.Stack.limit memory row is_first_frame regs)
-        (reading_of P.GimliUnwindContextStorage.limits unwinder.old.section (unwinder.old.base_svma + relative_address) fde_offset))) }
+        (λ row. A.direct unwinder.old.section.bytes P.GimliEvaluationStorage.Stack.limit memory row lookup.is_first_frame regs)
+        (reading_of P.GimliUnwindContextStorage.limits unwinder.old.section (unwinder.old.base_svma + lookup.relative_address) fde_offset))) }
 {
     let mut caller = regs;
     told_by_dwarf(unwinder.unwind_frame_with_fde::<P::GimliEvaluationStorage, F>(
         alloc,
         &mut caller,
-        is_first_frame,
-        relative_address,
+        lookup.is_first_frame,
+        lookup.relative_address,
         fde_offset,
         read_stack,
     ))
@@ -77,9 +76,8 @@ where
 pub fn explain_fde<A: Unwinding, P: AllocationPolicy, F>(
     unwinder: &mut DwarfUnwinder<'_, A, P::GimliUnwindContextStorage>,
     alloc: Global,
-    relative_address: u32,
+    lookup: Lookup,
     fde_offset: u32,
-    is_first_frame: bool,
     regs: A::UnwindRegs,
     read_stack: &mut F,
 ) -> Result<(RowSource, Told<A::UnwindRule>), AllocError>
@@ -88,38 +86,29 @@ where
     requires { F.IsAlwaysCallable read_stack.old }
     ensures callable { F.IsAlwaysCallable read_stack.new }
     ensures source { IfOk result (λ found. found.0 ≡ row_source
-        (reading_of P.GimliUnwindContextStorage.limits unwinder.old.section (unwinder.old.base_svma + relative_address) fde_offset)) }
+        (reading_of P.GimliUnwindContextStorage.limits unwinder.old.section (unwinder.old.base_svma + lookup.relative_address) fde_offset)) }
     ensures answers { Answering F.FnMut read_stack.old read_stack.new (λ memory.
         IfOk result (λ found. found.1 ≡ dwarf_told A.translated A.uncovered
-        (λ row. A.direct unwinder.old.section.bytes P.GimliEvaluationStorage.Stack.limit memory row is_first_frame regs)
-        (reading_of P.GimliUnwindContextStorage.limits unwinder.old.section (unwinder.old.base_svma + relative_address) fde_offset))) }
+        (λ row. A.direct unwinder.old.section.bytes P.GimliEvaluationStorage.Stack.limit memory row lookup.is_first_frame regs)
+        (reading_of P.GimliUnwindContextStorage.limits unwinder.old.section (unwinder.old.base_svma + lookup.relative_address) fde_offset))) }
 {
     let row = row_of(
         &unwinder.section,
         unwinder.base_svma,
-        relative_address,
+        lookup.relative_address,
         fde_offset,
         unwinder.unwind_context,
     )?;
-    let told = told_by_fde::<A, P, F>(
-        unwinder,
-        alloc,
-        relative_address,
-        fde_offset,
-        is_first_frame,
-        regs,
-        read_stack,
-    )?;
+    let told = told_by_fde::<A, P, F>(unwinder, alloc, lookup, fde_offset, regs, read_stack)?;
     Ok((row, told))
 }
 
 /// Explains a frame by a section with an index of its FDEs.
-pub fn explain_indexed<D: SectionBytes, A: Unwinding, P: AllocationPolicy, F>(
+pub fn explain_by_index<D: SectionBytes, A: Unwinding, P: AllocationPolicy, F>(
     frames: &IndexedFrames<D>,
     alloc: Global,
     unwind_context: &mut UnwindContext<P::GimliUnwindContextStorage>,
-    relative_address: u32,
-    is_first_frame: bool,
+    lookup: Lookup,
     regs: A::UnwindRegs,
     read_stack: &mut F,
 ) -> Result<(Source, Told<A::UnwindRule>), AllocError>
@@ -127,13 +116,13 @@ where
     F: FnMut(u64) -> Result<u64, ()>,
     requires { F.IsAlwaysCallable read_stack.old }
     ensures callable { F.IsAlwaysCallable read_stack.new }
-    ensures source { IfOk result (λ found. found.0 ≡ frames_source P.GimliUnwindContextStorage.limits frames.now relative_address) }
+    ensures source { IfOk result (λ found. found.0 ≡ frames_source P.GimliUnwindContextStorage.limits frames.now lookup.relative_address) }
     ensures answers { Answering F.FnMut read_stack.old read_stack.new (λ memory.
         IfOk result (λ found. found.1 ≡ frames_told A.translated A.uncovered
-        (λ row. A.direct frames.now.section.bytes P.GimliEvaluationStorage.Stack.limit memory row is_first_frame regs)
-        P.GimliUnwindContextStorage.limits frames.now relative_address)) }
+        (λ row. A.direct frames.now.section.bytes P.GimliEvaluationStorage.Stack.limit memory row lookup.is_first_frame regs)
+        P.GimliUnwindContextStorage.limits frames.now lookup.relative_address)) }
 {
-    let Some(offset) = frames.fde_offset(relative_address) else {
+    let Some(offset) = frames.fde_offset(lookup.relative_address) else {
         return Ok((
             Source::NotInIndex(frames.section_type),
             Told::Refused(UnwinderError::DwarfCfiIndexCouldNotFindAddress),
@@ -150,9 +139,8 @@ where
     let (row, told) = explain_fde::<A, P, F>(
         &mut unwinder,
         alloc,
-        relative_address,
+        lookup,
         offset,
-        is_first_frame,
         regs,
         read_stack,
     )?;
@@ -167,15 +155,11 @@ where
 }
 
 /// Explains a frame by `.eh_frame` and its table of FDEs.
-pub fn explain_by_header<A: Unwinding, P: AllocationPolicy, F>(
-    eh_frame_hdr: &[u8],
-    eh_frame: &[u8],
-    base_addresses: BaseAddresses,
-    base_svma: u64,
+pub fn explain_by_header<D: SectionBytes, A: Unwinding, P: AllocationPolicy, F>(
+    frames: &HeaderFrames<D>,
     alloc: Global,
     unwind_context: &mut UnwindContext<P::GimliUnwindContextStorage>,
-    relative_address: u32,
-    is_first_frame: bool,
+    lookup: Lookup,
     regs: A::UnwindRegs,
     read_stack: &mut F,
 ) -> Result<(Source, Told<A::UnwindRule>), AllocError>
@@ -183,23 +167,17 @@ where
     F: FnMut(u64) -> Result<u64, ()>,
     requires { F.IsAlwaysCallable read_stack.old }
     ensures callable { F.IsAlwaysCallable read_stack.new }
-    ensures source { IfOk result (λ found. found.0 ≡ frames_source P.GimliUnwindContextStorage.limits
-        (frames_with_header eh_frame_hdr.now eh_frame.now base_addresses base_svma) relative_address) }
+    ensures source { IfOk result (λ found. found.0 ≡ frames_source P.GimliUnwindContextStorage.limits (header_frames frames.now) lookup.relative_address) }
     ensures answers { Answering F.FnMut read_stack.old read_stack.new (λ memory.
         IfOk result (λ found. found.1 ≡ frames_told A.translated A.uncovered
-        (λ row. A.direct eh_frame.now P.GimliEvaluationStorage.Stack.limit memory row is_first_frame regs)
-        P.GimliUnwindContextStorage.limits
-        (frames_with_header eh_frame_hdr.now eh_frame.now base_addresses base_svma) relative_address)) }
+        (λ row. A.direct frames.now.eh_frame P.GimliEvaluationStorage.Stack.limit memory row lookup.is_first_frame regs)
+        P.GimliUnwindContextStorage.limits (header_frames frames.now) lookup.relative_address)) }
 {
-    let mut unwinder: DwarfUnwinder<'_, A, P::GimliUnwindContextStorage> = DwarfUnwinder::new(
-        eh_frame,
-        UnwindSectionType::EhFrame,
-        Some(eh_frame_hdr),
+    let (mut unwinder, fde_offset) = frames.unwinder_at::<A, P::GimliUnwindContextStorage>(
         unwind_context,
-        base_addresses,
-        base_svma,
+        lookup.relative_address,
     );
-    let Some(offset) = unwinder.get_fde_offset_for_relative_address(relative_address) else {
+    let Some(offset) = fde_offset else {
         return Ok((
             Source::NotInHeader,
             Told::Refused(UnwinderError::EhFrameHdrCouldNotFindAddress),
@@ -208,9 +186,8 @@ where
     let (row, told) = explain_fde::<A, P, F>(
         &mut unwinder,
         alloc,
-        relative_address,
+        lookup,
         offset,
-        is_first_frame,
         regs,
         read_stack,
     )?;

@@ -46,13 +46,13 @@ impl UnwindDataKind {
                 section_type: refusal.section_type,
                 error: refusal.error,
             },
-            ModuleUnwindDataInternal::EhFrameHdrAndEhFrame { .. } => {
+            ModuleUnwindDataInternal::EhFrameHdrAndEhFrame(_) => {
                 UnwindDataKind::EhFrameWithHeader
             }
             ModuleUnwindDataInternal::DwarfCfiIndexAndFrames(frames) => UnwindDataKind::Indexed {
                 section_type: frames.section_type,
             },
-            ModuleUnwindDataInternal::PeUnwindInfo { .. } => UnwindDataKind::Pe,
+            ModuleUnwindDataInternal::PeUnwindInfo(_) => UnwindDataKind::Pe,
             ModuleUnwindDataInternal::CompactUnwindInfoAndEhFrame(info) => UnwindDataKind::Compact {
                 has_eh_frame: info.eh_frame.is_some(),
             },

@@ -16,7 +16,6 @@ pub mod source;
 pub mod text;
 pub mod told;
 pub mod uncovered;
-pub mod words;
 
 pub use annotate::annotated;
 pub use count::UnwindDataCount;
@@ -29,4 +28,3 @@ pub use source::{CompactSource, PeSource, RowSource, Source};
 pub use text::{frame_text, unwind_data_text};
 pub use told::Told;
 pub use uncovered::{Uncovered, last_module_by};
-pub use words::Words;

@@ -10,6 +10,7 @@ ghost use Rattle.framehop_macho.specs.declared.unwind_info.info.Function.{Functi
 use crate::source::PeSource;
 use crate::told::{Told, told_by_pe};
 use framehop::Unwinding;
+use framehop::unwind_by_data::Lookup;
 use framehop_bytes::section::SectionBytes;
 use framehop_core::aarch64::ArchAarch64;
 use framehop_core::x86_64::ArchX86_64;
@@ -124,8 +125,7 @@ impl Sources for ArchAarch64 {
 /// Returns what PE unwind info tells for a frame.
 pub fn told_by_sections<D: SectionBytes, A: Unwinding, F>(
     sections: PeSections<'_, D>,
-    relative_address: u32,
-    is_first_frame: bool,
+    lookup: Lookup,
     regs: A::UnwindRegs,
     read_stack: &mut F,
 ) -> Told<A::UnwindRule>
@@ -134,15 +134,15 @@ where
     requires { F.IsAlwaysCallable read_stack.old }
     ensures callable { F.IsAlwaysCallable read_stack.new }
     ensures answers { Answering F.FnMut read_stack.old read_stack.new (λ memory.
-        result ≡ told_by pe_reason (A.found (sections_of D.contents sections.entry) relative_address is_first_frame)
-        (A.computed (sections_of D.contents sections.entry) relative_address is_first_frame memory regs)) }
+        result ≡ told_by pe_reason (A.found (sections_of D.contents sections.entry) lookup.relative_address lookup.is_first_frame)
+        (A.computed (sections_of D.contents sections.entry) lookup.relative_address lookup.is_first_frame memory regs)) }
 {
     let mut caller = regs;
     told_by_pe(<A as PeUnwinding>::unwind_frame(
         sections,
-        relative_address,
+        lookup.relative_address,
         &mut caller,
-        is_first_frame,
+        lookup.is_first_frame,
         read_stack,
     ))
 }

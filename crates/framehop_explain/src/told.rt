@@ -1,5 +1,5 @@
 //! What the unwind data of a module tells for a frame.
-ghost use Rattle.std.specs.Prelude.{◌≡◌, ◌≢◌, IfOk, OnOk, Err};
+ghost use Rattle.std.specs.Prelude.{◌≡◌, ◌≢◌, IfOk, IfErr, OnOk, Err};
 ghost use Rattle.framehop_dwarf.specs.Told.{out_of_memory};
 ghost use Rattle.framehop_explain.specs.Told.{of_dwarf, of_pe};
 
@@ -27,6 +27,7 @@ pub fn told_by_dwarf<R>(
 ) -> Result<Told<R>, AllocError>
     ensures told { IfOk result (λ told. told ≡ of_dwarf answer) }
     ensures whole { OnOk result (answer ≢ Err out_of_memory) }
+    ensures refused { IfErr result (λ _. answer ≡ Err out_of_memory) }
 {
     match answer {
         Ok(UnwindResult::ExecRule(rule)) => Ok(Told::Rule(rule)),

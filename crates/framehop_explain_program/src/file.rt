@@ -5,6 +5,7 @@
 use crate::row_text::{RegisterNames, push_row};
 use framehop::aarch64::{ArchAarch64, UnwindRegsAarch64};
 use framehop::cache::MayAllocateDuringUnwind;
+use framehop::unwind_by_data::Lookup;
 use framehop::unwind_data::ModuleUnwindDataInternal;
 use framehop::x86_64::{ArchX86_64, UnwindRegsX86_64};
 use framehop::{Module, ModuleListError, UnwinderError};
@@ -138,14 +139,10 @@ fn call_frames(module: &Module<Vec<u8>>) -> Option<UnwindSection<'_>> {
             frames.section_type,
             &frames.base_addresses,
         )),
-        ModuleUnwindDataInternal::EhFrameHdrAndEhFrame {
-            eh_frame,
-            base_addresses,
-            ..
-        } => Some(UnwindSection::new(
-            eh_frame.as_slice(),
+        ModuleUnwindDataInternal::EhFrameHdrAndEhFrame(frames) => Some(UnwindSection::new(
+            frames.eh_frame.as_slice(),
             UnwindSectionType::EhFrame,
-            base_addresses,
+            &frames.base_addresses,
         )),
         _ => None,
     }
@@ -201,8 +198,8 @@ fn push_pe_functions(pdata: &[u8], out: &mut String) -> Result<(), AllocError> {
 
 /// Appends a line for each function that a module's unwind data has.
 fn push_all_functions(module: &Module<Vec<u8>>, out: &mut String) -> Result<(), AllocError> {
-    if let ModuleUnwindDataInternal::PeUnwindInfo { pdata, .. } = module.unwind_data() {
-        return push_pe_functions(pdata.as_slice(), out);
+    if let ModuleUnwindDataInternal::PeUnwindInfo(info) = module.unwind_data() {
+        return push_pe_functions(info.pdata.as_slice(), out);
     }
     match call_frames(module) {
         Some(section) => push_functions(&section, out),
@@ -245,12 +242,15 @@ where
     requires { F.IsAlwaysCallable read_stack.old }
 {
     let mut context = UnwindContext::new_in(alloc)?;
+    let lookup = Lookup {
+        relative_address: address,
+        is_first_frame: false,
+    };
     explain_module::<Vec<u8>, A, MayAllocateDuringUnwind, F>(
         module,
         alloc,
         &mut context,
-        address,
-        false,
+        lookup,
         A::no_registers(),
         read_stack,
     )

@@ -3,7 +3,7 @@ ghost use Rattle.std.specs.Prelude.{◌++◌, IfOk};
 ghost use Rattle.framehop_frames.specs.Explained.{IsShown};
 
 use crate::stack::Stack;
-use framehop::session::WalkEnd;
+use framehop::walk::WalkEnd;
 use framehop_explain::{Note, annotated};
 use std::alloc::{AllocError, Global};
 

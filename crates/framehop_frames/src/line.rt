@@ -11,7 +11,7 @@ ghost use Rattle.framehop_symbols.specs.Place.{place_view};
 ghost use Rattle.framehop_frames.specs.Line.{plain_byte, plain, base_name, hexadecimal, label_of, refusal_name, end_name, mark, mark_of, frames_text, frame_label, line_of, refused_line, described, frame_line, last_line, block_of, time_text, head_of};
 
 use crate::stack::Stack;
-use framehop::session::WalkEnd;
+use framehop::walk::WalkEnd;
 use framehop::{Error, FrameAddress};
 use framehop_processes::Mapping;
 use framehop_symbols::files::Files;

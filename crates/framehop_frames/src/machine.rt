@@ -9,9 +9,10 @@ ghost use Rattle.framehop.specs.Walk.{walk_from};
 use framehop::aarch64::{CacheAarch64, UnwindRegsAarch64, UnwinderAarch64};
 use framehop::cache::MayAllocateDuringUnwind;
 use framehop::section::SectionBytes;
+use framehop::walk::Words;
 use framehop::x86_64::{CacheX86_64, UnwindRegsX86_64, UnwinderX86_64};
 use framehop::{CacheStats, Unwinder};
-use framehop_explain::{Note, Words, note_walk};
+use framehop_explain::{Note, note_walk};
 use framehop_processes::ProcessUnwinder;
 use std::alloc::{AllocError, Global};
 

@@ -1,6 +1,6 @@
 //! The stack of a thread at a time.
 use framehop::FrameAddress;
-use framehop::session::WalkEnd;
+use framehop::walk::WalkEnd;
 
 /// The frames of a stack, the innermost first, and how the walk ended.
 #[derive(Drop)]

@@ -6,8 +6,8 @@ use Rattle.framehop_core.specs.CodeAddress.{FrameLocation, address_of}
 use Rattle.framehop.specs.Walk.{callers, cache_after_callers}
 use Rattle.framehop.specs.SessionView.{end_of}
 use Rattle.framehop.specs.Iterator.{Progress, at_frame, next_of, end_in, frames_in, walk_on, cache_on, cache_after_next}
-use Rattle.framehop.specs.declared.session.commands.WalkEnd.{WalkEnd}
-use Rattle.framehop.specs.declared.session.commands.WalkEnd.TheVariants.{Limit, Refused}
+use Rattle.framehop.specs.declared.walk.WalkEnd.{WalkEnd}
+use Rattle.framehop.specs.declared.walk.WalkEnd.TheVariants.{Limit, Refused}
 use Rattle.framehop_core.specs.declared.error.Error.TheVariants.{OutOfMemory, ReturnAddressIsNull}
 use Rattle.framehop.proofs.WalkLemmas.{WalksOn, WalksOn-next, WalksOn-ended, WalksOn-limit}
 use Rattle.framehop_lent.specs.Walk.{BeginsWalk, IsWrittenWalk, IsWrittenUpTo, IsCallerOrEnd, WhereEnded}

@@ -5,8 +5,8 @@ use Rattle.framehop.specs.Outcome.{Outcome}
 use Rattle.framehop.specs.Walk.{Walk, callers}
 use Rattle.framehop.specs.Iterator.{Next, at_frame, end_in, frames_in}
 use Rattle.framehop.specs.SessionView.{end_of}
-use Rattle.framehop.specs.declared.session.commands.WalkEnd.{WalkEnd}
-use Rattle.framehop.specs.declared.session.commands.WalkEnd.TheVariants.{Refused, Limit}
+use Rattle.framehop.specs.declared.walk.WalkEnd.{WalkEnd}
+use Rattle.framehop.specs.declared.walk.WalkEnd.TheVariants.{Refused, Limit}
 use Rattle.framehop_core.specs.declared.code_address.FrameAddress.{FrameAddress}
 use Rattle.framehop_core.specs.declared.error.Error.TheVariants.{OutOfMemory}
 use Rattle.framehop_lent.specs.Window.{told_in}

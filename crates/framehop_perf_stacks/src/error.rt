@@ -2,7 +2,6 @@
 ghost use Rattle.std.specs.Prelude.{◌≡◌};
 
 use framehop::ModuleListError;
-use framehop::session::SessionError;
 use framehop_folded::error::FoldedError;
 use framehop_processes::ProcessesError;
 use framehop_recording::error::RecordingError;
@@ -70,16 +69,6 @@ impl From<FoldedError> for StacksError {
             FoldedError::OutOfMemory => StacksError::OutOfMemory,
             FoldedError::CountTooLarge => StacksError::TooManySamples,
         }
-    }
-}
-
-impl From<SessionError> for StacksError {
-    ghost use Rattle.framehop_perf_stacks.specs.declared.error.StacksError.{StacksError};
-
-    ghost from_gives = { λ value error. error ≡ StacksError.OutOfMemory };
-
-    fn from(_value: SessionError) -> Self {
-        StacksError::OutOfMemory
     }
 }
 

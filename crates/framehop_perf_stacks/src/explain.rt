@@ -8,31 +8,13 @@ ghost use Rattle.framehop_perf_stacks.specs.Samples.{IsUserStack};
 
 use crate::error::StacksError;
 use crate::machine::Sampled;
-use framehop::session::read_word;
-use framehop_explain::{Note, Words};
+use framehop::walk::StackBytes;
+use framehop_explain::Note;
 use framehop_frames::explain::{end_note, shown_block};
 use framehop_frames::stack::Stack;
 use framehop_recording::sample::UserStack;
 use std::alloc::{AllocError, Global};
 use std::io::Write;
-
-/// The words of a stack's bytes.
-#[derive(Clone, Copy, Drop)]
-struct StackWords<'a> {
-    /// The address of the first byte (AVMA).
-    base: u64,
-    bytes: &'a [u8],
-}
-
-impl Words for StackWords<'_> {
-    ghost use Rattle.framehop.specs.StackBytes.{memory_of_bytes};
-
-    ghost memory = { λ words. memory_of_bytes words.base words.bytes.now };
-
-    fn read(&self, address: u64) -> Result<u64, ()> {
-        read_word(self.base, self.bytes, address)
-    }
-}
 
 /// Notes where each frame of a sample's stack came from, if it has the registers with which a walk begins.
 fn note_frames<U: Sampled>(
@@ -50,7 +32,7 @@ fn note_frames<U: Sampled>(
     let Some(start) = unwinder.start(mask, user.registers) else {
         return Ok(());
     };
-    let words = StackWords {
+    let words = StackBytes {
         base: start.sp,
         bytes: user.stack,
     };

@@ -10,7 +10,7 @@ ghost use Rattle.framehop_frames.specs.Stack.{option_stack_view};
 
 use crate::error::StacksError;
 use crate::machine::Sampled;
-use framehop::session::{read_word, walk};
+use framehop::walk::{StackBytes, Words, walk};
 use framehop_frames::stack::Stack;
 use framehop_recording::sample::UserStack;
 use std::alloc::Global;
@@ -37,7 +37,7 @@ pub fn walk_sample<U: Sampled>(
     let bytes = user.stack;
     let mut read_stack = |address: u64| -> Result<u64, ()>
         ensures { result ≡ reply (memory_of_bytes base bytes.entry.now address) }
-    { read_word(base, bytes, address) };
+    { StackBytes { base, bytes }.read(address) };
     let (frames, end, _) = walk(
         alloc,
         unwinder,

@@ -1,12 +1,12 @@
 //! Commands of a session, and the replies to them.
 ghost use Rattle.std.specs.Prelude.{◌≡◌};
-ghost use Rattle.framehop.specs.Memory.{reply};
-ghost use Rattle.framehop.specs.World.{memory_of};
 
 use crate::unwinder::Module;
+use crate::walk::{WalkEnd, Words};
 use framehop_bytes::section::SectionBytes;
 use framehop_cache::rule_cache::CacheStats;
 use framehop_core::{Error, FrameAddress};
+use std::alloc::AllocError;
 
 /// The stack words of a step or a walk: word `i` is at the address (AVMA) `base + 8 * i`, and
 /// no other address can be read.
@@ -16,11 +16,12 @@ pub struct Memory {
     pub words: Vec<u64>,
 }
 
-impl Memory {
-    /// Returns the stack word at the address (AVMA).
-    pub fn read(&self, address: u64) -> Result<u64, ()>
-        ensures { result ≡ reply (memory_of self.now address) }
-    {
+impl Words for Memory {
+    ghost use Rattle.framehop.specs.World.{memory_of};
+
+    ghost memory = { memory_of };
+
+    fn read(&self, address: u64) -> Result<u64, ()> {
         let Some(offset) = address.checked_sub(self.base) else {
             return Err(());
         };
@@ -80,19 +81,6 @@ pub enum Command<D: SectionBytes, R> {
     },
 }
 
-/// How a walk ended.
-#[derive(Clone, Copy, Debug, PartialEq, Eq)]
-pub enum WalkEnd {
-    /// At the root of the stack.
-    Root,
-
-    /// At a frame that could not be unwound.
-    Refused(Error),
-
-    /// At the limit of the command.
-    Limit,
-}
-
 /// The reply to a command.
 #[derive(Drop)]
 pub enum Reply<R> {
@@ -137,4 +125,14 @@ pub enum SessionError {
     /// The counter of generations is at its end.
     #[error("Generations exhausted")]
     GenerationsExhausted,
+}
+
+impl From<AllocError> for SessionError {
+    ghost use Rattle.framehop.specs.declared.session.commands.SessionError.{SessionError};
+
+    ghost from_gives = { λ _ error. error ≡ SessionError.OutOfMemory };
+
+    fn from(_error: AllocError) -> Self {
+        SessionError::OutOfMemory
+    }
 }

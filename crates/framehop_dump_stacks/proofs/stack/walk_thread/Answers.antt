@@ -5,13 +5,12 @@ use Rattle.framehop_frames.specs.Stack.{walked}
 use Rattle.framehop_dump_stacks.specs.Dump.{dump_view, memory_in}
 use Rattle.framehop_dump_stacks.proofs.stack.walk_thread.Goals as goal
 
-pub returns-in-Ok-clause-walked : goal.returns-in-Ok-clause-walked
-returns-in-Ok-clause-walked g c = λ sound.
+pub returns-clause-walked : goal.returns-clause-walked
+returns-clause-walked g c = λ sound.
     let start = c.in-Some.start in
     let memory = memory_in (dump_view c.args.dump.now) in
     let answers = AnswersAs-unchanged _ memory _ (λ a r f' call. search rules) in
-    let told = rw c.in-Ok.is at (Answering-over _ (c.walk-walked.ensures.answers sound) memory answers).1 in
-    let by_steps = told.0 in
+    let by_steps = (Answering-over _ (c.in_ok-frames.ensures.answers sound) memory answers).1.0 in
     let by_modules = g.met.U.Steps.steps_by_modules c.args.unwinder.now in
     search (
       rules,

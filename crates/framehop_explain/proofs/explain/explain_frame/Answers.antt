@@ -12,23 +12,23 @@ holds-not A B false fact is = fact
 
 pub returns-then-is_out_of_memory-clause-answers : goal.returns-then-is_out_of_memory-clause-answers
 returns-then-is_out_of_memory-clause-answers g c =
-    Answering-then g.F.FnMut c.in_ok-finding.ensures.answers (c.unwind_frame-outcome.ensures.answers (c.in_ok-cache.ensures.sound _ _)) (λ memory found ran. tt)
+    Answering-then g.F.FnMut c.in_ok-finding.ensures.answers c.step_fresh-outcome.ensures.answers (λ memory found ran. tt)
 
 pub returns-clause-answers : goal.returns-clause-answers
 returns-clause-answers g c =
-    Answering-then g.F.FnMut c.in_ok-finding.ensures.answers (c.unwind_frame-outcome.ensures.answers (c.in_ok-cache.ensures.sound _ _))
+    Answering-then g.F.FnMut c.in_ok-finding.ensures.answers c.step_fresh-outcome.ensures.answers
     (λ memory found ran. rw c.is_return_address.ensures at found)
 
 pub returns-clause-outcome : goal.returns-clause-outcome
 returns-clause-outcome g c = λ memory answers.
     let found = Answering-over g.F.FnMut c.in_ok-finding.ensures.answers memory answers in
-    let ran = Answering-over g.F.FnMut (c.unwind_frame-outcome.ensures.answers (c.in_ok-cache.ensures.sound _ _)) memory found.0 in
+    let ran = Answering-over g.F.FnMut c.step_fresh-outcome.ensures.answers memory found.0 in
     ran.1 (holds-not _ _ _ c.is_out_of_memory.ensures c.if-is_out_of_memory.false)
 
 pub returns-clause-decided : goal.returns-clause-decided
 returns-clause-decided g c = λ memory answers.
     let found = Answering-over g.F.FnMut c.in_ok-finding.ensures.answers memory answers in
-    let ran = Answering-over g.F.FnMut (c.unwind_frame-outcome.ensures.answers (c.in_ok-cache.ensures.sound _ _)) memory found.0 in
+    let ran = Answering-over g.F.FnMut c.step_fresh-outcome.ensures.answers memory found.0 in
     let met = ran.1 (holds-not _ _ _ c.is_out_of_memory.ensures c.if-is_out_of_memory.false) in
     let policy = g.P.AllocationPolicy.policy in
     let limits = g.met.P.AllocationPolicy.is_policy in

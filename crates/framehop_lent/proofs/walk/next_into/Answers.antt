@@ -2,7 +2,7 @@ use Rattle.std.proofs.Common.{◌≡◌, length, Ok, refl, sym, ap, ◌∙◌, a
 use Rattle.framehop.specs.CodeAddress.{FrameLocation, location_of}
 use Rattle.framehop.specs.Outcome.{Outcome}
 use Rattle.framehop.specs.Iterator.{location_answer, end_in, frames_in}
-use Rattle.framehop.specs.declared.session.commands.WalkEnd.TheVariants.{Root, Refused}
+use Rattle.framehop.specs.declared.walk.WalkEnd.TheVariants.{Root, Refused}
 use Rattle.std.proofs.lemmas.List.{drop-set-lt}
 use Rattle.framehop_core.proofs.Callback.{Answering-so, Answering-then, Answering-uncalled}
 use Rattle.framehop_lent.proofs.Writing.{drop-more, WritesOn-start, WritesOn-begins, WritesOn-limit, WritesOn-next, WritesOn-ended}
