@@ -1,5 +1,5 @@
 //! The caller's registers by a row.
-ghost use Rattle.std.specs.Prelude.{◌≡◌, Ok, Err, IfOk, MatchResult};
+ghost use Rattle.std.specs.Prelude.{◌≡◌, Ok, Err, IfOk, MatchResult, length};
 ghost use Rattle.framehop_columns.specs.Caller.{is_end, is_stuck, is_same, HasColumns, caller_column, step_of};
 
 use crate::convention::Convention;
@@ -57,6 +57,7 @@ pub fn caller_by_row<M: WordMemory, S: UnwindContextStorage>(
         (λ error. step_of convention (record { bytes = section.now; words = regs.now; memory = M.memory memory.now }) row.now ≡ Err error) }
     ensures registers { IfOk result (λ caller.
         HasColumns (caller_column convention (record { bytes = section.now; words = regs.now; memory = M.memory memory.now }) row.now caller.cfa) caller.regs) }
+    ensures whole { IfOk result (λ caller. length caller.regs ≡ 33) }
 {
     let (cfa, return_address) = step_of(alloc, convention, section, row, regs, memory)?;
     let regs = caller_registers(alloc, convention, section, row, cfa, regs, memory);
@@ -143,7 +144,8 @@ fn caller_registers<M: WordMemory, S: UnwindContextStorage>(
     regs: &RegisterFile,
     memory: &M,
 ) -> RegisterFile
-    ensures { HasColumns (caller_column convention (record { bytes = section.now; words = regs.now; memory = M.memory memory.now }) row.now cfa) result }
+    ensures columns { HasColumns (caller_column convention (record { bytes = section.now; words = regs.now; memory = M.memory memory.now }) row.now cfa) result }
+    ensures whole { length result ≡ 33 }
 {
     let mut caller = RegisterFile::new();
     let mut column = 0u16;

@@ -1,0 +1,120 @@
+-- Where a backtrace is the library's walk.
+use Rattle.std.proofs.Common.{◌≡◌, ℕ, zero, suc, ◌∷◌, [], Bool, true, false, map, Result, Ok, Err, refl, ap, sym, ◌∙◌, inl, inr, subst, ◌⊎◌, ◌==◌, if◌then◌else◌}
+use Rattle.std.specs.Prelude.{IfOk}
+use Rattle.std.proofs.lemmas.Bool.{true≢false}
+use Rattle.framehop_core.specs.CodeAddress.{FrameLocation, at_instruction_pointer, at_return_address, is_first_frame}
+use Rattle.framehop_core.specs.Outcome.{Outcome, answered, root, refused}
+use Rattle.framehop.specs.Walk.{Walk, at_root, onward, callers, walk_from, frame_before}
+use Rattle.framehop_backtrace.specs.Code.{is_in_trampoline, is_in_code}
+use Rattle.framehop_backtrace.specs.Rows.{Finding, by_row, uncovered, no_row}
+use Rattle.framehop_backtrace.specs.Library.{IsWithoutRow, AfterStep, IsPlain, IsPlainWalk, EndsAs, IsWalk, walk_of}
+use Rattle.framehop_backtrace.specs.Backtrace.{Stack, FrameView, Backtrace, next_of, by_finding, stepped_by, onward as further, callers_of, backtrace_of, root_of}
+use Rattle.framehop_backtrace.specs.declared.frame.FoundBy.{FoundBy}
+use Rattle.framehop_backtrace.specs.declared.frame.FoundBy.TheVariants.{First, Cfi, Signal, FramePointer, Guess}
+use Rattle.framehop_backtrace.specs.declared.frame.BacktraceEnd.{BacktraceEnd}
+
+-- where a step has answered: 0 ends both, and else both go on
+answered-by : {Regs : Type 0} (b c : Bool) (ended on : Walk Regs) (rest : FrameView Regs → Backtrace Regs) (next : FrameView Regs)
+    (refusal outside : BacktraceEnd) → IsWalk ended (record { frames = []; end = refusal })
+    → (b ≡ false → (c ≡ true) × IsWalk on (further rest (Ok next)))
+    → IsWalk (if b then ended else on) (further rest (if b then Err refusal else (if c then Ok next else Err outside)))
+answered-by true c ended on rest next refusal outside ends goes = ends
+answered-by false true ended on rest next refusal outside ends goes = (goes refl).1
+answered-by false false ended on rest next refusal outside ends goes = absurd (true≢false (sym (goes refl).0))
+
+root-is : (found : FoundBy) → EndsAs at_root (root_of found)
+root-is FramePointer = inr refl
+root-is Guess = inr refl
+root-is First = inl refl
+root-is Cfi = inl refl
+root-is Signal = inl refl
+
+module _ {Regs : Type 0} (stack : Stack Regs)
+    (can : (address : ℕ) (regs : Regs) → stack.machine.can_step (stack.machine.columns address regs) ≡ true) where
+  -- the library's step over the memory
+  abbrev steps : FrameLocation → Regs → Outcome Regs
+  steps location regs = stack.step location regs stack.memory
+
+  next-by : (frame : FrameView Regs) (finding : Finding) → IsWithoutRow finding (is_first_frame frame.location)
+      → stack.machine.can_step frame.columns ≡ true → (found : FoundBy)
+      × (by_finding stack frame finding ≡ stepped_by stack.machine stack.code found frame (steps frame.location frame.regs))
+  next-by frame no_row without known =
+      (if stack.is_by_info frame.location frame.regs stack.memory then Cfi else FramePointer, rw known refl)
+  next-by frame uncovered first known = (FramePointer, rw first (rw known refl))
+  next-by frame (by_row section row) without known = absurd without
+
+  next-of : (frame : FrameView Regs) → is_in_trampoline stack.code frame.location ≡ false
+      → next_of stack frame ≡ by_finding stack frame (stack.rows frame.location)
+  unfolding next_of
+  next-of frame apart = rw apart refl
+
+  walk-suc : (n : ℕ) (location : FrameLocation) (regs : Regs)
+      → callers steps (suc n) location regs ≡ onward (callers steps n) regs (steps location regs)
+  unfolding callers
+  walk-suc n location regs = refl
+
+  stack-suc : (n : ℕ) (frame : FrameView Regs)
+      → callers_of stack (suc n) frame ≡ further (callers_of stack n) (next_of stack frame)
+  unfolding callers_of
+  stack-suc n frame = refl
+
+  none-is : (frame : FrameView Regs) → IsWalk (callers steps zero frame.location frame.regs) (callers_of stack zero frame)
+  unfolding callers callers_of
+  none-is frame = record { frames = refl; end = refl }
+
+  before-is : (location : FrameLocation) (frame : FrameView Regs) (walk : Walk Regs) (rest : Backtrace Regs)
+      → frame.location ≡ location → IsWalk walk rest
+      → IsWalk (frame_before location walk) (record rest { frames = frame ∷ rest.frames })
+  before-is location frame walk rest here is = record {
+    frames = ap (λ l. l ∷ map (λ (f : FrameView Regs). f.location) rest.frames) here ∙ ap (λ ls. location ∷ ls) is.frames;
+    end = is.end;
+  }
+
+  arrived-in : (n : ℕ) → ((frame : FrameView Regs) → IsPlain stack n frame.location frame.regs
+      → stack.machine.can_step frame.columns ≡ true
+      → IsWalk (callers steps n frame.location frame.regs) (callers_of stack n frame))
+      → (found : FoundBy) (frame : FrameView Regs) (address : ℕ) (new : Regs)
+      → (address ≡ 0) ⊎ ((is_in_code stack.code address ≡ true) × IsPlain stack n (at_return_address address) new)
+      → (address == 0) ≡ false → (is_in_code stack.code address ≡ true)
+      × IsWalk (frame_before (at_return_address address) (callers steps n (at_return_address address) new))
+      (further (callers_of stack n) (Ok (record { location = at_return_address address; columns = stack.machine.columns address new; regs = new; found = found })))
+  arrived-in n go found frame address new (inl zero-is) some = absurd (true≢false (sym (ap (λ a. a == 0) zero-is) ∙ some))
+  arrived-in n go found frame address new (inr plain) some =
+      let next : FrameView Regs = record { location = at_return_address address; columns = stack.machine.columns address new; regs = new; found = found } in
+      (plain.0, before-is (at_return_address address) next _ _ refl (go next plain.1 (can address new)))
+
+  after-is : (n : ℕ) → ((frame : FrameView Regs) → IsPlain stack n frame.location frame.regs
+      → stack.machine.can_step frame.columns ≡ true
+      → IsWalk (callers steps n frame.location frame.regs) (callers_of stack n frame))
+      → (found : FoundBy) (frame : FrameView Regs) (outcome : Outcome Regs) → AfterStep stack (IsPlain stack n) outcome
+      → IsWalk (onward (callers steps n) frame.regs outcome)
+      (further (callers_of stack n) (stepped_by stack.machine stack.code found frame outcome))
+  after-is n go found frame (answered address new) plain =
+      answered-by (address == 0) (is_in_code stack.code address) _ _ (callers_of stack n) _ _ _
+      (record { frames = refl; end = refl }) (λ some. arrived-in n go found frame address new plain some)
+  after-is n go found frame root plain = record { frames = refl; end = root-is found }
+  after-is n go found frame (refused error) plain = record { frames = refl; end = refl }
+
+  pub callers-are : (n : ℕ) (frame : FrameView Regs) → IsPlain stack n frame.location frame.regs
+      → stack.machine.can_step frame.columns ≡ true
+      → IsWalk (callers steps n frame.location frame.regs) (callers_of stack n frame)
+  callers-are zero frame plain known = none-is frame
+  callers-are (suc n) frame plain known =
+      let next = next-by frame (stack.rows frame.location) plain.1 known in
+      let there = after-is n (callers-are n) next.0 frame (steps frame.location frame.regs) plain.2 in
+      rw (walk-suc n frame.location frame.regs) (rw (stack-suc n frame ∙ ap (further (callers_of stack n)) (next-of frame plain.0 ∙ next.1)) there)
+
+  pub backtrace-is : (limit pc : ℕ) (frame : FrameView Regs) → frame.location ≡ at_instruction_pointer pc
+      → IsPlainWalk stack limit frame.location frame.regs → stack.machine.can_step frame.columns ≡ true
+      → IsWalk (walk_of stack limit pc frame.regs) (backtrace_of stack limit frame)
+  unfolding walk_from backtrace_of callers callers_of
+  backtrace-is zero pc frame here plain known = record { frames = refl; end = refl }
+  backtrace-is (suc n) pc frame here plain known =
+      before-is (at_instruction_pointer pc) frame _ _ here
+      (subst (λ location. IsWalk (callers steps n location frame.regs) (callers_of stack n frame)) here (callers-are n frame plain known))
+
+-- what holds of a result holds of it in other words
+pub each-ok : {A E : Type 0} {P Q : A → Type 0} (result : Result A E) → ((value : A) → P value → Q value) → IfOk result P
+    → IfOk result Q
+each-ok (Ok value) so holds = so value holds
+each-ok (Err error) so holds = tt

@@ -1,0 +1,221 @@
+-- A backtrace: the frames of a stack, each with its registers and how it was found.
+use Rattle.std.specs.Prelude.{ℕ, zero, suc, Bool, false, ◌==◌, ◌&&◌, if◌then◌else◌, List, [], ◌∷◌, Option, Some, None, option_and_then, Result, Ok, Err}
+use Rattle.framehop_core.specs.CodeAddress.{FrameLocation, at_instruction_pointer, at_return_address, is_first_frame, location_of}
+use Rattle.framehop_core.specs.Memory.{Memory}
+use Rattle.framehop_core.specs.Outcome.{Outcome, answer_of, registers_after}
+use Rattle.framehop_core.specs.declared.error.Error.{Error}
+use Rattle.framehop_core.specs.declared.error.Error.TheVariants.{ReturnAddressIsNull}
+use Rattle.framehop_cfi.specs.Row.{Row}
+use Rattle.framehop_columns.specs.Caller.{caller_column, step_of}
+use Rattle.framehop_columns.specs.Convention.{stack_pointer_of}
+use Rattle.framehop_columns.specs.Rules.{Source}
+use Rattle.framehop_columns.specs.declared.caller.RowRefusal.{RowRefusal}
+use Rattle.framehop_columns.specs.declared.caller.RowRefusal.TheVariants as refusal
+use Rattle.framehop_backtrace.specs.Code.{Code, is_in_trampoline, is_in_code}
+use Rattle.framehop_backtrace.specs.Columns.{column, columns_by, returned_to}
+use Rattle.framehop_backtrace.specs.Machine.{Machine}
+use Rattle.framehop_backtrace.specs.Rows.{Finding, by_row, uncovered, no_row}
+use Rattle.framehop_backtrace.specs.declared.frame.BacktraceEnd.{BacktraceEnd}
+use Rattle.framehop_backtrace.specs.declared.frame.BacktraceEnd.TheVariants.{Root, FramePointerZero, Limit, SignalFrameUnread, CfaUnknown, ReturnAddressUnknown, DidNotAdvance, RegistersUnknown, Refused, NoCaller, NotCode}
+use Rattle.framehop_backtrace.specs.declared.frame.FoundBy.{FoundBy}
+use Rattle.framehop_backtrace.specs.declared.frame.FoundBy.TheVariants.{First, Cfi, Signal, FramePointer, Guess}
+use Rattle.framehop_backtrace.specs.declared.frame.Frame.{Frame}
+
+-- ---- frames
+
+-- where a frame is, its registers by columns, those of the library's step, and how it was found
+pub record FrameView (Regs : Type 0) : Type 0 where
+  pub location : FrameLocation
+  pub columns : List (Option ℕ)
+  pub regs : Regs
+  pub found : FoundBy
+
+abbrev pub frame_view : {Regs : Type 0} → Frame Regs → FrameView Regs
+frame_view frame = record {
+  location = location_of frame.address;
+  columns = frame.columns;
+  regs = frame.regs;
+  found = frame.found;
+}
+
+-- a caller's frame, or the end
+abbrev pub Next : Type 0 → Type 0
+Next Regs = Result (FrameView Regs) BacktraceEnd
+
+abbrev pub next_view : {Regs : Type 0} → Result (Frame Regs) BacktraceEnd → Next Regs
+next_view (Ok frame) = Ok (frame_view frame)
+next_view (Err end) = Err end
+
+-- ---- the caller of a frame
+
+-- a frame that is found by its return address: 0 is none, and it must be in code
+abbrev pub arrived : {Regs : Type 0} → Code → ℕ → FrameView Regs → Next Regs
+arrived code address frame =
+    if address == 0 then Err (Refused ReturnAddressIsNull)
+    else (if is_in_code code address then Ok frame else Err (NotCode address))
+
+-- by a signal frame: the interrupted code, of which all registers are known
+abbrev pub interrupted_as : {Regs : Type 0} → Machine Regs → FrameView Regs → Option (ℕ × List (Option ℕ)) → Next Regs
+interrupted_as machine frame (Some saved) = Ok (record {
+  location = at_instruction_pointer saved.0;
+  columns = saved.1;
+  regs = machine.merged frame.regs saved.1;
+  found = Signal;
+})
+interrupted_as machine frame None = Err SignalFrameUnread
+
+-- the signal frame is at the stack pointer
+abbrev pub by_signal : {Regs : Type 0} → Machine Regs → Code → FrameView Regs → Next Regs
+by_signal machine code frame =
+    interrupted_as machine frame
+    (option_and_then machine.saved
+    (option_and_then (λ sp. code.bytes sp machine.frame_size)
+    (column frame.columns (stack_pointer_of machine.convention))))
+
+-- why a row gives no caller, as an end
+abbrev pub end_of_refusal : RowRefusal → BacktraceEnd
+end_of_refusal refusal.Outermost = Root
+end_of_refusal refusal.CfaUnknown = CfaUnknown
+end_of_refusal refusal.ReturnAddressUnknown = ReturnAddressUnknown
+end_of_refusal refusal.DidNotAdvance = DidNotAdvance
+
+-- by a row that leads to a return address without pointer authentication bits, and to these columns
+abbrev pub returned_as : {Regs : Type 0} → Machine Regs → Code → FrameView Regs → ℕ → List (Option ℕ) → Next Regs
+returned_as machine code frame address columns = arrived code address (record {
+  location = at_return_address address;
+  columns = columns;
+  regs = machine.merged frame.regs columns;
+  found = Cfi;
+})
+
+abbrev pub by_row_step : {Regs : Type 0} → Machine Regs → Code → FrameView Regs → Source → Row → Result (ℕ × ℕ) RowRefusal
+    → Next Regs
+by_row_step machine code frame source row (Ok step) =
+    returned_as machine code frame (machine.strip frame.regs step.1)
+    (returned_to machine.convention (machine.strip frame.regs) (machine.strip frame.regs step.1)
+    (columns_by (caller_column machine.convention source row step.0)))
+by_row_step machine code frame source row (Err error) = Err (end_of_refusal error)
+
+-- by a row, over all registers that are known
+abbrev pub by_row_of : {Regs : Type 0} → Machine Regs → Code → Memory → FrameView Regs → List ℕ → Row → Next Regs
+by_row_of machine code memory frame section row =
+    by_row_step machine code frame (record { bytes = section; words = frame.columns; memory = memory }) row
+    (step_of machine.convention (record { bytes = section; words = frame.columns; memory = memory }) row)
+
+-- the end of a stack that a step finds
+abbrev pub root_of : FoundBy → BacktraceEnd
+root_of FramePointer = FramePointerZero
+root_of Guess = FramePointerZero
+root_of First = Root
+root_of Cfi = Root
+root_of Signal = Root
+
+-- by what a step of the library returns, and the registers after it
+abbrev pub stepped : {Regs : Type 0} → Machine Regs → Code → FoundBy → Result (Option ℕ) Error → Regs → Next Regs
+stepped machine code found (Ok (Some address)) regs = arrived code address (record {
+  location = at_return_address address;
+  columns = machine.columns address regs;
+  regs = regs;
+  found = found;
+})
+stepped machine code found (Ok None) regs = Err (root_of found)
+stepped machine code found (Err error) regs = Err (Refused error)
+
+-- what a step returns lies in code, right after a call
+abbrev pub is_called : {Regs : Type 0} → Machine Regs → Code → Result (Option ℕ) Error → Bool
+is_called machine code (Ok (Some address)) = is_in_code code address && machine.is_after_call code.bytes address
+is_called machine code (Ok None) = false
+is_called machine code (Err error) = false
+
+-- by the frame pointer, where a guess is wrong
+abbrev pub fallen_back : {Regs : Type 0} → Machine Regs → Code → Result (Option ℕ) Error → Regs → Next Regs
+fallen_back machine code (Ok None) regs = Err FramePointerZero
+fallen_back machine code (Ok (Some address)) regs =
+    if is_called machine code (Ok (Some address)) then stepped machine code FramePointer (Ok (Some address)) regs
+    else Err NoCaller
+fallen_back machine code (Err error) regs = Err NoCaller
+
+-- the same by an outcome
+abbrev pub stepped_by : {Regs : Type 0} → Machine Regs → Code → FoundBy → FrameView Regs → Outcome Regs → Next Regs
+stepped_by machine code found frame outcome =
+    stepped machine code found (answer_of outcome) (registers_after frame.regs outcome)
+
+abbrev pub fallen_back_by : {Regs : Type 0} → Machine Regs → Code → FrameView Regs → Outcome Regs → Next Regs
+fallen_back_by machine code frame outcome =
+    fallen_back machine code (answer_of outcome) (registers_after frame.regs outcome)
+
+module _ {Regs : Type 0} (machine : Machine Regs) (code : Code) (frame : FrameView Regs) where
+  -- by the library's step, which has this outcome, if the registers that it needs are known
+  abbrev pub by_library : FoundBy → Outcome Regs → Next Regs
+  by_library found outcome =
+      if machine.can_step frame.columns then stepped_by machine code found frame outcome else Err RegistersUnknown
+
+  -- by the rule of a function's start, which is a guess, or else by the frame pointer
+  abbrev pub guessed : Outcome Regs → Outcome Regs → Next Regs
+  guessed outcome fallback =
+      if is_called machine code (answer_of outcome) then stepped_by machine code Guess frame outcome
+      else fallen_back_by machine code frame fallback
+
+  abbrev pub by_guess : Outcome Regs → Outcome Regs → Next Regs
+  by_guess outcome fallback =
+      if machine.can_step frame.columns then guessed outcome fallback else Err RegistersUnknown
+
+  -- where the module's call frames do not cover the frame: the rule of a function's start is for first frames
+  abbrev pub by_start : Outcome Regs → Outcome Regs → Next Regs
+  by_start outcome fallback =
+      if is_first_frame frame.location then by_guess outcome fallback else by_library FramePointer outcome
+
+  -- where it has none for it: PE or compact unwind info unwinds it (`true`), or the frame pointer is followed
+  abbrev pub without_row : Bool → Outcome Regs → Next Regs
+  without_row by_info outcome = by_library (if by_info then Cfi else FramePointer) outcome
+
+-- a stack: its machine; what a step of the library does, and whether PE or compact unwind info unwinds a frame; the rows
+-- of the modules; the memory and the code
+pub record Stack (Regs : Type 0) : Type 0 where
+  pub machine : Machine Regs
+  pub step : FrameLocation → Regs → Memory → Outcome Regs
+  pub is_by_info : FrameLocation → Regs → Memory → Bool
+  pub rows : FrameLocation → Finding
+  pub memory : Memory
+  pub code : Code
+
+module _ {Regs : Type 0} (stack : Stack Regs) (frame : FrameView Regs) where
+  -- by what the modules have for the frame
+  abbrev pub by_finding : Finding → Next Regs
+  by_finding (by_row section row) = by_row_of stack.machine stack.code stack.memory frame section row
+  by_finding uncovered =
+      by_start stack.machine stack.code frame (stack.step frame.location frame.regs stack.memory)
+      (stack.machine.fallback (is_first_frame frame.location) frame.regs stack.memory)
+  by_finding no_row =
+      without_row stack.machine stack.code frame (stack.is_by_info frame.location frame.regs stack.memory)
+      (stack.step frame.location frame.regs stack.memory)
+
+  -- the caller of a frame, or the end
+  unfoldable pub next_of : Next Regs
+  next_of =
+      if is_in_trampoline stack.code frame.location then by_signal stack.machine stack.code frame
+      else by_finding (stack.rows frame.location)
+
+-- ---- backtraces
+
+-- the frames and the end
+pub record Backtrace (Regs : Type 0) : Type 0 where
+  pub frames : List (FrameView Regs)
+  pub end : BacktraceEnd
+
+abbrev pub frame_before : {Regs : Type 0} → FrameView Regs → Backtrace Regs → Backtrace Regs
+frame_before frame backtrace = record backtrace { frames = frame ∷ backtrace.frames }
+
+abbrev pub onward : {Regs : Type 0} → (FrameView Regs → Backtrace Regs) → Next Regs → Backtrace Regs
+onward callers (Ok frame) = frame_before frame (callers frame)
+onward callers (Err end) = record { frames = []; end = end }
+
+-- the callers of a frame, at most so many
+unfoldable pub callers_of : {Regs : Type 0} → Stack Regs → ℕ → FrameView Regs → Backtrace Regs
+callers_of stack zero frame = record { frames = []; end = Limit }
+callers_of stack (suc n) frame = onward (callers_of stack n) (next_of stack frame)
+
+-- the backtrace from a frame on, at most so many frames
+unfoldable pub backtrace_of : {Regs : Type 0} → Stack Regs → ℕ → FrameView Regs → Backtrace Regs
+backtrace_of stack zero frame = record { frames = []; end = Limit }
+backtrace_of stack (suc n) frame = frame_before frame (callers_of stack n frame)

@@ -1,0 +1,9 @@
+-- What the contracts of this crate cite: frames with whole register files, how one leads to the next, and backtraces.
+pub mod Backtrace
+pub mod Call
+pub mod Code
+pub mod Columns
+pub mod Info
+pub mod Library
+pub mod Machine
+pub mod Rows

@@ -1,0 +1,57 @@
+-- Where a backtrace is the library's walk.
+use Rattle.std.specs.Prelude.{◌≡◌, ℕ, zero, suc, Bool, true, false, ⊤, ◌⊎◌, map}
+use Rattle.framehop_core.specs.CodeAddress.{FrameLocation, at_instruction_pointer, at_return_address, is_first_frame}
+use Rattle.framehop_core.specs.Outcome.{Outcome, answered, root, refused}
+use Rattle.framehop.specs.Walk.{Walk, End, at_root, at_refusal, at_limit, walk_from}
+use Rattle.framehop_backtrace.specs.Code.{is_in_trampoline, is_in_code}
+use Rattle.framehop_backtrace.specs.Rows.{Finding, by_row, uncovered, no_row}
+use Rattle.framehop_backtrace.specs.Backtrace.{Stack, FrameView, Backtrace}
+use Rattle.framehop_backtrace.specs.declared.frame.BacktraceEnd.{BacktraceEnd}
+use Rattle.framehop_backtrace.specs.declared.frame.BacktraceEnd.TheVariants.{Root, FramePointerZero, Limit, Refused}
+
+-- a frame has no row, and is no first frame that call frames of its module do not cover
+abbrev pub IsWithoutRow : Finding → Bool → Type 0
+IsWithoutRow no_row first = ⊤
+IsWithoutRow uncovered first = first ≡ false
+IsWithoutRow (by_row section row) first = ⊥
+
+-- after a step: a return address is 0, or in code and this holds there
+abbrev pub AfterStep : {Regs : Type 0} → Stack Regs → (FrameLocation → Regs → Type 0) → Outcome Regs → Type 0
+AfterStep stack Holds (answered address new) =
+    (address ≡ 0) ⊎ ((is_in_code stack.code address ≡ true) × Holds (at_return_address address) new)
+AfterStep stack Holds root = ⊤
+AfterStep stack Holds (refused error) = ⊤
+
+-- In the library's walk of so many steps from a frame on, none is in a trampoline or has a row, no guess is made, and each
+-- return address is in code.
+abbrev pub IsPlain : {Regs : Type 0} → Stack Regs → ℕ → FrameLocation → Regs → Type 0
+IsPlain stack zero location regs = ⊤
+IsPlain stack (suc n) location regs =
+    (is_in_trampoline stack.code location ≡ false) × IsWithoutRow (stack.rows location) (is_first_frame location)
+    × AfterStep stack (IsPlain stack n) (stack.step location regs stack.memory)
+
+-- the same of a walk of at most so many frames
+abbrev pub IsPlainWalk : {Regs : Type 0} → Stack Regs → ℕ → FrameLocation → Regs → Type 0
+IsPlainWalk stack zero location regs = ⊤
+IsPlainWalk stack (suc n) location regs = IsPlain stack n location regs
+
+-- a backtrace ends as a walk does
+abbrev pub EndsAs : End → BacktraceEnd → Type 0
+EndsAs at_root end = (end ≡ Root) ⊎ (end ≡ FramePointerZero)
+EndsAs (at_refusal error) end = end ≡ Refused error
+EndsAs at_limit end = end ≡ Limit
+
+-- the backtrace has the frames of the walk, and ends as that does
+pub record IsWalk {Regs : Type 0} (walk : Walk Regs) (backtrace : Backtrace Regs) : Type 0 where
+  pub frames : map (λ (frame : FrameView Regs). frame.location) backtrace.frames ≡ walk.frames
+  pub end : EndsAs walk.end backtrace.end
+
+-- the library's walk from an instruction pointer on
+abbrev pub walk_of : {Regs : Type 0} → Stack Regs → ℕ → ℕ → Regs → Walk Regs
+walk_of stack limit pc regs = walk_from (λ location before. stack.step location before stack.memory) limit pc regs
+
+-- From a first frame on whose registers are known, the backtrace is the library's walk, if that is plain.
+abbrev pub IsLibraryWalk : {Regs : Type 0} → Stack Regs → ℕ → FrameView Regs → Backtrace Regs → Type 0
+IsLibraryWalk stack limit first backtrace =
+    (pc : ℕ) → first.location ≡ at_instruction_pointer pc → stack.machine.can_step first.columns ≡ true
+    → IsPlainWalk stack limit first.location first.regs → IsWalk (walk_of stack limit pc first.regs) backtrace

@@ -1,0 +1,124 @@
+-- What a backtrace needs of an architecture.
+use Rattle.std.specs.Prelude.{ℕ, ◌+◌, ◌*◌, Bool, ◌&&◌, is_some, nat_le, if◌then◌else◌, List, [], ◌∷◌, ◌++◌, length, slice_get, Option, Some, None, option_map, unwrap_or}
+use Rattle.framehop_bytes.specs.Bytes.{le8}
+use Rattle.framehop_core.specs.Memory.{Memory}
+use Rattle.framehop_core.specs.Outcome.{Outcome}
+use Rattle.framehop_core.specs.X86_64.Registers.{Registers as RegistersX86_64, words_of}
+use Rattle.framehop_core.specs.X86_64.Rules.{outcome as outcome_x86_64}
+use Rattle.framehop_core.specs.declared.x86_64.unwind_rule.UnwindRuleX86_64.TheVariants.{UseFramePointer as UseFramePointerX86_64}
+use Rattle.framehop_core.specs.Aarch64.Registers.{Registers as RegistersAarch64, strip_ptr_auth}
+use Rattle.framehop_core.specs.Aarch64.Rules.{outcome as outcome_aarch64}
+use Rattle.framehop_core.specs.declared.aarch64.unwind_rule.UnwindRuleAarch64.TheVariants.{UseFramePointer as UseFramePointerAarch64}
+use Rattle.framehop_columns.specs.RegisterFile.{unknown}
+use Rattle.framehop_columns.specs.declared.convention.Convention.{Convention}
+use Rattle.framehop_columns.specs.declared.convention.Convention.TheVariants.{X86_64, Aarch64}
+use Rattle.framehop_signal.specs.Frame.{interrupted_x86_64}
+use Rattle.framehop_backtrace.specs.Call.{is_after_call_x86_64, is_after_call_aarch64}
+use Rattle.framehop_backtrace.specs.Columns.{columns_by, column, with_column}
+
+-- `strip`: a pointer to code without its pointer authentication bits, by the mask of the registers. `columns`: what the
+-- library's step to an address leaves exactly. `merged`: the library's registers with the columns that are known.
+-- `can_step`: whether the columns that each step of the library may need are known. `frame_size`, `saved`: how much of a
+-- signal frame is read, and the interrupted instruction pointer and columns that it has. `is_after_call`: an address
+-- lies right after a call, by the bytes of code. `fallback`: the step by the frame pointer, of a first frame (`true`) or
+-- another.
+pub record Machine (Regs : Type 0) : Type 0 where
+  pub convention : Convention
+  pub strip : Regs → ℕ → ℕ
+  pub columns : ℕ → Regs → List (Option ℕ)
+  pub merged : Regs → List (Option ℕ) → Regs
+  pub can_step : List (Option ℕ) → Bool
+  pub frame_size : ℕ
+  pub saved : List ℕ → Option (ℕ × List (Option ℕ))
+  pub is_after_call : (ℕ → ℕ → Option (List ℕ)) → ℕ → Bool
+  pub fallback : Bool → Regs → Memory → Outcome Regs
+
+-- ---- x86_64
+
+-- all registers, by their columns (System V ABI for AMD64, figure 3.36): the general ones, then rip
+abbrev pub all_columns : RegistersX86_64 → List (Option ℕ)
+all_columns r = columns_by (slice_get (words_of r ++ r.ip ∷ []))
+
+-- rip, rsp and rbp
+abbrev pub columns_x86_64 : ℕ → RegistersX86_64 → List (Option ℕ)
+columns_x86_64 address r = with_column (with_column (with_column unknown 16 (Some address)) 7 (Some r.rsp)) 6 (Some r.rbp)
+
+unfoldable pub merged_x86_64 : RegistersX86_64 → List (Option ℕ) → RegistersX86_64
+merged_x86_64 r columns = record {
+  ip = unwrap_or (column columns 16) r.ip;
+  rax = unwrap_or (column columns 0) r.rax;
+  rdx = unwrap_or (column columns 1) r.rdx;
+  rcx = unwrap_or (column columns 2) r.rcx;
+  rbx = unwrap_or (column columns 3) r.rbx;
+  rsi = unwrap_or (column columns 4) r.rsi;
+  rdi = unwrap_or (column columns 5) r.rdi;
+  rbp = unwrap_or (column columns 6) r.rbp;
+  rsp = unwrap_or (column columns 7) r.rsp;
+  r8 = unwrap_or (column columns 8) r.r8;
+  r9 = unwrap_or (column columns 9) r.r9;
+  r10 = unwrap_or (column columns 10) r.r10;
+  r11 = unwrap_or (column columns 11) r.r11;
+  r12 = unwrap_or (column columns 12) r.r12;
+  r13 = unwrap_or (column columns 13) r.r13;
+  r14 = unwrap_or (column columns 14) r.r14;
+  r15 = unwrap_or (column columns 15) r.r15;
+}
+
+-- rsp and rbp are known
+abbrev pub can_step_x86_64 : List (Option ℕ) → Bool
+can_step_x86_64 columns = is_some (column columns 7) && is_some (column columns 6)
+
+abbrev pub saved_x86_64 : List ℕ → Option (ℕ × List (Option ℕ))
+saved_x86_64 frame = option_map (λ r. (r.ip, all_columns r)) (interrupted_x86_64 frame)
+
+abbrev pub machine_x86_64 : Machine RegistersX86_64
+machine_x86_64 = record {
+  convention = X86_64;
+  strip = λ r address. address;
+  columns = columns_x86_64;
+  merged = merged_x86_64;
+  can_step = can_step_x86_64;
+  frame_size = 176;
+  saved = saved_x86_64;
+  is_after_call = is_after_call_x86_64;
+  fallback = outcome_x86_64 UseFramePointerX86_64;
+}
+
+-- ---- aarch64
+
+-- pc, sp, fp (x29) and lr (x30)
+abbrev pub columns_aarch64 : ℕ → RegistersAarch64 → List (Option ℕ)
+columns_aarch64 address r =
+    with_column (with_column (with_column (with_column unknown 32 (Some address)) 31 (Some r.sp)) 29 (Some r.fp)) 30
+    (Some r.lr)
+
+abbrev pub merged_aarch64 : RegistersAarch64 → List (Option ℕ) → RegistersAarch64
+merged_aarch64 r columns = record {
+  lr_mask = r.lr_mask;
+  lr = strip_ptr_auth r.lr_mask (unwrap_or (column columns 30) r.lr);
+  sp = unwrap_or (column columns 31) r.sp;
+  fp = unwrap_or (column columns 29) r.fp;
+}
+
+-- sp, fp and lr are known
+abbrev pub can_step_aarch64 : List (Option ℕ) → Bool
+can_step_aarch64 columns = is_some (column columns 31) && is_some (column columns 29) && is_some (column columns 30)
+
+-- The registers of a signal frame: x0 to x30, sp and pc, which are the columns 0 to 32, have a word each after
+-- fault_address of `struct sigcontext` (arch/arm64/include/uapi/asm/sigcontext.h), which is 304 bytes from sp.
+abbrev pub saved_aarch64 : List ℕ → Option (ℕ × List (Option ℕ))
+saved_aarch64 frame =
+    if nat_le 576 (length frame) then Some (le8 frame 568, columns_by (λ at. Some (le8 frame (312 + at * 8)))) else None
+
+abbrev pub machine_aarch64 : Machine RegistersAarch64
+machine_aarch64 = record {
+  convention = Aarch64;
+  strip = λ r address. strip_ptr_auth r.lr_mask address;
+  columns = columns_aarch64;
+  merged = merged_aarch64;
+  can_step = can_step_aarch64;
+  frame_size = 576;
+  saved = saved_aarch64;
+  is_after_call = is_after_call_aarch64;
+  fallback = outcome_aarch64 UseFramePointerAarch64;
+}

@@ -1,0 +1,121 @@
+//! Backtraces of aarch64.
+ghost use Rattle.std.specs.Prelude.{◌≡◌, ◌≤◌, ◌+◌, ◌*◌, Some, unwrap_or, length};
+ghost use Rattle.framehop_bytes.specs.Bytes.{le8};
+ghost use Rattle.framehop_backtrace.specs.Columns.{column, columns_by};
+
+use crate::call::is_after_call_aarch64;
+use crate::info::is_by_info;
+use crate::machine::BacktraceUnwinder;
+use crate::memory::CodeMemory;
+use crate::step::follow_frame_pointer;
+use framehop::AllocationPolicy;
+use framehop::aarch64::UnwinderAarch64;
+use framehop_bytes::bytes::u64_at;
+use framehop_bytes::section::SectionBytes;
+use framehop_cfi::rule::Register;
+use framehop_columns::convention::Convention;
+use framehop_columns::memory::WordMemory;
+use framehop_columns::register_file::RegisterFile;
+use framehop_core::aarch64::{UnwindRegsAarch64, UnwindRuleAarch64};
+use framehop_core::{Error, FrameAddress};
+use framehop_signal::aarch64::FRAME_SIZE;
+
+impl<D: SectionBytes + Drop, P: AllocationPolicy> BacktraceUnwinder for UnwinderAarch64<D, P> {
+    ghost use Rattle.framehop.specs.Aarch64.{aarch64_readers};
+    ghost use Rattle.std.specs.Prelude.{refl};
+    ghost use Rattle.framehop_backtrace.specs.Info.{is_by_info};
+    ghost use Rattle.framehop_backtrace.specs.Machine.{machine_aarch64};
+
+    ghost machine = { machine_aarch64 };
+
+    ghost is_by_info = { λ unwinder location regs memory. is_by_info aarch64_readers regs memory unwinder.modules location };
+
+    ghost steps_on = { λ address regs. refl };
+
+    fn convention() -> Convention {
+        Convention::Aarch64
+    }
+
+    fn strip(regs: &UnwindRegsAarch64, address: u64) -> u64 {
+        regs.lr_mask().strip_ptr_auth(address)
+    }
+
+    fn columns(address: u64, regs: &UnwindRegsAarch64) -> RegisterFile {
+        let mut columns = RegisterFile::new();
+        columns.set(Register(32), Some(address));
+        columns.set(Register(31), Some(regs.sp()));
+        columns.set(Register(29), Some(regs.fp()));
+        columns.set(Register(30), Some(regs.lr()));
+        columns
+    }
+
+    fn merged(regs: UnwindRegsAarch64, columns: &RegisterFile) -> UnwindRegsAarch64 {
+        let lr = known_or(columns, 30, regs.lr());
+        let sp = known_or(columns, 31, regs.sp());
+        let fp = known_or(columns, 29, regs.fp());
+        UnwindRegsAarch64::new_with_ptr_auth_mask(regs.lr_mask(), lr, sp, fp)
+    }
+
+    fn can_step(columns: &RegisterFile) -> bool {
+        columns.get(Register(31)).is_some()
+            && columns.get(Register(29)).is_some()
+            && columns.get(Register(30)).is_some()
+    }
+
+    fn frame_size() -> u64 {
+        FRAME_SIZE
+    }
+
+    fn saved(frame: &[u8]) -> Option<(u64, RegisterFile)> {
+        if (frame.len() as u64) < FRAME_SIZE {
+            return None;
+        }
+        Some((u64_at(frame, 568), saved_columns(frame)))
+    }
+
+    fn is_after_call<M: CodeMemory>(memory: &M, address: u64) -> bool {
+        is_after_call_aarch64(memory, address)
+    }
+
+    fn follow_frame_pointer<M: WordMemory>(
+        memory: &M,
+        is_first_frame: bool,
+        regs: &mut UnwindRegsAarch64,
+    ) -> Result<Option<u64>, Error> {
+        follow_frame_pointer::<UnwindRuleAarch64, M>(memory, is_first_frame, regs)
+    }
+
+    fn is_by_info<M: WordMemory>(
+        &self,
+        address: FrameAddress,
+        regs: UnwindRegsAarch64,
+        memory: &M,
+    ) -> bool {
+        is_by_info(self.inner(), address, regs, memory)
+    }
+}
+
+/// Returns x0 to x30, sp and pc of a signal frame.
+fn saved_columns(frame: &[u8]) -> RegisterFile
+    requires { 576 ≤ length frame.now }
+    ensures { result ≡ columns_by (λ at. Some (le8 frame.now (312 + at * 8))) }
+{
+    let mut columns = RegisterFile::new();
+    let mut at = 0u16;
+    while at < 33 {
+        let word = u64_at(frame, 312 + usize::from(at) * 8);
+        columns.set(Register(at), Some(word));
+        at += 1;
+    }
+    columns
+}
+
+/// Returns the value of a column, or another one where it isn't known.
+fn known_or(columns: &RegisterFile, at: u16, other: u64) -> u64
+    ensures { result ≡ unwrap_or (column columns.now at) other }
+{
+    match columns.get(Register(at)) {
+        Some(value) => value,
+        None => other,
+    }
+}

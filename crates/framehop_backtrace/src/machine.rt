@@ -1,0 +1,75 @@
+//! What a backtrace needs of an unwinder.
+ghost use Rattle.std.specs.Prelude.{◌≡◌, ℕ, Bool, true};
+ghost use Rattle.framehop_core.specs.CodeAddress.{FrameLocation, location_of};
+ghost use Rattle.framehop_core.specs.Memory.{Memory};
+ghost use Rattle.framehop_core.specs.Outcome.{HasDone};
+ghost use Rattle.framehop_backtrace.specs.Machine.{Machine};
+
+use crate::memory::CodeMemory;
+use framehop::Unwinder;
+use framehop_columns::convention::Convention;
+use framehop_columns::memory::WordMemory;
+use framehop_columns::register_file::RegisterFile;
+use framehop_core::{Error, FrameAddress};
+
+/// An unwinder of an architecture whose calls, registers and signal frames are known.
+pub trait BacktraceUnwinder: Unwinder {
+    ghost machine: { Machine Self.UnwindRegs };
+
+    // PE or compact unwind info unwinds a frame
+    ghost is_by_info: { Self → FrameLocation → Self.UnwindRegs → Memory → Bool };
+
+    // after a step of the library another one can be taken
+    ghost steps_on: { (address : ℕ) (regs : Self.UnwindRegs)
+        → machine.can_step (machine.columns address regs) ≡ true };
+
+    /// Returns the calling convention.
+    fn convention() -> Convention
+        ensures { result ≡ machine.convention };
+
+    /// Returns a pointer to code (AVMA) without its pointer authentication bits.
+    fn strip(regs: &Self::UnwindRegs, address: u64) -> u64
+        ensures { result ≡ machine.strip regs.now address };
+
+    /// Returns the columns that the library's step to an address (AVMA) leaves exactly: pc, sp and fp, and lr of aarch64.
+    fn columns(address: u64, regs: &Self::UnwindRegs) -> RegisterFile
+        ensures { result ≡ machine.columns address regs.now };
+
+    /// Returns registers with the values of the columns that are known.
+    fn merged(regs: Self::UnwindRegs, columns: &RegisterFile) -> Self::UnwindRegs
+        ensures { result ≡ machine.merged regs columns.now };
+
+    /// Returns whether the registers are known that each step of the library may need: sp and fp, and lr of aarch64.
+    fn can_step(columns: &RegisterFile) -> bool
+        ensures { result ≡ machine.can_step columns.now };
+
+    /// Returns how much of a signal frame is read, in bytes.
+    fn frame_size() -> u64
+        ensures { result ≡ machine.frame_size };
+
+    /// Returns the interrupted instruction pointer (AVMA) and all registers, by the bytes of a signal frame, or `None`
+    /// where these are too few.
+    fn saved(frame: &[u8]) -> Option<(u64, RegisterFile)>
+        ensures { result ≡ machine.saved frame.now };
+
+    /// Returns whether an address (AVMA) lies right after a call.
+    fn is_after_call<M: CodeMemory>(memory: &M, address: u64) -> bool
+        ensures { result ≡ machine.is_after_call (M.code memory.now).bytes address };
+
+    /// Unwinds a frame by the frame pointer, and returns as [`Unwinder::unwind_frame`] does.
+    fn follow_frame_pointer<M: WordMemory>(
+        memory: &M,
+        is_first_frame: bool,
+        regs: &mut Self::UnwindRegs,
+    ) -> Result<Option<u64>, Error>
+        ensures { HasDone (machine.fallback is_first_frame regs.old (M.memory memory.now)) result regs.old regs.new };
+
+    /// Returns whether PE or compact unwind info unwinds a frame.
+    fn is_by_info<M: WordMemory>(
+        &self,
+        address: FrameAddress,
+        regs: Self::UnwindRegs,
+        memory: &M,
+    ) -> bool
+        ensures { result ≡ is_by_info self.now (location_of address) regs (M.memory memory.now) };
+}

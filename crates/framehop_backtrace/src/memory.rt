@@ -1,0 +1,49 @@
+//! The memory of a process with its code.
+ghost use Rattle.std.specs.Prelude.{◌≡◌, option_map};
+ghost use Rattle.framehop_core.specs.CodeAddress.{location_of};
+ghost use Rattle.framehop_backtrace.specs.Code.{Code, is_in_trampoline, is_in_code};
+
+use framehop_columns::memory::WordMemory;
+use framehop_core::FrameAddress;
+
+/// A memory of which it is known what is code.
+pub trait CodeMemory: WordMemory {
+    ghost code: { Self → Code };
+
+    /// Returns so many bytes from an address (AVMA) on, if they are known.
+    fn bytes_at(&self, address: u64, size: u64) -> Option<&[u8]>
+        ensures { option_map (λ found. found.now) result ≡ (code self.now).bytes address size };
+
+    /// Returns whether an address (AVMA) lies in executable memory.
+    fn is_executable(&self, address: u64) -> bool
+        ensures { result ≡ (code self.now).is_executable address };
+
+    /// Returns whether a trampoline, to which the handlers of signals return, begins at an address (AVMA).
+    fn is_trampoline(&self, address: u64) -> bool
+        ensures { result ≡ (code self.now).is_trampoline address };
+}
+
+/// Returns whether a frame is in a trampoline: a handler returns to the first of its two instructions, and an instruction
+/// pointer can also be after either of them.
+pub fn is_in_trampoline<M: CodeMemory>(memory: &M, frame: FrameAddress) -> bool
+    ensures { result ≡ is_in_trampoline (M.code memory.now) (location_of frame) }
+{
+    match frame {
+        FrameAddress::ReturnAddress(address) => memory.is_trampoline(address.get()),
+        FrameAddress::InstructionPointer(address) => {
+            memory.is_trampoline(address)
+                || memory.is_trampoline(address.saturating_sub(4))
+                || memory.is_trampoline(address.saturating_sub(7))
+                || memory.is_trampoline(address.saturating_sub(8))
+                || memory.is_trampoline(address.saturating_sub(9))
+        }
+    }
+}
+
+/// Returns whether a return address (AVMA) is in executable memory: the call before it, or it itself as the start of a
+/// trampoline.
+pub fn is_in_code<M: CodeMemory>(memory: &M, address: u64) -> bool
+    ensures { result ≡ is_in_code (M.code memory.now) address }
+{
+    memory.is_executable(address.saturating_sub(1)) || memory.is_executable(address)
+}
