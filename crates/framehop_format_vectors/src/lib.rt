@@ -7,8 +7,26 @@ mod analysis_aarch64;
 #[cfg(test)]
 mod analysis_x86_64;
 #[cfg(test)]
+mod columns;
+#[cfg(test)]
+mod frames;
+#[cfg(test)]
+mod header;
+#[cfg(test)]
+mod index;
+#[cfg(test)]
 mod macho;
+#[cfg(test)]
+mod names;
 #[cfg(test)]
 mod pe;
 #[cfg(test)]
 mod real_code;
+#[cfg(test)]
+mod rows;
+#[cfg(test)]
+mod rules;
+#[cfg(test)]
+mod sections;
+#[cfg(test)]
+mod signal;

@@ -6,13 +6,19 @@ mod asked_names;
 #[cfg(test)]
 mod commands;
 #[cfg(test)]
+mod kinds;
+#[cfg(test)]
 mod lent_words;
 #[cfg(test)]
 mod library;
 #[cfg(test)]
+mod mappings;
+#[cfg(test)]
 mod paths;
 #[cfg(test)]
 mod readme;
+#[cfg(test)]
+mod rule_text;
 #[cfg(test)]
 mod section_info;
 #[cfg(test)]

@@ -1,10 +1,11 @@
 //! Words and walks over copies of a stack's bytes.
 use crate::unwinders::{Aarch64, STACK, X86_64, holds};
 use framehop::aarch64::UnwindRegsAarch64;
-use framehop::session::{SessionError, WalkEnd, read_word, walk};
+use framehop::dwarf::UnwindContext;
+use framehop::walk::{StackBytes, WalkEnd, Words, walk};
 use framehop::x86_64::UnwindRegsX86_64;
 use framehop::{FrameAddress, MayAllocateDuringUnwind, Unwinder};
-use std::alloc::Global;
+use std::alloc::{AllocError, Global};
 use std::test::Fail;
 
 /// The little-endian bytes of a stack's words.
@@ -30,7 +31,11 @@ const WORDS: [(u64, u64, Result<u64, ()>); 5] = [
 fn reads_words() -> bool {
     let bytes = [0, 1, 2, 3, 4, 5, 6, 7, 8, 9];
     for (base, address, word) in WORDS {
-        if read_word(base, &bytes, address) != word {
+        let stack = StackBytes {
+            base,
+            bytes: &bytes,
+        };
+        if stack.read(address) != word {
             return false;
         }
     }
@@ -50,8 +55,9 @@ fn walked<U: Unwinder>(
     start: (u64, U::UnwindRegs),
     bytes: &[u8],
     limit: u32,
-) -> Result<([Option<FrameAddress>; 4], WalkEnd, U::UnwindRegs), SessionError> {
-    let mut read_stack = |address| read_word(0, bytes, address);
+) -> Result<([Option<FrameAddress>; 4], WalkEnd, U::UnwindRegs), AllocError> {
+    let stack = StackBytes { base: 0, bytes };
+    let mut read_stack = |address| stack.read(address);
     let (pc, regs) = start;
     let (frames, end, regs) = walk(alloc, unwinder, cache, pc, regs, &mut read_stack, limit)?;
     let found = [
@@ -111,4 +117,26 @@ fn comes_to_the_limit(alloc: Global) -> Result<bool, Fail> {
 #[test]
 fn walks_over_bytes_on_x86_64(rt: HostRuntime) -> Result<(), Fail> {
     holds(comes_to_the_limit(rt.alloc())?)
+}
+
+/// Whether a step without a cache goes from the first frame of that walk to the second.
+fn steps_afresh(alloc: Global) -> Result<bool, Fail> {
+    let bytes = bytes_of(&STACK);
+    let stack = StackBytes {
+        base: 0,
+        bytes: &bytes,
+    };
+    let mut read_stack = |address| stack.read(address);
+    let made = Aarch64::new(alloc, 0)?;
+    let mut context = UnwindContext::new_in(alloc)?;
+    let mut regs = UnwindRegsAarch64::new(0x1004e0830, 0x10, 0x20);
+    let pc = FrameAddress::from_instruction_pointer(0x1005252c0);
+    let unwinder = made.unwinder.inner();
+    let stepped = unwinder.step_fresh(&mut context, pc, &mut regs, &mut read_stack);
+    Ok(stepped == Ok(Some(0x1004fcdc4)) && (regs.sp(), regs.fp()) == (0x30, 0x40))
+}
+
+#[test]
+fn steps_without_a_cache(rt: HostRuntime) -> Result<(), Fail> {
+    holds(steps_afresh(rt.alloc())?)
 }

@@ -1,0 +1,6 @@
+//! Worked examples of core files, with the values that are to come out.
+
+mod aarch64;
+mod pieces;
+mod refusals;
+mod x86_64;

@@ -1,0 +1,5 @@
+//! A worked example of ELF files, with the values that are to come out.
+
+mod program;
+mod readme;
+mod segments;

@@ -1,0 +1,7 @@
+//! Worked examples of minidumps, with the values that are to come out.
+
+mod aarch64;
+mod pieces;
+mod readme;
+mod refusals;
+mod x86_64;

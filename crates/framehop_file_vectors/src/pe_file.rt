@@ -1,0 +1,5 @@
+//! A worked example of PE files, with the values that are to come out.
+
+mod program;
+mod refusals;
+mod unwinding;

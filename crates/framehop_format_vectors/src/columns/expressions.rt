@@ -1,0 +1,136 @@
+//! Expressions that read memory, by hand (DWARF 5 section 2.5.1.3).
+use crate::columns::frames::{bytes_of, memory_of};
+use framehop_cfi::rule::{Expression, Register};
+use framehop_columns::evaluation::evaluate;
+use framehop_columns::register_file::RegisterFile;
+use std::alloc::{AllocError, Global};
+use std::test::Fail;
+
+/// The memory at 0x1000: the bytes 11, 22 .. 88, 99 .. ff, 10.
+const WORDS: [u64; 2] = [0x8877665544332211, 0x10ffeeddccbbaa99];
+
+/// Operations, and their value.
+const EXPRESSIONS: [(&'static [u8], Option<u64>); 15] = [
+    // DW_OP_const2u 0x1000, DW_OP_deref
+    (&[0x0a, 0x00, 0x10, 0x06], Some(0x8877665544332211)),
+    // not aligned, and beyond the end
+    (&[0x0a, 0x01, 0x10, 0x06], Some(0x9988776655443322)),
+    (&[0x0a, 0x08, 0x10, 0x06], Some(0x10ffeeddccbbaa99)),
+    (&[0x0a, 0x09, 0x10, 0x06], None),
+    // DW_OP_deref_size of 1, 2, 4 and 8, of another number, and without one
+    (&[0x0a, 0x00, 0x10, 0x94, 0x01], Some(0x11)),
+    (&[0x0a, 0x00, 0x10, 0x94, 0x02], Some(0x2211)),
+    (&[0x0a, 0x00, 0x10, 0x94, 0x04], Some(0x44332211)),
+    (&[0x0a, 0x00, 0x10, 0x94, 0x08], Some(0x8877665544332211)),
+    (&[0x0a, 0x00, 0x10, 0x94, 0x03], None),
+    (&[0x0a, 0x00, 0x10, 0x94], None),
+    // no address
+    (&[0x06], None),
+    // DW_OP_breg7 1, DW_OP_deref_size 1, DW_OP_plus_uconst 8
+    (&[0x77, 0x01, 0x94, 0x01, 0x23, 0x08], Some(0x2a)),
+    // a register that isn't known
+    (&[0x76, 0x00, 0x06], None),
+    // DW_OP_breg7 0, DW_OP_skip 1 over a DW_OP_deref
+    (&[0x77, 0x00, 0x2f, 0x01, 0x00, 0x06], Some(0x1000)),
+    // no operation
+    (&[], None),
+];
+
+/// Registers of which rsp only is known.
+fn only_sp() -> RegisterFile {
+    let mut regs = RegisterFile::new();
+    regs.set(Register(7), Some(0x1000));
+    regs
+}
+
+#[test]
+fn evaluates(rt: HostRuntime) -> Result<(), Fail> {
+    let alloc = rt.alloc();
+    let bytes = bytes_of(alloc, &WORDS)?;
+    let memory = memory_of(alloc, 0x1000, bytes.as_slice())?;
+    for (code, value) in EXPRESSIONS {
+        let whole = Expression {
+            start: 0,
+            end: code.len(),
+        };
+        assert_eq!(rt;
+            evaluate(alloc, code, whole, &only_sp(), &memory, None),
+            value
+        );
+    }
+    Ok(())
+}
+
+#[test]
+fn begins_with_the_first_value(rt: HostRuntime) -> Result<(), Fail> {
+    let alloc = rt.alloc();
+    let bytes = bytes_of(alloc, &WORDS)?;
+    let memory = memory_of(alloc, 0x1000, bytes.as_slice())?;
+    // the DW_OP_deref at 1, and places that are no part of the section
+    for (start, end, value) in [
+        (1, 2, Some(0x9988776655443322)),
+        (2, 1, None),
+        (1, 4, None),
+        (3, 3, Some(0x1001)),
+    ] {
+        let part = Expression { start, end };
+        let found = evaluate(
+            alloc,
+            &[0x13, 0x06, 0x13],
+            part,
+            &only_sp(),
+            &memory,
+            Some(0x1001),
+        );
+        assert_eq!(rt; found, value);
+    }
+    Ok(())
+}
+
+/// Returns so many times an operation.
+fn repeated(alloc: Global, operation: u8, count: usize) -> Result<Vec<u8>, AllocError> {
+    let mut code = Vec::new(alloc);
+    for _ in 0..count {
+        code.push(operation)?;
+    }
+    Ok(code)
+}
+
+#[test]
+fn has_limits(rt: HostRuntime) -> Result<(), Fail> {
+    let alloc = rt.alloc();
+    let memory = memory_of(alloc, 0x1000, &[])?;
+    // DW_OP_nop, and DW_OP_lit0: 4,096 operations are carried out, and 64 values fit
+    for (operation, count, value) in [
+        (0x96, 4096, Some(7)),
+        (0x96, 4097, None),
+        (0x30, 63, Some(0)),
+        (0x30, 64, None),
+    ] {
+        let code = repeated(alloc, operation, count)?;
+        let whole = Expression {
+            start: 0,
+            end: count,
+        };
+        let found = evaluate(alloc, code.as_slice(), whole, &only_sp(), &memory, Some(7));
+        assert_eq!(rt; found, value);
+    }
+    Ok(())
+}
+
+#[test]
+fn keeps_33_columns(rt: HostRuntime) -> Result<(), Fail> {
+    let mut regs = RegisterFile::new();
+    for column in 0..34u16 {
+        assert_eq!(rt; regs.get(Register(column)), None);
+        regs.set(Register(column), Some(u64::from(column)));
+    }
+    for column in 0..33u16 {
+        assert_eq!(rt; regs.get(Register(column)), Some(u64::from(column)));
+    }
+    assert_eq!(rt; regs.get(Register(33)), None);
+    regs.set(Register(5), None);
+    assert_eq!(rt; regs.get(Register(5)), None);
+    assert_eq!(rt; regs.get(Register(6)), Some(6));
+    Ok(())
+}

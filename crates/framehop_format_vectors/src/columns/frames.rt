@@ -1,0 +1,89 @@
+//! What the tests need: sections, registers and a memory.
+use framehop_cfi::context::UnwindContext;
+use framehop_cfi::entry::{UnwindSection, UnwindSectionType};
+use framehop_cfi::pointer::BaseAddresses;
+use framehop_cfi::rule::Register;
+use framehop_cfi::storage::UnwindContextStorage;
+use framehop_columns::caller::Caller;
+use framehop_columns::convention::Convention;
+use framehop_columns::frame::{FrameRefusal, caller_by_fde};
+use framehop_columns::memory::WordMemory;
+use framehop_columns::register_file::RegisterFile;
+use framehop_memory::memory::{MemoryRange, ProcessMemory};
+use std::alloc::{AllocError, Global};
+
+/// An `.eh_frame` at an SVMA, and the offset of one of its FDEs.
+#[derive(Clone, Copy)]
+pub(crate) struct Section {
+    pub(crate) bytes: &'static [u8],
+    pub(crate) svma: u64,
+    pub(crate) fde: u32,
+}
+
+/// Returns the bytes of words.
+pub(crate) fn bytes_of(alloc: Global, words: &[u64]) -> Result<Vec<u8>, AllocError> {
+    let mut bytes = Vec::new(alloc);
+    for word in words {
+        bytes.extend_from_slice(&word.to_le_bytes())?;
+    }
+    Ok(bytes)
+}
+
+/// Returns the memory that has these bytes from an address on.
+pub(crate) fn memory_of(
+    alloc: Global,
+    start: u64,
+    bytes: &[u8],
+) -> Result<ProcessMemory<'_>, AllocError> {
+    let mut ranges = Vec::new(alloc);
+    ranges.push(MemoryRange {
+        start,
+        size: bytes.len() as u64,
+        offset: 0,
+    })?;
+    Ok(ProcessMemory {
+        file: bytes,
+        ranges,
+    })
+}
+
+/// Returns registers by their columns from 0 on, of which one has another value.
+pub(crate) fn registers_of(values: &[u64], changed: (u16, u64)) -> RegisterFile {
+    let mut regs = RegisterFile::new();
+    let mut column = 0;
+    for value in values {
+        regs.set(Register(column), Some(*value));
+        column = column.saturating_add(1);
+    }
+    regs.set(Register(changed.0), Some(changed.1));
+    regs
+}
+
+/// Returns the caller of a frame at an address, an SVMA, by the FDE of a section.
+pub(crate) fn caller_at<S: UnwindContextStorage, M: WordMemory>(
+    alloc: Global,
+    convention: Convention,
+    section: &Section,
+    address: u32,
+    regs: &RegisterFile,
+    memory: &M,
+) -> Result<Result<Caller, FrameRefusal>, AllocError> {
+    let bases = BaseAddresses {
+        eh_frame: section.svma,
+        ..BaseAddresses::default()
+    };
+    let kind = UnwindSectionType::EhFrame;
+    let frames = UnwindSection::new(section.bytes, kind, &bases);
+    let mut context = UnwindContext::<S>::new_in(alloc)?;
+    Ok(caller_by_fde(
+        alloc,
+        convention,
+        &frames,
+        0,
+        address,
+        section.fde,
+        &mut context,
+        regs,
+        memory,
+    ))
+}

@@ -1,0 +1,2 @@
+-- The module that the tests make of a mapping.
+pub mod Bare

@@ -1,0 +1,315 @@
+//! The mappings of a process: the expected values were worked out by hand.
+ghost use Rattle.std.specs.Prelude.{◌≡◌, IfOk};
+ghost use Rattle.framehop_processes.specs.Process.{HasModules};
+ghost use Rattle.framehop_vectors.specs.Bare.{bare};
+
+use framehop::aarch64::UnwinderAarch64;
+use framehop::generations::Generations;
+use framehop::section::ModuleSectionInfo;
+use framehop::x86_64::UnwinderX86_64;
+use framehop::{Module, Unwinder};
+use framehop_processes::{Mapping, ModuleMaker, Process, ProcessesError};
+use std::alloc::{AllocError, Global};
+use std::ops::Range;
+use std::test::Fail;
+
+/// The sections of a file that has none.
+#[derive(Drop)]
+struct NoSections;
+
+impl ModuleSectionInfo<Vec<u8>> for NoSections {
+    ghost use Rattle.std.specs.Prelude.{[]};
+
+    ghost table = { λ info. record { base_svma = 0; sections = []; segments = [] } };
+
+    fn base_svma(&self) -> u64 {
+        0
+    }
+
+    fn section_svma_range(&mut self, _name: &[u8]) -> Option<Range<u64>> {
+        None
+    }
+
+    fn section_data(&mut self, _name: &[u8]) -> Option<Vec<u8>> {
+        None
+    }
+
+    fn segment_svma_range(&mut self, _name: &[u8]) -> Option<Range<u64>> {
+        None
+    }
+
+    fn segment_data(&mut self, _name: &[u8]) -> Option<Vec<u8>> {
+        None
+    }
+}
+
+/// A module without unwind data at the addresses of a mapping.
+#[tactic(auto, unfolding(framehop::specs::ModuleData::unwind_data_in))]
+fn bare_module(alloc: Global, mapping: &Mapping) -> Result<Module<Vec<u8>>, AllocError>
+    ensures { IfOk result (λ made. made ≡ bare mapping.now) }
+{
+    let name = String::new(alloc);
+    let range = mapping.start..mapping.end;
+    match Module::new(alloc, name, range, mapping.base_avma, NoSections) {
+        Ok(made) => Ok(made),
+        Err(_) => Err(AllocError),
+    }
+}
+
+/// Makes modules without unwind data.
+#[derive(Drop)]
+struct Bare;
+
+impl ModuleMaker<UnwinderX86_64<Vec<u8>>> for Bare {
+    ghost use Rattle.std.specs.Prelude.{refl};
+
+    ghost module_of = { λ maker mapping. bare mapping };
+
+    ghost start_is = { λ maker mapping. refl };
+
+    ghost end_is = { λ maker mapping. refl };
+
+    fn make_module(&self, alloc: Global, mapping: &Mapping) -> Result<Module<Vec<u8>>, AllocError> {
+        bare_module(alloc, mapping)
+    }
+}
+
+impl ModuleMaker<UnwinderAarch64<Vec<u8>>> for Bare {
+    ghost use Rattle.std.specs.Prelude.{refl};
+
+    ghost module_of = { λ maker mapping. bare mapping };
+
+    ghost start_is = { λ maker mapping. refl };
+
+    ghost end_is = { λ maker mapping. refl };
+
+    fn make_module(&self, alloc: Global, mapping: &Mapping) -> Result<Module<Vec<u8>>, AllocError> {
+        bare_module(alloc, mapping)
+    }
+}
+
+/// A mapping whose base is its start.
+fn mapping(start: u64, end: u64) -> Mapping {
+    Mapping {
+        start,
+        end,
+        base_avma: start,
+        file: 0,
+        has_sections: true,
+    }
+}
+
+/// Whether mappings have these starts, ends and bases.
+fn are(mappings: &[Mapping], expected: &[(u64, u64, u64)]) -> bool {
+    if mappings.len() != expected.len() {
+        return false;
+    }
+    for (mapping, range) in mappings.iter().zip(expected.iter()) {
+        if (mapping.start, mapping.end, mapping.base_avma) != *range {
+            return false;
+        }
+    }
+    true
+}
+
+/// Refuses what does not hold.
+fn holds(is_held: bool) -> Result<(), Fail> {
+    if is_held {
+        Ok(())
+    } else {
+        Err(Fail::from("another value"))
+    }
+}
+
+/// A process of x86_64.
+type ProcessX86_64 = Process<UnwinderX86_64<Vec<u8>>>;
+
+/// Whether a process has these mappings and this greatest code address.
+fn has(process: &ProcessX86_64, expected: &[(u64, u64, u64)], greatest: u64) -> bool {
+    are(process.mappings(), expected) && process.unwinder().max_known_code_address() == greatest
+}
+
+/// Maps these addresses: whether the process then has these mappings and this greatest code address.
+fn maps(
+    alloc: Global,
+    process: &mut ProcessX86_64,
+    generations: &mut Generations,
+    addresses: (u64, u64),
+    expected: &[(u64, u64, u64)],
+    greatest: u64,
+) -> bool
+    requires { HasModules bare process.old }
+    ensures { HasModules bare process.new }
+{
+    let (start, end) = addresses;
+    match process.map(alloc, &Bare, mapping(start, end), generations) {
+        Ok(()) => has(process, expected, greatest),
+        Err(_) => false,
+    }
+}
+
+/// The mappings after the end of the first is overlapped, and the second only touched.
+const REPLACED: [(u64, u64, u64); 3] = [
+    (0x1000, 0x2000, 0x1000),
+    (0x2000, 0x5000, 0x2000),
+    (0x5000, 0x6000, 0x5000),
+];
+
+/// Whether mappings are kept sorted, and older ones replaced where a newer one lies.
+fn replaces(alloc: Global, process: &mut ProcessX86_64, generations: &mut Generations) -> bool
+    requires { HasModules bare process.old }
+    ensures { HasModules bare process.new }
+{
+    let first = [(0x5000, 0x6000, 0x5000)];
+    let sorted = [(0x1000, 0x3000, 0x1000), (0x5000, 0x6000, 0x5000)];
+    has(process, &[], 0)
+        && maps(
+            alloc,
+            process,
+            generations,
+            (0x5000, 0x6000),
+            &first,
+            0x6000,
+        )
+        && maps(
+            alloc,
+            process,
+            generations,
+            (0x1000, 0x3000),
+            &sorted,
+            0x6000,
+        )
+        && maps(
+            alloc,
+            process,
+            generations,
+            (0x2000, 0x5000),
+            &REPLACED,
+            0x6000,
+        )
+}
+
+/// Whether a copy keeps its mappings where all but the start of the first is overlapped.
+fn is_copied(
+    alloc: Global,
+    process: &mut ProcessX86_64,
+    generations: &mut Generations,
+) -> Result<bool, AllocError>
+    requires { HasModules bare process.old }
+    ensures { HasModules bare process.new }
+{
+    let covered = [(0x1000, 0x1800, 0x1000), (0x1800, 0x8000, 0x1800)];
+    let child = process.clone()?;
+    let is_mapped = maps(
+        alloc,
+        process,
+        generations,
+        (0x1800, 0x8000),
+        &covered,
+        0x8000,
+    );
+    Ok(is_mapped && has(&child, &REPLACED, 0x6000))
+}
+
+/// Both with a new process.
+fn maps_over(alloc: Global) -> Result<bool, Fail> {
+    let mut generations = Generations::new();
+    let mut process: ProcessX86_64 = Process::new(alloc, &mut generations)?;
+    let is_replaced = replaces(alloc, &mut process, &mut generations);
+    let is_copied = is_copied(alloc, &mut process, &mut generations)?;
+    Ok(is_replaced && is_copied)
+}
+
+#[test]
+fn maps_over_older_mappings_on_x86_64(rt: HostRuntime) -> Result<(), Fail> {
+    holds(maps_over(rt.alloc())?)
+}
+
+/// Whether a page in the middle parts a mapping. One module goes, and three come.
+fn parts(alloc: Global) -> Result<bool, Fail> {
+    let whole = [(0x1000, 0x9000, 0x1000)];
+    let parted = [
+        (0x1000, 0x4000, 0x1000),
+        (0x4000, 0x5000, 0x4000),
+        (0x5000, 0x9000, 0x1000),
+    ];
+    let mut generations = Generations::starting_at(10);
+    let mut process: ProcessX86_64 = Process::new(alloc, &mut generations)?;
+    let made = &mut process;
+    let is_mapped = maps(
+        alloc,
+        made,
+        &mut generations,
+        (0x1000, 0x9000),
+        &whole,
+        0x9000,
+    ) && maps(
+        alloc,
+        made,
+        &mut generations,
+        (0x4000, 0x5000),
+        &parted,
+        0x9000,
+    );
+    Ok(is_mapped && generations.next() == Some(16))
+}
+
+#[test]
+fn keeps_both_sides_of_a_new_mapping(rt: HostRuntime) -> Result<(), Fail> {
+    holds(parts(rt.alloc())?)
+}
+
+/// Whether a process of aarch64 is as it was where two generations are left, and three are drawn: one module goes,
+/// and two come.
+fn is_as_it_was(
+    alloc: Global,
+    process: &mut Process<UnwinderAarch64<Vec<u8>>>,
+    generations: &mut Generations,
+) -> bool
+    requires { HasModules bare process.old }
+    ensures { HasModules bare process.new }
+{
+    process
+        .map(alloc, &Bare, mapping(0x1000, 0x2000), generations)
+        .is_ok()
+        && process.map(alloc, &Bare, mapping(0x1800, 0x2800), generations)
+            == Err(ProcessesError::GenerationsExhausted)
+        && generations.is_exhausted()
+        && are(process.mappings(), &[(0x1000, 0x2000, 0x1000)])
+        && process.unwinder().max_known_code_address() == 0x2000
+}
+
+/// The same with a new process.
+fn stays(alloc: Global) -> Result<bool, Fail> {
+    let mut generations = Generations::starting_at(0xffff_ffff_ffff_fffb);
+    let mut process: Process<UnwinderAarch64<Vec<u8>>> = Process::new(alloc, &mut generations)?;
+    Ok(is_as_it_was(alloc, &mut process, &mut generations))
+}
+
+#[test]
+fn stays_as_it_was_at_the_end_of_the_counter_on_aarch64(rt: HostRuntime) -> Result<(), Fail> {
+    holds(stays(rt.alloc())?)
+}
+
+/// Whether a mapping has at least one address.
+fn has_an_address() -> bool {
+    Mapping::new(0x1000, 0x1000, 0, 0).is_none()
+        && Mapping::new(0x1000, 0x0fff, 0, 0).is_none()
+        && Mapping::new(0xffff_ffff_ffff_fffe, 0xffff_ffff_ffff_ffff, 0, 0).is_some()
+}
+
+/// Whether one without an address is refused.
+fn refuses_an_empty_one(alloc: Global) -> Result<bool, Fail> {
+    let mut generations = Generations::new();
+    let mut process: ProcessX86_64 = Process::new(alloc, &mut generations)?;
+    let empty = Mapping {
+        end: 0x1000,
+        ..mapping(0x1000, 0x2000)
+    };
+    Ok(process.map(alloc, &Bare, empty, &mut generations) == Err(ProcessesError::EmptyMapping))
+}
+
+#[test]
+fn has_no_mapping_without_an_address(rt: HostRuntime) -> Result<(), Fail> {
+    holds(has_an_address() && refuses_an_empty_one(rt.alloc())?)
+}
