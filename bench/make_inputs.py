@@ -1,5 +1,5 @@
 #!/usr/bin/env python3
-"""Makes the inputs of compare.py, in the format of docs/JSON.md.
+"""Makes the inputs of compare.py, in the format of docs/PROGRAMS.md.
 
     make_inputs.py frame-pointers ARCH      a walk of 400 frames that are linked by frame pointers
     make_inputs.py scattered COUNT          a walk of COUNT frames that are linked by frame pointers

@@ -25,6 +25,7 @@ LIBRARIES = [
     "framehop_dwarf",
     "framehop_columns",
     "framehop_signal",
+    "framehop_backtrace",
     "framehop_macho",
     "framehop_pe",
     "framehop_walk",

@@ -13,9 +13,9 @@ check_docs.py [--run [PROGRAM..]].
 - Each source, definition and proof has the layout that `rt fmt` gives it.
 - The column "may use" of ARCHITECTURE.md has for each crate what its line in crates.txt has; and EXAMPLES.md lists the
   libraries below `framehop`.
-- Each command of JSON.md is in the file of examples/ that has its name.
+- Each command of PROGRAMS.md is in the file of examples/ that has its name.
 
-With `--run` it checks instead what README.md, docs/JSON.md and docs/EXAMPLES.md print, by the programs that the gate leaves,
+With `--run` it checks instead what README.md, docs/PROGRAMS.md and docs/EXAMPLES.md print, by the programs that the gate leaves,
 or those that are named: the output of each command after a `$`, and the lines after a command in JSON.
 """
 
@@ -30,9 +30,9 @@ from pathlib import Path
 TOP = Path(__file__).resolve().parent.parent
 NAMED = ["DEFINITIONS.md", "PROVED.md", "CHANGING.md"]
 # the pages whose commands are run
-SHOWN = ["README.md", "docs/CHECK.md", "docs/JSON.md", "docs/EXAMPLES.md"]
+SHOWN = ["README.md", "docs/CHECK.md", "docs/PROGRAMS.md", "docs/EXAMPLES.md"]
 PROGRAMS = ("check", "explain", "stacks", "walk")
-EXAMPLES = [TOP / f"crates/{name}/src/readme.rt" for name in ("framehop_vectors", "framehop_elf_vectors", "framehop_minidump_vectors")]
+EXAMPLES = [TOP / f"crates/{place}/readme.rt" for place in ("framehop_vectors/src", "framehop_file_vectors/src/elf", "framehop_file_vectors/src/minidump")]
 PATHS = TOP / "crates/framehop_vectors/src/paths.rt"
 FENCE = re.compile(r"^```.*?^```", re.M | re.S)
 WORD = re.compile(r"[^\W\d][\w'-]*")
@@ -142,7 +142,7 @@ def untested_examples():
 
 def untested_doc_examples():
     """Examples of doc comments, of which each line is a line of a test."""
-    tests = {line.strip() for page in TOP.glob("crates/*_vectors/src/*.rt") for line in page.read_text().split("\n")}
+    tests = {line.strip() for page in TOP.glob("crates/*_vectors/src/**/*.rt") for line in page.read_text().split("\n")}
     for page in sorted(TOP.glob("crates/*/src/**/*.rt")):
         for block in re.findall(r"^ */// ```\n(.*?)^ */// ```", page.read_text(), re.M | re.S):
             for line in block.split("\n"):
@@ -285,9 +285,9 @@ def wrong_libraries():
 
 
 def commands_in_json():
-    """The commands of JSON.md with their names, and the lines that are printed after each, if these are there."""
-    page = (TOP / "docs/JSON.md").read_text()
-    for section in page.split("\n### ")[1:]:
+    """The commands of PROGRAMS.md with their names, and the lines that are printed after each, if these are there."""
+    page = (TOP / "docs/PROGRAMS.md").read_text()
+    for section in page.split("\n#### ")[1:]:
         blocks = re.findall(r"^```(\w*)\n(.*?)^```", section, re.M | re.S)
         for place, (kind, text) in enumerate(blocks):
             name = re.match(r'\{"do":"(\w+)"', text)
@@ -332,7 +332,7 @@ def other_output(given):
         if wanted is not None:
             count += 1
             if not printed(f"./framehop-walk examples/{name}.json", built).endswith(wanted):
-                yield f"docs/JSON.md: another output of {name}"
+                yield f"docs/PROGRAMS.md: another output of {name}"
     if count < LEAST_SHOWN:
         yield f"{count} commands were found, fewer than {LEAST_SHOWN}"
 
@@ -350,7 +350,7 @@ def faults():
     yield from (f"README.md, docs/EXAMPLES.md: {fault}" for fault in untested_examples())
     yield from (f"docs/ARCHITECTURE.md: {fault}" for fault in wrong_uses())
     yield from (f"docs/EXAMPLES.md: {fault}" for fault in wrong_libraries())
-    yield from (f"docs/JSON.md: {fault}" for fault in commands_without_an_example())
+    yield from (f"docs/PROGRAMS.md: {fault}" for fault in commands_without_an_example())
     yield from (f"docs/api: {fault}" for check in (stale_api(), names_not_on_the_page(), methods_not_on_the_pages()) for fault in check)
     yield from untested_doc_examples()
     yield from wrong_edits()

@@ -5,7 +5,8 @@
 # 1. the program is interpreted by `rt try`, not yet proved, and its output is printed at once;
 # 2. each crate is proved, and the program is built;
 # 3. the built program runs on the same input, and its output is compared with the first: status 3 where they differ.
-# After an interrupt the next run proves what is left.
+# Where the interpreted program refuses its input (a status that is not 0, and no output), that is all: nothing is proved for it. After an
+# interrupt, which ends all proofs that run, the next run proves what is left.
 #
 # FRAMEHOP_TRY=1 stops after the first step, and FRAMEHOP_BUILD=1 leaves it out.
 set -u
@@ -21,6 +22,26 @@ is_current() {
     [ -z "$(find "$top/crates.txt" "$top"/crates/*/{src,specs,proofs} -type f -newer "$built" -print -quit 2>/dev/null)" ]
 }
 
+# Runs rt in a folder, in a process group of its own, so that a signal to this script ends it with all that it has started.
+run_alone() {
+    local folder=$1 status
+    shift
+    (cd "$folder" && exec rt "$@") <&0 &
+    alone=$!
+    wait "$alone"
+    status=$?
+    alone=
+    return "$status"
+}
+
+# Ends what runs, with all that it has started.
+stop() {
+    local group
+    set +m
+    for group in $alone $(jobs -p); do kill -- "-$group" 2>/dev/null; done
+    exit "$1"
+}
+
 # ---- the first output
 
 # Interprets the program on its arguments; its output goes to $work/tried, and its status to $work/status. Fails where rt has no
@@ -31,7 +52,7 @@ interpret() {
         [ ! -e "$argument" ] || argument=$(realpath -- "$argument")
         arguments+=("$argument")
     done
-    (cd "$top/crates/$program" && rt try -- "${arguments[@]}") >"$work/tried" 2>"$work/messages"
+    run_alone "$top/crates/$program" try -- "${arguments[@]}" >"$work/tried" 2>"$work/messages"
     ended=$(sed -n 's/^run=ended status=\([0-9]*\).*/\1/p' "$work/messages")
     [ -n "$ended" ] || return 1
     echo "$ended" >"$work/status"
@@ -169,7 +190,7 @@ prove_libraries() {
             line+=" $crate${part:+ ($part functions)}"
             [ -z "$part" ] || now=$((now + ${lines[$crate]} * ${part% of *} / ${part#* of }))
             kill -0 "${job[$crate]}" 2>/dev/null && continue
-            wait "${job[$crate]}" || { failed "$crate"; kill "${job[@]}" 2>/dev/null; return 1; }
+            wait "${job[$crate]}" || { failed "$crate"; stop 1; }
             unset "job[$crate]"
             ended[$crate]=1
             count=$((count + 1))
@@ -191,7 +212,7 @@ build() {
     say "building $program"
     local input=$top/crates/$program/stdin
     [ -f "$input" ] || input=/dev/null
-    if ! (cd "$top/crates/$program" && rt run "${build_arguments[@]}" <"$input") >"$top/out/$program.log" 2>&1; then
+    if ! run_alone "$top/crates/$program" run "${build_arguments[@]}" <"$input" >"$top/out/$program.log" 2>&1; then
         failed "$program"
         return 1
     fi
@@ -199,13 +220,20 @@ build() {
 }
 
 if is_current && [ "${FRAMEHOP_TRY:-}" != 1 ]; then exec "$built" "$@"; fi
+command -v rt >/dev/null || { say "the kit of Rattle is not on the PATH, and the program is not built yet: see \"Install\" in README.md"; exit 1; }
 work=$(mktemp -d) || exit 1
+alone=
+set -m
 trap 'rm -rf "$work"' EXIT
-trap 'exit 130' INT TERM
+trap 'stop 130' INT TERM
 replied=
 if [ "${FRAMEHOP_BUILD:-}" != 1 ] && reply_first "$@"; then replied=1; fi
 if [ "${FRAMEHOP_TRY:-}" = 1 ]; then
     [ -n "$replied" ] || exit 1
+    exit "$(cat "$work/status")"
+fi
+if [ -n "$replied" ] && [ "$(cat "$work/status")" != 0 ] && [ ! -s "$work/tried" ]; then
+    say "refused, so nothing is proved and built for it"
     exit "$(cat "$work/status")"
 fi
 build || exit 1

@@ -3,7 +3,7 @@
 
     random_steps.py ORIGINAL ROUNDS SEED PROGRAM..
 
-ORIGINAL is called with a file of docs/JSON.md and prints what `framehop-walk` does, as `framehop-original run` of
+ORIGINAL is called with a file of docs/PROGRAMS.md and prints what `framehop-walk` does, as `framehop-original run` of
 bench/original; PROGRAM.. is as in cases.py, which runs it in each of its modes. Each round takes the modules of a case, and
 makes up instruction pointers, registers and stack words. It prints the walks that differ, and fails then. A walk in which
 the original crate panics may be printed by it as `panic`, and is passed over.

@@ -1,4 +1,4 @@
-//! The original crate on the inputs of docs/JSON.md, for comparison.
+//! The original crate on the inputs of docs/PROGRAMS.md, for comparison.
 //!
 //!     framehop-original walk FILE N     times N walks of the file's first walk
 //!     framehop-original index FILE N    times N makings of the file's first module

@@ -1,0 +1,74 @@
+#!/usr/bin/env bash
+# Installs what is built: install.sh PREFIX; install.sh --uninstall PREFIX.
+#
+# Into PREFIX go the programs (bin), the archive for C with the kit's shims of malloc in it (lib/libframehop.a), its header, its file for
+# pkg-config, and the licences. Nothing is written outside of PREFIX; with DESTDIR, as packagers have it, all goes below that folder
+# first. What was installed is listed in PREFIX/share/doc/framehop/files, by which it is removed again. Nothing is proved or built here:
+# what is not built yet is named, with the command that builds it, and the status is 1.
+set -eu -o pipefail
+top=$(cd "$(dirname "$(realpath -- "${BASH_SOURCE[0]}")")/.." && pwd)
+
+usage() { sed -n 2p "$0" | sed 's/^# /usage: /' >&2; exit 2; }
+say() { echo "install.sh: $*" >&2; }
+
+removes=
+if [ "${1:-}" = --uninstall ]; then removes=1; shift; fi
+[ $# = 1 ] && [ "${1#/}" != "$1" ] || usage
+prefix=${1%/}
+root=${DESTDIR:-}$prefix
+list=$root/share/doc/framehop/files
+version=$(sed -n 's/^version = "\(.*\)"/\1/p' "$top/bindings/rust/Cargo.toml")
+
+remove() {
+    local file
+    [ -f "$list" ] || { say "there is no $list: nothing was installed there"; exit 1; }
+    while read -r file; do rm -f -- "$root/$file"; done <"$list"
+    rm -f -- "$list"
+    find "$root/share/doc/framehop" -maxdepth 0 -empty -delete
+}
+
+# Installs a file under its name in PREFIX, with these permissions.
+put() {
+    install -D -m "$1" -- "$2" "$root/$3"
+    echo "$3" >>"$work/files"
+}
+
+# One archive of the library's and of the kit's shims of malloc.
+make_archive() {
+    local kit
+    kit=$(dirname "$(dirname "$(readlink -f "$(command -v rt)")")")/c/liblibc_c.a
+    (cd "$work" && printf 'create libframehop.a\naddlib %s\naddlib %s\nsave\nend\n' "$1" "$kit" | ar -M)
+}
+
+pkg_config() {
+    printf '%s\n' "prefix=$prefix" 'includedir=${prefix}/include' 'libdir=${prefix}/lib' '' 'Name: framehop' \
+        'Description: A stack frame unwinder for profilers and crash readers' "Version: $version" \
+        'Cflags: -I${includedir}' 'Libs: -L${libdir} -lframehop'
+}
+
+if [ -n "$removes" ]; then remove; exit; fi
+work=$(mktemp -d)
+trap 'rm -rf "$work"' EXIT
+status=0
+for name in walk explain stacks check; do
+    if [ -x "$top/out/framehop-$name" ]; then
+        put 755 "$top/out/framehop-$name" "bin/framehop-$name"
+    else
+        say "framehop-$name is not built: FRAMEHOP_BUILD=1 ./framehop-$name --help"
+        status=1
+    fi
+done
+archive=$top/crates/framehop_c/out/libframehop_c.a
+if [ -f "$archive" ] && command -v rt >/dev/null; then
+    make_archive "$archive"
+    pkg_config >"$work/framehop.pc"
+    put 644 "$work/libframehop.a" lib/libframehop.a
+    put 644 "$top/bindings/include/framehop.h" include/framehop.h
+    put 644 "$work/framehop.pc" lib/pkgconfig/framehop.pc
+else
+    say "libframehop_c.a is not built: (cd crates/framehop_c && rt lib)"
+    status=1
+fi
+for name in LICENSE-APACHE LICENSE-MIT; do put 644 "$top/$name" "share/doc/framehop/$name"; done
+install -m 644 -- "$work/files" "$list"
+exit "$status"
