@@ -27,7 +27,7 @@ FIELDS = {
     "rdata": ".rdata", "xdata": ".xdata",
 }
 # the topics whose output has notes, or whose input is a file
-OF_EXPLAIN = ("explain", "rows", "rules")
+OF_OTHERS = ("check", "explain", "rows", "rules")
 FIELD_OF = {name: field for field, names in FIELDS.items() for name in names.split()}
 
 
@@ -85,7 +85,7 @@ def cases():
     files = sorted(TOP.glob("cases/*/*")) + sorted(TOP.glob("examples/*.json"))
     for file in files:
         expected = file.with_suffix(".expected")
-        if file.parent.name in OF_EXPLAIN:
+        if file.parent.name in OF_OTHERS:
             continue
         if file.suffix == ".json" and expected.exists():
             yield file.relative_to(TOP), file.read_text(), expected.read_text()
