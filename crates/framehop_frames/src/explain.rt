@@ -57,7 +57,9 @@ fn note_frame<U: Steps, M: Words>(
     ensures { OnOk result (length notes.new.items ≡ length notes.old.items + 1) }
 {
     if frame.is_trampoline {
-        let note = Note::new(alloc).with_line("a signal frame: the registers of the interrupted code")?;
+        let note = Note::new(alloc).with_line(
+            "a signal frame: the registers of the interrupted code",
+        )?;
         notes.push(note)?;
         return Ok(());
     }

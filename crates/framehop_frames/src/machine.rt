@@ -60,8 +60,11 @@ pub trait Steps: ProcessUnwinder + BacktraceUnwinder + Rows {
 
     // an unwinder is of the machine, and what it finds is by the bytes of its modules
     ghost is_of_machine: { Self.machine ≡ walker.machine };
+
     ghost steps_by_modules: { (unwinder : Self) → Self.step unwinder ≡ walker.step (Self.unwinder_view unwinder).modules };
+
     ghost info_by_modules: { (unwinder : Self) → Self.is_by_info unwinder ≡ walker.is_by_info (Self.unwinder_view unwinder).modules };
+
     ghost rows_by_modules: { (unwinder : Self) → Self.rows unwinder None ≡ walker.rows (Self.unwinder_view unwinder).modules };
 }
 

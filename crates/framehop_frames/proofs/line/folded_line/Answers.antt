@@ -7,6 +7,6 @@ use Rattle.framehop_frames.proofs.line.folded_line.Goals as goal
 
 pub returns : goal.returns
 unfolding line_of
-returns c =
+returns g c =
     let labels = frames_text-map (frame_label c.args.files.now c.args.mappings.now) shown_frame c.args.stack.now.frames.items in
     grind (arith, common_steps, labels)

@@ -6,6 +6,6 @@ use Rattle.framehop_frames.specs.Stack.{shown_frame}
 use Rattle.framehop_frames.proofs.line.frames_block.Goals as goal
 
 pub returns : goal.returns
-returns c =
+returns g c =
     let lines = flat_map-map (frame_line c.args.files.now c.args.mappings.now) shown_frame c.args.stack.now.frames.items in
     grind (arith, common_steps, lines)

@@ -5,5 +5,5 @@ use Rattle.framehop_frames.specs.Stack.{shown_frame}
 use Rattle.framehop_frames.proofs.line.push_frames.Given as goal
 
 abbrev pub invariant-loop-frame : goal.invariant-loop-frame
-invariant-loop-frame l = l.line.items
+invariant-loop-frame g l = l.line.items
     ≡ l.initial.line.items ++ flat_map (λ frame. 59 ∷ frame_label l.files l.mappings (shown_frame frame)) (map (λ frame. frame.now) l.yielded)
