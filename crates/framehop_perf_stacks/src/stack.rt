@@ -48,6 +48,14 @@ pub fn walk_sample<U: Sampled>(
         files,
         process,
     };
-    let stack = walk_stack(alloc, unwinder, unwind_context, cache, &memory, start, limit)?;
+    let stack = walk_stack(
+        alloc,
+        unwinder,
+        unwind_context,
+        cache,
+        &memory,
+        start,
+        limit,
+    )?;
     Ok(Some(stack))
 }
