@@ -47,7 +47,15 @@ pub fn walk_thread<U: Dumped>(
         process,
     };
     let unwinder = process.unwinder();
-    let stack = walk_stack(alloc, unwinder, unwind_context, cache, &memory, start, limit)?;
+    let stack = walk_stack(
+        alloc,
+        unwinder,
+        unwind_context,
+        cache,
+        &memory,
+        start,
+        limit,
+    )?;
     Ok(Some(stack))
 }
 

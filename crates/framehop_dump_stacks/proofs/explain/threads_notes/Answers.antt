@@ -19,7 +19,7 @@ loop-thread-preserved g c =
     let within : l.thread-index < length items = omega arith in (
       c.in_ok-note_thread.ensures.stays_sound c.args.process.now.unwinder (λ same. refl) l.invariant.0,
       sum-next (λ thread. line_count (thread_stack g.U.Steps.walker g.U.Dumped.begins c.args.limit c.args.files.now c.args.process.now.mappings c.args.process.now.unwinder.modules dump (thread_view thread)))
-    items c.args.dump.now.threads.items c.deref-thread-items.ensures.value l.thread-index _ within _ _ l.invariant.1
+          items c.args.dump.now.threads.items c.deref-thread-items.ensures.value l.thread-index _ within _ _ l.invariant.1
           (c.in_ok-note_thread.ensures.noted l.invariant.0),
     )
 
