@@ -9,7 +9,7 @@ check_docs.py [--run [PROGRAM..]].
 - No line of a document has more than 100 words, tables and code excepted.
 - The pages of docs/api are those that tools/api.py makes; they have each public method; and that of `framehop` has each name
   that the tests name there.
-- Each edit of edits/CRATE can be applied, and each promise of DEFINITIONS.md has one that the gate tries.
+- Each edit of checks/edits/CRATE can be applied, and each promise of DEFINITIONS.md has one that the gate tries.
 - Each source, definition and proof has the layout that `rt fmt` gives it.
 - The column "may use" of ARCHITECTURE.md has for each crate what its line in crates.txt has; and EXAMPLES.md lists the
   libraries below `framehop`.
@@ -39,14 +39,14 @@ WORD = re.compile(r"[^\W\d][\w'-]*")
 NUMBERS = "none one two three four five six seven eight nine ten eleven twelve".split()
 # how many commands have their output in a document, at least
 LEAST_SHOWN = 8
-# the lines of an edit that are no text: edits/try says what they are for
+# the lines of an edit that are no text: checks/edits/try says what they are for
 EDIT_KEYS = {"fn", "gate", "alone", "harmless"}
 # words of a name in backticks that are not names of this repository: Rust's, and values of arguments
 FOREIGN = set("Err None Some Ok Option Result Vec u8 u16 u32 u64 usize for true false null".split())
 
 
 def documents():
-    readmes = [TOP / "README.md", TOP / "bindings/README.md", TOP / "cases/README.md"]
+    readmes = [TOP / "README.md", TOP / "bindings/README.md", TOP / "checks/cases/README.md"]
     return [*readmes, *sorted(TOP.glob("docs/*.md")), *sorted(TOP.glob("docs/api/*.md"))]
 
 
@@ -220,7 +220,7 @@ def wrong_edits():
     """Edits that can't be applied, and promises without one that the gate tries."""
     promises = set(re.findall(r"^\| \*(.*?)\*", (TOP / "docs/DEFINITIONS.md").read_text(), re.M))
     tried = set()
-    for file in sorted(TOP.glob("edits/*/*.edit")):
+    for file in sorted(TOP.glob("checks/edits/*/*.edit")):
         text, name = file.read_text(), file.relative_to(TOP)
         yield from (f"{name}: {fault}" for fault in edit_faults(text, TOP / "crates" / file.parent.name))
         of = re.findall(r"^gate: (.*)$", text, re.M)
