@@ -1,15 +1,15 @@
 #!/usr/bin/env python3
 """Sweeps over unwind sections, for programs that read the input of framehop-walk.
 
-    tools/sweeps.py totals PROGRAM [SWEEP..]
+    checks/sweeps.py totals PROGRAM [SWEEP..]
         what each sweep of crates/framehop_sweeps comes to by PROGRAM: the numbers that src/bytes.rt asks for
-    tools/sweeps.py rules
+    checks/sweeps.py rules
         what the sweeps over rules come to, by the table of rules as it is written here
-    tools/sweeps.py pairs ONE OTHER [--count N] [--seed N]
+    checks/sweeps.py pairs ONE OTHER [--count N] [--seed N]
         two bytes of a section at once: N modules of each section, on which both programs are to print the same
-    tools/sweeps.py file ONE OTHER FILE [--count N] [--seed N]
+    checks/sweeps.py file ONE OTHER FILE [--count N] [--seed N]
         the .eh_frame and .eh_frame_hdr of an ELF file for x86-64, each time with one to eight bytes changed
-    tools/sweeps.py crashes PROGRAM [--count N] [--seed N]
+    checks/sweeps.py crashes PROGRAM [--count N] [--seed N]
         the same pairs by one program: each run is to end with status 0
 
 A program is a command with blanks between its words; the path of an input follows it. The sections are read from the

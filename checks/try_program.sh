@@ -1,16 +1,16 @@
 #!/usr/bin/env bash
-# Runs the built program with arguments, which its stored run has none of: try-program.sh PROGRAM [TESTS..].
+# Runs the built program with arguments, which its stored run has none of: try_program.sh PROGRAM [TESTS..].
 #
 # PROGRAM is what `rt run` in crates/framehop_walk_cli builds. Each run's status, output and error line are compared with
 # what is wanted, and whether it has read standard input. Then each allocation of runs on the examples is refused in turn
-# (tools/refuse-allocations.sh), and, where built tests are given, each one of those of them that are about memory
-# (tools/refuse-allocations-in-tests.sh). Status 0 where all is as it should be.
+# (checks/refuse_allocations.sh), and, where built tests are given, each one of those of them that are about memory
+# (checks/refuse_allocations_in_tests.sh). Status 0 where all is as it should be.
 set -u
-tools=$(dirname "$(realpath -- "${BASH_SOURCE[0]}")") || exit 2
+checks=$(dirname "$(realpath -- "${BASH_SOURCE[0]}")") || exit 2
 [ $# -ge 1 ] || { echo "usage: $0 PROGRAM [TESTS..]" >&2; exit 2; }
 program=$(realpath -- "$1") || exit 2
-cli=$tools/../crates/framehop_walk_cli
-examples=$tools/../examples
+cli=$checks/../crates/framehop_walk_cli
+examples=$checks/../examples
 work=$(mktemp -d) || exit 1
 trap 'rm -rf "$work"' EXIT
 cp "$cli/stdin" "$work/input" && cp "$cli/stdout" "$work/replies" || exit 1
@@ -55,5 +55,5 @@ fi
 [ "$failed" = 0 ] || exit 1
 echo "the runs with arguments are as they should be"
 
-"$tools/refuse-allocations.sh" "$program" "$examples"/{new,add,clone,remove,stats,step,walk}.json || exit 1
-[ $# -lt 2 ] || "$tools/refuse-allocations-in-tests.sh" "${@:2}" || exit 1
+"$checks/refuse_allocations.sh" "$program" "$examples"/{new,add,clone,remove,stats,step,walk}.json || exit 1
+[ $# -lt 2 ] || "$checks/refuse_allocations_in_tests.sh" "${@:2}" || exit 1

@@ -1,17 +1,17 @@
 #!/usr/bin/env bash
-# Lets one allocation after another fail in a built program: refuse-allocations.sh PROGRAM FILE..
+# Lets one allocation after another fail in a built program: refuse_allocations.sh PROGRAM FILE..
 #
 # A run on a FILE in which an allocation fails ends with status 2, no output and the line "framehop-walk: out of memory";
 # the run in which none fails ends with status 0. The allocator's `malloc` and `realloc` are put before those of the C
 # library by LD_PRELOAD, so a C compiler is needed. It tries the built program, and not the proofs.
 set -u
-tools=$(dirname "$(realpath -- "${BASH_SOURCE[0]}")") || exit 2
+checks=$(dirname "$(realpath -- "${BASH_SOURCE[0]}")") || exit 2
 [ $# -ge 2 ] || { echo "usage: $0 PROGRAM FILE.." >&2; exit 2; }
 program=$(realpath -- "$1") || exit 2
 shift
 work=$(mktemp -d) || exit 1
 trap 'rm -rf "$work"' EXIT
-cc -shared -fPIC -O1 -o "$work/failing.so" "$tools/failing_allocations.c" -ldl || exit 1
+cc -shared -fPIC -O1 -o "$work/failing.so" "$checks/failing_allocations.c" -ldl || exit 1
 printf 'framehop-walk: out of memory\n' >"$work/line"
 : >"$work/nothing"
 

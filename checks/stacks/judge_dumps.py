@@ -2,7 +2,7 @@
 """judge_dumps.py [--shown N] PROGRAM FOLDER..: compares the stacks that framehop-stacks has of dumps with those of other tools.
 
 Each file NAME.frames of a folder is a case: NAME beside it is a core file or a minidump, and a line `thread index: address` is a frame
-as another tool has it, the innermost with the index 0. tools/stacks/make_dumps.sh makes such folders. PROGRAM, the built
+as another tool has it, the innermost with the index 0. checks/stacks/make_dumps.sh makes such folders. PROGRAM, the built
 framehop-stacks, runs on NAME with `--root`, and the address of its line number `index` of the block of `thread` must be the same. That
 is the pc of the frame: for the innermost frame and for one that a signal interrupted the address of the next instruction, for all
 others the return address, in the block as in gdb's and in LLDB's frames (they show the line of the call, but their pc is the return

@@ -2,7 +2,7 @@
 """shrink_minidump.py FRAMES FROM TO: copies a minidump of Windows for x86_64 with what its stacks need only.
 
 These are the threads that the file FRAMES has, their contexts and their stacks from rsp on, and the whole streams of the system, of the
-modules, and of the exception. FRAMES has lines `thread index: address`, as tools/stacks/judge_dumps.py reads them.
+modules, and of the exception. FRAMES has lines `thread index: address`, as checks/stacks/judge_dumps.py reads them.
 """
 import struct
 import sys

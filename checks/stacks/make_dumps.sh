@@ -1,16 +1,16 @@
 #!/usr/bin/env bash
 # Makes core files and minidumps of real processes, with the frames that other tools have: make_dumps.sh FOLDER [linux|aarch64|windows]..
 #
-# The sources are in tools/stacks/judges, and each says by its first line what its process does. Each case is a file in FOLDER/cases:
+# The sources are in checks/stacks/judges, and each says by its first line what its process does. Each case is a file in FOLDER/cases:
 # NAME.core, judged by gdb, or NAME.dmp, judged by LLDB, or on Windows by the process itself, with RtlVirtualUnwind. Beside it is
 # NAME.core.frames, or NAME.dmp.frames, with a line `thread index: address` for each frame, and lines of remarks after `#`.
-# tools/stacks/judge_dumps.py compares them with framehop-stacks.
+# checks/stacks/judge_dumps.py compares them with framehop-stacks.
 #
 # Needs gcc, g++, gdb, lldb-19 and python3; for aarch64 qemu-user, gcc-aarch64-linux-gnu and gdb-multiarch; for Windows wine64 and
 # gcc-mingw-w64-x86-64. The kernel must write core files into the folder that a process is in (kernel.core_pattern = core).
 # LLDB, PYTHON, WINE, AARCH64 (a sysroot) and WINEPREFIX name others than the usual ones.
 set -u
-tools=$(dirname "$(realpath -- "${BASH_SOURCE[0]}")") || exit 2
+here=$(dirname "$(realpath -- "${BASH_SOURCE[0]}")") || exit 2
 [ $# -ge 1 ] || { sed -n 2p "$0" >&2; exit 2; }
 mkdir -p "$1/cases" "$1/programs" "$1/work" || exit 2
 top=$(realpath -- "$1")
@@ -45,7 +45,7 @@ await() {
 judge_core() {
     {
         echo "# judge: $(gdb --version | head -n 1)"
-        gdb -batch -nx -x "$tools/judges/frames_gdb.py" "$2" "$cases/$1.core" 2>/dev/null | of_script
+        gdb -batch -nx -x "$here/judges/frames_gdb.py" "$2" "$cases/$1.core" 2>/dev/null | of_script
     } >"$cases/$1.core.frames"
 }
 
@@ -56,7 +56,7 @@ judge_minidump() {
     shift
     for command in "$@"; do commands+=(-o "$command"); done
     for command in "process save-core --plugin-name=minidump --style stack $cases/$name.dmp" \
-        "command script import $tools/judges/frames_lldb.py" "process kill"; do
+        "command script import $here/judges/frames_lldb.py" "process kill"; do
         commands+=(-o "$command" -k "$command")
     done
     rm -f "$cases/$name.dmp"
@@ -71,7 +71,7 @@ judge_minidump() {
 judge_minidump_itself() {
     {
         echo "# judge: $($lldb --version | head -n 1), of the minidump"
-        $lldb --no-lldbinit -b -o "target create --core $cases/$1.dmp" -o "command script import $tools/judges/frames_lldb.py" 2>/dev/null | of_script
+        $lldb --no-lldbinit -b -o "target create --core $cases/$1.dmp" -o "command script import $here/judges/frames_lldb.py" 2>/dev/null | of_script
     } >"$cases/$1.dmp.frames"
 }
 
@@ -103,7 +103,7 @@ crashes() {
 }
 
 linux() {
-    local sources=$tools/judges/linux name
+    local sources=$here/judges/linux name
     for name in c system_call signal null_pointer; do gcc -O2 -g -o "$programs/$name" "$sources/$name.c" || exit 1; done
     gcc -O1 -g -o "$programs/overflow" "$sources/overflow.c" || exit 1
     for name in cxx_destructor cxx_catch; do g++ -O2 -o "$programs/$name" "$sources/$name.cc" || exit 1; done
@@ -130,17 +130,17 @@ crashes_below_qemu() {
     mv "$folder"/qemu_*.core "$cases/$1.core" || { complain "$1: no core file"; return; }
     rm -rf "$folder"/core*
     [ "$3" = plain ] && cp "$cases/$1.core" "$work/$1.plain"
-    python3 "$tools/judges/aarch64/with_files.py" "$cases/$1.core" "$folder/maps"
+    python3 "$here/judges/aarch64/with_files.py" "$cases/$1.core" "$folder/maps"
     {
         echo "# judge: $(gdb-multiarch --version | head -n 1), $(qemu-aarch64 --version | head -n 1)"
         gdb-multiarch -batch -nx -ex "set sysroot /" -ex "set solib-search-path $sysroot/lib" -ex "file $2" -ex "core-file $cases/$1.core" \
-            -x "$tools/judges/frames_gdb.py" 2>/dev/null | of_script
+            -x "$here/judges/frames_gdb.py" 2>/dev/null | of_script
     } >"$cases/$1.core.frames"
     [ "$3" = plain ] && mv "$work/$1.plain" "$cases/$1.core"
 }
 
 aarch64() {
-    local sources=$tools/judges/aarch64 compile=aarch64-linux-gnu-gcc name
+    local sources=$here/judges/aarch64 compile=aarch64-linux-gnu-gcc name
     $compile -O2 -fomit-frame-pointer -o "$programs/aarch64_c" "$sources/c.c" || exit 1
     $compile -O2 -o "$programs/aarch64_frame_pointers" "$sources/c.c" || exit 1
     $compile -O2 -static -fomit-frame-pointer -o "$programs/aarch64_static" "$sources/c.c" || exit 1
@@ -165,7 +165,7 @@ runs_below_wine() {
 }
 
 windows() {
-    local sources=$tools/judges/windows name number
+    local sources=$here/judges/windows name number
     export WINEPREFIX=${WINEPREFIX:-$top/wine} WINEDEBUG=-all
     mkdir -p "$WINEPREFIX" && "$wine" wineboot -i >/dev/null 2>&1
     mkdir -p "$WINEPREFIX/drive_c/judges" || exit 1

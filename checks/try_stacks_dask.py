@@ -1,5 +1,5 @@
 #!/usr/bin/env python3
-"""Tries stacks_dask.py over a cluster of this machine, beside the gate: try-stacks-dask.py PROGRAM
+"""Tries stacks_dask.py over a cluster of this machine, beside the gate: try_stacks_dask.py PROGRAM
 
 PROGRAM is a built framehop-stacks. The stored recordings, several times over, must give what one run of the program after another
 gives, also where a worker is killed while it works. Status 0 where they do.
@@ -13,6 +13,7 @@ import sys
 import tempfile
 import time
 
+sys.path.insert(0, os.path.join(os.path.dirname(os.path.realpath(__file__)), "..", "tools"))
 import stacks_dask
 
 DATA = os.path.join(stacks_dask.HERE, "..", "crates", "framehop_stacks_cli", "data")
