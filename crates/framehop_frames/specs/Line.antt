@@ -83,6 +83,10 @@ pub record ShownFrame : Type 0 where
   pub found : FoundBy
   pub is_trampoline : Bool
 
+-- The address that is looked up for a frame: a handler returns to the first instruction of a trampoline, after no call.
+abbrev pub looked_up : ShownFrame → ℕ
+looked_up frame = if frame.is_trampoline then address_of frame.location else lookup_address frame.location
+
 -- what a frame is called: a trampoline as debuggers call it
 abbrev pub frame_label : Files → List Mapping → ShownFrame → List ℕ
 frame_label files mappings frame =
@@ -120,7 +124,7 @@ trampoline_text is_trampoline = if is_trampoline then codes "<signal handler cal
 unfoldable pub frame_line : Files → List Mapping → ShownFrame → List ℕ
 frame_line files mappings frame =
     hexadecimal (address_of frame.location) ++ 32 ∷ trampoline_text frame.is_trampoline
-    ++ described (place_at files mappings (lookup_address frame.location)) ++ found_text frame.found ++ 10 ∷ []
+    ++ described (place_at files mappings (looked_up frame)) ++ found_text frame.found ++ 10 ∷ []
 
 -- the last line of a block, and a blank line
 abbrev pub last_line : List ℕ → List ℕ

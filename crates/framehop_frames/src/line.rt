@@ -7,7 +7,7 @@ ghost use Rattle.std.specs.List.{flat_map};
 ghost use Rattle.framehop_processes.specs.Mappings.{IsInOrder};
 ghost use Rattle.framehop_symbols.specs.Place.{place_view};
 ghost use Rattle.framehop_frames.specs.Stack.{shown_frame};
-ghost use Rattle.framehop_frames.specs.Line.{plain_byte, plain, base_name, hexadecimal, label_of, refusal_name, end_name, end_text, mark, mark_of, frames_text, frame_label, line_of, refused_line, described, found_text, trampoline_text, frame_line, last_line, block_of, time_text, head_of};
+ghost use Rattle.framehop_frames.specs.Line.{plain_byte, plain, base_name, hexadecimal, label_of, refusal_name, end_name, end_text, mark, mark_of, frames_text, frame_label, line_of, refused_line, described, found_text, trampoline_text, looked_up, frame_line, last_line, block_of, time_text, head_of};
 
 use crate::stack::{Stack, StackFrame};
 use framehop::Error;
@@ -264,11 +264,22 @@ fn push_frame_line<R: Copy>(
     let text = format!(in alloc; "{address:x} ")?;
     block.extend_from_slice(text.as_bytes())?;
     push_trampoline(block, frame.is_trampoline)?;
-    let place = place_of(files, mappings, frame.address.address_for_lookup());
+    let place = place_of(files, mappings, looked_up(frame));
     push_place(alloc, block, place)?;
     block.extend_from_slice(found_text(frame.found).as_bytes())?;
     block.push(b'\n')?;
     Ok(())
+}
+
+/// Returns the address (AVMA) that is looked up for a frame.
+fn looked_up<R: Copy>(frame: &StackFrame<R>) -> u64
+    ensures { result ≡ looked_up (shown_frame frame.now) }
+{
+    if frame.is_trampoline {
+        frame.address.address()
+    } else {
+        frame.address.address_for_lookup()
+    }
 }
 
 /// Appends that a frame is in a trampoline, if it is.
