@@ -34,4 +34,4 @@ thread_head name pid thread = names_text name pid thread.tid ++ cause_text threa
 -- the block of a thread: its head, a line for each frame, and how the walk ended
 abbrev pub thread_text : DumpView → Files → List Mapping → ThreadView → StackView → List ℕ
 thread_text dump files mappings thread stack =
-    stack_text true files [] (thread_head dump.name dump.pid thread) mappings stack
+    stack_text true false files [] (thread_head dump.name dump.pid thread) mappings stack
