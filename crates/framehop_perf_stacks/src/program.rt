@@ -35,15 +35,15 @@ pub struct Unwound {
 }
 
 /// Writes what was counted.
-fn write_counts<E: Write>(
-    err: &mut E,
-    counts: &Counts,
-) -> Result<(), StacksError> {
+fn write_counts<E: Write>(err: &mut E, counts: &Counts) -> Result<(), StacksError> {
     let samples = counts.samples;
     let unsure = counts.unsure;
     let lost = counts.lost;
     writeln!(err, "{samples} samples, {lost} records lost by the kernel")?;
-    writeln!(err, "{unsure} samples with frames that no unwind data tells")?;
+    writeln!(
+        err,
+        "{unsure} samples with frames that no unwind data tells"
+    )?;
     writeln!(err, "how the stacks ended:")?;
     counts.ends.write(err)?;
     Ok(())
