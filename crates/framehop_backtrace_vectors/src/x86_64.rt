@@ -237,3 +237,25 @@ fn falls_back_from_a_guess(rt: HostRuntime) -> Result<(), Fail> {
     }
     Ok(())
 }
+
+#[test]
+fn returns_from_calls_to_no_code(rt: HostRuntime) -> Result<(), Fail> {
+    let alloc = rt.alloc();
+    // rsp is at the address after `call`, or at one after no call; the frame pointer leads to one after `call *%rax`
+    let words = [
+        (0x7000, 0x401010),
+        (0x7008, 0x401014),
+        (0x7100, 0x7140),
+        (0x7108, 0x401030),
+    ];
+    for (rsp, address, kind) in [
+        (0x7000, 0x401010, FoundBy::Guess),
+        (0x7008, 0x401030, FoundBy::FramePointer),
+    ] {
+        let regs = UnwindRegsX86_64::new(0, rsp, 0x7100);
+        let found = backtrace_of(alloc, &words, regs, 2)?;
+        assert_eq!(rt; found.frames.len(), 2);
+        assert_eq!(rt; told(&found, 1), Some((address, kind)));
+    }
+    Ok(())
+}
