@@ -3,7 +3,8 @@
 
 Standard input is the output of `perf script --no-inline --ns --show-mmap-events -F comm,pid,tid,time,ip,sym,symoff,dso --symfs DIR -i
 RECORDING`. perf prints a return address less one, and an offset of the file in the place of an address. All stacks are taken to end at
-their root.
+their root, and
+all frames to be found by unwind data.
 """
 
 import re
@@ -44,8 +45,8 @@ def main():
         return
     for name, process, thread, time, frames in found:
         print(f"{name} {process}/{thread} {time}:")
-        for address, function, offset, file in frames:
-            print(f"{address:x} {function}+{offset} ({file})")
+        for at, (address, function, offset, file) in enumerate(frames):
+            print(f"{address:x} {function}+{offset} ({file})" + (" [cfi]" if at else ""))
         print("[root]\n")
 
 
