@@ -25,6 +25,7 @@ DEFINED = re.compile(rf"( *)((?:{KIND} )*)pub (?!mod |use )((?:{KIND} )*)([^\s({
 HIDDEN = re.compile(rf" *(?:{KIND} )+(?!pub\b)[^\s({{:]+")
 USE = re.compile(r"use Rattle\.([\w.-]+)\.\{([^}]*)\}")
 WORD = api.WORD
+LEMMAS = "They follow from the definitions, and define nothing that a contract cites. Other crates and the laws of traits use them."
 # how many of what cites a definition are named
 SHOWN = 6
 
@@ -113,8 +114,11 @@ def files_of(crate):
         names = re.findall(r"^pub mod (\w+)", file.read_text(), re.M)
         listed += [it for it in (folder / f"{name}.antt" for name in names) if it.is_file()]
     lemmas = [file for file in listed if "Laws" in file.relative_to(specs).with_suffix("").parts]
-    shared = re.findall(r"^pub mod (\w+)", (specs.parent / "proofs/Lib.antt").read_text(), re.M) if (specs.parent / "proofs/Lib.antt").is_file() else []
-    return [file for file in listed if file not in lemmas], [*lemmas, *(specs.parent / f"proofs/{name}.antt" for name in shared)]
+    definitions = [file for file in listed if file not in lemmas]
+    proofs = specs.parent / "proofs"
+    if (proofs / "Lib.antt").is_file():
+        lemmas += [proofs / f"{name}.antt" for name in re.findall(r"^pub mod (\w+)", (proofs / "Lib.antt").read_text(), re.M)]
+    return definitions, lemmas
 
 
 # ---- what cites a definition
@@ -152,7 +156,7 @@ class Cited:
         lines = file.read_text().split("\n")
         outer = api.imports([line for line in lines if not line.startswith(" ")])
         for at, line in enumerate(lines):
-            function = api.METHOD.match(line.replace('extern "C" ', "").replace("pub(crate) ", "pub "))
+            function = api.METHOD.match(line.replace('extern "C" ', "").replace("pub(crate) ", ""))
             if function and not function[1]:
                 self.note_function(lines, at, outer, crate, f"`{function[3]}`", function[2] is not None)
             elif re.match(r"(pub(\(crate\))? )?(impl|trait|struct|enum)\b", line):
@@ -170,7 +174,7 @@ class Cited:
         label = f"`{re.match('[^ <]+', rest)[0]}` of `{owner}`" if by_trait else f"`{owner}`"
         self.note_members(lines[1:], words, crate, label)
         for at, line in enumerate(lines):
-            method = api.METHOD.match(line.replace("pub(crate) ", "pub "))
+            method = api.METHOD.match(line.replace("pub(crate) ", ""))
             if method and method[1] == "    ":
                 self.note_function(lines, at, words, crate, f"`{owner}::{method[3]}`", is_trait or by_trait or method[2] is not None)
 
@@ -244,7 +248,7 @@ def crate_page(crate, files, lemmas, folder):
         if file.content:
             page += ["", f"## [`{title(file.path, crate)}`]({link_to(file.path, folder)})", "", *file.about, *rows(file, crate, folder)]
     if lemmas:
-        page += ["", "## Lemmas", "", "They follow from the definitions, and define nothing that a contract cites. Other crates and the laws of traits use them.", "", "| File | What it has |", "|---|---|"]
+        page += ["", "## Lemmas", "", LEMMAS, "", "| File | What it has |", "|---|---|"]
     for file in lemmas:
         about, _ = head_of(file.read_text().split("\n"))
         page.append(f"| [`{title(file, crate)}`]({link_to(file, folder)}) | {cell(' '.join(about))} |")
@@ -255,8 +259,9 @@ def contents(crates):
     """The list of the pages."""
     yield from ("# Definitions", "")
     yield (
-        "What contracts speak of, crate by crate: each definition with what it is, where it comes from, and what cites it. One without a source is this "
-        "project's own. [READING.md](READING.md) says how a contract is read. `tools/definitions.py` makes these pages of the comments in `specs/`."
+        "What contracts speak of, crate by crate: each definition with what it is, where it comes from, and what cites it. One without "
+        "a source is this project's own. [READING.md](READING.md) says how a contract is read. `tools/definitions.py` makes these pages "
+        "of the comments in `specs/`."
     )
     yield from ("", "| Crate | What its definitions are of | How many |", "|---|---|---|")
     for crate, files in crates.items():

@@ -46,7 +46,7 @@ value_from e memory (suc n) s =
     if s.position == length e.code then slice_get s.stack 0
     else option_and_then (value_from e memory n) (step_over e memory s)
 
--- the value of an expression from an initial stack, which must fit: at most 4,096 operations
+-- what an expression gives that starts with this stack, which must fit: at most 4,096 operations
 unfoldable pub value_of : Evaluation → Memory → List ℕ → Option ℕ
 value_of e memory initial =
     if fits e.limit (length initial) then value_from e memory 4096 (record { position = 0; stack = initial }) else None
