@@ -351,4 +351,5 @@ def main():
     print(f"{len(LIBRARIES)} pages in {folder}")
 
 
-main()
+if __name__ == "__main__":
+    main()

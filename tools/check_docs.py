@@ -9,6 +9,8 @@ check_docs.py [--run [PROGRAM..]].
 - No line of a document has more than 100 words, tables and code excepted.
 - The pages of docs/api are those that tools/api.py makes; they have each public method; and that of `framehop` has each name
   that the tests name there.
+- docs/DEFINITIONS.md and the pages of docs/definitions are those that tools/definitions.py makes, and no others; and they have
+  each public definition of specs/, as it is read here.
 - Each edit of checks/edits/CRATE can be applied, and each promise of PROVED.md has one that the gate tries.
 - Each source, definition and proof has the layout that `rt fmt` gives it.
 - The column "may use" of ARCHITECTURE.md has for each crate what its line in crates.txt has; and EXAMPLES.md lists the
@@ -28,11 +30,13 @@ import tempfile
 from pathlib import Path
 
 TOP = Path(__file__).resolve().parent.parent
-NAMED = ["docs/DEFINITIONS.md", "docs/PROVED.md", "docs/CHANGING.md", "checks/edits/README.md"]
+NAMED = ["docs/PROVED.md", "docs/CHANGING.md", "checks/edits/README.md"]
 # the pages whose commands are run
 SHOWN = ["README.md", "docs/CHECK.md", "docs/PROGRAMS.md", "docs/EXAMPLES.md"]
 PROGRAMS = ("check", "explain", "stacks", "walk")
 EXAMPLES = [TOP / f"crates/{place}/readme.rt" for place in ("framehop_vectors/src", "framehop_file_vectors/src/elf", "framehop_file_vectors/src/minidump")]
+# the folders of pages that scripts make
+MADE = ("api", "definitions")
 PATHS = TOP / "crates/framehop_vectors/src/paths.rt"
 FENCE = re.compile(r"^```.*?^```", re.M | re.S)
 WORD = re.compile(r"[^\W\d][\w'-]*")
@@ -47,7 +51,7 @@ FOREIGN = set("Err None Some Ok Option Result Vec u8 u16 u32 u64 usize for true 
 
 def documents():
     readmes = [TOP / "README.md", TOP / "bindings/README.md", TOP / "checks/cases/README.md", TOP / "checks/edits/README.md"]
-    return [*readmes, *sorted(TOP.glob("docs/*.md")), *sorted(TOP.glob("docs/api/*.md"))]
+    return [*readmes, *sorted(TOP.glob("docs/*.md")), *(page for folder in MADE for page in sorted(TOP.glob(f"docs/{folder}/*.md")))]
 
 
 def without_code(text):
@@ -151,13 +155,30 @@ def untested_doc_examples():
                     yield f"{page.relative_to(TOP)}: not in the tests: {code}"
 
 
-def stale_api():
-    with tempfile.TemporaryDirectory(dir=TOP / "docs") as fresh:
-        subprocess.run([sys.executable, TOP / "tools/api.py", fresh], check=True, stdout=subprocess.DEVNULL)
-        for page in sorted(Path(fresh).glob("*.md")):
-            kept = TOP / "docs/api" / page.name
-            if not kept.exists() or not filecmp.cmp(kept, page, shallow=False):
-                yield f"{page.name} is not what tools/api.py makes"
+def stale_pages(script, place):
+    """Pages of a folder that are not what a script makes there; and those that it doesn't make, in its own folders."""
+    with tempfile.TemporaryDirectory(dir=place.parent) as folder:
+        fresh = Path(folder)
+        subprocess.run([sys.executable, TOP / "tools" / script, fresh], check=True, stdout=subprocess.DEVNULL)
+        made = {page.relative_to(fresh) for page in fresh.rglob("*.md")}
+        for page in sorted(made):
+            kept = place / page
+            if not kept.exists() or not filecmp.cmp(kept, fresh / page, shallow=False):
+                yield f"{page} is not what tools/{script} makes"
+        folders = {page.parent for page in made if place.name != "docs" or page.parent.name}
+        kept = {page.relative_to(place) for folder in folders for page in (place / folder).glob("*.md")}
+        yield from (f"{page} is not made by tools/{script}" for page in sorted(kept - made))
+
+
+def definitions_not_on_the_pages():
+    """Public definitions of specs/ that their crate's page doesn't have, as read here and not by tools/definitions.py."""
+    for page in sorted((TOP / "docs/definitions").glob("*.md")):
+        specs, text = TOP / "crates" / page.stem / "specs", page.read_text()
+        for file in sorted(specs.rglob("*.antt")):
+            if "Laws" not in file.relative_to(specs).with_suffix("").parts:
+                for name in re.findall(r"^ *(?:(?:abbrev|unfoldable) pub|pub (?:record|data)) ([\w'-]+)", file.read_text(), re.M):
+                    if f"[`{name}`]" not in text:
+                        yield f"{page.name} has no {name} of {file.relative_to(TOP)}"
 
 
 def names_not_on_the_page():
@@ -342,7 +363,7 @@ def faults():
     for page in documents():
         text, name = page.read_text(), str(page.relative_to(TOP))
         checks = [dead_links(page, text), lost_files(text, names)]
-        if page.parent.name != "api":
+        if page.parent.name not in MADE:
             checks.append(long_lines(text))
         if name in NAMED:
             checks.append(missing_names(text, known))
@@ -351,7 +372,10 @@ def faults():
     yield from (f"docs/ARCHITECTURE.md: {fault}" for fault in wrong_uses())
     yield from (f"docs/EXAMPLES.md: {fault}" for fault in wrong_libraries())
     yield from (f"docs/PROGRAMS.md: {fault}" for fault in commands_without_an_example())
-    yield from (f"docs/api: {fault}" for check in (stale_api(), names_not_on_the_page(), methods_not_on_the_pages()) for fault in check)
+    of_api = [stale_pages("api.py", TOP / "docs/api"), names_not_on_the_page(), methods_not_on_the_pages()]
+    yield from (f"docs/api: {fault}" for check in of_api for fault in check)
+    of_definitions = [stale_pages("definitions.py", TOP / "docs"), definitions_not_on_the_pages()]
+    yield from (f"docs: {fault}" for check in of_definitions for fault in check)
     yield from untested_doc_examples()
     yield from wrong_edits()
     yield from not_in_the_layout(names)

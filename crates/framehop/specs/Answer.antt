@@ -1,4 +1,5 @@
 -- What the unwind data of a module gives for an address.
+-- (framehop 0.16.0, `UnwindResult`.)
 use Rattle.std.specs.Prelude.{ℕ, Option, Some, None, Result, Ok, Err}
 use Rattle.framehop_core.specs.Memory.{Memory}
 

@@ -1,5 +1,6 @@
 -- The call frame section of a module: the FDE that it has for a relative address, and what that gives (framehop
 -- 0.16.0, `ModuleUnwindDataInternal` and `DwarfUnwinder`).
+-- The header: LSB, ".eh_frame_hdr".
 use Rattle.std.specs.Prelude.{ℕ, ◌+◌, List, Bool, false, Option, Some, None, option_and_then, Result, Ok, Err}
 use Rattle.framehop_core.specs.Memory.{Memory}
 use Rattle.framehop_cfi.specs.Section.{Section, section_of}

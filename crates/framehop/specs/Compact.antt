@@ -32,6 +32,7 @@ by_info rows policy frames relative first (Ok (NeedDwarf offset)) =
     frames
 by_info rows policy frames relative first (Err error) = None
 
+-- what a module's compact unwind info gives for a relative address
 abbrev pub compact_answer : {Rule Regs : Type 0} → CompactReader Rule → RowReader Rule Regs → Policy → CompactData → ℕ
     → Bool → Option (Fresh Rule Regs)
 compact_answer reader rows policy d relative first =

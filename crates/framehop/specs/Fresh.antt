@@ -1,4 +1,5 @@
 -- What unwinding gives where nothing is cached: the bytes of the loaded modules, read afresh.
+-- (framehop 0.16.0, `Unwinder::unwind_frame` without its cache.)
 use Rattle.std.specs.Prelude.{ℕ, ◌-◌, Bool, List, Option, Some, None, option_and_then, unwrap_or}
 use Rattle.framehop_core.specs.Memory.{Memory}
 use Rattle.framehop_core.specs.Outcome.{Outcome, answered}

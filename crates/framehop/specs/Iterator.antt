@@ -1,4 +1,5 @@
 -- The frames of a stack, one at a time.
+-- (framehop 0.16.0, `UnwindIterator::next`.)
 use Rattle.framehop.specs.Walk.{Walk, End, at_root, at_refusal, at_limit, callers, walk_from, cache_after_callers, cache_after_walk}
 use Rattle.std.specs.Prelude.{◌≡◌, ℕ, zero, suc, Bool, false, List, [], ◌∷◌, if◌then◌else◌, ◌==◌, Option, Some, None, Result, Ok, Err}
 use Rattle.framehop_core.specs.Outcome.{Outcome, answered, root, refused}

@@ -1,4 +1,18 @@
 -- What the contracts of this crate cite: modules, steps, walks, sessions.
+--
+-- Words that were chosen:
+--
+-- - *world*: unwinders as lists of modules, and how many generations are left; no cache and no generation number
+-- - *cached world*: the same with caches, generations and their next number
+-- - *unwinding*: what an architecture makes of rules and modules, under an allocation policy: one record
+-- - *fresh*: read from the modules' bytes now, not from a cache
+-- - *sound*: of a cache and an unwinder: each entry of its generation is what its modules give afresh
+-- - *transparent*: of a cached world: each cache is sound for each unwinder, and generations tell lists of modules
+--   apart
+-- - *location*: of a frame: an address with its kind, an instruction pointer or a return address
+-- - *place*: where halving ends in a table's rows
+-- - *block*: 2^n addresses from a multiple of 2^n on, for which an index counts the pairs that start before them
+-- - *progress*: how far an iterator has come
 pub mod Answer
 pub mod CallFrames
 pub mod Compact

@@ -44,6 +44,7 @@ pub record Place : Type 0 where
   pub code : List ℕ
   pub offset : ℕ
 
+-- the place of an address in a function that compact unwind info has, past its start
 abbrev pub place_in : Option Text → ℕ → Result (Option Function) CompactReadError → Option Place
 place_in text address (Ok (Some function)) =
     if address == function.start_address then None
@@ -72,6 +73,7 @@ module _ {Rule Regs : Type 0} (readers : Readers Rule Regs) (meanings : Meanings
   abbrev pub MeansFde : Section → ℕ → ℕ → Type 0
   MeansFde section address offset = OfRow (MeansRow section.bytes) (reading_of policy.rows section address offset)
 
+  -- by the FDE that call frames have for an address
   abbrev pub MeansFrames : CallFrames → ℕ → Type 0
   MeansFrames frames relative =
       IfSome (fde_offset_of frames relative) (MeansFde frames.section (frames.base_svma + relative))
@@ -97,6 +99,7 @@ module _ {Rule Regs : Type 0} (readers : Readers Rule Regs) (meanings : Meanings
   MeansNamed frames relative (Ok (ExecRule rule)) = Unit {0}
   MeansNamed frames relative (Err error) = Unit {0}
 
+  -- by compact unwind info: the code around the address, or the FDE that the opcode names
   abbrev pub MeansCompact : CompactData → ℕ → Type 0
   MeansCompact d relative =
       IfSome (code_place d.info relative s.first) MeansCode

@@ -1,4 +1,5 @@
 -- The modules of an unwinder, in order of start (framehop 0.16.0, `Module` and `Unwinder::add_module`).
+-- Which module covers an address: `find_module_for_address`; the greatest end: `max_known_code_address`.
 use Rattle.std.specs.Prelude.{◌≡◌, ℕ, ◌+◌, ◌-◌, ◌^◌, ◌<◌, Bool, not, ◌&&◌, ◌||◌, ◌==◌, nat_le, nat_lt, if◌then◌else◌, max, List, [], ◌∷◌, ◌++◌, map, length, filter, slice_get, Option, Some, None, option_and_then, Result, Ok, Err}
 use Rattle.std.specs.List.{list_any}
 use Rattle.framehop_pe.specs.Sections.{Sections}

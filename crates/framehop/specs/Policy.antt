@@ -18,5 +18,6 @@ pub record IsLimited (policy : Policy) : Type 0 where
 abbrev pub without_allocation : Policy
 without_allocation = record { may_allocate = false; rows = Some (record { rules = 192; rows = 3 }); values = Some 64 }
 
+-- no limits
 abbrev pub with_allocation : Policy
 with_allocation = record { may_allocate = true; rows = None; values = None }

@@ -92,6 +92,7 @@ pub data IsMadeOf {R : Type 0} (error : UnwinderError) (answer : Result (FrameAn
   no_values : error ≢ out_of_memory → is_of_values error ≡ true → answer ≡ Ok NotComputed → IsMadeOf error answer
   nothing : error ≢ out_of_memory → is_of_values error ≡ false → answer ≡ Ok Fallback → IsMadeOf error answer
 
+-- what is made of what was found
 abbrev pub IsAnswerOf : {R : Type 0} → Result (UnwindResult R) UnwinderError → Result (FrameAnswer R) Error → Type 0
 IsAnswerOf (Ok (ExecRule rule)) answer = answer ≡ Ok (Rule rule)
 IsAnswerOf (Ok (Uncacheable address)) answer = answer ≡ Ok (Computed address)
@@ -104,18 +105,21 @@ TellsFresh fallback answer Fallback = answer ≡ by_rule fallback
 TellsFresh fallback answer (Computed address) = IsDirect (Some answer)
 TellsFresh fallback answer NotComputed = IsDirect (Some answer)
 
+-- the values that were computed are those of the fresh answer
 abbrev pub TellsFreshValues : {Rule Regs : Type 0} → Fresh Rule Regs → Regs → Memory → FrameAnswer Rule → Regs → Type 0
 TellsFreshValues answer old memory (Rule rule) new = Unit {0}
 TellsFreshValues answer old memory Fallback new = Unit {0}
 TellsFreshValues answer old memory (Computed address) new = values_in (Some answer) old memory ≡ Some (address, new)
 TellsFreshValues answer old memory NotComputed new = values_in (Some answer) old memory ≡ None
 
+-- registers are written with computed values only
 abbrev pub WritesComputed : {Rule Regs : Type 0} → (Regs → Regs → Type 0) → FrameAnswer Rule → Regs → Regs → Type 0
 WritesComputed Advances (Rule rule) old new = new ≡ old
 WritesComputed Advances Fallback old new = new ≡ old
 WritesComputed Advances (Computed address) old new = Advances old new
 WritesComputed Advances NotComputed old new = new ≡ old
 
+-- a rule that is told has the property
 abbrev pub AnswerHas : {Rule : Type 0} → (Rule → Type 0) → FrameAnswer Rule → Type 0
 AnswerHas P (Rule rule) = P rule
 AnswerHas P Fallback = Unit {0}

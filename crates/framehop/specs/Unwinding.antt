@@ -1,5 +1,6 @@
 -- What an architecture makes of rules and modules: the one record by which steps, walks, caches and sessions are
 -- defined.
+-- (framehop 0.16.0, `Unwinding`.)
 use Rattle.std.specs.Prelude.{◌≡◌, ℕ, ◌<◌, Bool, true, false, Option, Some, None, Result}
 use Rattle.framehop_core.specs.Memory.{Memory}
 use Rattle.framehop_core.specs.Outcome.{Outcome, answered}

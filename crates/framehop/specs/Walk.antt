@@ -1,4 +1,5 @@
 -- A walk: the steps from a frame to the root of its stack, or to the first refusal, or to a limit.
+-- (framehop 0.16.0, `UnwindIterator`.)
 use Rattle.std.specs.Prelude.{ℕ, zero, suc, if◌then◌else◌, ◌==◌, List, [], ◌∷◌}
 use Rattle.framehop_core.specs.Outcome.{Outcome, answered, root, refused}
 use Rattle.framehop_core.specs.CodeAddress.{FrameLocation, at_instruction_pointer, at_return_address}

@@ -13,6 +13,7 @@ use Rattle.framehop.specs.declared.session.commands.Command.TheVariants.{New, Cl
 use Rattle.framehop.specs.declared.session.commands.SessionError.{SessionError}
 use Rattle.framehop.specs.declared.session.commands.SessionError.TheVariants.{NoSuchUnwinder, NoSuchCache, GenerationsExhausted}
 
+-- the modules of each unwinder, and how many generations are left
 pub record World : Type 0 where
   pub unwinders : List (List ModuleView)
   pub left : ℕ
@@ -35,6 +36,7 @@ memory_of stack address =
 abbrev pub needs_unwinder : World → ℕ → Option SessionError → Option SessionError
 needs_unwinder world unwinder other = if nat_lt unwinder (length world.unwinders) then other else Some NoSuchUnwinder
 
+-- the same of a cache, and of a generation
 abbrev pub needs_cache : ℕ → ℕ → Option SessionError → Option SessionError
 needs_cache caches cache other = if nat_lt cache caches then other else Some NoSuchCache
 

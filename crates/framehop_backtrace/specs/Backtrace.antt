@@ -140,6 +140,7 @@ abbrev pub stepped_by : {Regs : Type 0} → Machine Regs → Code → FoundBy �
 stepped_by machine code found frame outcome =
     stepped machine code found (answer_of outcome) (registers_after frame.regs outcome)
 
+-- by the fallback rule, over an outcome
 abbrev pub fallen_back_by : {Regs : Type 0} → Machine Regs → Code → FrameView Regs → Outcome Regs → Next Regs
 fallen_back_by machine code frame outcome =
     fallen_back machine code (answer_of outcome) (registers_after frame.regs outcome)
@@ -156,6 +157,7 @@ module _ {Regs : Type 0} (machine : Machine Regs) (code : Code) (frame : FrameVi
       if is_called machine code (answer_of outcome) then stepped_by machine code Guess frame outcome
       else fallen_back_by machine code frame fallback
 
+  -- the same, where the architecture can step from the columns that are known
   abbrev pub by_guess : Outcome Regs → Outcome Regs → Next Regs
   by_guess outcome fallback =
       if machine.can_step frame.columns then guessed outcome fallback else Err RegistersUnknown
@@ -207,9 +209,11 @@ pub record Backtrace (Regs : Type 0) : Type 0 where
   pub frames : List (FrameView Regs)
   pub end : BacktraceEnd
 
+-- a frame before the others
 abbrev pub frame_before : {Regs : Type 0} → FrameView Regs → Backtrace Regs → Backtrace Regs
 frame_before frame backtrace = record backtrace { frames = frame ∷ backtrace.frames }
 
+-- from a caller on, or the end
 abbrev pub onward : {Regs : Type 0} → (FrameView Regs → Backtrace Regs) → Next Regs → Backtrace Regs
 onward callers (Ok frame) = frame_before frame (callers frame)
 onward callers (Err end) = record { frames = []; end = end }

@@ -22,6 +22,7 @@ is_by_compact (Ok (NeedDwarf offset)) = false
 is_by_compact (Err error) = false
 
 module _ {Rule Regs : Type 0} (readers : Readers Rule Regs) (regs : Regs) (memory : Memory) where
+  -- unwind data unwinds an address: by PE or by compact unwind info
   abbrev pub is_by_data : UnwindData → ℕ → Bool → Bool
   is_by_data (pe_sections sections) relative first =
       is_by_pe (readers.pe_found sections relative first) (readers.pe_computed sections relative first memory regs)
@@ -29,6 +30,7 @@ module _ {Rule Regs : Type 0} (readers : Readers Rule Regs) (regs : Regs) (memor
   is_by_data (call_frames frames) relative first = false
   is_by_data (no_unwind_data refusal) relative first = false
 
+  -- so does the module that covers it
   abbrev pub is_by_module : ℕ → Bool → Option ModuleView → Bool
   is_by_module address first (Some m) = is_by_data m.unwind_data (address - m.base_avma) first
   is_by_module address first None = false

@@ -1,4 +1,6 @@
 -- What a backtrace needs of an architecture.
+-- (System V ABI for AMD64, figure 3.36; DWARF for the Arm 64-bit Architecture, section 4.1; Linux, `struct
+-- sigcontext`.)
 use Rattle.std.specs.Prelude.{ℕ, ◌+◌, ◌*◌, Bool, true, ◌&&◌, is_some, nat_le, if◌then◌else◌, List, [], ◌∷◌, ◌++◌, length, slice_get, Option, Some, None, option_map, unwrap_or}
 use Rattle.framehop_bytes.specs.Bytes.{le8}
 use Rattle.framehop_core.specs.Memory.{Memory}
@@ -45,6 +47,7 @@ all_columns r = columns_by (slice_get (words_of r ++ r.ip ∷ []))
 abbrev pub columns_x86_64 : ℕ → RegistersX86_64 → List (Option ℕ)
 columns_x86_64 address r = with_column (with_column (with_column unknown 16 (Some address)) 7 (Some r.rsp)) 6 (Some r.rbp)
 
+-- registers with the columns that are known in their places
 unfoldable pub merged_x86_64 : RegistersX86_64 → List (Option ℕ) → RegistersX86_64
 merged_x86_64 r columns = record {
   ip = unwrap_or (column columns 16) r.ip;
@@ -70,9 +73,11 @@ merged_x86_64 r columns = record {
 abbrev pub can_step_x86_64 : List (Option ℕ) → Bool
 can_step_x86_64 columns = is_some (column columns 7) && is_some (column columns 6)
 
+-- the registers of a signal frame, as columns
 abbrev pub saved_x86_64 : List ℕ → Option (ℕ × List (Option ℕ))
 saved_x86_64 frame = option_map (λ r. (r.ip, all_columns r)) (interrupted_x86_64 frame)
 
+-- x86_64
 abbrev pub machine_x86_64 : Machine RegistersX86_64
 machine_x86_64 = record {
   convention = X86_64;
@@ -95,6 +100,7 @@ columns_aarch64 address r =
     with_column (with_column (with_column (with_column unknown 32 (Some address)) 31 (Some r.sp)) 29 (Some r.fp)) 30
     (Some r.lr)
 
+-- registers with the columns that are known in their places, lr stripped
 abbrev pub merged_aarch64 : RegistersAarch64 → List (Option ℕ) → RegistersAarch64
 merged_aarch64 r columns = record {
   lr_mask = r.lr_mask;
@@ -113,6 +119,7 @@ abbrev pub saved_aarch64 : List ℕ → Option (ℕ × List (Option ℕ))
 saved_aarch64 frame =
     if nat_le 576 (length frame) then Some (le8 frame 568, columns_by (λ at. Some (le8 frame (312 + at * 8)))) else None
 
+-- aarch64
 abbrev pub machine_aarch64 : Machine RegistersAarch64
 machine_aarch64 = record {
   convention = Aarch64;

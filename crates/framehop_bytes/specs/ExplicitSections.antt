@@ -1,4 +1,5 @@
 -- The sections of a module that gives them one by one, as a table by name.
+-- (framehop 0.16.0, `ExplicitModuleSectionInfo`.)
 use Rattle.std.specs.Prelude.{◌≡◌, ⊤, ℕ, List, [], ◌∷◌, Option, Some, None, codes}
 use Rattle.std.specs.List.{AllZip}
 use Rattle.std.specs.declared.ops.Range.{Range}

@@ -7,6 +7,7 @@ use Rattle.std.specs.Global.{Global}
 use Rattle.std_heap.specs.contracts.GlobalAllocator.TheImpl.{ghosts}
 use Rattle.framehop_c.specs.contracts.object.Object.{the_row}
 
+-- the memory at a pointer is the object's own
 abbrev pub owns_object : Global → Ptr → the_row.Denot → Fml
 owns_object alloc = box_owns (ghosts.dealloc_token alloc) the_row
 

@@ -1,4 +1,4 @@
--- What the contracts of this crate cite.
+-- What the contracts of this crate cite: handles and what they own, the numbers that C is told, and what they stand for.
 pub mod Aarch64
 pub mod Handle
 pub mod Lending

@@ -5,6 +5,7 @@ use Rattle.framehop_bytes.specs.SectionTable.{SectionTable}
 use Rattle.framehop_bytes.specs.ExplicitSections.{table_of, under}
 use Rattle.framehop_c.specs.declared.sections.NamedSections.{NamedSections}
 
+-- the sections by their names: `.pdata` and its kin, then the others
 abbrev pub named_table : NamedSections → SectionTable (Bor (List ℕ))
 named_table named =
     let others = table_of named.others in

@@ -68,6 +68,7 @@ status_of_end at_root = end
 status_of_end (at_refusal error) = status_of_error error
 status_of_end at_limit = frames_full
 
+-- the address of the word that could not be read, or 0
 abbrev pub unreadable_at : End → ℕ
 unreadable_at at_root = 0
 unreadable_at (at_refusal error) = unreadable_in error
@@ -93,6 +94,7 @@ abbrev pub status_of_stop : WalkStop → ℤ
 status_of_stop (Ended stop) = status_of_end (end_of stop)
 status_of_stop (Missing _) = missing_word
 
+-- the address of the word that could not be read or that is missing, or 0
 abbrev pub unreadable_at_stop : WalkStop → ℕ
 unreadable_at_stop (Ended stop) = unreadable_at (end_of stop)
 unreadable_at_stop (Missing address) = address

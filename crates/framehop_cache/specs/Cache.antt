@@ -1,5 +1,6 @@
 -- The cache of unwind rules: sets of entries that are found by key (framehop 0.16.0, `RuleCache`; the kind of frame
 -- belongs to the key here).
+-- Two entries in a set are this project's.
 use Rattle.std.specs.Prelude.{ℕ, ◌+◌, ◌-◌, ◌^◌, ◌%◌, Bool, not, ◌&&◌, ◌==◌, nat_lt, if◌then◌else◌, min, List, [], ◌∷◌, length, take, filter, find, slice_index_or, slice_set, replicate, Option, Some, None}
 use Rattle.std.specs.List.{list_any}
 use mathlib.Core.Bool.{beq}

@@ -1,4 +1,5 @@
 -- What a lookup returns.
+-- (framehop 0.16.0, `CacheResult`.)
 use Rattle.std.specs.Prelude.{◌≡◌, Bool, true, Option, Some, None, ⊤}
 use Rattle.framehop_cache.specs.Cache.{Key, Found, hit, empty_slot, wrong_modules, wrong_address}
 use Rattle.framehop_cache.specs.declared.rule_cache.CacheResult.{CacheResult}

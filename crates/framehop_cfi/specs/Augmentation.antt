@@ -55,6 +55,7 @@ augmentation_data bases letters bytes at = do
   encoding ← letters_at bases letters (take place.1 bytes) place.0 0
   Ok (record { encoding = encoding; has_data = true; after_data = place.1 })
 
+-- the augmentation of a text: with an empty one all encodings are 0
 abbrev pub augmentation_at : SectionBaseAddresses → List ℕ → List ℕ → ℕ → Result Augmentation ReadError
 augmentation_at bases [] bytes at = Ok (record { encoding = 0; has_data = false; after_data = at })
 augmentation_at bases (first ∷ letters) bytes at =

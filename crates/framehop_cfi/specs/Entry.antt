@@ -91,6 +91,7 @@ alignments_at bases version letters bytes at end = do
 abbrev pub is_known_version : ℕ → Bool
 is_known_version version = (version == 1) || (version == 3) || (version == 4)
 
+-- the fields of a CIE after its version, up to its end
 unfoldable pub versioned_fields : UnwindSectionType → SectionBaseAddresses → ℕ → List ℕ → ℕ → ℕ
     → Result CommonInformationEntry ReadError
 versioned_fields kind bases version bytes at end = do
@@ -122,6 +123,7 @@ abbrev pub skipped_at : Bool → List ℕ → ℕ → Result ℕ ReadError
 skipped_at true bytes at = counted_at bytes at >>= λ place. Ok place.1
 skipped_at false bytes at = Ok at
 
+-- the fields of an FDE: where its code begins and how long it is, its augmentation data, and its instructions
 unfoldable pub fde_range : SectionBaseAddresses → CommonInformationEntry → List ℕ → ℕ → ℕ
     → Result FrameDescriptionEntry ReadError
 fde_range bases cie bytes at end = do

@@ -46,6 +46,7 @@ checked_at bases pointer_encoding count_encoding table_encoding bytes at =
     then encoded_at bases pointer_encoding count_encoding table_encoding bytes at
     else Err BadEncoding
 
+-- the layout of the table by the encodings of the header
 unfoldable pub encodings_at : SectionBaseAddresses → List ℕ → ℕ → Result Layout ReadError
 encodings_at bases bytes at = do
   pointer ← u8_at bytes at

@@ -86,6 +86,7 @@ set_rule_at alignment code bytes at = do
 abbrev pub register_and_offset : Register → ℤ → CallFrameInstruction
 register_and_offset register offset = DefCfa (cfa.RegisterAndOffset register offset)
 
+-- DW_CFA_def_cfa and DW_CFA_def_cfa_sf: a register, and an offset or a number times the data alignment
 unfoldable pub def_cfa_at : List ℕ → ℕ → Parsed CallFrameInstruction
 def_cfa_at bytes at = do
   register ← register_at bytes at

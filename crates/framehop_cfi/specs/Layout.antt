@@ -1,4 +1,5 @@
 -- Where the table of a header lies.
+-- (LSB, ".eh_frame_hdr".)
 use Rattle.std.specs.Prelude.{ℕ, ◌+◌, ◌*◌, ◌^◌, ◌<◌}
 
 -- where `.eh_frame` begins, how the table's addresses are encoded, the size of each, how many rows there are, and

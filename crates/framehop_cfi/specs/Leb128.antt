@@ -32,6 +32,7 @@ uleb_at bytes at = do
 abbrev pub with_sign : ℕ → ℕ → ℤ
 with_sign sum bits = if nat_lt (2 * sum) (2 ^ bits) then pos sum else pos sum -ℤ pos (2 ^ bits)
 
+-- the number fits 64 bits with a sign
 abbrev pub fits_i64 : ℤ → Bool
 fits_i64 (pos n) = nat_lt n (2 ^ 63)
 fits_i64 (negsuc n) = nat_lt n (2 ^ 63)

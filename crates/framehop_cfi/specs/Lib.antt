@@ -1,4 +1,6 @@
 -- What the contracts of this crate cite: from bytes to entries, instructions, rows and the header's table.
+--
+-- A *reading* is what is at an offset with the offset after it, or the refusal.
 pub mod Augmentation
 pub mod AugmentationMeaning
 pub mod Context

@@ -1,4 +1,5 @@
 -- Numbers in call frame sections, each with the offset after it.
+-- (DWARF 5 section 7.27.)
 use Rattle.std.specs.Prelude.{ℕ, ◌+◌, List, length, slice_index, Result, Ok, Err, nat_le, if◌then◌else◌}
 use Rattle.framehop_bytes.specs.Bytes.{le2, le4, le8}
 use Rattle.framehop_cfi.specs.declared.read_error.ReadError.{ReadError}
@@ -12,6 +13,7 @@ Parsed A = Result (A × ℕ) ReadError
 abbrev pub sized_at : ℕ → ℕ → List ℕ → ℕ → Parsed ℕ
 sized_at number size bytes at = if nat_le (at + size) (length bytes) then Ok (number, at + size) else Err Eof
 
+-- numbers of one, two, four and eight bytes, little-endian
 unfoldable pub u8_at : List ℕ → ℕ → Parsed ℕ
 u8_at bytes at = sized_at (slice_index bytes at) 1 bytes at
 

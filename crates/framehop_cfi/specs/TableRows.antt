@@ -46,11 +46,13 @@ abbrev pub rows_are_full : Option StorageLimits → ℕ → Bool
 rows_are_full None count = false
 rows_are_full (Some limits) count = nat_le limits.rows count
 
+-- DW_CFA_remember_state: the row is remembered, if there is room
 abbrev pub remembering : Option StorageLimits → TableRows → Result TableRows ReadError
 remembering limits rows =
     if rows_are_full limits (length rows.remembered) then Err TooManyRows
     else Ok (record rows { remembered = rows.remembered ++ rows.row ∷ [] })
 
+-- DW_CFA_restore_state: the row that was remembered last, which is forgotten
 abbrev pub restored_state : TableRows → Option Row → Result TableRows ReadError
 restored_state rows None = Err NothingRemembered
 restored_state rows (Some row) =
@@ -64,6 +66,7 @@ abbrev pub cfa_register : Register → CfaRule → Result CfaRule ReadError
 cfa_register register (RegisterAndOffset old offset) = Ok (RegisterAndOffset register offset)
 cfa_register register (Expression expression) = Err InvalidContext
 
+-- the CFA counted by another offset; an expression has none
 abbrev pub cfa_offset : ℤ → CfaRule → Result CfaRule ReadError
 cfa_offset offset (RegisterAndOffset register old) = Ok (RegisterAndOffset register offset)
 cfa_offset offset (Expression expression) = Err InvalidContext

@@ -76,6 +76,7 @@ items_from item size zero at = []
 items_from item size (suc n) at =
     if nat_le size at then [] else on_item (item at) [] (λ i. i ∷ items_from item size n (at + i.effect.size))
 
+-- all instructions from an offset on can be read, up to the end
 abbrev pub all_from : (ℕ → Option Item) → ℕ → ℕ → ℕ → Bool
 all_from item size zero at = true
 all_from item size (suc n) at =
@@ -92,6 +93,7 @@ all_of instruction claims start code =
 
 -- ---- alarms
 
+-- how the pass over a function begins
 abbrev pub first_pass : ℕ → Pass
 first_pass start = record { tracked = beginning; before = start; differed = None }
 
@@ -103,11 +105,13 @@ difference (Some (Returns code)) = None
 difference (Some (Jumps target base row code)) = None
 difference None = None
 
+-- two differences are the same
 abbrev pub goes_on : Option ℤ → Option ℤ → Bool
 goes_on (Some one) (Some other) = int_eq one other
 goes_on (Some one) None = false
 goes_on None other = false
 
+-- an alarm at an address, if there is a fault
 abbrev pub alarm_of : ℕ → ℕ → Option Fault → Option Alarm
 alarm_of address before (Some fault) = Some (record { address = address; before = before; fault = fault })
 alarm_of address before None = None
@@ -118,11 +122,13 @@ row_alarm pass item =
     let fault = fault_at pass.tracked item.claim in
     if goes_on (difference fault) pass.differed then None else alarm_of item.address pass.before fault
 
+-- the alarm of a return
 abbrev pub return_alarm : ℤ → Pass → Item → Option Alarm
 return_alarm entry pass item =
     alarm_of item.address pass.before
     (fault_of_return entry (agreed (arriving pass.tracked item.claim) item.claim) item.effect.flow)
 
+-- the fault of a jump, if its target has a row
 abbrev pub jump_fault : Tracked → Option (ℕ × Claim) → Option Fault
 jump_fault tracked (Some target) = fault_of_jump tracked.known target.0 target.1
 jump_fault tracked None = None
@@ -131,6 +137,7 @@ jump_fault tracked None = None
 abbrev pub jump_alarm : Tracked → Item → Option Alarm
 jump_alarm tracked item = alarm_of item.address item.address (jump_fault tracked item.target)
 
+-- what is known after an item
 abbrev pub step_of : Pass → Item → Tracked
 step_of pass item = step pass.tracked item.claim item.effect
 
@@ -145,6 +152,7 @@ alarms_at entry pass item =
 unfoldable pub notes_at : Pass → Item → List ℕ
 notes_at pass item = if is_passed pass.tracked item.effect || not item.splits then [] else item.address ∷ []
 
+-- how the pass goes on after an item; padding that is come to from nowhere is passed over
 unfoldable pub pass_after : Pass → Item → Pass
 pass_after pass item =
     if is_passed pass.tracked item.effect then pass

@@ -10,9 +10,11 @@ use Rattle.framehop_check.specs.declared.claim.Claim.{Claim}
 use Rattle.framehop_check.specs.declared.claim.Claim.TheVariants.{Above, Other}
 use Rattle.framehop_check.specs.declared.known.Known.{Known}
 
+-- nothing is known of either
 abbrev pub nothing : Known
 nothing = record { sp = None; fp = None }
 
+-- what is known of one of them
 abbrev pub known_of : Known → Base → Option ℤ
 known_of known Sp = known.sp
 known_of known Fp = known.fp
@@ -27,6 +29,7 @@ abbrev pub nearer : ℤ → Option ℤ → Option ℤ
 nearer bytes (Some distance) = if fits_i64 (distance -ℤ bytes) then Some (distance -ℤ bytes) else None
 nearer bytes None = None
 
+-- what is known of a register after a change of it
 abbrev pub after_change : Known → Change → Option ℤ
 after_change known (Sum base offset) = nearer offset (known_of known base)
 after_change known Unknown = None

@@ -2,6 +2,7 @@
 use Rattle.std.specs.Prelude.{List, [], ◌∷◌, Option, Some, None}
 use Rattle.framehop_check.specs.declared.report.Counts.{Counts}
 
+-- nothing was found and nothing counted
 abbrev pub no_counts : Counts
 no_counts =
     record {

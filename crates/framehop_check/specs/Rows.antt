@@ -25,6 +25,7 @@ claim_of_address numbered return_column limits section fde address =
 abbrev pub claim_of_span : ℕ → Span → Option Claim
 claim_of_span address span = if nat_le span.start address then Some span.claim else None
 
+-- the same of a span that was found, and of spans in order
 abbrev pub claim_of_found : ℕ → Option Span → Option Claim
 claim_of_found address None = None
 claim_of_found address (Some span) = claim_of_span address span
@@ -33,6 +34,7 @@ abbrev pub claim_at : List Span → ℕ → Option Claim
 claim_at [] address = None
 claim_at (span ∷ spans) address = if nat_le span.end address then claim_at spans address else claim_of_span address span
 
+-- where a span ends
 abbrev pub end_of : Span → ℕ
 end_of span = span.end
 

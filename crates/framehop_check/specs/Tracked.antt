@@ -27,6 +27,7 @@ abbrev pub is_padding : Flow → Bool
 is_padding Padding = true
 is_padding _ = false
 
+-- the instruction before leads elsewhere
 abbrev pub is_elsewhere : Came → Bool
 is_elsewhere came.Elsewhere = true
 is_elsewhere _ = false
@@ -36,6 +37,7 @@ is_passed tracked effect = is_elsewhere tracked.came && is_padding effect.flow
 
 -- ---- rows
 
+-- the same register, and the same claim
 abbrev pub same_base : Base → Base → Bool
 same_base Sp Sp = true
 same_base Fp Fp = true
@@ -55,23 +57,27 @@ arriving_by came.Elsewhere known same = nothing
 abbrev pub arriving : Tracked → Claim → Known
 arriving tracked claim = arriving_by tracked.came tracked.known (same_claim tracked.claim claim)
 
--- the row says what the row before said of a register that the instruction before overwrites
+-- the instruction before overwrites the row's register
 abbrev pub is_lost : Tracked → Claim → Bool
 is_lost tracked (Above Sp offset) = tracked.sp_lost
 is_lost tracked (Above Fp offset) = tracked.fp_lost
 is_lost tracked Other = false
 
+-- the instruction before leads here
 abbrev pub is_next : Came → Bool
 is_next came.Next = true
 is_next _ = false
 
+-- the row says what the row before said, of a register that the instruction before overwrites
 abbrev pub is_stale : Tracked → Claim → Bool
 is_stale tracked claim = (is_next tracked.came && same_claim tracked.claim claim) && is_lost tracked claim
 
+-- what contradicts a row: the code tells another number, or it tells none and the row is stale
 abbrev pub fault_by : Base → ℤ → Bool → Option ℤ → Option Fault
 fault_by base row stale (Some code) = if int_eq code row then None else Some (Differs base row code)
 fault_by base row stale None = if stale then Some (Overwritten base row) else None
 
+-- the fault of a row, by what is known when it is come to
 abbrev pub fault_at : Tracked → Claim → Option Fault
 fault_at tracked (Above base offset) =
     fault_by base offset (is_stale tracked (Above base offset)) (known_of (arriving tracked (Above base offset)) base)
@@ -79,6 +85,7 @@ fault_at tracked Other = None
 
 -- ---- steps
 
+-- how an instruction is come to, by where the one before leads
 abbrev pub came_after : Came → Flow → Came
 came_after before Next = came.Next
 came_after before (Branch distance) = came.Next
@@ -89,10 +96,12 @@ came_after before (Jump distance) = came.Elsewhere
 came_after before Return = came.Elsewhere
 came_after before Leaves = came.Elsewhere
 
+-- a change after which nothing is known
 abbrev pub is_unknown : Change → Bool
 is_unknown (Sum base offset) = false
 is_unknown Unknown = true
 
+-- what is known after an instruction
 abbrev pub step : Tracked → Claim → Effect → Tracked
 step tracked claim effect =
     record {

@@ -1,4 +1,5 @@
 -- The caller's frame by a row (DWARF 5 section 6.4.1).
+-- The row of an address is DWARF 5 section 6.4.3.
 use Rattle.std.specs.Prelude.{ℕ, ◌<◌, ◌≡◌, ◌==◌, Bool, true, false, not, ◌&&◌, List, Option, Some, None, Result, Ok, Err, if◌then◌else◌}
 use Rattle.framehop_cfi.specs.Row.{Row, rule_of}
 use Rattle.framehop_cfi.specs.declared.rule.RegisterRule.{RegisterRule}

@@ -14,6 +14,7 @@ stack_loaded memory limit width (address ∷ rest) =
     option_and_then (λ value. pushed limit value rest) (loaded memory width address)
 stack_loaded memory limit width [] = None
 
+-- the state after an operation that reads memory, or after another
 abbrev pub step_by : Evaluation → Memory → State → Option (Width × ℕ) → Option State
 step_by e memory s (Some load) =
     option_map (λ stack. record { position = load.1; stack = stack }) (stack_loaded memory e.limit load.0 s.stack)
@@ -45,6 +46,7 @@ value_from e memory (suc n) s =
     if s.position == length e.code then slice_get s.stack 0
     else option_and_then (value_from e memory n) (step_over e memory s)
 
+-- what an expression gives that starts with this stack, which must fit: at most 4,096 operations
 unfoldable pub value_of : Evaluation → Memory → List ℕ → Option ℕ
 value_of e memory initial =
     if fits e.limit (length initial) then value_from e memory 4096 (record { position = 0; stack = initial }) else None

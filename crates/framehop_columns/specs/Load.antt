@@ -10,6 +10,7 @@ use Rattle.framehop_columns.specs.declared.load.Width.TheVariants.{One, Two, Fou
 abbrev pub width_of : ℕ → Option Width
 width_of size = by_code size ((1, Some One) ∷ (2, Some Two) ∷ (4, Some Four) ∷ (8, Some Eight) ∷ []) None
 
+-- a width that is read, with the place after it
 abbrev pub width_by : Parsed ℕ → Option (Width × ℕ)
 width_by (Ok read) = option_map (λ width. (width, read.1)) (width_of read.0)
 width_by (Err error) = None
@@ -17,6 +18,7 @@ width_by (Err error) = None
 abbrev pub width_at : List ℕ → ℕ → Option (Width × ℕ)
 width_at code at = width_by (u8_at code at)
 
+-- the width of an operation that reads memory, with the place after it: DW_OP_deref 06, DW_OP_deref_size 94
 abbrev pub load_by : List ℕ → Parsed ℕ → Option (Width × ℕ)
 load_by code (Ok read) = by_code read.0 ((0x06, Some (Eight, read.1)) ∷ (0x94, width_at code read.1) ∷ []) None
 load_by code (Err error) = None

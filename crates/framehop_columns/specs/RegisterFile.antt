@@ -6,6 +6,7 @@ use Rattle.framehop_cfi.specs.declared.rule.Register.{Register}
 abbrev pub unknown : List (Option ℕ)
 unknown = replicate 33 None
 
+-- one register is known
 abbrev pub in_column : Option (Option ℕ) → Option ℕ
 in_column (Some word) = word
 in_column None = None

@@ -1,4 +1,5 @@
 -- What one unwind rule does to one frame: the vocabulary of the rule tables.
+-- (framehop 0.16.0, `UnwindRule::exec`: checked sums, and `CouldNotReadStack`.)
 use Rattle.std.specs.Prelude.{◌≡◌, ℕ, ◌^◌, ℤ, pos, negsuc, ◌+ℤ◌, ◌*ℤ◌, if◌then◌else◌, nat_lt, Option, Some, None, IfNone, Result, Ok, Err, MatchResult}
 use Rattle.framehop_core.specs.Memory.{Memory, reply}
 use Rattle.framehop_core.specs.declared.error.Error.{Error}

@@ -1,4 +1,5 @@
 -- Which files are core files (gABI, chapter 4, "ELF Header": ET_CORE).
+-- The fields are e_type and e_machine.
 use Rattle.std.specs.Prelude.{ℕ, List, not, Result, Ok, Err, ◌==◌, if◌then◌else◌}
 use Rattle.framehop_bytes.specs.Bytes.{◌>>=◌}
 use Rattle.framehop_elf.specs.Header.{file_header_of}

@@ -21,6 +21,7 @@ pub record MappedFileView : Type 0 where
 abbrev pub mapped_file_view : MappedFile → MappedFileView
 mapped_file_view m = record { start = m.start; end = m.end; offset = m.offset; path = m.path.now }
 
+-- a note of mapped files
 abbrev pub is_files : PlacedView → Bool
 is_files placed = is_of CORE NT_FILE placed
 
@@ -59,6 +60,7 @@ files_in offset descriptor =
     else files_of offset (le8 descriptor 8) (entries_in descriptor (le8 descriptor 0))
     (drop (16 + 24 * le8 descriptor 0) descriptor)
 
+-- those of the first such note, if there is one
 abbrev pub files_noted : Option PlacedView → Result (List MappedFileView) CoreFileError
 files_noted None = Ok []
 files_noted (Some placed) = files_in placed.offset placed.note.descriptor

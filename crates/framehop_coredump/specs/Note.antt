@@ -31,6 +31,7 @@ placed_note offset None = Err (NoteBeyondSegment offset)
 unfoldable pub placed_at : ℕ → List ℕ → Result (PlacedView × ℕ) CoreFileError
 placed_at offset bytes = placed_note offset (note_at bytes)
 
+-- the note that was read, and those after it, or the first refusal
 abbrev pub notes_after : Result (PlacedView × ℕ) CoreFileError → (ℕ → Result (List PlacedView) CoreFileError) → Result (List PlacedView) CoreFileError
 notes_after read next = do
   first ← read

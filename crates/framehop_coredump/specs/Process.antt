@@ -17,6 +17,7 @@ pub record ProcessView : Type 0 where
 abbrev pub process_view : Process → ProcessView
 process_view p = record { pid = p.pid; name = p.name.now }
 
+-- a note of the process
 abbrev pub is_process : PlacedView → Bool
 is_process placed = is_of CORE NT_PRPSINFO placed
 
@@ -27,6 +28,7 @@ process_in descriptor = record {
   name = string_of (take 16 (drop PRPSINFO_FNAME descriptor)) 0;
 }
 
+-- that of the first such note, if there is one, which must have the size of the struct
 abbrev pub process_noted : Option PlacedView → Result (Option ProcessView) CoreFileError
 process_noted None = Ok None
 process_noted (Some placed) =

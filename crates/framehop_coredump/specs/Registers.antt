@@ -1,4 +1,5 @@
 -- The registers of a thread, in the order in which the kernel keeps them.
+-- The signatures of return addresses: Linux, pointer-authentication.rst.
 use Rattle.std.specs.Prelude.{ℕ, ◌-◌, ◌^◌, List, length, Option, Some, None, nat_le, if◌then◌else◌}
 use Rattle.framehop_bytes.specs.Bytes.{le8}
 use Rattle.framehop_core.specs.X86_64.Registers.{Registers as RegistersX86_64}

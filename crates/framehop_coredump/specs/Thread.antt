@@ -1,4 +1,6 @@
 -- The threads of a process: notes of "CORE" of type NT_PRSTATUS, `struct elf_prstatus` of include/linux/elfcore.h.
+-- Linux writes them by `write_note_info` of fs/binfmt_elf.c; the masks are `struct user_pac_mask` of
+-- arch/arm64/include/uapi/asm/ptrace.h.
 use Rattle.std.specs.Prelude.{ℕ, List, [], ◌∷◌, length, take, drop, Bool, not, Option, Some, None, Result, Ok, Err, ◌==◌, if◌then◌else◌}
 use Rattle.std.specs.List.{find, before_first}
 use Rattle.framehop_bytes.specs.Bytes.{◌>>=◌, le2, le4, le8}
@@ -36,6 +38,7 @@ abbrev pub prstatus_size : Machine → ℕ
 prstatus_size X86_64 = 336
 prstatus_size Aarch64 = 392
 
+-- a note that begins a thread, and one that has its masks
 abbrev pub is_thread : PlacedView → Bool
 is_thread placed = is_of CORE NT_PRSTATUS placed
 

@@ -86,6 +86,7 @@ memory_in dump = words_in dump.memory
 abbrev pub is_of_path : List ℕ → MappedCodeView → Bool
 is_of_path path code = pointwise nat_eq code.path path
 
+-- those bytes, by the path of the file
 abbrev pub head_of : DumpView → List ℕ → List ℕ
 head_of dump path = unwrap_or (option_map (λ code. code.head) (find (is_of_path path) dump.code)) []
 

@@ -1,4 +1,6 @@
 -- What the memory of a process has of the files that it had mapped (gABI, chapter 5, "Program Loading"; `core(5)`).
+-- First pages of files: bit 4 of `coredump_filter`. Where the call frames are: LSB Core, "Exception Frames" and
+-- "Program Header".
 use Rattle.std.specs.Prelude.{ℕ, ◌+◌, ◌-◌, ◌^◌, nat_lt, min, length, List, [], Bool, ◌==◌, if◌then◌else◌, Option, Some, None, option_map, option_and_then, unwrap_or, Result}
 use Rattle.std.specs.List.{find}
 use Rattle.std.specs.Result.{result_ok}
@@ -37,6 +39,7 @@ segments_in head = unwrap_or (result_ok (headers_in head)) []
 abbrev pub build_id_in : List ℕ → List ProgramHeader → List ℕ
 build_id_in head segments = unwrap_or (build_id_of_file head segments []) []
 
+-- a program header that names `.eh_frame_hdr`
 abbrev pub is_eh_frame_header : ProgramHeader → Bool
 is_eh_frame_header segment = segment.p_type == PT_GNU_EH_FRAME
 

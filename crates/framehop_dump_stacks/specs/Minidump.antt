@@ -1,4 +1,5 @@
 -- What a minidump says of a process (Microsoft's minidumpapiset.h; Breakpad's minidump_format.h, MD).
+-- The code of a file: gABI, chapter 5, "Program Header".
 use Rattle.std.specs.Prelude.{◌≡◌, ℕ, ◌+◌, ◌-◌, ◌^◌, max, min, List, [], ◌∷◌, ◌++◌, map, Bool, true, false, ◌||◌, ◌==◌, if◌then◌else◌, Option, Some, None, Result, Ok}
 use Rattle.std.specs.Int.Count.{count_leading_zeros}
 use Rattle.std.specs.List.{after_last, flat_map, fold}
@@ -57,6 +58,7 @@ each f (x ∷ xs) = do
   others ← each f xs
   Ok (first ∷ others)
 
+-- the machine of a dump
 abbrev pub machine_of : SystemMachine → Machine
 machine_of system.X86_64 = dumped.X86_64
 machine_of system.Aarch64 = dumped.Aarch64
@@ -65,6 +67,7 @@ machine_of system.Aarch64 = dumped.Aarch64
 abbrev pub signal_of : ℕ → Option WhyEnded
 signal_of code = if (code == 0) || (code == DUMP_REQUESTED) then None else Some (cause.Signal code)
 
+-- a signal on Linux and Android, and else an exception
 abbrev pub cause_by : ℕ → ℕ → Option WhyEnded
 cause_by platform code =
     if (platform == LINUX) || (platform == ANDROID) then signal_of code else Some (cause.Exception code)
@@ -100,6 +103,7 @@ loaded_view m = record { base = m.base; size = m.size; name = m.name.items; buil
 abbrev pub last_address : List LoadedView → ℕ
 last_address modules = fold (λ last m. max last (min (m.base + m.size) (2 ^ 64 - 1))) 0 modules
 
+-- all bits up to the highest one of an address
 abbrev pub mask_up_to : ℕ → ℕ
 mask_up_to address = if address == 0 then 2 ^ 64 - 1 else 2 ^ (64 - count_leading_zeros 64 address) - 1
 
@@ -110,6 +114,7 @@ build_id_by name (Some (of_elf build_id)) = build_id
 build_id_by name (Some (of_pdb guid age path guid_and_age)) = if is_windows_path name then guid_and_age else []
 build_id_by name None = []
 
+-- a module as it is listed, with its name and its CodeView record
 unfoldable pub loaded_in : List ℕ → Module → Result LoadedView MinidumpError
 loaded_in file m = do
   name ← string_of file m.name
@@ -173,6 +178,7 @@ headers_given wanted (Some bytes) =
     if is_another wanted (build_id_in bytes (segments_in bytes)) then [] else segments_in bytes
 headers_given wanted None = []
 
+-- the first program headers, or else the others
 abbrev pub or_else : List ProgramHeader → List ProgramHeader → List ProgramHeader
 or_else [] others = others
 or_else (segment ∷ segments) others = segment ∷ segments
@@ -205,6 +211,7 @@ segment_code head m base segment = if segment.is_code then record {
   base = Some base;
 } ∷ [] else []
 
+-- the code of a module by its segments and its base; without a base it is all its addresses
 abbrev pub code_with : List ℕ → LoadedView → List Segment → Option ℕ → List MappedCodeView
 code_with head m segments (Some base) = flat_map (segment_code head m base) segments
 code_with head m segments None = whole head m ∷ []

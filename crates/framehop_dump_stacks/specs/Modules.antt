@@ -42,6 +42,7 @@ abbrev pub base_unless : Option ℕ → Option ℕ → Option ℕ
 base_unless (Some known) base = Some known
 base_unless None base = base
 
+-- the base of a mapping: the one that the dump says, or else by the file
 abbrev pub base_in : Files → ℕ → MappedCodeView → Option ℕ
 base_in files number code = base_unless code.base (base_with code (object_in files number))
 
@@ -57,6 +58,7 @@ mapping_based code number None = record {
   has_sections = false;
 }
 
+-- the mapping of code whose file is known
 abbrev pub mapping_numbered : Files → MappedCodeView → Option ℕ → Option Mapping
 mapping_numbered files code (Some number) = Some (mapping_based code number (base_in files number code))
 mapping_numbered files code None = None
@@ -71,6 +73,7 @@ abbrev pub mapped_by : Option Mapping → List Mapping → List Mapping
 mapped_by (Some mapping) mappings = with_mapping mapping mappings
 mapped_by None mappings = mappings
 
+-- the mappings of all code, one after another
 abbrev pub mappings_over : Files → List MappedCodeView → List Mapping → List Mapping
 mappings_over files [] mappings = mappings
 mappings_over files (code ∷ others) mappings = mappings_over files others (mapped_by (mapping_in files code) mappings)
@@ -94,6 +97,7 @@ abbrev pub sections_by : DumpView → Option NamedFile → ℕ → ExplicitModul
 sections_by dump (Some file) base = sections_in dump.memory (head_of dump file.name.items) base
 sections_by dump None base = sections_of None
 
+-- by the file that was read, or else by memory
 abbrev pub loaded_by : DumpView → Files → Mapping → Option ObjectFile → ModuleView
 loaded_by dump files mapping (Some object) = object.«module»
 loaded_by dump files mapping None =

@@ -8,6 +8,7 @@ use Rattle.framehop_processes.specs.declared.error.ProcessesError.TheVariants as
 use Rattle.framehop_dump_stacks.specs.declared.error.DumpStacksError.{DumpStacksError}
 use Rattle.framehop_dump_stacks.specs.declared.error.DumpStacksError.TheVariants.{Core, Minidump, OutOfMemory, GenerationsExhausted, EmptyMapping}
 
+-- the refusal of a core file, of a minidump, and of a change of the process, as one of a run
 abbrev pub of_core_file : CoreFileError → DumpStacksError
 of_core_file file.OutOfMemory = OutOfMemory
 of_core_file refusal = Core refusal

@@ -1,5 +1,6 @@
 -- From a row to a frame on aarch64: the rule that a row is translated to, and the values of the rows that have none
 -- (framehop 0.16.0, `aarch64/dwarf.rs`; DWARF for the Arm 64-bit Architecture, section 4.1).
+-- What a row means is DWARF 5 section 6.4.1.
 use Rattle.std.specs.Prelude.{ℕ, ◌≡◌, ◌<◌, ◌^◌, Bool, true, false, not, List, Option, Some, None, option_map, option_and_then, Result, Ok, Err, ℤ, pos, negsuc, ◌+ℤ◌, ◌==◌, ◌&&◌, nat_le, if◌then◌else◌}
 use Rattle.std.specs.Ordering.{int_eq}
 use Rattle.framehop_core.specs.Memory.{Memory}
@@ -28,6 +29,7 @@ lr_column = record { 0 = 30 }
 abbrev pub sp_column : Register
 sp_column = record { 0 = 31 }
 
+-- the register of a column
 abbrev pub column_of : Registers → Register → Option ℕ
 column_of r column =
     if column.0 == 29 then Some r.fp
@@ -75,6 +77,7 @@ beside_fp offset fp lr =
     (signed_units_of 8 (offset +ℤ fp)))
     (units_of 8 offset)
 
+-- the same; where the offset is 16 and both are saved right below it, the rule of frame pointers
 abbrev pub by_saved : ℤ → ℤ → ℤ → Option UnwindRuleAarch64
 by_saved offset fp lr =
     if int_eq offset (pos 16) && int_eq fp (negsuc 15) && int_eq lr (negsuc 7) then Some UseFramePointer
@@ -84,6 +87,7 @@ abbrev pub by_fp : ℤ → Option RegisterRule → Option RegisterRule → Optio
 by_fp offset (Some (rule.Offset fp)) (Some (rule.Offset lr)) = by_saved offset fp lr
 by_fp offset fp lr = None
 
+-- by the register of the CFA
 abbrev pub translated_by : CfaRule → Option RegisterRule → Option RegisterRule → Option UnwindRuleAarch64
 translated_by (cfa.RegisterAndOffset register offset) fp lr =
     if register.0 == 31 then by_sp offset fp lr else (if register.0 == 29 then by_fp offset fp lr else None)
@@ -109,6 +113,7 @@ abbrev pub stepped : Registers → ℕ → ℕ → ℕ → Result (ℕ × Regist
 stepped r cfa fp lr =
     Ok (strip_ptr_auth r.lr_mask lr, record r { lr = strip_ptr_auth r.lr_mask lr; sp = cfa; fp = fp })
 
+-- the values of a row: its CFA, and where there is one its frame pointer and return address
 abbrev pub direct_by : Scope → Memory → CfaRule → Option RegisterRule → Option RegisterRule → Bool → Registers
     → Result (ℕ × Registers) DwarfUnwinderError
 direct_by scope memory cfa_rule fp_rule lr_rule first r =

@@ -97,6 +97,7 @@ value_from e zero s = if s.position == length e.code then slice_get s.stack 0 el
 value_from e (suc n) s =
     if s.position == length e.code then slice_get s.stack 0 else option_and_then (value_from e n) (step e s)
 
+-- what an expression gives that starts with this stack, which must fit: at most 4,096 operations
 unfoldable pub value_of : Evaluation → List ℕ → Option ℕ
 value_of e initial =
     if fits e.limit (length initial) then value_from e 4096 (record { position = 0; stack = initial }) else None

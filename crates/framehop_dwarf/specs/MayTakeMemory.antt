@@ -1,6 +1,7 @@
 -- When unwinding by call frame information may take memory, and so may run out of it: where its storage has no limits,
 -- and rows need room (DW_CFA_offset, DW_CFA_remember_state and their kin before the address) or the row has an
 -- expression, whose stack of values grows.
+-- (DWARF 5 section 6.4.2.)
 use Rattle.std.specs.Prelude.{ℕ, Bool, true, false, Option, Some, None, is_none, Result, Ok, Err, ◌||◌, ◌&&◌}
 use Rattle.std.specs.List.{list_any}
 use Rattle.framehop_cfi.specs.Section.{Section}

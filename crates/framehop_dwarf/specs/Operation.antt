@@ -83,6 +83,7 @@ plain_of code =
     ∷ (0x96, Some Nop)
     ∷ []) (either (unary_of code) (binary_of code))
 
+-- the same with the place after it, or a refusal
 abbrev pub plain_at : Option Operation → ℕ → Parsed Operation
 plain_at (Some operation) at = Ok (operation, at)
 plain_at None at = Err UnknownInstruction
@@ -137,6 +138,7 @@ operation_at bytes at = do
 abbrev pub minus : ℕ → ℕ → ℕ
 minus second top = (second + (2 ^ 64 - top)) % 2 ^ 64
 
+-- what an operation makes of one value
 abbrev pub changed : UnaryOperation → ℕ → ℕ
 changed Absolute top = unsigned_abs (cast_signed w64 top)
 changed Negate top = minus 0 top
@@ -151,6 +153,7 @@ quotient second top =
 abbrev pub shifted_right : ℕ → ℕ → ℕ
 shifted_right second top = cast_unsigned w64 (int_shr (cast_signed w64 second) (if nat_lt top 64 then top else 63))
 
+-- 1 for true, 0 for false
 abbrev pub bit_of : Bool → ℕ
 bit_of true = 1
 bit_of false = 0

@@ -16,6 +16,7 @@ fits_i16 (negsuc n) = if nat_lt n (2 ^ 15) then Some (negsuc n) else None
 abbrev pub is_exact : ℤ → ℕ → ℤ → Bool
 is_exact units size bytes = int_eq (units *ℤ pos size) bytes
 
+-- how many units bytes are, without a sign (16 bits) and with one
 unfoldable pub units_of : ℕ → ℤ → Option ℕ
 units_of size bytes =
     if is_exact (int_div bytes (pos size)) size bytes then fits_u16 (int_div bytes (pos size)) else None

@@ -1,4 +1,5 @@
 -- What a module's call frame section has for an address: the FDE by the header, and the row by the FDE.
+-- (framehop 0.16.0, `DwarfUnwinder`; LSB, ".eh_frame_hdr".)
 use Rattle.std.specs.Prelude.{ℕ, ◌≡◌, ◌≢◌, Bool, true, false, List, Option, Some, None, Result, Ok, Err, IsOk, IsErr}
 use Rattle.framehop_cfi.specs.Section.{Section}
 use Rattle.framehop_cfi.specs.Entry.{fde_at}
@@ -38,6 +39,7 @@ pub data Reading : Type 0 where
   uncovered : Reading
   by_row : Row → Reading
 
+-- the same by what was read: of the row, of the FDE, and of both
 abbrev pub of_row : Result Row ReadError → Reading
 of_row (Ok row) = by_row row
 of_row (Err error) = uncovered

@@ -1,5 +1,6 @@
 -- From a row to a frame on x86_64: the rule that a row is translated to, and the values of the rows that have none
 -- (framehop 0.16.0, `x86_64/dwarf.rs`; System V ABI for AMD64, figure 3.36).
+-- What a row means is DWARF 5 section 6.4.1.
 use Rattle.std.specs.Prelude.{ℕ, ◌-◌, ◌≡◌, ◌<◌, ◌⊎◌, Bool, true, not, List, Option, Some, None, option_map, option_and_then, unwrap_or, Result, Ok, Err, ℤ, pos, negsuc, ◌+ℤ◌, ◌==◌, ◌&&◌, nat_lt, if◌then◌else◌}
 use Rattle.std.specs.Ordering.{int_eq}
 use Rattle.framehop_core.specs.Memory.{Memory}
@@ -28,6 +29,7 @@ sp_column = record { 0 = 7 }
 abbrev pub return_column : Register
 return_column = record { 0 = 16 }
 
+-- the register of a column
 abbrev pub column_of : Registers → Register → Option ℕ
 column_of r column =
     if column.0 == 16 then Some r.ip
@@ -61,6 +63,7 @@ by_bp offset (Some (rule.Offset saved)) =
     if int_eq offset (pos 16) && int_eq saved (negsuc 15) then Some UseFramePointer else with_offsets offset saved
 by_bp offset other = None
 
+-- by the register of the CFA
 abbrev pub by_cfa : CfaRule → Option RegisterRule → Option UnwindRuleX86_64
 by_cfa (cfa.RegisterAndOffset register offset) bp =
     if register.0 == 7 then by_sp offset bp else (if register.0 == 6 then by_bp offset bp else None)
@@ -73,6 +76,7 @@ translated_by cfa bp (Some rule.Undefined) = Some EndOfStack
 translated_by cfa bp (Some (rule.Offset offset)) = if int_eq offset (negsuc 7) then by_cfa cfa bp else None
 translated_by cfa bp (Some other) = None
 
+-- the rule that a row is translated to, if there is one
 unfoldable pub translated : Row → Option UnwindRuleX86_64
 translated row = translated_by row.cfa (rule_of row.rules bp_column) (rule_of row.rules return_column)
 
@@ -82,6 +86,7 @@ translated row = translated_by row.cfa (rule_of row.rules bp_column) (rule_of ro
 abbrev pub below : Memory → ℕ → Option ℕ
 below memory cfa = if nat_lt cfa 8 then None else memory (cfa - 8)
 
+-- an address, or else that word
 abbrev pub or_below : Option ℕ → Option ℕ → Option ℕ
 or_below (Some address) word = Some address
 or_below None word = word
@@ -97,6 +102,7 @@ stepped first r cfa bp address =
 abbrev pub scope_of : List ℕ → Option ℕ → Registers → Scope
 scope_of bytes limit r = record { bytes = bytes; columns = column_of r; limit = limit }
 
+-- the values of a row: its CFA, and where there is one its rbp and return address
 abbrev pub direct_by : Scope → Memory → CfaRule → Option RegisterRule → Option RegisterRule → Bool → Registers
     → Result (ℕ × Registers) DwarfUnwinderError
 direct_by scope memory cfa_rule bp_rule return_rule first r =

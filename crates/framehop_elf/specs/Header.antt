@@ -1,4 +1,5 @@
 -- The ELF header (gABI, chapter 4, "ELF Header").
+-- What identifies a file: "ELF Identification".
 use Rattle.std.specs.Prelude.{ℕ, List, slice_index, not, Result, Ok, Err, ◌==◌, if◌then◌else◌}
 use Rattle.framehop_bytes.specs.Bytes.{◌>>=◌, le2, le4, le8}
 use Rattle.framehop_elf.specs.Numbers.{ELFMAG, ELFCLASS64, ELFDATA2LSB, EV_CURRENT}

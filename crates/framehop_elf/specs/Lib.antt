@@ -1,4 +1,6 @@
 -- What the contracts of this crate cite: the parts of an ELF file.
+--
+-- The source is the System V gABI, chapter 4 ("Object Files") and chapter 5 ("Program Loading and Dynamic Linking").
 pub mod Numbers
 pub mod Block
 pub mod Header

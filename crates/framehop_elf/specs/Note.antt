@@ -1,5 +1,6 @@
 -- Notes (gABI, chapter 5, "Note Section"). As linkers write them, names and descriptors are padded to four bytes in files
 -- of 64 bits too.
+-- A build id is the note of the linker's option `--build-id`.
 use Rattle.std.specs.Prelude.{ℕ, zero, suc, ◌+◌, ◌-◌, ◌*◌, ◌/◌, List, [], ◌∷◌, length, take, drop, Bool, Option, Some, None, option_map, nat_eq, nat_le, ◌&&◌, ◌==◌, if◌then◌else◌}
 use Rattle.std.specs.List.{find}
 use Rattle.std.specs.Cmp.Lexicographic.{pointwise}
@@ -41,6 +42,7 @@ note_at bytes =
     if nat_le 12 (length bytes) && nat_le (descriptor_end bytes) (length bytes)
     then Some (note_of bytes, padded (descriptor_end bytes)) else None
 
+-- the note that was read, and those after it; none after one that the bytes don't hold
 abbrev pub notes_after : Option (NoteView × ℕ) → (ℕ → List NoteView) → List NoteView
 notes_after (Some read) next = read.0 ∷ next read.1
 notes_after None next = []

@@ -1,4 +1,5 @@
 -- Program headers (gABI, chapter 5, "Program Header").
+-- How many there are: "ELF Header", e_phnum.
 use Rattle.std.specs.Prelude.{ℕ, List, map, Result, Ok, Err, not, ◌&&◌, ◌==◌, if◌then◌else◌}
 use Rattle.framehop_bytes.specs.Bytes.{◌>>=◌, le4, le8}
 use Rattle.framehop_elf.specs.Numbers.{PN_XNUM}

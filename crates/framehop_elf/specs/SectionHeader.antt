@@ -1,4 +1,5 @@
 -- Section headers (gABI, chapter 4, "Sections").
+-- How many there are: "ELF Header", e_shnum.
 use Rattle.std.specs.Prelude.{ℕ, List, map, Result, Ok, Err, not, ◌&&◌, ◌==◌, if◌then◌else◌}
 use Rattle.framehop_bytes.specs.Bytes.{◌>>=◌, le4, le8}
 use Rattle.framehop_elf.specs.Block.{block_at, table_at}

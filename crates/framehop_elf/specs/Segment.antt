@@ -1,4 +1,5 @@
 -- The segments of a file that are loaded (gABI, chapter 5, "Program Header").
+-- The fields are p_type and p_flags.
 use Rattle.std.specs.Prelude.{List, [], ◌∷◌, Bool, not, bit_and, ◌==◌, if◌then◌else◌}
 use Rattle.std.specs.List.{flat_map}
 use Rattle.framehop_elf.specs.Numbers.{PT_LOAD, PF_X}

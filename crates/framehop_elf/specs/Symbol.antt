@@ -1,4 +1,5 @@
 -- Symbols of functions (gABI, chapter 4, "Symbol Table").
+-- Which section has their names: "Sections", sh_link.
 use Rattle.std.specs.Prelude.{ℕ, ◌+◌, ◌-◌, ◌/◌, ◌%◌, List, [], ◌∷◌, length, map, filter, Bool, not, Option, Some, None, option_map, option_and_then, unwrap_or, slice_get, Result, Ok, Err, slice_index, nat_le, nat_lt, ◌&&◌, ◌||◌, ◌==◌, if◌then◌else◌}
 use Rattle.std.specs.Simd.{first_chunks}
 use Rattle.framehop_bytes.specs.Bytes.{◌>>=◌, le2, le4, le8}

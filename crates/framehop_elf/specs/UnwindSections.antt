@@ -1,4 +1,5 @@
 -- The sections of a file that an unwinder needs, by their names.
+-- (gABI, chapter 4, "Special Sections"; LSB Core, "Exception Frames".)
 use Rattle.std.specs.Prelude.{ℕ, ◌+◌, ◌-◌, ◌^◌, ◌==◌, if◌then◌else◌, List, codes, Option, None, option_map, option_and_then, min, Vec}
 use Rattle.std.specs.Result.{result_ok}
 use Rattle.std.specs.declared.alloc.Global.{Global}
@@ -26,6 +27,7 @@ stored_called file sections names name =
     option_and_then (λ section. option_map (λ contents. (section, contents)) (stored_in file section))
     (section_called sections names name)
 
+-- the addresses of a section, and its bytes
 abbrev pub range_of : Option Stored → Option (Range ℕ)
 range_of stored = option_map (λ s. range_in s.0) stored
 

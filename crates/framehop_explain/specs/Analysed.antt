@@ -3,5 +3,6 @@
 use Rattle.std.specs.Prelude.{ℕ, ◌==◌, not, Bool}
 use Rattle.framehop_core.specs.Bits.{bits_at}
 
+-- the opcode of such a function
 unfoldable pub is_analysed : ℕ → Bool
 is_analysed opcode = not (bits_at opcode 24 4 == 0)

@@ -40,6 +40,7 @@ pub record Values (R S : Type 0) : Type 0 where
   pub computed : Sections → ℕ → Bool → Result (ℕ × S) PeUnwinderError
   pub compact : CompactReader R
 
+-- what is told by the unwind data of a module
 abbrev pub IsTold : {R S : Type 0} → Values R S → Option StorageLimits → UnwindData → ℕ → Bool → Told R → Type 0
 IsTold values limits (no_unwind_data refusal) relative first told = told ≡ Refused NoModuleUnwindData
 IsTold values limits (call_frames frames) relative first told =

@@ -11,6 +11,7 @@ abbrev pub frames_kind : UnwindSectionType → Option Header → UnwindDataKind
 frames_kind kind (Some header) = EhFrameWithHeader
 frames_kind kind None = Indexed kind
 
+-- the kind of a module's unwind data
 abbrev pub kind_of : UnwindData → UnwindDataKind
 kind_of (no_unwind_data None) = NoUnwindData
 kind_of (no_unwind_data (Some refusal)) = IndexRefused refusal.section_type refusal.error

@@ -16,6 +16,7 @@ epilog_source function (Ok (Some instructions)) = Epilog function
 epilog_source function (Ok None) = Codes function
 epilog_source function (Err error) = Unread function
 
+-- by the unwind info of the function that has the address
 abbrev pub header_source : Bool → Sections → ℕ → RuntimeFunction → Result Header PeUnwinderError → PeSource
 header_source first sections address function (Err error) = Unread function
 header_source true sections address function (Ok header) =

@@ -10,6 +10,7 @@ use Rattle.framehop_explain.specs.declared.source.RowSource.TheVariants.{Unread,
 use Rattle.framehop_explain.specs.declared.source.Source.{Source}
 use Rattle.framehop_explain.specs.declared.source.Source.TheVariants.{NotInHeader, NotInIndex, Fde}
 
+-- what an FDE has for an address: its row, none, or a refusal
 abbrev pub row_source : Reading → RowSource
 row_source (unread error) = Unread error
 row_source uncovered = NoRow
@@ -20,6 +21,7 @@ abbrev pub no_fde_source : UnwindSectionType → Option Header → Source
 no_fde_source kind (Some header) = NotInHeader
 no_fde_source kind None = NotInIndex kind
 
+-- by the offset of an FDE, or without one
 abbrev pub offset_source : Option StorageLimits → CallFrames → ℕ → Option ℕ → Source
 offset_source limits frames relative None = no_fde_source frames.section.kind frames.header
 offset_source limits frames relative (Some offset) =

@@ -32,6 +32,7 @@ abbrev pub told_of_values : {R S E : Type 0} → (E → UnwinderError) → Resul
 told_of_values refuse (Ok values) = Computed values.0
 told_of_values refuse (Err error) = Refused (refuse error)
 
+-- the same by a refusal, a rule or values
 abbrev pub told_by : {R S E : Type 0} → (E → UnwinderError) → Result (Option R) E → Result (ℕ × S) E → Told R
 told_by refuse (Err error) values = Refused (refuse error)
 told_by refuse (Ok (Some rule)) values = Rule rule
@@ -47,6 +48,7 @@ abbrev pub no_fde : Option Header → UnwinderError
 no_fde (Some header) = reason.EhFrameHdrCouldNotFindAddress
 no_fde None = reason.DwarfCfiIndexCouldNotFindAddress
 
+-- by the FDE at an offset, and by the one that call frames have for an address
 abbrev pub offset_told : {R S : Type 0} → (Row → Option R) → R → (Row → Result (ℕ × S) DwarfUnwinderError)
     → Option StorageLimits → CallFrames → ℕ → Option ℕ → Told R
 offset_told translated uncovered direct limits frames relative None = Refused (no_fde frames.header)

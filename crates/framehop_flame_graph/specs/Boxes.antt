@@ -40,5 +40,6 @@ box_of stacks prefix = record {
 abbrev pub root_of : List Stacked → Box
 root_of stacks = record { name = codes "all"; depth = 0; left = 0; count = total_of stacks }
 
+-- all boxes, that one first
 abbrev pub boxes_of : List Stacked → List (List (List ℕ)) → List Box
 boxes_of stacks prefixes = root_of stacks ∷ map (box_of stacks) prefixes

@@ -24,6 +24,7 @@ escaped_character character =
     else if is_unprintable character then encode_utf8 0xfffd
     else encode_utf8 character
 
+-- all characters of a name so
 abbrev pub escaped : List ℕ → List ℕ
 escaped characters = flat_map escaped_character characters
 

@@ -11,6 +11,7 @@ share part whole total = part * whole / total
 abbrev pub edge : ℕ → ℕ → ℕ
 edge total count = share count 120000 total
 
+-- how wide a box is: up to the edge where it ends
 abbrev pub width_of : ℕ → Box → ℕ
 width_of total box = edge total (box.left + box.count) - edge total box.left
 

@@ -18,10 +18,12 @@ unfoldable pub title_of : ℕ → Box → List ℕ
 title_of total box = codes "<title>" ++ escaped (characters_of box.name)
     ++ codes " (" ++ decimal box.count ++ codes " samples, " ++ hundredths (share box.count 10000 total) ++ codes "%)</title>"
 
+-- where a box begins and how wide it is, as attributes
 unfoldable pub span_of : ℕ → Box → List ℕ
 span_of total box = codes " x=\"" ++ hundredths (edge total box.left)
     ++ codes "\" width=\"" ++ hundredths (width_of total box) ++ codes "\""
 
+-- the rectangle of a box
 unfoldable pub rectangle_of : ℕ → ℕ → Box → List ℕ
 rectangle_of total top box = codes "<rect" ++ span_of total box
     ++ codes " y=\"" ++ decimal top ++ codes "\" height=\"15\" fill=\"" ++ colour_of box.name ++ codes "\"/>"
@@ -37,6 +39,7 @@ unfoldable pub drawn : ℕ → ℕ → Box → List ℕ
 drawn total rows box = let top = 40 + 16 * (rows - box.depth) in
     codes "<g>" ++ title_of total box ++ rectangle_of total top box ++ label_of total top box ++ codes "</g>\n"
 
+-- the beginning of the text, and the background
 unfoldable pub opening_of : ℕ → List ℕ
 opening_of height = codes "<?xml version=\"1.0\" encoding=\"UTF-8\"?>\n<svg xmlns=\"http://www.w3.org/2000/svg\""
     ++ codes " width=\"1220\" height=\"" ++ decimal height ++ codes "\" viewBox=\"-10 0 1220 " ++ decimal height
@@ -51,6 +54,7 @@ background_of height =
 abbrev pub head_of : ℕ → List ℕ
 head_of rows = opening_of (66 + 16 * rows) ++ background_of (66 + 16 * rows)
 
+-- all of the picture
 abbrev pub picture_of : ℕ → List Box → List ℕ
 picture_of total boxes = let rows = deepest boxes in
     head_of rows ++ flat_map (drawn total rows) boxes ++ codes "</svg>\n"
@@ -66,6 +70,7 @@ refusal_of stacks =
     else if total_of stacks == 0 then Some NothingCounted
     else None
 
+-- the text is the flame graph of the stacks
 abbrev pub IsFlameGraph : List Stacked → List ℕ → Type 0
 IsFlameGraph stacks svg =
     (prefixes : List (List (List ℕ))) × ArePrefixes stacks prefixes × (svg ≡ svg_of stacks prefixes)

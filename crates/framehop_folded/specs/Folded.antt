@@ -1,4 +1,5 @@
 -- Folded stacks: each stack once, with how often it was counted.
+-- As text: FlameGraph's `stackcollapse-perf.pl`, which writes such lines.
 use Rattle.std.specs.Prelude.{ℕ, ◌≡◌, ◌+◌, ◌≤◌, ◌^◌, Option, Some, None, IsSome, List, [], ◌∷◌, ◌++◌, sum_by, unwrap_or}
 use Rattle.std.specs.BTreeMap.{IsOrdered, values, get_by}
 use Rattle.std.specs.Cmp.Lexicographic.{slice_cmp}

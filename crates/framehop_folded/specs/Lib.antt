@@ -1,4 +1,7 @@
--- What the contracts of this crate cite.
+-- What the contracts of this crate cite: folded stacks and their text.
+--
+-- A *folded stack* is the names of a stack's frames from the outermost on, joined by `;`, with how often it was
+-- counted.
 pub mod Text
 pub mod Folded
 pub mod Laws

@@ -26,6 +26,7 @@ abbrev pub IsLastBlank : List ℕ → ℕ → Type 0
 IsLastBlank line blank = (blank < length line) × (slice_index line blank ≡ 32)
     × ((at : ℕ) → blank < at → at < length line → slice_index line at ≢ 32)
 
+-- a stack with its count, or the line is refused
 abbrev pub line_with : ℕ → List ℕ → Option ℕ → Result Counted TextError
 line_with offset stack None = Err (BadCount offset)
 line_with offset stack (Some count) = Ok (record { stack = stack; count = count })

@@ -159,5 +159,6 @@ abbrev pub time_text : Option ℕ → List ℕ
 time_text (Some time) = 32 ∷ decimal time ++ codes ":\n"
 time_text None = codes ":\n"
 
+-- the head of a block
 unfoldable pub head_of : List ℕ → ℕ → ℕ → Option ℕ → List ℕ
 head_of name pid tid time = plain name ++ 32 ∷ decimal pid ++ 47 ∷ decimal tid ++ time_text time

@@ -4,6 +4,7 @@ use Rattle.framehop_core.specs.Aarch64.Registers.{Registers as RegistersAarch64}
 use Rattle.framehop_core.specs.X86_64.Registers.{Registers as RegistersX86_64}
 use Rattle.framehop_frames.specs.declared.machine.Start.{Start}
 
+-- the start of a walk by the registers of x86_64, and by those of aarch64 with their pc
 abbrev pub x86_64_start : RegistersX86_64 → Start RegistersX86_64
 x86_64_start regs = record { pc = regs.ip; sp = regs.rsp; regs = regs }
 

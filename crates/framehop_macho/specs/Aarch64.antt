@@ -1,4 +1,5 @@
 -- Compact unwind info on aarch64 (Apple, compact_unwind_encoding.h, UNWIND_ARM64_..): opcodes and their rules.
+-- (framehop 0.16.0, `aarch64/macho.rs`.)
 use Rattle.std.specs.Prelude.{ℕ, ◌==◌, nat_lt, Bool, true, false, List, if◌then◌else◌, Option, Some, None, Ok, Err}
 use Rattle.framehop_core.specs.declared.aarch64.unwind_rule.UnwindRuleAarch64.{UnwindRuleAarch64}
 use Rattle.framehop_core.specs.declared.aarch64.unwind_rule.UnwindRuleAarch64.TheVariants.{NoOp, OffsetSp, UseFramePointer}

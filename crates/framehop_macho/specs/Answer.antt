@@ -1,4 +1,5 @@
 -- What unwinding by compact unwind info returns.
+-- (framehop 0.16.0, `macho.rs`.)
 use Rattle.std.specs.Prelude.{Option, Some, None, Result, Ok, Err}
 use Rattle.framehop_macho.specs.declared.macho.CompactUnwindInfoUnwinderError.{CompactUnwindInfoUnwinderError}
 use Rattle.framehop_macho.specs.declared.macho.CuiUnwindResult.{CuiUnwindResult}

@@ -1,4 +1,6 @@
 -- What the contracts of this crate cite: tables, functions and saved registers, opcodes of both architectures, frames.
+--
+-- A *row* is an entry of a table with its index and where the next one begins.
 pub mod Table
 pub mod UnwindInfo
 pub mod SavedRegisters

@@ -30,6 +30,7 @@ six = Rbx ∷ R12 ∷ R13 ∷ R14 ∷ R15 ∷ Rbp ∷ []
 unfoldable pub saved_registers : ℕ → ℕ → Option (List RegisterNameX86_64)
 saved_registers count rank = slice_get (lists_of count six) rank
 
+-- the register is rbp
 abbrev pub is_rbp : RegisterNameX86_64 → Bool
 is_rbp Rbp = true
 is_rbp Rbx = false

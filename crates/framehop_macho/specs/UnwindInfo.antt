@@ -26,6 +26,7 @@ shared_lists_in data' =
     part_of data' (le4 data' 20) (12 * le4 data' 24) >>= (λ index.
     Ok (record { opcodes = opcodes; index = index })))
 
+-- those of a header of version 1
 unfoldable pub shared_lists_of : List ℕ → Result Lists CompactReadError
 shared_lists_of data' =
     if nat_lt (length data') 28 then Err Eof
@@ -47,6 +48,7 @@ abbrev pub page_of : LentPage → Page
 page_of (Regular entries) = regular entries.now
 page_of (Compressed entries opcodes) = compressed entries.now opcodes.now
 
+-- a page of rows with an address and an opcode, and one of words with its own opcodes
 abbrev pub regular_page : List ℕ → ℕ → Result Page CompactReadError
 regular_page data' at =
     if nat_lt (length data') (at + 8) then Err Eof
@@ -87,6 +89,7 @@ regular_function entries next_page row = record {
   opcode = le4 entries (8 * row.index + 4);
 }
 
+-- the function that an address has in a regular page, if its row's function reaches to it
 abbrev pub in_regular : List ℕ → ℕ → ℕ → Option Row → Option Function
 in_regular entries next_page address None = None
 in_regular entries next_page address (Some row) = up_to address (regular_function entries next_page row)
@@ -107,6 +110,7 @@ compressed_function common entries opcodes address row end =
     else (opcode_by_number common opcodes (le4 entries (4 * row.index) / 2 ^ 24) >>= (λ opcode.
     Ok (Some (record { start_address = row.start; end_address = end; opcode = opcode })))))
 
+-- the same in a compressed page
 abbrev pub in_compressed : List ℕ → List ℕ → List ℕ → ℕ → ℕ → Option Row → Result (Option Function) CompactReadError
 in_compressed common entries opcodes next_page address None = Ok None
 in_compressed common entries opcodes next_page address (Some row) =
@@ -158,6 +162,7 @@ pub data IsOutside (data' : List ℕ) (lists : Lists) (address : ℕ) : Type 0 w
       → page_at data' entry.page_offset ≡ Ok page → IsBefore (starts_in entry.page_address page) address
       → IsOutside data' lists address
 
+-- the function of an address in a page, and by the index
 abbrev pub in_entry : List ℕ → Lists → ℕ → Option PageEntry → Result (Option Function) CompactReadError
 in_entry data' lists address None = Ok None
 in_entry data' lists address (Some entry) =

@@ -1,4 +1,5 @@
 -- Unwinding a frame of a module by its compact unwind info, for any architecture.
+-- (framehop 0.16.0, `macho.rs`.)
 use Rattle.std.specs.Prelude.{ℕ, ◌-◌, ◌==◌, ◌&&◌, nat_le, nat_lt, Bool, true, false, List, length, take, drop, if◌then◌else◌, Option, Some, None, option_map, option_and_then, Result, Ok, Err}
 use Rattle.framehop_macho.specs.Answer.{Answer}
 use Rattle.framehop_macho.specs.UnwindInfo.{function_of}

@@ -1,4 +1,5 @@
 -- Compact unwind info on x86_64 (Apple, compact_unwind_encoding.h, UNWIND_X86_64_..): opcodes and their rules.
+-- (framehop 0.16.0, `x86_64/macho.rs`.)
 use Rattle.std.specs.Prelude.{ℕ, ◌+◌, ◌-◌, ◌*◌, ◌/◌, ◌%◌, ◌^◌, ◌==◌, ◌&&◌, nat_eq, nat_le, nat_lt, pos, ◌-ℤ◌, Bool, true, false, List, [], ◌∷◌, length, if◌then◌else◌, Option, Some, None, Result, Ok, Err}
 use Rattle.std.specs.List.{starts_with}
 use Rattle.framehop_bytes.specs.Bytes.{le4}
@@ -76,6 +77,7 @@ abbrev pub adjusted : ℕ → ℕ → Result ℕ CompactUnwindInfoUnwinderError
 adjusted immediate adjust =
     if nat_lt (immediate + adjust) (2 ^ 32) then Ok (immediate + adjust) else Err StackAdjustOverflow
 
+-- the stack size by a `sub rsp` in the code, with what pushes add to it
 unfoldable pub indirect_size : Option (List ℕ) → ℕ → ℕ → Result ℕ CompactUnwindInfoUnwinderError
 indirect_size code at adjust = immediate_in code at >>= (λ immediate. adjusted immediate adjust)
 
@@ -88,6 +90,7 @@ abbrev pub uncovered_rule : Option (List ℕ) → UnwindRuleX86_64
 uncovered_rule None = JustReturn
 uncovered_rule (Some code) = if starts_with nat_eq code frame_set_up then UseFramePointer else JustReturn
 
+-- a function without info has that rule in a first frame only
 abbrev pub null_rule : Bool → Option (List ℕ) → Result UnwindRuleX86_64 CompactUnwindInfoUnwinderError
 null_rule true code = Ok (uncovered_rule code)
 null_rule false code = Err FunctionHasNoInfo

@@ -23,6 +23,7 @@ abbrev pub has : List ℕ → ℕ → ℕ → MemoryRange → Bool
 has file address size range =
     nat_le range.start address && nat_le (address + size) (range.start + length (dumped file range))
 
+-- so many bytes of a range, from an address on
 abbrev pub bytes_in : List ℕ → ℕ → ℕ → MemoryRange → List ℕ
 bytes_in file address size range = take size (drop (address - range.start) (dumped file range))
 

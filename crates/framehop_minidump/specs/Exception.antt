@@ -20,6 +20,7 @@ exception_in fields = record {
   context = location_at fields 160;
 }
 
+-- that of the stream, if there is one, which must have the size of the struct
 abbrev pub exception_fields : ℕ → List ℕ → Result (Option Exception) MinidumpError
 exception_fields offset fields =
     if nat_lt (length fields) EXCEPTION_SIZE then Err (ShortStream offset) else Ok (Some (exception_in fields))

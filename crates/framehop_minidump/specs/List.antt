@@ -1,4 +1,5 @@
 -- Streams that are lists: MINIDUMP_THREAD_LIST, MINIDUMP_MODULE_LIST and MINIDUMP_MEMORY_LIST.
+-- The padding: Breakpad, minidump.cc.
 use Rattle.std.specs.Prelude.{ℕ, ◌+◌, ◌*◌, List, [], length, drop, Option, Some, None, Result, Ok, Err, nat_lt, ◌==◌, if◌then◌else◌}
 use Rattle.framehop_bytes.specs.Bytes.{◌>>=◌, le4}
 use Rattle.framehop_minidump.specs.Location.{located}

@@ -14,6 +14,7 @@ use Rattle.framehop_minidump.specs.declared.stream.Stream.{Stream}
 abbrev pub descriptor_at : List ℕ → ℕ → MemoryRange
 descriptor_at entry at = record { start = le8 entry at; size = le4 entry (at + 8); offset = le4 entry (at + 12) }
 
+-- the range of an entry of MINIDUMP_MEMORY_LIST
 abbrev pub range_at : List ℕ → MemoryRange
 range_at entry = descriptor_at entry 0
 
@@ -30,6 +31,7 @@ long_list_in offset list =
     else if length list == 16 + 16 * le8 list 0 then Ok (le8 list 8, entries_in MEMORY_DESCRIPTOR_SIZE (drop 16 list))
     else Err (BadListSize offset)
 
+-- those of the stream, if there is one
 abbrev pub long_list_found : List ℕ → Option Stream → Result (ℕ × List (List ℕ)) MinidumpError
 long_list_found file None = Ok (0, [])
 long_list_found file (Some stream) = located file stream.location >>= (λ list. long_list_in stream.location.offset list)

@@ -15,6 +15,7 @@ process_id_in offset fields =
     else if bit_and (le4 fields 4) MINIDUMP_MISC1_PROCESS_ID == 0 then Ok None
     else Ok (Some (le4 fields 8))
 
+-- that of the stream, if there is one
 abbrev pub process_id_found : List ℕ → Option Stream → Result (Option ℕ) MinidumpError
 process_id_found file None = Ok None
 process_id_found file (Some stream) =

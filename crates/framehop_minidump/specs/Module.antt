@@ -19,6 +19,7 @@ module_at entry = record {
   codeview = location_at entry 76;
 }
 
+-- the entries of MINIDUMP_MODULE_LIST
 unfoldable pub module_entries_of : List ℕ → List Stream → Result (List (List ℕ)) MinidumpError
 module_entries_of file streams = do
   list ← list_of file streams ModuleListStream MODULE_SIZE

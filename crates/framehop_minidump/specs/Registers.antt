@@ -1,4 +1,5 @@
 -- The registers of a thread: CONTEXT of x64 and ARM64_NT_CONTEXT of winnt.h, and Breakpad's contexts of the same forms.
+-- Of aarch64 that is MDRawContextARM64_Old.
 use Rattle.std.specs.Prelude.{ℕ, List, length, Bool, Option, Some, None, bit_and, nat_le, ◌&&◌, ◌||◌, ◌==◌, if◌then◌else◌}
 use Rattle.framehop_bytes.specs.Bytes.{le4, le8}
 use Rattle.framehop_core.specs.X86_64.Registers.{Registers as RegistersX86_64}

@@ -7,6 +7,7 @@ use Rattle.framehop_minidump.specs.Location.{block_at, entries_in}
 use Rattle.framehop_minidump.specs.declared.error.MinidumpError.{MinidumpError}
 use Rattle.framehop_minidump.specs.declared.error.MinidumpError.TheVariants.{OddString}
 
+-- a unit of UTF-16
 abbrev pub unit_at : List ℕ → ℕ
 unit_at bytes = le2 bytes 0
 

@@ -1,4 +1,5 @@
 -- On what the process ran: MINIDUMP_SYSTEM_INFO.
+-- Breakpad's is MDRawSystemInfo.
 use Rattle.std.specs.Prelude.{ℕ, List, length, Option, Some, None, Result, Ok, Err, nat_lt, ◌==◌, if◌then◌else◌}
 use Rattle.framehop_bytes.specs.Bytes.{◌>>=◌, le2, le4}
 use Rattle.framehop_minidump.specs.Numbers.{SystemInfoStream, PROCESSOR_ARCHITECTURE_AMD64, PROCESSOR_ARCHITECTURE_ARM64, MD_CPU_ARCHITECTURE_ARM64_OLD}

@@ -18,6 +18,7 @@ thread_at entry = record {
   context = location_at entry 40;
 }
 
+-- the entries of MINIDUMP_THREAD_LIST
 unfoldable pub thread_entries_of : List ℕ → List Stream → Result (List (List ℕ)) MinidumpError
 thread_entries_of file streams = do
   list ← list_of file streams ThreadListStream THREAD_SIZE

@@ -24,6 +24,7 @@ short_at bytes = if nat_le (slots 2) (length bytes) then Some (le2 bytes 2) else
 abbrev pub long_at : List ℕ → Option ℕ
 long_at bytes = if nat_le (slots 3) (length bytes) then Some (le4 bytes 2) else None
 
+-- an operation by that number, with how many bytes it takes
 abbrev pub with_short : List ℕ → (ℕ → UnwindOperation) → Option (UnwindOperation × ℕ)
 with_short bytes operation = option_map (λ number. (operation number, slots 2)) (short_at bytes)
 

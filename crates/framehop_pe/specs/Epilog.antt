@@ -87,6 +87,7 @@ release_at frame bytes = after_read (instruction_at frame bytes) bytes
 abbrev pub is_pop : ℕ → Bool
 is_pop opcode = nat_le 0x58 opcode && nat_le opcode 0x5F
 
+-- a pop of r8 to r15, after the prefix 41
 abbrev pub high_pop_at : List ℕ → Option (Reg × ℕ)
 high_pop_at bytes =
     if nat_le 1 (length bytes) && is_pop (byte bytes 0)
@@ -126,6 +127,7 @@ abbrev pub is_outside : ℕ → ℤ → Bool
 is_outside function_size (negsuc _) = true
 is_outside function_size (pos target) = nat_le function_size target
 
+-- a jump by 32 bits, and one by 8 bits, to outside of the function
 abbrev pub is_near_jump_outside : ℕ → ℕ → List ℕ → Bool
 is_near_jump_outside function_size left bytes =
     nat_le 4 (length bytes)
@@ -144,6 +146,7 @@ is_return bytes = nat_le 1 (length bytes) && (byte bytes 0 == 0xC3)
 abbrev pub is_indirect_jump : List ℕ → Bool
 is_indirect_jump bytes = nat_le 1 (length bytes) && (byte bytes 0 / 8 == 4)
 
+-- the same after REX.W
 abbrev pub is_wide_indirect_jump : List ℕ → Bool
 is_wide_indirect_jump bytes = nat_le 1 (length bytes) && (byte bytes 0 == 0xFF) && is_indirect_jump (drop 1 bytes)
 

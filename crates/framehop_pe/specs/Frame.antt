@@ -1,4 +1,5 @@
 -- A frame of a function with x64 unwind info (Microsoft, "x64 exception handling", "Unwind procedure").
+-- The rule is `rule_of_operations` of `framehop_core`.
 use Rattle.std.specs.Prelude.{ℕ, ◌-◌, Bool, true, false, nat_le, if◌then◌else◌, List, [], length, take, map, Option, Some, None, option_map, Result, Ok, Err}
 use Rattle.framehop_bytes.specs.Bytes.{◌>>=◌}
 use Rattle.framehop_core.specs.Memory.{Memory}

@@ -1,4 +1,5 @@
 -- The function table of a PE module (Microsoft, "x64 exception handling", struct RUNTIME_FUNCTION).
+-- The place of an address is `place_of` of `framehop_bytes`.
 use Rattle.std.specs.Prelude.{ℕ, ◌*◌, ◌/◌, ◌&&◌, nat_le, nat_lt, List, length, map, if◌then◌else◌, Option, Some, None, option_and_then, drop}
 use Rattle.std.specs.List.{range_with_len}
 use Rattle.framehop_bytes.specs.Bytes.{le4}

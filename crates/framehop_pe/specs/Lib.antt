@@ -1,4 +1,8 @@
 -- What the contracts of this crate cite: sections, unwind info and its codes, epilogs, and frames.
+--
+-- A *way* is what leads from a frame to its caller: operations that undo a prolog, or what is left of an epilog. It is
+-- a function of the module's bytes, the address and the kind of the frame; what it does to registers and memory is
+-- another.
 pub mod Sections
 pub mod FunctionTable
 pub mod Register

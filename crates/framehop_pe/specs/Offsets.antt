@@ -11,6 +11,7 @@ use Rattle.framehop_pe.specs.declared.unwind_info.operation.UnwindOperation.TheV
 abbrev pub offset_of : ℕ → OffsetOrPop
 offset_of bytes = if (bytes % 8 == 0) && nat_lt (bytes / 8) (2 ^ 16) then OffsetBy8 (bytes / 8) else None
 
+-- an operation that undoes a code, and an instruction of an epilog, as an offset or a pop
 abbrev pub of_operation : UnwindOperation → OffsetOrPop
 of_operation (UnStackAlloc bytes) = offset_of bytes
 of_operation (PopNonVolatile register) = Pop register

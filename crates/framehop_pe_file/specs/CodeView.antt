@@ -1,5 +1,6 @@
 -- Which program database belongs to a file ("PE Format", "Debug Directory (Image Only)"; MDCVInfoPDB70 of Breakpad's
 -- minidump_format.h).
+-- Which entry it is: "Debug Type".
 use Rattle.std.specs.Prelude.{ℕ, List, [], ◌∷◌, length, take, drop, Option, Some, None, option_and_then, Result, Ok, nat_le, ◌&&◌, ◌==◌, if◌then◌else◌}
 use Rattle.std.specs.Option.{option_or}
 use Rattle.std.specs.Result.{result_ok}
@@ -57,6 +58,7 @@ debug_bytes_in file header sections (Some directory) =
 abbrev pub debug_bytes_of : List ℕ → FileHeader → List SectionHeader → Result (List ℕ) PeError
 debug_bytes_of file header sections = debug_bytes_in file header sections header.debug_directory
 
+-- the entries of the debug directory
 unfoldable pub debug_entries_of : List ℕ → FileHeader → List SectionHeader → Result (List (List ℕ)) PeError
 debug_entries_of file header sections = do
   bytes ← debug_bytes_of file header sections

@@ -1,4 +1,5 @@
 -- Where the bytes of an image are in its file ("PE Format", "relative virtual address (RVA)" and "file pointer").
+-- The headers: "Optional Header", SizeOfHeaders.
 use Rattle.std.specs.Prelude.{ℕ, ◌+◌, ◌-◌, List, Bool, Option, Some, None, Result, Err, nat_le, ◌&&◌, if◌then◌else◌}
 use Rattle.std.specs.List.{find}
 use Rattle.framehop_pe_file.specs.Block.{block_at}

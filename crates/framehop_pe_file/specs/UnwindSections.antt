@@ -59,6 +59,7 @@ part_of_directory file header sections directory =
     option_map (λ contents. record { rva = directory.virtual_address; size = directory.size; contents = contents })
     (result_ok (bytes_at file header sections directory.virtual_address directory.size))
 
+-- the function table that the data directory of exceptions names
 abbrev pub exception_part : List ℕ → FileHeader → List SectionHeader → Option PartView
 exception_part file header sections = option_and_then (part_of_directory file header sections) header.exception_directory
 
@@ -67,6 +68,7 @@ abbrev pub pdata_of : List ℕ → FileHeader → List SectionHeader → Option 
 pdata_of file header sections =
     option_or (part_called file sections (codes ".pdata")) (exception_part file header sections)
 
+-- the addresses of a part, from the base on, and its bytes
 abbrev pub range_of : ℕ → Option PartView → Option (Range ℕ)
 range_of base part = option_map (range_in base) part
 

@@ -51,6 +51,7 @@ maps_numbered files m file =
     if nat_le (end_of_mapping m) m.start then None
     else Some (Map m.pid (mapping_based m file (base_in (object_in files file) m)))
 
+-- the change of a record that maps a file which is known
 abbrev pub maps_file : Files → MappingView → Option Change
 maps_file files m = if is_of_code m then option_and_then (maps_numbered files m) (number_in files m.name) else None
 

@@ -14,6 +14,7 @@ abbrev pub build_id_for : List FileBuildIdView → List ℕ → List ℕ
 build_id_for build_ids name =
     unwrap_or (option_map (λ b. b.build_id) (find (λ b. pointwise nat_eq b.name name) build_ids)) []
 
+-- the build id that the file of a mapping must have: its own, or else the recording's
 abbrev pub wanted_by : List FileBuildIdView → List ℕ → List ℕ → List ℕ
 wanted_by build_ids name [] = build_id_for build_ids name
 wanted_by build_ids name (byte ∷ bytes) = byte ∷ bytes

@@ -22,6 +22,7 @@ named_in names tid = option_map_or (λ name. name.items) (get nat_cmp names.by_t
 abbrev pub with_name : ℕ → List ℕ → Named → Named
 with_name tid name named thread = if thread == tid then name else named thread
 
+-- the names after a command, and after a new thread, which has its parent's
 abbrev pub named_by : Result CommandView RecordingError → Named → Named
 named_by (Ok command) named = with_name command.tid command.name named
 named_by (Err refusal) named = named

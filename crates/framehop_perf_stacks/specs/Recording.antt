@@ -1,4 +1,5 @@
 -- What is read of a recording before its samples are unwound.
+-- Which registers there are: perf_regs.h, by the readers of `framehop_recording`.
 use Rattle.std.specs.Prelude.{◌≡◌, ℕ, ◌^◌, List, [], map, Bool, Option, Some, None, option_and_then, slice_get, Result, Ok, Err}
 use Rattle.std.specs.List.{list_any}
 use Rattle.framehop_bytes.specs.Bytes.{◌>>=◌}

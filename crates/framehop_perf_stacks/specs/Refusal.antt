@@ -8,6 +8,7 @@ use Rattle.framehop_folded.specs.declared.error.FoldedError.TheVariants as folde
 use Rattle.framehop_perf_stacks.specs.declared.error.StacksError.{StacksError}
 use Rattle.framehop_perf_stacks.specs.declared.error.StacksError.TheVariants.{Recording, OutOfMemory, GenerationsExhausted, EmptyMapping, TooManySamples}
 
+-- the refusal of a recording, of a change of processes, and of folded stacks, as one of a run
 abbrev pub of_recording : RecordingError → StacksError
 of_recording recording.OutOfMemory = OutOfMemory
 of_recording refusal = Recording refusal

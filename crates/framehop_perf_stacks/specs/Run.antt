@@ -25,6 +25,7 @@ CountsMore frames more old new = (samples : ℕ) → AreCounted frames samples o
 abbrev pub is_sample : TimedRecord → Bool
 is_sample timed = timed.«record».kind == PERF_RECORD_SAMPLE
 
+-- how many samples a record of a kind is
 abbrev pub samples_in_kind : ℕ → ℕ
 samples_in_kind kind = if kind == PERF_RECORD_SAMPLE then 1 else 0
 

@@ -51,6 +51,7 @@ mapped_by (Ok (Some change)) mapped = after change mapped
 mapped_by (Ok None) mapped = mapped
 mapped_by (Err refusal) mapped = mapped
 
+-- the names and mappings after a record
 abbrev pub state_after : Files → RecordView → State → State
 state_after files r state =
     record { named = named_after r state.named; mapped = mapped_by (change_in files r) state.mapped }

@@ -3,6 +3,7 @@ use Rattle.std.specs.Prelude.{◌≡◌, ℕ, ◌≤◌, ◌<◌, List, map}
 use Rattle.framehop.specs.Modules.{ModuleView, UnwinderView}
 use Rattle.framehop_processes.specs.declared.mapping.Mapping.{Mapping}
 
+-- the mappings of a process, and its unwinder
 pub record ProcessView : Type 0 where
   pub mappings : List Mapping
   pub unwinder : UnwinderView

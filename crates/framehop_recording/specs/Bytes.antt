@@ -4,6 +4,7 @@ use Rattle.framehop_bytes.specs.Bytes.{◌>>=◌, le2, le4, le8}
 use Rattle.framehop_recording.specs.declared.error.RecordingError.{RecordingError}
 use Rattle.framehop_recording.specs.declared.error.RecordingError.TheVariants.{OutOfMemory}
 
+-- a value with the offset after it, or the refusal
 abbrev pub Reading : Type 0 → Type 0
 Reading A = Result (A × ℕ) RecordingError
 

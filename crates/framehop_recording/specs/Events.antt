@@ -1,4 +1,5 @@
 -- Which event a record belongs to, and when it was made: PERF_RECORD_SAMPLE and `struct sample_id` of perf_event.h.
+-- That the id 0 means the first event: as perf has it (`perf_file_attr` of perf.data-file-format.txt).
 use Rattle.std.specs.Prelude.{ℕ, ◌+◌, ◌*◌, List, [], ◌∷◌, ◌/◌, length, Bool, true, not, bit_and, ◌==◌, ◌&&◌, ◌||◌, Option, Some, None, option_and_then, slice_get, sum_by, Result, Ok, Err, nat_lt, if◌then◌else◌}
 use Rattle.std.specs.List.{count_by, list_any, list_all, position_from}
 use Rattle.framehop_bytes.specs.Bytes.{◌>>=◌, le8}

@@ -1,4 +1,5 @@
 -- The header of a recording: `perf_header` and `perf_file_section` of perf.data-file-format.txt.
+-- (Linux, tools/perf/util/header.c, `perf_file_header__read`.)
 use Rattle.std.specs.Prelude.{ℕ, List, Result, Ok, Err, ◌==◌, if◌then◌else◌}
 use Rattle.framehop_bytes.specs.Bytes.{◌>>=◌}
 use Rattle.framehop_recording.specs.Fields.{HEADER_MAGIC, HEADER_SIZE, HEADER_ATTR_SIZE, HEADER_ATTRS, HEADER_DATA, HEADER_EVENT_TYPES, HEADER_ADDS_FEATURES}

@@ -48,6 +48,7 @@ mapping_fields r name_at build_id = do
   fields ← block_at r.body 0 name_at (ShortRecord r.offset)
   Ok (record { pid = pid.0; start = start.0; size = size.0; offset = offset.0; is_executable = not (has_bit r.misc PERF_RECORD_MISC_MMAP_DATA); build_id = build_id; name = before_nul (drop name_at r.body) })
 
+-- the mapping of a record of either kind
 unfoldable pub mapping_at : RecordView → Result MappingView RecordingError
 mapping_at r = if r.kind == PERF_RECORD_MMAP then mapping_fields r MMAP_FILENAME [] else if r.kind == PERF_RECORD_MMAP2 then (do
   build_id ← build_id_at r

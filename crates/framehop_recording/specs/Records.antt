@@ -49,6 +49,7 @@ pub record Run : Type 0 where
   pub records : List RecordView
   pub refusal : Option RecordingError
 
+-- a record that was read, and those after it
 abbrev pub run_after : Result (RecordView × ℕ) RecordingError → (ℕ → Run) → Run
 run_after (Err error) next = record { records = []; refusal = Some error }
 run_after (Ok read) next = let rest = next read.1 in record { records = read.0 ∷ rest.records; refusal = rest.refusal }

@@ -27,6 +27,7 @@ pub record SampleView : Type 0 where
   pub time : Option ℕ
   pub user : Result UserView RecordingError
 
+-- the user's side of a sample, or why it is refused
 abbrev pub read_user_view : Result UserStack RecordingError → Result UserView RecordingError
 read_user_view (Ok user) = Ok (user_view user)
 read_user_view (Err error) = Err error

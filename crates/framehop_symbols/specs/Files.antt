@@ -31,6 +31,7 @@ abbrev pub loaded_of : ModuleView → Option ObjectFile → ModuleView
 loaded_of bare (Some object) = object.«module»
 loaded_of bare None = bare
 
+-- the same by whether the mapping has the file's sections
 abbrev pub loaded_with : Bool → Files → Mapping → ModuleView
 loaded_with true files mapping = loaded_of files.bare (object_in files mapping.file)
 loaded_with false files mapping = files.bare
@@ -48,6 +49,7 @@ abbrev pub has_drive : List ℕ → Bool
 has_drive [] = false
 has_drive (drive ∷ rest) = starts_with nat_eq rest (codes ":\\")
 
+-- such a path
 abbrev pub is_windows_path : List ℕ → Bool
 is_windows_path name = has_drive name || starts_with nat_eq name (codes "\\")
 

@@ -1,4 +1,5 @@
 -- What is kept of the files that processes map, ELF files and PE files, by their bytes.
+-- What a PE file is: Microsoft, "PE Format", by the readers of `framehop_pe_file`.
 use Rattle.std.specs.Prelude.{◌≡◌, ◌⊎◌, ℕ, nat_eq, bit_and, ◌==◌, List, [], ◌∷◌, ◌++◌, map, take, drop, codes, Bool, false, not, if◌then◌else◌, Option, Some, None, option_to_list, unwrap_or, Result, Ok, Err}
 use Rattle.std.specs.List.{starts_with}
 use Rattle.std.specs.Cmp.Lexicographic.{pointwise}
@@ -47,6 +48,7 @@ pub record HeadersView : Type 0 where
 abbrev pub headers_view : Headers → HeadersView
 headers_view h = record { segments = h.segments.items; sections = h.sections.items; names = h.names.now }
 
+-- the headers of a file's bytes, or the first refusal
 unfoldable pub headers_of : List ℕ → Result HeadersView ElfError
 headers_of file = do
   header ← file_header_of file
@@ -75,6 +77,7 @@ symbols_of file sections table = do
   functions ← function_symbols_of file sections table
   Ok (functions, names)
 
+-- the functions of a symbol table with their names, if there is one
 abbrev pub symbols_in : List ℕ → List SectionHeader → Option SectionHeader → Option Listed
 symbols_in file sections None = None
 symbols_in file sections (Some table) = result_ok (symbols_of file sections table)
@@ -103,6 +106,7 @@ pub record IsTable (listed : Listed) (symbols : Symbols) : Type 0 where
   pub order : IsStableByKey start_of nat_cmp listed.0 symbols.table
   pub names : symbols.names.items ≡ listed.1
 
+-- the same of all tables
 abbrev pub AreTables : List Listed → List Symbols → Type 0
 AreTables [] [] = Unit {0}
 AreTables [] (s ∷ symbols) = ⊥
@@ -209,6 +213,7 @@ pe_headers_of file = do
   sections ← pe_section_headers_of file header
   Ok (header, sections)
 
+-- a PE file
 abbrev pub pe_contents_by : List ℕ → Result (FileHeader × List PeSectionHeader) PeError → Result Contents FileProblem
 pe_contents_by file (Ok headers) = Ok (pe_contents file headers.0 headers.1)
 pe_contents_by file (Err error) = Err (Pe error)
@@ -222,6 +227,7 @@ pe_contents_of file = pe_contents_by file (pe_headers_of file)
 abbrev pub is_pe : List ℕ → Bool
 is_pe file = starts_with nat_eq file (codes "MZ")
 
+-- what a file has, an ELF file or a PE file
 abbrev pub contents_of : List ℕ → Result Contents FileProblem
 contents_of file = if is_pe file then pe_contents_of file else elf_contents_of file
 

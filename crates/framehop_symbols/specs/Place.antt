@@ -32,10 +32,12 @@ abbrev pub or_else : {A : Type 0} → Option A → Option A → Option A
 or_else (Some first) second = Some first
 or_else None second = second
 
+-- a function with how far the address is in it
 abbrev pub option_named : Symbols → ℕ → Option Symbol → Option (List ℕ × ℕ)
 option_named symbols svma (Some symbol) = Some (named_from symbols svma symbol)
 option_named symbols svma None = None
 
+-- the function by all tables
 abbrev pub function_at : List Symbols → ℕ → Option (List ℕ × ℕ)
 function_at [] svma = None
 function_at (symbols ∷ others) svma =
@@ -50,6 +52,7 @@ abbrev pub starting_by : ℕ → Option Mapping → Option Mapping
 starting_by address (Some mapping) = if nat_le mapping.start address then Some mapping else None
 starting_by address None = None
 
+-- a place by its function, or by its address in the file
 abbrev pub place_named : List ℕ → ℕ → Option (List ℕ × ℕ) → PlaceView
 place_named file svma (Some function) = in_function file function.0 function.1
 place_named file svma None = in_file file svma
@@ -65,6 +68,7 @@ place_in_file (Some file) mapping address =
     place_in_object mapping.has_sections file.name.items file.object (address - mapping.base_avma)
 place_in_file None mapping address = unmapped
 
+-- the place of an address by its mapping
 abbrev pub place_mapped : Files → Option Mapping → ℕ → PlaceView
 place_mapped files (Some mapping) address = place_in_file (slice_get files.list.items mapping.file) mapping address
 place_mapped files None address = unmapped

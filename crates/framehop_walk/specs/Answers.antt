@@ -46,6 +46,7 @@ abbrev pub architecture : {Rule Regs : Type 0} → (Data → Reading Regs) → (
     → Architecture Rule Regs
 architecture registers text unwinding = record { registers = registers; text = text; unwinding = unwinding }
 
+-- the two architectures
 abbrev pub on_aarch64 : Architecture UnwindRuleAarch64 Registers
 on_aarch64 = architecture read_aarch64 aarch64_text aarch64
 
@@ -87,10 +88,12 @@ policy_called name =
     else if bytes_eq name (codes "must") then Some without_allocation
     else None
 
+-- the policy that the input names
 unfoldable pub read_policy : Data → Reading Policy
 read_policy fields =
     and_then (field_as as_str (codes "policy") fields) (λ name. required (codes "policy") (policy_called name))
 
+-- the answer under that policy
 unfoldable pub AnswersOn : {Rule Regs : Type 0} → Architecture Rule Regs → Data → Reading (List ℕ) → Type 0
 AnswersOn on fields answer = Follows (read_policy fields) (λ policy. AnswersUnder on policy fields) answer
 
@@ -105,6 +108,7 @@ unfoldable pub read_arch : Data → Reading Arch
 read_arch fields =
     and_then (field_as as_str (codes "arch") fields) (λ name. required (codes "arch") (arch_called name))
 
+-- the answer under an architecture
 abbrev pub AnswersFor : Arch → Data → Reading (List ℕ) → Type 0
 AnswersFor Aarch64 fields answer = AnswersOn on_aarch64 fields answer
 AnswersFor X86_64 fields answer = AnswersOn on_x86_64 fields answer

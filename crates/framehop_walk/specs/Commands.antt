@@ -69,6 +69,7 @@ abbrev pub location : Bool → ℕ → Option FrameLocation
 location false at = Some (at_instruction_pointer at)
 location true at = if at == 0 then None else Some (at_return_address at)
 
+-- `kind` and `address`: an instruction pointer or a return address
 unfoldable pub read_location : Data → Reading FrameLocation
 read_location fields =
     and_then (field_as as_str (codes "kind") fields) (λ kind.
@@ -87,6 +88,7 @@ read_memory fields =
     and_then (each read_word [] items) (λ words. Ok (record { base = base; words = words })))))
 
 module _ {Regs : Type 0} (registers : Data → Reading Regs) where
+  -- the commands `step`, `walk`, `clone`, `add`, `remove` and `stats`
   unfoldable pub read_step : Data → Reading (Written Regs)
   read_step fields =
       and_then (unwinder_in fields) (λ unwinder.
@@ -144,6 +146,7 @@ module_of told = record {
   unwind_data = unwind_data_in (λ bytes. bytes) told.table;
 }
 
+-- the module in memory is the one that is read
 abbrev pub IsModule : Reading LoadedModule → ModuleView → Type 0
 IsModule reading loaded = (told : LoadedModule) × (reading ≡ Ok told) × (loaded ≡ module_of told)
 

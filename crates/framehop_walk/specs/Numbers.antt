@@ -9,6 +9,7 @@ is_bad n = is_none (as_u64 n) && is_none (as_i64 n)
 
 -- such a number is in the value, at any depth
 abbrev mutual
+  -- a number that isn't whole or does not fit 64 bits stands in a value, at any depth
   pub has_bad_number : Data → Bool
   has_bad_number null = false
   has_bad_number (boolean b) = false

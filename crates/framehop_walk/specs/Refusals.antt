@@ -11,6 +11,7 @@ use Rattle.framehop.specs.declared.session.SessionError.TheVariants as session
 unfoldable pub bad_field : List ℕ → List ℕ
 bad_field name = codes "input refused: bad field " ++ name
 
+-- the text of each refusal
 abbrev pub refusal_text : Refusal → List ℕ
 refusal_text Usage = codes "usage: framehop-walk [FILE]"
 refusal_text CannotReadInput = codes "cannot read input"

@@ -26,6 +26,7 @@ abbrev pub written : Reg → RegistersX86_64 → Option ℕ → RegistersX86_64
 written reg before None = before
 written reg before (Some value) = with_register before reg value
 
+-- a register that may be left out, as it is read into the registers
 unfoldable pub read_register : List ℕ → Reg → Data → RegistersX86_64 → Reading RegistersX86_64
 read_register name reg regs before =
     and_then (optional_field_as address name regs) (λ value. Ok (written reg before value))

@@ -77,6 +77,7 @@ numbered_registers_text regs =
     ++ register_text (codes "r13") regs.r13
     ++ register_text (codes "r14") regs.r14 ++ register_text (codes "r15") regs.r15
 
+-- the registers of x86_64, and the line of registers
 unfoldable pub x86_64_text : RegistersX86_64 → List ℕ
 x86_64_text regs = named_registers_text regs ++ numbered_registers_text regs
 

@@ -19,6 +19,7 @@ pub record Places : Type 0 where
   pub fp : Option ℤ
   pub lr : Option ℤ
 
+-- the places at the pc: nothing has been restored
 abbrev pub at_pc : Places
 at_pc = record { sp = pos 0; fp = None; lr = None }
 

@@ -43,6 +43,7 @@ pair_offset word =
 abbrev pub is_pair_by_sp : ℕ → Bool
 is_pair_by_sp word = not (addressing word == 0) && (base_register word == 31)
 
+-- STP and LDP of two registers by sp
 abbrev pub is_store : ℕ → Bool
 is_store word = (bit_and (word / 2 ^ 22) 0x2F9 == 0x2A0) && is_pair_by_sp word
 
@@ -67,6 +68,7 @@ destination word = word % 2 ^ 5
 abbrev pub immediate : ℕ → ℕ
 immediate word = if bits_at word 22 1 == 1 then bits_at word 10 12 * 4096 else bits_at word 10 12
 
+-- SUB and ADD (immediate) of sp, to sp
 abbrev pub is_sub_sp : ℕ → Bool
 is_sub_sp word = (operation word == 0x1A2) && (base_register word == 31) && (destination word == 31)
 
@@ -87,6 +89,7 @@ is_pacibsp word = word == 0xD503237F
 abbrev pub is_autibsp : ℕ → Bool
 is_autibsp word = word == 0xD50323FF
 
+-- an instruction that signs lr or authenticates it
 abbrev pub is_signing : ℕ → Bool
 is_signing word = is_pacibsp word || is_autibsp word
 

@@ -76,9 +76,11 @@ moving effect word bytes = moving_base effect (rn word) bytes (numbered (rn word
 abbrev pub imm12 : ℕ → ℤ
 imm12 word = pos (bits_at word 10 12) *ℤ (if bits_at word 22 1 == 1 then pos 4096 else pos 1)
 
+-- that number with its sign
 abbrev pub signed_imm12 : ℕ → ℤ
 signed_imm12 word = if bits_at word 30 1 == 1 then pos 0 -ℤ imm12 word else imm12 word
 
+-- a register by another one and an offset; by one of the others it is not known
 abbrev pub sum_with : ℤ → Option Base → Change
 sum_with offset (Some base) = Sum base offset
 sum_with offset None = Unknown
@@ -92,14 +94,17 @@ scale_of VectorPairIndexed opc = if opc == 0 then pos 4 else (if opc == 1 then p
 scale_of LoadPairIndexed opc = if opc == 0 then pos 4 else (if opc == 1 then pos 4 else pos 8)
 scale_of _ opc = if opc == 0 then pos 4 else (if opc == 1 then pos 16 else pos 8)
 
+-- the offset of a pair
 abbrev pub pair_offset : ℕ → Class → ℤ
 pair_offset word class = signed (bits_at word 15 7) 0x40 *ℤ scale_of class (bits_at word 30 2)
 
+-- the base register of a pair moved by it
 abbrev pub moving_by_pair : Effect → ℕ → Class → Effect
 moving_by_pair effect word class = moving effect word (Some (pair_offset word class))
 
 -- ---- where an instruction leads
 
+-- nothing is written, and the next instruction is another
 abbrev pub leading : Flow → Effect
 leading to = record (plain 4) { flow = to }
 
@@ -125,9 +130,11 @@ exclusive word =
 abbrev pub compare_pair : ℕ → Effect
 compare_pair word = if bits_at word 17 4 == 14 then writing (plain 4) 29 else plain 4
 
+-- the instructions that copy and set memory write three registers
 abbrev pub memory_copy : ℕ → Effect
 memory_copy word = writing (writing (writing (plain 4) (rd word)) (rn word)) (rs word)
 
+-- forms that write the base register back
 abbrev pub written_back : ℕ → Class → Effect
 written_back word Indexed = moving (plain 4) word (Some (imm9 word))
 written_back word LoadIndexed = moving (writing (plain 4) (rd word)) word (Some (imm9 word))
@@ -138,6 +145,7 @@ written_back word LoadPairIndexed = moving_by_pair (writing_pair (plain 4) word)
 written_back word WriteRtAndBack = moving (writing (plain 4) (rd word)) word None
 written_back word _ = moving (plain 4) word None
 
+-- the effect of each class
 abbrev pub effect_of_class : ℕ → Class → Effect
 effect_of_class word Keep = plain 4
 effect_of_class word Padding = leading flow.Padding

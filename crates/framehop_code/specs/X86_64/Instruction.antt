@@ -106,6 +106,7 @@ vector_prefixes prefixes high low =
 abbrev pub vvvv_of : ℕ → ℕ
 vvvv_of low = 15 - low / 8 % 16
 
+-- the opcode after a prefix VEX, EVEX or XOP
 unfoldable pub vector_opcode_at : Prefixes → ℕ → ℕ → List ℕ → ℕ → Parsed Opcode
 vector_opcode_at prefixes map vvvv bytes at = u8_at bytes at >>= opcode_in prefixes vvvv (vector map)
 
@@ -166,13 +167,15 @@ opcode_at prefixes bytes at = do
 
 -- ---- operands
 
--- a signed number of so many bytes; of others its value does not matter
+-- so many bytes, whose value does not matter
 abbrev pub skipped : List ℕ → ℕ → ℕ → Parsed ℤ
 skipped bytes at size = if nat_le (at + size) (length bytes) then Ok (pos 0, at + size) else Err Eof
 
+-- a number that was read, taken with its sign
 abbrev pub signed_as : (ℕ → ℤ) → Parsed ℕ → Parsed ℤ
 signed_as f read = read >>= λ number. Ok (f number.0, number.1)
 
+-- a signed number of one, two or four bytes; of others the value does not matter
 unfoldable pub signed_at : List ℕ → ℕ → ℕ → Parsed ℤ
 signed_at bytes at size =
     if size == 1 then signed_as (cast_signed w8) (u8_at bytes at)
@@ -184,6 +187,7 @@ signed_at bytes at size =
 abbrev pub has_sib : ℕ → Bool
 has_sib modrm = not (modrm / 64 == 3) && (modrm % 8 == 4)
 
+-- that byte, if there is one
 unfoldable pub sib_at : ℕ → List ℕ → ℕ → Parsed ℕ
 sib_at modrm bytes at = if has_sib modrm then u8_at bytes at else Ok (0, at)
 
@@ -202,6 +206,7 @@ memory_at bytes at = do
   displacement ← signed_at bytes sib.1 (displacement_size modrm.0 sib.0)
   Ok (record { modrm = modrm.0; sib = sib.0; displacement = displacement.0 }, displacement.1)
 
+-- what follows the opcode: nothing, or a ModRM byte and what it asks for
 abbrev pub address_at : Operands → List ℕ → ℕ → Parsed Address
 address_at Bare bytes at = Ok (record { modrm = 0; sib = 0; displacement = pos 0 }, at)
 address_at ModRm bytes at = memory_at bytes at
@@ -216,6 +221,7 @@ long_size prefixes = if prefixes.operand_size && not prefixes.rex.w then 2 else 
 abbrev pub is_test : ℕ → Bool
 is_test modrm = nat_lt (modrm / 8 % 8) 2
 
+-- how many bytes an immediate operand has, by the prefixes and, in group 3, by reg
 abbrev pub immediate_size : Immediate → Prefixes → ℕ → ℕ
 immediate_size immediate.Byte prefixes modrm = 1
 immediate_size immediate.Word prefixes modrm = 2
@@ -227,6 +233,7 @@ immediate_size immediate.Address prefixes modrm = if prefixes.address_size then 
 immediate_size immediate.ByteOfTest prefixes modrm = if is_test modrm then 1 else 0
 immediate_size immediate.LongOfTest prefixes modrm = if is_test modrm then long_size prefixes else 0
 
+-- the immediate operand at an offset
 abbrev pub immediate_of : Operands → Prefixes → ℕ → List ℕ → ℕ → Parsed ℤ
 immediate_of Bare prefixes modrm bytes at = Ok (pos 0, at)
 immediate_of ModRm prefixes modrm bytes at = Ok (pos 0, at)

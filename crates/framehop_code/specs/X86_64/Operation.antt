@@ -28,6 +28,7 @@ base_of number false = if number % 8 == 4 then Some Sp else (if number % 8 == 5 
 abbrev pub reg_of : Address → ℕ
 reg_of address = address.modrm / 8 % 8
 
+-- the register that reg names, with REX.R
 abbrev pub reg_register : Parts → Option Base
 reg_register parts = base_of (reg_of parts.address) parts.opcode.prefixes.rex.r
 
@@ -35,6 +36,7 @@ reg_register parts = base_of (reg_of parts.address) parts.opcode.prefixes.rex.r
 abbrev pub is_register : Parts → Bool
 is_register parts = parts.address.modrm / 64 == 3
 
+-- the register that r/m names, with REX.B, that of the opcode's low bits, and that of vvvv
 abbrev pub rm_register : Parts → Option Base
 rm_register parts = if is_register parts then base_of parts.address.modrm parts.opcode.prefixes.rex.b else None
 
@@ -50,6 +52,7 @@ vvvv_register opcode = base_of opcode.vvvv (nat_le 8 opcode.vvvv)
 abbrev pub has_sib : Parts → Bool
 has_sib parts = parts.address.modrm % 8 == 4
 
+-- the number of the base, and whether there is an index
 abbrev pub base_number : Parts → ℕ
 base_number parts = if has_sib parts then parts.address.sib % 8 else parts.address.modrm % 8
 
@@ -60,6 +63,7 @@ is_indexed parts = has_sib parts && (not (parts.address.sib / 8 % 8 == 4) || par
 abbrev pub has_no_base : Parts → Bool
 has_no_base parts = (base_number parts == 5) && (parts.address.modrm / 64 == 0)
 
+-- an address by a base and a displacement; by another register it is not known
 abbrev pub sum_with : ℤ → Option Base → Change
 sum_with offset (Some base) = Sum base offset
 sum_with offset None = Unknown
@@ -82,6 +86,7 @@ overwriting parts OpcodeRegister effect = with_register effect (opcode_register 
 overwriting parts Vvvv effect = with_register effect (vvvv_register parts.opcode) Unknown
 overwriting parts RegAndVvvv effect = with_register (with_register effect (vvvv_register parts.opcode) Unknown) (reg_register parts) Unknown
 
+-- an operand overwritten, always or under a condition
 abbrev pub written : Parts → Operand → Effect
 written parts operand = overwriting parts operand (plain parts.size)
 
@@ -97,6 +102,7 @@ abbrev pub moving_stack : Parts → ℤ → Effect
 moving_stack parts bytes =
     record (plain parts.size) { sp = if parts.opcode.prefixes.operand_size then Unknown else Sum Sp bytes }
 
+-- nothing is written, and the next instruction is another
 abbrev pub leading : Parts → Flow → Effect
 leading parts to = record (plain parts.size) { flow = to }
 
@@ -125,6 +131,7 @@ copied parts (Some base) to destination =
     else written parts to
 copied parts None to destination = written parts to
 
+-- LEA: the address of a memory operand to a register
 abbrev pub loaded_address : Parts → Effect
 loaded_address parts =
     if parts.opcode.prefixes.rex.w then with_register (plain parts.size) (reg_register parts) (address_of parts)
@@ -151,6 +158,7 @@ framed parts leaves =
 abbrev pub exchanged_or_nop : Parts → Effect
 exchanged_or_nop parts = if parts.opcode.prefixes.rex.b then plain parts.size else leading parts flow.Padding
 
+-- a jump, with a condition or without
 abbrev pub jumping : Parts → Bool → Effect
 jumping parts true = leading parts (flow.Branch parts.immediate)
 jumping parts false = leading parts (flow.Jump parts.immediate)
@@ -169,6 +177,7 @@ grouped_as Group15 parts = written_if parts Rm (parts.opcode.prefixes.repeated &
 grouped_as ReadShadowStack parts = written_if parts Rm (parts.opcode.prefixes.repeated && (reg_of parts.address == 1))
 grouped_as _ parts = plain parts.size
 
+-- the same by the operation of the opcode
 abbrev pub grouped : Parts → Effect
 grouped parts = grouped_as parts.opcode.operation parts
 

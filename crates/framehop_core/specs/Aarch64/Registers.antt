@@ -1,4 +1,5 @@
 -- The registers that unwinding on aarch64 needs, and the stripping of pointer authentication bits.
+-- (framehop 0.16.0, `UnwindRegsAarch64` and `PtrAuthMask`.)
 use Rattle.std.specs.Prelude.{◌≡◌, ℕ, ◌-◌, ◌^◌, ◌<◌, ◌≤◌, bit_and}
 
 -- lr (x30), sp (x31) and fp (x29), with the mask of the bits of lr that are an address

@@ -1,4 +1,5 @@
 -- The registers that unwinding on x86_64 can restore: the instruction pointer and the sixteen general registers.
+-- (framehop 0.16.0, `UnwindRegsX86_64`.)
 use Rattle.std.specs.Prelude.{◌≡◌, ℕ, ◌+◌, List, [], ◌∷◌, length, drop, slice_index}
 use Rattle.std.proofs.Common.{zero, suc, sym, ap, ◌∙◌, arith, drop-cons}
 use Rattle.std.proofs.lemmas.List.{drop_all}

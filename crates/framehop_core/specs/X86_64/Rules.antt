@@ -1,4 +1,5 @@
 -- What the unwind rules of x86_64 do, as a table (framehop 0.16.0, documentation of `UnwindRuleX86_64`).
+-- `frame_pointer_line_with`, of an eighth rule, is this project's.
 use Rattle.std.specs.Prelude.{◌≡◌, ℕ, ◌*◌, ◌≤◌, ℤ, pos, negsuc, ◌-ℤ◌, Bool, true, false, ◌&&◌, ◌==◌, if◌then◌else◌, nat_le, List, [], ◌∷◌, Option, Some, None, option_map, OnSome, IfOk, unwrap_or, Result, Ok, Err}
 use Rattle.framehop_core.specs.Memory.{Memory}
 use Rattle.framehop_core.specs.Outcome.{Outcome, answered, root, refused, after, and_then, address_at, word_at, word_from, above, beside}
