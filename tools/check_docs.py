@@ -17,8 +17,8 @@ check_docs.py [--run [PROGRAM..]].
   libraries below `framehop`.
 - Each command of PROGRAMS.md is in the file of examples/ that has its name.
 
-With `--run` it checks instead what README.md, docs/PROGRAMS.md and docs/EXAMPLES.md print, by the programs that the gate leaves,
-or those that are named: the output of each command after a `$`, and the lines after a command in JSON.
+With `--run` it checks instead what README.md, docs/CHECK.md, docs/PROGRAMS.md and docs/EXAMPLES.md print, by the programs that
+the gate leaves, or those that are named: the output of each command after a `$`, and the lines after a command in JSON.
 """
 
 import filecmp

@@ -1,5 +1,5 @@
 //! The examples of the README, as they are printed there, and a walk on aarch64.
-use crate::unwinders::{holds, read_stack};
+use crate::unwinders::{Aarch64, binary, holds, read_stack, sections_of_binary};
 use framehop::aarch64::{CacheAarch64, UnwindRegsAarch64, UnwinderAarch64};
 use framehop::x86_64::{CacheX86_64, UnwindRegsX86_64, UnwinderX86_64};
 use framehop::{
@@ -25,14 +25,22 @@ fn print_frames(
     Ok(())
 }
 
-/// Whether the frames of the stack are printed.
+/// Whether the sections of a file equal their clone.
+fn equals_its_clone(sections: &ExplicitModuleSectionInfo<Vec<u8>>) -> bool {
+    match sections.clone() {
+        Ok(copy) => copy == *sections,
+        Err(_) => false,
+    }
+}
+
+/// Whether the frames of the stack are printed, through a module whose sections equal their clone.
 fn prints_frames(alloc: Global) -> Result<bool, Fail> {
-    let mut generations = Generations::new();
-    let mut cache = CacheAarch64::new(alloc)?;
-    let unwinder = UnwinderAarch64::new(alloc, &mut generations)?;
+    let binary = binary(alloc)?;
+    let mut made = Aarch64::new(alloc, 0)?;
+    let is_added = equals_its_clone(&sections_of_binary(alloc)) && made.adds(binary);
     let mut out = String::new(alloc);
-    print_frames(&unwinder, &mut cache, &mut out)?;
-    Ok(out.as_str() == "1005252c0 1004fcdc4 100528a28 ")
+    print_frames(&made.unwinder, &mut made.cache, &mut out)?;
+    Ok(is_added && out.as_str() == "1005252c0 1004fcdc4 100528a28 ")
 }
 
 #[test]
@@ -166,15 +174,7 @@ fn finds_the_frames_of_a_stack(rt: HostRuntime) -> Result<(), Fail> {
     holds(has_frames(alloc, &FRAMES[..7], 3, false)?)
 }
 
-/// Whether the sections of the file equal their clone.
-fn equals_its_clone(sections: &ExplicitModuleSectionInfo<Vec<u8>>) -> bool {
-    match sections.clone() {
-        Ok(copy) => copy == *sections,
-        Err(_) => false,
-    }
-}
-
-/// The same of the file with that `.eh_frame`.
+/// Whether those of the file with that `.eh_frame` equal their clone.
 fn clones_the_sections(alloc: Global) -> Result<bool, Fail> {
     let sections = sections_of_file(section_bytes(alloc, EH_FRAME)?);
     Ok(equals_its_clone(&sections))

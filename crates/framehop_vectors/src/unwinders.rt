@@ -2,7 +2,9 @@
 use crate::sections::NoSections;
 use framehop::aarch64::{CacheAarch64, UnwinderAarch64};
 use framehop::x86_64::{CacheX86_64, UnwinderX86_64};
-use framehop::{AllocationPolicy, Generations, Module, ModuleListError, Unwinder};
+use framehop::{
+    AllocationPolicy, ExplicitModuleSectionInfo, Generations, Module, ModuleListError, Unwinder,
+};
 use std::alloc::Global;
 use std::test::Fail;
 
@@ -43,6 +45,31 @@ pub(crate) fn module(
         base_svma: 0x100000000,
     };
     Ok(Module::new(alloc, name, start..end, start, sections)?)
+}
+
+/// Where the sections of a Mach-O file are. Those that are given have no bytes.
+pub(crate) fn sections_of_binary(alloc: Global) -> ExplicitModuleSectionInfo<Vec<u8>> {
+    ExplicitModuleSectionInfo {
+        base_svma: 0x100000000,
+        text_svma: Some(0x100000b64..0x1001d2d18),
+        text: Some(Vec::new(alloc)),
+        stubs_svma: Some(0x1001d2d18..0x1001d309c),
+        stub_helper_svma: Some(0x1001d309c..0x1001d3438),
+        got_svma: Some(0x100238000..0x100238010),
+        unwind_info: Some(Vec::new(alloc)),
+        eh_frame_svma: Some(0x100237f80..0x100237ffc),
+        eh_frame: Some(Vec::new(alloc)),
+        text_segment_svma: Some(0x1003fc000..0x100634000),
+        text_segment: Some(Vec::new(alloc)),
+        ..ExplicitModuleSectionInfo::default()
+    }
+}
+
+/// The module of that file. Its `__unwind_info` is empty, so each frame is left by the frame pointer.
+pub(crate) fn binary(alloc: Global) -> Result<Module<Vec<u8>>, Fail> {
+    let name = String::from_str(alloc, "mybinary")?;
+    let sections = sections_of_binary(alloc);
+    Ok(Module::new(alloc, name, 0x1003fc000..0x100634000, 0x1003fc000, sections)?)
 }
 
 /// Refuses what does not hold.

@@ -1,5 +1,5 @@
 //! Walks to the end of a stack, without a limit.
-use crate::unwinders::{Aarch64, holds, module, read_stack};
+use crate::unwinders::{Aarch64, binary, holds, read_stack};
 use framehop::FrameAddress;
 use framehop::aarch64::UnwindRegsAarch64;
 use framehop::session::{Reply, WalkEnd, walk_to_end_aarch64};
@@ -23,9 +23,9 @@ fn is_of_the_stack(reply: &Reply<UnwindRegsAarch64>) -> bool {
     }
 }
 
-/// Whether a walk without a limit has them, through a module without unwind data.
+/// Whether a walk without a limit has them, through a module whose sections have no bytes.
 fn has_the_frames(alloc: Global) -> Result<bool, Fail> {
-    let binary = module(alloc, "mybinary", 0x1003fc000, 0x100634000)?;
+    let binary = binary(alloc)?;
     let mut made = Aarch64::new(alloc, 0)?;
     let is_added = made.adds(binary);
     let regs = UnwindRegsAarch64::new(0x1004e0830, 0x10, 0x20);
