@@ -6,6 +6,7 @@ use Rattle.framehop_cfi.specs.Leb128.{uleb_at, sleb_at}
 use Rattle.framehop_cfi.specs.Raw.{raw_at, format_of}
 use Rattle.framehop_cfi.specs.Augmentation.{terminator_at, counted_at, augmentation_at}
 use Rattle.framehop_cfi.specs.Pointer.{pointer_at}
+use Rattle.framehop_cfi.specs.PointerEncoding.{DW_EH_PE_indirect}
 use Rattle.framehop_cfi.specs.EntryExtent.{extent_at, is_zero_length}
 use Rattle.framehop_cfi.specs.Section.{Section}
 use Rattle.framehop_cfi.specs.declared.extent.EntryExtent.{EntryExtent}
@@ -134,7 +135,7 @@ fde_range bases cie bytes at end = do
 abbrev pub fde_fields : SectionBaseAddresses → CommonInformationEntry → List ℕ → ℕ → ℕ
     → Result FrameDescriptionEntry ReadError
 fde_fields bases cie bytes at end =
-    if nat_le 128 cie.fde_pointer_encoding then Err BadEncoding else fde_range bases cie bytes at end
+    if nat_le DW_EH_PE_indirect cie.fde_pointer_encoding then Err BadEncoding else fde_range bases cie bytes at end
 
 -- the FDE at an offset, with the CIE at the offset that it names
 abbrev pub fde_of_head : Section → EntryHead → Result FrameDescriptionEntry ReadError

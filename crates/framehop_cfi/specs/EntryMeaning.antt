@@ -4,6 +4,7 @@ use Rattle.framehop_cfi.specs.Numbers.{u8_at}
 use Rattle.framehop_cfi.specs.Leb128.{uleb_at, sleb_at}
 use Rattle.framehop_cfi.specs.Raw.{raw_at, format_of}
 use Rattle.framehop_cfi.specs.Pointer.{pointer_at}
+use Rattle.framehop_cfi.specs.PointerEncoding.{DW_EH_PE_indirect}
 use Rattle.framehop_cfi.specs.Augmentation.{terminator_at}
 use Rattle.framehop_cfi.specs.AugmentationMeaning.{HasAugmentation}
 use Rattle.framehop_cfi.specs.EntryExtent.{extent_at, is_zero_length}
@@ -63,7 +64,7 @@ pub record IsFde (section : Section) (at : ℕ) (fde : FrameDescriptionEntry) : 
   pub augmentation_data : ℕ
   pub begins : Begins section.kind section.bytes at span (Fde cie_offset fields span.end)
   pub its_cie : IsCie section cie_offset fde.cie
-  pub direct : nat_le 128 fde.cie.fde_pointer_encoding ≡ false
+  pub direct : nat_le DW_EH_PE_indirect fde.cie.fde_pointer_encoding ≡ false
   pub is_start : pointer_at section.bases fde.cie.fde_pointer_encoding (take span.end section.bytes) fields ≡ Ok
       (fde.initial_address, range)
   pub is_range : raw_at (format_of fde.cie.fde_pointer_encoding) (take span.end section.bytes) range ≡ Ok

@@ -5,7 +5,11 @@ ghost use Rattle.framehop_cfi.specs.Header.{size_of_format, table_size, encoded_
 ghost use Rattle.framehop_cfi.specs.Pointer.{pointer_at};
 
 use crate::numbers::read_u8;
-use crate::pointer::{SectionBaseAddresses, read_raw_pointer};
+use crate::pointer::{
+    DW_EH_PE_FUNCREL, DW_EH_PE_INDIRECT, DW_EH_PE_PCREL, DW_EH_PE_SDATA2, DW_EH_PE_SDATA4,
+    DW_EH_PE_SDATA8, DW_EH_PE_UDATA2, DW_EH_PE_UDATA4, DW_EH_PE_UDATA8, SectionBaseAddresses,
+    read_raw_pointer,
+};
 use crate::read_error::ReadError;
 use framehop_bytes::place::{Starts, place};
 use std::marker::Model;
@@ -60,13 +64,13 @@ fn size_of_format(encoding: u8) -> Result<usize, ReadError>
     ensures exact { result ≡ table_size encoding }
     ensures small { IfOk result (λ size. (0 < size) × (size ≤ 8)) }
 {
-    if encoding >= 0x40 {
+    if encoding >= DW_EH_PE_FUNCREL {
         return Err(ReadError::BadEncoding);
     }
     match encoding % 16 {
-        0x2 | 0xa => Ok(2),
-        0x3 | 0xb => Ok(4),
-        0x4 | 0xc => Ok(8),
+        DW_EH_PE_UDATA2 | DW_EH_PE_SDATA2 => Ok(2),
+        DW_EH_PE_UDATA4 | DW_EH_PE_SDATA4 => Ok(4),
+        DW_EH_PE_UDATA8 | DW_EH_PE_SDATA8 => Ok(8),
         _ => Err(ReadError::BadEncoding),
     }
 }
@@ -135,7 +139,7 @@ impl TableLayout {
         let (pointer_encoding, next) = read_u8(bytes, at)?;
         let (count_encoding, next) = read_u8(bytes, next)?;
         let (table_encoding, next) = read_u8(bytes, next)?;
-        if pointer_encoding >= 0x80 || count_encoding >= 0x10 {
+        if pointer_encoding >= DW_EH_PE_INDIRECT || count_encoding >= DW_EH_PE_PCREL {
             return Err(ReadError::BadEncoding);
         }
         TableLayout::parse_table(

@@ -7,6 +7,7 @@ ghost use Rattle.framehop_cfi.specs.Instruction.{instruction_at, operands_at, co
 
 use crate::augmentation::read_counted;
 use crate::entry::CommonInformationEntry;
+use crate::instruction_code::*;
 use crate::leb128::{read_short_uleb128, read_sleb128, read_uleb128};
 use crate::numbers::{read_u8, read_u16, read_u32};
 use crate::pointer::SectionBaseAddresses;
@@ -166,42 +167,33 @@ fn read_rule(
     ensures memory { result ≢ Err ReadError.OutOfMemory }
 {
     match code {
-        // DW_CFA_offset_extended
-        0x05 => {
+        DW_CFA_OFFSET_EXTENDED => {
             let (offset, next) = read_factored(alignment, bytes, at)?;
             Ok((RegisterRule::Offset(offset), next))
         }
-        // DW_CFA_undefined
-        0x07 => Ok((RegisterRule::Undefined, at)),
-        // DW_CFA_same_value
-        0x08 => Ok((RegisterRule::SameValue, at)),
-        // DW_CFA_register
-        0x09 => {
+        DW_CFA_UNDEFINED => Ok((RegisterRule::Undefined, at)),
+        DW_CFA_SAME_VALUE => Ok((RegisterRule::SameValue, at)),
+        DW_CFA_REGISTER => {
             let (register, next) = read_register(bytes, at)?;
             Ok((RegisterRule::Register(register), next))
         }
-        // DW_CFA_expression
-        0x10 => {
+        DW_CFA_EXPRESSION => {
             let (expression, next) = read_expression(bytes, at)?;
             Ok((RegisterRule::Expression(expression), next))
         }
-        // DW_CFA_offset_extended_sf
-        0x11 => {
+        DW_CFA_OFFSET_EXTENDED_SF => {
             let (offset, next) = read_factored_signed(alignment, bytes, at)?;
             Ok((RegisterRule::Offset(offset), next))
         }
-        // DW_CFA_val_offset
-        0x14 => {
+        DW_CFA_VAL_OFFSET => {
             let (offset, next) = read_factored(alignment, bytes, at)?;
             Ok((RegisterRule::ValOffset(offset), next))
         }
-        // DW_CFA_val_offset_sf
-        0x15 => {
+        DW_CFA_VAL_OFFSET_SF => {
             let (offset, next) = read_factored_signed(alignment, bytes, at)?;
             Ok((RegisterRule::ValOffset(offset), next))
         }
-        // DW_CFA_val_expression
-        0x16 => {
+        DW_CFA_VAL_EXPRESSION => {
             let (expression, next) = read_expression(bytes, at)?;
             Ok((RegisterRule::ValExpression(expression), next))
         }
@@ -268,28 +260,22 @@ fn read_cfa(
     ensures memory { result ≢ Err ReadError.OutOfMemory }
 {
     match code {
-        // DW_CFA_def_cfa
-        0x0c => read_def_cfa(bytes, at),
-        // DW_CFA_def_cfa_register
-        0x0d => {
+        DW_CFA_DEF_CFA => read_def_cfa(bytes, at),
+        DW_CFA_DEF_CFA_REGISTER => {
             let (register, next) = read_register(bytes, at)?;
             Ok((CallFrameInstruction::DefCfaRegister { register }, next))
         }
-        // DW_CFA_def_cfa_offset
-        0x0e => {
+        DW_CFA_DEF_CFA_OFFSET => {
             let (offset, next) = read_offset(bytes, at)?;
             Ok((CallFrameInstruction::DefCfaOffset { offset }, next))
         }
-        // DW_CFA_def_cfa_expression
-        0x0f => {
+        DW_CFA_DEF_CFA_EXPRESSION => {
             let (expression, next) = read_expression(bytes, at)?;
             let rule = CfaRule::Expression(expression);
             Ok((CallFrameInstruction::DefCfa(rule), next))
         }
-        // DW_CFA_def_cfa_sf
-        0x12 => read_def_cfa_factored(alignment, bytes, at),
-        // DW_CFA_def_cfa_offset_sf
-        0x13 => {
+        DW_CFA_DEF_CFA_SF => read_def_cfa_factored(alignment, bytes, at),
+        DW_CFA_DEF_CFA_OFFSET_SF => {
             let (offset, next) = read_factored_signed(alignment, bytes, at)?;
             Ok((CallFrameInstruction::DefCfaOffset { offset }, next))
         }
@@ -315,25 +301,21 @@ impl CommonInformationEntry {
         }
         let code = bytes[at];
         let next = at + 1;
-        // DW_CFA_advance_loc
-        if 0x40 <= code && code < 0x80 {
-            let delta = u32::from(code - 0x40);
+        if DW_CFA_ADVANCE_LOC <= code && code < DW_CFA_OFFSET {
+            let delta = u32::from(code - DW_CFA_ADVANCE_LOC);
             return Some((CallFrameInstruction::AdvanceLoc { delta }, next));
         }
-        // DW_CFA_nop
-        if code == 0x00 {
+        if code == DW_CFA_NOP {
             return Some((CallFrameInstruction::Nop, next));
         }
-        // DW_CFA_def_cfa_offset
-        if code == 0x0e {
+        if code == DW_CFA_DEF_CFA_OFFSET {
             let (offset, next) = read_short_offset(bytes, next)?;
             return Some((CallFrameInstruction::DefCfaOffset { offset }, next));
         }
-        // DW_CFA_offset
-        if 0x80 <= code && code < 0xc0 {
+        if DW_CFA_OFFSET <= code && code < DW_CFA_RESTORE {
             let (offset, next) = read_short_factored(self.data_alignment_factor, bytes, next)?;
             let set_rule = CallFrameInstruction::SetRule {
-                register: Register(u16::from(code - 0x80)),
+                register: Register(u16::from(code - DW_CFA_OFFSET)),
                 rule: RegisterRule::Offset(offset),
             };
             return Some((set_rule, next));
@@ -388,21 +370,18 @@ impl CommonInformationEntry {
         ensures forward { IfOk result (λ read. at ≤ read.1) }
         ensures memory { result ≢ Err ReadError.OutOfMemory }
     {
-        // DW_CFA_restore
-        if code >= 0xc0 {
-            let register = Register(u16::from(code - 0xc0));
+        if code >= DW_CFA_RESTORE {
+            let register = Register(u16::from(code - DW_CFA_RESTORE));
             return Ok((CallFrameInstruction::Restore { register }, at));
         }
-        // DW_CFA_offset
-        if code >= 0x80 {
-            let register = Register(u16::from(code - 0x80));
+        if code >= DW_CFA_OFFSET {
+            let register = Register(u16::from(code - DW_CFA_OFFSET));
             let (offset, next) = read_factored(self.data_alignment_factor, bytes, at)?;
             let rule = RegisterRule::Offset(offset);
             return Ok((CallFrameInstruction::SetRule { register, rule }, next));
         }
-        // DW_CFA_advance_loc
-        if code >= 0x40 {
-            let delta = u32::from(code - 0x40);
+        if code >= DW_CFA_ADVANCE_LOC {
+            let delta = u32::from(code - DW_CFA_ADVANCE_LOC);
             return Ok((CallFrameInstruction::AdvanceLoc { delta }, at));
         }
         self.read_coded(bases, code, bytes, at)
@@ -421,32 +400,29 @@ impl CommonInformationEntry {
         ensures memory { result ≢ Err ReadError.OutOfMemory }
     {
         match code {
-            // DW_CFA_nop
-            0x00 => Ok((CallFrameInstruction::Nop, at)),
-            // DW_CFA_AARCH64_negate_ra_state
-            0x2d => Ok((CallFrameInstruction::NegateRaState, at)),
-            // DW_CFA_set_loc
-            0x01 => {
+            DW_CFA_NOP => Ok((CallFrameInstruction::Nop, at)),
+            DW_CFA_AARCH64_NEGATE_RA_STATE => Ok((CallFrameInstruction::NegateRaState, at)),
+            DW_CFA_SET_LOC => {
                 let (address, next) = bases.read_pointer(bytes, at, self.fde_pointer_encoding)?;
                 Ok((CallFrameInstruction::SetLoc { address }, next))
             }
-            0x02..=0x04 => read_advance(code, bytes, at),
-            // DW_CFA_restore_extended
-            0x06 => {
+            DW_CFA_ADVANCE_LOC1..=DW_CFA_ADVANCE_LOC4 => read_advance(code, bytes, at),
+            DW_CFA_RESTORE_EXTENDED => {
                 let (register, next) = read_register(bytes, at)?;
                 Ok((CallFrameInstruction::Restore { register }, next))
             }
-            // DW_CFA_remember_state
-            0x0a => Ok((CallFrameInstruction::RememberState, at)),
-            // DW_CFA_restore_state
-            0x0b => Ok((CallFrameInstruction::RestoreState, at)),
-            0x0c..=0x0f | 0x12 | 0x13 => read_cfa(self.data_alignment_factor, code, bytes, at),
-            // DW_CFA_GNU_args_size
-            0x2e => {
+            DW_CFA_REMEMBER_STATE => Ok((CallFrameInstruction::RememberState, at)),
+            DW_CFA_RESTORE_STATE => Ok((CallFrameInstruction::RestoreState, at)),
+            DW_CFA_DEF_CFA..=DW_CFA_DEF_CFA_EXPRESSION
+            | DW_CFA_DEF_CFA_SF
+            | DW_CFA_DEF_CFA_OFFSET_SF => { read_cfa(self.data_alignment_factor, code, bytes, at) }
+            DW_CFA_GNU_ARGS_SIZE => {
                 let (size, next) = read_uleb128(bytes, at)?;
                 Ok((CallFrameInstruction::ArgsSize { size }, next))
             }
-            0x05..=0x16 => read_set_rule(self.data_alignment_factor, code, bytes, at),
+            DW_CFA_OFFSET_EXTENDED..=DW_CFA_VAL_EXPRESSION => {
+                read_set_rule(self.data_alignment_factor, code, bytes, at)
+            }
             _ => Err(ReadError::UnknownInstruction),
         }
     }
@@ -463,19 +439,16 @@ fn read_advance(
     ensures memory { result ≢ Err ReadError.OutOfMemory }
 {
     match code {
-        // DW_CFA_advance_loc1
-        0x02 => {
+        DW_CFA_ADVANCE_LOC1 => {
             let (delta, next) = read_u8(bytes, at)?;
             let delta = u32::from(delta);
             Ok((CallFrameInstruction::AdvanceLoc { delta }, next))
         }
-        // DW_CFA_advance_loc2
-        0x03 => {
+        DW_CFA_ADVANCE_LOC2 => {
             let (delta, next) = read_u16(bytes, at)?;
             let delta = u32::from(delta);
             Ok((CallFrameInstruction::AdvanceLoc { delta }, next))
         }
-        // DW_CFA_advance_loc4
         _ => {
             let (delta, next) = read_u32(bytes, at)?;
             Ok((CallFrameInstruction::AdvanceLoc { delta }, next))

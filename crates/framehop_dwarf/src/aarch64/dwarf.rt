@@ -13,6 +13,7 @@ use crate::dwarf::{
     DwarfUnwinderError, DwarfUnwinding, eval_cfa_rule, eval_register_rule, units_of, words_of_sum,
 };
 use crate::evaluation::{DwarfUnwindRegs, EvaluationStorage};
+use framehop_cfi::aarch64::{SP, X29, X30};
 use framehop_cfi::read_error::ReadError;
 use framehop_cfi::row::UnwindTableRow;
 use framehop_cfi::rule::{CfaRule, Register, RegisterRule};
@@ -23,22 +24,16 @@ use framehop_core::aarch64::unwindregs::UnwindRegsAarch64;
 use framehop_core::unwind_result::UnwindResult;
 use std::alloc::Global;
 
-/// The column of fp, x29 (DWARF for the Arm 64-bit Architecture, section 4.1).
-const X29: Register = Register(29);
-
-/// The column of lr, x30.
-const X30: Register = Register(30);
-
 impl DwarfUnwindRegs for UnwindRegsAarch64 {
     ghost use Rattle.framehop_dwarf.specs.Aarch64.{column_of};
 
     ghost column = { column_of };
 
     fn get(&self, register: Register) -> Option<u64> {
-        match register.0 {
-            29 => Some(self.fp()),
-            30 => Some(self.lr()),
-            31 => Some(self.sp()),
+        match register {
+            X29 => Some(self.fp()),
+            X30 => Some(self.lr()),
+            SP => Some(self.sp()),
             _ => None,
         }
     }
@@ -294,10 +289,10 @@ fn translate_into_unwind_rule(
 {
     match cfa_rule {
         CfaRule::RegisterAndOffset { register, offset } => {
-            if register.0 == 31 {
+            if register == SP {
                 return translate_by_sp(offset, fp_rule, lr_rule);
             }
-            if register.0 == 29 {
+            if register == X29 {
                 return translate_by_fp(offset, fp_rule, lr_rule);
             }
             None

@@ -19,17 +19,12 @@ use framehop_cfi::read_error::ReadError;
 use framehop_cfi::row::UnwindTableRow;
 use framehop_cfi::rule::{CfaRule, Register, RegisterRule};
 use framehop_cfi::storage::UnwindContextStorage;
+use framehop_cfi::x86_64::{RA, RBP, RSP};
 use framehop_core::unwind_result::UnwindResult;
 use framehop_core::x86_64::arch::ArchX86_64;
 use framehop_core::x86_64::unwind_rule::UnwindRuleX86_64;
 use framehop_core::x86_64::unwindregs::UnwindRegsX86_64;
 use std::alloc::Global;
-
-/// The column of rbp (System V ABI for AMD64, figure 3.36).
-const RBP: Register = Register(6);
-
-/// The column of the return address.
-const RA: Register = Register(16);
 
 impl DwarfUnwindRegs for UnwindRegsX86_64 {
     ghost use Rattle.framehop_dwarf.specs.X86_64.{column_of};
@@ -37,10 +32,10 @@ impl DwarfUnwindRegs for UnwindRegsX86_64 {
     ghost column = { column_of };
 
     fn get(&self, register: Register) -> Option<u64> {
-        match register.0 {
-            16 => Some(self.ip()),
-            7 => Some(self.sp()),
-            6 => Some(self.bp()),
+        match register {
+            RA => Some(self.ip()),
+            RSP => Some(self.sp()),
+            RBP => Some(self.bp()),
             _ => None,
         }
     }
@@ -215,10 +210,10 @@ fn translate_by_cfa(cfa_rule: CfaRule, bp_rule: Option<RegisterRule>) -> Option<
 {
     match cfa_rule {
         CfaRule::RegisterAndOffset { register, offset } => {
-            if register.0 == 7 {
+            if register == RSP {
                 return translate_by_sp(offset, bp_rule);
             }
-            if register.0 == 6 {
+            if register == RBP {
                 return translate_by_bp(offset, bp_rule);
             }
             None
