@@ -60,230 +60,25 @@ pub enum CallFrameInstruction {
     },
 }
 
-/// Returns a register's number.
-#[tactic(auto, unfolding(crate::specs::Instruction::register_at))]
-fn read_register(bytes: &[u8], at: usize) -> Result<(Register, usize), ReadError>
-    ensures exact { result ≡ register_at bytes.now at }
-    ensures forward { IfOk result (λ read. at < read.1) }
-    ensures memory { result ≢ Err ReadError.OutOfMemory }
-{
-    let (number, next) = read_uleb128(bytes, at)?;
-    match u16::try_from(number) {
-        Ok(number) => Ok((Register(number), next)),
-        Err(_) => Err(ReadError::NumberTooBig),
-    }
-}
-
-/// Returns the number, if it fits 64 bits with a sign.
-fn checked(number: i128) -> Result<i64, ReadError>
-    ensures exact { result ≡ checked_i64 number }
-    ensures memory { result ≢ Err ReadError.OutOfMemory }
-{
-    match i64::try_from(number) {
-        Ok(number) => Ok(number),
-        Err(_) => Err(ReadError::NumberTooBig),
-    }
-}
-
-/// Returns an unsigned number times the data alignment.
-#[tactic(auto, unfolding(crate::specs::Instruction::factored_at))]
-fn read_factored(alignment: i64, bytes: &[u8], at: usize) -> Result<(i64, usize), ReadError>
-    ensures exact { result ≡ factored_at alignment bytes.now at }
-    ensures forward { IfOk result (λ read. at < read.1) }
-    ensures memory { result ≢ Err ReadError.OutOfMemory }
-{
-    let (number, next) = read_uleb128(bytes, at)?;
-    let product = checked(i128::from(number) * i128::from(alignment))?;
-    Ok((product, next))
-}
-
-/// Returns a signed number times the data alignment.
-#[tactic(auto, unfolding(crate::specs::Instruction::factored_signed_at))]
-fn read_factored_signed(alignment: i64, bytes: &[u8], at: usize) -> Result<(i64, usize), ReadError>
-    ensures exact { result ≡ factored_signed_at alignment bytes.now at }
-    ensures forward { IfOk result (λ read. at < read.1) }
-    ensures memory { result ≢ Err ReadError.OutOfMemory }
-{
-    let (number, next) = read_sleb128(bytes, at)?;
-    let product = checked(i128::from(number) * i128::from(alignment))?;
-    Ok((product, next))
-}
-
-/// Returns an offset that is not factored.
-#[tactic(auto, unfolding(crate::specs::Instruction::offset_at))]
-fn read_offset(bytes: &[u8], at: usize) -> Result<(i64, usize), ReadError>
-    ensures exact { result ≡ offset_at bytes.now at }
-    ensures forward { IfOk result (λ read. at < read.1) }
-    ensures memory { result ≢ Err ReadError.OutOfMemory }
-{
-    let (number, next) = read_uleb128(bytes, at)?;
-    let offset = checked(i128::from(number))?;
-    Ok((offset, next))
-}
-
-/// Returns an offset of one byte that is not factored, if there is one.
-#[inline(always)]
-#[tactic(auto, unfolding(crate::specs::Instruction::offset_at))]
-fn read_short_offset(bytes: &[u8], at: usize) -> Option<(i64, usize)>
-    ensures exact { IfSome result (λ read. offset_at bytes.now at ≡ Ok read) }
-    ensures forward { IfSome result (λ read. at < read.1) }
-{
-    let (number, next) = read_short_uleb128(bytes, at)?;
-    Some((i64::try_from(number).ok()?, next))
-}
-
-/// Returns an unsigned number of one byte times the data alignment, if there is one.
-#[inline(always)]
-#[tactic(auto, unfolding(crate::specs::Instruction::factored_at))]
-fn read_short_factored(alignment: i64, bytes: &[u8], at: usize) -> Option<(i64, usize)>
-    ensures exact { IfSome result (λ read. factored_at alignment bytes.now at ≡ Ok read) }
-    ensures forward { IfSome result (λ read. at < read.1) }
-{
-    let (number, next) = read_short_uleb128(bytes, at)?;
-    let product = i64::try_from(i128::from(number) * i128::from(alignment)).ok()?;
-    Some((product, next))
-}
-
-/// Returns an expression, after its length.
-#[tactic(auto, unfolding(crate::specs::Instruction::expression_at))]
-fn read_expression(bytes: &[u8], at: usize) -> Result<(Expression, usize), ReadError>
-    ensures exact { result ≡ expression_at bytes.now at }
-    ensures forward { IfOk result (λ read. at < read.1) }
-    ensures memory { result ≢ Err ReadError.OutOfMemory }
-{
-    let (start, end) = read_counted(bytes, at)?;
-    Ok((Expression { start, end }, end))
-}
-
-/// Returns the rule that an instruction gives to the register that it names, by its code.
-fn read_rule(
-    alignment: i64,
-    code: u8,
-    bytes: &[u8],
-    at: usize,
-) -> Result<(RegisterRule, usize), ReadError>
-    ensures exact { result ≡ rule_at alignment code bytes.now at }
-    ensures forward { IfOk result (λ read. at ≤ read.1) }
-    ensures memory { result ≢ Err ReadError.OutOfMemory }
-{
-    match code {
-        DW_CFA_OFFSET_EXTENDED => {
-            let (offset, next) = read_factored(alignment, bytes, at)?;
-            Ok((RegisterRule::Offset(offset), next))
-        }
-        DW_CFA_UNDEFINED => Ok((RegisterRule::Undefined, at)),
-        DW_CFA_SAME_VALUE => Ok((RegisterRule::SameValue, at)),
-        DW_CFA_REGISTER => {
-            let (register, next) = read_register(bytes, at)?;
-            Ok((RegisterRule::Register(register), next))
-        }
-        DW_CFA_EXPRESSION => {
-            let (expression, next) = read_expression(bytes, at)?;
-            Ok((RegisterRule::Expression(expression), next))
-        }
-        DW_CFA_OFFSET_EXTENDED_SF => {
-            let (offset, next) = read_factored_signed(alignment, bytes, at)?;
-            Ok((RegisterRule::Offset(offset), next))
-        }
-        DW_CFA_VAL_OFFSET => {
-            let (offset, next) = read_factored(alignment, bytes, at)?;
-            Ok((RegisterRule::ValOffset(offset), next))
-        }
-        DW_CFA_VAL_OFFSET_SF => {
-            let (offset, next) = read_factored_signed(alignment, bytes, at)?;
-            Ok((RegisterRule::ValOffset(offset), next))
-        }
-        DW_CFA_VAL_EXPRESSION => {
-            let (expression, next) = read_expression(bytes, at)?;
-            Ok((RegisterRule::ValExpression(expression), next))
-        }
-        _ => Err(ReadError::UnknownInstruction),
-    }
-}
-
-/// Returns an instruction that names a register and gives it a rule.
-#[tactic(auto, unfolding(crate::specs::Instruction::set_rule_at))]
-fn read_set_rule(
-    alignment: i64,
-    code: u8,
-    bytes: &[u8],
-    at: usize,
-) -> Result<(CallFrameInstruction, usize), ReadError>
-    ensures exact { result ≡ set_rule_at alignment code bytes.now at }
-    ensures forward { IfOk result (λ read. at < read.1) }
-    ensures memory { result ≢ Err ReadError.OutOfMemory }
-{
-    let (register, next) = read_register(bytes, at)?;
-    let (rule, next) = read_rule(alignment, code, bytes, next)?;
-    Ok((CallFrameInstruction::SetRule { register, rule }, next))
-}
-
-/// Returns the CFA as a register plus an offset that is not factored.
-#[tactic(auto, unfolding(crate::specs::Instruction::def_cfa_at))]
-fn read_def_cfa(bytes: &[u8], at: usize) -> Result<(CallFrameInstruction, usize), ReadError>
-    ensures exact { result ≡ def_cfa_at bytes.now at }
-    ensures forward { IfOk result (λ read. at < read.1) }
-    ensures memory { result ≢ Err ReadError.OutOfMemory }
-{
-    let (register, next) = read_register(bytes, at)?;
-    let (offset, next) = read_offset(bytes, next)?;
-    let rule = CfaRule::RegisterAndOffset { register, offset };
-    Ok((CallFrameInstruction::DefCfa(rule), next))
-}
-
-/// Returns the CFA as a register plus a factored offset.
-#[tactic(auto, unfolding(crate::specs::Instruction::def_cfa_factored_at))]
-fn read_def_cfa_factored(
-    alignment: i64,
-    bytes: &[u8],
-    at: usize,
-) -> Result<(CallFrameInstruction, usize), ReadError>
-    ensures exact { result ≡ def_cfa_factored_at alignment bytes.now at }
-    ensures forward { IfOk result (λ read. at < read.1) }
-    ensures memory { result ≢ Err ReadError.OutOfMemory }
-{
-    let (register, next) = read_register(bytes, at)?;
-    let (offset, next) = read_factored_signed(alignment, bytes, next)?;
-    let rule = CfaRule::RegisterAndOffset { register, offset };
-    Ok((CallFrameInstruction::DefCfa(rule), next))
-}
-
-/// Returns an instruction on the CFA, by its code.
-fn read_cfa(
-    alignment: i64,
-    code: u8,
-    bytes: &[u8],
-    at: usize,
-) -> Result<(CallFrameInstruction, usize), ReadError>
-    ensures exact { result ≡ cfa_at alignment code bytes.now at }
-    ensures forward { IfOk result (λ read. at < read.1) }
-    ensures memory { result ≢ Err ReadError.OutOfMemory }
-{
-    match code {
-        DW_CFA_DEF_CFA => read_def_cfa(bytes, at),
-        DW_CFA_DEF_CFA_REGISTER => {
-            let (register, next) = read_register(bytes, at)?;
-            Ok((CallFrameInstruction::DefCfaRegister { register }, next))
-        }
-        DW_CFA_DEF_CFA_OFFSET => {
-            let (offset, next) = read_offset(bytes, at)?;
-            Ok((CallFrameInstruction::DefCfaOffset { offset }, next))
-        }
-        DW_CFA_DEF_CFA_EXPRESSION => {
-            let (expression, next) = read_expression(bytes, at)?;
-            let rule = CfaRule::Expression(expression);
-            Ok((CallFrameInstruction::DefCfa(rule), next))
-        }
-        DW_CFA_DEF_CFA_SF => read_def_cfa_factored(alignment, bytes, at),
-        DW_CFA_DEF_CFA_OFFSET_SF => {
-            let (offset, next) = read_factored_signed(alignment, bytes, at)?;
-            Ok((CallFrameInstruction::DefCfaOffset { offset }, next))
-        }
-        _ => Err(ReadError::UnknownInstruction),
-    }
-}
-
 impl CommonInformationEntry {
+    /// Returns the instruction at an offset, and the offset after it: a short one inlined, another by a call.
+    #[inline(always)]
+    pub(crate) fn read_next(
+        &self,
+        bases: &SectionBaseAddresses,
+        bytes: &[u8],
+        at: usize,
+    ) -> Result<(CallFrameInstruction, usize), ReadError>
+        ensures exact { result ≡ instruction_at self.now bases.now bytes.now at }
+        ensures forward { IfOk result (λ read. at < read.1) }
+        ensures memory { result ≢ Err ReadError.OutOfMemory }
+    {
+        match self.read_short(bytes, at) {
+            Some(read) => Ok(read),
+            None => self.read_instruction(bases, bytes, at),
+        }
+    }
+
     /// Returns the instruction at an offset, and the offset after it, if it is one of those that are common and has
     /// no operand of more than one byte. It is inlined, so that such an instruction is read without a call.
     #[inline(always)]
@@ -321,24 +116,6 @@ impl CommonInformationEntry {
             return Some((set_rule, next));
         }
         None
-    }
-
-    /// Returns the instruction at an offset, and the offset after it: a short one inlined, another by a call.
-    #[inline(always)]
-    pub(crate) fn read_next(
-        &self,
-        bases: &SectionBaseAddresses,
-        bytes: &[u8],
-        at: usize,
-    ) -> Result<(CallFrameInstruction, usize), ReadError>
-        ensures exact { result ≡ instruction_at self.now bases.now bytes.now at }
-        ensures forward { IfOk result (λ read. at < read.1) }
-        ensures memory { result ≢ Err ReadError.OutOfMemory }
-    {
-        match self.read_short(bytes, at) {
-            Some(read) => Ok(read),
-            None => self.read_instruction(bases, bytes, at),
-        }
     }
 
     /// Returns the instruction at an offset, and the offset after it.
@@ -428,6 +205,29 @@ impl CommonInformationEntry {
     }
 }
 
+/// Returns an offset of one byte that is not factored, if there is one.
+#[inline(always)]
+#[tactic(auto, unfolding(crate::specs::Instruction::offset_at))]
+fn read_short_offset(bytes: &[u8], at: usize) -> Option<(i64, usize)>
+    ensures exact { IfSome result (λ read. offset_at bytes.now at ≡ Ok read) }
+    ensures forward { IfSome result (λ read. at < read.1) }
+{
+    let (number, next) = read_short_uleb128(bytes, at)?;
+    Some((i64::try_from(number).ok()?, next))
+}
+
+/// Returns an unsigned number of one byte times the data alignment, if there is one.
+#[inline(always)]
+#[tactic(auto, unfolding(crate::specs::Instruction::factored_at))]
+fn read_short_factored(alignment: i64, bytes: &[u8], at: usize) -> Option<(i64, usize)>
+    ensures exact { IfSome result (λ read. factored_at alignment bytes.now at ≡ Ok read) }
+    ensures forward { IfSome result (λ read. at < read.1) }
+{
+    let (number, next) = read_short_uleb128(bytes, at)?;
+    let product = i64::try_from(i128::from(number) * i128::from(alignment)).ok()?;
+    Some((product, next))
+}
+
 /// Returns an advance of the location by one, two or four bytes, by its code.
 fn read_advance(
     code: u8,
@@ -453,5 +253,205 @@ fn read_advance(
             let (delta, next) = read_u32(bytes, at)?;
             Ok((CallFrameInstruction::AdvanceLoc { delta }, next))
         }
+    }
+}
+
+/// Returns an instruction on the CFA, by its code.
+fn read_cfa(
+    alignment: i64,
+    code: u8,
+    bytes: &[u8],
+    at: usize,
+) -> Result<(CallFrameInstruction, usize), ReadError>
+    ensures exact { result ≡ cfa_at alignment code bytes.now at }
+    ensures forward { IfOk result (λ read. at < read.1) }
+    ensures memory { result ≢ Err ReadError.OutOfMemory }
+{
+    match code {
+        DW_CFA_DEF_CFA => read_def_cfa(bytes, at),
+        DW_CFA_DEF_CFA_REGISTER => {
+            let (register, next) = read_register(bytes, at)?;
+            Ok((CallFrameInstruction::DefCfaRegister { register }, next))
+        }
+        DW_CFA_DEF_CFA_OFFSET => {
+            let (offset, next) = read_offset(bytes, at)?;
+            Ok((CallFrameInstruction::DefCfaOffset { offset }, next))
+        }
+        DW_CFA_DEF_CFA_EXPRESSION => {
+            let (expression, next) = read_expression(bytes, at)?;
+            let rule = CfaRule::Expression(expression);
+            Ok((CallFrameInstruction::DefCfa(rule), next))
+        }
+        DW_CFA_DEF_CFA_SF => read_def_cfa_factored(alignment, bytes, at),
+        DW_CFA_DEF_CFA_OFFSET_SF => {
+            let (offset, next) = read_factored_signed(alignment, bytes, at)?;
+            Ok((CallFrameInstruction::DefCfaOffset { offset }, next))
+        }
+        _ => Err(ReadError::UnknownInstruction),
+    }
+}
+
+/// Returns the CFA as a register plus an offset that is not factored.
+#[tactic(auto, unfolding(crate::specs::Instruction::def_cfa_at))]
+fn read_def_cfa(bytes: &[u8], at: usize) -> Result<(CallFrameInstruction, usize), ReadError>
+    ensures exact { result ≡ def_cfa_at bytes.now at }
+    ensures forward { IfOk result (λ read. at < read.1) }
+    ensures memory { result ≢ Err ReadError.OutOfMemory }
+{
+    let (register, next) = read_register(bytes, at)?;
+    let (offset, next) = read_offset(bytes, next)?;
+    let rule = CfaRule::RegisterAndOffset { register, offset };
+    Ok((CallFrameInstruction::DefCfa(rule), next))
+}
+
+/// Returns an offset that is not factored.
+#[tactic(auto, unfolding(crate::specs::Instruction::offset_at))]
+fn read_offset(bytes: &[u8], at: usize) -> Result<(i64, usize), ReadError>
+    ensures exact { result ≡ offset_at bytes.now at }
+    ensures forward { IfOk result (λ read. at < read.1) }
+    ensures memory { result ≢ Err ReadError.OutOfMemory }
+{
+    let (number, next) = read_uleb128(bytes, at)?;
+    let offset = checked(i128::from(number))?;
+    Ok((offset, next))
+}
+
+/// Returns the CFA as a register plus a factored offset.
+#[tactic(auto, unfolding(crate::specs::Instruction::def_cfa_factored_at))]
+fn read_def_cfa_factored(
+    alignment: i64,
+    bytes: &[u8],
+    at: usize,
+) -> Result<(CallFrameInstruction, usize), ReadError>
+    ensures exact { result ≡ def_cfa_factored_at alignment bytes.now at }
+    ensures forward { IfOk result (λ read. at < read.1) }
+    ensures memory { result ≢ Err ReadError.OutOfMemory }
+{
+    let (register, next) = read_register(bytes, at)?;
+    let (offset, next) = read_factored_signed(alignment, bytes, next)?;
+    let rule = CfaRule::RegisterAndOffset { register, offset };
+    Ok((CallFrameInstruction::DefCfa(rule), next))
+}
+
+/// Returns an instruction that names a register and gives it a rule.
+#[tactic(auto, unfolding(crate::specs::Instruction::set_rule_at))]
+fn read_set_rule(
+    alignment: i64,
+    code: u8,
+    bytes: &[u8],
+    at: usize,
+) -> Result<(CallFrameInstruction, usize), ReadError>
+    ensures exact { result ≡ set_rule_at alignment code bytes.now at }
+    ensures forward { IfOk result (λ read. at < read.1) }
+    ensures memory { result ≢ Err ReadError.OutOfMemory }
+{
+    let (register, next) = read_register(bytes, at)?;
+    let (rule, next) = read_rule(alignment, code, bytes, next)?;
+    Ok((CallFrameInstruction::SetRule { register, rule }, next))
+}
+
+/// Returns the rule that an instruction gives to the register that it names, by its code.
+fn read_rule(
+    alignment: i64,
+    code: u8,
+    bytes: &[u8],
+    at: usize,
+) -> Result<(RegisterRule, usize), ReadError>
+    ensures exact { result ≡ rule_at alignment code bytes.now at }
+    ensures forward { IfOk result (λ read. at ≤ read.1) }
+    ensures memory { result ≢ Err ReadError.OutOfMemory }
+{
+    match code {
+        DW_CFA_OFFSET_EXTENDED => {
+            let (offset, next) = read_factored(alignment, bytes, at)?;
+            Ok((RegisterRule::Offset(offset), next))
+        }
+        DW_CFA_UNDEFINED => Ok((RegisterRule::Undefined, at)),
+        DW_CFA_SAME_VALUE => Ok((RegisterRule::SameValue, at)),
+        DW_CFA_REGISTER => {
+            let (register, next) = read_register(bytes, at)?;
+            Ok((RegisterRule::Register(register), next))
+        }
+        DW_CFA_EXPRESSION => {
+            let (expression, next) = read_expression(bytes, at)?;
+            Ok((RegisterRule::Expression(expression), next))
+        }
+        DW_CFA_OFFSET_EXTENDED_SF => {
+            let (offset, next) = read_factored_signed(alignment, bytes, at)?;
+            Ok((RegisterRule::Offset(offset), next))
+        }
+        DW_CFA_VAL_OFFSET => {
+            let (offset, next) = read_factored(alignment, bytes, at)?;
+            Ok((RegisterRule::ValOffset(offset), next))
+        }
+        DW_CFA_VAL_OFFSET_SF => {
+            let (offset, next) = read_factored_signed(alignment, bytes, at)?;
+            Ok((RegisterRule::ValOffset(offset), next))
+        }
+        DW_CFA_VAL_EXPRESSION => {
+            let (expression, next) = read_expression(bytes, at)?;
+            Ok((RegisterRule::ValExpression(expression), next))
+        }
+        _ => Err(ReadError::UnknownInstruction),
+    }
+}
+
+/// Returns an unsigned number times the data alignment.
+#[tactic(auto, unfolding(crate::specs::Instruction::factored_at))]
+fn read_factored(alignment: i64, bytes: &[u8], at: usize) -> Result<(i64, usize), ReadError>
+    ensures exact { result ≡ factored_at alignment bytes.now at }
+    ensures forward { IfOk result (λ read. at < read.1) }
+    ensures memory { result ≢ Err ReadError.OutOfMemory }
+{
+    let (number, next) = read_uleb128(bytes, at)?;
+    let product = checked(i128::from(number) * i128::from(alignment))?;
+    Ok((product, next))
+}
+
+/// Returns a register's number.
+#[tactic(auto, unfolding(crate::specs::Instruction::register_at))]
+fn read_register(bytes: &[u8], at: usize) -> Result<(Register, usize), ReadError>
+    ensures exact { result ≡ register_at bytes.now at }
+    ensures forward { IfOk result (λ read. at < read.1) }
+    ensures memory { result ≢ Err ReadError.OutOfMemory }
+{
+    let (number, next) = read_uleb128(bytes, at)?;
+    match u16::try_from(number) {
+        Ok(number) => Ok((Register(number), next)),
+        Err(_) => Err(ReadError::NumberTooBig),
+    }
+}
+
+/// Returns an expression, after its length.
+#[tactic(auto, unfolding(crate::specs::Instruction::expression_at))]
+fn read_expression(bytes: &[u8], at: usize) -> Result<(Expression, usize), ReadError>
+    ensures exact { result ≡ expression_at bytes.now at }
+    ensures forward { IfOk result (λ read. at < read.1) }
+    ensures memory { result ≢ Err ReadError.OutOfMemory }
+{
+    let (start, end) = read_counted(bytes, at)?;
+    Ok((Expression { start, end }, end))
+}
+
+/// Returns a signed number times the data alignment.
+#[tactic(auto, unfolding(crate::specs::Instruction::factored_signed_at))]
+fn read_factored_signed(alignment: i64, bytes: &[u8], at: usize) -> Result<(i64, usize), ReadError>
+    ensures exact { result ≡ factored_signed_at alignment bytes.now at }
+    ensures forward { IfOk result (λ read. at < read.1) }
+    ensures memory { result ≢ Err ReadError.OutOfMemory }
+{
+    let (number, next) = read_sleb128(bytes, at)?;
+    let product = checked(i128::from(number) * i128::from(alignment))?;
+    Ok((product, next))
+}
+
+/// Returns the number, if it fits 64 bits with a sign.
+fn checked(number: i128) -> Result<i64, ReadError>
+    ensures exact { result ≡ checked_i64 number }
+    ensures memory { result ≢ Err ReadError.OutOfMemory }
+{
+    match i64::try_from(number) {
+        Ok(number) => Ok(number),
+        Err(_) => Err(ReadError::NumberTooBig),
     }
 }

@@ -54,13 +54,6 @@ impl<S: UnwindContextStorage> UnwindTableRow<S> {
         &self.cfa
     }
 
-    /// Returns how that register is found, or `None` where the row says nothing of it.
-    pub fn register(&self, register: Register) -> Option<RegisterRule>
-        ensures { result ≡ rule_of self.now.rules register }
-    {
-        rule_in(&self.rules, register)
-    }
-
     /// Sets how the CFA is found.
     pub(crate) fn set_cfa(&mut self, cfa: CfaRule)
         ensures { self.new ≡ record self.old { cfa = cfa } }
@@ -107,6 +100,13 @@ impl<S: UnwindContextStorage> UnwindTableRow<S> {
         if let Some(place) = place_of(&self.rules, register) {
             self.rules.remove(place);
         }
+    }
+
+    /// Returns how that register is found, or `None` where the row says nothing of it.
+    pub fn register(&self, register: Register) -> Option<RegisterRule>
+        ensures { result ≡ rule_of self.now.rules register }
+    {
+        rule_in(&self.rules, register)
     }
 
     /// Makes this row equal to another.

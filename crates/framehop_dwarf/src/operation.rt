@@ -86,6 +86,25 @@ pub enum Operation {
     Branch(i16),
 }
 
+/// Reads the operation at an offset, and the offset after it.
+#[tactic(auto, unfolding(crate::specs::Operation::operation_at))]
+pub fn read_operation(bytes: &[u8], at: usize) -> Result<(Operation, usize), ReadError>
+    ensures { result ≡ operation_at bytes.now at }
+{
+    let (code, next) = read_u8(bytes, at)?;
+    if code >= DW_OP_LIT0 && code <= DW_OP_LIT31 {
+        return Ok((Operation::Constant(u64::from(code - DW_OP_LIT0)), next));
+    }
+    if code >= DW_OP_BREG0 && code <= DW_OP_BREG31 {
+        return read_offset(Register(u16::from(code - DW_OP_BREG0)), bytes, next);
+    }
+    if code >= DW_OP_CONST1U && code <= DW_OP_CONSTS {
+        let (number, next) = read_constant(code, bytes, next)?;
+        return Ok((Operation::Constant(number), next));
+    }
+    read_coded(code, bytes, next)
+}
+
 /// Reads a number that is pushed, by the operation's code, and the offset after it.
 fn read_constant(code: u8, bytes: &[u8], at: usize) -> Result<(u64, usize), ReadError>
     ensures { result ≡ constant_at code bytes.now at }
@@ -122,6 +141,84 @@ fn read_constant(code: u8, bytes: &[u8], at: usize) -> Result<(u64, usize), Read
             Ok((number.cast_unsigned(), next))
         }
         _ => Err(ReadError::UnknownInstruction),
+    }
+}
+
+/// Reads the operands of an operation with its own code, and the offset after them.
+fn read_coded(code: u8, bytes: &[u8], at: usize) -> Result<(Operation, usize), ReadError>
+    ensures { result ≡ coded_at code bytes.now at }
+{
+    match code {
+        DW_OP_PICK => {
+            let (depth, next) = read_u8(bytes, at)?;
+            Ok((Operation::Pick(depth), next))
+        }
+        DW_OP_PLUS_UCONST => {
+            let (number, next) = read_uleb128(bytes, at)?;
+            Ok((Operation::PlusConstant(number), next))
+        }
+        DW_OP_BRA => {
+            let (distance, next) = read_jump(bytes, at)?;
+            Ok((Operation::Branch(distance), next))
+        }
+        DW_OP_SKIP => {
+            let (distance, next) = read_jump(bytes, at)?;
+            Ok((Operation::Skip(distance), next))
+        }
+        DW_OP_BREGX => read_register_offset(bytes, at),
+        _ => match plain_of(code) {
+            Some(operation) => Ok((operation, at)),
+            None => Err(ReadError::UnknownInstruction),
+        },
+    }
+}
+
+/// Reads how far a jump goes, and the offset after it.
+#[tactic(auto, unfolding(crate::specs::Operation::jump_at))]
+fn read_jump(bytes: &[u8], at: usize) -> Result<(i16, usize), ReadError>
+    ensures { result ≡ jump_at bytes.now at }
+{
+    let (distance, next) = read_u16(bytes, at)?;
+    Ok((distance.cast_signed(), next))
+}
+
+/// Reads a register by its number, and an offset, and the offset after it.
+#[tactic(auto, unfolding(crate::specs::Operation::register_offset_at))]
+fn read_register_offset(bytes: &[u8], at: usize) -> Result<(Operation, usize), ReadError>
+    ensures { result ≡ register_offset_at bytes.now at }
+{
+    let (number, next) = read_uleb128(bytes, at)?;
+    let Ok(number) = u16::try_from(number) else {
+        return Err(ReadError::NumberTooBig);
+    };
+    read_offset(Register(number), bytes, next)
+}
+
+/// Reads an offset from a register, and the offset after it.
+#[tactic(auto, unfolding(crate::specs::Operation::offset_at))]
+fn read_offset(register: Register, bytes: &[u8], at: usize) -> Result<(Operation, usize), ReadError>
+    ensures { result ≡ offset_at register bytes.now at }
+{
+    let (offset, next) = read_sleb128(bytes, at)?;
+    Ok((Operation::RegisterOffset { register, offset }, next))
+}
+
+/// Returns the operation without operands that has this code.
+fn plain_of(code: u8) -> Option<Operation>
+    ensures { result ≡ plain_of code }
+{
+    match code {
+        DW_OP_DUP => Some(Operation::Pick(0)),
+        DW_OP_DROP => Some(Operation::Discard),
+        DW_OP_OVER => Some(Operation::Pick(1)),
+        DW_OP_SWAP => Some(Operation::Swap),
+        DW_OP_ROT => Some(Operation::Rot),
+        DW_OP_NOP => Some(Operation::Nop),
+        _ => match (unary_of(code), binary_of(code)) {
+            (Some(unary), _) => Some(Operation::Unary(unary)),
+            (None, Some(binary)) => Some(Operation::Binary(binary)),
+            (None, None) => None,
+        },
     }
 }
 
@@ -163,103 +260,6 @@ fn binary_of(code: u8) -> Option<BinaryOperation>
     }
 }
 
-/// Returns the operation without operands that has this code.
-fn plain_of(code: u8) -> Option<Operation>
-    ensures { result ≡ plain_of code }
-{
-    match code {
-        DW_OP_DUP => Some(Operation::Pick(0)),
-        DW_OP_DROP => Some(Operation::Discard),
-        DW_OP_OVER => Some(Operation::Pick(1)),
-        DW_OP_SWAP => Some(Operation::Swap),
-        DW_OP_ROT => Some(Operation::Rot),
-        DW_OP_NOP => Some(Operation::Nop),
-        _ => match (unary_of(code), binary_of(code)) {
-            (Some(unary), _) => Some(Operation::Unary(unary)),
-            (None, Some(binary)) => Some(Operation::Binary(binary)),
-            (None, None) => None,
-        },
-    }
-}
-
-/// Reads a register by its number, and an offset, and the offset after it.
-#[tactic(auto, unfolding(crate::specs::Operation::register_offset_at))]
-fn read_register_offset(bytes: &[u8], at: usize) -> Result<(Operation, usize), ReadError>
-    ensures { result ≡ register_offset_at bytes.now at }
-{
-    let (number, next) = read_uleb128(bytes, at)?;
-    let Ok(number) = u16::try_from(number) else {
-        return Err(ReadError::NumberTooBig);
-    };
-    read_offset(Register(number), bytes, next)
-}
-
-/// Reads an offset from a register, and the offset after it.
-#[tactic(auto, unfolding(crate::specs::Operation::offset_at))]
-fn read_offset(register: Register, bytes: &[u8], at: usize) -> Result<(Operation, usize), ReadError>
-    ensures { result ≡ offset_at register bytes.now at }
-{
-    let (offset, next) = read_sleb128(bytes, at)?;
-    Ok((Operation::RegisterOffset { register, offset }, next))
-}
-
-/// Reads how far a jump goes, and the offset after it.
-#[tactic(auto, unfolding(crate::specs::Operation::jump_at))]
-fn read_jump(bytes: &[u8], at: usize) -> Result<(i16, usize), ReadError>
-    ensures { result ≡ jump_at bytes.now at }
-{
-    let (distance, next) = read_u16(bytes, at)?;
-    Ok((distance.cast_signed(), next))
-}
-
-/// Reads the operands of an operation with its own code, and the offset after them.
-fn read_coded(code: u8, bytes: &[u8], at: usize) -> Result<(Operation, usize), ReadError>
-    ensures { result ≡ coded_at code bytes.now at }
-{
-    match code {
-        DW_OP_PICK => {
-            let (depth, next) = read_u8(bytes, at)?;
-            Ok((Operation::Pick(depth), next))
-        }
-        DW_OP_PLUS_UCONST => {
-            let (number, next) = read_uleb128(bytes, at)?;
-            Ok((Operation::PlusConstant(number), next))
-        }
-        DW_OP_BRA => {
-            let (distance, next) = read_jump(bytes, at)?;
-            Ok((Operation::Branch(distance), next))
-        }
-        DW_OP_SKIP => {
-            let (distance, next) = read_jump(bytes, at)?;
-            Ok((Operation::Skip(distance), next))
-        }
-        DW_OP_BREGX => read_register_offset(bytes, at),
-        _ => match plain_of(code) {
-            Some(operation) => Ok((operation, at)),
-            None => Err(ReadError::UnknownInstruction),
-        },
-    }
-}
-
-/// Reads the operation at an offset, and the offset after it.
-#[tactic(auto, unfolding(crate::specs::Operation::operation_at))]
-pub fn read_operation(bytes: &[u8], at: usize) -> Result<(Operation, usize), ReadError>
-    ensures { result ≡ operation_at bytes.now at }
-{
-    let (code, next) = read_u8(bytes, at)?;
-    if code >= DW_OP_LIT0 && code <= DW_OP_LIT31 {
-        return Ok((Operation::Constant(u64::from(code - DW_OP_LIT0)), next));
-    }
-    if code >= DW_OP_BREG0 && code <= DW_OP_BREG31 {
-        return read_offset(Register(u16::from(code - DW_OP_BREG0)), bytes, next);
-    }
-    if code >= DW_OP_CONST1U && code <= DW_OP_CONSTS {
-        let (number, next) = read_constant(code, bytes, next)?;
-        return Ok((Operation::Constant(number), next));
-    }
-    read_coded(code, bytes, next)
-}
-
 impl UnaryOperation {
     /// Returns what the operation makes of the top value.
     pub fn apply(self, top: u64) -> u64
@@ -269,6 +269,34 @@ impl UnaryOperation {
             UnaryOperation::Absolute => top.cast_signed().unsigned_abs(),
             UnaryOperation::Negate => 0u64.wrapping_sub(top),
             UnaryOperation::Not => !top,
+        }
+    }
+}
+
+impl BinaryOperation {
+    /// Returns what the operation makes of the second value and the top one. A division by zero has
+    /// no value.
+    pub fn apply(self, second: u64, top: u64) -> Option<u64>
+        ensures { result ≡ combined self second top }
+    {
+        match self {
+            BinaryOperation::And => Some(second & top),
+            BinaryOperation::Divide => quotient(second, top),
+            BinaryOperation::Minus => Some(second.wrapping_sub(top)),
+            BinaryOperation::Modulo => if top == 0 { None } else { Some(second % top) },
+            BinaryOperation::Multiply => Some(second.wrapping_mul(top)),
+            BinaryOperation::Or => Some(second | top),
+            BinaryOperation::Plus => Some(second.wrapping_add(top)),
+            BinaryOperation::ShiftLeft => { Some(if top < 64 { second << top } else { 0 }) }
+            BinaryOperation::ShiftRight => { Some(if top < 64 { second >> top } else { 0 }) }
+            BinaryOperation::ShiftRightArithmetic => Some(shifted_right(second, top)),
+            BinaryOperation::Xor => Some(second ^ top),
+            BinaryOperation::Equal => Some(bit_of(second == top)),
+            BinaryOperation::NotEqual => Some(bit_of(second != top)),
+            _ => {
+                let is = compared(self, second.cast_signed(), top.cast_signed());
+                Some(bit_of(is))
+            }
         }
     }
 }
@@ -313,33 +341,5 @@ fn compared(operation: BinaryOperation, second: i64, top: i64) -> bool
         BinaryOperation::LessOrEqual => second <= top,
         BinaryOperation::Less => second < top,
         _ => false,
-    }
-}
-
-impl BinaryOperation {
-    /// Returns what the operation makes of the second value and the top one. A division by zero has
-    /// no value.
-    pub fn apply(self, second: u64, top: u64) -> Option<u64>
-        ensures { result ≡ combined self second top }
-    {
-        match self {
-            BinaryOperation::And => Some(second & top),
-            BinaryOperation::Divide => quotient(second, top),
-            BinaryOperation::Minus => Some(second.wrapping_sub(top)),
-            BinaryOperation::Modulo => if top == 0 { None } else { Some(second % top) },
-            BinaryOperation::Multiply => Some(second.wrapping_mul(top)),
-            BinaryOperation::Or => Some(second | top),
-            BinaryOperation::Plus => Some(second.wrapping_add(top)),
-            BinaryOperation::ShiftLeft => { Some(if top < 64 { second << top } else { 0 }) }
-            BinaryOperation::ShiftRight => { Some(if top < 64 { second >> top } else { 0 }) }
-            BinaryOperation::ShiftRightArithmetic => Some(shifted_right(second, top)),
-            BinaryOperation::Xor => Some(second ^ top),
-            BinaryOperation::Equal => Some(bit_of(second == top)),
-            BinaryOperation::NotEqual => Some(bit_of(second != top)),
-            _ => {
-                let is = compared(self, second.cast_signed(), top.cast_signed());
-                Some(bit_of(is))
-            }
-        }
     }
 }
