@@ -40,12 +40,10 @@ pub(crate) fn first_of<'a>(
 ) -> Option<PlacedNote<'a>>
     ensures { option_map placed_view result ≡ find (is_of owner.now n_type) (map placed_view notes.entry.now) }
 {
-    for index in 0..notes.len() {
-        if is_of(notes[index], owner, n_type) {
-            return Some(notes[index]);
-        }
-    }
-    None
+    notes
+        .iter()
+        .find(|placed| is_of(**placed, owner, n_type))
+        .copied()
 }
 
 /// Returns the note at the front of the bytes, which are at an offset of the file, and how many of them

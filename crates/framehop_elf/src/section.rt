@@ -105,10 +105,8 @@ pub fn section_by_name(
 ) -> Option<SectionHeader>
     ensures { result ≡ section_called sections.now names.now name.now }
 {
-    for section in sections {
-        if string_at(names, section.sh_name) == name {
-            return Some(*section);
-        }
-    }
-    None
+    sections
+        .iter()
+        .find(|section| string_at(names, section.sh_name) == name)
+        .copied()
 }

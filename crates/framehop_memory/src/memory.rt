@@ -59,12 +59,10 @@ impl<'a> ProcessMemory<'a> {
         ensures first { result ≡ find (has (memory_view self.now).file address size) (memory_view self.now).ranges }
         ensures found { IfSome result (λ range. has (memory_view self.now).file address size range ≡ true) }
     {
-        for range in &self.ranges {
-            if has(self.file, *range, address, size) {
-                return Some(*range);
-            }
-        }
-        None
+        self.ranges
+            .iter()
+            .find(|range| has(self.file, **range, address, size))
+            .copied()
     }
 }
 

@@ -72,24 +72,20 @@ fn segment_of(segments: &[Segment], offset: u64, size: u64) -> Option<Segment>
 fn whole_segment(segments: &[Segment], offset: u64, size: u64) -> Option<Segment>
     ensures { result ≡ find (fits offset size) segments.now }
 {
-    for segment in segments {
-        if is_whole(*segment, offset, size) {
-            return Some(*segment);
-        }
-    }
-    None
+    segments
+        .iter()
+        .find(|segment| is_whole(**segment, offset, size))
+        .copied()
 }
 
 /// Returns the first segment of which an executable mapping from an offset on is a part.
 fn segment_of_file_offset(segments: &[Segment], offset: u64) -> Option<Segment>
     ensures { result ≡ find (is_loaded_from offset) segments.now }
 {
-    for segment in segments {
-        if is_loaded(*segment, offset) {
-            return Some(*segment);
-        }
-    }
-    None
+    segments
+        .iter()
+        .find(|segment| is_loaded(**segment, offset))
+        .copied()
 }
 
 /// Returns whether the pages of a segment that is loaded to be executed are those at an offset, of a size.

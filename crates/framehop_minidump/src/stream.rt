@@ -69,20 +69,15 @@ pub fn read_streams(alloc: Global, file: &[u8]) -> Result<Vec<Stream>, MinidumpE
 {
     let header = read_header(file)?;
     let entries = directory(file, header)?;
-    match streams(alloc, entries) {
-        Ok(streams) => Ok(streams),
-        Err(_) => Err(MinidumpError::OutOfMemory),
-    }
+    Ok(streams(alloc, entries)?)
 }
 
 /// Returns the first stream of a type.
 pub fn first_stream(streams: &[Stream], stream_type: u32) -> Option<Stream>
     ensures { result ≡ stream_of streams.now stream_type }
 {
-    for stream in streams {
-        if stream.stream_type == stream_type {
-            return Some(*stream);
-        }
-    }
-    None
+    streams
+        .iter()
+        .find(|stream| stream.stream_type == stream_type)
+        .copied()
 }

@@ -21,12 +21,10 @@ pub fn section_with_rva(sections: &[SectionHeader], rva: u32, size: u32) -> Opti
     ensures exact { result ≡ section_with sections.now rva size }
     ensures before { IfSome result (λ section. section.virtual_address ≤ rva) }
 {
-    for section in sections {
-        if holds(*section, rva, size) {
-            return Some(*section);
-        }
-    }
-    None
+    sections
+        .iter()
+        .find(|section| holds(**section, rva, size))
+        .copied()
 }
 
 /// Returns so many bytes of the image from an RVA on, as they are in the file: those of the headers, which are

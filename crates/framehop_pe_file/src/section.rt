@@ -22,12 +22,10 @@ pub fn section_name(section: &SectionHeader) -> &[u8]
 pub fn section_by_name(sections: &[SectionHeader], name: &[u8]) -> Option<SectionHeader>
     ensures { result ≡ section_called sections.now name.now }
 {
-    for section in sections {
-        if section_name(section) == name {
-            return Some(*section);
-        }
-    }
-    None
+    sections
+        .iter()
+        .find(|section| section_name(section) == name)
+        .copied()
 }
 
 /// Returns how many bytes of a section the file has: the smaller of `SizeOfRawData`, which counts padding, and
