@@ -334,12 +334,8 @@ impl<S: UnwindContextStorage> UnwindContext<S> {
             return Err(ReadError::TooManyRows);
         }
         if self.count == self.remembered.len() {
-            let Ok(spare) = UnwindTableRow::new(self.alloc) else {
-                return Err(ReadError::OutOfMemory);
-            };
-            if self.remembered.push(spare).is_err() {
-                return Err(ReadError::OutOfMemory);
-            }
+            let spare = UnwindTableRow::new(self.alloc)?;
+            self.remembered.push(spare)?;
         }
         let spare = &mut self.remembered[self.count];
         spare.copy_from(&self.row)?;

@@ -84,10 +84,7 @@ impl<S: UnwindContextStorage> UnwindTableRow<S> {
                 {
                     return Err(ReadError::TooManyRules);
                 }
-                if self.rules.push((register, rule)).is_err() {
-                    return Err(ReadError::OutOfMemory);
-                }
-                Ok(())
+                Ok(self.rules.push((register, rule))?)
             }
         }
     }
@@ -117,9 +114,7 @@ impl<S: UnwindContextStorage> UnwindTableRow<S> {
         ensures room { OnErr result (0 < length other.now.rules) }
     {
         self.rules.clear();
-        if self.rules.extend_from_slice(&other.rules).is_err() {
-            return Err(ReadError::OutOfMemory);
-        }
+        self.rules.extend_from_slice(&other.rules)?;
         self.cfa = other.cfa;
         Ok(())
     }

@@ -12,7 +12,7 @@ use arrayvec::ArrayVec;
 use framehop_cfi::read_error::ReadError;
 use framehop_cfi::rule::{Expression, Register};
 use framehop_cfi::storage::{StoreOnHeap, StoreOnStack};
-use std::alloc::{AllocError, Global};
+use std::alloc::{AllocFailed, Global};
 
 /// The registers of a frame, by their DWARF numbers.
 pub trait DwarfUnwindRegs {
@@ -30,6 +30,16 @@ pub enum Refusal {
     NoValue,
     /// Memory ran out.
     OutOfMemory,
+}
+
+impl<T: Drop> From<AllocFailed<T>> for Refusal {
+    ghost use Rattle.framehop_dwarf.specs.declared.evaluation.Refusal.{Refusal};
+
+    ghost from_gives = { λ value error. error ≡ Refusal.OutOfMemory };
+
+    fn from(_value: AllocFailed<T>) -> Self {
+        Refusal::OutOfMemory
+    }
 }
 
 /// A stack of values, with or without a limit.
@@ -80,10 +90,7 @@ impl ValueStack for HeapStack {
     }
 
     fn push(&mut self, value: u64) -> Result<(), Refusal> {
-        match self.0.push(value) {
-            Ok(()) => Ok(()),
-            Err(_) => Err(Refusal::OutOfMemory),
-        }
+        Ok(self.0.push(value)?)
     }
 
     fn pop(&mut self) -> Option<u64> {

@@ -124,8 +124,5 @@ pub fn read_program_headers(
 {
     let count = segment_count(file, header)?;
     let entries = segment_entries(file, header, count)?;
-    match program_headers(alloc, entries) {
-        Ok(headers) => Ok(headers),
-        Err(_) => Err(ElfError::OutOfMemory),
-    }
+    Ok(program_headers(alloc, entries)?)
 }

@@ -137,8 +137,5 @@ pub fn read_section_headers(
 {
     let count = section_count(file, header)?;
     let entries = section_entries(file, header, count)?;
-    match section_headers(alloc, entries) {
-        Ok(headers) => Ok(headers),
-        Err(_) => Err(ElfError::OutOfMemory),
-    }
+    Ok(section_headers(alloc, entries)?)
 }

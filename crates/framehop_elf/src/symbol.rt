@@ -132,10 +132,7 @@ pub fn read_function_symbols(
     }
     let contents = read_contents(file, table)?;
     let (entries, _) = contents.as_chunks::<ENTRY_SIZE>();
-    match functions(alloc, sections, entries) {
-        Ok(symbols) => Ok(symbols),
-        Err(_) => Err(ElfError::OutOfMemory),
-    }
+    Ok(functions(alloc, sections, entries)?)
 }
 
 /// Returns the string table that has the names of a symbol table's symbols, which [`string_at`] reads.
@@ -219,10 +216,8 @@ impl SymbolTable {
         ensures order { IfOk result (λ table. IsStableByKey start_of nat_cmp symbols.items table) }
     {
         let mut symbols = symbols;
-        match symbols.sort_by_key(|symbol| symbol.st_value) {
-            Ok(()) => Ok(SymbolTable { symbols }),
-            Err(_) => Err(ElfError::OutOfMemory),
-        }
+        symbols.sort_by_key(|symbol| symbol.st_value)?;
+        Ok(SymbolTable { symbols })
     }
 
     /// Returns the symbol of the function that has an address (SVMA): the one with the greatest start at

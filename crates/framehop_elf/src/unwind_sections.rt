@@ -79,10 +79,8 @@ fn data_of(alloc: Global, stored: Option<Stored<'_>>) -> Result<Option<Vec<u8>>,
     let Some(stored) = stored else {
         return Ok(None);
     };
-    match Vec::from_slice(alloc, stored.contents) {
-        Ok(bytes) => Ok(Some(bytes)),
-        Err(_) => Err(ElfError::OutOfMemory),
-    }
+    let bytes = Vec::from_slice(alloc, stored.contents)?;
+    Ok(Some(bytes))
 }
 
 /// Returns what an unwinder needs of a file, to make a module of it: where `.text` and `.got` are,

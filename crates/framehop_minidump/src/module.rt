@@ -89,8 +89,5 @@ pub fn read_modules(
         (λ error. IsErrorOf (modules_of file.now streams.now) error) }
 {
     let entries = entries(file, streams)?;
-    match modules(alloc, entries) {
-        Ok(modules) => Ok(modules),
-        Err(_) => Err(MinidumpError::OutOfMemory),
-    }
+    Ok(modules(alloc, entries)?)
 }

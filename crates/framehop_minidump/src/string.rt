@@ -61,8 +61,5 @@ pub fn read_string(alloc: Global, file: &[u8], offset: u32) -> Result<String, Mi
         (λ error. IsErrorOf (string_of file.now offset) error) }
 {
     let units = units_at(file, u64::from(offset))?;
-    match text(alloc, units) {
-        Ok(text) => Ok(text),
-        Err(_) => Err(MinidumpError::OutOfMemory),
-    }
+    Ok(text(alloc, units)?)
 }

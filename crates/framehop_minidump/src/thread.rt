@@ -84,8 +84,5 @@ pub fn read_threads(
         (λ error. IsErrorOf (threads_of file.now streams.now) error) }
 {
     let entries = entries(file, streams)?;
-    match threads(alloc, entries) {
-        Ok(threads) => Ok(threads),
-        Err(_) => Err(MinidumpError::OutOfMemory),
-    }
+    Ok(threads(alloc, entries)?)
 }

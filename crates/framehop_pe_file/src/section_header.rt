@@ -87,8 +87,5 @@ pub fn read_section_headers(
         (λ error. IsErrorOf (section_headers_of file.now header) error) }
 {
     let entries = section_entries(file, header)?;
-    match section_headers(alloc, entries) {
-        Ok(headers) => Ok(headers),
-        Err(_) => Err(PeError::OutOfMemory),
-    }
+    Ok(section_headers(alloc, entries)?)
 }

@@ -227,10 +227,8 @@ fn copied(alloc: Global, bytes: Option<&[u8]>) -> Result<Option<Vec<u8>>, PeErro
     let Some(bytes) = bytes else {
         return Ok(None);
     };
-    match Vec::from_slice(alloc, bytes) {
-        Ok(copy) => Ok(Some(copy)),
-        Err(_) => Err(PeError::OutOfMemory),
-    }
+    let copy = Vec::from_slice(alloc, bytes)?;
+    Ok(Some(copy))
 }
 
 /// Returns what an unwinder needs of a file, as [`lend_unwind_sections`] does, with copies of the sections.

@@ -129,9 +129,7 @@ fn read_entries<'a>(
     let mut left = count;
     while left > 0 {
         let attribute = read_attribute(file, at, size)?;
-        if attributes.push(attribute).is_err() {
-            return Err(RecordingError::OutOfMemory);
-        }
+        attributes.push(attribute)?;
         at += size;
         left -= 1;
     }

@@ -89,9 +89,7 @@ fn read_each<'a>(
     let mut build_ids = Vec::new(alloc);
     for index in 0..records.len() {
         let build_id = read_file_build_id(records[index])?;
-        if build_ids.push(build_id).is_err() {
-            return Err(RecordingError::OutOfMemory);
-        }
+        build_ids.push(build_id)?;
     }
     Ok(build_ids)
 }

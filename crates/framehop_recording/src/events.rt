@@ -183,9 +183,7 @@ fn add_ids(by_id: &mut BTreeMap<u64, usize>, event: usize, ids: &[u8]) -> Result
 {
     let mut at = 0;
     while let Some(id) = word(ids, at) {
-        let Ok(_) = by_id.insert(id, event) else {
-            return Err(RecordingError::OutOfMemory);
-        };
+        by_id.insert(id, event)?;
         at += 8;
     }
     Ok(())

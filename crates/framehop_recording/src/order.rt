@@ -30,9 +30,7 @@ fn with_times<'a>(
     for index in 0..records.len() {
         let record = records[index];
         let time = events.time_of(record).unwrap_or(0);
-        if list.push(TimedRecord { time, record }).is_err() {
-            return Err(RecordingError::OutOfMemory);
-        }
+        list.push(TimedRecord { time, record })?;
     }
     Ok(list)
 }
@@ -42,10 +40,7 @@ fn sort_by_time(list: &mut Vec<TimedRecord<'_>>) -> Result<(), RecordingError>
     ensures refused { IfErr result (λ error. error ≡ RecordingError.OutOfMemory) }
     ensures ordered { OnOk result (IsInOrderOfTime list.old.items list.new.items) }
 {
-    let Ok(()) = list.sort_by_key(|timed| timed.time) else {
-        return Err(RecordingError::OutOfMemory);
-    };
-    Ok(())
+    Ok(list.sort_by_key(|timed| timed.time)?)
 }
 
 /// Returns these records in the order of their times, each with its own. In a file those of several

@@ -122,9 +122,7 @@ fn read_run<'a>(
     while !rest.is_empty() {
         match read_record(offset, rest) {
             Ok((record, size)) => {
-                if records.push(record).is_err() {
-                    return Err(RecordingError::OutOfMemory);
-                }
+                records.push(record)?;
                 offset += size as u64;
                 rest = back(rest, size as u64);
             }
