@@ -9,7 +9,7 @@ check_docs.py [--run [PROGRAM..]].
 - No line of a document has more than 100 words, tables and code excepted.
 - The pages of docs/api are those that tools/api.py makes; they have each public method; and that of `framehop` has each name
   that the tests name there.
-- Each edit of edits/CRATE can be applied, and each promise of DEFINITIONS.md has one that the gate tries.
+- Each edit of checks/edits/CRATE can be applied, and each promise of PROVED.md has one that the gate tries.
 - Each source, definition and proof has the layout that `rt fmt` gives it.
 - The column "may use" of ARCHITECTURE.md has for each crate what its line in crates.txt has; and EXAMPLES.md lists the
   libraries below `framehop`.
@@ -28,7 +28,7 @@ import tempfile
 from pathlib import Path
 
 TOP = Path(__file__).resolve().parent.parent
-NAMED = ["DEFINITIONS.md", "PROVED.md", "CHANGING.md"]
+NAMED = ["docs/DEFINITIONS.md", "docs/PROVED.md", "docs/CHANGING.md", "checks/edits/README.md"]
 # the pages whose commands are run
 SHOWN = ["README.md", "docs/CHECK.md", "docs/PROGRAMS.md", "docs/EXAMPLES.md"]
 PROGRAMS = ("check", "explain", "stacks", "walk")
@@ -39,14 +39,14 @@ WORD = re.compile(r"[^\W\d][\w'-]*")
 NUMBERS = "none one two three four five six seven eight nine ten eleven twelve".split()
 # how many commands have their output in a document, at least
 LEAST_SHOWN = 8
-# the lines of an edit that are no text: edits/try says what they are for
+# the lines of an edit that are no text: checks/edits/try says what they are for
 EDIT_KEYS = {"fn", "gate", "alone", "harmless"}
 # words of a name in backticks that are not names of this repository: Rust's, and values of arguments
 FOREIGN = set("Err None Some Ok Option Result Vec u8 u16 u32 u64 usize for true false null".split())
 
 
 def documents():
-    readmes = [TOP / "README.md", TOP / "bindings/README.md", TOP / "cases/README.md"]
+    readmes = [TOP / "README.md", TOP / "bindings/README.md", TOP / "checks/cases/README.md", TOP / "checks/edits/README.md"]
     return [*readmes, *sorted(TOP.glob("docs/*.md")), *sorted(TOP.glob("docs/api/*.md"))]
 
 
@@ -218,15 +218,15 @@ def edit_faults(text, crate):
 
 def wrong_edits():
     """Edits that can't be applied, and promises without one that the gate tries."""
-    promises = set(re.findall(r"^\| \*(.*?)\*", (TOP / "docs/DEFINITIONS.md").read_text(), re.M))
+    promises = set(re.findall(r"^- \*(.*?)\*: ", (TOP / "docs/PROVED.md").read_text(), re.M))
     tried = set()
-    for file in sorted(TOP.glob("edits/*/*.edit")):
+    for file in sorted(TOP.glob("checks/edits/*/*.edit")):
         text, name = file.read_text(), file.relative_to(TOP)
         yield from (f"{name}: {fault}" for fault in edit_faults(text, TOP / "crates" / file.parent.name))
         of = re.findall(r"^gate: (.*)$", text, re.M)
         yield from (f"{name}: no promise {promise}" for promise in of if promise not in promises)
         tried.update(of)
-    yield from (f"docs/DEFINITIONS.md: the gate tries no edit of {promise}" for promise in sorted(promises - tried))
+    yield from (f"docs/PROVED.md: the gate tries no edit of {promise}" for promise in sorted(promises - tried))
 
 
 def not_in_the_layout(names):
@@ -344,7 +344,7 @@ def faults():
         checks = [dead_links(page, text), lost_files(text, names)]
         if page.parent.name != "api":
             checks.append(long_lines(text))
-        if page.name in NAMED:
+        if name in NAMED:
             checks.append(missing_names(text, known))
         yield from (f"{name}: {fault}" for check in checks for fault in check)
     yield from (f"README.md, docs/EXAMPLES.md: {fault}" for fault in untested_examples())

@@ -1,5 +1,5 @@
 #!/usr/bin/env python3
-"""Runs the cases of cases/ by a program over the archive, and compares what it prints:
+"""Runs the cases of checks/cases/ by a program over the archive, and compares what it prints:
 
     cases.py c|rust window|callback|chunks [--only TOPIC] PROGRAM..
     cases.py words FILE POLICY
@@ -82,7 +82,7 @@ def fits_c(case):
 
 def cases():
     """The name, the input and the output of each case of `framehop-walk` that is not refused."""
-    files = sorted(TOP.glob("cases/*/*")) + sorted(TOP.glob("examples/*.json"))
+    files = sorted(TOP.glob("checks/cases/*/*")) + sorted(TOP.glob("examples/*.json"))
     for file in files:
         expected = file.with_suffix(".expected")
         if file.parent.name in OF_OTHERS:

@@ -123,7 +123,7 @@ def main():
     with tempfile.TemporaryDirectory() as folder:
         top = Path(folder) / "top"
         top.mkdir()
-        for name in ("crates", "cases", "examples", "crates.txt"):
+        for name in ("crates", "checks", "examples", "crates.txt"):
             (top / name).symlink_to(TOP / name)
         target = Path(folder) / "target"
         target.mkdir()

@@ -1,5 +1,5 @@
 #!/usr/bin/env python3
-"""Random walks over the modules of cases/ and examples/, by a program over the archive and by the original crate:
+"""Random walks over the modules of checks/cases/ and examples/, by a program over the archive and by the original crate:
 
     random_steps.py ORIGINAL ROUNDS SEED PROGRAM..
 

@@ -7,18 +7,22 @@ use crate::call::is_after_call_aarch64;
 use crate::info::is_by_info;
 use crate::machine::BacktraceUnwinder;
 use crate::memory::CodeMemory;
+use crate::rows::{RowFinding, Rows};
 use crate::step::follow_frame_pointer;
 use framehop::AllocationPolicy;
 use framehop::aarch64::UnwinderAarch64;
 use framehop_bytes::bytes::u64_at;
 use framehop_bytes::section::SectionBytes;
+use framehop_cfi::context::UnwindContext;
 use framehop_cfi::rule::Register;
+use framehop_cfi::storage::UnwindContextStorage;
 use framehop_columns::convention::Convention;
 use framehop_columns::memory::WordMemory;
 use framehop_columns::register_file::RegisterFile;
 use framehop_core::aarch64::{UnwindRegsAarch64, UnwindRuleAarch64};
 use framehop_core::{Error, FrameAddress};
 use framehop_signal::aarch64::FRAME_SIZE;
+use std::alloc::AllocError;
 
 impl<D: SectionBytes + Drop, P: AllocationPolicy> BacktraceUnwinder for UnwinderAarch64<D, P> {
     ghost use Rattle.framehop.specs.Aarch64.{aarch64_readers};
@@ -92,6 +96,21 @@ impl<D: SectionBytes + Drop, P: AllocationPolicy> BacktraceUnwinder for Unwinder
         memory: &M,
     ) -> bool {
         is_by_info(self.inner(), address, regs, memory)
+    }
+}
+
+impl<D: SectionBytes + Drop, P: AllocationPolicy> Rows for UnwinderAarch64<D, P> {
+    ghost use Rattle.framehop.specs.Aarch64.{aarch64_readers};
+    ghost use Rattle.framehop_backtrace.specs.Rows.{rows_of};
+
+    ghost rows = { λ unwinder limits location. rows_of aarch64_readers.compact limits unwinder.modules location };
+
+    fn row_at<S: UnwindContextStorage>(
+        &self,
+        unwind_context: &mut UnwindContext<S>,
+        address: FrameAddress,
+    ) -> Result<RowFinding<'_>, AllocError> {
+        self.inner().row_at(unwind_context, address)
     }
 }
 

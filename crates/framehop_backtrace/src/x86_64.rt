@@ -7,17 +7,21 @@ use crate::call::is_after_call_x86_64;
 use crate::info::is_by_info;
 use crate::machine::BacktraceUnwinder;
 use crate::memory::CodeMemory;
+use crate::rows::{RowFinding, Rows};
 use crate::step::follow_frame_pointer;
 use framehop::AllocationPolicy;
 use framehop::x86_64::UnwinderX86_64;
 use framehop_bytes::section::SectionBytes;
+use framehop_cfi::context::UnwindContext;
 use framehop_cfi::rule::Register;
+use framehop_cfi::storage::UnwindContextStorage;
 use framehop_columns::convention::Convention;
 use framehop_columns::memory::WordMemory;
 use framehop_columns::register_file::RegisterFile;
 use framehop_core::x86_64::{Reg, UnwindRegsX86_64, UnwindRuleX86_64};
 use framehop_core::{Error, FrameAddress};
 use framehop_signal::x86_64::{FRAME_SIZE, interrupted};
+use std::alloc::AllocError;
 
 impl<D: SectionBytes + Drop, P: AllocationPolicy> BacktraceUnwinder for UnwinderX86_64<D, P> {
     ghost use Rattle.framehop.specs.X86_64.{x86_64_readers};
@@ -85,6 +89,21 @@ impl<D: SectionBytes + Drop, P: AllocationPolicy> BacktraceUnwinder for Unwinder
         memory: &M,
     ) -> bool {
         is_by_info(self.inner(), address, regs, memory)
+    }
+}
+
+impl<D: SectionBytes + Drop, P: AllocationPolicy> Rows for UnwinderX86_64<D, P> {
+    ghost use Rattle.framehop.specs.X86_64.{x86_64_readers};
+    ghost use Rattle.framehop_backtrace.specs.Rows.{rows_of};
+
+    ghost rows = { λ unwinder limits location. rows_of x86_64_readers.compact limits unwinder.modules location };
+
+    fn row_at<S: UnwindContextStorage>(
+        &self,
+        unwind_context: &mut UnwindContext<S>,
+        address: FrameAddress,
+    ) -> Result<RowFinding<'_>, AllocError> {
+        self.inner().row_at(unwind_context, address)
     }
 }
 

@@ -15,7 +15,7 @@ use Rattle.framehop_elf.specs.Segment.{loaded_segments_of}
 use Rattle.framehop_memory.specs.Memory.{MemoryView}
 use Rattle.framehop_memory.specs.Segment.{base_of}
 use Rattle.framehop_memory.specs.declared.segment.Segment.{Segment}
-use Rattle.framehop_dump_stacks.specs.Dump.{ThreadView, MappedCodeView, DumpView, of_kernel}
+use Rattle.framehop_dump_stacks.specs.Dump.{has_address, ThreadView, MappedCodeView, DumpView, of_kernel}
 use Rattle.framehop_dump_stacks.specs.Image.{head_at, segments_in, build_id_in}
 use Rattle.framehop_dump_stacks.specs.declared.dump.Cause.{Cause}
 use Rattle.framehop_dump_stacks.specs.declared.dump.Cause.TheVariants.{Signal}
@@ -54,10 +54,6 @@ head_in memory files path = head_by memory (find (is_beginning path) files)
 -- where the stated address 0 of a mapped file is, by the segments that its first bytes tell
 abbrev pub base_in_memory : List Segment → MappedFileView → Option ℕ
 base_in_memory segments mapped = base_of segments mapped.offset (mapped.end - mapped.start) mapped.start
-
--- a segment of memory has an address
-abbrev pub has_address : ℕ → Segment → Bool
-has_address address segment = nat_le segment.address address && nat_lt address (segment.address + segment.size)
 
 -- A file is mapped to be executed. NT_FILE does not tell, but the segment that has its first address does. gdb writes
 -- no segment for what it does not dump; then the program headers tell that memory has of the file.
@@ -106,6 +102,7 @@ core_dump_of file = do
   process ← process_of notes
   Ok (record {
     memory = dumped_memory file (loaded_segments_of core.1);
+    segments = loaded_segments_of core.1;
     machine = core.0;
     threads = map thread_of threads;
     code = code_of (dumped_memory file (loaded_segments_of core.1)) (loaded_segments_of core.1) files;

@@ -145,6 +145,7 @@ dump_in file streams modules = do
   pid ← process_id_of file streams
   Ok (record {
     memory = record { file = file; ranges = ranges };
+    segments = [];
     machine = machine_of system.machine;
     threads = threads;
     code = [];

@@ -4,11 +4,11 @@ ghost use Rattle.framehop_coredump.specs.declared.error.CoreFileError.{CoreFileE
 ghost use Rattle.framehop_coredump.specs.MappedFile.{mapped_file_view};
 ghost use Rattle.framehop_coredump.specs.Process.{process_view};
 ghost use Rattle.framehop_coredump.specs.Thread.{thread_view as noted_view};
-ghost use Rattle.framehop_dump_stacks.specs.Dump.{thread_view, mapped_code_view, dump_view};
+ghost use Rattle.framehop_dump_stacks.specs.Dump.{has_address, thread_view, mapped_code_view, dump_view};
 ghost use Rattle.framehop_memory.specs.Memory.{memory_view};
-ghost use Rattle.framehop_dump_stacks.specs.CoreDump.{cause_of_signal, thread_of, name_of, pid_of, is_beginning, head_in, has_address, base_in_memory, is_mapped_code, code_if, code_of, core_dump_of};
+ghost use Rattle.framehop_dump_stacks.specs.CoreDump.{cause_of_signal, thread_of, name_of, pid_of, is_beginning, head_in, base_in_memory, is_mapped_code, code_if, code_of, core_dump_of};
 
-use crate::dump::{Cause, Dump, Kind, MappedCode, Registers, Thread};
+use crate::dump::{Cause, Dump, Kind, MappedCode, Registers, Thread, has_address};
 use crate::image::{build_id_in, head_at, segments_in};
 use framehop_coredump::core_file::read_core_file;
 use framehop_coredump::error::CoreFileError;
@@ -109,13 +109,6 @@ fn head_in<'a>(memory: &ProcessMemory<'a>, files: &[MappedFile<'a>], path: &[u8]
         Some(mapped) => head_at(memory, mapped.start),
         None => &[],
     }
-}
-
-/// Returns whether a segment of memory has an address (AVMA).
-fn has_address(segment: Segment, address: u64) -> bool
-    ensures { result ≡ has_address address segment }
-{
-    segment.address <= address && address - segment.address < segment.size
 }
 
 /// Returns the first segment of memory that has an address (AVMA).
@@ -227,6 +220,7 @@ pub fn read_core_dump<'a>(alloc: Global, file: &'a [u8]) -> Result<Dump<'a>, Cor
     Ok(Dump {
         kind: Kind::CoreFile,
         memory,
+        segments: dumped,
         machine: core.machine,
         threads,
         code,

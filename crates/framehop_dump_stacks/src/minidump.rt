@@ -314,6 +314,7 @@ pub fn dump_in<'a>(
     Ok(Dump {
         kind: Kind::Minidump,
         memory,
+        segments: Vec::new(alloc),
         machine: machine_of(system.machine),
         threads,
         code: Vec::new(alloc),

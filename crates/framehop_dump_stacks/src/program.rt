@@ -111,11 +111,11 @@ fn shown_text<U: Dumped>(
 where
     U::Cache: Drop,
     ensures { IfOk result (λ shown. IsShown explain
-        (blocks_of U.step_by U.begins limit process.now.unwinder.modules (dump_view dump.now) files.now process.now.mappings) shown.items) }
+        (blocks_of U.walker U.begins limit process.now.unwinder.modules (dump_view dump.now) files.now process.now.mappings) shown.items) }
 {
     let text = threads_text(alloc, dump, files, process, limit)?;
     if explain {
-        return explained_text(alloc, dump, process, limit, text.as_slice());
+        return explained_text(alloc, dump, files, process, limit, text.as_slice());
     }
     Ok(text)
 }
@@ -135,7 +135,7 @@ where
     U::Cache: Drop,
     U::Module: Drop,
     ensures { OnOk result ((shown : List ℕ)
-        × IsShown explain (text_by U.step_by U.begins limit (M.module_of maker.now) (dump_view dump.now) files.now) shown
+        × IsShown explain (text_by U.walker U.begins limit (M.module_of maker.now) (dump_view dump.now) files.now) shown
         × Appends (W.contents out.old) (W.contents out.new) shown) }
 {
     let process: Process<U> = map_files(alloc, maker, dump, files)?;

@@ -8,21 +8,55 @@ ghost use Rattle.framehop_frames.specs.Stack.{option_stack_view};
 ghost use Rattle.framehop_dump_stacks.specs.Dump.{thread_view, dump_view};
 ghost use Rattle.framehop_dump_stacks.specs.Thread.{thread_stack};
 
-use crate::dump::{Dump, Thread};
+use crate::dump::{Dump, Thread, is_code_at};
 use crate::machine::Dumped;
-use framehop::walk::{Words, walk};
+use framehop::walk::Words;
+use framehop_cfi::context::UnwindContext;
+use framehop_cfi::storage::StoreOnHeap;
+use framehop_frames::memory::{KnownMemory, MappedMemory};
 use framehop_frames::stack::Stack;
+use framehop_frames::walk::walk_stack;
 use framehop_memory::memory::ProcessMemory;
+use framehop_processes::Process;
+use framehop_symbols::files::Files;
 use std::alloc::{AllocError, Global};
 
-/// Returns the word of memory at an address (AVMA).
-fn read_memory(memory: &ProcessMemory<'_>, address: u64) -> Result<u64, ()>
-    ensures { result ≡ reply (word_of (memory_view memory.now) address) }
+/// Walks the stack of a thread by at most `limit` frames, over the words of memory. Returns `None`
+/// where the thread has not the registers with which a walk begins.
+pub fn walk_thread<U: Dumped>(
+    alloc: Global,
+    dump: &Dump<'_>,
+    files: &Files,
+    process: &Process<U>,
+    unwind_context: &mut UnwindContext<StoreOnHeap>,
+    cache: &mut U::Cache,
+    thread: Thread<'_>,
+    limit: u32,
+) -> Result<Option<Stack<U::UnwindRegs>>, AllocError>
+    ensures stays_sound { (other : UnwinderView) → AreApart process.now.unwinder other
+        → U.is_sound other cache.old → U.is_sound other cache.new }
+    ensures walked { U.is_sound process.now.unwinder cache.old → IfOk result (λ walked. option_stack_view walked
+        ≡ thread_stack U.walker U.begins limit files.now process.now.mappings process.now.unwinder.modules (dump_view dump.now) (thread_view thread.entry)) }
 {
-    match memory.word_at(address) {
-        Some(word) => Ok(word),
-        None => Err(()),
-    }
+    let Some(start) = U::begin(thread.registers) else {
+        return Ok(None);
+    };
+    let memory = MappedMemory {
+        known: dump,
+        files,
+        process,
+    };
+    let unwinder = process.unwinder();
+    let stack = walk_stack(
+        alloc,
+        unwinder,
+        unwind_context,
+        cache,
+        &memory,
+        start,
+        limit,
+    )?;
+    Ok(Some(stack))
 }
 
 impl Words for Dump<'_> {
@@ -35,36 +69,29 @@ impl Words for Dump<'_> {
     }
 }
 
-/// Walks the stack of a thread by at most `limit` frames, over the words of memory. Returns `None`
-/// where the thread has not the registers with which a walk begins.
-pub fn walk_thread<U: Dumped>(
-    alloc: Global,
-    unwinder: &U,
-    cache: &mut U::Cache,
-    dump: &Dump<'_>,
-    thread: Thread<'_>,
-    limit: u32,
-) -> Result<Option<Stack>, AllocError>
-    ensures stays_sound { (other : UnwinderView) → AreApart (U.unwinder_view unwinder.now) other
-        → U.is_sound other cache.old → U.is_sound other cache.new }
-    ensures walked { U.is_sound (U.unwinder_view unwinder.now) cache.old → IfOk result (λ walked.
-        option_stack_view walked ≡ thread_stack U.step_by U.begins limit (U.unwinder_view unwinder.now).modules (dump_view dump.now) (thread_view thread.entry)) }
+impl KnownMemory for Dump<'_> {
+    ghost use Rattle.framehop_memory.specs.Memory.{memory_view, bytes_after};
+    ghost use Rattle.framehop_dump_stacks.specs.Dump.{dump_view, is_code_at};
+
+    ghost bytes_from = { λ dump. bytes_after (memory_view dump.memory) };
+
+    ghost is_code = { λ dump. is_code_at (dump_view dump) };
+
+    fn bytes_from(&self, address: u64) -> Option<&[u8]> {
+        self.memory.bytes_from(address)
+    }
+
+    fn is_code(&self, address: u64) -> bool {
+        is_code_at(self, address)
+    }
+}
+
+/// Returns the word of memory at an address (AVMA).
+fn read_memory(memory: &ProcessMemory<'_>, address: u64) -> Result<u64, ()>
+    ensures { result ≡ reply (word_of (memory_view memory.now) address) }
 {
-    let Some(start) = U::begin(thread.registers) else {
-        return Ok(None);
-    };
-    let memory = &dump.memory;
-    let mut read_stack = |address: u64| -> Result<u64, ()>
-        ensures { result ≡ reply (word_of (memory_view memory.entry.now) address) }
-    { read_memory(memory, address) };
-    let (frames, end, _) = walk(
-        alloc,
-        unwinder,
-        cache,
-        start.pc,
-        start.regs,
-        &mut read_stack,
-        limit,
-    )?;
-    Ok(Some(Stack { frames, end }))
+    match memory.word_at(address) {
+        Some(word) => Ok(word),
+        None => Err(()),
+    }
 }

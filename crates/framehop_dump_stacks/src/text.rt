@@ -11,6 +11,8 @@ ghost use Rattle.framehop_dump_stacks.specs.Thread.{thread_stack};
 use crate::dump::{Cause, Dump, Thread};
 use crate::machine::Dumped;
 use crate::stack::walk_thread;
+use framehop_cfi::context::UnwindContext;
+use framehop_cfi::storage::StoreOnHeap;
 use framehop_frames::line::{frames_block, push_name, refused_block};
 use framehop_processes::Process;
 use framehop_symbols::files::Files;
@@ -72,6 +74,7 @@ fn thread_lines<U: Dumped>(
     dump: &Dump<'_>,
     files: &Files,
     process: &Process<U>,
+    unwind_context: &mut UnwindContext<StoreOnHeap>,
     cache: &mut U::Cache,
     thread: Thread<'_>,
     limit: u32,
@@ -80,9 +83,19 @@ fn thread_lines<U: Dumped>(
         → U.is_sound other cache.old → U.is_sound other cache.new }
     ensures told { U.is_sound process.now.unwinder cache.old → IfOk result (λ block. (head : List ℕ) →
         head ++ block.items ≡ stack_text true files.now [] head process.now.mappings
-        (thread_stack U.step_by U.begins limit process.now.unwinder.modules (dump_view dump.now) (thread_view thread.entry))) }
+        (thread_stack U.walker U.begins limit files.now process.now.mappings process.now.unwinder.modules (dump_view dump.now) (thread_view thread.entry))) }
 {
-    match walk_thread(alloc, process.unwinder(), cache, dump, thread, limit)? {
+    let walked = walk_thread(
+        alloc,
+        dump,
+        files,
+        process,
+        unwind_context,
+        cache,
+        thread,
+        limit,
+    )?;
+    match walked {
         Some(stack) => frames_block(alloc, files, process.mappings(), &stack),
         None => refused_block(alloc, "no-registers"),
     }
@@ -95,6 +108,7 @@ fn push_thread<U: Dumped>(
     dump: &Dump<'_>,
     files: &Files,
     process: &Process<U>,
+    unwind_context: &mut UnwindContext<StoreOnHeap>,
     cache: &mut U::Cache,
     thread: Thread<'_>,
     limit: u32,
@@ -103,10 +117,19 @@ fn push_thread<U: Dumped>(
         → U.is_sound other cache.old → U.is_sound other cache.new }
     ensures told { U.is_sound process.now.unwinder cache.old → OnOk result (text.new.items ≡ text.old.items
         ++ thread_text (dump_view dump.now) files.now process.now.mappings (thread_view thread.entry)
-        (thread_stack U.step_by U.begins limit process.now.unwinder.modules (dump_view dump.now) (thread_view thread.entry))) }
+        (thread_stack U.walker U.begins limit files.now process.now.mappings process.now.unwinder.modules (dump_view dump.now) (thread_view thread.entry))) }
 {
     let head = thread_head(alloc, dump.name, dump.pid, thread)?;
-    let lines = thread_lines(alloc, dump, files, process, cache, thread, limit)?;
+    let lines = thread_lines(
+        alloc,
+        dump,
+        files,
+        process,
+        unwind_context,
+        cache,
+        thread,
+        limit,
+    )?;
     text.extend_from_slice(head.as_slice())?;
     text.extend_from_slice(lines.as_slice())?;
     Ok(())
@@ -122,13 +145,22 @@ pub fn threads_text<U: Dumped>(
 ) -> Result<Vec<u8>, AllocError>
 where
     U::Cache: Drop,
-    ensures { IfOk result (λ text. text.items ≡ blocks_of U.step_by U.begins limit process.now.unwinder.modules (dump_view dump.now) files.now process.now.mappings) }
+    ensures { IfOk result (λ text. text.items ≡ blocks_of U.walker U.begins limit process.now.unwinder.modules (dump_view dump.now) files.now process.now.mappings) }
 {
+    let mut unwind_context = UnwindContext::new_in(alloc)?;
     let mut cache = U::new_cache(alloc)?;
     let mut text = Vec::new(alloc);
     for thread in &dump.threads {
         push_thread(
-            alloc, &mut text, dump, files, process, &mut cache, *thread, limit,
+            alloc,
+            &mut text,
+            dump,
+            files,
+            process,
+            &mut unwind_context,
+            &mut cache,
+            *thread,
+            limit,
         )?;
     }
     Ok(text)

@@ -1,5 +1,5 @@
 #!/usr/bin/env python3
-"""Writes the case pe_of_a_dll of cases/rules: a DLL's sections, and what unwinding gives at addresses of it.
+"""Writes the case pe_of_a_dll of checks/cases/rules: a DLL's sections, and what unwinding gives at addresses of it.
 
 The DLL is made of functions.c by mingw's gcc (Debian: gcc-mingw-w64-x86-64-posix). What unwinding gives is worked out here
 from the codes that llvm-readobj prints and the instructions that objdump prints, and not by the library.
@@ -12,7 +12,7 @@ import subprocess
 import tempfile
 from pathlib import Path
 
-CASES = Path(__file__).resolve().parents[3] / "cases/rules"
+CASES = Path(__file__).resolve().parents[3] / "checks/cases/rules"
 HERE = os.path.dirname(os.path.abspath(__file__))
 NUMBERS = "RAX RCX RDX RBX RSP RBP RSI RDI R8 R9 R10 R11 R12 R13 R14 R15".split()
 PRINTED = "RAX RDX RCX RBX RSI RDI RBP RSP R8 R9 R10 R11 R12 R13 R14 R15".split()

@@ -1,5 +1,5 @@
 #!/usr/bin/env python3
-"""Writes the cases compact_info_by_a_linker of cases/rules: `__unwind_info` of two dylibs, and for each of their functions,
+"""Writes the cases compact_info_by_a_linker of checks/cases/rules: `__unwind_info` of two dylibs, and for each of their functions,
 as llvm-objdump prints it, what its opcode tells of a caller's frame at its first and its last byte.
 
 Needs clang, ld64.lld (LLVM 14), llvm-objcopy and llvm-objdump.
@@ -7,7 +7,7 @@ Needs clang, ld64.lld (LLVM 14), llvm-objcopy and llvm-objdump.
 import json, os, re, subprocess, tempfile
 from pathlib import Path
 
-CASES = Path(__file__).resolve().parents[3] / "cases/rules"
+CASES = Path(__file__).resolve().parents[3] / "checks/cases/rules"
 
 KINDS = [
     "u leaf{k}(u a,u b){{return a*{m}+b;}}",

@@ -1,5 +1,5 @@
 //! Worked examples of code analysis, and what only calls show of compact unwind info and of PE unwind info. The rules that
-//! these two give, and what they refuse, are cases, in `cases/rules`. This crate has only tests.
+//! these two give, and what they refuse, are cases, in `checks/cases/rules`. This crate has only tests.
 #![tactic(auto)]
 
 #[cfg(test)]

@@ -1,4 +1,4 @@
-//! A page by hand, the rules of stub helpers, and the names of errors. Functions, opcodes, stubs and refusals are cases: `cases/rules/compact_*`.
+//! A page by hand, the rules of stub helpers, and the names of errors. Functions, opcodes, stubs and refusals are cases: `checks/cases/rules/compact_*`.
 use framehop_cfi::dwarf_error::DwarfUnwinderError;
 use framehop_core::aarch64::{ArchAarch64, UnwindRuleAarch64};
 use framehop_core::x86_64::{ArchX86_64, UnwindRuleX86_64};

@@ -1,5 +1,5 @@
 //! What only calls of `unwind_frame` show: which words of the stack are read, and in which order; that no memory is asked
-//! for; which section has the bytes of an address. Rules, and what is refused, are cases: `cases/rules/pe_*.json`.
+//! for; which section has the bytes of an address. Rules, and what is refused, are cases: `checks/cases/rules/pe_*.json`.
 use framehop_bytes::section::SectionBytes;
 use framehop_core::unwind_result::UnwindResult;
 use framehop_core::x86_64::{ArchX86_64, UnwindRegsX86_64, UnwindRuleX86_64};
@@ -209,7 +209,7 @@ fn unwind_frames<'x>(
 }
 
 /// `unwind_frame` asks for no memory: this test and the next ask for it as often, which
-/// `tools/refuse-allocations-in-tests.sh` shows by refusing one request after another.
+/// `checks/refuse_allocations_in_tests.sh` shows by refusing one request after another.
 #[test]
 fn requests_of_the_sections(rt: HostRuntime) -> Result<(), Fail> {
     let alloc = rt.alloc();

@@ -3,3 +3,5 @@ pub mod Start
 pub mod Line
 pub mod Stack
 pub mod Explained
+pub mod Code
+pub mod Walker

@@ -1,12 +1,15 @@
 -- Stacks as text: folded stacks, as flame graph tools read them (Brendan Gregg's FlameGraph, `stackcollapse-perf.pl`), and
 -- blocks of a line for each frame.
-use Rattle.std.specs.Prelude.{ℕ, false, List, [], ◌∷◌, ◌++◌, codes, map, reverse, Option, Some, None, ◌==◌, if◌then◌else◌}
+use Rattle.std.specs.Prelude.{ℕ, Bool, false, List, [], ◌∷◌, ◌++◌, codes, map, reverse, Option, Some, None, ◌==◌, if◌then◌else◌}
 use Rattle.std.specs.Fmt.{decimal, digits}
 use Rattle.std.specs.List.{after_last, flat_map}
 use Rattle.framehop_core.specs.CodeAddress.{FrameLocation, address_of, lookup_address}
 use Rattle.framehop_core.specs.declared.error.Error.{Error}
 use Rattle.framehop_core.specs.declared.error.Error.TheVariants.{CouldNotReadStack, FramepointerUnwindingMovedBackwards, DidNotAdvance, IntegerOverflow, ReturnAddressIsNull, OutOfMemory}
-use Rattle.framehop.specs.Walk.{End, at_root, at_refusal, at_limit}
+use Rattle.framehop_backtrace.specs.declared.frame.BacktraceEnd.{BacktraceEnd}
+use Rattle.framehop_backtrace.specs.declared.frame.BacktraceEnd.TheVariants.{Root, FramePointerZero, Limit, SignalFrameUnread, CfaUnknown, ReturnAddressUnknown, DidNotAdvance as RowDidNotAdvance, RegistersUnknown, Refused, NoCaller, NotCode}
+use Rattle.framehop_backtrace.specs.declared.frame.FoundBy.{FoundBy}
+use Rattle.framehop_backtrace.specs.declared.frame.FoundBy.TheVariants.{First, Cfi, Signal, FramePointer, Guess}
 use Rattle.framehop_processes.specs.declared.mapping.Mapping.{Mapping}
 use Rattle.framehop_symbols.specs.declared.files.Files.{Files}
 use Rattle.framehop_symbols.specs.Place.{PlaceView, in_function, in_file, unmapped, place_at}
@@ -42,30 +45,52 @@ refusal_name ReturnAddressIsNull = codes "null-return-address"
 refusal_name OutOfMemory = codes "out-of-memory"
 
 -- what the end of a walk is called
-abbrev pub end_name : End → List ℕ
-end_name at_root = codes "root"
-end_name at_limit = codes "limit"
-end_name (at_refusal error) = refusal_name error
+abbrev pub end_name : BacktraceEnd → List ℕ
+end_name Root = codes "root"
+end_name FramePointerZero = codes "frame-pointer-0"
+end_name Limit = codes "limit"
+end_name SignalFrameUnread = codes "signal-frame-unread"
+end_name CfaUnknown = codes "cfa-unknown"
+end_name ReturnAddressUnknown = codes "return-address-unknown"
+end_name RowDidNotAdvance = codes "did-not-advance"
+end_name RegistersUnknown = codes "registers-unknown"
+end_name (Refused error) = refusal_name error
+end_name NoCaller = codes "no-caller"
+end_name (NotCode address) = codes "not-code"
+
+-- the same with the address that lies in no code
+abbrev pub end_text : BacktraceEnd → List ℕ
+end_text (NotCode address) = codes "not-code" ++ codes " " ++ hexadecimal address
+end_text end = end_name end
 
 -- a mark between frames
 abbrev pub mark : List ℕ → List ℕ
 mark name = codes ";[" ++ name ++ codes "]"
 
 -- a stack that does not reach its root has the name of its end at its outer end
-abbrev pub mark_of : End → List ℕ
-mark_of at_root = []
+abbrev pub mark_of : BacktraceEnd → List ℕ
+mark_of Root = []
 mark_of end = mark (end_name end)
 
 -- the labels of frames, of which the innermost comes first, each after a `;` from the outermost on
 abbrev pub frames_text : {Frame : Type 0} → (Frame → List ℕ) → List Frame → List ℕ
 frames_text label frames = flat_map (λ frame. 59 ∷ label frame) (reverse frames)
 
--- what the frame at a location is called
-abbrev pub frame_label : Files → List Mapping → FrameLocation → List ℕ
-frame_label files mappings location = label_of (place_at files mappings (lookup_address location))
+-- a frame as it is shown: where it is, how it was found, and whether it is in a trampoline, to which the handler of a
+-- signal returns
+pub record ShownFrame : Type 0 where
+  pub location : FrameLocation
+  pub found : FoundBy
+  pub is_trampoline : Bool
+
+-- what a frame is called: a trampoline as debuggers call it
+abbrev pub frame_label : Files → List Mapping → ShownFrame → List ℕ
+frame_label files mappings frame =
+    if frame.is_trampoline then codes "<signal handler called>"
+    else label_of (place_at files mappings (lookup_address frame.location))
 
 -- the line of a stack: the name of its thread, the mark of its end, and its frames
-unfoldable pub line_of : List ℕ → End → (FrameLocation → List ℕ) → List FrameLocation → List ℕ
+unfoldable pub line_of : List ℕ → BacktraceEnd → (ShownFrame → List ℕ) → List ShownFrame → List ℕ
 line_of name end label frames = plain name ++ mark_of end ++ frames_text label frames
 
 -- the line of a sample that has no stack: the name of its thread, and why
@@ -79,18 +104,31 @@ described (in_function file name offset) =
 described (in_file file address) = codes "[unknown] (" ++ plain file ++ codes "+0x" ++ hexadecimal address ++ codes ")"
 described unmapped = codes "[unknown] ([unknown])"
 
--- the line of a frame in a block: its address, and where it is
-abbrev pub frame_line : Files → List Mapping → FrameLocation → List ℕ
-frame_line files mappings location =
-    hexadecimal (address_of location) ++ 32 ∷ described (place_at files mappings (lookup_address location)) ++ 10 ∷ []
+-- how a frame was found: nothing is said of the first
+abbrev pub found_text : FoundBy → List ℕ
+found_text First = []
+found_text Cfi = codes " [cfi]"
+found_text Signal = codes " [signal]"
+found_text FramePointer = codes " [frame-pointer]"
+found_text Guess = codes " [guess]"
+
+-- a trampoline is told before its place
+abbrev pub trampoline_text : Bool → List ℕ
+trampoline_text is_trampoline = if is_trampoline then codes "<signal handler called> " else []
+
+-- the line of a frame in a block: its address, where it is, and how it was found
+unfoldable pub frame_line : Files → List Mapping → ShownFrame → List ℕ
+frame_line files mappings frame =
+    hexadecimal (address_of frame.location) ++ 32 ∷ trampoline_text frame.is_trampoline
+    ++ described (place_at files mappings (lookup_address frame.location)) ++ found_text frame.found ++ 10 ∷ []
 
 -- the last line of a block, and a blank line
 abbrev pub last_line : List ℕ → List ℕ
 last_line end = codes "[" ++ end ++ codes "]\n\n"
 
 -- the lines of a block after its head: the frames from the innermost on, and the end of the walk
-abbrev pub block_of : End → (FrameLocation → List ℕ) → List FrameLocation → List ℕ
-block_of end line frames = flat_map line frames ++ last_line (end_name end)
+abbrev pub block_of : BacktraceEnd → (ShownFrame → List ℕ) → List ShownFrame → List ℕ
+block_of end line frames = flat_map line frames ++ last_line (end_text end)
 
 -- the head of a block: the name of the thread, its process and itself, and the time in nanoseconds, if there is one
 abbrev pub time_text : Option ℕ → List ℕ

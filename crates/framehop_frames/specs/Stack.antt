@@ -1,23 +1,47 @@
 -- The stack of a thread at a time, by its values, and its text.
 use Rattle.std.specs.Prelude.{ℕ, ◌+◌, Bool, true, false, Option, Some, None, List, ◌++◌, map, length, codes}
-use Rattle.framehop_core.specs.CodeAddress.{FrameLocation, location_of}
-use Rattle.framehop.specs.SessionView.{end_of}
-use Rattle.framehop.specs.Walk.{End}
+use Rattle.framehop_core.specs.CodeAddress.{location_of}
+use Rattle.framehop_core.specs.Memory.{Memory}
+use Rattle.framehop.specs.Modules.{ModuleView}
 use Rattle.framehop_processes.specs.declared.mapping.Mapping.{Mapping}
+use Rattle.framehop_backtrace.specs.Backtrace.{Backtrace, FrameView}
+use Rattle.framehop_backtrace.specs.Code.{Code, is_in_trampoline}
+use Rattle.framehop_backtrace.specs.declared.frame.BacktraceEnd.{BacktraceEnd}
 use Rattle.framehop_symbols.specs.declared.files.Files.{Files}
-use Rattle.framehop_frames.specs.Line.{line_of, refused_line, frame_label, frame_line, block_of, last_line}
+use Rattle.framehop_frames.specs.Line.{ShownFrame, line_of, refused_line, frame_label, frame_line, block_of, last_line}
+use Rattle.framehop_frames.specs.Walker.{Walker, backtrace_from}
+use Rattle.framehop_frames.specs.declared.machine.Start.{Start}
 use Rattle.framehop_frames.specs.declared.stack.Stack.{Stack}
+use Rattle.framehop_frames.specs.declared.stack.StackFrame.{StackFrame}
+
+-- a frame by its values
+abbrev pub shown_frame : {Regs : Type 0} → StackFrame Regs → ShownFrame
+shown_frame frame =
+    record { location = location_of frame.address; found = frame.found; is_trampoline = frame.is_trampoline }
+
+-- that of a backtrace: the trampoline is known by the code
+abbrev pub shown_of : {Regs : Type 0} → Code → FrameView Regs → ShownFrame
+shown_of code frame =
+    record { location = frame.location; found = frame.found; is_trampoline = is_in_trampoline code frame.location }
 
 -- a stack: its frames and how its walk ended, or why there is none
 pub data StackView : Type 0 where
-  walked : List FrameLocation → End → StackView
+  walked : List ShownFrame → BacktraceEnd → StackView
   no_stack : List ℕ → StackView
 
-abbrev pub stack_view : Stack → StackView
-stack_view stack = walked (map location_of stack.frames.items) (end_of stack.end)
+abbrev pub stack_view : {Regs : Type 0} → Stack Regs → StackView
+stack_view stack = walked (map shown_frame stack.frames.items) stack.end
+
+abbrev pub stack_of : {Regs : Type 0} → Code → Backtrace Regs → StackView
+stack_of code backtrace = walked (map (shown_of code) backtrace.frames) backtrace.end
+
+-- the stack from the registers with which a walk begins, at most so many frames
+abbrev pub stack_from : {Regs : Type 0} → Walker Regs → ℕ → List ModuleView → Memory → Code → Start Regs → StackView
+stack_from walker limit modules memory code start =
+    stack_of code (backtrace_from walker limit modules memory code start)
 
 -- the same, if there is one
-abbrev pub option_stack_view : Option Stack → StackView
+abbrev pub option_stack_view : {Regs : Type 0} → Option (Stack Regs) → StackView
 option_stack_view (Some stack) = stack_view stack
 option_stack_view None = no_stack (codes "no-registers")
 

@@ -1,19 +1,78 @@
-//! Notes under the lines of a stack's block: why its walk ended.
-ghost use Rattle.std.specs.Prelude.{◌++◌, IfOk};
+//! Notes under the lines of a stack's block: where each frame's caller comes from, and why its walk ended.
+ghost use Rattle.std.specs.Prelude.{◌≡◌, ◌+◌, ◌++◌, length, IfOk, OnOk};
 ghost use Rattle.framehop_frames.specs.Explained.{IsShown};
+ghost use Rattle.framehop_frames.specs.Stack.{line_count, option_stack_view};
 
-use crate::stack::Stack;
-use framehop::walk::WalkEnd;
+use crate::machine::Steps;
+use crate::stack::{Stack, StackFrame};
+use framehop::walk::Words;
+use framehop_backtrace::BacktraceEnd;
 use framehop_explain::{Note, annotated};
 use std::alloc::{AllocError, Global};
 
+/// Appends a note for each line of the block of a stack: nothing of its head, where each frame's caller comes from, over
+/// words, why the walk ended, and nothing of the blank line.
+pub fn note_stack<U: Steps, M: Words>(
+    alloc: Global,
+    unwinder: &U,
+    words: &M,
+    walked: &Option<Stack<U::UnwindRegs>>,
+    notes: &mut Vec<Note>,
+) -> Result<(), AllocError>
+    ensures { OnOk result (length notes.new.items ≡ length notes.old.items + line_count (option_stack_view walked.now)) }
+{
+    notes.push(Note::new(alloc))?;
+    if let Some(stack) = walked {
+        note_frames(alloc, unwinder, words, stack.frames.as_slice(), notes)?;
+    }
+    notes.push(end_note(alloc, walked)?)?;
+    notes.push(Note::new(alloc))?;
+    Ok(())
+}
+
+/// Notes where the caller of each frame comes from.
+fn note_frames<U: Steps, M: Words>(
+    alloc: Global,
+    unwinder: &U,
+    words: &M,
+    frames: &[StackFrame<U::UnwindRegs>],
+    notes: &mut Vec<Note>,
+) -> Result<(), AllocError>
+    ensures { OnOk result (length notes.new.items ≡ length notes.old.items + length frames.now) }
+{
+    for frame in frames {
+        note_frame(alloc, unwinder, words, frame, notes)?;
+    }
+    Ok(())
+}
+
+/// Notes where the caller of a frame comes from.
+fn note_frame<U: Steps, M: Words>(
+    alloc: Global,
+    unwinder: &U,
+    words: &M,
+    frame: &StackFrame<U::UnwindRegs>,
+    notes: &mut Vec<Note>,
+) -> Result<(), AllocError>
+    ensures { OnOk result (length notes.new.items ≡ length notes.old.items + 1) }
+{
+    if frame.is_trampoline {
+        let note = Note::new(alloc).with_line(
+            "a signal frame: the registers of the interrupted code",
+        )?;
+        notes.push(note)?;
+        return Ok(());
+    }
+    unwinder.note_frame(alloc, frame.address, frame.regs, words, notes)
+}
+
 /// Returns the note of the end of a stack's walk: why it was refused, if it was.
-pub fn end_note(alloc: Global, walked: &Option<Stack>) -> Result<Note, AllocError> {
+fn end_note<R: Copy>(alloc: Global, walked: &Option<Stack<R>>) -> Result<Note, AllocError> {
     let note = Note::new(alloc);
     match walked {
         Some(
             Stack {
-                end: WalkEnd::Refused(error),
+                end: BacktraceEnd::Refused(error),
                 ..
             },
         ) => {

@@ -5,4 +5,6 @@
 pub mod explain;
 pub mod line;
 pub mod machine;
+pub mod memory;
 pub mod stack;
+pub mod walk;

@@ -4,15 +4,14 @@
 //! the file.
 ghost use Rattle.std.specs.Prelude.{◌≡◌, ◌++◌, ◌∷◌, [], map, OnOk, IfOk, codes, string_bytes};
 ghost use Rattle.std.specs.List.{flat_map};
-ghost use Rattle.framehop_core.specs.CodeAddress.{location_of};
-ghost use Rattle.framehop.specs.SessionView.{end_of};
 ghost use Rattle.framehop_processes.specs.Mappings.{IsInOrder};
 ghost use Rattle.framehop_symbols.specs.Place.{place_view};
-ghost use Rattle.framehop_frames.specs.Line.{plain_byte, plain, base_name, hexadecimal, label_of, refusal_name, end_name, mark, mark_of, frames_text, frame_label, line_of, refused_line, described, frame_line, last_line, block_of, time_text, head_of};
+ghost use Rattle.framehop_frames.specs.Stack.{shown_frame};
+ghost use Rattle.framehop_frames.specs.Line.{plain_byte, plain, base_name, hexadecimal, label_of, refusal_name, end_name, end_text, mark, mark_of, frames_text, frame_label, line_of, refused_line, described, found_text, trampoline_text, frame_line, last_line, block_of, time_text, head_of};
 
-use crate::stack::Stack;
-use framehop::walk::WalkEnd;
-use framehop::{Error, FrameAddress};
+use crate::stack::{Stack, StackFrame};
+use framehop::Error;
+use framehop_backtrace::{BacktraceEnd, FoundBy};
 use framehop_processes::Mapping;
 use framehop_symbols::files::Files;
 use framehop_symbols::place::{Place, place_of};
@@ -33,13 +32,46 @@ fn refusal_name(error: Error) -> &'static str
 }
 
 /// Returns what the end of a walk is called.
-pub fn end_name(end: WalkEnd) -> &'static str
-    ensures { result.now ≡ end_name (end_of end) }
+pub fn end_name(end: BacktraceEnd) -> &'static str
+    ensures { result.now ≡ end_name end }
 {
     match end {
-        WalkEnd::Root => "root",
-        WalkEnd::Limit => "limit",
-        WalkEnd::Refused(error) => refusal_name(error),
+        BacktraceEnd::Root => "root",
+        BacktraceEnd::FramePointerZero => "frame-pointer-0",
+        BacktraceEnd::Limit => "limit",
+        BacktraceEnd::SignalFrameUnread => "signal-frame-unread",
+        BacktraceEnd::CfaUnknown => "cfa-unknown",
+        BacktraceEnd::ReturnAddressUnknown => "return-address-unknown",
+        BacktraceEnd::DidNotAdvance => "did-not-advance",
+        BacktraceEnd::RegistersUnknown => "registers-unknown",
+        BacktraceEnd::Refused(error) => refusal_name(error),
+        BacktraceEnd::NoCaller => "no-caller",
+        BacktraceEnd::NotCode(_) => "not-code",
+    }
+}
+
+/// Returns what the end of a walk is called, with the address that lies in no code.
+fn end_text(alloc: Global, end: BacktraceEnd) -> Result<Vec<u8>, AllocError>
+    ensures { IfOk result (λ text. text.items ≡ end_text end) }
+{
+    let mut text = Vec::from_slice(alloc, end_name(end).as_bytes())?;
+    if let BacktraceEnd::NotCode(address) = end {
+        let address = format!(in alloc; " {address:x}")?;
+        text.extend_from_slice(address.as_bytes())?;
+    }
+    Ok(text)
+}
+
+/// Returns what is said of how a frame was found.
+fn found_text(found: FoundBy) -> &'static str
+    ensures { result.now ≡ found_text found }
+{
+    match found {
+        FoundBy::First => "",
+        FoundBy::Cfi => " [cfi]",
+        FoundBy::Signal => " [signal]",
+        FoundBy::FramePointer => " [frame-pointer]",
+        FoundBy::Guess => " [guess]",
     }
 }
 
@@ -103,35 +135,39 @@ fn push_label(alloc: Global, line: &mut Vec<u8>, place: Place<'_>) -> Result<(),
 }
 
 /// Appends what a frame is called, by mappings in order.
-fn push_frame(
+fn push_frame<R: Copy>(
     alloc: Global,
     line: &mut Vec<u8>,
     files: &Files,
     mappings: &[Mapping],
-    frame: FrameAddress,
+    frame: &StackFrame<R>,
 ) -> Result<(), AllocError>
     requires { IsInOrder 0 mappings.now }
-    ensures { OnOk result (line.new.items ≡ line.old.items ++ frame_label files.now mappings.now (location_of frame)) }
+    ensures { OnOk result (line.new.items ≡ line.old.items ++ frame_label files.now mappings.now (shown_frame frame.now)) }
 {
-    let place = place_of(files, mappings, frame.address_for_lookup());
+    if frame.is_trampoline {
+        line.extend_from_slice(b"<signal handler called>")?;
+        return Ok(());
+    }
+    let place = place_of(files, mappings, frame.address.address_for_lookup());
     push_label(alloc, line, place)
 }
 
 /// Appends the frames of a stack from the outermost on, each after a `;`.
-fn push_frames(
+fn push_frames<R: Copy>(
     alloc: Global,
     line: &mut Vec<u8>,
     files: &Files,
     mappings: &[Mapping],
-    frames: &Vec<FrameAddress>,
+    frames: &Vec<StackFrame<R>>,
 ) -> Result<(), AllocError>
     requires { IsInOrder 0 mappings.now }
     ensures { OnOk result (line.new.items ≡ line.old.items
-        ++ frames_text (λ frame. frame_label files.now mappings.now (location_of frame)) frames.now.items) }
+        ++ frames_text (λ frame. frame_label files.now mappings.now (shown_frame frame)) frames.now.items) }
 {
     for frame in frames.iter().rev() {
         line.push(b';')?;
-        push_frame(alloc, line, files, mappings, *frame)?;
+        push_frame(alloc, line, files, mappings, frame)?;
     }
     Ok(())
 }
@@ -147,29 +183,28 @@ fn push_mark(line: &mut Vec<u8>, name: &str) -> Result<(), AllocError>
 }
 
 /// Appends the mark of a walk that did not reach the root.
-fn push_end(line: &mut Vec<u8>, end: WalkEnd) -> Result<(), AllocError>
-    ensures { OnOk result (line.new.items ≡ line.old.items ++ mark_of (end_of end)) }
+fn push_end(line: &mut Vec<u8>, end: BacktraceEnd) -> Result<(), AllocError>
+    ensures { OnOk result (line.new.items ≡ line.old.items ++ mark_of end) }
 {
     match end {
-        WalkEnd::Root => Ok(()),
-        WalkEnd::Limit => push_mark(line, "limit"),
-        WalkEnd::Refused(error) => push_mark(line, refusal_name(error)),
+        BacktraceEnd::Root => Ok(()),
+        end => push_mark(line, end_name(end)),
     }
 }
 
 /// Returns the line of a stack without its count, by the name of its thread and by its process's mappings
 /// in order.
 #[tactic(auto, unfolding(crate::specs::Line::line_of))]
-pub fn folded_line(
+pub fn folded_line<R: Copy>(
     alloc: Global,
     files: &Files,
     mappings: &[Mapping],
     name: &[u8],
-    stack: &Stack,
+    stack: &Stack<R>,
 ) -> Result<Vec<u8>, AllocError>
     requires { IsInOrder 0 mappings.now }
-    ensures { IfOk result (λ line. line.items ≡ line_of name.now (end_of stack.now.end)
-        (frame_label files.now mappings.now) (map location_of stack.now.frames.items)) }
+    ensures { IfOk result (λ line. line.items ≡ line_of name.now stack.now.end
+        (frame_label files.now mappings.now) (map shown_frame stack.now.frames.items)) }
 {
     let mut line = Vec::new(alloc);
     push_name(&mut line, name)?;
@@ -214,67 +249,80 @@ fn push_place(alloc: Global, line: &mut Vec<u8>, place: Place<'_>) -> Result<(),
 }
 
 /// Appends the line of a frame in a block, by mappings in order.
-fn push_frame_line(
+#[tactic(auto, unfolding(crate::specs::Line::frame_line))]
+fn push_frame_line<R: Copy>(
     alloc: Global,
     block: &mut Vec<u8>,
     files: &Files,
     mappings: &[Mapping],
-    frame: FrameAddress,
+    frame: &StackFrame<R>,
 ) -> Result<(), AllocError>
     requires { IsInOrder 0 mappings.now }
-    ensures { OnOk result (block.new.items ≡ block.old.items ++ frame_line files.now mappings.now (location_of frame)) }
+    ensures { OnOk result (block.new.items ≡ block.old.items ++ frame_line files.now mappings.now (shown_frame frame.now)) }
 {
-    let address = frame.address();
+    let address = frame.address.address();
     let text = format!(in alloc; "{address:x} ")?;
     block.extend_from_slice(text.as_bytes())?;
-    let place = place_of(files, mappings, frame.address_for_lookup());
+    push_trampoline(block, frame.is_trampoline)?;
+    let place = place_of(files, mappings, frame.address.address_for_lookup());
     push_place(alloc, block, place)?;
+    block.extend_from_slice(found_text(frame.found).as_bytes())?;
     block.push(b'\n')?;
     Ok(())
 }
 
+/// Appends that a frame is in a trampoline, if it is.
+fn push_trampoline(block: &mut Vec<u8>, is_trampoline: bool) -> Result<(), AllocError>
+    ensures { OnOk result (block.new.items ≡ block.old.items ++ trampoline_text is_trampoline) }
+{
+    if is_trampoline {
+        block.extend_from_slice(b"<signal handler called> ")?;
+    }
+    Ok(())
+}
+
 /// Appends the lines of a stack's frames, the innermost first, by mappings in order.
-fn push_frame_lines(
+fn push_frame_lines<R: Copy>(
     alloc: Global,
     block: &mut Vec<u8>,
     files: &Files,
     mappings: &[Mapping],
-    frames: &Vec<FrameAddress>,
+    frames: &[StackFrame<R>],
 ) -> Result<(), AllocError>
     requires { IsInOrder 0 mappings.now }
     ensures { OnOk result (block.new.items ≡ block.old.items
-        ++ flat_map (λ frame. frame_line files.now mappings.now (location_of frame)) frames.now.items) }
+        ++ flat_map (λ frame. frame_line files.now mappings.now (shown_frame frame)) frames.now) }
 {
     for frame in frames {
-        push_frame_line(alloc, block, files, mappings, *frame)?;
+        push_frame_line(alloc, block, files, mappings, frame)?;
     }
     Ok(())
 }
 
 /// Appends the last line of a block, and a blank line.
-fn push_last_line(block: &mut Vec<u8>, end: &str) -> Result<(), AllocError>
+fn push_last_line(block: &mut Vec<u8>, end: &[u8]) -> Result<(), AllocError>
     ensures { OnOk result (block.new.items ≡ block.old.items ++ last_line end.now) }
 {
     block.extend_from_slice(b"[")?;
-    block.extend_from_slice(end.as_bytes())?;
+    block.extend_from_slice(end)?;
     block.extend_from_slice(b"]\n\n")?;
     Ok(())
 }
 
 /// Returns the lines of a stack's frames and of its end, by its process's mappings in order.
-pub fn frames_block(
+pub fn frames_block<R: Copy>(
     alloc: Global,
     files: &Files,
     mappings: &[Mapping],
-    stack: &Stack,
+    stack: &Stack<R>,
 ) -> Result<Vec<u8>, AllocError>
     requires { IsInOrder 0 mappings.now }
-    ensures { IfOk result (λ block. block.items ≡ block_of (end_of stack.now.end)
-        (frame_line files.now mappings.now) (map location_of stack.now.frames.items)) }
+    ensures { IfOk result (λ block. block.items ≡ block_of stack.now.end
+        (frame_line files.now mappings.now) (map shown_frame stack.now.frames.items)) }
 {
     let mut block = Vec::new(alloc);
-    push_frame_lines(alloc, &mut block, files, mappings, &stack.frames)?;
-    push_last_line(&mut block, end_name(stack.end))?;
+    push_frame_lines(alloc, &mut block, files, mappings, stack.frames.as_slice())?;
+    push_last_line(&mut block, end_text(alloc, stack.end)?.as_slice())?;
     Ok(block)
 }
 
@@ -283,7 +331,7 @@ pub fn refused_block(alloc: Global, why: &str) -> Result<Vec<u8>, AllocError>
     ensures { IfOk result (λ block. block.items ≡ last_line why.now) }
 {
     let mut block = Vec::new(alloc);
-    push_last_line(&mut block, why)?;
+    push_last_line(&mut block, why.as_bytes())?;
     Ok(block)
 }
 

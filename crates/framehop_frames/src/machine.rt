@@ -1,18 +1,18 @@
 //! What differs by the machine on which a process ran.
-ghost use Rattle.std.specs.Prelude.{◌≡◌, ◌+◌, List, length, IfOk, OnOk};
-ghost use Rattle.framehop_core.specs.CodeAddress.{FrameLocation};
-ghost use Rattle.framehop_core.specs.Memory.{Memory};
-ghost use Rattle.framehop_core.specs.Outcome.{Outcome};
-ghost use Rattle.framehop.specs.Modules.{ModuleView, UnwinderView};
-ghost use Rattle.framehop.specs.Walk.{walk_from};
+ghost use Rattle.std.specs.Prelude.{◌≡◌, ◌+◌, length, IfOk, OnOk, None};
+ghost use Rattle.framehop.specs.Modules.{UnwinderView};
+ghost use Rattle.framehop_frames.specs.Walker.{Walker};
 
 use framehop::aarch64::{CacheAarch64, UnwindRegsAarch64, UnwinderAarch64};
 use framehop::cache::MayAllocateDuringUnwind;
 use framehop::section::SectionBytes;
 use framehop::walk::Words;
 use framehop::x86_64::{CacheX86_64, UnwindRegsX86_64, UnwinderX86_64};
-use framehop::{CacheStats, Unwinder};
-use framehop_explain::{Note, note_walk};
+use framehop::{CacheStats, FrameAddress, Unwinder};
+use framehop_backtrace::x86_64::all_columns;
+use framehop_backtrace::{BacktraceUnwinder, Rows};
+use framehop_columns::register_file::RegisterFile;
+use framehop_explain::{Note, note_frame};
 use framehop_processes::ProcessUnwinder;
 use std::alloc::{AllocError, Global};
 
@@ -28,9 +28,9 @@ pub struct Start<R: Copy> {
 }
 
 /// An unwinder for the stacks of its machine.
-pub trait Steps: ProcessUnwinder {
-    // one step by the bytes of modules, read afresh
-    ghost step_by: { List ModuleView → FrameLocation → Self.UnwindRegs → Memory → Outcome Self.UnwindRegs };
+pub trait Steps: ProcessUnwinder + BacktraceUnwinder + Rows {
+    // how stacks are walked by the bytes of modules, read afresh
+    ghost walker: { Walker Self.UnwindRegs };
 
     /// Returns an empty cache, which changes no answer of any unwinder.
     fn new_cache(alloc: Global) -> Result<Self::Cache, AllocError>
@@ -39,37 +39,48 @@ pub trait Steps: ProcessUnwinder {
     /// Returns what a cache has counted.
     fn stats(cache: &Self::Cache) -> CacheStats;
 
-    /// Notes where each frame of a walk came from, over words: the frames from an instruction pointer (AVMA) on, at
-    /// most `limit`.
+    /// Returns the registers with which a walk begins, by columns.
+    fn first_columns(start: &Start<Self::UnwindRegs>) -> RegisterFile
+        ensures { result ≡ walker.columns start.now.pc start.now.regs };
+
+    /// Notes where the caller of a frame comes from, over words.
     ///
     /// # Errors
     ///
     /// An allocation failed.
-    fn note_walk<M: Words>(
+    fn note_frame<M: Words>(
         &self,
         alloc: Global,
-        pc: u64,
+        address: FrameAddress,
         regs: Self::UnwindRegs,
         words: &M,
-        limit: u32,
         notes: &mut Vec<Note>,
     ) -> Result<(), AllocError>
-        ensures { OnOk result (length notes.new.items ≡ length notes.old.items
-            + length (walk_from (λ location old. step_by (Self.unwinder_view self.now).modules location old (M.memory words.now)) limit pc regs).frames) };
+        ensures { OnOk result (length notes.new.items ≡ length notes.old.items + 1) };
 
-    // an unwinder steps by the bytes of its modules
-    ghost steps_by_modules: { (unwinder : Self) → Self.step unwinder ≡ step_by (Self.unwinder_view unwinder).modules };
+    // an unwinder is of the machine, and what it finds is by the bytes of its modules
+    ghost is_of_machine: { Self.machine ≡ walker.machine };
+
+    ghost steps_by_modules: { (unwinder : Self) → Self.step unwinder ≡ walker.step (Self.unwinder_view unwinder).modules };
+
+    ghost info_by_modules: { (unwinder : Self) → Self.is_by_info unwinder ≡ walker.is_by_info (Self.unwinder_view unwinder).modules };
+
+    ghost rows_by_modules: { (unwinder : Self) → Self.rows unwinder None ≡ walker.rows (Self.unwinder_view unwinder).modules };
 }
 
 impl<D: SectionBytes + Drop> Steps for UnwinderX86_64<D, MayAllocateDuringUnwind> {
     ghost use Rattle.std.specs.Prelude.{refl};
-    ghost use Rattle.framehop.specs.Fresh.{step};
-    ghost use Rattle.framehop.specs.X86_64.{x86_64};
-    ghost use Rattle.framehop.specs.Policy.{with_allocation};
+    ghost use Rattle.framehop_frames.specs.Walker.{x86_64_walker};
 
-    ghost step_by = { step (x86_64 with_allocation) };
+    ghost walker = { x86_64_walker };
+
+    ghost is_of_machine = { refl };
 
     ghost steps_by_modules = { λ unwinder. refl };
+
+    ghost info_by_modules = { λ unwinder. refl };
+
+    ghost rows_by_modules = { λ unwinder. refl };
 
     fn new_cache(alloc: Global) -> Result<CacheX86_64<MayAllocateDuringUnwind>, AllocError> {
         CacheX86_64::new(alloc)
@@ -79,28 +90,36 @@ impl<D: SectionBytes + Drop> Steps for UnwinderX86_64<D, MayAllocateDuringUnwind
         cache.stats()
     }
 
-    fn note_walk<M: Words>(
+    fn first_columns(start: &Start<UnwindRegsX86_64>) -> RegisterFile {
+        all_columns(&start.regs)
+    }
+
+    fn note_frame<M: Words>(
         &self,
         alloc: Global,
-        pc: u64,
+        address: FrameAddress,
         regs: UnwindRegsX86_64,
         words: &M,
-        limit: u32,
         notes: &mut Vec<Note>,
     ) -> Result<(), AllocError> {
-        note_walk(alloc, self.inner(), pc, regs, words, limit, notes)
+        note_frame(alloc, self.inner(), address, regs, words, notes)?;
+        Ok(())
     }
 }
 
 impl<D: SectionBytes + Drop> Steps for UnwinderAarch64<D, MayAllocateDuringUnwind> {
     ghost use Rattle.std.specs.Prelude.{refl};
-    ghost use Rattle.framehop.specs.Fresh.{step};
-    ghost use Rattle.framehop.specs.Aarch64.{aarch64};
-    ghost use Rattle.framehop.specs.Policy.{with_allocation};
+    ghost use Rattle.framehop_frames.specs.Walker.{aarch64_walker};
 
-    ghost step_by = { step (aarch64 with_allocation) };
+    ghost walker = { aarch64_walker };
+
+    ghost is_of_machine = { refl };
 
     ghost steps_by_modules = { λ unwinder. refl };
+
+    ghost info_by_modules = { λ unwinder. refl };
+
+    ghost rows_by_modules = { λ unwinder. refl };
 
     fn new_cache(alloc: Global) -> Result<CacheAarch64<MayAllocateDuringUnwind>, AllocError> {
         CacheAarch64::new(alloc)
@@ -110,15 +129,19 @@ impl<D: SectionBytes + Drop> Steps for UnwinderAarch64<D, MayAllocateDuringUnwin
         cache.stats()
     }
 
-    fn note_walk<M: Words>(
+    fn first_columns(start: &Start<UnwindRegsAarch64>) -> RegisterFile {
+        Self::columns(start.pc, &start.regs)
+    }
+
+    fn note_frame<M: Words>(
         &self,
         alloc: Global,
-        pc: u64,
+        address: FrameAddress,
         regs: UnwindRegsAarch64,
         words: &M,
-        limit: u32,
         notes: &mut Vec<Note>,
     ) -> Result<(), AllocError> {
-        note_walk(alloc, self.inner(), pc, regs, words, limit, notes)
+        note_frame(alloc, self.inner(), address, regs, words, notes)?;
+        Ok(())
     }
 }

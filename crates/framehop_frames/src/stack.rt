@@ -1,10 +1,23 @@
 //! The stack of a thread at a time.
 use framehop::FrameAddress;
-use framehop::walk::WalkEnd;
+use framehop_backtrace::{BacktraceEnd, FoundBy};
+
+/// A frame of a stack.
+#[derive(Clone, Copy, Drop)]
+pub struct StackFrame<R: Copy> {
+    /// Where it is in its code.
+    pub address: FrameAddress,
+    /// Its registers, as the library's step takes them.
+    pub regs: R,
+    /// How it was found.
+    pub found: FoundBy,
+    /// Whether it is in a trampoline, to which the handler of a signal returns.
+    pub is_trampoline: bool,
+}
 
 /// The frames of a stack, the innermost first, and how the walk ended.
 #[derive(Drop)]
-pub struct Stack {
-    pub frames: Vec<FrameAddress>,
-    pub end: WalkEnd,
+pub struct Stack<R: Copy> {
+    pub frames: Vec<StackFrame<R>>,
+    pub end: BacktraceEnd,
 }

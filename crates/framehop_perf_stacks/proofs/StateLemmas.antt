@@ -1,9 +1,6 @@
 -- States that agree lead to states that agree, and a sample has the same text at both.
 use Rattle.std.proofs.Common.{◌≡◌, ℕ, Bool, true, false, cond, List, map, Option, Some, None, Result, Ok, Err, refl, ap, ◌∙◌, subst}
 use Rattle.std.specs.Prelude.{◌==◌, ◌||◌}
-use Rattle.framehop_core.specs.CodeAddress.{FrameLocation}
-use Rattle.framehop_core.specs.Memory.{Memory}
-use Rattle.framehop_core.specs.Outcome.{Outcome}
 use Rattle.framehop.specs.Modules.{ModuleView}
 use Rattle.framehop_processes.specs.Mappings.{with_mapping}
 use Rattle.framehop_processes.specs.declared.mapping.Mapping.{Mapping}
@@ -22,6 +19,7 @@ use Rattle.framehop_frames.specs.Stack.{stack_text}
 use Rattle.framehop_perf_stacks.specs.declared.changes.Change.{Change}
 use Rattle.framehop_perf_stacks.specs.declared.changes.Change.TheVariants.{Map, Begin, Fork}
 use Rattle.framehop_symbols.specs.declared.files.Files.{Files}
+use Rattle.framehop_frames.specs.Walker.{Walker}
 use Rattle.framehop_frames.specs.declared.machine.Start.{Start}
 
 -- a choice between values that are the same is the same
@@ -73,18 +71,17 @@ module _ (mapped other : Mapped) (same : (pid : ℕ) → mapped pid ≡ other pi
   pub mapped-same : (files : Files) (r : RecordView) (pid : ℕ) → mapped_by (change_in files r) mapped pid ≡ mapped_by (change_in files r) other pid
   mapped-same files r pid = by-change (change_in files r) pid
 
-module _ {Regs : Type 0} (module_of : Mapping → ModuleView)
-    (step_by : List ModuleView → FrameLocation → Regs → Memory → Outcome Regs)
+module _ {Regs : Type 0} (module_of : Mapping → ModuleView) (walker : Walker Regs)
     (starts : List ModuleView → ℕ → List ℕ → Option (Start Regs) → Type 0) (frames : Bool) (limit : ℕ) (files : Files)
     (state other : State) (named : (tid : ℕ) → state.named tid ≡ other.named tid)
     (mapped : (pid : ℕ) → state.mapped pid ≡ other.mapped pid) where
   pub text-same : (sample : Result (SampleView × ℕ) RecordingError) (text : List ℕ)
-      → IsTextAt module_of step_by starts frames limit files state sample text
-      → IsTextAt module_of step_by starts frames limit files other sample text
+      → IsTextAt module_of walker starts frames limit files state sample text
+      → IsTextAt module_of walker starts frames limit files other sample text
   text-same (Ok sample) text told =
       let pid = sample.0.pid in
       let tid = sample.0.tid in
-      let P : List Mapping → Type 0 = λ mappings. IsUserStack step_by starts limit (map module_of mappings) sample.1 sample.0.user told.0 in (
+      let P : List Mapping → Type 0 = λ mappings. IsUserStack walker starts limit files mappings (map module_of mappings) sample.1 sample.0.user told.0 in (
         told.0,
         subst P (mapped pid) told.1,
         told.2

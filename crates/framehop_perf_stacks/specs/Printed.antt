@@ -1,12 +1,9 @@
 -- What is made of a recording.
 use Rattle.std.specs.Prelude.{ℕ, Bool, true, false, List, map, Option}
-use Rattle.framehop.specs.Aarch64.{aarch64}
-use Rattle.framehop.specs.Fresh.{step}
-use Rattle.framehop.specs.Policy.{with_allocation}
-use Rattle.framehop.specs.X86_64.{x86_64}
 use Rattle.framehop_folded.specs.declared.folded.Folded.{Folded}
 use Rattle.framehop_recording.specs.Attributes.{AttributeView, attribute_view}
 use Rattle.framehop_recording.specs.Records.{RecordView}
+use Rattle.framehop_frames.specs.Walker.{x86_64_walker, aarch64_walker}
 use Rattle.framehop_symbols.specs.Files.{module_at}
 use Rattle.framehop_perf_stacks.specs.Recording.{are_of_aarch64, records_in}
 use Rattle.framehop_perf_stacks.specs.Samples.{State, beginning, samples_from, Each, IsTextOf, IsMade}
@@ -17,9 +14,9 @@ use Rattle.framehop_perf_stacks.specs.declared.recording.Recording.{Recording}
 -- a text is that of a sample of one of the two architectures, by the modules of the files
 abbrev pub IsTextIn : Bool → Bool → ℕ → Files → List AttributeView → RecordView × State → List ℕ → Type 0
 IsTextIn true frames limit files attributes =
-    IsTextOf (module_at files) (step (aarch64 with_allocation)) StartsAarch64 frames limit files attributes
+    IsTextOf (module_at files) aarch64_walker StartsAarch64 frames limit files attributes
 IsTextIn false frames limit files attributes =
-    IsTextOf (module_at files) (step (x86_64 with_allocation)) StartsX86_64 frames limit files attributes
+    IsTextOf (module_at files) x86_64_walker StartsX86_64 frames limit files attributes
 
 -- the texts of a recording's samples, each by the state that the records before it lead to
 abbrev pub AreTextsOf : Recording → Files → Bool → ℕ → List (List ℕ) → Type 0

@@ -9,7 +9,6 @@ use Rattle.framehop_core.specs.Memory.{Memory}
 use Rattle.framehop_core.specs.Outcome.{Outcome}
 use Rattle.framehop.specs.Modules.{ModuleView}
 use Rattle.framehop.specs.StackBytes.{memory_of_bytes}
-use Rattle.framehop.specs.Walk.{walk_from}
 use Rattle.framehop_folded.specs.Folded.{entry_of}
 use Rattle.framehop_folded.specs.declared.folded.Folded.{Folded}
 use Rattle.framehop_processes.specs.Process.{ProcessView}
@@ -24,7 +23,10 @@ use Rattle.framehop_perf_stacks.specs.Changes.{change_in}
 use Rattle.framehop_perf_stacks.specs.Counts.{CountsOneMore}
 use Rattle.framehop_frames.specs.Explained.{IsShown}
 use Rattle.framehop_frames.specs.Line.{head_of}
-use Rattle.framehop_frames.specs.Stack.{StackView, walked, no_stack, stack_text}
+use Rattle.framehop_backtrace.specs.Code.{Code}
+use Rattle.framehop_frames.specs.Code.{bytes_after, code_of}
+use Rattle.framehop_frames.specs.Stack.{StackView, no_stack, stack_from, stack_text}
+use Rattle.framehop_frames.specs.Walker.{Walker}
 use Rattle.framehop_perf_stacks.specs.Names.{Named, named_in, named_after}
 use Rattle.framehop_perf_stacks.specs.Processes.{Mapped, mapped_in, after}
 use Rattle.framehop_perf_stacks.specs.Recording.{sample_in}
@@ -74,26 +76,29 @@ samples_from files state (r ∷ records) =
     if r.kind == PERF_RECORD_SAMPLE then (r, state) ∷ samples_from files (state_after files r state) records
     else samples_from files (state_after files r state) records
 
-module _ {Regs : Type 0} (step_by : List ModuleView → FrameLocation → Regs → Memory → Outcome Regs)
-    (starts : List ModuleView → ℕ → List ℕ → Option (Start Regs) → Type 0) (limit : ℕ) where
-  -- the walk over the bytes of a stack by the bytes of modules, from the registers with which it begins
-  abbrev pub stack_from : List ModuleView → List ℕ → Option (Start Regs) → StackView
-  stack_from modules bytes (Some start) =
-      let memory = memory_of_bytes start.sp bytes in
-      let walk = walk_from (λ location regs. step_by modules location regs memory) limit start.pc start.regs in
-      walked walk.frames walk.end
-  stack_from modules bytes None = no_stack (codes "no-registers")
+module _ {Regs : Type 0} (walker : Walker Regs)
+    (starts : List ModuleView → ℕ → List ℕ → Option (Start Regs) → Type 0) (limit : ℕ) (files : Files) where
+  -- the code of a process, whose stack from a stack pointer on has these bytes, by its mappings
+  abbrev pub code_in : List Mapping → List ℕ → ℕ → Code
+  code_in mappings bytes sp = code_of (bytes_after sp bytes) (λ address. false) files mappings
+
+  -- the stack over the bytes of a copy by the bytes of modules, from the registers with which it begins
+  abbrev pub sampled_from : List Mapping → List ModuleView → List ℕ → Option (Start Regs) → StackView
+  sampled_from mappings modules bytes (Some start) =
+      stack_from walker limit modules (memory_of_bytes start.sp bytes) (code_in mappings bytes start.sp) start
+  sampled_from mappings modules bytes None = no_stack (codes "no-registers")
 
   -- the same of the user's side of a sample, if it can be read
-  abbrev pub IsUserStack : List ModuleView → ℕ → Result UserView RecordingError → StackView → Type 0
-  IsUserStack modules mask (Ok user) stack =
-      (start : Option (Start Regs)) × starts modules mask user.registers start × (stack ≡ stack_from modules user.stack start)
-  IsUserStack modules mask (Err refusal) stack = stack ≡ no_stack (sample_refusal refusal)
+  abbrev pub IsUserStack : List Mapping → List ModuleView → ℕ → Result UserView RecordingError → StackView → Type 0
+  IsUserStack mappings modules mask (Ok user) stack =
+      (start : Option (Start Regs)) × starts modules mask user.registers start
+      × (stack ≡ sampled_from mappings modules user.stack start)
+  IsUserStack mappings modules mask (Err refusal) stack = stack ≡ no_stack (sample_refusal refusal)
 
   -- the same of a sample with the mask of its registers: its modules are those of its process's mappings
   abbrev pub IsSampleStack : (Mapping → ModuleView) → Mapped → Result (SampleView × ℕ) RecordingError → StackView → Type 0
   IsSampleStack module_of mapped (Ok sample) stack =
-      IsUserStack (map module_of (mapped sample.0.pid)) sample.1 sample.0.user stack
+      IsUserStack (mapped sample.0.pid) (map module_of (mapped sample.0.pid)) sample.1 sample.0.user stack
   IsSampleStack module_of mapped (Err refusal) stack = stack ≡ no_stack (sample_refusal refusal)
 
 -- the head of a sample's block, by the name of its thread; the thread of a sample that can't be read is not known
@@ -109,13 +114,12 @@ sample_text frames files state (Ok sample) stack =
 sample_text frames files state (Err refusal) stack =
     stack_text frames files (codes "[unknown]") (codes "[unknown]:\n") [] stack
 
-module _ {Regs : Type 0} (module_of : Mapping → ModuleView)
-    (step_by : List ModuleView → FrameLocation → Regs → Memory → Outcome Regs)
+module _ {Regs : Type 0} (module_of : Mapping → ModuleView) (walker : Walker Regs)
     (starts : List ModuleView → ℕ → List ℕ → Option (Start Regs) → Type 0) (frames : Bool) (limit : ℕ) (files : Files) where
   -- a text is that of a sample at a state: of its stack, by the modules of its process
   abbrev pub IsTextAt : State → Result (SampleView × ℕ) RecordingError → List ℕ → Type 0
   IsTextAt state sample text =
-      (stack : StackView) × IsSampleStack step_by starts limit module_of state.mapped sample stack
+      (stack : StackView) × IsSampleStack walker starts limit files module_of state.mapped sample stack
       × (text ≡ sample_text frames files state sample stack)
 
   -- the same of a record of a recording with these events

@@ -1,64 +1,40 @@
-//! Notes under the lines of a sample's block: where each frame's caller came from, and why its walk ended.
-ghost use Rattle.std.specs.Prelude.{◌≡◌, ◌+◌, ◌++◌, length, Ok, IfOk, OnOk, List, ℕ};
+//! Notes under the lines of a sample's block: where each frame's caller comes from, and why its walk ended.
+ghost use Rattle.std.specs.Prelude.{◌≡◌, ◌++◌, length, IfOk, OnOk, List, ℕ};
 ghost use Rattle.std.specs.Io.KnownBytes.{Appends};
-ghost use Rattle.framehop_recording.specs.Sample.{user_view};
 ghost use Rattle.framehop_frames.specs.Explained.{IsShown};
-ghost use Rattle.framehop_frames.specs.Stack.{StackView, line_count};
-ghost use Rattle.framehop_perf_stacks.specs.Samples.{IsUserStack};
+ghost use Rattle.framehop_frames.specs.Stack.{line_count, option_stack_view};
 
 use crate::error::StacksError;
 use crate::machine::Sampled;
 use framehop::walk::StackBytes;
 use framehop_explain::Note;
-use framehop_frames::explain::{end_note, shown_block};
+use framehop_frames::explain::{note_stack, shown_block};
 use framehop_frames::stack::Stack;
 use framehop_recording::sample::UserStack;
 use std::alloc::{AllocError, Global};
 use std::io::Write;
 
-/// Notes where each frame of a sample's stack came from, if it has the registers with which a walk begins.
-fn note_frames<U: Sampled>(
-    alloc: Global,
-    unwinder: &U,
-    mask: u64,
-    user: UserStack<'_>,
-    limit: u32,
-    notes: &mut Vec<Note>,
-) -> Result<(), AllocError>
-    ensures { OnOk result ((stack : StackView)
-        × IsUserStack U.step_by U.starts limit (U.unwinder_view unwinder.now).modules mask (Ok (user_view user.entry)) stack
-        × (length notes.new.items + 3 ≡ length notes.old.items + line_count stack)) }
-{
-    let Some(start) = unwinder.start(mask, user.registers) else {
-        return Ok(());
-    };
-    let words = StackBytes {
-        base: start.sp,
-        bytes: user.stack,
-    };
-    unwinder.note_walk(alloc, start.pc, start.regs, &words, limit, notes)?;
-    Ok(())
-}
-
-/// Returns a note for each line of the block of a sample: nothing of its head, where each frame's caller came from,
+/// Returns a note for each line of the block of a sample: nothing of its head, where each frame's caller comes from,
 /// why the walk ended, and nothing of the blank line.
 pub fn sample_notes<U: Sampled>(
     alloc: Global,
     unwinder: &U,
     mask: u64,
     user: UserStack<'_>,
-    walked: &Option<Stack>,
-    limit: u32,
+    walked: &Option<Stack<U::UnwindRegs>>,
 ) -> Result<Vec<Note>, AllocError>
-    ensures { IfOk result (λ notes. (stack : StackView)
-        × IsUserStack U.step_by U.starts limit (U.unwinder_view unwinder.now).modules mask (Ok (user_view user.entry)) stack
-        × (length notes.items ≡ line_count stack)) }
+    ensures { IfOk result (λ notes. length notes.items ≡ line_count (option_stack_view walked.now)) }
 {
     let mut notes = Vec::new(alloc);
-    notes.push(Note::new(alloc))?;
-    note_frames(alloc, unwinder, mask, user, limit, &mut notes)?;
-    notes.push(end_note(alloc, walked)?)?;
-    notes.push(Note::new(alloc))?;
+    let base = match unwinder.start(mask, user.registers) {
+        Some(start) => start.sp,
+        None => 0,
+    };
+    let words = StackBytes {
+        base,
+        bytes: user.stack,
+    };
+    note_stack(alloc, unwinder, &words, walked, &mut notes)?;
     Ok(notes)
 }
 

@@ -65,7 +65,7 @@ where
     U::Module: Drop,
     ensures { IfOk result (λ unwound. IfOk unwound.ended (λ refusal. (refusal ≡ recording.now.refusal)
         × ((texts : List (List ℕ))
-        × Each (IsTextOf (M.module_of maker.now) U.step_by U.starts options.frames options.limit files.now (map attribute_view recording.now.events.attributes.items))
+        × Each (IsTextOf (M.module_of maker.now) U.walker U.starts options.frames options.limit files.now (map attribute_view recording.now.events.attributes.items))
         (samples_from files.now beginning (records_in recording.now.records.items)) texts
         × IsMade options.frames options.explain texts unwound.folded (W.contents out.old) (W.contents out.new)))) }
 {

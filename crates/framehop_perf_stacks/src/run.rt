@@ -30,6 +30,8 @@ use crate::names::Names;
 use crate::processes::Processes;
 use crate::recording::{Recording, sample_of};
 use crate::stack::walk_sample;
+use framehop_cfi::context::UnwindContext;
+use framehop_cfi::storage::StoreOnHeap;
 use framehop_explain::Note;
 use framehop_frames::line::{
     block_head, end_name, folded_line, frames_block, refused_block, refused_line,
@@ -65,6 +67,7 @@ where
 {
     processes: Processes<U>,
     names: Names,
+    unwind_context: UnwindContext<StoreOnHeap>,
     cache: U::Cache,
     /// What was counted of the samples so far.
     pub counts: Counts,
@@ -97,14 +100,14 @@ fn head_of(alloc: Global, name: &[u8], sample: Option<Sample<'_>>) -> Result<Vec
 }
 
 /// Counts or writes the stack of a sample, by the name of its thread and its process's mappings in order.
-fn take_stack<W: Write>(
+fn take_stack<R: Copy, W: Write>(
     alloc: Global,
     counts: &mut Counts,
     files: &Files,
     mappings: &[Mapping],
     name: &[u8],
     sample: Sample<'_>,
-    stack: &Stack,
+    stack: &Stack<R>,
     notes: &[Note],
     options: Options,
     out: &mut W,
@@ -172,11 +175,11 @@ fn notes_of<U: Sampled>(
     unwinder: &U,
     mask: u64,
     user: UserStack<'_>,
-    walked: &Option<Stack>,
+    walked: &Option<Stack<U::UnwindRegs>>,
     options: Options,
-) -> Result<Vec<Note>, StacksError> {
+) -> Result<Vec<Note>, AllocError> {
     if options.frames && options.explain {
-        return Ok(sample_notes(alloc, unwinder, mask, user, walked, options.limit)?);
+        return sample_notes(alloc, unwinder, mask, user, walked);
     }
     Ok(Vec::new(alloc))
 }
@@ -197,6 +200,7 @@ where
         Ok(Run {
             processes: Processes::new(alloc),
             names: Names::new(alloc),
+            unwind_context: UnwindContext::new_in(alloc)?,
             cache: U::new_cache(alloc)?,
             counts: Counts::new(alloc),
         })
@@ -213,7 +217,7 @@ where
         alloc: Global,
         files: &Files,
         sample: Sample<'_>,
-        walked: &Option<Stack>,
+        walked: &Option<Stack<U::UnwindRegs>>,
         notes: &[Note],
         options: Options,
         out: &mut W,
@@ -277,13 +281,22 @@ where
         ensures names { self.new.names ≡ self.old.names }
         ensures told { OnOk result ((module_of : Mapping → ModuleView)
             → IsServed module_of (λ view. U.is_sound view self.old.cache) self.old.processes.by_pid self.old.processes.generations
-            → (stack : StackView) × IsUserStack U.step_by U.starts options.limit (map module_of (mapped_in self.old.processes.by_pid sample.entry.pid)) mask (Ok (user_view user.entry)) stack
+            → (stack : StackView) × IsUserStack U.walker U.starts options.limit files.now (mapped_in self.old.processes.by_pid sample.entry.pid) (map module_of (mapped_in self.old.processes.by_pid sample.entry.pid)) mask (Ok (user_view user.entry)) stack
             × IsTaken options.frames options.explain (stack_text options.frames files.now (named_in self.old.names sample.entry.tid) (head_text (named_in self.old.names sample.entry.tid) (Some sample.entry)) (mapped_in self.old.processes.by_pid sample.entry.pid) stack)
             self.old.counts.stacks self.new.counts.stacks (W.contents out.old) (W.contents out.new)) }
     {
-        let unwinder = self.processes.known(sample.pid).unwinder();
-        let walked = walk_sample(alloc, unwinder, &mut self.cache, mask, user, options.limit)?;
-        let notes = notes_of(alloc, unwinder, mask, user, &walked, options)?;
+        let process = self.processes.known(sample.pid);
+        let walked = walk_sample(
+            alloc,
+            files,
+            process,
+            &mut self.unwind_context,
+            &mut self.cache,
+            mask,
+            user,
+            options.limit,
+        )?;
+        let notes = notes_of(alloc, process.unwinder(), mask, user, &walked, options)?;
         self.take_walked(
             alloc,
             files,
@@ -314,7 +327,7 @@ where
         ensures mapped { OnOk result ((pid : ℕ) → mapped_in self.new.processes.by_pid pid ≡ mapped_in self.old.processes.by_pid pid) }
         ensures told { OnOk result ((module_of : Mapping → ModuleView)
             → IsServed module_of (λ view. U.is_sound view self.old.cache) self.old.processes.by_pid self.old.processes.generations
-            → (text : List ℕ) × IsTextAt module_of U.step_by U.starts options.frames options.limit files.now (state_in self.old.names self.old.processes.by_pid) (Ok (sample_view sample.entry, mask)) text
+            → (text : List ℕ) × IsTextAt module_of U.walker U.starts options.frames options.limit files.now (state_in self.old.names self.old.processes.by_pid) (Ok (sample_view sample.entry, mask)) text
             × IsTaken options.frames options.explain text self.old.counts.stacks self.new.counts.stacks (W.contents out.old) (W.contents out.new)) }
     {
         let user = match sample.user {
@@ -355,7 +368,7 @@ where
         ensures mapped { OnOk result ((pid : ℕ) → mapped_in self.new.processes.by_pid pid ≡ mapped_in self.old.processes.by_pid pid) }
         ensures told { OnOk result ((module_of : Mapping → ModuleView)
             → IsServed module_of (λ view. U.is_sound view self.old.cache) self.old.processes.by_pid self.old.processes.generations
-            → (text : List ℕ) × IsTextAt module_of U.step_by U.starts options.frames options.limit files.now (state_in self.old.names self.old.processes.by_pid) (sample_in (map attribute_view events.now.attributes.items) (record_view «record».entry)) text
+            → (text : List ℕ) × IsTextAt module_of U.walker U.starts options.frames options.limit files.now (state_in self.old.names self.old.processes.by_pid) (sample_in (map attribute_view events.now.attributes.items) (record_view «record».entry)) text
             × IsTaken options.frames options.explain text self.old.counts.stacks self.new.counts.stacks (W.contents out.old) (W.contents out.new)) }
     {
         match sample_of(events, record) {
@@ -410,7 +423,7 @@ where
         ensures state { OnOk result (Agrees self.new.names self.new.processes.by_pid
             (state_after files.now (record_view «record».entry) (state_in self.old.names self.old.processes.by_pid))) }
         ensures sample { «record».entry.kind ≡ PERF_RECORD_SAMPLE → OnOk result ((text : List ℕ)
-            × IsTextOf (M.module_of maker.now) U.step_by U.starts options.frames options.limit files.now (map attribute_view events.now.attributes.items)
+            × IsTextOf (M.module_of maker.now) U.walker U.starts options.frames options.limit files.now (map attribute_view events.now.attributes.items)
             (record_view «record».entry, state_in self.old.names self.old.processes.by_pid) text
             × IsTaken options.frames options.explain text self.old.counts.stacks self.new.counts.stacks (W.contents out.old) (W.contents out.new)) }
         ensures other { «record».entry.kind ≢ PERF_RECORD_SAMPLE → (self.new.counts.stacks ≡ self.old.counts.stacks) × (out.new ≡ out.old) }
@@ -447,7 +460,7 @@ where
         ensures state { (state : State) → Agrees self.old.names self.old.processes.by_pid state → OnOk result
             (Agrees self.new.names self.new.processes.by_pid (state_over files.now (records_in recording.now.records.items) state)) }
         ensures told { (state : State) → Agrees self.old.names self.old.processes.by_pid state → OnOk result ((texts : List (List ℕ))
-            × Each (IsTextOf (M.module_of maker.now) U.step_by U.starts options.frames options.limit files.now (map attribute_view recording.now.events.attributes.items))
+            × Each (IsTextOf (M.module_of maker.now) U.walker U.starts options.frames options.limit files.now (map attribute_view recording.now.events.attributes.items))
             (samples_from files.now state (records_in recording.now.records.items)) texts
             × AreTaken options.frames options.explain texts self.old.counts.stacks self.new.counts.stacks (W.contents out.old) (W.contents out.new)) }
     {

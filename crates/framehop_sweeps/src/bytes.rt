@@ -146,7 +146,7 @@ static FDES: [Sweep; 2] = [
 /// Sweeps over other call frame sections.
 ///
 /// A header with a count that is relative to the text (23 and 2B in its encoding) has no FDE here, and the original
-/// reads it. `tools/sweeps.py` puts a header of version 0, which has no FDE for both, in the place of these two.
+/// reads it. `checks/sweeps.py` puts a header of version 0, which has no FDE for both, in the place of these two.
 static CALL_FRAME_SECTIONS: [Sweep; 3] = [
     Sweep {
         sections: Sections::EhFrameHdr(ONE_FDE, HEADER),
@@ -171,7 +171,7 @@ static CALL_FRAME_SECTIONS: [Sweep; 3] = [
 /// A sweep over `__unwind_info`.
 ///
 /// A page of kind 3 whose own list of opcodes does not lie in the bytes is refused here as a whole, and the original
-/// reads it. `tools/sweeps.py` puts a page of kind 4, which both refuse, in the place of this one.
+/// reads it. `checks/sweeps.py` puts a page of kind 4, which both refuse, in the place of this one.
 static COMPACT: [Sweep; 1] = [Sweep {
     sections: Sections::UnwindInfo(UNWIND_INFO),
     place: 0,

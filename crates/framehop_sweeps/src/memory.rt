@@ -1,4 +1,4 @@
-//! Allocations that fail. `tools/refuse-allocations-in-tests.sh` lets one after another fail in each of these tests.
+//! Allocations that fail. `checks/refuse_allocations_in_tests.sh` lets one after another fail in each of these tests.
 use crate::cases::{Case, EXAMPLES};
 use crate::sections::Sections;
 use crate::steps::{Caches, Failing, SWEPT_STACK, Unwinders, frame_at, step};

@@ -2,3 +2,4 @@
 pub mod ObjectFiles
 pub mod Files
 pub mod Place
+pub mod Code

@@ -1,5 +1,5 @@
 -- What is kept of the files that processes map, ELF files and PE files, by their bytes.
-use Rattle.std.specs.Prelude.{◌≡◌, ◌⊎◌, ℕ, nat_eq, bit_and, ◌==◌, List, [], ◌∷◌, ◌++◌, map, codes, Bool, false, not, if◌then◌else◌, Option, Some, None, option_to_list, unwrap_or, Result, Ok, Err}
+use Rattle.std.specs.Prelude.{◌≡◌, ◌⊎◌, ℕ, nat_eq, bit_and, ◌==◌, List, [], ◌∷◌, ◌++◌, map, take, drop, codes, Bool, false, not, if◌then◌else◌, Option, Some, None, option_to_list, unwrap_or, Result, Ok, Err}
 use Rattle.std.specs.List.{starts_with}
 use Rattle.std.specs.Cmp.Lexicographic.{pointwise}
 use Rattle.std.specs.List.Sorted.{IsPermutation, IsStableByKey}
@@ -31,6 +31,7 @@ use Rattle.framehop_pe_file.specs.declared.header.FileHeader.{FileHeader}
 use Rattle.framehop_pe_file.specs.declared.section_header.SectionHeader.{SectionHeader as PeSectionHeader}
 use Rattle.framehop.specs.Modules.{ModuleView}
 use Rattle.framehop.specs.ModuleData.{unwind_data_in}
+use Rattle.framehop_symbols.specs.declared.code.SegmentCode.{SegmentCode}
 use Rattle.framehop_symbols.specs.declared.object_file.ObjectFile.{ObjectFile}
 use Rattle.framehop_symbols.specs.declared.object_file.FileProblem.{FileProblem}
 use Rattle.framehop_symbols.specs.declared.object_file.FileProblem.TheVariants.{OtherBuildId, Elf, Pe}
@@ -118,9 +119,27 @@ module_in file headers = record {
   unwind_data = unwind_data_in (λ bytes. bytes) (table_of (unwind_sections_of file headers.sections headers.names));
 }
 
--- what a file says that is kept: its segments, its build id, its module and its symbol tables
+-- the code of a segment: where it begins, and its bytes in the file, or none where it may not be executed
+pub record CodeView : Type 0 where
+  pub start : ℕ
+  pub bytes : List ℕ
+
+abbrev pub code_view : SegmentCode → CodeView
+code_view code = record { start = code.start; bytes = code.bytes.items }
+
+abbrev pub code_of_segment : List ℕ → Segment → CodeView
+code_of_segment file segment = record {
+  start = segment.address;
+  bytes = take (if segment.is_code then segment.file_size else 0) (drop segment.offset file);
+}
+
+abbrev pub code_of : List ℕ → List Segment → List CodeView
+code_of file segments = map (code_of_segment file) segments
+
+-- what a file says that is kept: its segments, their code, its build id, its module and its symbol tables
 pub record Contents : Type 0 where
   pub segments : List Segment
+  pub code : List CodeView
   pub build_id : List ℕ
   pub loaded : ModuleView
   pub tables : List Listed
@@ -129,6 +148,7 @@ pub record Contents : Type 0 where
 abbrev pub elf_contents : List ℕ → HeadersView → Contents
 elf_contents file headers = record {
   segments = loaded_segments_of headers.segments;
+  code = code_of file (loaded_segments_of headers.segments);
   build_id = build_id_in file headers;
   loaded = module_in file headers;
   tables = tables_of file headers;
@@ -176,6 +196,7 @@ pe_module_in file header sections = record {
 abbrev pub pe_contents : List ℕ → FileHeader → List PeSectionHeader → Contents
 pe_contents file header sections = record {
   segments = map segment_of sections;
+  code = code_of file (map segment_of sections);
   build_id = identity_of file header sections;
   loaded = pe_module_in file header sections;
   tables = [];
@@ -219,6 +240,7 @@ IsOutOfMemory problem = (problem ≡ Elf ElfOutOfMemory) ⊎ (problem ≡ Pe PeO
 -- what is kept of a file with these contents, and of the symbol tables of its debug file
 pub record IsKeptBy (contents : Contents) (debug : List Listed) (object : ObjectFile) : Type 0 where
   pub segments : object.segments.items ≡ contents.segments
+  pub code : map code_view object.code.items ≡ contents.code
   pub build_id : object.build_id.items ≡ contents.build_id
   pub loaded : object.«module» ≡ contents.loaded
   pub tables : AreTables (debug ++ contents.tables) object.symbols.items

@@ -2,6 +2,7 @@
 //! of mappings.
 #![tactic(auto)]
 
+pub mod code;
 pub mod files;
 pub mod object_file;
 mod pe_file;

@@ -1,15 +1,17 @@
 //! A file that processes map, an ELF file or a PE file: where it is loaded, its unwind data and its symbols.
 //!
-//! The sections are copied and the file's bytes are let go, since a run has many files. The module lies at no
-//! address: the modules of all mappings of the file share its unwind data.
+//! The sections and the code are copied and the file's bytes are let go, since a run has many files. The module lies at
+//! no address: the modules of all mappings of the file share its unwind data.
 ghost use Rattle.std.specs.Prelude.{◌≡◌, ◌⊎◌, ◌↔◌, IsTrue, ℕ, List, [], ◌++◌, Some, None, Ok, Err, IfOk, IfErr, OnOk, MatchResult, option_map, option_to_list};
 ghost use Rattle.framehop_elf.specs.Symbol.{symbol_for};
 ghost use Rattle.framehop_elf.specs.declared.error.ElfError.{ElfError};
 ghost use Rattle.framehop_memory.specs.Segment.{base_of};
 ghost use Rattle.framehop_symbols.specs.ObjectFiles.{Contents, Listed, headers_view, headers_of, build_id_in, is_another, problem_by, problem_of, symbols_in, symbols_called, tables_of, debug_tables_of, IsTable, AreTables, module_in, elf_contents_of, pe_contents_of, IsOutOfMemory, IsKeptBy, IsKeptOf};
+ghost use Rattle.framehop_symbols.specs.Code.{code_of_object};
 ghost use Rattle.framehop_symbols.specs.Place.{option_named, function_at};
 ghost use Rattle.framehop_symbols.specs.declared.object_file.FileProblem.{FileProblem};
 
+use crate::code::{SegmentCode, code_from, code_of};
 use crate::pe_file;
 use framehop::Module;
 use framehop_bytes::string::string_at;
@@ -47,10 +49,12 @@ impl Symbols {
     }
 }
 
-/// A file that processes map: its segments, its functions, and its unwind data, which is read once.
+/// A file that processes map: its segments with their code, its functions, and its unwind data, which is read once.
 #[derive(Drop)]
 pub struct ObjectFile {
     segments: Vec<Segment>,
+    /// The code of each segment.
+    code: Vec<SegmentCode>,
     symbols: Vec<Symbols>,
     /// At no address. The modules of mappings share its unwind data.
     module: Module<Vec<u8>>,
@@ -286,11 +290,13 @@ fn read_elf(alloc: Global, bytes: &[u8], wanted: &[u8]) -> Result<ObjectFile, Fi
         return Err(FileProblem::OtherBuildId);
     }
     let segments = loaded_segments(alloc, headers.segments.as_slice())?;
+    let code = code_of(alloc, bytes, segments.as_slice())?;
     let symbols = read_all_symbols(alloc, bytes, &headers)?;
     let module = module_in(alloc, bytes, &headers)?;
     let build_id = Vec::from_slice(alloc, found)?;
     Ok(ObjectFile {
         segments,
+        code,
         symbols,
         module,
         build_id,
@@ -312,9 +318,11 @@ fn read_pe(alloc: Global, bytes: &[u8], wanted: &[u8]) -> Result<ObjectFile, Fil
     }
     let module = pe_file::module_in(alloc, bytes, header, sections.as_slice())?;
     let segments = pe_file::segments_of(alloc, sections.as_slice())?;
+    let code = code_of(alloc, bytes, segments.as_slice())?;
     let build_id = Vec::from_slice(alloc, identity)?;
     Ok(ObjectFile {
         segments,
+        code,
         symbols: Vec::new(alloc),
         module,
         build_id,
@@ -369,6 +377,13 @@ impl ObjectFile {
         ensures { result ≡ base_of self.now.segments.items offset size avma }
     {
         base_avma(self.segments.as_slice(), offset, size, avma)
+    }
+
+    /// Returns the code of the file from an address (SVMA) on, as far as a segment has it.
+    pub fn code_from(&self, svma: u64) -> Option<&[u8]>
+        ensures { option_map (λ code. code.now) result ≡ code_of_object svma self.now }
+    {
+        code_from(self.code.as_slice(), svma)
     }
 
     /// Returns a module of the file that lies at no address.

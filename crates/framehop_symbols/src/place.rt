@@ -42,7 +42,7 @@ fn mapping_from(mappings: &[Mapping], place: usize, address: u64) -> Option<Mapp
 }
 
 /// Returns the mapping that has an address (AVMA), of mappings in order.
-fn mapping_at(mappings: &[Mapping], address: u64) -> Option<Mapping>
+pub(crate) fn mapping_at(mappings: &[Mapping], address: u64) -> Option<Mapping>
     requires { IsInOrder 0 mappings.now }
     ensures { result ≡ find (has_address address) mappings.now }
 {

@@ -1,4 +1,4 @@
-//! Worked examples of the library that only calls can show: the other rows are in `cases/`. This crate has only tests.
+//! Worked examples of the library that only calls can show: the other rows are in `checks/cases/`. This crate has only tests.
 #![tactic(auto)]
 
 #[cfg(test)]

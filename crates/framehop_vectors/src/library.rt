@@ -226,7 +226,7 @@ fn makes(alloc: Global, is_stepped: bool) -> Result<bool, Fail> {
 }
 
 /// Steps and the calls of an iterator ask for no memory: this test and the next ask for it as often,
-/// which `tools/refuse-allocations-in-tests.sh` shows by refusing one request after another.
+/// which `checks/refuse_allocations_in_tests.sh` shows by refusing one request after another.
 #[test]
 fn requests_of_the_makers(rt: HostRuntime) -> Result<(), Fail> {
     holds(makes(rt.alloc(), false)?)

@@ -1,4 +1,4 @@
-//! The program over readers and writers that fail: the other rows are in `cases/`. This crate has only tests.
+//! The program over readers and writers that fail: the other rows are in `checks/cases/`. This crate has only tests.
 #![tactic(auto)]
 
 #[cfg(test)]

@@ -7,5 +7,6 @@ use Rattle.framehop_dump_stacks.proofs.explain.threads_notes.Given as goal
 
 abbrev pub invariant-loop-thread : goal.invariant-loop-thread
 invariant-loop-thread g l =
-    length l.notes.items ≡ sum_by (λ thread. line_count (thread_stack g.U.Steps.step_by g.U.Dumped.begins l.limit l.process.unwinder.modules (dump_view l.dump) (thread_view thread)))
-    (take l.thread-index l.dump.threads.items)
+    g.U.Unwinder.is_sound l.process.unwinder l.cache
+    × (length l.notes.items ≡ sum_by (λ thread. line_count (thread_stack g.U.Steps.walker g.U.Dumped.begins l.limit l.files l.process.mappings l.process.unwinder.modules (dump_view l.dump) (thread_view thread)))
+    (take l.thread-index l.dump.threads.items))

@@ -20,7 +20,7 @@ loop-thread-preserved g c =
     let within : l.thread-index < length items = omega arith in (
       c.in_ok-push_thread.ensures.stays_sound process.unwinder (λ same. refl) l.invariant.0,
       text-next (λ thread. thread_text dump c.args.files.now process.mappings (thread_view thread)
-          (thread_stack g.U.Steps.step_by g.U.Dumped.begins c.args.limit process.unwinder.modules dump (thread_view thread)))
+          (thread_stack g.U.Steps.walker g.U.Dumped.begins c.args.limit c.args.files.now process.mappings process.unwinder.modules dump (thread_view thread)))
           items c.args.dump.now.threads.items c.deref-thread-items.ensures.value l.thread-index _ within _ _ l.invariant.1
           (c.in_ok-push_thread.ensures.told l.invariant.0),
     )
@@ -32,6 +32,6 @@ returns g c =
     let dump = dump_view c.args.dump.now in
     let threads = c.args.dump.now.threads.items in
     let block : ThreadView → List ℕ = λ thread. thread_text dump c.args.files.now process.mappings thread
-    (thread_stack g.U.Steps.step_by g.U.Dumped.begins c.args.limit process.unwinder.modules dump thread) in
+    (thread_stack g.U.Steps.walker g.U.Dumped.begins c.args.limit c.args.files.now process.mappings process.unwinder.modules dump thread) in
     l.invariant.1 ∙ ap (λ some. flat_map (λ thread. block (thread_view thread)) some) (take_all l.thread-index threads (omega arith))
     ∙ sym (flat_map-map block thread_view threads)

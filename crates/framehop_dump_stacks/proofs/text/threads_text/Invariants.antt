@@ -9,5 +9,5 @@ abbrev pub invariant-loop-thread : goal.invariant-loop-thread
 invariant-loop-thread g l =
     g.U.Unwinder.is_sound l.process.unwinder l.cache
     × (l.text.items ≡ flat_map (λ thread. thread_text (dump_view l.dump) l.files l.process.mappings (thread_view thread)
-    (thread_stack g.U.Steps.step_by g.U.Dumped.begins l.limit l.process.unwinder.modules (dump_view l.dump) (thread_view thread)))
+    (thread_stack g.U.Steps.walker g.U.Dumped.begins l.limit l.files l.process.mappings l.process.unwinder.modules (dump_view l.dump) (thread_view thread)))
     (take l.thread-index l.dump.threads.items))

@@ -1,12 +1,12 @@
 use Rattle.std.proofs.Common.{arith}
 use Rattle.std.proofs.lemmas.Grind.{common_steps}
-use Rattle.framehop_core.specs.CodeAddress.{location_of}
 use Rattle.framehop_frames.specs.Line.{frame_label, line_of}
+use Rattle.framehop_frames.specs.Stack.{shown_frame}
 use Rattle.framehop_frames.proofs.LineLemmas.{frames_text-map}
 use Rattle.framehop_frames.proofs.line.folded_line.Goals as goal
 
 pub returns : goal.returns
 unfolding line_of
-returns c =
-    let labels = frames_text-map (frame_label c.args.files.now c.args.mappings.now) location_of c.args.stack.now.frames.items in
+returns g c =
+    let labels = frames_text-map (frame_label c.args.files.now c.args.mappings.now) shown_frame c.args.stack.now.frames.items in
     grind (arith, common_steps, labels)

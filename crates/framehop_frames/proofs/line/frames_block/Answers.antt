@@ -1,11 +1,11 @@
 use Rattle.std.proofs.Common.{arith}
 use Rattle.std.proofs.lemmas.Grind.{common_steps}
 use Rattle.std.proofs.lemmas.List.Folds.{flat_map-map}
-use Rattle.framehop_core.specs.CodeAddress.{location_of}
 use Rattle.framehop_frames.specs.Line.{frame_line}
+use Rattle.framehop_frames.specs.Stack.{shown_frame}
 use Rattle.framehop_frames.proofs.line.frames_block.Goals as goal
 
 pub returns : goal.returns
-returns c =
-    let lines = flat_map-map (frame_line c.args.files.now c.args.mappings.now) location_of c.args.stack.now.frames.items in
+returns g c =
+    let lines = flat_map-map (frame_line c.args.files.now c.args.mappings.now) shown_frame c.args.stack.now.frames.items in
     grind (arith, common_steps, lines)

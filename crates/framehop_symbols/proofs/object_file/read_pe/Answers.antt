@@ -12,6 +12,7 @@ returns-clause-kept c =
       ap (pe_contents_by file) read,
       record {
         segments = search rules;
+        code = search rules;
         build_id = search rules;
         loaded = search rules;
         tables = search rules;

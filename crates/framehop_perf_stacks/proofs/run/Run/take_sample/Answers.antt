@@ -34,7 +34,7 @@ returns-clause-told g c = λ module_of served.
     let told = c.in_ok-take_user.ensures.told module_of (c.in_ok-meet.ensures.served module_of c.args.self.now.cache served) in
     let met = c.in_ok-meet.ensures.kept pid in
     let P : List Mapping → Type 0 = λ list.
-    IsUserStack g.U.Steps.step_by g.U.Sampled.starts c.args.options.limit (map module_of list) c.args.mask (Ok (user_view c.in-Ok.user)) told.0 in
+    IsUserStack g.U.Steps.walker g.U.Sampled.starts c.args.options.limit c.args.files.now list (map module_of list) c.args.mask (Ok (user_view c.in-Ok.user)) told.0 in
     let user = subst P met told.1 in
     let taken = told.2 in (
       stack_text c.args.options.frames c.args.files.now name head mappings told.0,

@@ -1,6 +1,9 @@
-use Rattle.std.proofs.Common.{List, Ok, ap, ◌∙◌, subst}
+use Rattle.std.proofs.Common.{◌≡◌, List, [], map, Ok, ap, sym, subst}
+use Rattle.std.specs.Prelude.{option_map, unwrap_or}
 use Rattle.framehop.specs.Modules.{ModuleView}
+use Rattle.framehop_processes.specs.declared.mapping.Mapping.{Mapping}
 use Rattle.framehop_recording.specs.Sample.{user_view}
+use Rattle.framehop_perf_stacks.specs.Processes.{mapped_in}
 use Rattle.framehop_perf_stacks.specs.Samples.{IsUserStack}
 use Rattle.framehop_frames.specs.Stack.{option_stack_view}
 use Rattle.framehop_perf_stacks.proofs.ServedLemmas.{served-after, fit-known, modules-known}
@@ -9,20 +12,23 @@ use Rattle.framehop_perf_stacks.proofs.run.Run.take_user.Goals as goal
 pub returns-clause-served : goal.returns-clause-served
 returns-clause-served g c = λ module_of served.
     rw (c.in_ok-take_walked.ensures.processes, c.in_ok-take_walked.ensures.cache)
-    (served-after module_of _ _ _ _ c.known.result.now
-    (λ other apart sound. c.in_ok-walked.ensures.stays_sound other (rw c.unwinder-unwinder.ensures apart) sound)
-    c.args.sample.pid c.known.ensures served)
+    (served-after module_of _ _ _ _ c.known-process.result.now
+    (λ other apart sound. c.in_ok-walked.ensures.stays_sound other apart sound)
+    c.args.sample.pid c.known-process.ensures served)
 
 pub returns-clause-told : goal.returns-clause-told
 returns-clause-told g c = λ module_of served.
     let pid = c.args.sample.pid in
-    let fit = fit-known module_of _ _ _ pid c.known.result.now c.known.ensures served in
-    let modules = modules-known module_of _ _ _ pid c.known.result.now c.known.ensures served in
-    let same = c.unwinder-unwinder.ensures in
-    let told = c.in_ok-walked.ensures.walked (rw same fit.sound) in
-    let P : List ModuleView → Type 0 = λ list.
-    IsUserStack g.U.Steps.step_by g.U.Sampled.starts c.args.options.limit list c.args.mask (Ok (user_view c.args.user)) (option_stack_view c.in_ok-walked.walked) in (
-      option_stack_view c.in_ok-walked.walked,
-      subst P (ap (λ unwinder. unwinder.modules) same ∙ modules) told,
+    let process = c.known-process.result.now in
+    let fit = fit-known module_of _ _ _ pid process c.known-process.ensures served in
+    let modules = modules-known module_of _ _ _ pid process c.known-process.ensures served in
+    let mapped : process.mappings ≡ mapped_in c.args.self.now.processes.by_pid pid =
+    sym (ap (λ found. unwrap_or (option_map (λ known. known.mappings) found) []) c.known-process.ensures) in
+    let stack = option_stack_view c.in_ok-walked.walked in
+    let Told : List Mapping → List ModuleView → Type 0 = λ mappings list.
+    IsUserStack g.U.Steps.walker g.U.Sampled.starts c.args.options.limit c.args.files.now mappings list c.args.mask (Ok (user_view c.args.user)) stack in (
+      stack,
+      subst (λ mappings. Told mappings (map module_of (mapped_in c.args.self.now.processes.by_pid pid))) mapped
+          (subst (Told process.mappings) modules (c.in_ok-walked.ensures.walked fit.sound)),
       c.in_ok-take_walked.ensures.taken,
     )

@@ -1,0 +1,34 @@
+-- The code of a process: of its memory as an input has it, and of the files that it maps.
+use Rattle.std.specs.Prelude.{ℕ, ◌-◌, Bool, ◌||◌, ◌&&◌, nat_le, nat_lt, List, length, take, drop, Option, Some, None, option_and_then, if◌then◌else◌}
+use Rattle.std.specs.Option.{option_or}
+use Rattle.framehop_processes.specs.declared.mapping.Mapping.{Mapping}
+use Rattle.framehop_signal.specs.Trampoline.{is_trampoline}
+use Rattle.framehop_symbols.specs.Code.{code_at, is_mapped}
+use Rattle.framehop_symbols.specs.declared.files.Files.{Files}
+use Rattle.framehop_backtrace.specs.Call.{passes}
+use Rattle.framehop_backtrace.specs.Code.{Code}
+
+-- those of a copy of a stack from an address on, which begins at a base
+abbrev pub bytes_after : ℕ → List ℕ → ℕ → Option (List ℕ)
+bytes_after base bytes address =
+    if nat_le base address && nat_lt (address - base) (length bytes) then Some (drop (address - base) bytes) else None
+
+-- the bytes from an address on: those that are known, or else the code of a mapped file
+abbrev pub bytes_from : (ℕ → Option (List ℕ)) → Files → List Mapping → ℕ → Option (List ℕ)
+bytes_from known files mappings address = option_or (known address) (code_at files mappings address)
+
+-- so many of them, if there are
+abbrev pub front_of : ℕ → List ℕ → Option (List ℕ)
+front_of size bytes = if nat_le size (length bytes) then Some (take size bytes) else None
+
+abbrev pub bytes_at : (ℕ → Option (List ℕ)) → Files → List Mapping → ℕ → ℕ → Option (List ℕ)
+bytes_at known files mappings address size = option_and_then (front_of size) (bytes_from known files mappings address)
+
+-- The code of a process: what a file is mapped to is executable, and what is known to be. A trampoline is known by its
+-- bytes.
+abbrev pub code_of : (ℕ → Option (List ℕ)) → (ℕ → Bool) → Files → List Mapping → Code
+code_of known is_code files mappings = record {
+  bytes = bytes_at known files mappings;
+  is_executable = λ address. is_mapped mappings address || is_code address;
+  is_trampoline = λ address. passes is_trampoline (bytes_from known files mappings address);
+}
