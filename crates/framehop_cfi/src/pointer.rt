@@ -76,6 +76,43 @@ pub const DW_EH_PE_INDIRECT: u8 = 0x80;
 /// The encoding of a pointer that is not there.
 pub const DW_EH_PE_OMIT: u8 = 0xff;
 
+impl SectionBaseAddresses {
+    ghost use Rattle.framehop_cfi.specs.Pointer.{base_of, application_of, pointer_at};
+
+    /// Returns a pointer of that encoding. Whether it is indirect is not looked at.
+    #[tactic(auto, unfolding(crate::specs::Pointer::pointer_at))]
+    pub fn read_pointer(
+        &self,
+        bytes: &[u8],
+        at: usize,
+        encoding: u8,
+    ) -> Result<(u64, usize), ReadError>
+        ensures exact { result ≡ pointer_at self.now encoding bytes.now at }
+        ensures forward { IfOk result (λ read. at < read.1) }
+        ensures refusal { IfErr result IsSliceRefusal }
+        ensures memory { result ≢ Err ReadError.OutOfMemory }
+    {
+        let base = self.base(at, encoding)?;
+        let (raw, next) = read_raw_pointer(bytes, at, encoding)?;
+        Ok((base.wrapping_add(raw), next))
+    }
+
+    /// Returns what a pointer at that offset counts from.
+    fn base(&self, at: usize, encoding: u8) -> Result<u64, ReadError>
+        ensures exact { result ≡ base_of self.now at (application_of encoding) }
+        ensures refusal { IfErr result IsSliceRefusal }
+        ensures memory { result ≢ Err ReadError.OutOfMemory }
+    {
+        match encoding / 16 % 8 * 16 {
+            DW_EH_PE_ABSPTR => Ok(0),
+            DW_EH_PE_PCREL => Ok(self.section.wrapping_add(at as u64)),
+            DW_EH_PE_TEXTREL => Ok(self.text),
+            DW_EH_PE_DATAREL => Ok(self.data),
+            _ => Err(ReadError::BadEncoding),
+        }
+    }
+}
+
 /// Returns a pointer by its format only (the encoding's low four bits), as a number of 64 bits.
 #[tactic(auto, unfolding(crate::specs::Raw::raw_at))]
 pub fn read_raw_pointer(bytes: &[u8], at: usize, encoding: u8) -> Result<(u64, usize), ReadError>
@@ -123,41 +160,4 @@ fn sign_extend_32(number: u32) -> u64
     ensures { result ≡ sign_extended 32 number }
 {
     i64::from(number.cast_signed()).cast_unsigned()
-}
-
-impl SectionBaseAddresses {
-    ghost use Rattle.framehop_cfi.specs.Pointer.{base_of, application_of, pointer_at};
-
-    /// Returns what a pointer at that offset counts from.
-    fn base(&self, at: usize, encoding: u8) -> Result<u64, ReadError>
-        ensures exact { result ≡ base_of self.now at (application_of encoding) }
-        ensures refusal { IfErr result IsSliceRefusal }
-        ensures memory { result ≢ Err ReadError.OutOfMemory }
-    {
-        match encoding / 16 % 8 * 16 {
-            DW_EH_PE_ABSPTR => Ok(0),
-            DW_EH_PE_PCREL => Ok(self.section.wrapping_add(at as u64)),
-            DW_EH_PE_TEXTREL => Ok(self.text),
-            DW_EH_PE_DATAREL => Ok(self.data),
-            _ => Err(ReadError::BadEncoding),
-        }
-    }
-
-    /// Returns a pointer of that encoding. Whether it is indirect is not looked at.
-    #[tactic(auto, unfolding(crate::specs::Pointer::pointer_at))]
-    pub fn read_pointer(
-        &self,
-        bytes: &[u8],
-        at: usize,
-        encoding: u8,
-    ) -> Result<(u64, usize), ReadError>
-        ensures exact { result ≡ pointer_at self.now encoding bytes.now at }
-        ensures forward { IfOk result (λ read. at < read.1) }
-        ensures refusal { IfErr result IsSliceRefusal }
-        ensures memory { result ≢ Err ReadError.OutOfMemory }
-    {
-        let base = self.base(at, encoding)?;
-        let (raw, next) = read_raw_pointer(bytes, at, encoding)?;
-        Ok((base.wrapping_add(raw), next))
-    }
 }

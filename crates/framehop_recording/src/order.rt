@@ -17,6 +17,31 @@ pub struct TimedRecord<'a> {
     pub record: Record<'a>,
 }
 
+/// Returns these records in the order of their times, each with its own. In a file those of several
+/// processors are not in order.
+///
+/// Records of the same time keep their order. Those without one, as what perf made up for the processes
+/// that ran before, come first in their order: perf too hands them on at once, and not by time.
+///
+/// # Errors
+///
+/// `OutOfMemory`.
+///
+/// Source: Linux, `include/uapi/linux/perf_event.h`, `struct sample_id`; `tools/perf/util/session.c`,
+/// `perf_session__process_event`, and `tools/perf/util/ordered-events.c`, `ordered_events__queue`.
+pub fn in_order_of_time<'a>(
+    alloc: Global,
+    events: &Events<'_>,
+    records: &[Record<'a>],
+) -> Result<Vec<TimedRecord<'a>>, RecordingError>
+    ensures refused { IfErr result (λ error. error ≡ RecordingError.OutOfMemory) }
+    ensures exact { IfOk result (λ list. IsInOrderOfTime (map (timed (map attribute_view events.now.attributes.items)) records.entry.now) list.items) }
+{
+    let mut list = with_times(alloc, events, records)?;
+    sort_by_time(&mut list)?;
+    Ok(list)
+}
+
 /// Returns each of these records with its time.
 fn with_times<'a>(
     alloc: Global,
@@ -41,29 +66,4 @@ fn sort_by_time(list: &mut Vec<TimedRecord<'_>>) -> Result<(), RecordingError>
     ensures ordered { OnOk result (IsInOrderOfTime list.old.items list.new.items) }
 {
     Ok(list.sort_by_key(|timed| timed.time)?)
-}
-
-/// Returns these records in the order of their times, each with its own. In a file those of several
-/// processors are not in order.
-///
-/// Records of the same time keep their order. Those without one, as what perf made up for the processes
-/// that ran before, come first in their order: perf too hands them on at once, and not by time.
-///
-/// # Errors
-///
-/// `OutOfMemory`.
-///
-/// Source: Linux, `include/uapi/linux/perf_event.h`, `struct sample_id`; `tools/perf/util/session.c`,
-/// `perf_session__process_event`, and `tools/perf/util/ordered-events.c`, `ordered_events__queue`.
-pub fn in_order_of_time<'a>(
-    alloc: Global,
-    events: &Events<'_>,
-    records: &[Record<'a>],
-) -> Result<Vec<TimedRecord<'a>>, RecordingError>
-    ensures refused { IfErr result (λ error. error ≡ RecordingError.OutOfMemory) }
-    ensures exact { IfOk result (λ list. IsInOrderOfTime (map (timed (map attribute_view events.now.attributes.items)) records.entry.now) list.items) }
-{
-    let mut list = with_times(alloc, events, records)?;
-    sort_by_time(&mut list)?;
-    Ok(list)
 }
