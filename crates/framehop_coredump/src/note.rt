@@ -8,7 +8,7 @@ ghost use Rattle.framehop_coredump.specs.Note.{placed_view, is_of, placed_at, no
 use crate::error::CoreFileError;
 use framehop_bytes::bytes::back;
 use framehop_bytes::gathered::pushed;
-use framehop_elf::note::{Note, read_note};
+use framehop_elf::note::{ElfNote, read_note};
 use framehop_elf::program_header::ProgramHeader;
 use framehop_elf::segment::read_segment;
 use std::alloc::Global;
@@ -22,7 +22,7 @@ pub struct PlacedNote<'a> {
     /// Where it begins, in bytes from the start of the file.
     pub offset: u64,
     /// What it has.
-    pub note: Note<'a>,
+    pub note: ElfNote<'a>,
 }
 
 /// Returns the first note of an owner, whose name ends with a 0, and of one of its types.
