@@ -11,7 +11,7 @@
 --   apart
 -- - *location*: of a frame: an address with its kind, an instruction pointer or a return address
 -- - *place*: where halving ends in a table's rows
--- - *block*: 2^n addresses from a multiple of 2^n on, for which an index counts the pairs that start before them
+-- - *block*: 2^n addresses from a multiple of 2^n on, for which an index has one place where a look-up begins
 -- - *progress*: how far an iterator has come
 pub mod Answer
 pub mod CallFrames

@@ -3,6 +3,7 @@ pub mod ByCode
 pub mod Bytes
 pub mod ExplicitSections
 pub mod Gathered
+pub mod Minus
 pub mod Place
 pub mod SectionTable
 pub mod String

@@ -85,7 +85,7 @@ use Rattle.framehop_cfi.specs.declared.augmentation.Augmentation.{Augmentation}
 use Rattle.framehop_cfi.specs.declared.pointer.SectionBaseAddresses.{SectionBaseAddresses}
 use Rattle.framehop_cfi.specs.declared.read_error.ReadError.{ReadError}
 use Rattle.framehop_cfi.proofs.Leb.{groups-last}
-use Rattle.framehop_cfi.proofs.Spans.{bind_ok}
+use Rattle.framehop_cfi.proofs.Extents.{bind_ok}
 
 -- ---- bytes at the front of a rest
 

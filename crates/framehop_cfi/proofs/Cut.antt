@@ -8,29 +8,29 @@ use Rattle.framehop_cfi.specs.declared.extent.EntryExtent.{EntryExtent}
 use Rattle.framehop_cfi.specs.declared.entry.UnwindSectionType.{UnwindSectionType}
 use Rattle.framehop_cfi.specs.declared.entry.UnwindSectionType.TheVariants.{EhFrame, DebugFrame}
 use Rattle.framehop_cfi.specs.declared.read_error.ReadError.{ReadError}
-use Rattle.framehop_cfi.proofs.Spans.{span-within}
+use Rattle.framehop_cfi.proofs.Extents.{extent-within}
 
 module _ (section : Section) where
   -- the offsets from one on
   abbrev Goes : ℕ → Cut → Type 0
   Goes at cut = cut.refusal ≡ None → AreOffsets section at cut.offsets
 
-  on-zero : (at : ℕ) (span : EntryExtent) (kind : UnwindSectionType) (rest : Cut) → section.kind ≡ kind
-      → extent_at section.bytes at ≡ Ok span → is_zero_length span ≡ true → Goes span.end rest
+  on-zero : (at : ℕ) (extent : EntryExtent) (kind : UnwindSectionType) (rest : Cut) → section.kind ≡ kind
+      → extent_at section.bytes at ≡ Ok extent → is_zero_length extent ≡ true → Goes extent.end rest
       → Goes at (after_zero kind rest)
-  on-zero at span EhFrame rest kind is zeros goes = λ none. at_mark kind is zeros
-  on-zero at span DebugFrame rest kind is zeros goes = λ none. past_zero kind is zeros (goes none)
+  on-zero at extent EhFrame rest kind is zeros goes = λ none. at_mark kind is zeros
+  on-zero at extent DebugFrame rest kind is zeros goes = λ none. past_zero kind is zeros (goes none)
 
-  on-span : (n at : ℕ) (read : Result EntryExtent ReadError) → extent_at section.bytes at ≡ read
+  on-extent : (n at : ℕ) (read : Result EntryExtent ReadError) → extent_at section.bytes at ≡ read
       → ((end : ℕ) → at < end → Goes end (cut_from section n end))
       → Goes at (cut_by section at (cut_from section n) read)
-  on-span n at (Err error) is rest = λ none. absurd cc
-  on-span n at (Ok span) is rest =
-      let within = span-within section.bytes at span is in
+  on-extent n at (Err error) is rest = λ none. absurd cc
+  on-extent n at (Ok extent) is rest =
+      let within = extent-within section.bytes at extent is in
       let behind = within.behind in let ordered = within.ordered in
-      let goes = rest span.end (omega arith) in
-      elim (cases_Bool (is_zero_length span)) as (λ _. Goes at (cut_by section at (cut_from section n) (Ok span))) [
-        | inl zeros ↦ rw zeros (on-zero at span section.kind (cut_from section n span.end) refl is zeros goes)
+      let goes = rest extent.end (omega arith) in
+      elim (cases_Bool (is_zero_length extent)) as (λ _. Goes at (cut_by section at (cut_from section n) (Ok extent))) [
+        | inl zeros ↦ rw zeros (on-zero at extent section.kind (cut_from section n extent.end) refl is zeros goes)
         | inr some ↦ rw some (λ none. one is some (goes none))
       ]
 
@@ -38,7 +38,7 @@ module _ (section : Section) where
   cut-goes zero at enough = λ none. at_end (omega arith)
   cut-goes (suc n) at enough =
       elim (cases_lt at (length section.bytes)) as (λ _. Goes at (cut_from section (suc n) at)) [
-        | inl inside ↦ rw (lt-leb (length section.bytes) at inside) (on-span n at (extent_at section.bytes at) refl (λ end further. cut-goes n end (omega arith)))
+        | inl inside ↦ rw (lt-leb (length section.bytes) at inside) (on-extent n at (extent_at section.bytes at) refl (λ end further. cut-goes n end (omega arith)))
         | inr past-end ↦ rw (le-leb (length section.bytes) at past-end) (λ none. at_end past-end)
       ]
 
@@ -51,25 +51,25 @@ module _ (section : Section) where
   abbrev Cuts : List ℕ → Cut → Type 0
   Cuts offsets cut = cut ≡ record { offsets = offsets; refusal = None }
 
-  span-inside : (at : ℕ) (span : EntryExtent) → extent_at section.bytes at ≡ Ok span → (at < span.end) × (at < length section.bytes)
-  span-inside at span is =
-      let within = span-within section.bytes at span is in
+  extent-inside : (at : ℕ) (extent : EntryExtent) → extent_at section.bytes at ≡ Ok extent → (at < extent.end) × (at < length section.bytes)
+  extent-inside at extent is =
+      let within = extent-within section.bytes at extent is in
       let behind = within.behind in let ordered = within.ordered in let inside = within.inside in
       (omega arith, omega arith)
 
   goes-cut : {at : ℕ} {offsets : List ℕ} → AreOffsets section at offsets → (n : ℕ) → length section.bytes < n + at → Cuts offsets (cut_from section n at)
   goes-cut {at = at} (at_end past-end) zero enough = refl
   goes-cut {at = at} (at_end past-end) (suc n) enough = rw (le-leb (length section.bytes) at past-end) refl
-  goes-cut {at = at} (at_mark {span = span} kind is zeros) zero enough = let inside = span-inside at span is in absurd (omega arith)
-  goes-cut {at = at} (at_mark {span = span} kind is zeros) (suc n) enough =
-      rw (lt-leb (length section.bytes) at (span-inside at span is).1, is) (rw zeros (on-eh-frame section.kind (cut_from section n span.end) kind))
-  goes-cut {at = at} (past_zero {span = span} kind is zeros rest) zero enough = let inside = span-inside at span is in absurd (omega arith)
-  goes-cut {at = at} (past_zero {span = span} kind is zeros rest) (suc n) enough =
-      let inside = span-inside at span is in
-      rw (lt-leb (length section.bytes) at inside.1, is) (rw zeros (on-debug-frame section.kind (cut_from section n span.end) kind ∙ goes-cut rest n (omega arith)))
-  goes-cut {at = at} (one {span = span} is some rest) zero enough = let inside = span-inside at span is in absurd (omega arith)
-  goes-cut {at = at} (one {span = span} {offsets = offsets} is some rest) (suc n) enough =
-      let inside = span-inside at span is in
+  goes-cut {at = at} (at_mark {extent = extent} kind is zeros) zero enough = let inside = extent-inside at extent is in absurd (omega arith)
+  goes-cut {at = at} (at_mark {extent = extent} kind is zeros) (suc n) enough =
+      rw (lt-leb (length section.bytes) at (extent-inside at extent is).1, is) (rw zeros (on-eh-frame section.kind (cut_from section n extent.end) kind))
+  goes-cut {at = at} (past_zero {extent = extent} kind is zeros rest) zero enough = let inside = extent-inside at extent is in absurd (omega arith)
+  goes-cut {at = at} (past_zero {extent = extent} kind is zeros rest) (suc n) enough =
+      let inside = extent-inside at extent is in
+      rw (lt-leb (length section.bytes) at inside.1, is) (rw zeros (on-debug-frame section.kind (cut_from section n extent.end) kind ∙ goes-cut rest n (omega arith)))
+  goes-cut {at = at} (one {extent = extent} is some rest) zero enough = let inside = extent-inside at extent is in absurd (omega arith)
+  goes-cut {at = at} (one {extent = extent} {offsets = offsets} is some rest) (suc n) enough =
+      let inside = extent-inside at extent is in
       rw (lt-leb (length section.bytes) at inside.1, is) (rw some (ap (λ (c : Cut). record { offsets = at ∷ c.offsets; refusal = c.refusal }) (goes-cut rest n (omega arith))))
 
   -- where no length is refused, the section is cut at the offsets of its entries

@@ -35,7 +35,7 @@ use Rattle.framehop_cfi.specs.declared.entry.CommonInformationEntry.{CommonInfor
 use Rattle.framehop_cfi.specs.declared.entry.FrameDescriptionEntry.{FrameDescriptionEntry}
 use Rattle.framehop_cfi.specs.declared.read_error.ReadError.{ReadError}
 use Rattle.framehop_cfi.proofs.AugmentationMeaning.{augmentation-means, means-augmentation}
-use Rattle.framehop_cfi.proofs.Spans.{bind_ok, id-ends}
+use Rattle.framehop_cfi.proofs.Extents.{bind_ok, id-ends}
 
 one-cie : (a b : CommonInformationEntry) → ◌≡◌ {A = Result CommonInformationEntry ReadError} (Ok a) (Ok b) → a ≡ b
 one-cie a b is = cc
@@ -119,21 +119,21 @@ module _ (kind : UnwindSectionType) (bases : SectionBaseAddresses) (entry : List
       (rw f.is_return_register (rw (read-augmentation f) (ap (λ e. Ok (record cie { end = e })) (sym ends))))))))
 
 module _ (kind : UnwindSectionType) (bases : SectionBaseAddresses) (bytes : List ℕ) where
-  -- an entry's head, and the span that it begins with
-  head-begins : (at : ℕ) (head : EntryHead) → ((end : ℕ) → head ≡ ZeroLength end → ⊥) → head_at kind bytes at ≡ Ok head → (span : EntryExtent) × Begins kind bytes at span head
+  -- an entry's head, and the extent that it begins with
+  head-begins : (at : ℕ) (head : EntryHead) → ((end : ℕ) → head ≡ ZeroLength end → ⊥) → head_at kind bytes at ≡ Ok head → (extent : EntryExtent) × Begins kind bytes at extent head
   unfolding head_at
   head-begins at head entry is =
-      let span = bind_ok (extent_at bytes at) _ head is in
-      elim (cases_Bool (is_zero_length span.0)) [
+      let extent = bind_ok (extent_at bytes at) _ head is in
+      elim (cases_Bool (is_zero_length extent.0)) [
         | inl zeros ↦
-            let e = rw zeros at span.2 in
-            absurd (entry span.0.end (sym (one-head (ZeroLength span.0.end) head e)))
-        | inr some ↦ (span.0, record { length = span.1; some = some; id = rw some at span.2 })
+            let e = rw zeros at extent.2 in
+            absurd (entry extent.0.end (sym (one-head (ZeroLength extent.0.end) head e)))
+        | inr some ↦ (extent.0, record { length = extent.1; some = some; id = rw some at extent.2 })
       ]
 
-  begins-head : (at : ℕ) (span : EntryExtent) (head : EntryHead) → Begins kind bytes at span head → head_at kind bytes at ≡ Ok head
+  begins-head : (at : ℕ) (extent : EntryExtent) (head : EntryHead) → Begins kind bytes at extent head → head_at kind bytes at ≡ Ok head
   unfolding head_at
-  begins-head at span head b = rw b.length (rw b.some b.id)
+  begins-head at extent head b = rw b.length (rw b.some b.id)
 
 module _ (section : Section) where
   cie-of : (at : ℕ) (head : EntryHead) (cie : CommonInformationEntry) → head_at section.kind section.bytes at ≡ Ok head → cie_of_head section head ≡ Ok cie → IsCie section at cie
@@ -145,7 +145,7 @@ module _ (section : Section) where
       let f = fields-means section.kind section.bases (take b.0.end section.bytes) b.0.end cie fields
       (subst (λ e. cie_fields section.kind section.bases (take e section.bytes) fields e ≡ Ok cie) there is) in
       record {
-        span = b.0;
+        extent = b.0;
         fields = fields;
         begins = subst (λ e. Begins section.kind section.bytes at b.0 (Cie fields e)) there b.1;
         has_fields = f.0;
@@ -162,28 +162,28 @@ module _ (section : Section) where
   pub means-cie_at : (at : ℕ) (cie : CommonInformationEntry) → IsCie section at cie → cie_at section at ≡ Ok cie
   unfolding cie_at
   means-cie_at at cie c =
-      rw (begins-head section.kind section.bases section.bytes at c.span (Cie c.fields c.span.end) c.begins)
-      (means-fields section.kind section.bases (take c.span.end section.bytes) c.span.end cie c.fields c.has_fields c.ends)
+      rw (begins-head section.kind section.bases section.bytes at c.extent (Cie c.fields c.extent.end) c.begins)
+      (means-fields section.kind section.bases (take c.extent.end section.bytes) c.extent.end cie c.fields c.has_fields c.ends)
 
-  range-means : (at cie_offset fields : ℕ) (span : EntryExtent) (cie : CommonInformationEntry)
-      (fde : FrameDescriptionEntry) → Begins section.kind section.bytes at span (Fde cie_offset fields span.end)
-      → IsCie section cie_offset cie → fde_fields section.bases cie (take span.end section.bytes) fields span.end
+  range-means : (at cie_offset fields : ℕ) (extent : EntryExtent) (cie : CommonInformationEntry)
+      (fde : FrameDescriptionEntry) → Begins section.kind section.bytes at extent (Fde cie_offset fields extent.end)
+      → IsCie section cie_offset cie → fde_fields section.bases cie (take extent.end section.bytes) fields extent.end
       ≡ Ok fde → IsFde section at fde
   unfolding fde_range
-  range-means at cie_offset fields span cie fde begins its is =
+  range-means at cie_offset fields extent cie fde begins its is =
       elim (cases_Bool (leb 128 cie.fde_pointer_encoding)) [
         | inl indirect ↦
             let e = rw indirect at is in
             cc
         | inr direct ↦
             let e = rw direct at is in
-            let entry = take span.end section.bytes in
+            let entry = take extent.end section.bytes in
             let start = bind_ok (pointer_at section.bases cie.fde_pointer_encoding entry fields) _ fde e in
             let range = bind_ok (raw_at (format_of cie.fde_pointer_encoding) entry start.0.1) _ fde start.2 in
             let skipped = bind_ok (skipped_at cie.has_augmentation_data entry range.0.1) _ fde range.2 in
-            let made : FrameDescriptionEntry = record { cie = cie; initial_address = start.0.0; address_range = range.0.0; instructions = skipped.0; end = span.end } in
+            let made : FrameDescriptionEntry = record { cie = cie; initial_address = start.0.0; address_range = range.0.0; instructions = skipped.0; end = extent.end } in
             let all : IsFde section at made = record {
-              span = span;
+              extent = extent;
               cie_offset = cie_offset;
               fields = fields;
               range = start.0.1;
@@ -219,7 +219,7 @@ module _ (section : Section) where
   pub means-fde_at : (at : ℕ) (fde : FrameDescriptionEntry) → IsFde section at fde → fde_at section at ≡ Ok fde
   unfolding fde_at fde_range
   means-fde_at at fde f =
-      rw (begins-head section.kind section.bases section.bytes at f.span (Fde f.cie_offset f.fields f.span.end) f.begins)
+      rw (begins-head section.kind section.bases section.bytes at f.extent (Fde f.cie_offset f.fields f.extent.end) f.begins)
       (rw (means-cie_at f.cie_offset fde.cie f.its_cie) (rw f.direct (rw f.is_start (rw f.is_range (rw f.is_augmentation (ap (λ e. Ok (record fde { end = e })) (sym f.ends)))))))
 
   -- an entry is answered where one stands, and refused where none does

@@ -6,7 +6,7 @@ pub mod Table
 pub mod Forward
 pub mod Room
 pub mod RowMeaning
-pub mod Spans
+pub mod Extents
 pub mod Cut
 pub mod AugmentationMeaning
 pub mod EntryMeaning

@@ -23,7 +23,7 @@ use Rattle.framehop_cfi.specs.declared.instruction.CallFrameInstruction.TheVaria
 }
 use Rattle.framehop_cfi.specs.declared.read_error.ReadError.{ReadError}
 use Rattle.framehop_cfi.proofs.RowMeaning.{same}
-use Rattle.framehop_cfi.proofs.Spans.{bind_ok}
+use Rattle.framehop_cfi.proofs.Extents.{bind_ok}
 use Rattle.framehop_cfi.proofs.Run.{IsIn}
 
 -- no register has a rule, and no row is remembered

@@ -16,7 +16,7 @@ use Rattle.framehop_cfi.specs.declared.read_error.ReadError.TheVariants.{OutOfMe
 use Rattle.framehop_cfi.specs.Outcome.{Becomes}
 use Rattle.std.specs.Prelude.{OnOk, IfErr}
 use Rattle.framehop_cfi.proofs.Forward.{instruction-forward}
-use Rattle.framehop_cfi.proofs.Spans.{bind_ok}
+use Rattle.framehop_cfi.proofs.Extents.{bind_ok}
 
 pub same : (x y : TableRows) → ◌≡◌ {A = Result TableRows ReadError} (Ok x) (Ok y) → x ≡ y
 same x y is = cc

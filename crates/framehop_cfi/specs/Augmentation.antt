@@ -4,6 +4,7 @@ use Rattle.framehop_bytes.specs.Bytes.{◌>>=◌}
 use Rattle.framehop_cfi.specs.Numbers.{Parsed, u8_at}
 use Rattle.framehop_cfi.specs.Leb128.{uleb_at}
 use Rattle.framehop_cfi.specs.Pointer.{pointer_at}
+use Rattle.framehop_cfi.specs.PointerEncoding.{DW_EH_PE_omit}
 use Rattle.framehop_cfi.specs.declared.augmentation.Augmentation.{Augmentation}
 use Rattle.framehop_cfi.specs.declared.pointer.SectionBaseAddresses.{SectionBaseAddresses}
 use Rattle.framehop_cfi.specs.declared.read_error.ReadError.{ReadError}
@@ -31,7 +32,7 @@ unchanged_after value reading = reading >>= λ read. Ok (value, read.1)
 unfoldable pub personality_at : SectionBaseAddresses → List ℕ → ℕ → Parsed ℕ
 personality_at bases bytes at = do
   encoding ← u8_at bytes at
-  if encoding.0 == 255 then Ok (0, encoding.1) else pointer_at bases encoding.0 bytes encoding.1
+  if encoding.0 == DW_EH_PE_omit then Ok (0, encoding.1) else pointer_at bases encoding.0 bytes encoding.1
 
 -- one letter of an augmentation text: the pointer encoding of the FDEs after it, and the place after its data
 abbrev pub letter_at : SectionBaseAddresses → ℕ → List ℕ → ℕ → ℕ → Parsed ℕ

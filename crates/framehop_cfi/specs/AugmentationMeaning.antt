@@ -11,6 +11,7 @@
 use Rattle.std.specs.Prelude.{ℕ, ◌+◌, ◌/◌, ◌%◌, ◌<◌, ◌≤◌, ◌≡◌, ◌≢◌, ◌⊎◌, true, false, List, [], ◌∷◌, ◌++◌, length, map, slice_range, Some, Ok, ℤ, ◌==◌, if◌then◌else◌}
 use Rattle.std.specs.List.{flat_map, last_or, AllByRecursion}
 use Rattle.framehop_cfi.specs.Leb128.{uleb_at, sleb_at}
+use Rattle.framehop_cfi.specs.PointerEncoding.{DW_EH_PE_absptr, DW_EH_PE_uleb128, DW_EH_PE_udata2, DW_EH_PE_udata4, DW_EH_PE_udata8, DW_EH_PE_sleb128, DW_EH_PE_sdata2, DW_EH_PE_sdata4, DW_EH_PE_sdata8, DW_EH_PE_omit}
 use Rattle.framehop_cfi.specs.declared.augmentation.Augmentation.{Augmentation}
 
 -- the bytes are one LEB128 number, and nothing else
@@ -22,12 +23,12 @@ IsSleb bytes = (number : ℤ) × (sleb_at bytes 0 ≡ Ok (number, length bytes))
 
 -- the bytes are one pointer, by the format of its encoding (LSB, "DWARF Exception Header Encoding")
 pub data IsPointer (encoding : ℕ) (bytes : List ℕ) : Type 0 where
-  of_two : (encoding % 16 ≡ 2) ⊎ (encoding % 16 ≡ 10) → length bytes ≡ 2 → IsPointer encoding bytes
-  of_four : (encoding % 16 ≡ 3) ⊎ (encoding % 16 ≡ 11) → length bytes ≡ 4 → IsPointer encoding bytes
-  of_eight : (encoding % 16 ≡ 0) ⊎ ((encoding % 16 ≡ 4) ⊎ (encoding % 16 ≡ 12)) → length bytes ≡ 8
-      → IsPointer encoding bytes
-  of_uleb : encoding % 16 ≡ 1 → IsUleb bytes → IsPointer encoding bytes
-  of_sleb : encoding % 16 ≡ 9 → IsSleb bytes → IsPointer encoding bytes
+  of_two : (encoding % 16 ≡ DW_EH_PE_udata2) ⊎ (encoding % 16 ≡ DW_EH_PE_sdata2) → length bytes ≡ 2 → IsPointer encoding bytes
+  of_four : (encoding % 16 ≡ DW_EH_PE_udata4) ⊎ (encoding % 16 ≡ DW_EH_PE_sdata4) → length bytes ≡ 4 → IsPointer encoding bytes
+  of_eight : (encoding % 16 ≡ DW_EH_PE_absptr) ⊎ ((encoding % 16 ≡ DW_EH_PE_udata8) ⊎ (encoding % 16 ≡ DW_EH_PE_sdata8))
+      → length bytes ≡ 8 → IsPointer encoding bytes
+  of_uleb : encoding % 16 ≡ DW_EH_PE_uleb128 → IsUleb bytes → IsPointer encoding bytes
+  of_sleb : encoding % 16 ≡ DW_EH_PE_sleb128 → IsSleb bytes → IsPointer encoding bytes
 
 -- it counts from nothing, its own address, the text or the data
 abbrev pub CountsFromKnown : ℕ → Type 0
@@ -37,9 +38,9 @@ CountsFromKnown encoding = encoding / 16 % 8 < 4
 pub data AreArguments (letter : ℕ) (bytes : List ℕ) : Type 0 where
   of_r : (encoding : ℕ) → letter ≡ 82 → bytes ≡ encoding ∷ [] → AreArguments letter bytes
   of_l : (encoding : ℕ) → letter ≡ 76 → bytes ≡ encoding ∷ [] → AreArguments letter bytes
-  of_p : (encoding : ℕ) (pointer : List ℕ) → letter ≡ 80 → bytes ≡ encoding ∷ pointer → encoding ≢ 255
+  of_p : (encoding : ℕ) (pointer : List ℕ) → letter ≡ 80 → bytes ≡ encoding ∷ pointer → encoding ≢ DW_EH_PE_omit
       → CountsFromKnown encoding → IsPointer encoding pointer → AreArguments letter bytes
-  of_p_without : letter ≡ 80 → bytes ≡ 255 ∷ [] → AreArguments letter bytes
+  of_p_without : letter ≡ 80 → bytes ≡ DW_EH_PE_omit ∷ [] → AreArguments letter bytes
   of_flag : (letter ≡ 83) ⊎ ((letter ≡ 66) ⊎ (letter ≡ 71)) → bytes ≡ [] → AreArguments letter bytes
 
 -- a letter, and the bytes of its arguments

@@ -25,9 +25,9 @@ after_zero DebugFrame rest = rest
 -- an entry at an offset by its length, and then the rest
 abbrev pub cut_by : Section → ℕ → (ℕ → Cut) → Result EntryExtent ReadError → Cut
 cut_by section at rest (Err error) = record { offsets = []; refusal = Some error }
-cut_by section at rest (Ok span) =
-    if is_zero_length span then after_zero section.kind (rest span.end)
-    else (record { offsets = at ∷ (rest span.end).offsets; refusal = (rest span.end).refusal })
+cut_by section at rest (Ok extent) =
+    if is_zero_length extent then after_zero section.kind (rest extent.end)
+    else (record { offsets = at ∷ (rest extent.end).offsets; refusal = (rest extent.end).refusal })
 
 -- the bytes from an offset on, cut
 abbrev pub cut_from : Section → ℕ → ℕ → Cut
@@ -44,10 +44,10 @@ cut section = cut_from section (suc (length section.bytes)) 0
 -- length of 0, which is passed over in `.debug_frame`.
 pub data AreOffsets (section : Section) : ℕ → List ℕ → Type 0 where
   at_end : {at : ℕ} → length section.bytes ≤ at → AreOffsets section at []
-  at_mark : {at : ℕ} {span : EntryExtent} → section.kind ≡ EhFrame → extent_at section.bytes at ≡ Ok span
-      → is_zero_length span ≡ true → AreOffsets section at []
-  past_zero : {at : ℕ} {span : EntryExtent} {offsets : List ℕ} → section.kind ≡ DebugFrame
-      → extent_at section.bytes at ≡ Ok span → is_zero_length span ≡ true → AreOffsets section span.end offsets
+  at_mark : {at : ℕ} {extent : EntryExtent} → section.kind ≡ EhFrame → extent_at section.bytes at ≡ Ok extent
+      → is_zero_length extent ≡ true → AreOffsets section at []
+  past_zero : {at : ℕ} {extent : EntryExtent} {offsets : List ℕ} → section.kind ≡ DebugFrame
+      → extent_at section.bytes at ≡ Ok extent → is_zero_length extent ≡ true → AreOffsets section extent.end offsets
       → AreOffsets section at offsets
-  one : {at : ℕ} {span : EntryExtent} {offsets : List ℕ} → extent_at section.bytes at ≡ Ok span
-      → is_zero_length span ≡ false → AreOffsets section span.end offsets → AreOffsets section at (at ∷ offsets)
+  one : {at : ℕ} {extent : EntryExtent} {offsets : List ℕ} → extent_at section.bytes at ≡ Ok extent
+      → is_zero_length extent ≡ false → AreOffsets section extent.end offsets → AreOffsets section at (at ∷ offsets)

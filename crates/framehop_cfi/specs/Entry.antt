@@ -6,6 +6,7 @@ use Rattle.framehop_cfi.specs.Leb128.{uleb_at, sleb_at}
 use Rattle.framehop_cfi.specs.Raw.{raw_at, format_of}
 use Rattle.framehop_cfi.specs.Augmentation.{terminator_at, counted_at, augmentation_at}
 use Rattle.framehop_cfi.specs.Pointer.{pointer_at}
+use Rattle.framehop_cfi.specs.PointerEncoding.{DW_EH_PE_indirect}
 use Rattle.framehop_cfi.specs.EntryExtent.{extent_at, is_zero_length}
 use Rattle.framehop_cfi.specs.Section.{Section}
 use Rattle.framehop_cfi.specs.declared.extent.EntryExtent.{EntryExtent}
@@ -21,35 +22,35 @@ use Rattle.framehop_cfi.specs.declared.read_error.ReadError.TheVariants.{BadEnco
 
 -- In `.eh_frame` a CIE's id is 0 in 4 bytes, and an FDE's CIE lies so many bytes before the field.
 unfoldable pub eh_frame_id : List ℕ → EntryExtent → Result EntryHead ReadError
-eh_frame_id bytes span = do
-  id ← u32_at bytes span.contents
-  if id.0 == 0 then Ok (Cie id.1 span.end)
-      else (if nat_le id.0 span.contents then Ok (Fde (span.contents - id.0) id.1 span.end) else Err NumberTooBig)
+eh_frame_id bytes extent = do
+  id ← u32_at bytes extent.contents
+  if id.0 == 0 then Ok (Cie id.1 extent.end)
+      else (if nat_le id.0 extent.contents then Ok (Fde (extent.contents - id.0) id.1 extent.end) else Err NumberTooBig)
 
 -- In `.debug_frame` a CIE's id is all ones, and an FDE's CIE lies at the offset in the field, of 4 or 8 bytes.
 unfoldable pub short_id : List ℕ → EntryExtent → Result EntryHead ReadError
-short_id bytes span = do
-  id ← u32_at bytes span.contents
-  if id.0 == 0xFFFFFFFF then Ok (Cie id.1 span.end) else Ok (Fde id.0 id.1 span.end)
+short_id bytes extent = do
+  id ← u32_at bytes extent.contents
+  if id.0 == 0xFFFFFFFF then Ok (Cie id.1 extent.end) else Ok (Fde id.0 id.1 extent.end)
 
 unfoldable pub long_id : List ℕ → EntryExtent → Result EntryHead ReadError
-long_id bytes span = do
-  id ← u64_at bytes span.contents
-  if id.0 == 0xFFFFFFFFFFFFFFFF then Ok (Cie id.1 span.end) else Ok (Fde id.0 id.1 span.end)
+long_id bytes extent = do
+  id ← u64_at bytes extent.contents
+  if id.0 == 0xFFFFFFFFFFFFFFFF then Ok (Cie id.1 extent.end) else Ok (Fde id.0 id.1 extent.end)
 
 abbrev pub debug_frame_id : List ℕ → EntryExtent → Result EntryHead ReadError
-debug_frame_id bytes span = if span.offset_size == 4 then short_id bytes span else long_id bytes span
+debug_frame_id bytes extent = if extent.offset_size == 4 then short_id bytes extent else long_id bytes extent
 
 -- an entry's id, by its section
 abbrev pub id_at : UnwindSectionType → List ℕ → EntryExtent → Result EntryHead ReadError
-id_at EhFrame bytes span = eh_frame_id bytes span
-id_at DebugFrame bytes span = debug_frame_id bytes span
+id_at EhFrame bytes extent = eh_frame_id bytes extent
+id_at DebugFrame bytes extent = debug_frame_id bytes extent
 
 -- what stands at an offset: a zero length, or which kind of entry, and where its fields begin and end
 unfoldable pub head_at : UnwindSectionType → List ℕ → ℕ → Result EntryHead ReadError
 head_at kind bytes at = do
-  span ← extent_at bytes at
-  if is_zero_length span then Ok (ZeroLength span.end) else id_at kind (take span.end bytes) span
+  extent ← extent_at bytes at
+  if is_zero_length extent then Ok (ZeroLength extent.end) else id_at kind (take extent.end bytes) extent
 
 -- The size of addresses and of segment selectors, which version 4 has in `.debug_frame`: the place after.
 unfoldable pub sizes_at : List ℕ → ℕ → Result ℕ ReadError
@@ -136,7 +137,7 @@ fde_range bases cie bytes at end = do
 abbrev pub fde_fields : SectionBaseAddresses → CommonInformationEntry → List ℕ → ℕ → ℕ
     → Result FrameDescriptionEntry ReadError
 fde_fields bases cie bytes at end =
-    if nat_le 128 cie.fde_pointer_encoding then Err BadEncoding else fde_range bases cie bytes at end
+    if nat_le DW_EH_PE_indirect cie.fde_pointer_encoding then Err BadEncoding else fde_range bases cie bytes at end
 
 -- the FDE at an offset, with the CIE at the offset that it names
 abbrev pub fde_of_head : Section → EntryHead → Result FrameDescriptionEntry ReadError

@@ -27,10 +27,10 @@ extent_at bytes at = do
 
 -- a length of 0 in 4 bytes, which is no entry
 abbrev pub is_zero_length : EntryExtent → Bool
-is_zero_length span = (span.offset_size == 4) && (span.contents == span.end)
+is_zero_length extent = (extent.offset_size == 4) && (extent.contents == extent.end)
 
 -- the contents lie in the bytes, after the offset
-pub record IsWithin (bytes : List ℕ) (at : ℕ) (span : EntryExtent) : Type 0 where
-  pub behind : at < span.contents
-  pub ordered : span.contents ≤ span.end
-  pub held : span.end ≤ length bytes
+pub record IsWithin (bytes : List ℕ) (at : ℕ) (extent : EntryExtent) : Type 0 where
+  pub behind : at < extent.contents
+  pub ordered : extent.contents ≤ extent.end
+  pub held : extent.end ≤ length bytes

@@ -4,6 +4,7 @@ use Rattle.framehop_cfi.specs.Numbers.{u8_at}
 use Rattle.framehop_cfi.specs.Leb128.{uleb_at, sleb_at}
 use Rattle.framehop_cfi.specs.Raw.{raw_at, format_of}
 use Rattle.framehop_cfi.specs.Pointer.{pointer_at}
+use Rattle.framehop_cfi.specs.PointerEncoding.{DW_EH_PE_indirect}
 use Rattle.framehop_cfi.specs.Augmentation.{terminator_at}
 use Rattle.framehop_cfi.specs.AugmentationMeaning.{HasAugmentation}
 use Rattle.framehop_cfi.specs.EntryExtent.{extent_at, is_zero_length}
@@ -17,11 +18,11 @@ use Rattle.framehop_cfi.specs.declared.entry.CommonInformationEntry.{CommonInfor
 use Rattle.framehop_cfi.specs.declared.entry.FrameDescriptionEntry.{FrameDescriptionEntry}
 
 -- an entry stands at an offset: its length, which is not 0, and its id
-pub record Begins (kind : UnwindSectionType) (bytes : List ℕ) (at : ℕ) (span : EntryExtent)
+pub record Begins (kind : UnwindSectionType) (bytes : List ℕ) (at : ℕ) (extent : EntryExtent)
     (head : EntryHead) : Type 0 where
-  pub length : extent_at bytes at ≡ Ok span
-  pub some : is_zero_length span ≡ false
-  pub id : id_at kind (take span.end bytes) span ≡ Ok head
+  pub length : extent_at bytes at ≡ Ok extent
+  pub some : is_zero_length extent ≡ false
+  pub id : id_at kind (take extent.end bytes) extent ≡ Ok head
 
 -- a CIE's fields after its id, in the entry's own bytes
 pub record HasCieFields (kind : UnwindSectionType) (entry : List ℕ) (fields : ℕ) (cie : CommonInformationEntry)
@@ -48,26 +49,26 @@ pub record HasCieFields (kind : UnwindSectionType) (entry : List ℕ) (fields : 
 
 -- a CIE stands at an offset
 pub record IsCie (section : Section) (at : ℕ) (cie : CommonInformationEntry) : Type 0 where
-  pub span : EntryExtent
+  pub extent : EntryExtent
   pub fields : ℕ
-  pub begins : Begins section.kind section.bytes at span (Cie fields span.end)
-  pub has_fields : HasCieFields section.kind (take span.end section.bytes) fields cie
-  pub ends : cie.end ≡ span.end
+  pub begins : Begins section.kind section.bytes at extent (Cie fields extent.end)
+  pub has_fields : HasCieFields section.kind (take extent.end section.bytes) fields cie
+  pub ends : cie.end ≡ extent.end
 
 -- an FDE stands at an offset, and its CIE at the offset that it names
 pub record IsFde (section : Section) (at : ℕ) (fde : FrameDescriptionEntry) : Type 0 where
-  pub span : EntryExtent
+  pub extent : EntryExtent
   pub cie_offset : ℕ
   pub fields : ℕ
   pub range : ℕ
   pub augmentation_data : ℕ
-  pub begins : Begins section.kind section.bytes at span (Fde cie_offset fields span.end)
+  pub begins : Begins section.kind section.bytes at extent (Fde cie_offset fields extent.end)
   pub its_cie : IsCie section cie_offset fde.cie
-  pub direct : nat_le 128 fde.cie.fde_pointer_encoding ≡ false
-  pub is_start : pointer_at section.bases fde.cie.fde_pointer_encoding (take span.end section.bytes) fields ≡ Ok
+  pub direct : nat_le DW_EH_PE_indirect fde.cie.fde_pointer_encoding ≡ false
+  pub is_start : pointer_at section.bases fde.cie.fde_pointer_encoding (take extent.end section.bytes) fields ≡ Ok
       (fde.initial_address, range)
-  pub is_range : raw_at (format_of fde.cie.fde_pointer_encoding) (take span.end section.bytes) range ≡ Ok
+  pub is_range : raw_at (format_of fde.cie.fde_pointer_encoding) (take extent.end section.bytes) range ≡ Ok
       (fde.address_range, augmentation_data)
   pub is_augmentation : skipped_at fde.cie.has_augmentation_data
-      (take span.end section.bytes) augmentation_data ≡ Ok fde.instructions
-  pub ends : fde.end ≡ span.end
+      (take extent.end section.bytes) augmentation_data ≡ Ok fde.instructions
+  pub ends : fde.end ≡ extent.end

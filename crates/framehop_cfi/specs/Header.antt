@@ -5,6 +5,7 @@ use Rattle.framehop_bytes.specs.Bytes.{◌>>=◌}
 use Rattle.framehop_cfi.specs.Numbers.{Parsed, u8_at}
 use Rattle.framehop_cfi.specs.Raw.{raw_at, format_of}
 use Rattle.framehop_cfi.specs.Pointer.{pointer_at}
+use Rattle.framehop_cfi.specs.PointerEncoding.{DW_EH_PE_udata2, DW_EH_PE_udata4, DW_EH_PE_udata8, DW_EH_PE_sdata2, DW_EH_PE_sdata4, DW_EH_PE_sdata8, DW_EH_PE_pcrel, DW_EH_PE_funcrel, DW_EH_PE_indirect}
 use Rattle.framehop_bytes.specs.Place.{place_of, IsPlace}
 use Rattle.framehop_cfi.specs.declared.pointer.SectionBaseAddresses.{SectionBaseAddresses}
 use Rattle.framehop_cfi.specs.Layout.{Layout}
@@ -14,15 +15,15 @@ use Rattle.framehop_cfi.specs.declared.read_error.ReadError.TheVariants.{Eof, Ba
 -- the size of a table's numbers, by their format
 abbrev pub size_of_format : ℕ → Result ℕ ReadError
 size_of_format format =
-    if (format == 2) || (format == 10) then Ok 2
-    else (if (format == 3) || (format == 11) then Ok 4
-    else (if (format == 4) || (format == 12) then Ok 8
+    if (format == DW_EH_PE_udata2) || (format == DW_EH_PE_sdata2) then Ok 2
+    else (if (format == DW_EH_PE_udata4) || (format == DW_EH_PE_sdata4) then Ok 4
+    else (if (format == DW_EH_PE_udata8) || (format == DW_EH_PE_sdata8) then Ok 8
     else Err BadEncoding))
 
 -- an encoding that the table may have: neither indirect nor omitted, and counted from something that is known
 abbrev pub table_size : ℕ → Result ℕ ReadError
 table_size encoding =
-    if nat_lt encoding 64 then size_of_format (format_of encoding) else Err BadEncoding
+    if nat_lt encoding DW_EH_PE_funcrel then size_of_format (format_of encoding) else Err BadEncoding
 
 -- the rows, if there are any and the bytes hold them
 abbrev pub held_rows : ℕ → ℕ → ℕ → ℕ → ℕ → List ℕ → Result Layout ReadError
@@ -42,7 +43,7 @@ encoded_at bases pointer_encoding count_encoding table_encoding bytes at = do
 -- neither the pointer nor the count is indirect or omitted, and the count counts from nothing
 abbrev pub checked_at : SectionBaseAddresses → ℕ → ℕ → ℕ → List ℕ → ℕ → Result Layout ReadError
 checked_at bases pointer_encoding count_encoding table_encoding bytes at =
-    if nat_lt pointer_encoding 128 && nat_lt count_encoding 16
+    if nat_lt pointer_encoding DW_EH_PE_indirect && nat_lt count_encoding DW_EH_PE_pcrel
     then encoded_at bases pointer_encoding count_encoding table_encoding bytes at
     else Err BadEncoding
 

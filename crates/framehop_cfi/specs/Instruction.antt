@@ -3,6 +3,7 @@ use Rattle.std.specs.Prelude.{ℕ, ◌-◌, List, [], ◌∷◌, Result, Ok, Err
 use Rattle.framehop_bytes.specs.Bytes.{◌>>=◌}
 use Rattle.framehop_cfi.specs.Numbers.{Parsed, u8_at, u16_at, u32_at}
 use Rattle.framehop_bytes.specs.ByCode.{by_code, by_test}
+use Rattle.framehop_cfi.specs.InstructionCode.{DW_CFA_nop, DW_CFA_set_loc, DW_CFA_advance_loc1, DW_CFA_advance_loc2, DW_CFA_advance_loc4, DW_CFA_offset_extended, DW_CFA_restore_extended, DW_CFA_undefined, DW_CFA_same_value, DW_CFA_register, DW_CFA_remember_state, DW_CFA_restore_state, DW_CFA_def_cfa, DW_CFA_def_cfa_register, DW_CFA_def_cfa_offset, DW_CFA_def_cfa_expression, DW_CFA_expression, DW_CFA_offset_extended_sf, DW_CFA_def_cfa_sf, DW_CFA_def_cfa_offset_sf, DW_CFA_val_offset, DW_CFA_val_offset_sf, DW_CFA_val_expression, DW_CFA_AARCH64_negate_ra_state, DW_CFA_GNU_args_size, DW_CFA_advance_loc, DW_CFA_offset, DW_CFA_restore}
 use Rattle.framehop_cfi.specs.Leb128.{uleb_at, sleb_at, fits_i64}
 use Rattle.framehop_cfi.specs.Augmentation.{counted_at}
 use Rattle.framehop_cfi.specs.Pointer.{pointer_at}
@@ -59,20 +60,18 @@ expression_at bytes at = do
   Ok (record { start = place.0; end = place.1 }, place.1)
 
 -- the rule that an instruction gives to the register that it names, by its code
--- DW_CFA_offset_extended 05, DW_CFA_undefined 07, DW_CFA_same_value 08, DW_CFA_register 09, DW_CFA_expression 10,
--- DW_CFA_offset_extended_sf 11, DW_CFA_val_offset 14, DW_CFA_val_offset_sf 15, DW_CFA_val_expression 16
 abbrev pub rule_at : ℤ → ℕ → List ℕ → ℕ → Parsed RegisterRule
 rule_at alignment code bytes at =
     by_code code (
-    (0x05, mapped rule.Offset (factored_at alignment bytes at))
-    ∷ (0x07, Ok (rule.Undefined, at))
-    ∷ (0x08, Ok (rule.SameValue, at))
-    ∷ (0x09, mapped rule.Register (register_at bytes at))
-    ∷ (0x10, mapped rule.Expression (expression_at bytes at))
-    ∷ (0x11, mapped rule.Offset (factored_signed_at alignment bytes at))
-    ∷ (0x14, mapped rule.ValOffset (factored_at alignment bytes at))
-    ∷ (0x15, mapped rule.ValOffset (factored_signed_at alignment bytes at))
-    ∷ (0x16, mapped rule.ValExpression (expression_at bytes at))
+    (DW_CFA_offset_extended, mapped rule.Offset (factored_at alignment bytes at))
+    ∷ (DW_CFA_undefined, Ok (rule.Undefined, at))
+    ∷ (DW_CFA_same_value, Ok (rule.SameValue, at))
+    ∷ (DW_CFA_register, mapped rule.Register (register_at bytes at))
+    ∷ (DW_CFA_expression, mapped rule.Expression (expression_at bytes at))
+    ∷ (DW_CFA_offset_extended_sf, mapped rule.Offset (factored_signed_at alignment bytes at))
+    ∷ (DW_CFA_val_offset, mapped rule.ValOffset (factored_at alignment bytes at))
+    ∷ (DW_CFA_val_offset_sf, mapped rule.ValOffset (factored_signed_at alignment bytes at))
+    ∷ (DW_CFA_val_expression, mapped rule.ValExpression (expression_at bytes at))
     ∷ []) (Err UnknownInstruction)
 
 -- an instruction that names a register and gives it a rule
@@ -99,59 +98,57 @@ def_cfa_factored_at alignment bytes at = do
   offset ← factored_signed_at alignment bytes register.1
   Ok (register_and_offset register.0 offset.0, offset.1)
 
--- An instruction on the CFA, by its code: DW_CFA_def_cfa 0C, DW_CFA_def_cfa_register 0D, DW_CFA_def_cfa_offset 0E,
--- DW_CFA_def_cfa_expression 0F, DW_CFA_def_cfa_sf 12, DW_CFA_def_cfa_offset_sf 13.
+-- an instruction on the CFA, by its code
 abbrev pub cfa_at : ℤ → ℕ → List ℕ → ℕ → Parsed CallFrameInstruction
 cfa_at alignment code bytes at =
     by_code code (
-    (0x0C, def_cfa_at bytes at)
-    ∷ (0x0D, mapped DefCfaRegister (register_at bytes at))
-    ∷ (0x0E, mapped DefCfaOffset (offset_at bytes at))
-    ∷ (0x0F, mapped (λ expression. DefCfa (cfa.Expression expression)) (expression_at bytes at))
-    ∷ (0x12, def_cfa_factored_at alignment bytes at)
-    ∷ (0x13, mapped DefCfaOffset (factored_signed_at alignment bytes at))
+    (DW_CFA_def_cfa, def_cfa_at bytes at)
+    ∷ (DW_CFA_def_cfa_register, mapped DefCfaRegister (register_at bytes at))
+    ∷ (DW_CFA_def_cfa_offset, mapped DefCfaOffset (offset_at bytes at))
+    ∷ (DW_CFA_def_cfa_expression, mapped (λ expression. DefCfa (cfa.Expression expression)) (expression_at bytes at))
+    ∷ (DW_CFA_def_cfa_sf, def_cfa_factored_at alignment bytes at)
+    ∷ (DW_CFA_def_cfa_offset_sf, mapped DefCfaOffset (factored_signed_at alignment bytes at))
     ∷ []) (Err UnknownInstruction)
 
 -- an advance of the location by one, two or four bytes
 abbrev pub advance_at : ℕ → List ℕ → ℕ → Parsed CallFrameInstruction
 advance_at code bytes at =
-    if code == 0x02 then mapped AdvanceLoc (u8_at bytes at)
-    else (if code == 0x03 then mapped AdvanceLoc (u16_at bytes at)
+    if code == DW_CFA_advance_loc1 then mapped AdvanceLoc (u8_at bytes at)
+    else (if code == DW_CFA_advance_loc2 then mapped AdvanceLoc (u16_at bytes at)
     else mapped AdvanceLoc (u32_at bytes at))
 
--- An instruction with its own byte, by its code: DW_CFA_nop 00, DW_CFA_AARCH64_negate_ra_state 2D, DW_CFA_set_loc 01,
--- DW_CFA_advance_loc1 to 4 02 to 04, DW_CFA_restore_extended 06, DW_CFA_remember_state 0A, DW_CFA_restore_state 0B,
--- DW_CFA_GNU_args_size 2E, then those on the CFA, and those that give a register a rule.
+-- An instruction with its own byte, by its code. Those on the CFA come before the codes around theirs, which give a
+-- register a rule.
 abbrev pub coded_at : CommonInformationEntry → SectionBaseAddresses → ℕ → List ℕ → ℕ → Parsed CallFrameInstruction
 coded_at cie bases code bytes at =
     by_test (
-    (code == 0x00, Ok (Nop, at))
-    ∷ (code == 0x2D, Ok (NegateRaState, at))
-    ∷ (code == 0x01, mapped SetLoc (pointer_at bases cie.fde_pointer_encoding bytes at))
-    ∷ (nat_le 0x02 code && nat_le code 0x04, advance_at code bytes at)
-    ∷ (code == 0x06, mapped Restore (register_at bytes at))
-    ∷ (code == 0x0A, Ok (RememberState, at))
-    ∷ (code == 0x0B, Ok (RestoreState, at))
-    ∷ (code == 0x2E, mapped ArgsSize (uleb_at bytes at))
+    (code == DW_CFA_nop, Ok (Nop, at))
+    ∷ (code == DW_CFA_AARCH64_negate_ra_state, Ok (NegateRaState, at))
+    ∷ (code == DW_CFA_set_loc, mapped SetLoc (pointer_at bases cie.fde_pointer_encoding bytes at))
+    ∷ (nat_le DW_CFA_advance_loc1 code && nat_le code DW_CFA_advance_loc4, advance_at code bytes at)
+    ∷ (code == DW_CFA_restore_extended, mapped Restore (register_at bytes at))
+    ∷ (code == DW_CFA_remember_state, Ok (RememberState, at))
+    ∷ (code == DW_CFA_restore_state, Ok (RestoreState, at))
+    ∷ (code == DW_CFA_GNU_args_size, mapped ArgsSize (uleb_at bytes at))
     ∷ (
-      (nat_le 0x0C code && nat_le code 0x0F) || (code == 0x12) || (code == 0x13),
+      (nat_le DW_CFA_def_cfa code && nat_le code DW_CFA_def_cfa_expression) || (code == DW_CFA_def_cfa_sf)
+          || (code == DW_CFA_def_cfa_offset_sf),
       cfa_at cie.data_alignment_factor code bytes at,
     )
-    ∷ (nat_le code 0x16, set_rule_at cie.data_alignment_factor code bytes at)
+    ∷ (nat_le code DW_CFA_val_expression, set_rule_at cie.data_alignment_factor code bytes at)
     ∷ []) (Err UnknownInstruction)
 
--- an instruction that has its first operand in the byte: DW_CFA_advance_loc from 40 on, DW_CFA_offset from 80 on,
--- DW_CFA_restore from C0 on
+-- one of the three instructions that have their first operand in the byte, or one with its own byte
 abbrev pub operands_at : CommonInformationEntry → SectionBaseAddresses → ℕ → List ℕ → ℕ → Parsed CallFrameInstruction
 operands_at cie bases code bytes at =
     by_test (
-    (nat_le 0xC0 code, Ok (Restore (record { 0 = code - 0xC0 }), at))
+    (nat_le DW_CFA_restore code, Ok (Restore (record { 0 = code - DW_CFA_restore }), at))
     ∷ (
-      nat_le 0x80 code,
-      mapped (λ offset. SetRule (record { 0 = code - 0x80 }) (rule.Offset offset))
+      nat_le DW_CFA_offset code,
+      mapped (λ offset. SetRule (record { 0 = code - DW_CFA_offset }) (rule.Offset offset))
           (factored_at cie.data_alignment_factor bytes at),
     )
-    ∷ (nat_le 0x40 code, Ok (AdvanceLoc (code - 0x40), at))
+    ∷ (nat_le DW_CFA_advance_loc code, Ok (AdvanceLoc (code - DW_CFA_advance_loc), at))
     ∷ []) (coded_at cie bases code bytes at)
 
 -- the instruction at an offset

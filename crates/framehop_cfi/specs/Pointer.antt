@@ -3,6 +3,7 @@ use Rattle.std.specs.Prelude.{ℕ, ◌+◌, ◌/◌, ◌%◌, ◌^◌, List, Res
 use Rattle.framehop_bytes.specs.Bytes.{◌>>=◌}
 use Rattle.framehop_cfi.specs.Numbers.{Parsed}
 use Rattle.framehop_cfi.specs.Raw.{raw_at, format_of}
+use Rattle.framehop_cfi.specs.PointerEncoding.{DW_EH_PE_absptr, DW_EH_PE_pcrel, DW_EH_PE_textrel, DW_EH_PE_datarel}
 use Rattle.framehop_cfi.specs.declared.pointer.SectionBaseAddresses.{SectionBaseAddresses}
 use Rattle.framehop_cfi.specs.declared.read_error.ReadError.{ReadError}
 use Rattle.framehop_cfi.specs.declared.read_error.ReadError.TheVariants.{BadEncoding}
@@ -10,10 +11,10 @@ use Rattle.framehop_cfi.specs.declared.read_error.ReadError.TheVariants.{BadEnco
 -- what a pointer at an offset counts from, by its application: nothing, its own address, the text, the data
 abbrev pub base_of : SectionBaseAddresses → ℕ → ℕ → Result ℕ ReadError
 base_of bases at application =
-    if application == 0 then Ok 0
-    else (if application == 1 then Ok ((bases.section + at) % 2 ^ 64)
-    else (if application == 2 then Ok bases.text
-    else (if application == 3 then Ok bases.data
+    if application == DW_EH_PE_absptr / 16 then Ok 0
+    else (if application == DW_EH_PE_pcrel / 16 then Ok ((bases.section + at) % 2 ^ 64)
+    else (if application == DW_EH_PE_textrel / 16 then Ok bases.text
+    else (if application == DW_EH_PE_datarel / 16 then Ok bases.data
     else Err BadEncoding)))
 
 -- an encoding's three bits above the format

@@ -5,6 +5,7 @@ use Rattle.framehop_bytes.specs.ByCode.{by_test}
 use Rattle.framehop_bytes.specs.Bytes.{◌>>=◌}
 use Rattle.framehop_cfi.specs.Numbers.{Parsed, u16_at, u32_at, u64_at}
 use Rattle.framehop_cfi.specs.Leb128.{uleb_at, sleb_at}
+use Rattle.framehop_cfi.specs.PointerEncoding.{DW_EH_PE_absptr, DW_EH_PE_uleb128, DW_EH_PE_udata2, DW_EH_PE_udata4, DW_EH_PE_udata8, DW_EH_PE_sleb128, DW_EH_PE_sdata2, DW_EH_PE_sdata4, DW_EH_PE_sdata8}
 use Rattle.framehop_cfi.specs.declared.read_error.ReadError.TheVariants.{BadEncoding}
 
 -- an encoding's low four bits
@@ -19,11 +20,11 @@ sign_extended bits number = if nat_lt (2 * number) (2 ^ bits) then number else n
 unfoldable pub raw_at : ℕ → List ℕ → ℕ → Parsed ℕ
 raw_at format bytes at =
     by_test (
-    ((format == 0) || (format == 4) || (format == 12), u64_at bytes at)
-    ∷ (format == 1, uleb_at bytes at)
-    ∷ (format == 2, u16_at bytes at)
-    ∷ (format == 3, u32_at bytes at)
-    ∷ (format == 9, sleb_at bytes at >>= λ number. Ok (cast_unsigned w64 number.0, number.1))
-    ∷ (format == 10, u16_at bytes at >>= λ number. Ok (sign_extended 16 number.0, number.1))
-    ∷ (format == 11, u32_at bytes at >>= λ number. Ok (sign_extended 32 number.0, number.1))
+    ((format == DW_EH_PE_absptr) || (format == DW_EH_PE_udata8) || (format == DW_EH_PE_sdata8), u64_at bytes at)
+    ∷ (format == DW_EH_PE_uleb128, uleb_at bytes at)
+    ∷ (format == DW_EH_PE_udata2, u16_at bytes at)
+    ∷ (format == DW_EH_PE_udata4, u32_at bytes at)
+    ∷ (format == DW_EH_PE_sleb128, sleb_at bytes at >>= λ number. Ok (cast_unsigned w64 number.0, number.1))
+    ∷ (format == DW_EH_PE_sdata2, u16_at bytes at >>= λ number. Ok (sign_extended 16 number.0, number.1))
+    ∷ (format == DW_EH_PE_sdata4, u32_at bytes at >>= λ number. Ok (sign_extended 32 number.0, number.1))
     ∷ []) (Err BadEncoding)

@@ -42,20 +42,6 @@ fn first_zero(bytes: &[u8]) -> Option<usize>
     bytes.iter().position(|byte| *byte == 0)
 }
 
-/// Returns data whose length stands before it: where it begins, and where it ends.
-#[tactic(auto, unfolding(crate::specs::Augmentation::counted_at))]
-pub fn read_counted(bytes: &[u8], at: usize) -> Result<(usize, usize), ReadError>
-    ensures exact { result ≡ counted_at bytes.now at }
-    ensures within { IfOk result (λ place. (at < place.0) × (place.0 ≤ place.1) × (place.1 ≤ length bytes.now)) }
-    ensures memory { result ≢ Err ReadError.OutOfMemory }
-{
-    let (length, start) = read_uleb128(bytes, at)?;
-    if start > bytes.len() || length > (bytes.len() - start) as u64 {
-        return Err(ReadError::Eof);
-    }
-    Ok((start, start + length as usize))
-}
-
 impl SectionBaseAddresses {
     /// Returns the augmentation by its text's letters; `at` is where its data begins.
     pub fn read_augmentation(
@@ -149,4 +135,18 @@ impl SectionBaseAddresses {
         }
         self.read_pointer(bytes, next, encoding)
     }
+}
+
+/// Returns data whose length stands before it: where it begins, and where it ends.
+#[tactic(auto, unfolding(crate::specs::Augmentation::counted_at))]
+pub fn read_counted(bytes: &[u8], at: usize) -> Result<(usize, usize), ReadError>
+    ensures exact { result ≡ counted_at bytes.now at }
+    ensures within { IfOk result (λ place. (at < place.0) × (place.0 ≤ place.1) × (place.1 ≤ length bytes.now)) }
+    ensures memory { result ≢ Err ReadError.OutOfMemory }
+{
+    let (length, start) = read_uleb128(bytes, at)?;
+    if start > bytes.len() || length > (bytes.len() - start) as u64 {
+        return Err(ReadError::Eof);
+    }
+    Ok((start, start + length as usize))
 }

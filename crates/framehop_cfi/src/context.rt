@@ -50,6 +50,15 @@ impl<S: UnwindContextStorage> Model for UnwindContext<S> {
     ghost invariant = { λ context. HasSpareRows S.limits context.count (vec_len context.remembered) };
 }
 
+/// Where the rows of an FDE have got to.
+#[derive(Clone, Copy, Debug, PartialEq, Eq)]
+pub struct RowCursor {
+    /// The offset in the section of the instruction that is next.
+    pub next: usize,
+    /// The address at which the next row begins, an SVMA.
+    pub location: u64,
+}
+
 impl<S: UnwindContextStorage> UnwindContext<S> {
     /// Makes the room. In a context with limits it is enough for every row: from here on no call
     /// returns `OutOfMemory`.
@@ -80,6 +89,187 @@ impl<S: UnwindContextStorage> UnwindContext<S> {
         &self.row
     }
 
+    /// Makes the row of an address, an SVMA: the effects of the instructions of the FDE's CIE, and of its own
+    /// before the first move of the location beyond the address.
+    ///
+    /// An address that the FDE does not cover is refused by `NoRow`. After a refusal the row is any. `OutOfMemory` is
+    /// returned only where the storage has no limits and one of those instructions gives a register a rule or
+    /// remembers the row.
+    pub fn row_for_address(
+        &mut self,
+        section: &UnwindSection,
+        fde: &FrameDescriptionEntry,
+        address: u64,
+    ) -> Result<(), ReadError>
+        ensures row { OnOk result (IsRowAt S.limits section.now fde.now address self.new.row) }
+        ensures none { IfErr result (λ error. error ≢ ReadError.OutOfMemory →
+            (row : Row) → IsRowAt S.limits section.now fde.now address row → ⊥) }
+        ensures exact { Becomes result self.new.row (row_at S.limits section.now fde.now address) }
+        ensures memory { IsErrOf result ReadError.OutOfMemory → S.limits ≡ None }
+        ensures room { IsErrOf result ReadError.OutOfMemory → row_needs_room section.now fde.now address ≡ true }
+    {
+        // apart, so that `row` and `none` are proved of an answer that is known exactly
+        self.run_fde(section, fde, address)
+    }
+
+    /// Runs the instructions of the FDE's CIE, and then its own up to the address.
+    #[tactic(auto, unfolding(crate::specs::RowAt::rows_at, crate::specs::RowRoom::row_needs_room))]
+    fn run_fde(
+        &mut self,
+        section: &UnwindSection,
+        fde: &FrameDescriptionEntry,
+        address: u64,
+    ) -> Result<(), ReadError>
+        ensures exact { Becomes result self.new (rows_at S.limits section.now fde.now address) }
+        ensures memory { IsErrOf result ReadError.OutOfMemory → S.limits ≡ None }
+        ensures room { IsErrOf result ReadError.OutOfMemory → row_needs_room section.now fde.now address ≡ true }
+    {
+        if !covers(fde, address) {
+            return Err(ReadError::NoRow);
+        }
+        self.clear();
+        let cie = &fde.cie;
+        let bytes = front(section.bytes, cie.end);
+        self.run(cie, &section.bases, bytes, cie.instructions, 0, None)?;
+        self.begin_fde()?;
+        let bytes = front(section.bytes, fde.end);
+        self.run(
+            cie,
+            &section.bases,
+            bytes,
+            fde.instructions,
+            fde.initial_address,
+            Some(address),
+        )
+    }
+
+    /// Begins the rows of an FDE: runs the instructions of its CIE. The rows follow by `next_row`, each instruction being
+    /// read once.
+    ///
+    /// An error is that of the row of each address. `OutOfMemory` is returned only where the storage has no limits.
+    pub fn begin_rows(
+        &mut self,
+        section: &UnwindSection,
+        fde: &FrameDescriptionEntry,
+    ) -> Result<RowCursor, ReadError>
+        ensures begun { IfOk result (λ cursor. HasReached S.limits section.now fde.now cursor.next cursor.location self.new) }
+        ensures first { IfOk result (λ cursor. cursor.location ≡ fde.now.initial_address) }
+        ensures refused { IfErr result (λ error. error ≢ ReadError.OutOfMemory →
+            HaveNoRow S.limits section.now fde.now fde.now.initial_address error) }
+        ensures memory { IsErrOf result ReadError.OutOfMemory → S.limits ≡ None }
+    {
+        self.clear();
+        let cie = &fde.cie;
+        let bytes = front(section.bytes, cie.end);
+        self.run(cie, &section.bases, bytes, cie.instructions, 0, None)?;
+        self.begin_fde()?;
+        Ok(RowCursor {
+            next: fde.instructions,
+            location: fde.initial_address,
+        })
+    }
+
+    /// Forgets all rows.
+    fn clear(&mut self)
+        ensures { self.new ≡ start }
+    {
+        self.has_initial = false;
+        self.count = 0;
+        self.row.clear();
+    }
+
+    /// Runs the instructions from an offset on, up to the end of the bytes or to the first move beyond
+    /// the address.
+    fn run(
+        &mut self,
+        cie: &CommonInformationEntry,
+        bases: &SectionBaseAddresses,
+        bytes: &[u8],
+        at: usize,
+        start: u64,
+        address: Option<u64>,
+    ) -> Result<(), ReadError>
+        ensures exact { Becomes result self.new (run_from S.limits (record { cie = cie.now; bases = bases.now; bytes = bytes.now; address = address }) at start self.old) }
+        ensures memory { IsErrOf result ReadError.OutOfMemory → S.limits ≡ None }
+        ensures room { IsErrOf result ReadError.OutOfMemory →
+            list_needs_room (record { cie = cie.now; bases = bases.now; bytes = bytes.now; address = address }) at start ≡ true }
+    {
+        let mut location = start;
+        let mut next = at;
+        while next < bytes.len() {
+            let (instruction, after_instruction) = cie.read_next(bases, bytes, next)?;
+            let moved = location_after(cie, address, location, instruction)?;
+            if is_beyond(address, moved) {
+                return Ok(());
+            }
+            self.execute(instruction)?;
+            location = moved;
+            next = after_instruction;
+        }
+        Ok(())
+    }
+
+    /// Keeps the row as the one that the CIE left.
+    fn begin_fde(&mut self) -> Result<(), ReadError>
+        ensures ok { OnOk result (self.new ≡ begun self.old) }
+        ensures error { IfErr result (λ error. error ≡ ReadError.OutOfMemory) }
+        ensures memory { OnErr result (S.limits ≡ None) }
+        ensures room { OnErr result (0 < length self.old.row.rules) }
+    {
+        self.initial.copy_from(&self.row)?;
+        self.has_initial = true;
+        Ok(())
+    }
+
+    /// Makes the next row, and returns where it ends and the one after it begins: at the first address after the FDE's for
+    /// its last row. A call begins where the one before it ended, with the rows as that left them.
+    ///
+    /// An error is that of the row of each address from the cursor's location on. `OutOfMemory` is returned only where the
+    /// storage has no limits.
+    pub fn next_row(
+        &mut self,
+        section: &UnwindSection,
+        fde: &FrameDescriptionEntry,
+        cursor: RowCursor,
+    ) -> Result<RowCursor, ReadError>
+        ensures row { HasReached S.limits section.now fde.now cursor.next cursor.location self.old →
+            IfOk result (λ after. HaveRow S.limits section.now fde.now cursor.location after.location self.new.row) }
+        ensures reached { HasReached S.limits section.now fde.now cursor.next cursor.location self.old →
+            IfOk result (λ after. HasReached S.limits section.now fde.now after.next after.location self.new) }
+        ensures forward { IfOk result (λ after. cursor.location ≤ after.location) }
+        ensures further { fde.now.initial_address + fde.now.address_range < 2 ^ 64 →
+            cursor.location < fde.now.initial_address + fde.now.address_range →
+            IfOk result (λ after. cursor.location < after.location) }
+        ensures refused { HasReached S.limits section.now fde.now cursor.next cursor.location self.old →
+            IfErr result (λ error. error ≢ ReadError.OutOfMemory →
+            HaveNoRow S.limits section.now fde.now cursor.location error) }
+        ensures memory { IsErrOf result ReadError.OutOfMemory → S.limits ≡ None }
+    {
+        let bytes = front(section.bytes, fde.end);
+        let mut next = cursor.next;
+        while next < bytes.len() {
+            let (instruction, after) = fde.cie.read_next(&section.bases, bytes, next)?;
+            let moved = location_after(
+                &fde.cie,
+                Some(cursor.location),
+                cursor.location,
+                instruction,
+            )?;
+            if moved > cursor.location {
+                return Ok(RowCursor {
+                    next: after,
+                    location: moved,
+                });
+            }
+            self.execute(instruction)?;
+            next = after;
+        }
+        Ok(RowCursor {
+            next,
+            location: end_of(fde).max(cursor.location),
+        })
+    }
+
     /// Does what an instruction says, but for a move of the location.
     #[inline(always)]
     fn execute(&mut self, instruction: CallFrameInstruction) -> Result<(), ReadError>
@@ -106,14 +296,6 @@ impl<S: UnwindContextStorage> UnwindContext<S> {
         }
     }
 
-    #[inline(always)]
-    fn set_rule(&mut self, register: Register, rule: RegisterRule) -> Result<(), ReadError>
-        ensures exact { Becomes result self.new (setting S.limits register rule self.old) }
-        ensures memory { IsErrOf result ReadError.OutOfMemory → S.limits ≡ None }
-    {
-        self.row.set_rule(register, rule)
-    }
-
     /// Gives a register the rule that the CIE gave it.
     #[inline(never)]
     fn restore(&mut self, register: Register) -> Result<(), ReadError>
@@ -130,6 +312,50 @@ impl<S: UnwindContextStorage> UnwindContext<S> {
                 Ok(())
             }
         }
+    }
+
+    #[inline(always)]
+    fn set_rule(&mut self, register: Register, rule: RegisterRule) -> Result<(), ReadError>
+        ensures exact { Becomes result self.new (setting S.limits register rule self.old) }
+        ensures memory { IsErrOf result ReadError.OutOfMemory → S.limits ≡ None }
+    {
+        self.row.set_rule(register, rule)
+    }
+
+    /// Remembers the row.
+    #[inline(never)]
+    fn remember(&mut self) -> Result<(), ReadError>
+        ensures exact { Becomes result self.new (remembering S.limits self.old) }
+        ensures memory { IsErrOf result ReadError.OutOfMemory → S.limits ≡ None }
+    {
+        if let Some(limits) = S::limits()
+            && self.count >= limits.rows
+        {
+            return Err(ReadError::TooManyRows);
+        }
+        if self.count == self.remembered.len() {
+            let spare = UnwindTableRow::new(self.alloc)?;
+            self.remembered.push(spare)?;
+        }
+        let spare = &mut self.remembered[self.count];
+        spare.copy_from(&self.row)?;
+        self.count += 1;
+        Ok(())
+    }
+
+    /// Makes the row the one that was remembered last, which is then not remembered any more.
+    #[inline(never)]
+    fn restore_state(&mut self) -> Result<(), ReadError>
+        ensures exact { Becomes result self.new (restoring_state self.old) }
+        ensures memory { result ≢ Err ReadError.OutOfMemory }
+    {
+        if self.count == 0 {
+            return Err(ReadError::NothingRemembered);
+        }
+        self.count -= 1;
+        let latest = &mut self.remembered[self.count];
+        mem::swap(&mut self.row, latest);
+        Ok(())
     }
 
     #[inline(always)]
@@ -161,46 +387,6 @@ impl<S: UnwindContextStorage> UnwindContext<S> {
             CfaRule::Expression(_) => Err(ReadError::InvalidContext),
         }
     }
-
-    /// Remembers the row.
-    #[inline(never)]
-    fn remember(&mut self) -> Result<(), ReadError>
-        ensures exact { Becomes result self.new (remembering S.limits self.old) }
-        ensures memory { IsErrOf result ReadError.OutOfMemory → S.limits ≡ None }
-    {
-        if let Some(limits) = S::limits()
-            && self.count >= limits.rows
-        {
-            return Err(ReadError::TooManyRows);
-        }
-        if self.count == self.remembered.len() {
-            let Ok(spare) = UnwindTableRow::new(self.alloc) else {
-                return Err(ReadError::OutOfMemory);
-            };
-            if self.remembered.push(spare).is_err() {
-                return Err(ReadError::OutOfMemory);
-            }
-        }
-        let spare = &mut self.remembered[self.count];
-        spare.copy_from(&self.row)?;
-        self.count += 1;
-        Ok(())
-    }
-
-    /// Makes the row the one that was remembered last, which is then not remembered any more.
-    #[inline(never)]
-    fn restore_state(&mut self) -> Result<(), ReadError>
-        ensures exact { Becomes result self.new (restoring_state self.old) }
-        ensures memory { result ≢ Err ReadError.OutOfMemory }
-    {
-        if self.count == 0 {
-            return Err(ReadError::NothingRemembered);
-        }
-        self.count -= 1;
-        let latest = &mut self.remembered[self.count];
-        mem::swap(&mut self.row, latest);
-        Ok(())
-    }
 }
 
 /// Returns so many empty rows.
@@ -216,6 +402,13 @@ fn spare_rows<S: UnwindContextStorage>(
         rows.push(row)?;
     }
     Ok(rows)
+}
+
+/// Returns whether the FDE covers the address.
+fn covers(fde: &FrameDescriptionEntry, address: u64) -> bool
+    ensures { result ≡ covers fde.now address }
+{
+    fde.initial_address <= address && address - fde.initial_address < fde.address_range
 }
 
 /// Returns the location that an instruction leaves. A CIE has no address that is looked for, and its
@@ -275,210 +468,10 @@ fn is_beyond(address: Option<u64>, location: u64) -> bool
     }
 }
 
-impl<S: UnwindContextStorage> UnwindContext<S> {
-    /// Runs the instructions from an offset on, up to the end of the bytes or to the first move beyond
-    /// the address.
-    fn run(
-        &mut self,
-        cie: &CommonInformationEntry,
-        bases: &SectionBaseAddresses,
-        bytes: &[u8],
-        at: usize,
-        start: u64,
-        address: Option<u64>,
-    ) -> Result<(), ReadError>
-        ensures exact { Becomes result self.new (run_from S.limits (record { cie = cie.now; bases = bases.now; bytes = bytes.now; address = address }) at start self.old) }
-        ensures memory { IsErrOf result ReadError.OutOfMemory → S.limits ≡ None }
-        ensures room { IsErrOf result ReadError.OutOfMemory →
-            list_needs_room (record { cie = cie.now; bases = bases.now; bytes = bytes.now; address = address }) at start ≡ true }
-    {
-        let mut location = start;
-        let mut next = at;
-        while next < bytes.len() {
-            let (instruction, after_instruction) = cie.read_next(bases, bytes, next)?;
-            let moved = location_after(cie, address, location, instruction)?;
-            if is_beyond(address, moved) {
-                return Ok(());
-            }
-            self.execute(instruction)?;
-            location = moved;
-            next = after_instruction;
-        }
-        Ok(())
-    }
-
-    /// Makes the row of an address, an SVMA: the effects of the instructions of the FDE's CIE, and of its own
-    /// before the first move of the location beyond the address.
-    ///
-    /// An address that the FDE does not cover is refused by `NoRow`. After a refusal the row is any. `OutOfMemory` is
-    /// returned only where the storage has no limits and one of those instructions gives a register a rule or
-    /// remembers the row.
-    pub fn row_for_address(
-        &mut self,
-        section: &UnwindSection,
-        fde: &FrameDescriptionEntry,
-        address: u64,
-    ) -> Result<(), ReadError>
-        ensures row { OnOk result (IsRowAt S.limits section.now fde.now address self.new.row) }
-        ensures none { IfErr result (λ error. error ≢ ReadError.OutOfMemory →
-            (row : Row) → IsRowAt S.limits section.now fde.now address row → ⊥) }
-        ensures exact { Becomes result self.new.row (row_at S.limits section.now fde.now address) }
-        ensures memory { IsErrOf result ReadError.OutOfMemory → S.limits ≡ None }
-        ensures room { IsErrOf result ReadError.OutOfMemory → row_needs_room section.now fde.now address ≡ true }
-    {
-        self.run_fde(section, fde, address)
-    }
-
-    /// Runs the instructions of the FDE's CIE, and then its own up to the address.
-    #[tactic(auto, unfolding(crate::specs::RowAt::rows_at, crate::specs::RowRoom::row_needs_room))]
-    fn run_fde(
-        &mut self,
-        section: &UnwindSection,
-        fde: &FrameDescriptionEntry,
-        address: u64,
-    ) -> Result<(), ReadError>
-        ensures exact { Becomes result self.new (rows_at S.limits section.now fde.now address) }
-        ensures memory { IsErrOf result ReadError.OutOfMemory → S.limits ≡ None }
-        ensures room { IsErrOf result ReadError.OutOfMemory → row_needs_room section.now fde.now address ≡ true }
-    {
-        if !covers(fde, address) {
-            return Err(ReadError::NoRow);
-        }
-        self.clear();
-        let cie = &fde.cie;
-        let bytes = front(section.bytes, cie.end);
-        self.run(cie, &section.bases, bytes, cie.instructions, 0, None)?;
-        self.begin_fde()?;
-        let bytes = front(section.bytes, fde.end);
-        self.run(
-            cie,
-            &section.bases,
-            bytes,
-            fde.instructions,
-            fde.initial_address,
-            Some(address),
-        )
-    }
-
-    /// Forgets all rows.
-    fn clear(&mut self)
-        ensures { self.new ≡ start }
-    {
-        self.has_initial = false;
-        self.count = 0;
-        self.row.clear();
-    }
-
-    /// Keeps the row as the one that the CIE left.
-    fn begin_fde(&mut self) -> Result<(), ReadError>
-        ensures ok { OnOk result (self.new ≡ begun self.old) }
-        ensures error { IfErr result (λ error. error ≡ ReadError.OutOfMemory) }
-        ensures memory { OnErr result (S.limits ≡ None) }
-        ensures room { OnErr result (0 < length self.old.row.rules) }
-    {
-        self.initial.copy_from(&self.row)?;
-        self.has_initial = true;
-        Ok(())
-    }
-}
-
-/// Where the rows of an FDE have got to.
-#[derive(Clone, Copy, Debug, PartialEq, Eq)]
-pub struct RowCursor {
-    /// The offset in the section of the instruction that is next.
-    pub next: usize,
-    /// The address at which the next row begins, an SVMA.
-    pub location: u64,
-}
-
 /// Returns the first address after those that the FDE covers, or the last one of 64 bits.
 fn end_of(fde: &FrameDescriptionEntry) -> u64
     ensures { fde.now.initial_address + fde.now.address_range < 2 ^ 64 →
         result ≡ fde.now.initial_address + fde.now.address_range }
 {
     fde.initial_address.saturating_add(fde.address_range)
-}
-
-impl<S: UnwindContextStorage> UnwindContext<S> {
-    /// Begins the rows of an FDE: runs the instructions of its CIE. The rows follow by `next_row`, each instruction being
-    /// read once.
-    ///
-    /// An error is that of the row of each address. `OutOfMemory` is returned only where the storage has no limits.
-    pub fn begin_rows(
-        &mut self,
-        section: &UnwindSection,
-        fde: &FrameDescriptionEntry,
-    ) -> Result<RowCursor, ReadError>
-        ensures begun { IfOk result (λ cursor. HasReached S.limits section.now fde.now cursor.next cursor.location self.new) }
-        ensures first { IfOk result (λ cursor. cursor.location ≡ fde.now.initial_address) }
-        ensures refused { IfErr result (λ error. error ≢ ReadError.OutOfMemory →
-            HaveNoRow S.limits section.now fde.now fde.now.initial_address error) }
-        ensures memory { IsErrOf result ReadError.OutOfMemory → S.limits ≡ None }
-    {
-        self.clear();
-        let cie = &fde.cie;
-        let bytes = front(section.bytes, cie.end);
-        self.run(cie, &section.bases, bytes, cie.instructions, 0, None)?;
-        self.begin_fde()?;
-        Ok(RowCursor {
-            next: fde.instructions,
-            location: fde.initial_address,
-        })
-    }
-
-    /// Makes the next row, and returns where it ends and the one after it begins: at the first address after the FDE's for
-    /// its last row. A call begins where the one before it ended, with the rows as that left them.
-    ///
-    /// An error is that of the row of each address from the cursor's location on. `OutOfMemory` is returned only where the
-    /// storage has no limits.
-    pub fn next_row(
-        &mut self,
-        section: &UnwindSection,
-        fde: &FrameDescriptionEntry,
-        cursor: RowCursor,
-    ) -> Result<RowCursor, ReadError>
-        ensures row { HasReached S.limits section.now fde.now cursor.next cursor.location self.old →
-            IfOk result (λ after. HaveRow S.limits section.now fde.now cursor.location after.location self.new.row) }
-        ensures reached { HasReached S.limits section.now fde.now cursor.next cursor.location self.old →
-            IfOk result (λ after. HasReached S.limits section.now fde.now after.next after.location self.new) }
-        ensures forward { IfOk result (λ after. cursor.location ≤ after.location) }
-        ensures further { fde.now.initial_address + fde.now.address_range < 2 ^ 64 →
-            cursor.location < fde.now.initial_address + fde.now.address_range →
-            IfOk result (λ after. cursor.location < after.location) }
-        ensures refused { HasReached S.limits section.now fde.now cursor.next cursor.location self.old →
-            IfErr result (λ error. error ≢ ReadError.OutOfMemory →
-            HaveNoRow S.limits section.now fde.now cursor.location error) }
-        ensures memory { IsErrOf result ReadError.OutOfMemory → S.limits ≡ None }
-    {
-        let bytes = front(section.bytes, fde.end);
-        let mut next = cursor.next;
-        while next < bytes.len() {
-            let (instruction, after) = fde.cie.read_next(&section.bases, bytes, next)?;
-            let moved = location_after(
-                &fde.cie,
-                Some(cursor.location),
-                cursor.location,
-                instruction,
-            )?;
-            if moved > cursor.location {
-                return Ok(RowCursor {
-                    next: after,
-                    location: moved,
-                });
-            }
-            self.execute(instruction)?;
-            next = after;
-        }
-        Ok(RowCursor {
-            next,
-            location: end_of(fde).max(cursor.location),
-        })
-    }
-}
-
-/// Returns whether the FDE covers the address.
-fn covers(fde: &FrameDescriptionEntry, address: u64) -> bool
-    ensures { result ≡ covers fde.now address }
-{
-    fde.initial_address <= address && address - fde.initial_address < fde.address_range
 }

@@ -128,125 +128,82 @@ impl<'a> UnwindSection<'a> {
         self.bytes
     }
 
-    /// Returns what stands at an offset.
-    #[tactic(auto, unfolding(crate::specs::Entry::head_at))]
-    pub fn head_at(&self, at: usize) -> Result<EntryHead, ReadError>
-        ensures exact { result ≡ head_at self.now.kind self.now.bytes at }
+    /// Returns the FDE at an offset, with the CIE at the offset that it names.
+    ///
+    /// An offset of a CIE or of a zero length is refused by `NotFde`.
+    pub fn fde_from_offset(&self, at: usize) -> Result<FrameDescriptionEntry, ReadError>
+        ensures found { IfOk result (IsFde self.now at) }
+        ensures none { IfErr result (λ _. (fde : FrameDescriptionEntry) → IsFde self.now at fde → ⊥) }
+        ensures exact { result ≡ fde_at self.now at }
         ensures memory { result ≢ Err ReadError.OutOfMemory }
     {
-        let span = read_extent(self.bytes, at)?;
-        if span.is_zero_length() {
-            return Ok(EntryHead::ZeroLength(span.end));
-        }
-        self.head_of(&span)
+        // apart, so that `found` and `none` are proved of an answer that is known exactly
+        self.read_fde_at(at)
     }
 
-    /// Returns the id of the entry in a span, whose length is not 0: which kind it is.
-    pub fn head_of(&self, span: &EntryExtent) -> Result<EntryHead, ReadError>
-        ensures exact { result ≡ id_at self.now.kind (take span.now.end self.now.bytes) span.now }
+    /// Returns the FDE at an offset, read field by field.
+    #[tactic(auto, unfolding(crate::specs::Entry::fde_at))]
+    fn read_fde_at(&self, at: usize) -> Result<FrameDescriptionEntry, ReadError>
+        ensures exact { result ≡ fde_at self.now at }
         ensures memory { result ≢ Err ReadError.OutOfMemory }
     {
-        let entry = front(self.bytes, span.end);
-        match self.section_type {
-            UnwindSectionType::EhFrame => read_eh_frame_id(entry, span),
-            UnwindSectionType::DebugFrame => read_debug_frame_id(entry, span),
+        match self.head_at(at)? {
+            EntryHead::Fde {
+                cie_offset,
+                fields,
+                end,
+            } => {
+                let cie = self.read_cie_at(cie_offset)?;
+                self.read_fde(&cie, fields, end)
+            }
+            _ => Err(ReadError::NotFde),
         }
     }
-}
 
-/// Returns the id of an entry of `.eh_frame`, where an FDE's CIE lies so many bytes before the field.
-#[tactic(auto, unfolding(crate::specs::Entry::eh_frame_id))]
-fn read_eh_frame_id(entry: &[u8], span: &EntryExtent) -> Result<EntryHead, ReadError>
-    ensures exact { result ≡ eh_frame_id entry.now span.now }
-    ensures memory { result ≢ Err ReadError.OutOfMemory }
-{
-    let (id, next) = read_u32(entry, span.contents)?;
-    let distance = id as usize;
-    if distance == 0 {
-        return Ok(EntryHead::Cie {
-            fields: next,
-            end: span.end,
-        });
-    }
-    if distance > span.contents {
-        return Err(ReadError::NumberTooBig);
-    }
-    Ok(EntryHead::Fde {
-        cie_offset: span.contents - distance,
-        fields: next,
-        end: span.end,
-    })
-}
-
-/// Returns the id of an entry of `.debug_frame`, where an FDE's CIE lies at the offset in the field.
-#[tactic(auto, unfolding(crate::specs::Entry::short_id, crate::specs::Entry::long_id))]
-fn read_debug_frame_id(entry: &[u8], span: &EntryExtent) -> Result<EntryHead, ReadError>
-    ensures exact { result ≡ debug_frame_id entry.now span.now }
-    ensures memory { result ≢ Err ReadError.OutOfMemory }
-{
-    if span.offset_size == 4 {
-        let (id, next) = read_u32(entry, span.contents)?;
-        if id == u32::MAX {
-            return Ok(EntryHead::Cie {
-                fields: next,
-                end: span.end,
-            });
+    /// Returns the FDE of that CIE whose fields begin after its CIE's offset and end with the entry, or with the
+    /// section.
+    pub fn read_fde(
+        &self,
+        cie: &CommonInformationEntry,
+        fields: usize,
+        end: usize,
+    ) -> Result<FrameDescriptionEntry, ReadError>
+        ensures exact { result ≡ fde_fields self.now.bases cie.now (take end self.now.bytes) fields end }
+        ensures end { IfOk result (λ fde. (fde.end ≡ end) × (fde.cie ≡ cie.now)) }
+        ensures memory { result ≢ Err ReadError.OutOfMemory }
+    {
+        if cie.fde_pointer_encoding >= DW_EH_PE_INDIRECT {
+            return Err(ReadError::BadEncoding);
         }
-        return Ok(EntryHead::Fde {
-            cie_offset: id as usize,
-            fields: next,
-            end: span.end,
-        });
+        self.read_range(cie, front(self.bytes, end), fields, end)
     }
-    let (id, next) = read_u64(entry, span.contents)?;
-    if id == u64::MAX {
-        return Ok(EntryHead::Cie {
-            fields: next,
-            end: span.end,
-        });
+
+    /// Returns an FDE's range, and what stands after it.
+    #[tactic(auto, unfolding(crate::specs::Entry::fde_range))]
+    fn read_range(
+        &self,
+        cie: &CommonInformationEntry,
+        entry: &[u8],
+        at: usize,
+        end: usize,
+    ) -> Result<FrameDescriptionEntry, ReadError>
+        ensures exact { result ≡ fde_range self.now.bases cie.now entry.now at end }
+        ensures end { IfOk result (λ fde. (fde.end ≡ end) × (fde.cie ≡ cie.now)) }
+        ensures memory { result ≢ Err ReadError.OutOfMemory }
+    {
+        let encoding = cie.fde_pointer_encoding;
+        let (initial_address, next) = self.bases.read_pointer(entry, at, encoding)?;
+        let (address_range, next) = read_raw_pointer(entry, next, encoding)?;
+        let instructions = skip_augmentation_data(cie.has_augmentation_data, entry, next)?;
+        Ok(FrameDescriptionEntry {
+            cie: *cie,
+            initial_address,
+            address_range,
+            instructions,
+            end,
+        })
     }
-    Ok(EntryHead::Fde {
-        cie_offset: id as usize,
-        fields: next,
-        end: span.end,
-    })
-}
 
-/// Returns whether the CIE's version is one that is read here.
-fn is_known_version(version: u8) -> bool
-    ensures { result ≡ is_known_version version }
-{
-    version == 1 || version == 3 || version == 4
-}
-
-/// Skips the sizes of addresses and of segment selectors. Returns the offset after them.
-#[tactic(auto, unfolding(crate::specs::Entry::sizes_at))]
-fn read_sizes(bytes: &[u8], at: usize) -> Result<usize, ReadError>
-    ensures exact { result ≡ sizes_at bytes.now at }
-    ensures memory { result ≢ Err ReadError.OutOfMemory }
-{
-    let (address_size, next) = read_u8(bytes, at)?;
-    let (segment_size, next) = read_u8(bytes, next)?;
-    if address_size != 8 || segment_size != 0 {
-        return Err(ReadError::BadEncoding);
-    }
-    Ok(next)
-}
-
-/// Skips the return register, which is not used. Returns the offset after it.
-fn skip_return_register(version: u8, bytes: &[u8], at: usize) -> Result<usize, ReadError>
-    ensures exact { result ≡ return_register_at version bytes.now at }
-    ensures memory { result ≢ Err ReadError.OutOfMemory }
-{
-    if version == 1 {
-        let (_, next) = read_u8(bytes, at)?;
-        return Ok(next);
-    }
-    let (_, next) = read_uleb128(bytes, at)?;
-    Ok(next)
-}
-
-impl<'a> UnwindSection<'a> {
     /// Returns the CIE at an offset.
     ///
     /// An offset of an FDE or of a zero length is refused by `NotCie`.
@@ -256,6 +213,7 @@ impl<'a> UnwindSection<'a> {
         ensures exact { result ≡ cie_at self.now at }
         ensures memory { result ≢ Err ReadError.OutOfMemory }
     {
+        // apart, as `read_fde_at` is
         self.read_cie_at(at)
     }
 
@@ -268,6 +226,31 @@ impl<'a> UnwindSection<'a> {
         match self.head_at(at)? {
             EntryHead::Cie { fields, end } => self.read_cie(fields, end),
             _ => Err(ReadError::NotCie),
+        }
+    }
+
+    /// Returns what stands at an offset.
+    #[tactic(auto, unfolding(crate::specs::Entry::head_at))]
+    pub fn head_at(&self, at: usize) -> Result<EntryHead, ReadError>
+        ensures exact { result ≡ head_at self.now.kind self.now.bytes at }
+        ensures memory { result ≢ Err ReadError.OutOfMemory }
+    {
+        let extent = read_extent(self.bytes, at)?;
+        if extent.is_zero_length() {
+            return Ok(EntryHead::ZeroLength(extent.end));
+        }
+        self.head_of(&extent)
+    }
+
+    /// Returns the id of the entry in an extent, whose length is not 0: which kind it is.
+    pub fn head_of(&self, extent: &EntryExtent) -> Result<EntryHead, ReadError>
+        ensures exact { result ≡ id_at self.now.kind (take extent.now.end self.now.bytes) extent.now }
+        ensures memory { result ≢ Err ReadError.OutOfMemory }
+    {
+        let entry = front(self.bytes, extent.end);
+        match self.section_type {
+            UnwindSectionType::EhFrame => read_eh_frame_id(entry, extent),
+            UnwindSectionType::DebugFrame => read_debug_frame_id(entry, extent),
         }
     }
 
@@ -343,81 +326,6 @@ impl<'a> UnwindSection<'a> {
             end,
         })
     }
-
-    /// Returns the FDE at an offset, with the CIE at the offset that it names.
-    ///
-    /// An offset of a CIE or of a zero length is refused by `NotFde`.
-    pub fn fde_from_offset(&self, at: usize) -> Result<FrameDescriptionEntry, ReadError>
-        ensures found { IfOk result (IsFde self.now at) }
-        ensures none { IfErr result (λ _. (fde : FrameDescriptionEntry) → IsFde self.now at fde → ⊥) }
-        ensures exact { result ≡ fde_at self.now at }
-        ensures memory { result ≢ Err ReadError.OutOfMemory }
-    {
-        self.read_fde_at(at)
-    }
-
-    /// Returns the FDE at an offset, read field by field.
-    #[tactic(auto, unfolding(crate::specs::Entry::fde_at))]
-    fn read_fde_at(&self, at: usize) -> Result<FrameDescriptionEntry, ReadError>
-        ensures exact { result ≡ fde_at self.now at }
-        ensures memory { result ≢ Err ReadError.OutOfMemory }
-    {
-        match self.head_at(at)? {
-            EntryHead::Fde {
-                cie_offset,
-                fields,
-                end,
-            } => {
-                let cie = self.read_cie_at(cie_offset)?;
-                self.read_fde(&cie, fields, end)
-            }
-            _ => Err(ReadError::NotFde),
-        }
-    }
-
-    /// Returns the FDE of that CIE whose fields begin after its CIE's offset and end with the entry, or with the
-    /// section.
-    pub fn read_fde(
-        &self,
-        cie: &CommonInformationEntry,
-        fields: usize,
-        end: usize,
-    ) -> Result<FrameDescriptionEntry, ReadError>
-        ensures exact { result ≡ fde_fields self.now.bases cie.now (take end self.now.bytes) fields end }
-        ensures end { IfOk result (λ fde. (fde.end ≡ end) × (fde.cie ≡ cie.now)) }
-        ensures memory { result ≢ Err ReadError.OutOfMemory }
-    {
-        if cie.fde_pointer_encoding >= DW_EH_PE_INDIRECT {
-            return Err(ReadError::BadEncoding);
-        }
-        self.read_range(cie, front(self.bytes, end), fields, end)
-    }
-
-    /// Returns an FDE's range, and what stands after it.
-    #[tactic(auto, unfolding(crate::specs::Entry::fde_range))]
-    fn read_range(
-        &self,
-        cie: &CommonInformationEntry,
-        entry: &[u8],
-        at: usize,
-        end: usize,
-    ) -> Result<FrameDescriptionEntry, ReadError>
-        ensures exact { result ≡ fde_range self.now.bases cie.now entry.now at end }
-        ensures end { IfOk result (λ fde. (fde.end ≡ end) × (fde.cie ≡ cie.now)) }
-        ensures memory { result ≢ Err ReadError.OutOfMemory }
-    {
-        let encoding = cie.fde_pointer_encoding;
-        let (initial_address, next) = self.bases.read_pointer(entry, at, encoding)?;
-        let (address_range, next) = read_raw_pointer(entry, next, encoding)?;
-        let instructions = skip_augmentation_data(cie.has_augmentation_data, entry, next)?;
-        Ok(FrameDescriptionEntry {
-            cie: *cie,
-            initial_address,
-            address_range,
-            instructions,
-            end,
-        })
-    }
 }
 
 /// Returns the offset after an FDE's augmentation data, if it has any.
@@ -430,4 +338,96 @@ fn skip_augmentation_data(has_data: bool, entry: &[u8], at: usize) -> Result<usi
     }
     let (_, end) = read_counted(entry, at)?;
     Ok(end)
+}
+
+/// Returns the id of an entry of `.eh_frame`, where an FDE's CIE lies so many bytes before the field.
+#[tactic(auto, unfolding(crate::specs::Entry::eh_frame_id))]
+fn read_eh_frame_id(entry: &[u8], extent: &EntryExtent) -> Result<EntryHead, ReadError>
+    ensures exact { result ≡ eh_frame_id entry.now extent.now }
+    ensures memory { result ≢ Err ReadError.OutOfMemory }
+{
+    let (id, next) = read_u32(entry, extent.contents)?;
+    let distance = id as usize;
+    if distance == 0 {
+        return Ok(EntryHead::Cie {
+            fields: next,
+            end: extent.end,
+        });
+    }
+    if distance > extent.contents {
+        return Err(ReadError::NumberTooBig);
+    }
+    Ok(EntryHead::Fde {
+        cie_offset: extent.contents - distance,
+        fields: next,
+        end: extent.end,
+    })
+}
+
+/// Returns the id of an entry of `.debug_frame`, where an FDE's CIE lies at the offset in the field.
+#[tactic(auto, unfolding(crate::specs::Entry::short_id, crate::specs::Entry::long_id))]
+fn read_debug_frame_id(entry: &[u8], extent: &EntryExtent) -> Result<EntryHead, ReadError>
+    ensures exact { result ≡ debug_frame_id entry.now extent.now }
+    ensures memory { result ≢ Err ReadError.OutOfMemory }
+{
+    if extent.offset_size == 4 {
+        let (id, next) = read_u32(entry, extent.contents)?;
+        if id == u32::MAX {
+            return Ok(EntryHead::Cie {
+                fields: next,
+                end: extent.end,
+            });
+        }
+        return Ok(EntryHead::Fde {
+            cie_offset: id as usize,
+            fields: next,
+            end: extent.end,
+        });
+    }
+    let (id, next) = read_u64(entry, extent.contents)?;
+    if id == u64::MAX {
+        return Ok(EntryHead::Cie {
+            fields: next,
+            end: extent.end,
+        });
+    }
+    Ok(EntryHead::Fde {
+        cie_offset: id as usize,
+        fields: next,
+        end: extent.end,
+    })
+}
+
+/// Returns whether the CIE's version is one that is read here.
+fn is_known_version(version: u8) -> bool
+    ensures { result ≡ is_known_version version }
+{
+    version == 1 || version == 3 || version == 4
+}
+
+/// Skips the sizes of addresses and of segment selectors. Returns the offset after them.
+#[tactic(auto, unfolding(crate::specs::Entry::sizes_at))]
+fn read_sizes(bytes: &[u8], at: usize) -> Result<usize, ReadError>
+    ensures exact { result ≡ sizes_at bytes.now at }
+    ensures memory { result ≢ Err ReadError.OutOfMemory }
+{
+    let (address_size, next) = read_u8(bytes, at)?;
+    let (segment_size, next) = read_u8(bytes, next)?;
+    if address_size != 8 || segment_size != 0 {
+        return Err(ReadError::BadEncoding);
+    }
+    Ok(next)
+}
+
+/// Skips the return register, which is not used. Returns the offset after it.
+fn skip_return_register(version: u8, bytes: &[u8], at: usize) -> Result<usize, ReadError>
+    ensures exact { result ≡ return_register_at version bytes.now at }
+    ensures memory { result ≢ Err ReadError.OutOfMemory }
+{
+    if version == 1 {
+        let (_, next) = read_u8(bytes, at)?;
+        return Ok(next);
+    }
+    let (_, next) = read_uleb128(bytes, at)?;
+    Ok(next)
 }

@@ -5,7 +5,7 @@ ghost use Rattle.framehop_cfi.specs.EntryExtent.{extent_at, held, is_zero_length
 use crate::numbers::{read_u32, read_u64};
 use crate::read_error::ReadError;
 
-/// Where an entry's contents stand, after its length.
+/// The extent of an entry: where its contents stand, after its length.
 #[derive(Clone, Copy)]
 pub struct EntryExtent {
     /// The offset of the contents.
@@ -16,7 +16,7 @@ pub struct EntryExtent {
     pub offset_size: u8,
 }
 
-/// Returns the span of the entry at an offset. Its length has 4 bytes, or 8 after four bytes `FF`.
+/// Returns the extent of the entry at an offset. Its length has 4 bytes, or 8 after four bytes `FF`.
 #[tactic(auto, unfolding(crate::specs::EntryExtent::extent_at, crate::specs::EntryExtent::long_extent))]
 pub fn read_extent(bytes: &[u8], at: usize) -> Result<EntryExtent, ReadError>
     ensures exact { result ≡ extent_at bytes.now at }
@@ -34,7 +34,7 @@ pub fn read_extent(bytes: &[u8], at: usize) -> Result<EntryExtent, ReadError>
     Err(ReadError::BadLength)
 }
 
-/// Contents of that length, if the section holds them.
+/// Returns the extent of contents of that length, if the section holds them.
 fn held_extent(
     bytes: &[u8],
     offset_size: u8,

@@ -1,6 +1,7 @@
 //! Readers of the DWARF call frame sections.
 #![tactic(auto)]
 
+pub mod aarch64;
 pub mod augmentation;
 pub mod context;
 pub mod dwarf_error;
@@ -8,6 +9,7 @@ pub mod entry;
 pub mod extent;
 pub mod header;
 pub mod instruction;
+mod instruction_code;
 pub mod leb128;
 pub mod numbers;
 pub mod pointer;
@@ -15,3 +17,4 @@ pub mod read_error;
 pub mod row;
 pub mod rule;
 pub mod storage;
+pub mod x86_64;

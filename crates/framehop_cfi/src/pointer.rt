@@ -31,11 +31,87 @@ pub struct SectionBaseAddresses {
     pub data: u64,
 }
 
-/// The encoding of a pointer that is not there.
-pub const DW_EH_PE_OMIT: u8 = 0xff;
+/// An address of eight bytes, which counts from nothing.
+pub const DW_EH_PE_ABSPTR: u8 = 0x00;
+
+/// An unsigned LEB128 number.
+pub const DW_EH_PE_ULEB128: u8 = 0x01;
+
+/// An unsigned number of two bytes.
+pub const DW_EH_PE_UDATA2: u8 = 0x02;
+
+/// An unsigned number of four bytes.
+pub const DW_EH_PE_UDATA4: u8 = 0x03;
+
+/// An unsigned number of eight bytes.
+pub const DW_EH_PE_UDATA8: u8 = 0x04;
+
+/// A signed LEB128 number.
+pub const DW_EH_PE_SLEB128: u8 = 0x09;
+
+/// A signed number of two bytes.
+pub const DW_EH_PE_SDATA2: u8 = 0x0a;
+
+/// A signed number of four bytes.
+pub const DW_EH_PE_SDATA4: u8 = 0x0b;
+
+/// A signed number of eight bytes.
+pub const DW_EH_PE_SDATA8: u8 = 0x0c;
+
+/// A pointer counts from its own address.
+pub const DW_EH_PE_PCREL: u8 = 0x10;
+
+/// A pointer counts from the text.
+pub const DW_EH_PE_TEXTREL: u8 = 0x20;
+
+/// A pointer counts from the data.
+pub const DW_EH_PE_DATAREL: u8 = 0x30;
+
+/// A pointer counts from the start of its function, which is not read here.
+pub const DW_EH_PE_FUNCREL: u8 = 0x40;
 
 /// From this encoding on a pointer is not the value but the place of it.
 pub const DW_EH_PE_INDIRECT: u8 = 0x80;
+
+/// The encoding of a pointer that is not there.
+pub const DW_EH_PE_OMIT: u8 = 0xff;
+
+impl SectionBaseAddresses {
+    ghost use Rattle.framehop_cfi.specs.Pointer.{base_of, application_of, pointer_at};
+
+    /// Returns a pointer of that encoding. Whether it is indirect is not looked at.
+    #[tactic(auto, unfolding(crate::specs::Pointer::pointer_at))]
+    pub fn read_pointer(
+        &self,
+        bytes: &[u8],
+        at: usize,
+        encoding: u8,
+    ) -> Result<(u64, usize), ReadError>
+        ensures exact { result ≡ pointer_at self.now encoding bytes.now at }
+        ensures forward { IfOk result (λ read. at < read.1) }
+        ensures refusal { IfErr result IsSliceRefusal }
+        ensures memory { result ≢ Err ReadError.OutOfMemory }
+    {
+        let base = self.base(at, encoding)?;
+        let (raw, next) = read_raw_pointer(bytes, at, encoding)?;
+        Ok((base.wrapping_add(raw), next))
+    }
+
+    /// Returns what a pointer at that offset counts from.
+    fn base(&self, at: usize, encoding: u8) -> Result<u64, ReadError>
+        ensures exact { result ≡ base_of self.now at (application_of encoding) }
+        ensures refusal { IfErr result IsSliceRefusal }
+        ensures memory { result ≢ Err ReadError.OutOfMemory }
+    {
+        match encoding / 16 % 8 * 16 {
+            DW_EH_PE_ABSPTR => Ok(0),
+            DW_EH_PE_PCREL => Ok(self.section.wrapping_add(at as u64)),
+            DW_EH_PE_TEXTREL => Ok(self.text),
+            DW_EH_PE_DATAREL => Ok(self.data),
+            _ => Err(ReadError::BadEncoding),
+        }
+    }
+}
 
 /// Returns a pointer by its format only (the encoding's low four bits), as a number of 64 bits.
 #[tactic(auto, unfolding(crate::specs::Raw::raw_at))]
@@ -46,25 +122,25 @@ pub fn read_raw_pointer(bytes: &[u8], at: usize, encoding: u8) -> Result<(u64, u
     ensures memory { result ≢ Err ReadError.OutOfMemory }
 {
     match encoding % 16 {
-        0x0 | 0x4 | 0xc => read_u64(bytes, at),
-        0x1 => read_uleb128(bytes, at),
-        0x2 => {
+        DW_EH_PE_ABSPTR | DW_EH_PE_UDATA8 | DW_EH_PE_SDATA8 => read_u64(bytes, at),
+        DW_EH_PE_ULEB128 => read_uleb128(bytes, at),
+        DW_EH_PE_UDATA2 => {
             let (number, next) = read_u16(bytes, at)?;
             Ok((u64::from(number), next))
         }
-        0x3 => {
+        DW_EH_PE_UDATA4 => {
             let (number, next) = read_u32(bytes, at)?;
             Ok((u64::from(number), next))
         }
-        0x9 => {
+        DW_EH_PE_SLEB128 => {
             let (number, next) = read_sleb128(bytes, at)?;
             Ok((number.cast_unsigned(), next))
         }
-        0xa => {
+        DW_EH_PE_SDATA2 => {
             let (number, next) = read_u16(bytes, at)?;
             Ok((sign_extend_16(number), next))
         }
-        0xb => {
+        DW_EH_PE_SDATA4 => {
             let (number, next) = read_u32(bytes, at)?;
             Ok((sign_extend_32(number), next))
         }
@@ -84,41 +160,4 @@ fn sign_extend_32(number: u32) -> u64
     ensures { result ≡ sign_extended 32 number }
 {
     i64::from(number.cast_signed()).cast_unsigned()
-}
-
-impl SectionBaseAddresses {
-    ghost use Rattle.framehop_cfi.specs.Pointer.{base_of, application_of, pointer_at};
-
-    /// Returns what a pointer at that offset counts from.
-    fn base(&self, at: usize, encoding: u8) -> Result<u64, ReadError>
-        ensures exact { result ≡ base_of self.now at (application_of encoding) }
-        ensures refusal { IfErr result IsSliceRefusal }
-        ensures memory { result ≢ Err ReadError.OutOfMemory }
-    {
-        match encoding / 16 % 8 {
-            0 => Ok(0),
-            1 => Ok(self.section.wrapping_add(at as u64)),
-            2 => Ok(self.text),
-            3 => Ok(self.data),
-            _ => Err(ReadError::BadEncoding),
-        }
-    }
-
-    /// Returns a pointer of that encoding. Whether it is indirect is not looked at.
-    #[tactic(auto, unfolding(crate::specs::Pointer::pointer_at))]
-    pub fn read_pointer(
-        &self,
-        bytes: &[u8],
-        at: usize,
-        encoding: u8,
-    ) -> Result<(u64, usize), ReadError>
-        ensures exact { result ≡ pointer_at self.now encoding bytes.now at }
-        ensures forward { IfOk result (λ read. at < read.1) }
-        ensures refusal { IfErr result IsSliceRefusal }
-        ensures memory { result ≢ Err ReadError.OutOfMemory }
-    {
-        let base = self.base(at, encoding)?;
-        let (raw, next) = read_raw_pointer(bytes, at, encoding)?;
-        Ok((base.wrapping_add(raw), next))
-    }
 }

@@ -1,4 +1,7 @@
 //! Why a call frame section could not be read.
+ghost use Rattle.std.specs.Prelude.{◌≡◌};
+
+use std::alloc::{AllocError, AllocFailed};
 use thiserror::Error;
 
 /// Why a record, a row or an expression could not be read.
@@ -52,4 +55,24 @@ pub enum ReadError {
     /// An allocation failed.
     #[error("OutOfMemory")]
     OutOfMemory,
+}
+
+impl From<AllocError> for ReadError {
+    ghost use Rattle.framehop_cfi.specs.declared.read_error.ReadError.{ReadError};
+
+    ghost from_gives = { λ value error. error ≡ ReadError.OutOfMemory };
+
+    fn from(_value: AllocError) -> Self {
+        ReadError::OutOfMemory
+    }
+}
+
+impl<T: Drop> From<AllocFailed<T>> for ReadError {
+    ghost use Rattle.framehop_cfi.specs.declared.read_error.ReadError.{ReadError};
+
+    ghost from_gives = { λ value error. error ≡ ReadError.OutOfMemory };
+
+    fn from(_value: AllocFailed<T>) -> Self {
+        ReadError::OutOfMemory
+    }
 }

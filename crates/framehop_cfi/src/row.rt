@@ -54,13 +54,6 @@ impl<S: UnwindContextStorage> UnwindTableRow<S> {
         &self.cfa
     }
 
-    /// Returns how that register is found, or `None` where the row says nothing of it.
-    pub fn register(&self, register: Register) -> Option<RegisterRule>
-        ensures { result ≡ rule_of self.now.rules register }
-    {
-        rule_in(&self.rules, register)
-    }
-
     /// Sets how the CFA is found.
     pub(crate) fn set_cfa(&mut self, cfa: CfaRule)
         ensures { self.new ≡ record self.old { cfa = cfa } }
@@ -91,10 +84,7 @@ impl<S: UnwindContextStorage> UnwindTableRow<S> {
                 {
                     return Err(ReadError::TooManyRules);
                 }
-                if self.rules.push((register, rule)).is_err() {
-                    return Err(ReadError::OutOfMemory);
-                }
-                Ok(())
+                Ok(self.rules.push((register, rule))?)
             }
         }
     }
@@ -109,6 +99,13 @@ impl<S: UnwindContextStorage> UnwindTableRow<S> {
         }
     }
 
+    /// Returns how that register is found, or `None` where the row says nothing of it.
+    pub fn register(&self, register: Register) -> Option<RegisterRule>
+        ensures { result ≡ rule_of self.now.rules register }
+    {
+        rule_in(&self.rules, register)
+    }
+
     /// Makes this row equal to another.
     pub(crate) fn copy_from(&mut self, other: &Self) -> Result<(), ReadError>
         ensures ok { OnOk result (self.new ≡ other.now) }
@@ -117,9 +114,7 @@ impl<S: UnwindContextStorage> UnwindTableRow<S> {
         ensures room { OnErr result (0 < length other.now.rules) }
     {
         self.rules.clear();
-        if self.rules.extend_from_slice(&other.rules).is_err() {
-            return Err(ReadError::OutOfMemory);
-        }
+        self.rules.extend_from_slice(&other.rules)?;
         self.cfa = other.cfa;
         Ok(())
     }

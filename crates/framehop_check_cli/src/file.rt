@@ -237,15 +237,15 @@ fn check_section<C: Code>(
         if at >= section.bytes.len() {
             return Ok(());
         }
-        let Ok(span) = read_extent(section.bytes, at) else {
+        let Ok(extent) = read_extent(section.bytes, at) else {
             findings.others.unreadable = findings.others.unreadable.saturating_add(1);
             return Ok(());
         };
-        if span.is_zero_length() && section.section_type == UnwindSectionType::EhFrame {
+        if extent.is_zero_length() && section.section_type == UnwindSectionType::EhFrame {
             return Ok(());
         }
         check_at::<C>(&mut checker, section, parts, at, options, allowed, findings)?;
-        at = span.end;
+        at = extent.end;
     }
     Ok(())
 }

@@ -1,11 +1,14 @@
 //! The instructions of aarch64.
 ghost use Rattle.std.specs.Prelude.{◌≡◌, ◌+◌, ◌<◌, ◌≤◌, pos, length, IfSome};
 ghost use Rattle.framehop_code.specs.Aarch64.Instruction.{instruction_at, base_numbered};
+ghost use Rattle.framehop_cfi.specs.Aarch64 as columns;
 
 pub mod encoding;
 pub mod instruction;
 
 use crate::effect::{Base, Code, Effect};
+use framehop_cfi::aarch64::{SP, X29, X30};
+use framehop_cfi::rule::Register;
 use instruction::read_instruction;
 
 /// The instructions of aarch64.
@@ -19,17 +22,16 @@ impl Code for CodeAarch64 {
 
     ghost entry = { pos 0 };
 
-    ghost return_column = { 30 };
+    ghost return_column = { columns.X30 };
 
     fn effect_at(code: &[u8], at: usize) -> Option<Effect> {
         read_instruction(code, at)
     }
 
-    /// `sp` is register 31, `x29` register 29 (DWARF for the Arm 64-bit Architecture, "DWARF register names").
     fn base_of(register: u16) -> Option<Base> {
-        match register {
-            31 => Some(Base::Sp),
-            29 => Some(Base::Fp),
+        match Register(register) {
+            SP => Some(Base::Sp),
+            X29 => Some(Base::Fp),
             _ => None,
         }
     }
@@ -40,7 +42,7 @@ impl Code for CodeAarch64 {
     }
 
     fn return_address() -> u16 {
-        30
+        X30.0
     }
 
     fn name_of(base: Base) -> &'static str {

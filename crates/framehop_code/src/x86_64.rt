@@ -1,12 +1,15 @@
 //! The instructions of x86_64.
 ghost use Rattle.std.specs.Prelude.{◌≡◌, ◌+◌, ◌<◌, ◌≤◌, pos, length, IfSome};
 ghost use Rattle.framehop_code.specs.X86_64.Instruction.{instruction_at, base_numbered};
+ghost use Rattle.framehop_cfi.specs.X86_64 as columns;
 
 pub mod instruction;
 pub mod opcode;
 pub mod operation;
 
 use crate::effect::{Base, Code, Effect};
+use framehop_cfi::rule::Register;
+use framehop_cfi::x86_64::{RA, RBP, RSP};
 use instruction::read_instruction;
 
 /// The instructions of x86_64, in 64-bit mode.
@@ -20,17 +23,16 @@ impl Code for CodeX86_64 {
 
     ghost entry = { pos 8 };
 
-    ghost return_column = { 16 };
+    ghost return_column = { columns.RA };
 
     fn effect_at(code: &[u8], at: usize) -> Option<Effect> {
         read_instruction(code, at)
     }
 
-    /// `rsp` is register 7, `rbp` register 6 (System V psABI, "DWARF Register Number Mapping").
     fn base_of(register: u16) -> Option<Base> {
-        match register {
-            7 => Some(Base::Sp),
-            6 => Some(Base::Fp),
+        match Register(register) {
+            RSP => Some(Base::Sp),
+            RBP => Some(Base::Fp),
             _ => None,
         }
     }
@@ -41,7 +43,7 @@ impl Code for CodeX86_64 {
     }
 
     fn return_address() -> u16 {
-        16
+        RA.0
     }
 
     fn name_of(base: Base) -> &'static str {

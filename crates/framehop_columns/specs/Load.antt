@@ -6,6 +6,13 @@ use Rattle.framehop_core.specs.Memory.{Memory}
 use Rattle.framehop_columns.specs.declared.load.Width.{Width}
 use Rattle.framehop_columns.specs.declared.load.Width.TheVariants.{One, Two, Four, Eight}
 
+-- the codes of the two operations
+abbrev pub DW_OP_deref : ℕ
+DW_OP_deref = 0x06
+
+abbrev pub DW_OP_deref_size : ℕ
+DW_OP_deref_size = 0x94
+
 -- the widths that DW_OP_deref_size may have, by their bytes
 abbrev pub width_of : ℕ → Option Width
 width_of size = by_code size ((1, Some One) ∷ (2, Some Two) ∷ (4, Some Four) ∷ (8, Some Eight) ∷ []) None
@@ -20,10 +27,14 @@ width_at code at = width_by (u8_at code at)
 
 -- the width of an operation that reads memory, with the place after it: DW_OP_deref 06, DW_OP_deref_size 94
 abbrev pub load_by : List ℕ → Parsed ℕ → Option (Width × ℕ)
-load_by code (Ok read) = by_code read.0 ((0x06, Some (Eight, read.1)) ∷ (0x94, width_at code read.1) ∷ []) None
+load_by code (Ok read) =
+    by_code read.0 (
+    (DW_OP_deref, Some (Eight, read.1))
+    ∷ (DW_OP_deref_size, width_at code read.1)
+    ∷ []) None
 load_by code (Err error) = None
 
--- An operation that reads memory, and the place after it: DW_OP_deref 06 reads a word, DW_OP_deref_size 94 as many bytes as
+-- An operation that reads memory, and the place after it: DW_OP_deref reads a word, DW_OP_deref_size as many bytes as
 -- the byte after it says.
 unfoldable pub load_at : List ℕ → ℕ → Option (Width × ℕ)
 load_at code at = load_by code (u8_at code at)

@@ -2,6 +2,8 @@
 ghost use Rattle.std.specs.Prelude.{◌≡◌};
 ghost use Rattle.framehop_columns.specs.Convention.{stack_pointer_of, program_counter_of, return_address_of, keeps};
 
+use framehop_cfi::{aarch64, x86_64};
+
 /// The calling convention of an architecture.
 #[derive(Clone, Copy, Debug, PartialEq, Eq)]
 pub enum Convention {
@@ -17,8 +19,8 @@ impl Convention {
         ensures { result ≡ stack_pointer_of self }
     {
         match self {
-            Convention::X86_64 => 7,
-            Convention::Aarch64 => 31,
+            Convention::X86_64 => x86_64::RSP.0,
+            Convention::Aarch64 => aarch64::SP.0,
         }
     }
 
@@ -27,8 +29,8 @@ impl Convention {
         ensures { result ≡ program_counter_of self }
     {
         match self {
-            Convention::X86_64 => 16,
-            Convention::Aarch64 => 32,
+            Convention::X86_64 => x86_64::RA.0,
+            Convention::Aarch64 => aarch64::PC.0,
         }
     }
 
@@ -37,8 +39,8 @@ impl Convention {
         ensures { result ≡ return_address_of self }
     {
         match self {
-            Convention::X86_64 => 16,
-            Convention::Aarch64 => 30,
+            Convention::X86_64 => x86_64::RA.0,
+            Convention::Aarch64 => aarch64::X30.0,
         }
     }
 
@@ -47,8 +49,12 @@ impl Convention {
         ensures { result ≡ keeps self column }
     {
         match self {
-            Convention::X86_64 => { column == 3 || column == 6 || (column >= 12 && column <= 15) }
-            Convention::Aarch64 => column >= 19 && column <= 30,
+            Convention::X86_64 => {
+                column == x86_64::RBX.0
+                    || column == x86_64::RBP.0
+                    || (column >= x86_64::R12.0 && column <= x86_64::R15.0)
+            }
+            Convention::Aarch64 => column >= aarch64::X19.0 && column <= aarch64::X30.0,
         }
     }
 }

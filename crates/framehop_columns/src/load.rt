@@ -5,6 +5,12 @@ ghost use Rattle.framehop_columns.specs.Load.{width_of, width_at, load_at, low_p
 use crate::memory::WordMemory;
 use framehop_cfi::numbers::read_u8;
 
+/// The code of the operation that reads a word of eight bytes (DWARF 5 section 7.7.1).
+const DW_OP_DEREF: u8 = 0x06;
+
+/// The code of the operation that reads as many bytes as its operand says.
+const DW_OP_DEREF_SIZE: u8 = 0x94;
+
 /// How many bytes an operation reads.
 #[derive(Clone, Copy, Debug, PartialEq, Eq)]
 pub enum Width {
@@ -24,10 +30,8 @@ pub fn read_load(code: &[u8], at: usize) -> Option<(Width, usize)>
         return None;
     };
     match operation {
-        // DW_OP_deref
-        0x06 => Some((Width::Eight, next)),
-        // DW_OP_deref_size
-        0x94 => read_width(code, next),
+        DW_OP_DEREF => Some((Width::Eight, next)),
+        DW_OP_DEREF_SIZE => read_width(code, next),
         _ => None,
     }
 }

@@ -1,5 +1,7 @@
 -- Notes that are read one by one.
-use Rattle.std.proofs.Common.{◌≡◌, ℕ, zero, suc, ◌+◌, ◌-◌, ◌<◌, ◌≤◌, List, [], ◌∷◌, ◌++◌, length, drop, Ok, Err, refl, ap, sym, ◌∙◌, arith}
+use Rattle.std.proofs.Common.{◌≡◌, ℕ, zero, suc, ◌+◌, ◌-◌, ◌<◌, ◌≤◌, Bool, inl, inr, List, [], ◌∷◌, ◌++◌, length, map, drop, Ok, Err, refl, ap, sym, ◌∙◌, arith}
+use Rattle.std.specs.Prelude.{option_map, find}
+use Rattle.std.proofs.lemmas.Bool.{cases_Bool}
 use Rattle.framehop_bytes.specs.Bytes.{◌>>=◌}
 use Rattle.framehop_elf.specs.declared.program_header.ProgramHeader.{ProgramHeader}
 use Rattle.framehop_coredump.specs.declared.error.CoreFileError.{CoreFileError}
@@ -57,3 +59,12 @@ module _ (file : List ℕ) (bytes : ℕ) (left segments : List ProgramHeader) (s
 pub segments-none : (file : List ℕ) (bytes : ℕ) (left : List ProgramHeader) → left ≡ [] → notes_among file bytes left ≡ Ok []
 unfolding notes_among
 segments-none file bytes left is = ap (notes_among file bytes) is
+
+-- the first item that passes a test of its view, and the first view that passes it
+pub find-viewed : {A B : Type 0} (view : A → B) (test : B → Bool) (items : List A) → option_map view (find (λ item. test (view item)) items) ≡ find test (map view items)
+find-viewed view test [] = refl
+find-viewed view test (item ∷ items) =
+    elim (cases_Bool (test (view item))) [
+      | inl holds ↦ rw holds refl
+      | inr fails ↦ rw fails (find-viewed view test items)
+    ]

@@ -2,6 +2,7 @@
 ghost use Rattle.std.specs.Prelude.{◌≡◌};
 
 use framehop_elf::error::ElfError;
+use std::alloc::AllocError;
 use thiserror::Error;
 
 /// Why a core file, or a note of it, can't be read. Each offset is in bytes from the start of the file.
@@ -48,5 +49,15 @@ impl From<ElfError> for CoreFileError {
             ElfError::OutOfMemory => CoreFileError::OutOfMemory,
             refusal => CoreFileError::Elf(refusal),
         }
+    }
+}
+
+impl From<AllocError> for CoreFileError {
+    ghost use Rattle.framehop_coredump.specs.declared.error.CoreFileError.{CoreFileError};
+
+    ghost from_gives = { λ value error. error ≡ CoreFileError.OutOfMemory };
+
+    fn from(_value: AllocError) -> Self {
+        CoreFileError::OutOfMemory
     }
 }

@@ -51,12 +51,12 @@ refused-length bytes at error is = subst (λ r. IsOfLength r) is (of-extent byte
 
 -- what is read has its contents at a number or after it
 abbrev IsFrom : ℕ → Result EntryExtent ReadError → Type 0
-IsFrom n (Ok span) = n ≤ span.contents
+IsFrom n (Ok extent) = n ≤ extent.contents
 IsFrom n (Err error) = Unit {0}
 
-from-if : (n : ℕ) (holds : Bool) (span : EntryExtent) → n ≤ span.contents → IsFrom n (if holds then Ok span else Err Eof)
-from-if n true span le = le
-from-if n false span le = tt
+from-if : (n : ℕ) (holds : Bool) (extent : EntryExtent) → n ≤ extent.contents → IsFrom n (if holds then Ok extent else Err Eof)
+from-if n true extent le = le
+from-if n false extent le = tt
 
 from-held : (n : ℕ) (bytes : List ℕ) (size contents len : ℕ) → n ≤ contents → IsFrom n (held bytes size contents len)
 from-held n bytes size contents len le = from-if n (leb (contents + len) (length bytes)) (record { contents = contents; end = contents + len; offset_size = size }) le
@@ -86,5 +86,5 @@ from-extent bytes at =
     (from-u64 (at + 4) bytes (at + 4) _ (from-held (at + 4) bytes 8 (at + 4 + 8) (le8 bytes (at + 4)) (omega arith))) tt))
 
 -- the contents of an entry come after the four bytes of its length
-pub after-length : (bytes : List ℕ) (at : ℕ) (span : EntryExtent) → extent_at bytes at ≡ Ok span → at + 4 ≤ span.contents
-after-length bytes at span is = subst (λ r. IsFrom (at + 4) r) is (from-extent bytes at)
+pub after-length : (bytes : List ℕ) (at : ℕ) (extent : EntryExtent) → extent_at bytes at ≡ Ok extent → at + 4 ≤ extent.contents
+after-length bytes at extent is = subst (λ r. IsFrom (at + 4) r) is (from-extent bytes at)

@@ -45,24 +45,24 @@ joined pairs pair others None = ap Ok (append_assoc pairs (pair ∷ []) others)
 joined pairs pair others (Some error) = refl
 
 module _ (section : Section) (base : ℕ) (pairs : List (ℕ × ℕ)) where
-  pub span-refused : (n at : ℕ) (error : ReadError) → IsIn section n at → extent_at section.bytes at ≡ Err error → left section base pairs n at ≡ Err (Gimli error)
-  span-refused zero at error inside is = absurd (omega arith)
-  span-refused (suc n) at error inside is = rw (lt-leb (length section.bytes) at inside.1, is) refl
+  pub extent-refused : (n at : ℕ) (error : ReadError) → IsIn section n at → extent_at section.bytes at ≡ Err error → left section base pairs n at ≡ Err (Gimli error)
+  extent-refused zero at error inside is = absurd (omega arith)
+  extent-refused (suc n) at error inside is = rw (lt-leb (length section.bytes) at inside.1, is) refl
 
-  pub ended : (n at : ℕ) (span : EntryExtent) → IsIn section n at → extent_at section.bytes at ≡ Ok span → is_zero_length span ≡ true → section.kind ≡ EhFrame → left section base pairs n at ≡ Ok pairs
-  ended zero at span inside is zeros kind = absurd (omega arith)
-  ended (suc n) at span inside is zeros kind =
-      rw (lt-leb (length section.bytes) at inside.1, is) (rw zeros (rw (ends section.kind (cut_from section n span.end) section base kind) (ap Ok (append-nil pairs))))
+  pub ended : (n at : ℕ) (extent : EntryExtent) → IsIn section n at → extent_at section.bytes at ≡ Ok extent → is_zero_length extent ≡ true → section.kind ≡ EhFrame → left section base pairs n at ≡ Ok pairs
+  ended zero at extent inside is zeros kind = absurd (omega arith)
+  ended (suc n) at extent inside is zeros kind =
+      rw (lt-leb (length section.bytes) at inside.1, is) (rw zeros (rw (ends section.kind (cut_from section n extent.end) section base kind) (ap Ok (append-nil pairs))))
 
-  pub past-other : (n at : ℕ) (span : EntryExtent) → IsIn section n at → at < span.end → extent_at section.bytes at ≡ Ok span → is_zero_length span ≡ false → pair_at section base at ≡ None → GoesOn section base pairs pairs n at span.end
-  past-other zero at span inside behind is some read = absurd (omega arith)
-  past-other (suc n) at span inside behind is some read =
+  pub past-other : (n at : ℕ) (extent : EntryExtent) → IsIn section n at → at < extent.end → extent_at section.bytes at ≡ Ok extent → is_zero_length extent ≡ false → pair_at section base at ≡ None → GoesOn section base pairs pairs n at extent.end
+  past-other zero at extent inside behind is some read = absurd (omega arith)
+  past-other (suc n) at extent inside behind is some read =
       (n, omega arith, rw (lt-leb (length section.bytes) at inside.1, is) (rw some (rw read refl)))
 
-  pub past-fde : (n at : ℕ) (span : EntryExtent) (pair : ℕ × ℕ) → IsIn section n at → at < span.end → extent_at section.bytes at ≡ Ok span → is_zero_length span ≡ false → pair_at section base at ≡ Some pair → GoesOn section base pairs (pairs ++ pair ∷ []) n at span.end
-  past-fde zero at span pair inside behind is some read = absurd (omega arith)
-  past-fde (suc n) at span pair inside behind is some read =
-      (n, omega arith, rw (lt-leb (length section.bytes) at inside.1, is) (rw some (rw read (joined pairs pair (pairs_at section base (cut_from section n span.end).offsets) (cut_from section n span.end).refusal))))
+  pub past-fde : (n at : ℕ) (extent : EntryExtent) (pair : ℕ × ℕ) → IsIn section n at → at < extent.end → extent_at section.bytes at ≡ Ok extent → is_zero_length extent ≡ false → pair_at section base at ≡ Some pair → GoesOn section base pairs (pairs ++ pair ∷ []) n at extent.end
+  past-fde zero at extent pair inside behind is some read = absurd (omega arith)
+  past-fde (suc n) at extent pair inside behind is some read =
+      (n, omega arith, rw (lt-leb (length section.bytes) at inside.1, is) (rw some (rw read (joined pairs pair (pairs_at section base (cut_from section n extent.end).offsets) (cut_from section n extent.end).refusal))))
 
 -- no pair in front
 unfronted : (pairs : Result (List (ℕ × ℕ)) DwarfCfiIndexError) → (pairs >>= λ others. Ok ([] ++ others)) ≡ pairs

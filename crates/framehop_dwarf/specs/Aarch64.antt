@@ -1,13 +1,15 @@
 -- From a row to a frame on aarch64: the rule that a row is translated to, and the values of the rows that have none
 -- (framehop 0.16.0, `aarch64/dwarf.rs`; DWARF for the Arm 64-bit Architecture, section 4.1).
 -- What a row means is DWARF 5 section 6.4.1.
-use Rattle.std.specs.Prelude.{ℕ, ◌≡◌, ◌<◌, ◌^◌, Bool, true, false, not, List, Option, Some, None, option_map, option_and_then, Result, Ok, Err, ℤ, pos, negsuc, ◌+ℤ◌, ◌==◌, ◌&&◌, nat_le, if◌then◌else◌}
+use Rattle.std.specs.Prelude.{ℕ, ◌≡◌, ◌<◌, ◌^◌, Bool, true, false, not, List, Option, Some, None, option_map, option_and_then, Result, Ok, Err, ℤ, pos, ◌+ℤ◌, ◌==◌, ◌&&◌, nat_le, if◌then◌else◌}
 use Rattle.std.specs.Ordering.{int_eq}
+use Rattle.framehop_bytes.specs.Minus.{minus}
 use Rattle.framehop_core.specs.Memory.{Memory}
 use Rattle.framehop_core.specs.Aarch64.Registers.{Registers, strip_ptr_auth}
 use Rattle.framehop_core.specs.declared.aarch64.unwind_rule.UnwindRuleAarch64.{UnwindRuleAarch64}
 use Rattle.framehop_core.specs.declared.aarch64.unwind_rule.UnwindRuleAarch64.TheVariants.{OffsetSp, OffsetSpIfFirstFrameOtherwiseStackEndsHere, OffsetSpAndRestoreLr, OffsetSpAndRestoreFpAndLr, UseFramePointer, UseFramepointerWithOffsets}
 use Rattle.framehop_cfi.specs.Row.{Row, rule_of}
+use Rattle.framehop_cfi.specs.Aarch64.{X29, X30, SP}
 use Rattle.framehop_cfi.specs.declared.rule.Register.{Register}
 use Rattle.framehop_cfi.specs.declared.rule.CfaRule.{CfaRule}
 use Rattle.framehop_cfi.specs.declared.rule.CfaRule.TheVariants as cfa
@@ -19,22 +21,22 @@ use Rattle.framehop_dwarf.specs.RowMeaning.{IsCfa, IsColumn}
 use Rattle.framehop_cfi.specs.declared.dwarf_error.DwarfUnwinderError.{DwarfUnwinderError}
 use Rattle.framehop_cfi.specs.declared.dwarf_error.DwarfUnwinderError.TheVariants.{CouldNotRecoverCfa, CouldNotRecoverFramePointer, CouldNotRecoverReturnAddress, StackPointerMovedBackwards}
 
--- the columns: fp is 29, lr is 30 and sp is 31
+-- the columns that a frame has
 abbrev pub fp_column : Register
-fp_column = record { 0 = 29 }
+fp_column = record { 0 = X29 }
 
 abbrev pub lr_column : Register
-lr_column = record { 0 = 30 }
+lr_column = record { 0 = X30 }
 
 abbrev pub sp_column : Register
-sp_column = record { 0 = 31 }
+sp_column = record { 0 = SP }
 
 -- the register of a column
 abbrev pub column_of : Registers → Register → Option ℕ
 column_of r column =
-    if column.0 == 29 then Some r.fp
-    else (if column.0 == 30 then Some r.lr
-    else (if column.0 == 31 then Some r.sp
+    if column.0 == X29 then Some r.fp
+    else (if column.0 == X30 then Some r.lr
+    else (if column.0 == SP then Some r.sp
     else None))
 
 -- ---- the rule of a row
@@ -80,7 +82,7 @@ beside_fp offset fp lr =
 -- the same; where the offset is 16 and both are saved right below it, the rule of frame pointers
 abbrev pub by_saved : ℤ → ℤ → ℤ → Option UnwindRuleAarch64
 by_saved offset fp lr =
-    if int_eq offset (pos 16) && int_eq fp (negsuc 15) && int_eq lr (negsuc 7) then Some UseFramePointer
+    if int_eq offset (pos 16) && int_eq fp (minus 16) && int_eq lr (minus 8) then Some UseFramePointer
     else beside_fp offset fp lr
 
 abbrev pub by_fp : ℤ → Option RegisterRule → Option RegisterRule → Option UnwindRuleAarch64
@@ -90,7 +92,7 @@ by_fp offset fp lr = None
 -- by the register of the CFA
 abbrev pub translated_by : CfaRule → Option RegisterRule → Option RegisterRule → Option UnwindRuleAarch64
 translated_by (cfa.RegisterAndOffset register offset) fp lr =
-    if register.0 == 31 then by_sp offset fp lr else (if register.0 == 29 then by_fp offset fp lr else None)
+    if register.0 == SP then by_sp offset fp lr else (if register.0 == X29 then by_fp offset fp lr else None)
 translated_by (cfa.Expression expression) fp lr = None
 
 unfoldable pub translated : Row → Option UnwindRuleAarch64

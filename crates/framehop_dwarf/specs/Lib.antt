@@ -6,6 +6,7 @@ pub mod Evaluation
 pub mod Index
 pub mod MayTakeMemory
 pub mod Operation
+pub mod OperationCode
 pub mod Refusal
 pub mod RowMeaning
 pub mod Told

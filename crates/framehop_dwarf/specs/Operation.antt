@@ -9,6 +9,7 @@ use Rattle.framehop_cfi.specs.Raw.{sign_extended}
 use Rattle.framehop_cfi.specs.Instruction.{mapped}
 use Rattle.framehop_cfi.specs.declared.rule.Register.{Register}
 use Rattle.framehop_cfi.specs.declared.read_error.ReadError.TheVariants.{NumberTooBig, UnknownInstruction}
+use Rattle.framehop_dwarf.specs.OperationCode.{DW_OP_const1u, DW_OP_const1s, DW_OP_const2u, DW_OP_const2s, DW_OP_const4u, DW_OP_const4s, DW_OP_const8u, DW_OP_const8s, DW_OP_constu, DW_OP_consts, DW_OP_dup, DW_OP_drop, DW_OP_over, DW_OP_pick, DW_OP_swap, DW_OP_rot, DW_OP_abs, DW_OP_and, DW_OP_div, DW_OP_minus, DW_OP_mod, DW_OP_mul, DW_OP_neg, DW_OP_not, DW_OP_or, DW_OP_plus, DW_OP_plus_uconst, DW_OP_shl, DW_OP_shr, DW_OP_shra, DW_OP_xor, DW_OP_bra, DW_OP_eq, DW_OP_ge, DW_OP_gt, DW_OP_le, DW_OP_lt, DW_OP_ne, DW_OP_skip, DW_OP_lit0, DW_OP_lit31, DW_OP_breg0, DW_OP_breg31, DW_OP_bregx, DW_OP_nop}
 use Rattle.framehop_dwarf.specs.declared.operation.UnaryOperation.{UnaryOperation}
 use Rattle.framehop_dwarf.specs.declared.operation.UnaryOperation.TheVariants.{Absolute, Negate, Not}
 use Rattle.framehop_dwarf.specs.declared.operation.BinaryOperation.{BinaryOperation}
@@ -18,50 +19,47 @@ use Rattle.framehop_dwarf.specs.declared.operation.Operation.TheVariants.{Nop, C
 
 -- ---- reading
 
--- The number that an operation pushes, by its code: DW_OP_const1u 08, DW_OP_const1s 09, DW_OP_const2u 0A, DW_OP_const2s
--- 0B, DW_OP_const4u 0C, DW_OP_const4s 0D, DW_OP_const8u 0E, DW_OP_const8s 0F, DW_OP_constu 10, DW_OP_consts 11.
+-- the number that an operation pushes, by its code
 abbrev pub constant_at : ℕ → List ℕ → ℕ → Parsed ℕ
 constant_at code bytes at =
     by_code code (
-    (0x08, u8_at bytes at)
-    ∷ (0x09, mapped (sign_extended 8) (u8_at bytes at))
-    ∷ (0x0A, u16_at bytes at)
-    ∷ (0x0B, mapped (sign_extended 16) (u16_at bytes at))
-    ∷ (0x0C, u32_at bytes at)
-    ∷ (0x0D, mapped (sign_extended 32) (u32_at bytes at))
-    ∷ (0x0E, u64_at bytes at)
-    ∷ (0x0F, u64_at bytes at)
-    ∷ (0x10, uleb_at bytes at)
-    ∷ (0x11, mapped (cast_unsigned w64) (sleb_at bytes at))
+    (DW_OP_const1u, u8_at bytes at)
+    ∷ (DW_OP_const1s, mapped (sign_extended 8) (u8_at bytes at))
+    ∷ (DW_OP_const2u, u16_at bytes at)
+    ∷ (DW_OP_const2s, mapped (sign_extended 16) (u16_at bytes at))
+    ∷ (DW_OP_const4u, u32_at bytes at)
+    ∷ (DW_OP_const4s, mapped (sign_extended 32) (u32_at bytes at))
+    ∷ (DW_OP_const8u, u64_at bytes at)
+    ∷ (DW_OP_const8s, u64_at bytes at)
+    ∷ (DW_OP_constu, uleb_at bytes at)
+    ∷ (DW_OP_consts, mapped (cast_unsigned w64) (sleb_at bytes at))
     ∷ []) (Err UnknownInstruction)
 
--- The operation on the top value, by its code: DW_OP_abs 19, DW_OP_neg 1F, DW_OP_not 20.
+-- the operation on the top value, by its code
 abbrev pub unary_of : ℕ → Option UnaryOperation
-unary_of code = by_code code ((0x19, Some Absolute) ∷ (0x1F, Some Negate) ∷ (0x20, Some Not) ∷ []) None
+unary_of code = by_code code ((DW_OP_abs, Some Absolute) ∷ (DW_OP_neg, Some Negate) ∷ (DW_OP_not, Some Not) ∷ []) None
 
--- The operation on the second value and the top one, by its code: DW_OP_and 1A, DW_OP_div 1B, DW_OP_minus 1C,
--- DW_OP_mod 1D, DW_OP_mul 1E, DW_OP_or 21, DW_OP_plus 22, DW_OP_shl 24, DW_OP_shr 25, DW_OP_shra 26, DW_OP_xor 27,
--- DW_OP_eq 29, DW_OP_ge 2A, DW_OP_gt 2B, DW_OP_le 2C, DW_OP_lt 2D, DW_OP_ne 2E.
+-- the operation on the second value and the top one, by its code
 abbrev pub binary_of : ℕ → Option BinaryOperation
 binary_of code =
     by_code code (
-    (0x1A, Some And)
-    ∷ (0x1B, Some Divide)
-    ∷ (0x1C, Some Minus)
-    ∷ (0x1D, Some Modulo)
-    ∷ (0x1E, Some Multiply)
-    ∷ (0x21, Some Or)
-    ∷ (0x22, Some Plus)
-    ∷ (0x24, Some ShiftLeft)
-    ∷ (0x25, Some ShiftRight)
-    ∷ (0x26, Some ShiftRightArithmetic)
-    ∷ (0x27, Some Xor)
-    ∷ (0x29, Some Equal)
-    ∷ (0x2A, Some GreaterOrEqual)
-    ∷ (0x2B, Some Greater)
-    ∷ (0x2C, Some LessOrEqual)
-    ∷ (0x2D, Some Less)
-    ∷ (0x2E, Some NotEqual)
+    (DW_OP_and, Some And)
+    ∷ (DW_OP_div, Some Divide)
+    ∷ (DW_OP_minus, Some Minus)
+    ∷ (DW_OP_mod, Some Modulo)
+    ∷ (DW_OP_mul, Some Multiply)
+    ∷ (DW_OP_or, Some Or)
+    ∷ (DW_OP_plus, Some Plus)
+    ∷ (DW_OP_shl, Some ShiftLeft)
+    ∷ (DW_OP_shr, Some ShiftRight)
+    ∷ (DW_OP_shra, Some ShiftRightArithmetic)
+    ∷ (DW_OP_xor, Some Xor)
+    ∷ (DW_OP_eq, Some Equal)
+    ∷ (DW_OP_ge, Some GreaterOrEqual)
+    ∷ (DW_OP_gt, Some Greater)
+    ∷ (DW_OP_le, Some LessOrEqual)
+    ∷ (DW_OP_lt, Some Less)
+    ∷ (DW_OP_ne, Some NotEqual)
     ∷ []) None
 
 -- the operation of one of the two kinds
@@ -70,17 +68,16 @@ either (Some unary) binary = Some (Unary unary)
 either None (Some binary) = Some (Binary binary)
 either None None = None
 
--- An operation without operands, by its code: DW_OP_dup 12, DW_OP_drop 13, DW_OP_over 14, DW_OP_swap 16, DW_OP_rot 17,
--- DW_OP_nop 96, then those on one value and those on two.
+-- an operation without operands, by its code; then those on one value and those on two
 abbrev pub plain_of : ℕ → Option Operation
 plain_of code =
     by_code code (
-    (0x12, Some (Pick 0))
-    ∷ (0x13, Some Discard)
-    ∷ (0x14, Some (Pick 1))
-    ∷ (0x16, Some Swap)
-    ∷ (0x17, Some Rot)
-    ∷ (0x96, Some Nop)
+    (DW_OP_dup, Some (Pick 0))
+    ∷ (DW_OP_drop, Some Discard)
+    ∷ (DW_OP_over, Some (Pick 1))
+    ∷ (DW_OP_swap, Some Swap)
+    ∷ (DW_OP_rot, Some Rot)
+    ∷ (DW_OP_nop, Some Nop)
     ∷ []) (either (unary_of code) (binary_of code))
 
 -- the same with the place after it, or a refusal
@@ -105,26 +102,24 @@ jump_at bytes at = do
   distance ← u16_at bytes at
   Ok (cast_signed w16 distance.0, distance.1)
 
--- An operation that has a code of its own: DW_OP_pick 15, DW_OP_plus_uconst 23, DW_OP_bra 28, DW_OP_skip 2F,
--- DW_OP_bregx 92, then those without operands.
+-- an operation that has a code of its own and operands, by that code; then those without operands
 abbrev pub coded_at : ℕ → List ℕ → ℕ → Parsed Operation
 coded_at code bytes at =
     by_code code (
-    (0x15, mapped Pick (u8_at bytes at))
-    ∷ (0x23, mapped PlusConstant (uleb_at bytes at))
-    ∷ (0x28, mapped Branch (jump_at bytes at))
-    ∷ (0x2F, mapped Skip (jump_at bytes at))
-    ∷ (0x92, register_offset_at bytes at)
+    (DW_OP_pick, mapped Pick (u8_at bytes at))
+    ∷ (DW_OP_plus_uconst, mapped PlusConstant (uleb_at bytes at))
+    ∷ (DW_OP_bra, mapped Branch (jump_at bytes at))
+    ∷ (DW_OP_skip, mapped Skip (jump_at bytes at))
+    ∷ (DW_OP_bregx, register_offset_at bytes at)
     ∷ []) (plain_at (plain_of code) at)
 
--- The operation at an offset, by its code: DW_OP_lit0 to 31 30 to 4F, DW_OP_breg0 to 31 70 to 8F, a number that is
--- pushed 08 to 11, then those that have a code of their own.
+-- an operation that has its operand in the code, a number that is pushed, or one that has a code of its own
 abbrev pub ranged_at : ℕ → List ℕ → ℕ → Parsed Operation
 ranged_at code bytes at =
     by_test (
-    (nat_le 0x30 code && nat_lt code 0x50, Ok (Constant (code - 0x30), at))
-    ∷ (nat_le 0x70 code && nat_lt code 0x90, offset_at (record { 0 = code - 0x70 }) bytes at)
-    ∷ (nat_le 0x08 code && nat_lt code 0x12, mapped Constant (constant_at code bytes at))
+    (nat_le DW_OP_lit0 code && nat_le code DW_OP_lit31, Ok (Constant (code - DW_OP_lit0), at))
+    ∷ (nat_le DW_OP_breg0 code && nat_le code DW_OP_breg31, offset_at (record { 0 = code - DW_OP_breg0 }) bytes at)
+    ∷ (nat_le DW_OP_const1u code && nat_le code DW_OP_consts, mapped Constant (constant_at code bytes at))
     ∷ []) (coded_at code bytes at)
 
 unfoldable pub operation_at : List ℕ → ℕ → Parsed Operation

@@ -1,13 +1,15 @@
 -- From a row to a frame on x86_64: the rule that a row is translated to, and the values of the rows that have none
 -- (framehop 0.16.0, `x86_64/dwarf.rs`; System V ABI for AMD64, figure 3.36).
 -- What a row means is DWARF 5 section 6.4.1.
-use Rattle.std.specs.Prelude.{ℕ, ◌-◌, ◌≡◌, ◌<◌, ◌⊎◌, Bool, true, not, List, Option, Some, None, option_map, option_and_then, unwrap_or, Result, Ok, Err, ℤ, pos, negsuc, ◌+ℤ◌, ◌==◌, ◌&&◌, nat_lt, if◌then◌else◌}
+use Rattle.std.specs.Prelude.{ℕ, ◌-◌, ◌≡◌, ◌<◌, ◌⊎◌, Bool, true, not, List, Option, Some, None, option_map, option_and_then, unwrap_or, Result, Ok, Err, ℤ, pos, ◌+ℤ◌, ◌==◌, ◌&&◌, nat_lt, if◌then◌else◌}
 use Rattle.std.specs.Ordering.{int_eq}
+use Rattle.framehop_bytes.specs.Minus.{minus}
 use Rattle.framehop_core.specs.Memory.{Memory}
 use Rattle.framehop_core.specs.X86_64.Registers.{Registers}
 use Rattle.framehop_core.specs.declared.x86_64.unwind_rule.UnwindRuleX86_64.{UnwindRuleX86_64}
 use Rattle.framehop_core.specs.declared.x86_64.unwind_rule.UnwindRuleX86_64.TheVariants.{EndOfStack, OffsetSp, OffsetSpAndRestoreBp, UseFramePointer, UseFramePointerWithOffsets}
 use Rattle.framehop_cfi.specs.Row.{Row, rule_of}
+use Rattle.framehop_cfi.specs.X86_64.{RBP, RSP, RA}
 use Rattle.framehop_cfi.specs.declared.rule.Register.{Register}
 use Rattle.framehop_cfi.specs.declared.rule.CfaRule.{CfaRule}
 use Rattle.framehop_cfi.specs.declared.rule.CfaRule.TheVariants as cfa
@@ -19,22 +21,22 @@ use Rattle.framehop_dwarf.specs.RowMeaning.{IsCfa, IsStored, IsColumn}
 use Rattle.framehop_cfi.specs.declared.dwarf_error.DwarfUnwinderError.{DwarfUnwinderError}
 use Rattle.framehop_cfi.specs.declared.dwarf_error.DwarfUnwinderError.TheVariants.{CouldNotRecoverCfa, CouldNotRecoverReturnAddress, DidNotAdvance, StackPointerMovedBackwards}
 
--- the columns: rbp is 6, rsp is 7, and the return address is 16
+-- the columns that a frame has
 abbrev pub bp_column : Register
-bp_column = record { 0 = 6 }
+bp_column = record { 0 = RBP }
 
 abbrev pub sp_column : Register
-sp_column = record { 0 = 7 }
+sp_column = record { 0 = RSP }
 
 abbrev pub return_column : Register
-return_column = record { 0 = 16 }
+return_column = record { 0 = RA }
 
 -- the register of a column
 abbrev pub column_of : Registers → Register → Option ℕ
 column_of r column =
-    if column.0 == 16 then Some r.ip
-    else (if column.0 == 7 then Some r.rsp
-    else (if column.0 == 6 then Some r.rbp
+    if column.0 == RA then Some r.ip
+    else (if column.0 == RSP then Some r.rsp
+    else (if column.0 == RBP then Some r.rbp
     else None))
 
 -- ---- the rule of a row
@@ -60,20 +62,20 @@ with_offsets offset saved =
 -- the same, where the CFA is rbp plus 16, and rbp is saved 16 bytes below it
 abbrev pub by_bp : ℤ → Option RegisterRule → Option UnwindRuleX86_64
 by_bp offset (Some (rule.Offset saved)) =
-    if int_eq offset (pos 16) && int_eq saved (negsuc 15) then Some UseFramePointer else with_offsets offset saved
+    if int_eq offset (pos 16) && int_eq saved (minus 16) then Some UseFramePointer else with_offsets offset saved
 by_bp offset other = None
 
 -- by the register of the CFA
 abbrev pub by_cfa : CfaRule → Option RegisterRule → Option UnwindRuleX86_64
 by_cfa (cfa.RegisterAndOffset register offset) bp =
-    if register.0 == 7 then by_sp offset bp else (if register.0 == 6 then by_bp offset bp else None)
+    if register.0 == RSP then by_sp offset bp else (if register.0 == RBP then by_bp offset bp else None)
 by_cfa (cfa.Expression expression) bp = None
 
 -- without a return address the stack ends; else it is the word below the CFA
 abbrev pub translated_by : CfaRule → Option RegisterRule → Option RegisterRule → Option UnwindRuleX86_64
 translated_by cfa bp None = Some EndOfStack
 translated_by cfa bp (Some rule.Undefined) = Some EndOfStack
-translated_by cfa bp (Some (rule.Offset offset)) = if int_eq offset (negsuc 7) then by_cfa cfa bp else None
+translated_by cfa bp (Some (rule.Offset offset)) = if int_eq offset (minus 8) then by_cfa cfa bp else None
 translated_by cfa bp (Some other) = None
 
 -- the rule that a row is translated to, if there is one

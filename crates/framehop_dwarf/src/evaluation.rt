@@ -12,7 +12,7 @@ use arrayvec::ArrayVec;
 use framehop_cfi::read_error::ReadError;
 use framehop_cfi::rule::{Expression, Register};
 use framehop_cfi::storage::{StoreOnHeap, StoreOnStack};
-use std::alloc::{AllocError, Global};
+use std::alloc::{AllocFailed, Global};
 
 /// The registers of a frame, by their DWARF numbers.
 pub trait DwarfUnwindRegs {
@@ -30,6 +30,16 @@ pub enum Refusal {
     NoValue,
     /// Memory ran out.
     OutOfMemory,
+}
+
+impl<T: Drop> From<AllocFailed<T>> for Refusal {
+    ghost use Rattle.framehop_dwarf.specs.declared.evaluation.Refusal.{Refusal};
+
+    ghost from_gives = { λ value error. error ≡ Refusal.OutOfMemory };
+
+    fn from(_value: AllocFailed<T>) -> Self {
+        Refusal::OutOfMemory
+    }
 }
 
 /// A stack of values, with or without a limit.
@@ -80,10 +90,7 @@ impl ValueStack for HeapStack {
     }
 
     fn push(&mut self, value: u64) -> Result<(), Refusal> {
-        match self.0.push(value) {
-            Ok(()) => Ok(()),
-            Err(_) => Err(Refusal::OutOfMemory),
-        }
+        Ok(self.0.push(value)?)
     }
 
     fn pop(&mut self) -> Option<u64> {
@@ -135,26 +142,110 @@ impl EvaluationStorage for StoreOnStack {
     type Stack = FixedStack;
 }
 
-/// Takes the top value away. `NoValue` is refused where the stack is empty.
-pub fn pop<V: ValueStack>(values: &mut V) -> Result<u64, Refusal>
-    ensures top { IfOk result (λ top. V.values values.old ≡ top ∷ V.values values.new) }
-    ensures none { IfErr result (λ error. (error ≡ Refusal.NoValue) × (V.values values.old ≡ [])) }
+/// Returns the value of an expression that lies in a section, or `None` where it has none. Its stack
+/// begins with the first value, if there is one.
+///
+/// # Errors
+///
+/// `OutOfMemory` where the stack has no limit and an allocation fails; no other.
+pub fn evaluate<R: DwarfUnwindRegs, S: EvaluationStorage>(
+    alloc: Global,
+    section: &[u8],
+    expression: Expression,
+    regs: &R,
+    first: Option<u64>,
+) -> Result<Option<u64>, ReadError>
+    ensures exact { IfOk result (λ answer. answer ≡ value_in section.now (R.column regs.now) S.Stack.limit expression first) }
+    ensures value { IfOk result (λ answer. IfSome answer (IsValueIn section.now (R.column regs.now) S.Stack.limit expression first)) }
+    ensures none { IfOk result (λ answer. IfNone answer ((value : ℕ) → IsValueIn section.now (R.column regs.now) S.Stack.limit expression first value → ⊥)) }
+    ensures memory { OnErr result (S.Stack.limit ≡ None) }
+    ensures error { IfErr result (λ error. error ≡ ReadError.OutOfMemory) }
 {
-    match values.pop() {
-        Some(value) => Ok(value),
+    match value_in::<R, S::Stack>(alloc, section, expression, regs, first) {
+        Ok(value) => Ok(Some(value)),
+        Err(refusal) => match refusal {
+            Refusal::NoValue => Ok(None),
+            Refusal::OutOfMemory => Err(ReadError::OutOfMemory),
+        },
+    }
+}
+
+/// Returns the value of an expression of a section.
+fn value_in<R: DwarfUnwindRegs, V: ValueStack>(
+    alloc: Global,
+    section: &[u8],
+    expression: Expression,
+    regs: &R,
+    first: Option<u64>,
+) -> Result<u64, Refusal>
+    ensures { Returns V.limit result (value_in section.now (R.column regs.now) V.limit expression first) }
+{
+    match section.get(expression.start..expression.end) {
+        Some(code) => begin::<R, V>(alloc, code, regs, first),
         None => Err(Refusal::NoValue),
     }
 }
 
-/// Returns a place that is not beyond the end.
-fn within(end: usize, next: usize, distance: i16) -> Option<usize>
-    ensures { result ≡ within end (pos next +ℤ distance) }
+/// Puts the first value, if there is one, on an empty stack, and runs an expression's bytes.
+#[tactic(auto, unfolding(crate::specs::Evaluation::value_of))]
+fn begin<R: DwarfUnwindRegs, V: ValueStack>(
+    alloc: Global,
+    code: &[u8],
+    regs: &R,
+    first: Option<u64>,
+) -> Result<u64, Refusal>
+    ensures { Returns V.limit result (value_of (record { code = code.now; columns = R.column regs.now; limit = V.limit }) (option_to_list first)) }
 {
-    let place = next as i128 + i128::from(distance);
-    let Ok(place) = usize::try_from(place) else {
-        return None;
+    let mut values = V::new_in(alloc);
+    if let Some(value) = first {
+        values.push(value)?;
+    }
+    run(code, regs, &mut values)
+}
+
+/// Does the operations from position 0 to the end, at most 4,096 of them, and returns the top value.
+fn run<R: DwarfUnwindRegs, V: ValueStack>(
+    code: &[u8],
+    regs: &R,
+    values: &mut V,
+) -> Result<u64, Refusal>
+    ensures { Returns V.limit result (value_from (record { code = code.now; columns = R.column regs.now; limit = V.limit }) 4096 (record { position = 0; stack = V.values values.old })) }
+{
+    let mut at = 0;
+    let mut left = 4096u32;
+    while at != code.len() {
+        if left == 0 {
+            return Err(Refusal::NoValue);
+        }
+        left -= 1;
+        at = step(code, regs, at, values)?;
+    }
+    pop(values)
+}
+
+/// Does the operation at a position of an expression's bytes over the registers, and returns the position after it.
+///
+/// # Errors
+///
+/// `NoValue` where no operation can be read at the position, or it has no result; `OutOfMemory` where the stack has no
+/// limit and an allocation fails.
+#[tactic(auto, unfolding(crate::specs::Evaluation::step))]
+pub fn step<R: DwarfUnwindRegs, V: ValueStack>(
+    code: &[u8],
+    regs: &R,
+    at: usize,
+    values: &mut V,
+) -> Result<usize, Refusal>
+    ensures { Reaches V.limit result (step (record { code = code.now; columns = R.column regs.now; limit = V.limit }) (record { position = at; stack = V.values values.old })) (V.values values.new) }
+{
+    let Ok((operation, next)) = read_operation(code, at) else {
+        return Err(Refusal::NoValue);
     };
-    if place <= end { Some(place) } else { None }
+    let Some(position) = position_after(code.len(), operation, next, values.peek(0)) else {
+        return Err(Refusal::NoValue);
+    };
+    apply(operation, regs, values)?;
+    Ok(position)
 }
 
 /// Returns the position after an operation, by the offset after it and the top value.
@@ -169,6 +260,42 @@ fn position_after(end: usize, operation: Operation, next: usize, top: Option<u64
             None => None,
         },
         _ => Some(next),
+    }
+}
+
+/// Returns a place that is not beyond the end.
+fn within(end: usize, next: usize, distance: i16) -> Option<usize>
+    ensures { result ≡ within end (pos next +ℤ distance) }
+{
+    let place = next as i128 + i128::from(distance);
+    let Ok(place) = usize::try_from(place) else {
+        return None;
+    };
+    if place <= end { Some(place) } else { None }
+}
+
+/// Does what an operation says, but for a jump.
+fn apply<R: DwarfUnwindRegs, V: ValueStack>(
+    operation: Operation,
+    regs: &R,
+    values: &mut V,
+) -> Result<(), Refusal>
+    ensures { Leaves V.limit result (stack_after V.limit (R.column regs.now) operation (V.values values.old)) (V.values values.new) }
+{
+    match operation {
+        Operation::Nop | Operation::Skip(_) => Ok(()),
+        Operation::Constant(value) => values.push(value),
+        Operation::RegisterOffset { register, offset } => {
+            push_register(regs, register, offset, values)
+        }
+        Operation::Pick(depth) => pick(depth, values),
+        Operation::Discard => discard(values),
+        Operation::Branch(_) => discard(values),
+        Operation::Swap => swap(values),
+        Operation::Rot => rotate(values),
+        Operation::Unary(operation) => apply_unary(operation, values),
+        Operation::Binary(operation) => apply_binary(operation, values),
+        Operation::PlusConstant(value) => add_constant(value, values),
     }
 }
 
@@ -195,6 +322,14 @@ fn pick<V: ValueStack>(depth: u8, values: &mut V) -> Result<(), Refusal>
         Some(value) => values.push(value),
         None => Err(Refusal::NoValue),
     }
+}
+
+/// Takes the top value away.
+fn discard<V: ValueStack>(values: &mut V) -> Result<(), Refusal>
+    ensures { (columns : RegisterNumber → Option ℕ) → Leaves V.limit result (stack_after V.limit columns Operation.Discard (V.values values.old)) (V.values values.new) }
+{
+    let _ = pop(values)?;
+    Ok(())
 }
 
 /// Exchanges the top value and the second one.
@@ -247,141 +382,13 @@ fn add_constant<V: ValueStack>(value: u64, values: &mut V) -> Result<(), Refusal
     values.push(top.wrapping_add(value))
 }
 
-/// Takes the top value away.
-fn discard<V: ValueStack>(values: &mut V) -> Result<(), Refusal>
-    ensures { (columns : RegisterNumber → Option ℕ) → Leaves V.limit result (stack_after V.limit columns Operation.Discard (V.values values.old)) (V.values values.new) }
+/// Takes the top value away. `NoValue` is refused where the stack is empty.
+pub fn pop<V: ValueStack>(values: &mut V) -> Result<u64, Refusal>
+    ensures top { IfOk result (λ top. V.values values.old ≡ top ∷ V.values values.new) }
+    ensures none { IfErr result (λ error. (error ≡ Refusal.NoValue) × (V.values values.old ≡ [])) }
 {
-    let _ = pop(values)?;
-    Ok(())
-}
-
-/// Does what an operation says, but for a jump.
-fn apply<R: DwarfUnwindRegs, V: ValueStack>(
-    operation: Operation,
-    regs: &R,
-    values: &mut V,
-) -> Result<(), Refusal>
-    ensures { Leaves V.limit result (stack_after V.limit (R.column regs.now) operation (V.values values.old)) (V.values values.new) }
-{
-    match operation {
-        Operation::Nop | Operation::Skip(_) => Ok(()),
-        Operation::Constant(value) => values.push(value),
-        Operation::RegisterOffset { register, offset } => {
-            push_register(regs, register, offset, values)
-        }
-        Operation::Pick(depth) => pick(depth, values),
-        Operation::Discard => discard(values),
-        Operation::Branch(_) => discard(values),
-        Operation::Swap => swap(values),
-        Operation::Rot => rotate(values),
-        Operation::Unary(operation) => apply_unary(operation, values),
-        Operation::Binary(operation) => apply_binary(operation, values),
-        Operation::PlusConstant(value) => add_constant(value, values),
-    }
-}
-
-/// Does the operation at a position of an expression's bytes over the registers, and returns the position after it.
-///
-/// # Errors
-///
-/// `NoValue` where no operation can be read at the position, or it has no result; `OutOfMemory` where the stack has no
-/// limit and an allocation fails.
-#[tactic(auto, unfolding(crate::specs::Evaluation::step))]
-pub fn step<R: DwarfUnwindRegs, V: ValueStack>(
-    code: &[u8],
-    regs: &R,
-    at: usize,
-    values: &mut V,
-) -> Result<usize, Refusal>
-    ensures { Reaches V.limit result (step (record { code = code.now; columns = R.column regs.now; limit = V.limit }) (record { position = at; stack = V.values values.old })) (V.values values.new) }
-{
-    let Ok((operation, next)) = read_operation(code, at) else {
-        return Err(Refusal::NoValue);
-    };
-    let Some(position) = position_after(code.len(), operation, next, values.peek(0)) else {
-        return Err(Refusal::NoValue);
-    };
-    apply(operation, regs, values)?;
-    Ok(position)
-}
-
-/// Does the operations from position 0 to the end, at most 4,096 of them, and returns the top value.
-fn run<R: DwarfUnwindRegs, V: ValueStack>(
-    code: &[u8],
-    regs: &R,
-    values: &mut V,
-) -> Result<u64, Refusal>
-    ensures { Returns V.limit result (value_from (record { code = code.now; columns = R.column regs.now; limit = V.limit }) 4096 (record { position = 0; stack = V.values values.old })) }
-{
-    let mut at = 0;
-    let mut left = 4096u32;
-    while at != code.len() {
-        if left == 0 {
-            return Err(Refusal::NoValue);
-        }
-        left -= 1;
-        at = step(code, regs, at, values)?;
-    }
-    pop(values)
-}
-
-/// Puts the first value, if there is one, on an empty stack, and runs an expression's bytes.
-#[tactic(auto, unfolding(crate::specs::Evaluation::value_of))]
-fn begin<R: DwarfUnwindRegs, V: ValueStack>(
-    alloc: Global,
-    code: &[u8],
-    regs: &R,
-    first: Option<u64>,
-) -> Result<u64, Refusal>
-    ensures { Returns V.limit result (value_of (record { code = code.now; columns = R.column regs.now; limit = V.limit }) (option_to_list first)) }
-{
-    let mut values = V::new_in(alloc);
-    if let Some(value) = first {
-        values.push(value)?;
-    }
-    run(code, regs, &mut values)
-}
-
-/// Returns the value of an expression of a section.
-fn value_in<R: DwarfUnwindRegs, V: ValueStack>(
-    alloc: Global,
-    section: &[u8],
-    expression: Expression,
-    regs: &R,
-    first: Option<u64>,
-) -> Result<u64, Refusal>
-    ensures { Returns V.limit result (value_in section.now (R.column regs.now) V.limit expression first) }
-{
-    match section.get(expression.start..expression.end) {
-        Some(code) => begin::<R, V>(alloc, code, regs, first),
+    match values.pop() {
+        Some(value) => Ok(value),
         None => Err(Refusal::NoValue),
-    }
-}
-
-/// Returns the value of an expression that lies in a section, or `None` where it has none. Its stack
-/// begins with the first value, if there is one.
-///
-/// # Errors
-///
-/// `OutOfMemory` where the stack has no limit and an allocation fails; no other.
-pub fn evaluate<R: DwarfUnwindRegs, S: EvaluationStorage>(
-    alloc: Global,
-    section: &[u8],
-    expression: Expression,
-    regs: &R,
-    first: Option<u64>,
-) -> Result<Option<u64>, ReadError>
-    ensures exact { IfOk result (λ answer. answer ≡ value_in section.now (R.column regs.now) S.Stack.limit expression first) }
-    ensures value { IfOk result (λ answer. IfSome answer (IsValueIn section.now (R.column regs.now) S.Stack.limit expression first)) }
-    ensures none { IfOk result (λ answer. IfNone answer ((value : ℕ) → IsValueIn section.now (R.column regs.now) S.Stack.limit expression first value → ⊥)) }
-    ensures memory { OnErr result (S.Stack.limit ≡ None) }
-    ensures error { IfErr result (λ error. error ≡ ReadError.OutOfMemory) }
-{
-    match value_in::<R, S::Stack>(alloc, section, expression, regs, first) {
-        Ok(value) => Ok(Some(value)),
-        Err(refusal) => match refusal {
-            Refusal::NoValue => Ok(None),
-            Refusal::OutOfMemory => Err(ReadError::OutOfMemory),
-        },
     }
 }

@@ -47,163 +47,8 @@ pub enum DwarfCfiIndexError {
     FdeOffsetTooBig,
 }
 
-/// Returns an FDE's start relative to the base, and its offset, if both fit 32 bits.
-fn pair_of(base_svma: u64, at: usize, fde: &FrameDescriptionEntry) -> Option<(u32, u32)>
-    ensures { result ≡ pair_of base_svma at fde.now }
-{
-    let relative = fde.initial_address.checked_sub(base_svma)?;
-    let start = u32::try_from(relative).ok()?;
-    let offset = u32::try_from(at).ok()?;
-    Some((start, offset))
-}
-
-/// Returns the CIE at an offset, which is the one that was read last, if it is there.
-fn cie_from_offset(
-    section: &UnwindSection,
-    known: &mut Option<(usize, CommonInformationEntry)>,
-    at: usize,
-) -> Result<CommonInformationEntry, ReadError>
-    requires { IsKnown section.now known.old }
-    ensures exact { result ≡ cie_at section.now at }
-    ensures known { IsKnown section.now known.new }
-{
-    if let Some((offset, cie)) = *known
-        && offset == at
-    {
-        return Ok(cie);
-    }
-    let cie = section.cie_from_offset(at)?;
-    *known = Some((at, cie));
-    Ok(cie)
-}
-
-/// Returns the FDE whose CIE is at `cie_offset`, and whose fields begin after that and end with the entry.
-#[tactic(auto, unfolding(framehop_cfi::specs::Entry::fde_of_head))]
-fn read_fde(
-    section: &UnwindSection,
-    known: &mut Option<(usize, CommonInformationEntry)>,
-    cie_offset: usize,
-    fields: usize,
-    end: usize,
-) -> Result<FrameDescriptionEntry, ReadError>
-    requires { IsKnown section.now known.old }
-    ensures exact { result ≡ fde_of_head section.now (Fde cie_offset fields end) }
-    ensures known { IsKnown section.now known.new }
-{
-    let cie = cie_from_offset(section, known, cie_offset)?;
-    section.read_fde(&cie, fields, end)
-}
-
-/// Returns the pair of the entry at an offset that begins with a head, if it is an FDE that can be read and fits. A
-/// CIE that can be read is known from then on.
-#[tactic(auto, unfolding(framehop_cfi::specs::Entry::cie_at))]
-fn read_pair(
-    section: &UnwindSection,
-    base_svma: u64,
-    known: &mut Option<(usize, CommonInformationEntry)>,
-    at: usize,
-    head: EntryHead,
-) -> Option<(u32, u32)>
-    requires known { IsKnown section.now known.old }
-    requires head { head_at section.now.kind section.now.bytes at ≡ Ok head }
-    ensures exact { result ≡ pair_if_read base_svma at (fde_of_head section.now head) }
-    ensures known { IsKnown section.now known.new }
-{
-    match head {
-        EntryHead::ZeroLength(_) => None,
-        EntryHead::Cie { fields, end } => {
-            if let Ok(cie) = section.read_cie(fields, end) {
-                *known = Some((at, cie));
-            }
-            None
-        }
-        EntryHead::Fde {
-            cie_offset,
-            fields,
-            end,
-        } => {
-            let fde = read_fde(section, known, cie_offset, fields, end).ok()?;
-            pair_of(base_svma, at, &fde)
-        }
-    }
-}
-
-/// Returns the pair of the entry in the span at an offset, whose length is not 0, if it is an FDE that can be read and
-/// fits.
-#[tactic(auto, unfolding(framehop_cfi::specs::Entry::head_at, framehop_cfi::specs::Entry::fde_at, crate::specs::Index::pair_at))]
-fn visit_entry(
-    section: &UnwindSection,
-    base_svma: u64,
-    known: &mut Option<(usize, CommonInformationEntry)>,
-    at: usize,
-    span: &EntryExtent,
-) -> Option<(u32, u32)>
-    requires known { IsKnown section.now known.old }
-    requires span { extent_at section.now.bytes at ≡ Ok span.now }
-    requires some { is_zero_length span.now ≡ false }
-    ensures exact { result ≡ pair_at section.now base_svma at }
-    ensures known { IsKnown section.now known.new }
-{
-    let head = section.head_of(span).ok()?;
-    read_pair(section, base_svma, known, at, head)
-}
-
 /// What one of a start counts for in a key: more than each offset.
 const START_UNIT: u64 = 1 << 32;
-
-/// Returns a pair as one number, so that numbers in order are pairs in order.
-fn key_of(pair: (u32, u32)) -> u64
-    ensures { pair_of_key result ≡ pair }
-{
-    let (start, offset) = pair;
-    u64::from(start) * START_UNIT + u64::from(offset)
-}
-
-/// Returns the pair of a key.
-fn pair_of_key(key: u64) -> (u32, u32)
-    ensures { result ≡ pair_of_key key }
-{
-    ((key / START_UNIT) as u32, (key % START_UNIT) as u32)
-}
-
-/// Returns the keys of the pairs of all FDEs of a section that can be read and fit, in its order.
-fn read_keys(
-    alloc: Global,
-    section: &UnwindSection,
-    base_svma: u64,
-) -> Result<Vec<u64>, DwarfCfiIndexError>
-    ensures read { IfOk result (λ keys. pairs_of section.now base_svma ≡ Ok (map pair_of_key keys.items)) }
-    ensures few { IfOk result (λ keys. length keys.items ≤ 2 ^ 30) }
-    ensures lengths { IfErr result IsIndexRefusal }
-    ensures first { IfErr result (λ error. error ≢ Gimli OutOfMemory → pairs_of section.now base_svma ≡ Err error) }
-{
-    let mut keys = Vec::new(alloc);
-    let mut known = None;
-    let mut at = 0;
-    while at < section.bytes.len() {
-        let span = match read_extent(section.bytes, at) {
-            Ok(span) => span,
-            Err(error) => return Err(DwarfCfiIndexError::Gimli(error)),
-        };
-        if span.is_zero_length() {
-            match section.section_type {
-                UnwindSectionType::EhFrame => return Ok(keys),
-                UnwindSectionType::DebugFrame => {}
-            }
-        } else {
-            match visit_entry(section, base_svma, &mut known, at, &span) {
-                Some(pair) => {
-                    if keys.push(key_of(pair)).is_err() {
-                        return Err(DwarfCfiIndexError::Gimli(ReadError::OutOfMemory));
-                    }
-                }
-                None => {}
-            }
-        }
-        at = span.end;
-    }
-    Ok(keys)
-}
 
 /// An index of a section's FDEs: pairs of a start relative to the base address and an offset, as a search tree by
 /// levels.
@@ -231,39 +76,14 @@ impl Model for DwarfCfiIndex {
     ghost invariant = { λ index. IsTreeWithShortcuts index.tree.items index.shift index.shortcuts.items };
 }
 
-impl DwarfCfiIndex {
-    /// Returns the index of a section, whose pointers count from these addresses. Starts are taken relative to
-    /// `base_svma`.
-    ///
-    /// The section is cut into entries by their lengths. An FDE that can't be read, or whose CIE can't, is passed
-    /// over, and so is one whose start lies below `base_svma`, or whose start relative to it or whose offset does not
-    /// fit 32 bits.
-    ///
-    /// # Errors
-    ///
-    /// `Gimli` with the error of the first length that can't be read or reaches past the section (`BadLength`,
-    /// `Eof`), or with `OutOfMemory`.
-    pub fn try_new(
-        alloc: Global,
-        section: &[u8],
-        section_type: UnwindSectionType,
-        bases: BaseAddresses,
-        base_svma: u64,
-    ) -> Result<Self, DwarfCfiIndexError>
-        ensures found { IfOk result (IsIndexOf (section_of section_type bases section.now) base_svma) }
-        ensures all { IfOk result (IsIndexOfAll (section_of section_type bases section.now) base_svma) }
-        ensures refused { IfErr result (λ error. error ≢ Gimli OutOfMemory → HasNoIndex (section_of section_type bases section.now)) }
-        ensures lengths { IfErr result IsIndexRefusal }
-        ensures first { IfErr result (λ error. error ≢ Gimli OutOfMemory → pairs_of (section_of section_type bases section.now) base_svma ≡ Err error) }
-    {
-        let section = UnwindSection::new(section, section_type, &bases);
-        let keys = read_keys(alloc, &section, base_svma)?;
-        match Self::from_keys(alloc, keys) {
-            Ok(index) => Ok(index),
-            Err(_) => Err(DwarfCfiIndexError::Gimli(ReadError::OutOfMemory)),
-        }
-    }
+/// Marks a block in which no pair starts: greater than each place of a tree.
+const NO_PAIR: u32 = u32::MAX;
 
+/// How many turns a search takes before it is asked whether it has ended. Most look-ups need no more from their
+/// shortcut on, and a processor can't foresee which turn is the last.
+const TURNS: usize = 4;
+
+impl DwarfCfiIndex {
     /// Returns the index of an `.eh_frame` section, by the base addresses of its module.
     pub fn try_new_eh_frame<D, I: ModuleSectionInfo<D>>(
         alloc: Global,
@@ -312,6 +132,56 @@ impl DwarfCfiIndex {
         )
     }
 
+    /// Returns the index of a section, whose pointers count from these addresses. Starts are taken relative to
+    /// `base_svma`.
+    ///
+    /// The section is cut into entries by their lengths. An FDE that can't be read, or whose CIE can't, is passed
+    /// over, and so is one whose start lies below `base_svma`, or whose start relative to it or whose offset does not
+    /// fit 32 bits.
+    ///
+    /// # Errors
+    ///
+    /// `Gimli` with the error of the first length that can't be read or reaches past the section (`BadLength`,
+    /// `Eof`), or with `OutOfMemory`.
+    pub fn try_new(
+        alloc: Global,
+        section: &[u8],
+        section_type: UnwindSectionType,
+        bases: BaseAddresses,
+        base_svma: u64,
+    ) -> Result<Self, DwarfCfiIndexError>
+        ensures found { IfOk result (IsIndexOf (section_of section_type bases section.now) base_svma) }
+        ensures all { IfOk result (IsIndexOfAll (section_of section_type bases section.now) base_svma) }
+        ensures refused { IfErr result (λ error. error ≢ Gimli OutOfMemory → HasNoIndex (section_of section_type bases section.now)) }
+        ensures lengths { IfErr result IsIndexRefusal }
+        ensures first { IfErr result (λ error. error ≢ Gimli OutOfMemory → pairs_of (section_of section_type bases section.now) base_svma ≡ Err error) }
+    {
+        let section = UnwindSection::new(section, section_type, &bases);
+        let keys = read_keys(alloc, &section, base_svma)?;
+        match Self::from_keys(alloc, keys) {
+            Ok(index) => Ok(index),
+            Err(_) => Err(DwarfCfiIndexError::Gimli(ReadError::OutOfMemory)),
+        }
+    }
+
+    /// Returns the index of the pairs of these keys, in any order.
+    fn from_keys(alloc: Global, mut keys: Vec<u64>) -> Result<Self, AllocError>
+        requires { length keys.items ≤ 2 ^ 30 }
+        ensures only { IfOk result (λ index. IsPermutation (map pair_of_key keys.items) index) }
+        ensures tree { IfOk result (λ index. IsSearchTree index) }
+    {
+        keys.sort_unstable();
+        let tree = fill(alloc, &keys)?;
+        let last_start = last_start(&keys);
+        let shift = block_shift(last_start, keys.len());
+        let shortcuts = shortcuts_of(alloc, &tree, last_start, shift)?;
+        Ok(DwarfCfiIndex {
+            tree,
+            shift,
+            shortcuts,
+        })
+    }
+
     /// Returns how many FDEs the index has.
     pub fn len(&self) -> usize
         ensures { result ≡ length self.now }
@@ -333,16 +203,6 @@ impl DwarfCfiIndex {
         found_before(&self.tree, rel_lookup_address, end)
     }
 
-    /// Returns the same offset, and the number of pairs that the search from place 0 of the tree looks at: at most as
-    /// many as `len` has binary digits, and 0 where there is no pair.
-    pub fn lookup_counted(&self, rel_lookup_address: u32) -> (Option<u32>, u32)
-        ensures exact { result.0 ≡ fde_offset_for self.now rel_lookup_address }
-        ensures counted { result.1 ≡ looked_at self.now rel_lookup_address (length self.now) 0 }
-        ensures few { IsWithinDigits result.1 (length self.now) }
-    {
-        search(&self.tree, rel_lookup_address)
-    }
-
     /// Returns a place of the tree that the search for an address comes to.
     fn shortcut(&self, address: u32) -> usize
         ensures { IsOnPath self.now address result }
@@ -352,23 +212,195 @@ impl DwarfCfiIndex {
         self.shortcuts[block.min(last)] as usize
     }
 
-    /// Returns the index of the pairs of these keys, in any order.
-    fn from_keys(alloc: Global, mut keys: Vec<u64>) -> Result<Self, AllocError>
-        requires { length keys.items ≤ 2 ^ 30 }
-        ensures only { IfOk result (λ index. IsPermutation (map pair_of_key keys.items) index) }
-        ensures tree { IfOk result (λ index. IsSearchTree index) }
+    /// Returns the same offset, and the number of pairs that the search from place 0 of the tree looks at: at most as
+    /// many as `len` has binary digits, and 0 where there is no pair.
+    pub fn lookup_counted(&self, rel_lookup_address: u32) -> (Option<u32>, u32)
+        ensures exact { result.0 ≡ fde_offset_for self.now rel_lookup_address }
+        ensures counted { result.1 ≡ looked_at self.now rel_lookup_address (length self.now) 0 }
+        ensures few { IsWithinDigits result.1 (length self.now) }
     {
-        keys.sort_unstable();
-        let tree = fill(alloc, &keys)?;
-        let last_start = last_start(&keys);
-        let shift = block_shift(last_start, keys.len());
-        let shortcuts = shortcuts_of(alloc, &tree, last_start, shift)?;
-        Ok(DwarfCfiIndex {
-            tree,
-            shift,
-            shortcuts,
-        })
+        search(&self.tree, rel_lookup_address)
     }
+}
+
+/// Returns the keys of the pairs of all FDEs of a section that can be read and fit, in its order.
+fn read_keys(
+    alloc: Global,
+    section: &UnwindSection,
+    base_svma: u64,
+) -> Result<Vec<u64>, DwarfCfiIndexError>
+    ensures read { IfOk result (λ keys. pairs_of section.now base_svma ≡ Ok (map pair_of_key keys.items)) }
+    ensures few { IfOk result (λ keys. length keys.items ≤ 2 ^ 30) }
+    ensures lengths { IfErr result IsIndexRefusal }
+    ensures first { IfErr result (λ error. error ≢ Gimli OutOfMemory → pairs_of section.now base_svma ≡ Err error) }
+{
+    let mut keys = Vec::new(alloc);
+    let mut known = None;
+    let mut at = 0;
+    while at < section.bytes.len() {
+        let extent = match read_extent(section.bytes, at) {
+            Ok(extent) => extent,
+            Err(error) => return Err(DwarfCfiIndexError::Gimli(error)),
+        };
+        if extent.is_zero_length() {
+            match section.section_type {
+                UnwindSectionType::EhFrame => return Ok(keys),
+                UnwindSectionType::DebugFrame => {}
+            }
+        } else {
+            match visit_entry(section, base_svma, &mut known, at, &extent) {
+                Some(pair) => {
+                    if keys.push(key_of(pair)).is_err() {
+                        return Err(DwarfCfiIndexError::Gimli(ReadError::OutOfMemory));
+                    }
+                }
+                None => {}
+            }
+        }
+        at = extent.end;
+    }
+    Ok(keys)
+}
+
+/// Returns the pair of the entry in the extent at an offset, whose length is not 0, if it is an FDE that can be read and
+/// fits.
+#[tactic(auto, unfolding(framehop_cfi::specs::Entry::head_at, framehop_cfi::specs::Entry::fde_at, crate::specs::Index::pair_at))]
+fn visit_entry(
+    section: &UnwindSection,
+    base_svma: u64,
+    known: &mut Option<(usize, CommonInformationEntry)>,
+    at: usize,
+    extent: &EntryExtent,
+) -> Option<(u32, u32)>
+    requires known { IsKnown section.now known.old }
+    requires extent { extent_at section.now.bytes at ≡ Ok extent.now }
+    requires some { is_zero_length extent.now ≡ false }
+    ensures exact { result ≡ pair_at section.now base_svma at }
+    ensures known { IsKnown section.now known.new }
+{
+    let head = section.head_of(extent).ok()?;
+    read_pair(section, base_svma, known, at, head)
+}
+
+/// Returns the pair of the entry at an offset that begins with a head, if it is an FDE that can be read and fits. A
+/// CIE that can be read is known from then on.
+#[tactic(auto, unfolding(framehop_cfi::specs::Entry::cie_at))]
+fn read_pair(
+    section: &UnwindSection,
+    base_svma: u64,
+    known: &mut Option<(usize, CommonInformationEntry)>,
+    at: usize,
+    head: EntryHead,
+) -> Option<(u32, u32)>
+    requires known { IsKnown section.now known.old }
+    requires head { head_at section.now.kind section.now.bytes at ≡ Ok head }
+    ensures exact { result ≡ pair_if_read base_svma at (fde_of_head section.now head) }
+    ensures known { IsKnown section.now known.new }
+{
+    match head {
+        EntryHead::ZeroLength(_) => None,
+        EntryHead::Cie { fields, end } => {
+            if let Ok(cie) = section.read_cie(fields, end) {
+                *known = Some((at, cie));
+            }
+            None
+        }
+        EntryHead::Fde {
+            cie_offset,
+            fields,
+            end,
+        } => {
+            let fde = read_fde(section, known, cie_offset, fields, end).ok()?;
+            pair_of(base_svma, at, &fde)
+        }
+    }
+}
+
+/// Returns the FDE whose CIE is at `cie_offset`, and whose fields begin after that and end with the entry.
+#[tactic(auto, unfolding(framehop_cfi::specs::Entry::fde_of_head))]
+fn read_fde(
+    section: &UnwindSection,
+    known: &mut Option<(usize, CommonInformationEntry)>,
+    cie_offset: usize,
+    fields: usize,
+    end: usize,
+) -> Result<FrameDescriptionEntry, ReadError>
+    requires { IsKnown section.now known.old }
+    ensures exact { result ≡ fde_of_head section.now (Fde cie_offset fields end) }
+    ensures known { IsKnown section.now known.new }
+{
+    let cie = cie_from_offset(section, known, cie_offset)?;
+    section.read_fde(&cie, fields, end)
+}
+
+/// Returns the CIE at an offset, which is the one that was read last, if it is there.
+fn cie_from_offset(
+    section: &UnwindSection,
+    known: &mut Option<(usize, CommonInformationEntry)>,
+    at: usize,
+) -> Result<CommonInformationEntry, ReadError>
+    requires { IsKnown section.now known.old }
+    ensures exact { result ≡ cie_at section.now at }
+    ensures known { IsKnown section.now known.new }
+{
+    if let Some((offset, cie)) = *known
+        && offset == at
+    {
+        return Ok(cie);
+    }
+    let cie = section.cie_from_offset(at)?;
+    *known = Some((at, cie));
+    Ok(cie)
+}
+
+/// Returns an FDE's start relative to the base, and its offset, if both fit 32 bits.
+fn pair_of(base_svma: u64, at: usize, fde: &FrameDescriptionEntry) -> Option<(u32, u32)>
+    ensures { result ≡ pair_of base_svma at fde.now }
+{
+    let relative = fde.initial_address.checked_sub(base_svma)?;
+    let start = u32::try_from(relative).ok()?;
+    let offset = u32::try_from(at).ok()?;
+    Some((start, offset))
+}
+
+/// Returns a pair as one number, so that numbers in order are pairs in order.
+fn key_of(pair: (u32, u32)) -> u64
+    ensures { pair_of_key result ≡ pair }
+{
+    let (start, offset) = pair;
+    u64::from(start) * START_UNIT + u64::from(offset)
+}
+
+/// Returns the pairs of sorted keys as a search tree by levels.
+///
+/// The loop goes through the levels: `width` is the number of places of one, and `within` of those to the left of
+/// the next. In a tree whose last level is full that is the place `left` from left to right, counted from 1. There
+/// every other place is of the last level, of which only `last_level` are here.
+fn fill(alloc: Global, keys: &[u64]) -> Result<Vec<(u32, u32)>, AllocError>
+    ensures { IfOk result (λ tree. left_to_right tree.items ≡ map pair_of_key keys.now) }
+{
+    let count = keys.len();
+    let mut tree = Vec::with_capacity(alloc, count)?;
+    if count == 0 {
+        return Ok(tree);
+    }
+    let half = 2usize.pow(count.ilog2());
+    let last_level = count - half + 1;
+    let mut width = 1;
+    let mut step = half;
+    let mut within = 0;
+    for _place in 0..count {
+        if within == width {
+            width *= 2;
+            step /= 2;
+            within = 0;
+        }
+        let left = 2 * within * step + step;
+        let rank = (left - 1) / 2 + (left / 2).min(last_level);
+        tree.push(pair_of_key(keys[rank]))?;
+        within += 1;
+    }
+    Ok(tree)
 }
 
 /// Returns where the last pair of sorted keys starts, or 0.
@@ -382,6 +414,13 @@ fn last_start(keys: &[u64]) -> u32
     }
 }
 
+/// Returns the pair of a key.
+fn pair_of_key(key: u64) -> (u32, u32)
+    ensures { result ≡ pair_of_key key }
+{
+    ((key / START_UNIT) as u32, (key % START_UNIT) as u32)
+}
+
 /// Returns how many addresses a block has, as a power of two, so that there are between half a block and two of them
 /// a pair.
 fn block_shift(last_start: u32, count: usize) -> u32
@@ -392,9 +431,6 @@ fn block_shift(last_start: u32, count: usize) -> u32
     }
     last_start.ilog2().saturating_sub(count.ilog2())
 }
-
-/// Marks a block in which no pair starts: greater than each place of a tree.
-const NO_PAIR: u32 = u32::MAX;
 
 /// Returns, for each block of 2^shift addresses up to the one in which the last pair starts, a place of the tree that
 /// the search for each of them comes to: the first from which it may go on in two ways, or else its end.
@@ -446,10 +482,6 @@ fn tops_of(
     Ok(tops)
 }
 
-/// How many turns a search takes before it is asked whether it has ended. Most look-ups need no more from their
-/// shortcut on, and a processor can't foresee which turn is the last.
-const TURNS: usize = 4;
-
 /// Returns the end of the search for an address, which is a place past the tree, from a place that it comes to.
 fn descend(tree: &[(u32, u32)], address: u32, begin: usize) -> usize
     requires { IsOnPath tree.now address begin }
@@ -500,38 +532,6 @@ fn found_before(tree: &[(u32, u32)], address: u32, end: usize) -> Option<u32>
         return None;
     }
     Some(tree[found - 1].1)
-}
-
-/// Returns the pairs of sorted keys as a search tree by levels.
-///
-/// The loop goes through the levels: `width` is the number of places of one, and `within` of those to the left of
-/// the next. In a tree whose last level is full that is the place `left` from left to right, counted from 1. There
-/// every other place is of the last level, of which only `last_level` are here.
-fn fill(alloc: Global, keys: &[u64]) -> Result<Vec<(u32, u32)>, AllocError>
-    ensures { IfOk result (λ tree. left_to_right tree.items ≡ map pair_of_key keys.now) }
-{
-    let count = keys.len();
-    let mut tree = Vec::with_capacity(alloc, count)?;
-    if count == 0 {
-        return Ok(tree);
-    }
-    let half = 2usize.pow(count.ilog2());
-    let last_level = count - half + 1;
-    let mut width = 1;
-    let mut step = half;
-    let mut within = 0;
-    for _place in 0..count {
-        if within == width {
-            width *= 2;
-            step /= 2;
-            within = 0;
-        }
-        let left = 2 * within * step + step;
-        let rank = (left - 1) / 2 + (left / 2).min(last_level);
-        tree.push(pair_of_key(keys[rank]))?;
-        within += 1;
-    }
-    Ok(tree)
 }
 
 /// Returns the offset of the last pair at or below an address, and the number of pairs looked at.

@@ -7,5 +7,6 @@ pub mod dwarf;
 pub mod evaluation;
 pub mod index;
 pub mod operation;
+mod operation_code;
 pub mod unwinder;
 pub mod x86_64;

@@ -3,6 +3,7 @@
 ghost use Rattle.std.specs.Prelude.{◌≡◌};
 ghost use Rattle.framehop_dwarf.specs.Operation.{constant_at, unary_of, binary_of, plain_of, coded_at, operation_at, offset_at, register_offset_at, jump_at, changed, combined, quotient, shifted_right, bit_of, compared};
 
+use crate::operation_code::*;
 use framehop_cfi::leb128::{read_sleb128, read_uleb128};
 use framehop_cfi::numbers::{read_u8, read_u16, read_u32, read_u64};
 use framehop_cfi::read_error::ReadError;
@@ -85,38 +86,57 @@ pub enum Operation {
     Branch(i16),
 }
 
+/// Reads the operation at an offset, and the offset after it.
+#[tactic(auto, unfolding(crate::specs::Operation::operation_at))]
+pub fn read_operation(bytes: &[u8], at: usize) -> Result<(Operation, usize), ReadError>
+    ensures { result ≡ operation_at bytes.now at }
+{
+    let (code, next) = read_u8(bytes, at)?;
+    if code >= DW_OP_LIT0 && code <= DW_OP_LIT31 {
+        return Ok((Operation::Constant(u64::from(code - DW_OP_LIT0)), next));
+    }
+    if code >= DW_OP_BREG0 && code <= DW_OP_BREG31 {
+        return read_offset(Register(u16::from(code - DW_OP_BREG0)), bytes, next);
+    }
+    if code >= DW_OP_CONST1U && code <= DW_OP_CONSTS {
+        let (number, next) = read_constant(code, bytes, next)?;
+        return Ok((Operation::Constant(number), next));
+    }
+    read_coded(code, bytes, next)
+}
+
 /// Reads a number that is pushed, by the operation's code, and the offset after it.
 fn read_constant(code: u8, bytes: &[u8], at: usize) -> Result<(u64, usize), ReadError>
     ensures { result ≡ constant_at code bytes.now at }
 {
     match code {
-        0x08 => {
+        DW_OP_CONST1U => {
             let (number, next) = read_u8(bytes, at)?;
             Ok((u64::from(number), next))
         }
-        0x09 => {
+        DW_OP_CONST1S => {
             let (number, next) = read_u8(bytes, at)?;
             Ok((i64::from(number.cast_signed()).cast_unsigned(), next))
         }
-        0x0a => {
+        DW_OP_CONST2U => {
             let (number, next) = read_u16(bytes, at)?;
             Ok((u64::from(number), next))
         }
-        0x0b => {
+        DW_OP_CONST2S => {
             let (number, next) = read_u16(bytes, at)?;
             Ok((i64::from(number.cast_signed()).cast_unsigned(), next))
         }
-        0x0c => {
+        DW_OP_CONST4U => {
             let (number, next) = read_u32(bytes, at)?;
             Ok((u64::from(number), next))
         }
-        0x0d => {
+        DW_OP_CONST4S => {
             let (number, next) = read_u32(bytes, at)?;
             Ok((i64::from(number.cast_signed()).cast_unsigned(), next))
         }
-        0x0e | 0x0f => read_u64(bytes, at),
-        0x10 => read_uleb128(bytes, at),
-        0x11 => {
+        DW_OP_CONST8U | DW_OP_CONST8S => read_u64(bytes, at),
+        DW_OP_CONSTU => read_uleb128(bytes, at),
+        DW_OP_CONSTS => {
             let (number, next) = read_sleb128(bytes, at)?;
             Ok((number.cast_unsigned(), next))
         }
@@ -124,61 +144,42 @@ fn read_constant(code: u8, bytes: &[u8], at: usize) -> Result<(u64, usize), Read
     }
 }
 
-/// Returns the operation on the top value that has this code.
-fn unary_of(code: u8) -> Option<UnaryOperation>
-    ensures { result ≡ unary_of code }
+/// Reads the operands of an operation with its own code, and the offset after them.
+fn read_coded(code: u8, bytes: &[u8], at: usize) -> Result<(Operation, usize), ReadError>
+    ensures { result ≡ coded_at code bytes.now at }
 {
     match code {
-        0x19 => Some(UnaryOperation::Absolute),
-        0x1f => Some(UnaryOperation::Negate),
-        0x20 => Some(UnaryOperation::Not),
-        _ => None,
-    }
-}
-
-/// Returns the operation on two values that has this code.
-fn binary_of(code: u8) -> Option<BinaryOperation>
-    ensures { result ≡ binary_of code }
-{
-    match code {
-        0x1a => Some(BinaryOperation::And),
-        0x1b => Some(BinaryOperation::Divide),
-        0x1c => Some(BinaryOperation::Minus),
-        0x1d => Some(BinaryOperation::Modulo),
-        0x1e => Some(BinaryOperation::Multiply),
-        0x21 => Some(BinaryOperation::Or),
-        0x22 => Some(BinaryOperation::Plus),
-        0x24 => Some(BinaryOperation::ShiftLeft),
-        0x25 => Some(BinaryOperation::ShiftRight),
-        0x26 => Some(BinaryOperation::ShiftRightArithmetic),
-        0x27 => Some(BinaryOperation::Xor),
-        0x29 => Some(BinaryOperation::Equal),
-        0x2a => Some(BinaryOperation::GreaterOrEqual),
-        0x2b => Some(BinaryOperation::Greater),
-        0x2c => Some(BinaryOperation::LessOrEqual),
-        0x2d => Some(BinaryOperation::Less),
-        0x2e => Some(BinaryOperation::NotEqual),
-        _ => None,
-    }
-}
-
-/// Returns the operation without operands that has this code.
-fn plain_of(code: u8) -> Option<Operation>
-    ensures { result ≡ plain_of code }
-{
-    match code {
-        0x12 => Some(Operation::Pick(0)),
-        0x13 => Some(Operation::Discard),
-        0x14 => Some(Operation::Pick(1)),
-        0x16 => Some(Operation::Swap),
-        0x17 => Some(Operation::Rot),
-        0x96 => Some(Operation::Nop),
-        _ => match (unary_of(code), binary_of(code)) {
-            (Some(unary), _) => Some(Operation::Unary(unary)),
-            (None, Some(binary)) => Some(Operation::Binary(binary)),
-            (None, None) => None,
+        DW_OP_PICK => {
+            let (depth, next) = read_u8(bytes, at)?;
+            Ok((Operation::Pick(depth), next))
+        }
+        DW_OP_PLUS_UCONST => {
+            let (number, next) = read_uleb128(bytes, at)?;
+            Ok((Operation::PlusConstant(number), next))
+        }
+        DW_OP_BRA => {
+            let (distance, next) = read_jump(bytes, at)?;
+            Ok((Operation::Branch(distance), next))
+        }
+        DW_OP_SKIP => {
+            let (distance, next) = read_jump(bytes, at)?;
+            Ok((Operation::Skip(distance), next))
+        }
+        DW_OP_BREGX => read_register_offset(bytes, at),
+        _ => match plain_of(code) {
+            Some(operation) => Ok((operation, at)),
+            None => Err(ReadError::UnknownInstruction),
         },
     }
+}
+
+/// Reads how far a jump goes, and the offset after it.
+#[tactic(auto, unfolding(crate::specs::Operation::jump_at))]
+fn read_jump(bytes: &[u8], at: usize) -> Result<(i16, usize), ReadError>
+    ensures { result ≡ jump_at bytes.now at }
+{
+    let (distance, next) = read_u16(bytes, at)?;
+    Ok((distance.cast_signed(), next))
 }
 
 /// Reads a register by its number, and an offset, and the offset after it.
@@ -202,61 +203,61 @@ fn read_offset(register: Register, bytes: &[u8], at: usize) -> Result<(Operation
     Ok((Operation::RegisterOffset { register, offset }, next))
 }
 
-/// Reads how far a jump goes, and the offset after it.
-#[tactic(auto, unfolding(crate::specs::Operation::jump_at))]
-fn read_jump(bytes: &[u8], at: usize) -> Result<(i16, usize), ReadError>
-    ensures { result ≡ jump_at bytes.now at }
-{
-    let (distance, next) = read_u16(bytes, at)?;
-    Ok((distance.cast_signed(), next))
-}
-
-/// Reads the operands of an operation with its own code, and the offset after them.
-fn read_coded(code: u8, bytes: &[u8], at: usize) -> Result<(Operation, usize), ReadError>
-    ensures { result ≡ coded_at code bytes.now at }
+/// Returns the operation without operands that has this code.
+fn plain_of(code: u8) -> Option<Operation>
+    ensures { result ≡ plain_of code }
 {
     match code {
-        0x15 => {
-            let (depth, next) = read_u8(bytes, at)?;
-            Ok((Operation::Pick(depth), next))
-        }
-        0x23 => {
-            let (number, next) = read_uleb128(bytes, at)?;
-            Ok((Operation::PlusConstant(number), next))
-        }
-        0x28 => {
-            let (distance, next) = read_jump(bytes, at)?;
-            Ok((Operation::Branch(distance), next))
-        }
-        0x2f => {
-            let (distance, next) = read_jump(bytes, at)?;
-            Ok((Operation::Skip(distance), next))
-        }
-        0x92 => read_register_offset(bytes, at),
-        _ => match plain_of(code) {
-            Some(operation) => Ok((operation, at)),
-            None => Err(ReadError::UnknownInstruction),
+        DW_OP_DUP => Some(Operation::Pick(0)),
+        DW_OP_DROP => Some(Operation::Discard),
+        DW_OP_OVER => Some(Operation::Pick(1)),
+        DW_OP_SWAP => Some(Operation::Swap),
+        DW_OP_ROT => Some(Operation::Rot),
+        DW_OP_NOP => Some(Operation::Nop),
+        _ => match (unary_of(code), binary_of(code)) {
+            (Some(unary), _) => Some(Operation::Unary(unary)),
+            (None, Some(binary)) => Some(Operation::Binary(binary)),
+            (None, None) => None,
         },
     }
 }
 
-/// Reads the operation at an offset, and the offset after it.
-#[tactic(auto, unfolding(crate::specs::Operation::operation_at))]
-pub fn read_operation(bytes: &[u8], at: usize) -> Result<(Operation, usize), ReadError>
-    ensures { result ≡ operation_at bytes.now at }
+/// Returns the operation on the top value that has this code.
+fn unary_of(code: u8) -> Option<UnaryOperation>
+    ensures { result ≡ unary_of code }
 {
-    let (code, next) = read_u8(bytes, at)?;
-    if code >= 0x30 && code < 0x50 {
-        return Ok((Operation::Constant(u64::from(code - 0x30)), next));
+    match code {
+        DW_OP_ABS => Some(UnaryOperation::Absolute),
+        DW_OP_NEG => Some(UnaryOperation::Negate),
+        DW_OP_NOT => Some(UnaryOperation::Not),
+        _ => None,
     }
-    if code >= 0x70 && code < 0x90 {
-        return read_offset(Register(u16::from(code - 0x70)), bytes, next);
+}
+
+/// Returns the operation on two values that has this code.
+fn binary_of(code: u8) -> Option<BinaryOperation>
+    ensures { result ≡ binary_of code }
+{
+    match code {
+        DW_OP_AND => Some(BinaryOperation::And),
+        DW_OP_DIV => Some(BinaryOperation::Divide),
+        DW_OP_MINUS => Some(BinaryOperation::Minus),
+        DW_OP_MOD => Some(BinaryOperation::Modulo),
+        DW_OP_MUL => Some(BinaryOperation::Multiply),
+        DW_OP_OR => Some(BinaryOperation::Or),
+        DW_OP_PLUS => Some(BinaryOperation::Plus),
+        DW_OP_SHL => Some(BinaryOperation::ShiftLeft),
+        DW_OP_SHR => Some(BinaryOperation::ShiftRight),
+        DW_OP_SHRA => Some(BinaryOperation::ShiftRightArithmetic),
+        DW_OP_XOR => Some(BinaryOperation::Xor),
+        DW_OP_EQ => Some(BinaryOperation::Equal),
+        DW_OP_GE => Some(BinaryOperation::GreaterOrEqual),
+        DW_OP_GT => Some(BinaryOperation::Greater),
+        DW_OP_LE => Some(BinaryOperation::LessOrEqual),
+        DW_OP_LT => Some(BinaryOperation::Less),
+        DW_OP_NE => Some(BinaryOperation::NotEqual),
+        _ => None,
     }
-    if code >= 0x08 && code < 0x12 {
-        let (number, next) = read_constant(code, bytes, next)?;
-        return Ok((Operation::Constant(number), next));
-    }
-    read_coded(code, bytes, next)
 }
 
 impl UnaryOperation {
@@ -268,6 +269,34 @@ impl UnaryOperation {
             UnaryOperation::Absolute => top.cast_signed().unsigned_abs(),
             UnaryOperation::Negate => 0u64.wrapping_sub(top),
             UnaryOperation::Not => !top,
+        }
+    }
+}
+
+impl BinaryOperation {
+    /// Returns what the operation makes of the second value and the top one. A division by zero has
+    /// no value.
+    pub fn apply(self, second: u64, top: u64) -> Option<u64>
+        ensures { result ≡ combined self second top }
+    {
+        match self {
+            BinaryOperation::And => Some(second & top),
+            BinaryOperation::Divide => quotient(second, top),
+            BinaryOperation::Minus => Some(second.wrapping_sub(top)),
+            BinaryOperation::Modulo => if top == 0 { None } else { Some(second % top) },
+            BinaryOperation::Multiply => Some(second.wrapping_mul(top)),
+            BinaryOperation::Or => Some(second | top),
+            BinaryOperation::Plus => Some(second.wrapping_add(top)),
+            BinaryOperation::ShiftLeft => { Some(if top < 64 { second << top } else { 0 }) }
+            BinaryOperation::ShiftRight => { Some(if top < 64 { second >> top } else { 0 }) }
+            BinaryOperation::ShiftRightArithmetic => Some(shifted_right(second, top)),
+            BinaryOperation::Xor => Some(second ^ top),
+            BinaryOperation::Equal => Some(bit_of(second == top)),
+            BinaryOperation::NotEqual => Some(bit_of(second != top)),
+            _ => {
+                let is = compared(self, second.cast_signed(), top.cast_signed());
+                Some(bit_of(is))
+            }
         }
     }
 }
@@ -312,33 +341,5 @@ fn compared(operation: BinaryOperation, second: i64, top: i64) -> bool
         BinaryOperation::LessOrEqual => second <= top,
         BinaryOperation::Less => second < top,
         _ => false,
-    }
-}
-
-impl BinaryOperation {
-    /// Returns what the operation makes of the second value and the top one. A division by zero has
-    /// no value.
-    pub fn apply(self, second: u64, top: u64) -> Option<u64>
-        ensures { result ≡ combined self second top }
-    {
-        match self {
-            BinaryOperation::And => Some(second & top),
-            BinaryOperation::Divide => quotient(second, top),
-            BinaryOperation::Minus => Some(second.wrapping_sub(top)),
-            BinaryOperation::Modulo => if top == 0 { None } else { Some(second % top) },
-            BinaryOperation::Multiply => Some(second.wrapping_mul(top)),
-            BinaryOperation::Or => Some(second | top),
-            BinaryOperation::Plus => Some(second.wrapping_add(top)),
-            BinaryOperation::ShiftLeft => { Some(if top < 64 { second << top } else { 0 }) }
-            BinaryOperation::ShiftRight => { Some(if top < 64 { second >> top } else { 0 }) }
-            BinaryOperation::ShiftRightArithmetic => Some(shifted_right(second, top)),
-            BinaryOperation::Xor => Some(second ^ top),
-            BinaryOperation::Equal => Some(bit_of(second == top)),
-            BinaryOperation::NotEqual => Some(bit_of(second != top)),
-            _ => {
-                let is = compared(self, second.cast_signed(), top.cast_signed());
-                Some(bit_of(is))
-            }
-        }
     }
 }

@@ -6,7 +6,7 @@ use Rattle.std.specs.List.{find}
 use Rattle.std.specs.Cmp.Lexicographic.{pointwise}
 use Rattle.framehop_bytes.specs.Bytes.{le4}
 use Rattle.framehop_elf.specs.Numbers.{NT_GNU_BUILD_ID}
-use Rattle.framehop_elf.specs.declared.note.Note.{Note}
+use Rattle.framehop_elf.specs.declared.note.ElfNote.{ElfNote}
 
 -- a note by its values
 pub record NoteView : Type 0 where
@@ -14,7 +14,7 @@ pub record NoteView : Type 0 where
   pub n_type : ℕ
   pub descriptor : List ℕ
 
-abbrev pub note_view : Note → NoteView
+abbrev pub note_view : ElfNote → NoteView
 note_view note = record { name = note.name.now; n_type = note.n_type; descriptor = note.descriptor.now }
 
 -- the next multiple of four

@@ -1,4 +1,7 @@
 //! Why an ELF file can't be read.
+ghost use Rattle.std.specs.Prelude.{◌≡◌};
+
+use std::alloc::{AllocError, AllocFailed};
 use thiserror::Error;
 
 /// Why an ELF file, or a table of it, can't be read. Each offset is in bytes from the start of the
@@ -34,4 +37,24 @@ pub enum ElfError {
     /// An allocation failed.
     #[error("out of memory")]
     OutOfMemory,
+}
+
+impl From<AllocError> for ElfError {
+    ghost use Rattle.framehop_elf.specs.declared.error.ElfError.{ElfError};
+
+    ghost from_gives = { λ value error. error ≡ ElfError.OutOfMemory };
+
+    fn from(_value: AllocError) -> Self {
+        ElfError::OutOfMemory
+    }
+}
+
+impl<T: Drop> From<AllocFailed<T>> for ElfError {
+    ghost use Rattle.framehop_elf.specs.declared.error.ElfError.{ElfError};
+
+    ghost from_gives = { λ value error. error ≡ ElfError.OutOfMemory };
+
+    fn from(_value: AllocFailed<T>) -> Self {
+        ElfError::OutOfMemory
+    }
 }

@@ -46,9 +46,7 @@ impl FileSection {
         let _contents = read_contents(bytes.as_slice(), section)?;
         let start = section.sh_offset;
         let size = size_in_file(section);
-        match file.clone() {
-            Ok(file) => Ok(FileSection { file, start, size }),
-            Err(_) => Err(ElfError::OutOfMemory),
-        }
+        let file = file.clone()?;
+        Ok(FileSection { file, start, size })
     }
 }

@@ -13,7 +13,7 @@ const HEADER_SIZE: usize = 12;
 
 /// A note: `Elf64_Nhdr`, and what is after it.
 #[derive(Clone, Copy, Drop)]
-pub struct Note<'a> {
+pub struct ElfNote<'a> {
     /// Whose note it is, with the 0 after it.
     pub name: &'a [u8],
     /// Which of the owner's notes it is.
@@ -35,7 +35,7 @@ fn padded(size: u64) -> u64
 ///
 /// Source: System V gABI, chapter 5, "Note Section".
 #[tactic(auto, unfolding(crate::specs::Note::note_at))]
-pub fn read_note<'a>(bytes: &'a [u8]) -> Option<(Note<'a>, u64)>
+pub fn read_note<'a>(bytes: &'a [u8]) -> Option<(ElfNote<'a>, u64)>
     ensures exact { MatchOption result
         (note_at bytes.entry.now ≡ None)
         (λ read. note_at bytes.entry.now ≡ Some (note_view read.0, read.1)) }
@@ -54,7 +54,7 @@ pub fn read_note<'a>(bytes: &'a [u8]) -> Option<(Note<'a>, u64)>
     }
     let name = front(back(bytes, 12), name_size as usize);
     let descriptor = front(back(bytes, start), size as usize);
-    let note = Note {
+    let note = ElfNote {
         name,
         n_type,
         descriptor,
@@ -63,7 +63,7 @@ pub fn read_note<'a>(bytes: &'a [u8]) -> Option<(Note<'a>, u64)>
 }
 
 /// Returns whether a note is a build id.
-fn is_build_id<'a>(note: Note<'a>) -> bool
+fn is_build_id<'a>(note: ElfNote<'a>) -> bool
     ensures { result ≡ is_build_id (note_view note.entry) }
 {
     note.n_type == NT_GNU_BUILD_ID && note.name == b"GNU\0".as_slice()

@@ -37,21 +37,30 @@ pub struct ProgramHeader {
     pub p_align: u64,
 }
 
-/// Returns the program header at the front of the bytes.
-fn program_header(entry: &[u8]) -> ProgramHeader
-    requires { 56 ≤ length entry.now }
-    ensures { result ≡ program_header_of entry.now }
+/// Reads the program headers of a file.
+///
+/// # Errors
+///
+/// - `Eof` where the file ends before the table does, or before the first section header does, which
+///   has their number where `e_phnum` is `PN_XNUM`;
+/// - `NoSuchSection` where `e_phnum` is `PN_XNUM`, and the file has no section headers;
+/// - `BadEntrySize` where there are some, and `e_phentsize` is not the size of `Elf64_Phdr`;
+/// - `OutOfMemory`.
+///
+/// Source: System V gABI, chapter 5, "Program Header".
+#[tactic(auto, unfolding(crate::specs::ProgramHeader::program_headers_of))]
+pub fn read_program_headers(
+    alloc: Global,
+    file: &[u8],
+    header: FileHeader,
+) -> Result<Vec<ProgramHeader>, ElfError>
+    ensures { MatchResult result
+        (λ headers. program_headers_of file.now header ≡ Ok headers.items)
+        (λ error. IsErrorOf (program_headers_of file.now header) error) }
 {
-    ProgramHeader {
-        p_type: u32_at(entry, 0),
-        p_flags: u32_at(entry, 4),
-        p_offset: u64_at(entry, 8),
-        p_vaddr: u64_at(entry, 16),
-        p_paddr: u64_at(entry, 24),
-        p_filesz: u64_at(entry, 32),
-        p_memsz: u64_at(entry, 40),
-        p_align: u64_at(entry, 48),
-    }
+    let count = segment_count(file, header)?;
+    let entries = segment_entries(file, header, count)?;
+    Ok(program_headers(alloc, entries)?)
 }
 
 /// Returns how many segments there are.
@@ -101,31 +110,19 @@ fn program_headers(
         .collect(alloc)
 }
 
-/// Reads the program headers of a file.
-///
-/// # Errors
-///
-/// - `Eof` where the file ends before the table does, or before the first section header does, which
-///   has their number where `e_phnum` is `PN_XNUM`;
-/// - `NoSuchSection` where `e_phnum` is `PN_XNUM`, and the file has no section headers;
-/// - `BadEntrySize` where there are some, and `e_phentsize` is not the size of `Elf64_Phdr`;
-/// - `OutOfMemory`.
-///
-/// Source: System V gABI, chapter 5, "Program Header".
-#[tactic(auto, unfolding(crate::specs::ProgramHeader::program_headers_of))]
-pub fn read_program_headers(
-    alloc: Global,
-    file: &[u8],
-    header: FileHeader,
-) -> Result<Vec<ProgramHeader>, ElfError>
-    ensures { MatchResult result
-        (λ headers. program_headers_of file.now header ≡ Ok headers.items)
-        (λ error. IsErrorOf (program_headers_of file.now header) error) }
+/// Returns the program header at the front of the bytes.
+fn program_header(entry: &[u8]) -> ProgramHeader
+    requires { 56 ≤ length entry.now }
+    ensures { result ≡ program_header_of entry.now }
 {
-    let count = segment_count(file, header)?;
-    let entries = segment_entries(file, header, count)?;
-    match program_headers(alloc, entries) {
-        Ok(headers) => Ok(headers),
-        Err(_) => Err(ElfError::OutOfMemory),
+    ProgramHeader {
+        p_type: u32_at(entry, 0),
+        p_flags: u32_at(entry, 4),
+        p_offset: u64_at(entry, 8),
+        p_vaddr: u64_at(entry, 16),
+        p_paddr: u64_at(entry, 24),
+        p_filesz: u64_at(entry, 32),
+        p_memsz: u64_at(entry, 40),
+        p_align: u64_at(entry, 48),
     }
 }

@@ -31,42 +31,6 @@ pub(crate) fn size_in_file(section: SectionHeader) -> u64
     }
 }
 
-/// Returns what a section holds: no bytes where it is `SHT_NOBITS`.
-///
-/// # Errors
-///
-/// `Compressed` where it has `SHF_COMPRESSED`, and `Eof` where the file ends before it does.
-///
-/// Source: System V gABI, chapter 4, "Sections".
-#[tactic(auto, unfolding(crate::specs::Section::contents_of))]
-pub fn read_contents<'a>(file: &'a [u8], section: SectionHeader) -> Result<&'a [u8], ElfError>
-    ensures { MatchResult result
-        (λ contents. contents_of file.entry.now section ≡ Ok contents.now)
-        (λ error. contents_of file.entry.now section ≡ Err error) }
-{
-    if section.sh_type == SHT_NOBITS {
-        return Ok(&[]);
-    }
-    if section.sh_flags & SHF_COMPRESSED != 0 {
-        return Err(ElfError::Compressed {
-            offset: section.sh_offset,
-        });
-    }
-    read_block(file, section.sh_offset, section.sh_size)
-}
-
-/// Returns the index of the section that has the names of sections.
-#[tactic(auto, unfolding(crate::specs::Section::names_index_of))]
-fn names_index(file: &[u8], header: FileHeader) -> Result<u32, ElfError>
-    ensures { result ≡ names_index_of file.now header }
-{
-    if header.e_shstrndx != SHN_XINDEX {
-        return Ok(u32::from(header.e_shstrndx));
-    }
-    let first = read_first_section(file, header)?;
-    Ok(first.sh_link)
-}
-
 /// Returns the string table that has the names of a file's sections, without bytes where there are no
 /// names.
 ///
@@ -97,6 +61,42 @@ pub fn read_section_names<'a>(
     }
 }
 
+/// Returns the index of the section that has the names of sections.
+#[tactic(auto, unfolding(crate::specs::Section::names_index_of))]
+fn names_index(file: &[u8], header: FileHeader) -> Result<u32, ElfError>
+    ensures { result ≡ names_index_of file.now header }
+{
+    if header.e_shstrndx != SHN_XINDEX {
+        return Ok(u32::from(header.e_shstrndx));
+    }
+    let first = read_first_section(file, header)?;
+    Ok(first.sh_link)
+}
+
+/// Returns what a section holds: no bytes where it is `SHT_NOBITS`.
+///
+/// # Errors
+///
+/// `Compressed` where it has `SHF_COMPRESSED`, and `Eof` where the file ends before it does.
+///
+/// Source: System V gABI, chapter 4, "Sections".
+#[tactic(auto, unfolding(crate::specs::Section::contents_of))]
+pub fn read_contents<'a>(file: &'a [u8], section: SectionHeader) -> Result<&'a [u8], ElfError>
+    ensures { MatchResult result
+        (λ contents. contents_of file.entry.now section ≡ Ok contents.now)
+        (λ error. contents_of file.entry.now section ≡ Err error) }
+{
+    if section.sh_type == SHT_NOBITS {
+        return Ok(&[]);
+    }
+    if section.sh_flags & SHF_COMPRESSED != 0 {
+        return Err(ElfError::Compressed {
+            offset: section.sh_offset,
+        });
+    }
+    read_block(file, section.sh_offset, section.sh_size)
+}
+
 /// Returns the first section of a name, by the names of the file's sections.
 pub fn section_by_name(
     sections: &[SectionHeader],
@@ -105,10 +105,8 @@ pub fn section_by_name(
 ) -> Option<SectionHeader>
     ensures { result ≡ section_called sections.now names.now name.now }
 {
-    for section in sections {
-        if string_at(names, section.sh_name) == name {
-            return Some(*section);
-        }
-    }
-    None
+    sections
+        .iter()
+        .find(|section| string_at(names, section.sh_name) == name)
+        .copied()
 }

@@ -37,35 +37,29 @@ pub struct SectionHeader {
     pub sh_entsize: u64,
 }
 
-/// Returns the section header at the front of the bytes.
-fn section_header(entry: &[u8]) -> SectionHeader
-    requires { 64 ≤ length entry.now }
-    ensures { result ≡ section_header_of entry.now }
+/// Reads the section headers of a file. The one of index 0 is no section.
+///
+/// # Errors
+///
+/// - `Eof` where the file ends before the table does, or before its first entry does, which has their
+///   number where the ELF header has not;
+/// - `BadEntrySize` where there are some, and `e_shentsize` is not the size of `Elf64_Shdr`;
+/// - `OutOfMemory`.
+///
+/// Source: System V gABI, chapter 4, "Sections".
+#[tactic(auto, unfolding(crate::specs::SectionHeader::section_headers_of))]
+pub fn read_section_headers(
+    alloc: Global,
+    file: &[u8],
+    header: FileHeader,
+) -> Result<Vec<SectionHeader>, ElfError>
+    ensures { MatchResult result
+        (λ headers. section_headers_of file.now header ≡ Ok headers.items)
+        (λ error. IsErrorOf (section_headers_of file.now header) error) }
 {
-    SectionHeader {
-        sh_name: u32_at(entry, 0),
-        sh_type: u32_at(entry, 4),
-        sh_flags: u64_at(entry, 8),
-        sh_addr: u64_at(entry, 16),
-        sh_offset: u64_at(entry, 24),
-        sh_size: u64_at(entry, 32),
-        sh_link: u32_at(entry, 40),
-        sh_info: u32_at(entry, 44),
-        sh_addralign: u64_at(entry, 48),
-        sh_entsize: u64_at(entry, 56),
-    }
-}
-
-/// Reads the section header of index 0.
-#[tactic(auto, unfolding(crate::specs::SectionHeader::first_section_of))]
-pub(crate) fn read_first_section(file: &[u8], header: FileHeader) -> Result<SectionHeader, ElfError>
-    ensures { result ≡ first_section_of file.now header }
-{
-    if header.e_shoff == 0 {
-        return Err(ElfError::NoSuchSection { offset: 40 });
-    }
-    let entry = read_block(file, header.e_shoff, ENTRY_SIZE as u64)?;
-    Ok(section_header(entry))
+    let count = section_count(file, header)?;
+    let entries = section_entries(file, header, count)?;
+    Ok(section_headers(alloc, entries)?)
 }
 
 /// Returns how many sections there are.
@@ -81,6 +75,18 @@ fn section_count(file: &[u8], header: FileHeader) -> Result<u64, ElfError>
     }
     let first = read_first_section(file, header)?;
     Ok(first.sh_size)
+}
+
+/// Reads the section header of index 0.
+#[tactic(auto, unfolding(crate::specs::SectionHeader::first_section_of))]
+pub(crate) fn read_first_section(file: &[u8], header: FileHeader) -> Result<SectionHeader, ElfError>
+    ensures { result ≡ first_section_of file.now header }
+{
+    if header.e_shoff == 0 {
+        return Err(ElfError::NoSuchSection { offset: 40 });
+    }
+    let entry = read_block(file, header.e_shoff, ENTRY_SIZE as u64)?;
+    Ok(section_header(entry))
 }
 
 /// Returns the bytes of the section headers.
@@ -115,30 +121,21 @@ fn section_headers(
         .collect(alloc)
 }
 
-/// Reads the section headers of a file. The one of index 0 is no section.
-///
-/// # Errors
-///
-/// - `Eof` where the file ends before the table does, or before its first entry does, which has their
-///   number where the ELF header has not;
-/// - `BadEntrySize` where there are some, and `e_shentsize` is not the size of `Elf64_Shdr`;
-/// - `OutOfMemory`.
-///
-/// Source: System V gABI, chapter 4, "Sections".
-#[tactic(auto, unfolding(crate::specs::SectionHeader::section_headers_of))]
-pub fn read_section_headers(
-    alloc: Global,
-    file: &[u8],
-    header: FileHeader,
-) -> Result<Vec<SectionHeader>, ElfError>
-    ensures { MatchResult result
-        (λ headers. section_headers_of file.now header ≡ Ok headers.items)
-        (λ error. IsErrorOf (section_headers_of file.now header) error) }
+/// Returns the section header at the front of the bytes.
+fn section_header(entry: &[u8]) -> SectionHeader
+    requires { 64 ≤ length entry.now }
+    ensures { result ≡ section_header_of entry.now }
 {
-    let count = section_count(file, header)?;
-    let entries = section_entries(file, header, count)?;
-    match section_headers(alloc, entries) {
-        Ok(headers) => Ok(headers),
-        Err(_) => Err(ElfError::OutOfMemory),
+    SectionHeader {
+        sh_name: u32_at(entry, 0),
+        sh_type: u32_at(entry, 4),
+        sh_flags: u64_at(entry, 8),
+        sh_addr: u64_at(entry, 16),
+        sh_offset: u64_at(entry, 24),
+        sh_size: u64_at(entry, 32),
+        sh_link: u32_at(entry, 40),
+        sh_info: u32_at(entry, 44),
+        sh_addralign: u64_at(entry, 48),
+        sh_entsize: u64_at(entry, 56),
     }
 }

@@ -35,71 +35,24 @@ pub struct Symbol {
     pub size: u64,
 }
 
-/// Returns the type of an entry's symbol: the lower half of `st_info`.
-fn symbol_type(entry: &[u8; ENTRY_SIZE]) -> u8
-    ensures { result ≡ symbol_type entry.now }
-{
-    entry[4] % 16
+/// Symbols of functions, to be searched by address. A contract sees the list of them.
+#[derive(Drop)]
+pub struct SymbolTable {
+    /// In the order of their starts.
+    symbols: Vec<Symbol>,
 }
 
-/// Returns whether an entry is of a function that is defined in the file.
-fn is_function(entry: &[u8; ENTRY_SIZE]) -> bool
-    ensures { result ≡ is_function entry.now }
-{
-    let kind = symbol_type(entry);
-    (kind == STT_FUNC || kind == STT_GNU_IFUNC)
-        && u16_at(entry, 6) != SHN_UNDEF
-        && u64_at(entry, 8) != 0
-}
+impl Model for SymbolTable {
+    ghost use Rattle.std.specs.Prelude.{List};
+    ghost use Rattle.std.specs.List.Sorted.{IsNonDecreasingBy};
+    ghost use Rattle.framehop_elf.specs.Symbol.{start_of};
+    ghost use Rattle.framehop_elf.specs.declared.symbol.Symbol.{Symbol};
 
-/// Returns how many bytes of a section there are from an address (SVMA) on.
-fn size_from(address: u64, section: SectionHeader) -> u64
-    ensures { result ≡ size_from address section }
-{
-    if address < section.sh_addr {
-        return 0;
-    }
-    section.sh_size.saturating_sub(address - section.sh_addr)
-}
+    ghost Value = { List Symbol };
 
-/// Returns how many bytes the symbol of an entry has at most.
-fn size_of(sections: &[SectionHeader], entry: &[u8; ENTRY_SIZE]) -> u64
-    ensures { result ≡ size_of sections.now entry.now }
-{
-    let st_size = u64_at(entry, 16);
-    if st_size != 0 {
-        return st_size;
-    }
-    match sections.get(usize::from(u16_at(entry, 6))) {
-        Some(section) => size_from(u64_at(entry, 8), *section),
-        None => 0,
-    }
-}
+    ghost view = { λ table. table.symbols.items };
 
-/// Returns the symbol that has these bytes.
-fn read_symbol(sections: &[SectionHeader], entry: &[u8; ENTRY_SIZE]) -> Symbol
-    ensures { result ≡ symbol_of sections.now entry.now }
-{
-    Symbol {
-        st_name: u32_at(entry, 0),
-        st_value: u64_at(entry, 8),
-        size: size_of(sections, entry),
-    }
-}
-
-/// Returns the symbols of the functions among these entries.
-fn functions(
-    alloc: Global,
-    sections: &[SectionHeader],
-    entries: &[[u8; ENTRY_SIZE]],
-) -> Result<Vec<Symbol>, AllocError>
-    ensures { IfOk result (λ symbols. symbols.items ≡ map (symbol_of sections.now) (filter is_function entries.now)) }
-{
-    entries
-        .iter()
-        .filter(|entry| is_function(*entry))
-        .map(|entry| read_symbol(sections, entry))
-        .collect(alloc)
+    ghost invariant = { λ table. IsNonDecreasingBy start_of table.symbols.items };
 }
 
 /// Reads the functions among the symbols of a symbol table, a section of type `SHT_SYMTAB` or
@@ -132,10 +85,74 @@ pub fn read_function_symbols(
     }
     let contents = read_contents(file, table)?;
     let (entries, _) = contents.as_chunks::<ENTRY_SIZE>();
-    match functions(alloc, sections, entries) {
-        Ok(symbols) => Ok(symbols),
-        Err(_) => Err(ElfError::OutOfMemory),
+    Ok(functions(alloc, sections, entries)?)
+}
+
+/// Returns the symbols of the functions among these entries.
+fn functions(
+    alloc: Global,
+    sections: &[SectionHeader],
+    entries: &[[u8; ENTRY_SIZE]],
+) -> Result<Vec<Symbol>, AllocError>
+    ensures { IfOk result (λ symbols. symbols.items ≡ map (symbol_of sections.now) (filter is_function entries.now)) }
+{
+    entries
+        .iter()
+        .filter(|entry| is_function(*entry))
+        .map(|entry| read_symbol(sections, entry))
+        .collect(alloc)
+}
+
+/// Returns whether an entry is of a function that is defined in the file.
+fn is_function(entry: &[u8; ENTRY_SIZE]) -> bool
+    ensures { result ≡ is_function entry.now }
+{
+    let kind = symbol_type(entry);
+    (kind == STT_FUNC || kind == STT_GNU_IFUNC)
+        && u16_at(entry, 6) != SHN_UNDEF
+        && u64_at(entry, 8) != 0
+}
+
+/// Returns the type of an entry's symbol: the lower half of `st_info`.
+fn symbol_type(entry: &[u8; ENTRY_SIZE]) -> u8
+    ensures { result ≡ symbol_type entry.now }
+{
+    entry[4] % 16
+}
+
+/// Returns the symbol that has these bytes.
+fn read_symbol(sections: &[SectionHeader], entry: &[u8; ENTRY_SIZE]) -> Symbol
+    ensures { result ≡ symbol_of sections.now entry.now }
+{
+    Symbol {
+        st_name: u32_at(entry, 0),
+        st_value: u64_at(entry, 8),
+        size: size_of(sections, entry),
     }
+}
+
+/// Returns how many bytes the symbol of an entry has at most.
+fn size_of(sections: &[SectionHeader], entry: &[u8; ENTRY_SIZE]) -> u64
+    ensures { result ≡ size_of sections.now entry.now }
+{
+    let st_size = u64_at(entry, 16);
+    if st_size != 0 {
+        return st_size;
+    }
+    match sections.get(usize::from(u16_at(entry, 6))) {
+        Some(section) => size_from(u64_at(entry, 8), *section),
+        None => 0,
+    }
+}
+
+/// Returns how many bytes of a section there are from an address (SVMA) on.
+fn size_from(address: u64, section: SectionHeader) -> u64
+    ensures { result ≡ size_from address section }
+{
+    if address < section.sh_addr {
+        return 0;
+    }
+    section.sh_size.saturating_sub(address - section.sh_addr)
 }
 
 /// Returns the string table that has the names of a symbol table's symbols, which [`string_at`] reads.
@@ -165,6 +182,38 @@ pub fn read_symbol_names<'a>(
     }
 }
 
+impl SymbolTable {
+    /// Returns the table of these symbols, of which those that begin at one address keep their order.
+    ///
+    /// # Errors
+    ///
+    /// `OutOfMemory`.
+    pub fn new(symbols: Vec<Symbol>) -> Result<Self, ElfError>
+        ensures refused { IfErr result (λ error. error ≡ ElfError.OutOfMemory) }
+        ensures all { IfOk result (λ table. IsPermutation symbols.items table) }
+        ensures order { IfOk result (λ table. IsStableByKey start_of nat_cmp symbols.items table) }
+    {
+        let mut symbols = symbols;
+        symbols.sort_by_key(|symbol| symbol.st_value)?;
+        Ok(SymbolTable { symbols })
+    }
+
+    /// Returns the symbol of the function that has an address (SVMA): the one with the greatest start at
+    /// or below it, if the address is before its end. A symbol without a size reaches to the next one, or
+    /// to the end of its section. Of symbols that begin at one address it is the last: in a symbol table a
+    /// global one is after the local ones.
+    pub fn symbol_for(&self, svma: u64) -> Option<Symbol>
+        ensures { result ≡ symbol_for self.now svma }
+    {
+        let symbol = nearest(self.symbols.as_slice(), svma)?;
+        if reaches(symbol, svma) {
+            Some(symbol)
+        } else {
+            None
+        }
+    }
+}
+
 /// Returns the nearest symbol of sorted ones.
 fn nearest(symbols: &[Symbol], svma: u64) -> Option<Symbol>
     requires { IsNonDecreasingBy start_of symbols.now }
@@ -185,58 +234,4 @@ fn reaches(symbol: Symbol, svma: u64) -> bool
         return true;
     };
     svma < end
-}
-
-/// Symbols of functions, to be searched by address. A contract sees the list of them.
-#[derive(Drop)]
-pub struct SymbolTable {
-    /// In the order of their starts.
-    symbols: Vec<Symbol>,
-}
-
-impl Model for SymbolTable {
-    ghost use Rattle.std.specs.Prelude.{List};
-    ghost use Rattle.std.specs.List.Sorted.{IsNonDecreasingBy};
-    ghost use Rattle.framehop_elf.specs.Symbol.{start_of};
-    ghost use Rattle.framehop_elf.specs.declared.symbol.Symbol.{Symbol};
-
-    ghost Value = { List Symbol };
-
-    ghost view = { λ table. table.symbols.items };
-
-    ghost invariant = { λ table. IsNonDecreasingBy start_of table.symbols.items };
-}
-
-impl SymbolTable {
-    /// Returns the table of these symbols, of which those that begin at one address keep their order.
-    ///
-    /// # Errors
-    ///
-    /// `OutOfMemory`.
-    pub fn new(symbols: Vec<Symbol>) -> Result<Self, ElfError>
-        ensures refused { IfErr result (λ error. error ≡ ElfError.OutOfMemory) }
-        ensures all { IfOk result (λ table. IsPermutation symbols.items table) }
-        ensures order { IfOk result (λ table. IsStableByKey start_of nat_cmp symbols.items table) }
-    {
-        let mut symbols = symbols;
-        match symbols.sort_by_key(|symbol| symbol.st_value) {
-            Ok(()) => Ok(SymbolTable { symbols }),
-            Err(_) => Err(ElfError::OutOfMemory),
-        }
-    }
-
-    /// Returns the symbol of the function that has an address (SVMA): the one with the greatest start at
-    /// or below it, if the address is before its end. A symbol without a size reaches to the next one, or
-    /// to the end of its section. Of symbols that begin at one address it is the last: in a symbol table a
-    /// global one is after the local ones.
-    pub fn symbol_for(&self, svma: u64) -> Option<Symbol>
-        ensures { result ≡ symbol_for self.now svma }
-    {
-        let symbol = nearest(self.symbols.as_slice(), svma)?;
-        if reaches(symbol, svma) {
-            Some(symbol)
-        } else {
-            None
-        }
-    }
 }

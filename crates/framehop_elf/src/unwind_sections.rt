@@ -20,71 +20,6 @@ struct Stored<'a> {
     contents: &'a [u8],
 }
 
-/// Returns where a section is (SVMA). One that ends above the last address ends at it.
-fn range_in(section: SectionHeader) -> Range<u64>
-    ensures { result ≡ range_in section }
-{
-    section.sh_addr..section.sh_addr.saturating_add(section.sh_size)
-}
-
-/// Returns where the section of a name is (SVMA).
-fn range_called(sections: &[SectionHeader], names: &[u8], name: &[u8]) -> Option<Range<u64>>
-    ensures { result ≡ option_map range_in (section_called sections.now names.now name.now) }
-{
-    let section = section_by_name(sections, names, name)?;
-    Some(range_in(section))
-}
-
-/// Returns what the file holds of a section.
-fn stored_in(file: &[u8], section: SectionHeader) -> Option<&[u8]>
-    ensures { option_map (λ contents. contents.now) result ≡ stored_in file.entry.now section }
-{
-    if section.sh_type == SHT_NOBITS {
-        return None;
-    }
-    match read_contents(file, section) {
-        Ok(contents) => Some(contents),
-        Err(_) => None,
-    }
-}
-
-/// Returns the section of a name, if the file holds it.
-fn stored_called<'a>(
-    file: &'a [u8],
-    sections: &[SectionHeader],
-    names: &[u8],
-    name: &[u8],
-) -> Option<Stored<'a>>
-    ensures { option_map (λ stored. (stored.section, stored.contents.now)) result
-        ≡ stored_called file.entry.now sections.now names.now name.now }
-{
-    let section = section_by_name(sections, names, name)?;
-    let contents = stored_in(file, section)?;
-    Some(Stored { section, contents })
-}
-
-/// Returns where a section is (SVMA), if there is one.
-fn range_of(stored: Option<Stored<'_>>) -> Option<Range<u64>>
-    ensures { result ≡ range_of (option_map (λ stored. (stored.section, stored.contents.now)) stored.entry) }
-{
-    let stored = stored?;
-    Some(range_in(stored.section))
-}
-
-/// Returns a copy of what a section holds, if there is one.
-fn data_of(alloc: Global, stored: Option<Stored<'_>>) -> Result<Option<Vec<u8>>, ElfError>
-    ensures exact { IfOk result (λ bytes. bytes_in bytes ≡ data_of (option_map (λ stored. (stored.section, stored.contents.now)) stored.entry)) }
-    ensures refused { IfErr result (λ error. error ≡ ElfError.OutOfMemory) }
-{
-    let Some(stored) = stored else {
-        return Ok(None);
-    };
-    match Vec::from_slice(alloc, stored.contents) {
-        Ok(bytes) => Ok(Some(bytes)),
-        Err(_) => Err(ElfError::OutOfMemory),
-    }
-}
-
 /// Returns what an unwinder needs of a file, to make a module of it: where `.text` and `.got` are,
 /// and copies of `.eh_frame`, `.eh_frame_hdr` and `.debug_frame`. Of these a section that the file does not
 /// hold, or whose contents are refused, counts as absent. The base SVMA of an ELF file is 0.
@@ -122,4 +57,67 @@ pub fn read_unwind_sections(
         text_segment_svma: None,
         text_segment: None,
     })
+}
+
+/// Returns the section of a name, if the file holds it.
+fn stored_called<'a>(
+    file: &'a [u8],
+    sections: &[SectionHeader],
+    names: &[u8],
+    name: &[u8],
+) -> Option<Stored<'a>>
+    ensures { option_map (λ stored. (stored.section, stored.contents.now)) result
+        ≡ stored_called file.entry.now sections.now names.now name.now }
+{
+    let section = section_by_name(sections, names, name)?;
+    let contents = stored_in(file, section)?;
+    Some(Stored { section, contents })
+}
+
+/// Returns what the file holds of a section.
+fn stored_in(file: &[u8], section: SectionHeader) -> Option<&[u8]>
+    ensures { option_map (λ contents. contents.now) result ≡ stored_in file.entry.now section }
+{
+    if section.sh_type == SHT_NOBITS {
+        return None;
+    }
+    match read_contents(file, section) {
+        Ok(contents) => Some(contents),
+        Err(_) => None,
+    }
+}
+
+/// Returns where the section of a name is (SVMA).
+fn range_called(sections: &[SectionHeader], names: &[u8], name: &[u8]) -> Option<Range<u64>>
+    ensures { result ≡ option_map range_in (section_called sections.now names.now name.now) }
+{
+    let section = section_by_name(sections, names, name)?;
+    Some(range_in(section))
+}
+
+/// Returns where a section is (SVMA), if there is one.
+fn range_of(stored: Option<Stored<'_>>) -> Option<Range<u64>>
+    ensures { result ≡ range_of (option_map (λ stored. (stored.section, stored.contents.now)) stored.entry) }
+{
+    let stored = stored?;
+    Some(range_in(stored.section))
+}
+
+/// Returns where a section is (SVMA). One that ends above the last address ends at it.
+fn range_in(section: SectionHeader) -> Range<u64>
+    ensures { result ≡ range_in section }
+{
+    section.sh_addr..section.sh_addr.saturating_add(section.sh_size)
+}
+
+/// Returns a copy of what a section holds, if there is one.
+fn data_of(alloc: Global, stored: Option<Stored<'_>>) -> Result<Option<Vec<u8>>, ElfError>
+    ensures exact { IfOk result (λ bytes. bytes_in bytes ≡ data_of (option_map (λ stored. (stored.section, stored.contents.now)) stored.entry)) }
+    ensures refused { IfErr result (λ error. error ≡ ElfError.OutOfMemory) }
+{
+    let Some(stored) = stored else {
+        return Ok(None);
+    };
+    let bytes = Vec::from_slice(alloc, stored.contents)?;
+    Ok(Some(bytes))
 }

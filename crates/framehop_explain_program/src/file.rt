@@ -171,14 +171,14 @@ fn push_function(
 fn push_functions(section: &UnwindSection<'_>, out: &mut String) -> Result<(), AllocError> {
     let mut at = 0;
     while at < section.bytes.len() {
-        let Ok(span) = read_extent(section.bytes, at) else {
+        let Ok(extent) = read_extent(section.bytes, at) else {
             return Ok(());
         };
-        if span.is_zero_length() && section.section_type == UnwindSectionType::EhFrame {
+        if extent.is_zero_length() && section.section_type == UnwindSectionType::EhFrame {
             return Ok(());
         }
         push_function(section, at, out)?;
-        at = span.end;
+        at = extent.end;
     }
     Ok(())
 }

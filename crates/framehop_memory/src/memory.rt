@@ -25,17 +25,6 @@ pub struct ProcessMemory<'a> {
 }
 
 impl<'a> ProcessMemory<'a> {
-    /// Returns so many bytes of memory from an address (AVMA) on, if the file has them: those of the first range that
-    /// has all of them.
-    pub fn bytes_at(&self, address: u64, size: u64) -> Option<&'a [u8]>
-        ensures exact { option_map (λ bytes. bytes.now) result ≡ bytes_of (memory_view self.now) address size }
-        ensures whole { IfSome result (λ bytes. length bytes.now ≡ size) }
-    {
-        let range = self.range_with(address, size)?;
-        let bytes = back(dumped(self.file, range), address - range.start);
-        Some(front(bytes, size as usize))
-    }
-
     /// Returns the bytes of memory from an address (AVMA) on, as far as the range has them, if the file has the one
     /// there: those of the first range that has it.
     pub fn bytes_from(&self, address: u64) -> Option<&'a [u8]>
@@ -54,17 +43,26 @@ impl<'a> ProcessMemory<'a> {
         Some(u64_at(bytes, 0))
     }
 
+    /// Returns so many bytes of memory from an address (AVMA) on, if the file has them: those of the first range that
+    /// has all of them.
+    pub fn bytes_at(&self, address: u64, size: u64) -> Option<&'a [u8]>
+        ensures exact { option_map (λ bytes. bytes.now) result ≡ bytes_of (memory_view self.now) address size }
+        ensures whole { IfSome result (λ bytes. length bytes.now ≡ size) }
+    {
+        let range = self.range_with(address, size)?;
+        let bytes = back(dumped(self.file, range), address - range.start);
+        Some(front(bytes, size as usize))
+    }
+
     /// Returns the first range that has so many bytes from an address on.
     fn range_with(&self, address: u64, size: u64) -> Option<MemoryRange>
         ensures first { result ≡ find (has (memory_view self.now).file address size) (memory_view self.now).ranges }
         ensures found { IfSome result (λ range. has (memory_view self.now).file address size range ≡ true) }
     {
-        for range in &self.ranges {
-            if has(self.file, *range, address, size) {
-                return Some(*range);
-            }
-        }
-        None
+        self.ranges
+            .iter()
+            .find(|range| has(self.file, **range, address, size))
+            .copied()
     }
 }
 

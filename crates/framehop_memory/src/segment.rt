@@ -30,18 +30,6 @@ pub fn base_avma(segments: &[Segment], offset: u64, size: u64, avma: u64) -> Opt
     avma.checked_sub(svma)
 }
 
-/// Returns the base of a module's relative addresses, an AVMA, where its file is mapped from an AVMA on: where the
-/// SVMA 0 is. The mapping begins with the page of the first segment, which has the lowest address. `None` where there
-/// is no segment, or the base would be below 0.
-///
-/// Source: System V gABI, chapter 5, "Base Address".
-pub fn base_from(segments: &[Segment], start: u64) -> Option<u64>
-    ensures { result ≡ base_from segments.now start }
-{
-    let segment = segments.first()?;
-    start.checked_sub(segment.address - segment.address % PAGE_SIZE)
-}
-
 /// Returns the stated address (SVMA) of the offset of the file at which an executable mapping of a size
 /// begins, or `None` where no segment has it. Offset and size are in bytes.
 ///
@@ -72,24 +60,10 @@ fn segment_of(segments: &[Segment], offset: u64, size: u64) -> Option<Segment>
 fn whole_segment(segments: &[Segment], offset: u64, size: u64) -> Option<Segment>
     ensures { result ≡ find (fits offset size) segments.now }
 {
-    for segment in segments {
-        if is_whole(*segment, offset, size) {
-            return Some(*segment);
-        }
-    }
-    None
-}
-
-/// Returns the first segment of which an executable mapping from an offset on is a part.
-fn segment_of_file_offset(segments: &[Segment], offset: u64) -> Option<Segment>
-    ensures { result ≡ find (is_loaded_from offset) segments.now }
-{
-    for segment in segments {
-        if is_loaded(*segment, offset) {
-            return Some(*segment);
-        }
-    }
-    None
+    segments
+        .iter()
+        .find(|segment| is_whole(**segment, offset, size))
+        .copied()
 }
 
 /// Returns whether the pages of a segment that is loaded to be executed are those at an offset, of a size.
@@ -106,6 +80,16 @@ fn is_whole(segment: Segment, offset: u64, size: u64) -> bool
         && start < mapped_start + page_size
         && end <= mapped_end
         && mapped_end < end + page_size
+}
+
+/// Returns the first segment of which an executable mapping from an offset on is a part.
+fn segment_of_file_offset(segments: &[Segment], offset: u64) -> Option<Segment>
+    ensures { result ≡ find (is_loaded_from offset) segments.now }
+{
+    segments
+        .iter()
+        .find(|segment| is_loaded(**segment, offset))
+        .copied()
 }
 
 /// Returns whether a segment that is loaded to be executed begins before the end of the page at an
@@ -127,4 +111,16 @@ fn svma_in_segment(segment: Segment, offset: u64) -> Option<u64>
     } else {
         segment.address.checked_add(offset - segment.offset)
     }
+}
+
+/// Returns the base of a module's relative addresses, an AVMA, where its file is mapped from an AVMA on: where the
+/// SVMA 0 is. The mapping begins with the page of the first segment, which has the lowest address. `None` where there
+/// is no segment, or the base would be below 0.
+///
+/// Source: System V gABI, chapter 5, "Base Address".
+pub fn base_from(segments: &[Segment], start: u64) -> Option<u64>
+    ensures { result ≡ base_from segments.now start }
+{
+    let segment = segments.first()?;
+    start.checked_sub(segment.address - segment.address % PAGE_SIZE)
 }

@@ -1,4 +1,7 @@
 //! Why a minidump can't be read.
+ghost use Rattle.std.specs.Prelude.{◌≡◌};
+
+use std::alloc::AllocError;
 use thiserror::Error;
 
 /// Why a minidump, or a part of it, can't be read. Each offset is in bytes from the start of the file.
@@ -37,4 +40,14 @@ pub enum MinidumpError {
     /// An allocation failed.
     #[error("out of memory")]
     OutOfMemory,
+}
+
+impl From<AllocError> for MinidumpError {
+    ghost use Rattle.framehop_minidump.specs.declared.error.MinidumpError.{MinidumpError};
+
+    ghost from_gives = { λ value error. error ≡ MinidumpError.OutOfMemory };
+
+    fn from(_value: AllocError) -> Self {
+        MinidumpError::OutOfMemory
+    }
 }

@@ -34,40 +34,6 @@ pub struct Module {
     pub codeview: Location,
 }
 
-/// Returns the module of an entry.
-fn module_at(entry: &[u8]) -> Module
-    requires { 108 ≤ length entry.now }
-    ensures { result ≡ module_at entry.now }
-{
-    Module {
-        base: u64_at(entry, 0),
-        size: u32_at(entry, 8),
-        checksum: u32_at(entry, 12),
-        time: u32_at(entry, 16),
-        name: u32_at(entry, 20),
-        codeview: location_at(entry, 76),
-    }
-}
-
-/// Returns the entries of the modules.
-#[tactic(auto, unfolding(crate::specs::Module::module_entries_of))]
-fn entries<'a>(file: &'a [u8], streams: &[Stream]) -> Result<&'a [[u8; ENTRY_SIZE]], MinidumpError>
-    ensures { MatchResult result
-        (λ entries. module_entries_of file.entry.now streams.now ≡ Ok entries.now)
-        (λ error. module_entries_of file.entry.now streams.now ≡ Err error) }
-{
-    let list = read_list(file, streams, MODULE_LIST_STREAM, ENTRY_SIZE as u64)?;
-    let (entries, _) = list.as_chunks::<ENTRY_SIZE>();
-    Ok(entries)
-}
-
-/// Returns the modules that have these bytes.
-fn modules(alloc: Global, entries: &[[u8; ENTRY_SIZE]]) -> Result<Vec<Module>, AllocError>
-    ensures { IfOk result (λ modules. modules.items ≡ map module_at entries.now) }
-{
-    entries.iter().map(|entry| module_at(entry)).collect(alloc)
-}
-
 /// Reads the modules of a process, in the order of the file: those of the first stream of type
 /// `ModuleListStream`, none where there is no such stream.
 ///
@@ -89,8 +55,39 @@ pub fn read_modules(
         (λ error. IsErrorOf (modules_of file.now streams.now) error) }
 {
     let entries = entries(file, streams)?;
-    match modules(alloc, entries) {
-        Ok(modules) => Ok(modules),
-        Err(_) => Err(MinidumpError::OutOfMemory),
+    Ok(modules(alloc, entries)?)
+}
+
+/// Returns the entries of the modules.
+#[tactic(auto, unfolding(crate::specs::Module::module_entries_of))]
+fn entries<'a>(file: &'a [u8], streams: &[Stream]) -> Result<&'a [[u8; ENTRY_SIZE]], MinidumpError>
+    ensures { MatchResult result
+        (λ entries. module_entries_of file.entry.now streams.now ≡ Ok entries.now)
+        (λ error. module_entries_of file.entry.now streams.now ≡ Err error) }
+{
+    let list = read_list(file, streams, MODULE_LIST_STREAM, ENTRY_SIZE as u64)?;
+    let (entries, _) = list.as_chunks::<ENTRY_SIZE>();
+    Ok(entries)
+}
+
+/// Returns the modules that have these bytes.
+fn modules(alloc: Global, entries: &[[u8; ENTRY_SIZE]]) -> Result<Vec<Module>, AllocError>
+    ensures { IfOk result (λ modules. modules.items ≡ map module_at entries.now) }
+{
+    entries.iter().map(|entry| module_at(entry)).collect(alloc)
+}
+
+/// Returns the module of an entry.
+fn module_at(entry: &[u8]) -> Module
+    requires { 108 ≤ length entry.now }
+    ensures { result ≡ module_at entry.now }
+{
+    Module {
+        base: u64_at(entry, 0),
+        size: u32_at(entry, 8),
+        checksum: u32_at(entry, 12),
+        time: u32_at(entry, 16),
+        name: u32_at(entry, 20),
+        codeview: location_at(entry, 76),
     }
 }

@@ -21,15 +21,24 @@ pub struct Stream {
     pub location: Location,
 }
 
-/// Returns the stream of an entry.
-fn stream_at(entry: &[u8]) -> Stream
-    requires { 12 ≤ length entry.now }
-    ensures { result ≡ stream_at entry.now }
+/// Reads the header of a minidump, and its directory.
+///
+/// # Errors
+///
+/// - those of [`read_header`];
+/// - `Eof` where the file ends before the directory does;
+/// - `OutOfMemory`.
+///
+/// Source: `minidumpapiset.h`, `MINIDUMP_DIRECTORY`.
+#[tactic(auto, unfolding(crate::specs::Stream::streams_of))]
+pub fn read_streams(alloc: Global, file: &[u8]) -> Result<Vec<Stream>, MinidumpError>
+    ensures { MatchResult result
+        (λ streams. streams_of file.now ≡ Ok streams.items)
+        (λ error. IsErrorOf (streams_of file.now) error) }
 {
-    Stream {
-        stream_type: u32_at(entry, 0),
-        location: location_at(entry, 4),
-    }
+    let header = read_header(file)?;
+    let entries = directory(file, header)?;
+    Ok(streams(alloc, entries)?)
 }
 
 /// Returns the entries of the directory.
@@ -52,26 +61,14 @@ fn streams(alloc: Global, entries: &[[u8; ENTRY_SIZE]]) -> Result<Vec<Stream>, A
     entries.iter().map(|entry| stream_at(entry)).collect(alloc)
 }
 
-/// Reads the header of a minidump, and its directory.
-///
-/// # Errors
-///
-/// - those of [`read_header`];
-/// - `Eof` where the file ends before the directory does;
-/// - `OutOfMemory`.
-///
-/// Source: `minidumpapiset.h`, `MINIDUMP_DIRECTORY`.
-#[tactic(auto, unfolding(crate::specs::Stream::streams_of))]
-pub fn read_streams(alloc: Global, file: &[u8]) -> Result<Vec<Stream>, MinidumpError>
-    ensures { MatchResult result
-        (λ streams. streams_of file.now ≡ Ok streams.items)
-        (λ error. IsErrorOf (streams_of file.now) error) }
+/// Returns the stream of an entry.
+fn stream_at(entry: &[u8]) -> Stream
+    requires { 12 ≤ length entry.now }
+    ensures { result ≡ stream_at entry.now }
 {
-    let header = read_header(file)?;
-    let entries = directory(file, header)?;
-    match streams(alloc, entries) {
-        Ok(streams) => Ok(streams),
-        Err(_) => Err(MinidumpError::OutOfMemory),
+    Stream {
+        stream_type: u32_at(entry, 0),
+        location: location_at(entry, 4),
     }
 }
 
@@ -79,10 +76,8 @@ pub fn read_streams(alloc: Global, file: &[u8]) -> Result<Vec<Stream>, MinidumpE
 pub fn first_stream(streams: &[Stream], stream_type: u32) -> Option<Stream>
     ensures { result ≡ stream_of streams.now stream_type }
 {
-    for stream in streams {
-        if stream.stream_type == stream_type {
-            return Some(*stream);
-        }
-    }
-    None
+    streams
+        .iter()
+        .find(|stream| stream.stream_type == stream_type)
+        .copied()
 }

@@ -14,6 +14,24 @@ const LENGTH_SIZE: u64 = 4;
 /// The size of a unit of UTF-16, in bytes.
 const UNIT_SIZE: usize = 2;
 
+/// Reads the string at an offset of the file. Each surrogate that has no partner becomes U+FFFD.
+///
+/// # Errors
+///
+/// `Eof` where the file ends before the string does, and `OddString` where its bytes are an odd number; else
+/// `OutOfMemory`.
+///
+/// Source: `minidumpapiset.h`, `MINIDUMP_STRING`.
+#[tactic(auto, unfolding(crate::specs::String::string_of))]
+pub fn read_string(alloc: Global, file: &[u8], offset: u32) -> Result<String, MinidumpError>
+    ensures { MatchResult result
+        (λ text. string_of file.now offset ≡ Ok (string_bytes text))
+        (λ error. IsErrorOf (string_of file.now offset) error) }
+{
+    let units = units_at(file, u64::from(offset))?;
+    Ok(text(alloc, units)?)
+}
+
 /// Returns the bytes of the units of the string at an offset of the file.
 #[tactic(auto, unfolding(crate::specs::String::units_of))]
 fn units_at(file: &[u8], offset: u64) -> Result<&[[u8; UNIT_SIZE]], MinidumpError>
@@ -31,13 +49,6 @@ fn units_at(file: &[u8], offset: u64) -> Result<&[[u8; UNIT_SIZE]], MinidumpErro
     Ok(units)
 }
 
-/// Returns the units that have these bytes.
-fn units(alloc: Global, units: &[[u8; UNIT_SIZE]]) -> Result<Vec<u16>, AllocError>
-    ensures { IfOk result (λ read. read.items ≡ map unit_at units.now) }
-{
-    units.iter().map(|unit| u16_at(unit, 0)).collect(alloc)
-}
-
 /// Returns the text of these units.
 fn text(alloc: Global, bytes: &[[u8; UNIT_SIZE]]) -> Result<String, AllocError>
     ensures { IfOk result (λ text. string_bytes text ≡ text_of (map unit_at bytes.now)) }
@@ -46,23 +57,9 @@ fn text(alloc: Global, bytes: &[[u8; UNIT_SIZE]]) -> Result<String, AllocError>
     String::from_utf16_lossy(alloc, units.as_slice())
 }
 
-/// Reads the string at an offset of the file. Each surrogate that has no partner becomes U+FFFD.
-///
-/// # Errors
-///
-/// `Eof` where the file ends before the string does, and `OddString` where its bytes are an odd number; else
-/// `OutOfMemory`.
-///
-/// Source: `minidumpapiset.h`, `MINIDUMP_STRING`.
-#[tactic(auto, unfolding(crate::specs::String::string_of))]
-pub fn read_string(alloc: Global, file: &[u8], offset: u32) -> Result<String, MinidumpError>
-    ensures { MatchResult result
-        (λ text. string_of file.now offset ≡ Ok (string_bytes text))
-        (λ error. IsErrorOf (string_of file.now offset) error) }
+/// Returns the units that have these bytes.
+fn units(alloc: Global, units: &[[u8; UNIT_SIZE]]) -> Result<Vec<u16>, AllocError>
+    ensures { IfOk result (λ read. read.items ≡ map unit_at units.now) }
 {
-    let units = units_at(file, u64::from(offset))?;
-    match text(alloc, units) {
-        Ok(text) => Ok(text),
-        Err(_) => Err(MinidumpError::OutOfMemory),
-    }
+    units.iter().map(|unit| u16_at(unit, 0)).collect(alloc)
 }

@@ -31,38 +31,6 @@ pub struct Thread {
     pub context: Location,
 }
 
-/// Returns the thread of an entry.
-fn thread_at(entry: &[u8]) -> Thread
-    requires { 48 ≤ length entry.now }
-    ensures { result ≡ thread_at entry.now }
-{
-    Thread {
-        tid: u32_at(entry, 0),
-        teb: u64_at(entry, 16),
-        stack: descriptor_at(entry, 24),
-        context: location_at(entry, 40),
-    }
-}
-
-/// Returns the entries of the threads.
-#[tactic(auto, unfolding(crate::specs::Thread::thread_entries_of))]
-fn entries<'a>(file: &'a [u8], streams: &[Stream]) -> Result<&'a [[u8; ENTRY_SIZE]], MinidumpError>
-    ensures { MatchResult result
-        (λ entries. thread_entries_of file.entry.now streams.now ≡ Ok entries.now)
-        (λ error. thread_entries_of file.entry.now streams.now ≡ Err error) }
-{
-    let list = read_list(file, streams, THREAD_LIST_STREAM, ENTRY_SIZE as u64)?;
-    let (entries, _) = list.as_chunks::<ENTRY_SIZE>();
-    Ok(entries)
-}
-
-/// Returns the threads that have these bytes.
-fn threads(alloc: Global, entries: &[[u8; ENTRY_SIZE]]) -> Result<Vec<Thread>, AllocError>
-    ensures { IfOk result (λ threads. threads.items ≡ map thread_at entries.now) }
-{
-    entries.iter().map(|entry| thread_at(entry)).collect(alloc)
-}
-
 /// Reads the threads of a process, in the order of the file: those of the first stream of type
 /// `ThreadListStream`, none where there is no such stream.
 ///
@@ -84,8 +52,37 @@ pub fn read_threads(
         (λ error. IsErrorOf (threads_of file.now streams.now) error) }
 {
     let entries = entries(file, streams)?;
-    match threads(alloc, entries) {
-        Ok(threads) => Ok(threads),
-        Err(_) => Err(MinidumpError::OutOfMemory),
+    Ok(threads(alloc, entries)?)
+}
+
+/// Returns the entries of the threads.
+#[tactic(auto, unfolding(crate::specs::Thread::thread_entries_of))]
+fn entries<'a>(file: &'a [u8], streams: &[Stream]) -> Result<&'a [[u8; ENTRY_SIZE]], MinidumpError>
+    ensures { MatchResult result
+        (λ entries. thread_entries_of file.entry.now streams.now ≡ Ok entries.now)
+        (λ error. thread_entries_of file.entry.now streams.now ≡ Err error) }
+{
+    let list = read_list(file, streams, THREAD_LIST_STREAM, ENTRY_SIZE as u64)?;
+    let (entries, _) = list.as_chunks::<ENTRY_SIZE>();
+    Ok(entries)
+}
+
+/// Returns the threads that have these bytes.
+fn threads(alloc: Global, entries: &[[u8; ENTRY_SIZE]]) -> Result<Vec<Thread>, AllocError>
+    ensures { IfOk result (λ threads. threads.items ≡ map thread_at entries.now) }
+{
+    entries.iter().map(|entry| thread_at(entry)).collect(alloc)
+}
+
+/// Returns the thread of an entry.
+fn thread_at(entry: &[u8]) -> Thread
+    requires { 48 ≤ length entry.now }
+    ensures { result ≡ thread_at entry.now }
+{
+    Thread {
+        tid: u32_at(entry, 0),
+        teb: u64_at(entry, 16),
+        stack: descriptor_at(entry, 24),
+        context: location_at(entry, 40),
     }
 }

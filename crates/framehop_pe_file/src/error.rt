@@ -1,4 +1,7 @@
 //! Why a PE file can't be read.
+ghost use Rattle.std.specs.Prelude.{◌≡◌};
+
+use std::alloc::AllocError;
 use thiserror::Error;
 
 /// Why a PE file, or a part of it, can't be read. Each offset is in bytes from the start of the file.
@@ -22,4 +25,14 @@ pub enum PeError {
     /// An allocation failed.
     #[error("out of memory")]
     OutOfMemory,
+}
+
+impl From<AllocError> for PeError {
+    ghost use Rattle.framehop_pe_file.specs.declared.error.PeError.{PeError};
+
+    ghost from_gives = { λ value error. error ≡ PeError.OutOfMemory };
+
+    fn from(_value: AllocError) -> Self {
+        PeError::OutOfMemory
+    }
 }

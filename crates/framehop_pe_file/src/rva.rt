@@ -8,27 +8,6 @@ use crate::header::FileHeader;
 use crate::section::size_in_file;
 use crate::section_header::SectionHeader;
 
-/// Returns whether the file has so many bytes of a section from an RVA on.
-fn holds(section: SectionHeader, rva: u32, size: u32) -> bool
-    ensures { result ≡ holds rva size section }
-{
-    let (start, first) = (u64::from(section.virtual_address), u64::from(rva));
-    start <= first && first + u64::from(size) <= start + u64::from(size_in_file(section))
-}
-
-/// Returns the first section that has so many bytes from an RVA on in the file.
-pub fn section_with_rva(sections: &[SectionHeader], rva: u32, size: u32) -> Option<SectionHeader>
-    ensures exact { result ≡ section_with sections.now rva size }
-    ensures before { IfSome result (λ section. section.virtual_address ≤ rva) }
-{
-    for section in sections {
-        if holds(*section, rva, size) {
-            return Some(*section);
-        }
-    }
-    None
-}
-
 /// Returns so many bytes of the image from an RVA on, as they are in the file: those of the headers, which are
 /// at the front of both, or of the first section that has them all.
 ///
@@ -59,4 +38,23 @@ pub fn read_at_rva<'a>(
     };
     let offset = u64::from(section.pointer_to_raw_data) + u64::from(rva - section.virtual_address);
     read_block(file, offset, length)
+}
+
+/// Returns the first section that has so many bytes from an RVA on in the file.
+pub fn section_with_rva(sections: &[SectionHeader], rva: u32, size: u32) -> Option<SectionHeader>
+    ensures exact { result ≡ section_with sections.now rva size }
+    ensures before { IfSome result (λ section. section.virtual_address ≤ rva) }
+{
+    sections
+        .iter()
+        .find(|section| holds(**section, rva, size))
+        .copied()
+}
+
+/// Returns whether the file has so many bytes of a section from an RVA on.
+fn holds(section: SectionHeader, rva: u32, size: u32) -> bool
+    ensures { result ≡ holds rva size section }
+{
+    let (start, first) = (u64::from(section.virtual_address), u64::from(rva));
+    start <= first && first + u64::from(size) <= start + u64::from(size_in_file(section))
 }

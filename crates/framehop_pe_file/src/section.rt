@@ -8,6 +8,16 @@ use crate::section_header::SectionHeader;
 use framehop_bytes::string::string_at;
 use std::ops::Range;
 
+/// Returns the first section of a name.
+pub fn section_by_name(sections: &[SectionHeader], name: &[u8]) -> Option<SectionHeader>
+    ensures { result ≡ section_called sections.now name.now }
+{
+    sections
+        .iter()
+        .find(|section| section_name(section) == name)
+        .copied()
+}
+
 /// Returns the name of a section, without the zeros after it. A linker may write longer names as `/` and an
 /// offset of the string table, which is not read.
 ///
@@ -16,26 +26,6 @@ pub fn section_name(section: &SectionHeader) -> &[u8]
     ensures { result.now ≡ name_of section.entry.now }
 {
     string_at(&section.name, 0)
-}
-
-/// Returns the first section of a name.
-pub fn section_by_name(sections: &[SectionHeader], name: &[u8]) -> Option<SectionHeader>
-    ensures { result ≡ section_called sections.now name.now }
-{
-    for section in sections {
-        if section_name(section) == name {
-            return Some(*section);
-        }
-    }
-    None
-}
-
-/// Returns how many bytes of a section the file has: the smaller of `SizeOfRawData`, which counts padding, and
-/// `VirtualSize`, which counts zeros that are not in the file.
-pub fn size_in_file(section: SectionHeader) -> u32
-    ensures { result ≡ size_in_file section }
-{
-    section.size_of_raw_data.min(section.virtual_size)
 }
 
 /// Returns where a section is in memory (RVA): from `VirtualAddress` on `VirtualSize` bytes.
@@ -66,4 +56,12 @@ pub fn read_contents<'a>(file: &'a [u8], section: SectionHeader) -> Result<&'a [
         u64::from(section.pointer_to_raw_data),
         u64::from(size_in_file(section)),
     )
+}
+
+/// Returns how many bytes of a section the file has: the smaller of `SizeOfRawData`, which counts padding, and
+/// `VirtualSize`, which counts zeros that are not in the file.
+pub fn size_in_file(section: SectionHeader) -> u32
+    ensures { result ≡ size_in_file section }
+{
+    section.size_of_raw_data.min(section.virtual_size)
 }

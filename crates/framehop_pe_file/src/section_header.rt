@@ -29,18 +29,25 @@ pub struct SectionHeader {
     pub characteristics: u32,
 }
 
-/// Returns the section header of an entry.
-fn section_header(entry: &[u8; ENTRY_SIZE]) -> SectionHeader
-    ensures { result ≡ section_header_of entry.now }
+/// Reads the section headers of a file, in its order.
+///
+/// # Errors
+///
+/// `Eof` where the file ends before they do, else `OutOfMemory`.
+///
+/// Source: Microsoft, "PE Format", "Section Table (Section Headers)".
+#[tactic(auto, unfolding(crate::specs::SectionHeader::section_headers_of))]
+pub fn read_section_headers(
+    alloc: Global,
+    file: &[u8],
+    header: FileHeader,
+) -> Result<Vec<SectionHeader>, PeError>
+    ensures { MatchResult result
+        (λ headers. section_headers_of file.now header ≡ Ok headers.items)
+        (λ error. IsErrorOf (section_headers_of file.now header) error) }
 {
-    SectionHeader {
-        name: *entry.first_chunk::<8>().unwrap(),
-        virtual_size: u32_at(entry, 8),
-        virtual_address: u32_at(entry, 12),
-        size_of_raw_data: u32_at(entry, 16),
-        pointer_to_raw_data: u32_at(entry, 20),
-        characteristics: u32_at(entry, 36),
-    }
+    let entries = section_entries(file, header)?;
+    Ok(section_headers(alloc, entries)?)
 }
 
 /// Returns the entries of the section table.
@@ -69,26 +76,16 @@ fn section_headers(
         .collect(alloc)
 }
 
-/// Reads the section headers of a file, in its order.
-///
-/// # Errors
-///
-/// `Eof` where the file ends before they do, else `OutOfMemory`.
-///
-/// Source: Microsoft, "PE Format", "Section Table (Section Headers)".
-#[tactic(auto, unfolding(crate::specs::SectionHeader::section_headers_of))]
-pub fn read_section_headers(
-    alloc: Global,
-    file: &[u8],
-    header: FileHeader,
-) -> Result<Vec<SectionHeader>, PeError>
-    ensures { MatchResult result
-        (λ headers. section_headers_of file.now header ≡ Ok headers.items)
-        (λ error. IsErrorOf (section_headers_of file.now header) error) }
+/// Returns the section header of an entry.
+fn section_header(entry: &[u8; ENTRY_SIZE]) -> SectionHeader
+    ensures { result ≡ section_header_of entry.now }
 {
-    let entries = section_entries(file, header)?;
-    match section_headers(alloc, entries) {
-        Ok(headers) => Ok(headers),
-        Err(_) => Err(PeError::OutOfMemory),
+    SectionHeader {
+        name: *entry.first_chunk::<8>().unwrap(),
+        virtual_size: u32_at(entry, 8),
+        virtual_address: u32_at(entry, 12),
+        size_of_raw_data: u32_at(entry, 16),
+        pointer_to_raw_data: u32_at(entry, 20),
+        characteristics: u32_at(entry, 36),
     }
 }

@@ -36,16 +36,6 @@ pub struct PeUnwindSections<D> {
     pub text: Option<D>,
 }
 
-/// Returns a copy of a range.
-fn copy_of(range: &Option<Range<u64>>) -> Option<Range<u64>>
-    ensures { result ≡ range.now }
-{
-    match range {
-        Some(range) => Some(range.start..range.end),
-        None => None,
-    }
-}
-
 impl<D> ModuleSectionInfo<D> for PeUnwindSections<D> {
     ghost table = { table_of };
 
@@ -98,93 +88,42 @@ struct Part<'a> {
     contents: &'a [u8],
 }
 
-/// Returns where a part is (SVMA). An address above the last one is the last one.
-fn range_in(base: u64, part: Part<'_>) -> Range<u64>
-    ensures { result ≡ range_in base (part_view part.entry) }
+/// Returns a copy of a range.
+fn copy_of(range: &Option<Range<u64>>) -> Option<Range<u64>>
+    ensures { result ≡ range.now }
 {
-    let start = base.saturating_add(u64::from(part.rva));
-    let end = base.saturating_add(u64::from(part.rva) + u64::from(part.size));
-    start..end
-}
-
-/// Returns a section, if the file holds it.
-fn part_in(file: &[u8], section: SectionHeader) -> Option<Part<'_>>
-    ensures { option_map part_view result ≡ part_in file.entry.now section }
-{
-    match read_contents(file, section) {
-        Ok(contents) => Some(Part {
-            rva: section.virtual_address,
-            size: section.virtual_size,
-            contents,
-        }),
-        Err(_) => None,
+    match range {
+        Some(range) => Some(range.start..range.end),
+        None => None,
     }
 }
 
-/// Returns the first section of a name, if the file holds it.
-fn part_called<'a>(file: &'a [u8], sections: &[SectionHeader], name: &[u8]) -> Option<Part<'a>>
-    ensures { option_map part_view result ≡ part_called file.entry.now sections.now name.now }
-{
-    let section = section_by_name(sections, name)?;
-    part_in(file, section)
-}
-
-/// Returns what a data directory names, if the file holds it.
-fn part_of_directory<'a>(
-    file: &'a [u8],
+/// Returns what an unwinder needs of a file, as [`lend_unwind_sections`] does, with copies of the sections.
+///
+/// # Errors
+///
+/// `OutOfMemory`.
+pub fn read_unwind_sections(
+    alloc: Global,
+    file: &[u8],
     header: FileHeader,
     sections: &[SectionHeader],
-    directory: DataDirectory,
-) -> Option<Part<'a>>
-    ensures { option_map part_view result ≡ part_of_directory file.entry.now header sections.now directory }
+) -> Result<PeUnwindSections<Vec<u8>>, PeError>
+    ensures exact { IfOk result (λ info. sections_view (λ (vec : Vec ℕ Global). vec.items) info ≡ unwind_sections_of file.now header sections.now) }
+    ensures refused { IfErr result (λ error. error ≡ PeError.OutOfMemory) }
 {
-    let (rva, size) = (directory.virtual_address, directory.size);
-    match read_at_rva(file, header, sections, rva, size) {
-        Ok(contents) => Some(Part {
-            rva,
-            size,
-            contents,
-        }),
-        Err(_) => None,
-    }
-}
-
-/// Returns what the data directory of exceptions names, if there is one and the file holds it.
-fn exception_part<'a>(
-    file: &'a [u8],
-    header: FileHeader,
-    sections: &[SectionHeader],
-) -> Option<Part<'a>>
-    ensures { option_map part_view result ≡ exception_part file.entry.now header sections.now }
-{
-    let directory = header.exception_directory?;
-    part_of_directory(file, header, sections, directory)
-}
-
-/// Returns the function table: the section `.pdata`, or else what the data directory of exceptions names.
-fn pdata<'a>(file: &'a [u8], header: FileHeader, sections: &[SectionHeader]) -> Option<Part<'a>>
-    ensures { option_map part_view result ≡ pdata_of file.entry.now header sections.now }
-{
-    match part_called(file, sections, b".pdata") {
-        Some(part) => Some(part),
-        None => exception_part(file, header, sections),
-    }
-}
-
-/// Returns where a part is (SVMA), if there is one.
-fn range_of(base: u64, part: Option<Part<'_>>) -> Option<Range<u64>>
-    ensures { result ≡ range_of base (option_map part_view part.entry) }
-{
-    let part = part?;
-    Some(range_in(base, part))
-}
-
-/// Returns what the file has of a part, if there is one.
-fn data_of<'a>(part: Option<Part<'a>>) -> Option<&'a [u8]>
-    ensures { option_map (λ contents. contents.now) result ≡ data_of (option_map part_view part.entry) }
-{
-    let part = part?;
-    Some(part.contents)
+    let lent = lend_unwind_sections(file, header, sections);
+    Ok(PeUnwindSections {
+        base_svma: lent.base_svma,
+        pdata_svma: lent.pdata_svma,
+        pdata: copied(alloc, lent.pdata)?,
+        rdata_svma: lent.rdata_svma,
+        rdata: copied(alloc, lent.rdata)?,
+        xdata_svma: lent.xdata_svma,
+        xdata: copied(alloc, lent.xdata)?,
+        text_svma: lent.text_svma,
+        text: copied(alloc, lent.text)?,
+    })
 }
 
 /// Lends what an unwinder needs of a file, to make a module of it: where `.pdata`, `.rdata`, `.xdata` and
@@ -219,6 +158,95 @@ pub fn lend_unwind_sections<'a>(
     }
 }
 
+/// Returns the function table: the section `.pdata`, or else what the data directory of exceptions names.
+fn pdata<'a>(file: &'a [u8], header: FileHeader, sections: &[SectionHeader]) -> Option<Part<'a>>
+    ensures { option_map part_view result ≡ pdata_of file.entry.now header sections.now }
+{
+    match part_called(file, sections, b".pdata") {
+        Some(part) => Some(part),
+        None => exception_part(file, header, sections),
+    }
+}
+
+/// Returns the first section of a name, if the file holds it.
+fn part_called<'a>(file: &'a [u8], sections: &[SectionHeader], name: &[u8]) -> Option<Part<'a>>
+    ensures { option_map part_view result ≡ part_called file.entry.now sections.now name.now }
+{
+    let section = section_by_name(sections, name)?;
+    part_in(file, section)
+}
+
+/// Returns a section, if the file holds it.
+fn part_in(file: &[u8], section: SectionHeader) -> Option<Part<'_>>
+    ensures { option_map part_view result ≡ part_in file.entry.now section }
+{
+    match read_contents(file, section) {
+        Ok(contents) => Some(Part {
+            rva: section.virtual_address,
+            size: section.virtual_size,
+            contents,
+        }),
+        Err(_) => None,
+    }
+}
+
+/// Returns what the data directory of exceptions names, if there is one and the file holds it.
+fn exception_part<'a>(
+    file: &'a [u8],
+    header: FileHeader,
+    sections: &[SectionHeader],
+) -> Option<Part<'a>>
+    ensures { option_map part_view result ≡ exception_part file.entry.now header sections.now }
+{
+    let directory = header.exception_directory?;
+    part_of_directory(file, header, sections, directory)
+}
+
+/// Returns what a data directory names, if the file holds it.
+fn part_of_directory<'a>(
+    file: &'a [u8],
+    header: FileHeader,
+    sections: &[SectionHeader],
+    directory: DataDirectory,
+) -> Option<Part<'a>>
+    ensures { option_map part_view result ≡ part_of_directory file.entry.now header sections.now directory }
+{
+    let (rva, size) = (directory.virtual_address, directory.size);
+    match read_at_rva(file, header, sections, rva, size) {
+        Ok(contents) => Some(Part {
+            rva,
+            size,
+            contents,
+        }),
+        Err(_) => None,
+    }
+}
+
+/// Returns where a part is (SVMA), if there is one.
+fn range_of(base: u64, part: Option<Part<'_>>) -> Option<Range<u64>>
+    ensures { result ≡ range_of base (option_map part_view part.entry) }
+{
+    let part = part?;
+    Some(range_in(base, part))
+}
+
+/// Returns where a part is (SVMA). An address above the last one is the last one.
+fn range_in(base: u64, part: Part<'_>) -> Range<u64>
+    ensures { result ≡ range_in base (part_view part.entry) }
+{
+    let start = base.saturating_add(u64::from(part.rva));
+    let end = base.saturating_add(u64::from(part.rva) + u64::from(part.size));
+    start..end
+}
+
+/// Returns what the file has of a part, if there is one.
+fn data_of<'a>(part: Option<Part<'a>>) -> Option<&'a [u8]>
+    ensures { option_map (λ contents. contents.now) result ≡ data_of (option_map part_view part.entry) }
+{
+    let part = part?;
+    Some(part.contents)
+}
+
 /// Returns a copy of bytes, if there are some.
 fn copied(alloc: Global, bytes: Option<&[u8]>) -> Result<Option<Vec<u8>>, PeError>
     ensures exact { IfOk result (λ copy. option_map (λ (vec : Vec ℕ Global). vec.items) copy ≡ option_map (λ contents. contents.now) bytes.entry) }
@@ -227,36 +255,6 @@ fn copied(alloc: Global, bytes: Option<&[u8]>) -> Result<Option<Vec<u8>>, PeErro
     let Some(bytes) = bytes else {
         return Ok(None);
     };
-    match Vec::from_slice(alloc, bytes) {
-        Ok(copy) => Ok(Some(copy)),
-        Err(_) => Err(PeError::OutOfMemory),
-    }
-}
-
-/// Returns what an unwinder needs of a file, as [`lend_unwind_sections`] does, with copies of the sections.
-///
-/// # Errors
-///
-/// `OutOfMemory`.
-pub fn read_unwind_sections(
-    alloc: Global,
-    file: &[u8],
-    header: FileHeader,
-    sections: &[SectionHeader],
-) -> Result<PeUnwindSections<Vec<u8>>, PeError>
-    ensures exact { IfOk result (λ info. sections_view (λ (vec : Vec ℕ Global). vec.items) info ≡ unwind_sections_of file.now header sections.now) }
-    ensures refused { IfErr result (λ error. error ≡ PeError.OutOfMemory) }
-{
-    let lent = lend_unwind_sections(file, header, sections);
-    Ok(PeUnwindSections {
-        base_svma: lent.base_svma,
-        pdata_svma: lent.pdata_svma,
-        pdata: copied(alloc, lent.pdata)?,
-        rdata_svma: lent.rdata_svma,
-        rdata: copied(alloc, lent.rdata)?,
-        xdata_svma: lent.xdata_svma,
-        xdata: copied(alloc, lent.xdata)?,
-        text_svma: lent.text_svma,
-        text: copied(alloc, lent.text)?,
-    })
+    let copy = Vec::from_slice(alloc, bytes)?;
+    Ok(Some(copy))
 }

@@ -1,4 +1,4 @@
-//! The processes of a recording: which files are mapped in each, and an unwinder with their modules.
+//! Processes, of a recording or a dump: which files are mapped in each, and an unwinder with their modules.
 #![tactic(auto)]
 
 mod around;

@@ -7,10 +7,10 @@ use crate::mapping::Mapping;
 use framehop::Unwinder;
 use std::alloc::{AllocError, Global};
 
-/// What makes a module of a mapping: it knows the files of a recording by their numbers.
+/// What makes a module of a mapping: it knows the files that processes map by their numbers.
 ///
 /// Its job is whether a file has unwind sections to give: one that is not there, or whose build id is
-/// another than the recording's, has none. The base of the module is that of the mapping, which a part
+/// another than that of the file that was mapped, has none. The base of the module is that of the mapping, which a part
 /// of a mapping has too.
 pub trait ModuleMaker<U: Unwinder> {
     // the module of a mapping

@@ -72,7 +72,8 @@ impl<U: ProcessUnwinder> Process<U> {
     /// - `GenerationsExhausted` where fewer generations are left than modules go and come;
     /// - `OutOfMemory`.
     ///
-    /// The process is then as it was, though generations may have been drawn.
+    /// The process is then as it was, though generations may have been drawn. For that its unwinder is
+    /// copied: `mapped` copies none.
     ///
     /// Source: mmap(2), MAP_FIXED; munmap(2).
     pub fn map<M: ModuleMaker<U>>(
@@ -102,15 +103,50 @@ impl<U: ProcessUnwinder> Process<U> {
         if mapping.end <= mapping.start {
             return Err(ProcessesError::EmptyMapping);
         }
-        let (before, rest) = split_ending_by(self.mappings.as_slice(), mapping.start);
+        let process = self.clone()?;
+        *self = process.mapped(alloc, maker, mapping, generations)?;
+        Ok(())
+    }
+
+    /// Returns the process with a part of a file mapped into it, as `map` does it. After an error there is no process
+    /// any more.
+    pub fn mapped<M: ModuleMaker<U>>(
+        self,
+        alloc: Global,
+        maker: &M,
+        mapping: Mapping,
+        generations: &mut Generations,
+    ) -> Result<Process<U>, ProcessesError>
+    where
+        U::Module: Drop,
+        requires { HasModules (M.module_of maker.now) self }
+        ensures served { IfOk result (λ mapped. HasModules (M.module_of maker.now) mapped) }
+        ensures mapped { IfOk result (λ mapped. mapped.mappings ≡ with_mapping mapping self.mappings) }
+        ensures by_address { IfOk result (λ mapped. (address : ℕ) → mapped_at address mapped.mappings
+            ≡ (if covers address mapping then Some (content mapping) else mapped_at address self.mappings)) }
+        ensures drawn { IfOk result (λ mapped. IsDrawn generations.old mapped.unwinder.generation generations.new) }
+        ensures counted { IfOk result (λ mapped. (generations.new ≡ generations.old + changed_modules mapping self.mappings)
+            × (mapped.unwinder.generation + 1 ≡ generations.new)) }
+        ensures empty { mapping.end ≤ mapping.start → (result ≡ Err ProcessesError.EmptyMapping) × (generations.new ≡ generations.old) }
+        ensures not_empty { result ≡ Err ProcessesError.EmptyMapping → mapping.end ≤ mapping.start }
+        ensures exhausted { result ≡ Err ProcessesError.GenerationsExhausted → (generations.new ≡ 2 ^ 64 - 1)
+            × (2 ^ 64 - 1 < generations.old + changed_modules mapping self.mappings) }
+        ensures never_back { generations.old ≤ generations.new }
+    {
+        if mapping.end <= mapping.start {
+            return Err(ProcessesError::EmptyMapping);
+        }
+        let Process {
+            mappings: old,
+            mut unwinder,
+        } = self;
+        let (before, rest) = split_ending_by(old.as_slice(), mapping.start);
         let (overlapped, after) = split_starting_below(rest, mapping.end);
         let changed = with_mapping(alloc, overlapped, mapping)?;
         let mappings = joined(alloc, before, changed.as_slice(), after)?;
-        let mut unwinder = self.unwinder.clone()?;
         remove_modules(&mut unwinder, overlapped, generations)?;
         add_modules(alloc, &mut unwinder, maker, changed.as_slice(), generations)?;
-        *self = Process { mappings, unwinder };
-        Ok(())
+        Ok(Process { mappings, unwinder })
     }
 
     /// Returns the mappings, in order of start.

@@ -30,67 +30,33 @@ pub struct Attribute<'a> {
     pub ids: &'a [u8],
 }
 
-/// Reads the fields of an attribute, whose entry has these bytes and lies at an offset of the file.
-#[tactic(auto, unfolding(crate::specs::Attributes::attribute_in))]
-fn read_fields<'a>(
-    file: &'a [u8],
-    at: u64,
-    size: u64,
-    entry: &[u8],
-) -> Result<Attribute<'a>, RecordingError>
-    requires { 112 ≤ size }
-    ensures exact { MatchResult result
-        (λ attribute. attribute_in file.entry.now at size entry.now ≡ Ok (attribute_view attribute))
-        (λ error. attribute_in file.entry.now at size entry.now ≡ Err error) }
-{
-    let short = RecordingError::Eof { offset: at };
-    let (sample_type, _) = read_u64(entry, 24, short)?;
-    let (flags, _) = read_u64(entry, 40, short)?;
-    let (sample_regs_user, _) = read_u64(entry, 80, short)?;
-    let (ids_offset, _) = read_u64(entry, (size - 16) as usize, short)?;
-    let (ids_size, _) = read_u64(entry, (size - 8) as usize, short)?;
-    let beyond = RecordingError::Eof { offset: ids_offset };
-    let (ids, _) = read_block(file, ids_offset, ids_size, beyond)?;
-    Ok(Attribute {
-        sample_type,
-        sample_id_all: flags & SAMPLE_ID_ALL != 0,
-        sample_regs_user,
-        ids,
-    })
-}
-
-/// Reads the attribute whose entry lies at an offset of the file and has a size, in bytes.
+/// Reads the attributes of the events of a recording, in the order of the file.
 ///
 /// # Errors
 ///
-/// - `ShortAttribute` where the entry has no user registers;
-/// - `BadAttributeSize` where the attribute's own size, with the 16 bytes after it, is not that size;
-/// - `Eof` where the file ends before the entry or its ids do.
+/// `ShortAttribute` where the header's entries have no user registers, and those of [`read_attribute`];
+/// else `OutOfMemory`.
 ///
-/// Source: Linux, `perf.data-file-format.txt`, `perf_file_attr`; `include/uapi/linux/perf_event.h`,
-/// `perf_event_attr`; `tools/perf/util/header.c`, `read_attr`.
-#[tactic(auto, unfolding(crate::specs::Attributes::attribute_at))]
-pub fn read_attribute<'a>(
+/// Source: Linux, `perf.data-file-format.txt`, `perf_header` and `perf_file_attr`.
+#[tactic(auto, unfolding(crate::specs::Attributes::attributes_of))]
+pub fn read_attributes<'a>(
+    alloc: Global,
     file: &'a [u8],
-    at: u64,
-    size: u64,
-) -> Result<Attribute<'a>, RecordingError>
+    header: &Header,
+) -> Result<Vec<Attribute<'a>>, RecordingError>
     ensures exact { MatchResult result
-        (λ attribute. attribute_at file.entry.now at size ≡ Ok (attribute_view attribute))
-        (λ error. attribute_at file.entry.now at size ≡ Err error) }
-    ensures within { IfOk result (λ _. at + size < 2 ^ 64) }
+        (λ attributes. attributes_of file.entry.now header.now ≡ Ok (map attribute_view attributes.items))
+        (λ error. IsErrorOf (attributes_of file.entry.now header.now) error) }
 {
+    let size = header.attribute_size;
+    let offset = header.attributes.offset;
     if size < ENTRY_SIZE {
-        return Err(RecordingError::ShortAttribute { offset: at });
+        return Err(RecordingError::ShortAttribute { offset });
     }
-    let short = RecordingError::Eof { offset: at };
-    let (entry, _) = read_block(file, at, size, short)?;
-    let (own_size, _) = read_u32(entry, 4, short)?;
-    if u64::from(own_size) + SECTION_SIZE != size {
-        return Err(RecordingError::BadAttributeSize { offset: at });
-    }
-    let attribute = read_fields(file, at, size, entry)?;
-    Ok(attribute)
+    let count = header.attributes.size / size;
+    check_entries(file, offset, size, count)?;
+    let attributes = read_entries(alloc, file, offset, size, count)?;
+    Ok(attributes)
 }
 
 /// Returns whether so many attributes can be read, whose entries have a size, in bytes, and lie one after
@@ -129,40 +95,72 @@ fn read_entries<'a>(
     let mut left = count;
     while left > 0 {
         let attribute = read_attribute(file, at, size)?;
-        if attributes.push(attribute).is_err() {
-            return Err(RecordingError::OutOfMemory);
-        }
+        attributes.push(attribute)?;
         at += size;
         left -= 1;
     }
     Ok(attributes)
 }
 
-/// Reads the attributes of the events of a recording, in the order of the file.
+/// Reads the attribute whose entry lies at an offset of the file and has a size, in bytes.
 ///
 /// # Errors
 ///
-/// `ShortAttribute` where the header's entries have no user registers, and those of [`read_attribute`];
-/// else `OutOfMemory`.
+/// - `ShortAttribute` where the entry has no user registers;
+/// - `BadAttributeSize` where the attribute's own size, with the 16 bytes after it, is not that size;
+/// - `Eof` where the file ends before the entry or its ids do.
 ///
-/// Source: Linux, `perf.data-file-format.txt`, `perf_header` and `perf_file_attr`.
-#[tactic(auto, unfolding(crate::specs::Attributes::attributes_of))]
-pub fn read_attributes<'a>(
-    alloc: Global,
+/// Source: Linux, `perf.data-file-format.txt`, `perf_file_attr`; `include/uapi/linux/perf_event.h`,
+/// `perf_event_attr`; `tools/perf/util/header.c`, `read_attr`.
+#[tactic(auto, unfolding(crate::specs::Attributes::attribute_at))]
+pub fn read_attribute<'a>(
     file: &'a [u8],
-    header: &Header,
-) -> Result<Vec<Attribute<'a>>, RecordingError>
+    at: u64,
+    size: u64,
+) -> Result<Attribute<'a>, RecordingError>
     ensures exact { MatchResult result
-        (λ attributes. attributes_of file.entry.now header.now ≡ Ok (map attribute_view attributes.items))
-        (λ error. IsErrorOf (attributes_of file.entry.now header.now) error) }
+        (λ attribute. attribute_at file.entry.now at size ≡ Ok (attribute_view attribute))
+        (λ error. attribute_at file.entry.now at size ≡ Err error) }
+    ensures within { IfOk result (λ _. at + size < 2 ^ 64) }
 {
-    let size = header.attribute_size;
-    let offset = header.attributes.offset;
     if size < ENTRY_SIZE {
-        return Err(RecordingError::ShortAttribute { offset });
+        return Err(RecordingError::ShortAttribute { offset: at });
     }
-    let count = header.attributes.size / size;
-    check_entries(file, offset, size, count)?;
-    let attributes = read_entries(alloc, file, offset, size, count)?;
-    Ok(attributes)
+    let short = RecordingError::Eof { offset: at };
+    let (entry, _) = read_block(file, at, size, short)?;
+    let (own_size, _) = read_u32(entry, 4, short)?;
+    if u64::from(own_size) + SECTION_SIZE != size {
+        return Err(RecordingError::BadAttributeSize { offset: at });
+    }
+    let attribute = read_fields(file, at, size, entry)?;
+    Ok(attribute)
+}
+
+/// Reads the fields of an attribute, whose entry has these bytes and lies at an offset of the file.
+#[tactic(auto, unfolding(crate::specs::Attributes::attribute_in))]
+fn read_fields<'a>(
+    file: &'a [u8],
+    at: u64,
+    size: u64,
+    entry: &[u8],
+) -> Result<Attribute<'a>, RecordingError>
+    requires { 112 ≤ size }
+    ensures exact { MatchResult result
+        (λ attribute. attribute_in file.entry.now at size entry.now ≡ Ok (attribute_view attribute))
+        (λ error. attribute_in file.entry.now at size entry.now ≡ Err error) }
+{
+    let short = RecordingError::Eof { offset: at };
+    let (sample_type, _) = read_u64(entry, 24, short)?;
+    let (flags, _) = read_u64(entry, 40, short)?;
+    let (sample_regs_user, _) = read_u64(entry, 80, short)?;
+    let (ids_offset, _) = read_u64(entry, (size - 16) as usize, short)?;
+    let (ids_size, _) = read_u64(entry, (size - 8) as usize, short)?;
+    let beyond = RecordingError::Eof { offset: ids_offset };
+    let (ids, _) = read_block(file, ids_offset, ids_size, beyond)?;
+    Ok(Attribute {
+        sample_type,
+        sample_id_all: flags & SAMPLE_ID_ALL != 0,
+        sample_regs_user,
+        ids,
+    })
 }

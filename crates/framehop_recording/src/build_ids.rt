@@ -34,6 +34,31 @@ pub struct FileBuildId<'a> {
     pub name: &'a [u8],
 }
 
+/// Reads the build ids of the files that were mapped, in the order of the file. A file may have none.
+///
+/// # Errors
+///
+/// `Eof` where the file ends before the records do, or before the section; what refuses a record of the
+/// section: `BadRecordSize`, `Compressed` and `ShortRecord`; and, where there is a section, `OutOfMemory`.
+///
+/// Source: Linux, `perf.data-file-format.txt`, HEADER_BUILD_ID; `tools/lib/perf/include/perf/event.h`,
+/// `perf_record_header_build_id`.
+#[tactic(auto, unfolding(crate::specs::BuildIds::build_ids_of))]
+pub fn read_build_ids<'a>(
+    alloc: Global,
+    file: &'a [u8],
+    header: &Header,
+) -> Result<Vec<FileBuildId<'a>>, RecordingError>
+    ensures exact { MatchResult result
+        (λ build_ids. build_ids_of file.entry.now header.now ≡ Ok (map file_build_id_view build_ids.items))
+        (λ error. (error ≡ RecordingError.OutOfMemory) ⊎ (build_ids_of file.entry.now header.now ≡ Err error)) }
+    ensures sought { result ≡ Err RecordingError.OutOfMemory → build_ids_section file.entry.now header.now ≡ Ok None → ⊥ }
+    ensures placed { (error : RecordingError) → build_ids_section file.entry.now header.now ≡ Err error → result ≡ Err error }
+{
+    let section = build_ids_section(file, header)?;
+    read_build_ids_at(alloc, file, section)
+}
+
 /// Returns where the section of the build ids lies, if the file has one.
 #[tactic(auto, unfolding(crate::specs::BuildIds::build_ids_section))]
 fn build_ids_section(file: &[u8], header: &Header) -> Result<Option<Section>, RecordingError>
@@ -50,6 +75,45 @@ fn build_ids_section(file: &[u8], header: &Header) -> Result<Option<Section>, Re
     let before = (header.features & BEFORE_BUILD_ID).count_ones() as usize;
     let (section, _) = read_section(file, end + 16 * before)?;
     Ok(Some(section))
+}
+
+/// Reads the build ids of a section.
+fn read_build_ids_at<'a>(
+    alloc: Global,
+    file: &'a [u8],
+    section: Option<Section>,
+) -> Result<Vec<FileBuildId<'a>>, RecordingError>
+    ensures exact { MatchResult result
+        (λ build_ids. build_ids_at file.entry.now section ≡ Ok (map file_build_id_view build_ids.items))
+        (λ error. (error ≡ RecordingError.OutOfMemory) ⊎ (build_ids_at file.entry.now section ≡ Err error)) }
+    ensures sought { section ≡ None → IsOk result }
+{
+    let Some(section) = section else {
+        return Ok(Vec::new(alloc));
+    };
+    let read = read_records(alloc, file, section)?;
+    if let Some(error) = read.refusal {
+        return Err(error);
+    }
+    read_each(alloc, read.records.as_slice())
+}
+
+/// Reads the build id of each of these records.
+fn read_each<'a>(
+    alloc: Global,
+    records: &[Record<'a>],
+) -> Result<Vec<FileBuildId<'a>>, RecordingError>
+    ensures exact { MatchResult result
+        (λ build_ids. each_of file_build_id_at (map record_view records.entry.now) ≡ Ok (map file_build_id_view build_ids.items))
+        (λ error. (error ≡ RecordingError.OutOfMemory)
+        ⊎ (each_of file_build_id_at (map record_view records.entry.now) ≡ Err error)) }
+{
+    let mut build_ids = Vec::new(alloc);
+    for index in 0..records.len() {
+        let build_id = read_file_build_id(records[index])?;
+        build_ids.push(build_id)?;
+    }
+    Ok(build_ids)
 }
 
 /// Reads the build id of a file from its record.
@@ -74,70 +138,4 @@ fn read_file_build_id<'a>(record: Record<'a>) -> Result<FileBuildId<'a>, Recordi
         build_id: front(front(back(record.body, 4), 20), size),
         name: before_nul(back(record.body, 28)),
     })
-}
-
-/// Reads the build id of each of these records.
-fn read_each<'a>(
-    alloc: Global,
-    records: &[Record<'a>],
-) -> Result<Vec<FileBuildId<'a>>, RecordingError>
-    ensures exact { MatchResult result
-        (λ build_ids. each_of file_build_id_at (map record_view records.entry.now) ≡ Ok (map file_build_id_view build_ids.items))
-        (λ error. (error ≡ RecordingError.OutOfMemory)
-        ⊎ (each_of file_build_id_at (map record_view records.entry.now) ≡ Err error)) }
-{
-    let mut build_ids = Vec::new(alloc);
-    for index in 0..records.len() {
-        let build_id = read_file_build_id(records[index])?;
-        if build_ids.push(build_id).is_err() {
-            return Err(RecordingError::OutOfMemory);
-        }
-    }
-    Ok(build_ids)
-}
-
-/// Reads the build ids of a section.
-fn read_build_ids_at<'a>(
-    alloc: Global,
-    file: &'a [u8],
-    section: Option<Section>,
-) -> Result<Vec<FileBuildId<'a>>, RecordingError>
-    ensures exact { MatchResult result
-        (λ build_ids. build_ids_at file.entry.now section ≡ Ok (map file_build_id_view build_ids.items))
-        (λ error. (error ≡ RecordingError.OutOfMemory) ⊎ (build_ids_at file.entry.now section ≡ Err error)) }
-    ensures sought { section ≡ None → IsOk result }
-{
-    let Some(section) = section else {
-        return Ok(Vec::new(alloc));
-    };
-    let read = read_records(alloc, file, section)?;
-    if let Some(error) = read.refusal {
-        return Err(error);
-    }
-    read_each(alloc, read.records.as_slice())
-}
-
-/// Reads the build ids of the files that were mapped, in the order of the file. A file may have none.
-///
-/// # Errors
-///
-/// `Eof` where the file ends before the records do, or before the section; what refuses a record of the
-/// section: `BadRecordSize`, `Compressed` and `ShortRecord`; and, where there is a section, `OutOfMemory`.
-///
-/// Source: Linux, `perf.data-file-format.txt`, HEADER_BUILD_ID; `tools/lib/perf/include/perf/event.h`,
-/// `perf_record_header_build_id`.
-#[tactic(auto, unfolding(crate::specs::BuildIds::build_ids_of))]
-pub fn read_build_ids<'a>(
-    alloc: Global,
-    file: &'a [u8],
-    header: &Header,
-) -> Result<Vec<FileBuildId<'a>>, RecordingError>
-    ensures exact { MatchResult result
-        (λ build_ids. build_ids_of file.entry.now header.now ≡ Ok (map file_build_id_view build_ids.items))
-        (λ error. (error ≡ RecordingError.OutOfMemory) ⊎ (build_ids_of file.entry.now header.now ≡ Err error)) }
-    ensures sought { result ≡ Err RecordingError.OutOfMemory → build_ids_section file.entry.now header.now ≡ Ok None → ⊥ }
-    ensures placed { (error : RecordingError) → build_ids_section file.entry.now header.now ≡ Err error → result ≡ Err error }
-{
-    let section = build_ids_section(file, header)?;
-    read_build_ids_at(alloc, file, section)
 }

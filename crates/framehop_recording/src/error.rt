@@ -1,4 +1,7 @@
 //! Why a recording can't be read.
+ghost use Rattle.std.specs.Prelude.{◌≡◌};
+
+use std::alloc::{AllocError, AllocFailed};
 use thiserror::Error;
 
 /// Why a recording, or a record of it, can't be read. Each offset is in bytes from the start of the
@@ -71,4 +74,24 @@ pub enum RecordingError {
     /// An allocation failed.
     #[error("out of memory")]
     OutOfMemory,
+}
+
+impl From<AllocError> for RecordingError {
+    ghost use Rattle.framehop_recording.specs.declared.error.RecordingError.{RecordingError};
+
+    ghost from_gives = { λ value error. error ≡ RecordingError.OutOfMemory };
+
+    fn from(_value: AllocError) -> Self {
+        RecordingError::OutOfMemory
+    }
+}
+
+impl<T: Drop> From<AllocFailed<T>> for RecordingError {
+    ghost use Rattle.framehop_recording.specs.declared.error.RecordingError.{RecordingError};
+
+    ghost from_gives = { λ value error. error ≡ RecordingError.OutOfMemory };
+
+    fn from(_value: AllocFailed<T>) -> Self {
+        RecordingError::OutOfMemory
+    }
 }

@@ -49,164 +49,8 @@ pub struct Events<'a> {
     ghost indexed: { (id : ℕ) → get nat_cmp by_id id ≡ event_with (map attribute_view attributes.items) id } by { Prim.hlevel props },
 }
 
-/// Returns how many of these fields a sample has.
-fn count_present(sample_type: u64, fields: &[u64]) -> usize
-    ensures exact { result ≡ count_present sample_type fields.now }
-    ensures bound { result ≤ length fields.now }
-{
-    let mut count = 0;
-    for field in fields {
-        if sample_type & *field != 0 {
-            count += 1;
-        }
-    }
-    count
-}
-
-/// Returns the field of a record of an event that comes after some fields in a sample, and is the first of
-/// others at the end of another record.
-#[tactic(auto, unfolding(crate::specs::Events::field_between))]
-fn field(attribute: &Attribute<'_>, record: Record<'_>, before: &[u64], from: &[u64]) -> Option<u64>
-    requires before_few { length before.now < 2 ^ 16 }
-    requires from_few { length from.now < 2 ^ 16 }
-    ensures { result ≡ field_between (attribute_view attribute.now) (record_view «record».entry) before.now from.now }
-{
-    if record.kind == SAMPLE {
-        let before = count_present(attribute.sample_type, before);
-        return word(record.body, 8 * before);
-    }
-    if !attribute.sample_id_all || record.kind >= USER_TYPE_START {
-        return None;
-    }
-    word_from_end(record.body, count_present(attribute.sample_type, from))
-}
-
 /// A time that says that there is none.
 const NO_TIME: u64 = u64::MAX;
-
-/// Returns a time, unless it says that there is none.
-pub(crate) fn known_time(time: u64) -> Option<u64>
-    ensures { result ≡ known_time time }
-{
-    if time == NO_TIME { None } else { Some(time) }
-}
-
-/// Returns when a record of an event was made.
-#[tactic(auto, unfolding(crate::specs::Events::time_field))]
-fn time_field(attribute: &Attribute<'_>, record: Record<'_>) -> Option<u64>
-    ensures { result ≡ time_field (attribute_view attribute.now) (record_view «record».entry) }
-{
-    if attribute.sample_type & TIME == 0 {
-        return None;
-    }
-    known_time(field(attribute, record, &BEFORE_TIME, &FROM_TIME)?)
-}
-
-/// Returns the id of the event that made a record, which has it where this event has it.
-#[tactic(auto, unfolding(crate::specs::Events::id_field))]
-fn id_field(attribute: &Attribute<'_>, record: Record<'_>) -> Option<u64>
-    ensures { result ≡ id_field (attribute_view attribute.now) (record_view «record».entry) }
-{
-    if attribute.sample_type & IDENTIFIER != 0 {
-        return field(attribute, record, &[], &[IDENTIFIER]);
-    }
-    if attribute.sample_type & ID == 0 {
-        return None;
-    }
-    field(attribute, record, &BEFORE_ID, &FROM_ID)
-}
-
-/// Returns which fields say where the id of an event's records is.
-#[tactic(auto, unfolding(crate::specs::Events::id_fields))]
-fn id_fields(attribute: &Attribute<'_>) -> u64
-    ensures { result ≡ id_fields (attribute_view attribute.now) }
-{
-    if attribute.sample_type & IDENTIFIER != 0 {
-        IDENTIFIER
-    } else {
-        attribute.sample_type & AROUND_ID
-    }
-}
-
-/// Returns whether the records of two events have their ids at one place.
-#[tactic(auto, unfolding(crate::specs::Events::is_like))]
-fn is_like(one: &Attribute<'_>, other: &Attribute<'_>) -> bool
-    ensures { result ≡ is_like (attribute_view one.now) (attribute_view other.now) }
-{
-    let is_placed_alike = id_fields(one) == id_fields(other);
-    is_placed_alike && (one.sample_id_all == other.sample_id_all)
-}
-
-/// Returns whether the records of all these events have their ids where those of another have them.
-fn are_like(one: &Attribute<'_>, others: &[Attribute<'_>]) -> bool
-    ensures { result ≡ list_all (λ other. is_like (attribute_view one.now) (attribute_view other)) others.now }
-{
-    others.iter().all(|other| is_like(one, other))
-}
-
-/// Returns whether ids tell the records of these events apart.
-#[tactic(auto, unfolding(crate::specs::Events::are_told_apart))]
-fn are_told_apart(attributes: &[Attribute<'_>]) -> bool
-    ensures { result ≡ are_told_apart (map attribute_view attributes.now) }
-{
-    let Some((first, others)) = attributes.split_first() else {
-        return true;
-    };
-    if others.is_empty() {
-        return true;
-    }
-    if id_fields(first) & ANY_ID == 0 {
-        return false;
-    }
-    are_like(first, others)
-}
-
-/// Returns whether the ids of these events take at most so many bytes.
-fn have_room(attributes: &[Attribute<'_>], size: usize) -> bool
-    ensures { result ≡ nat_le (ids_size (map attribute_view attributes.now)) size }
-{
-    let mut left = size;
-    for attribute in attributes {
-        let ids_size = attribute.ids.len();
-        if ids_size > left {
-            return false;
-        }
-        left -= ids_size;
-    }
-    true
-}
-
-/// Enters the ids of an event, also where another event has them.
-fn add_ids(by_id: &mut BTreeMap<u64, usize>, event: usize, ids: &[u8]) -> Result<(), RecordingError>
-    ensures refused { IfErr result (λ error. error ≡ RecordingError.OutOfMemory) }
-    ensures added { OnOk result ((id : ℕ) → get nat_cmp by_id.new id ≡ (if list_any (λ at. le8 ids.now at == id) (offsets 0 8 (length ids.now / 8)) then Some event else get nat_cmp by_id.old id)) }
-{
-    let mut at = 0;
-    while let Some(id) = word(ids, at) {
-        let Ok(_) = by_id.insert(id, event) else {
-            return Err(RecordingError::OutOfMemory);
-        };
-        at += 8;
-    }
-    Ok(())
-}
-
-/// Returns the first event of each id.
-fn events_by_id(
-    alloc: Global,
-    attributes: &[Attribute<'_>],
-) -> Result<BTreeMap<u64, usize>, RecordingError>
-    ensures refused { IfErr result (λ error. error ≡ RecordingError.OutOfMemory) }
-    ensures indexed { IfOk result (λ by_id. (id : ℕ) → get nat_cmp by_id id ≡ event_with (map attribute_view attributes.now) id) }
-{
-    let mut by_id = BTreeMap::new(alloc);
-    let mut event = attributes.len();
-    while event > 0 {
-        event -= 1;
-        add_ids(&mut by_id, event, attributes[event].ids)?;
-    }
-    Ok(by_id)
-}
 
 /// Reads the events of a recording.
 ///
@@ -242,7 +86,108 @@ pub fn read_events<'a>(
     Ok(Events { attributes, by_id })
 }
 
+/// Returns whether ids tell the records of these events apart.
+#[tactic(auto, unfolding(crate::specs::Events::are_told_apart))]
+fn are_told_apart(attributes: &[Attribute<'_>]) -> bool
+    ensures { result ≡ are_told_apart (map attribute_view attributes.now) }
+{
+    let Some((first, others)) = attributes.split_first() else {
+        return true;
+    };
+    if others.is_empty() {
+        return true;
+    }
+    if id_fields(first) & ANY_ID == 0 {
+        return false;
+    }
+    are_like(first, others)
+}
+
+/// Returns whether the records of all these events have their ids where those of another have them.
+fn are_like(one: &Attribute<'_>, others: &[Attribute<'_>]) -> bool
+    ensures { result ≡ list_all (λ other. is_like (attribute_view one.now) (attribute_view other)) others.now }
+{
+    others.iter().all(|other| is_like(one, other))
+}
+
+/// Returns whether the records of two events have their ids at one place.
+#[tactic(auto, unfolding(crate::specs::Events::is_like))]
+fn is_like(one: &Attribute<'_>, other: &Attribute<'_>) -> bool
+    ensures { result ≡ is_like (attribute_view one.now) (attribute_view other.now) }
+{
+    let is_placed_alike = id_fields(one) == id_fields(other);
+    is_placed_alike && (one.sample_id_all == other.sample_id_all)
+}
+
+/// Returns which fields say where the id of an event's records is.
+#[tactic(auto, unfolding(crate::specs::Events::id_fields))]
+fn id_fields(attribute: &Attribute<'_>) -> u64
+    ensures { result ≡ id_fields (attribute_view attribute.now) }
+{
+    if attribute.sample_type & IDENTIFIER != 0 {
+        IDENTIFIER
+    } else {
+        attribute.sample_type & AROUND_ID
+    }
+}
+
+/// Returns whether the ids of these events take at most so many bytes.
+fn have_room(attributes: &[Attribute<'_>], size: usize) -> bool
+    ensures { result ≡ nat_le (ids_size (map attribute_view attributes.now)) size }
+{
+    let mut left = size;
+    for attribute in attributes {
+        let ids_size = attribute.ids.len();
+        if ids_size > left {
+            return false;
+        }
+        left -= ids_size;
+    }
+    true
+}
+
+/// Returns the first event of each id.
+fn events_by_id(
+    alloc: Global,
+    attributes: &[Attribute<'_>],
+) -> Result<BTreeMap<u64, usize>, RecordingError>
+    ensures refused { IfErr result (λ error. error ≡ RecordingError.OutOfMemory) }
+    ensures indexed { IfOk result (λ by_id. (id : ℕ) → get nat_cmp by_id id ≡ event_with (map attribute_view attributes.now) id) }
+{
+    let mut by_id = BTreeMap::new(alloc);
+    let mut event = attributes.len();
+    while event > 0 {
+        event -= 1;
+        add_ids(&mut by_id, event, attributes[event].ids)?;
+    }
+    Ok(by_id)
+}
+
+/// Enters the ids of an event, also where another event has them.
+fn add_ids(by_id: &mut BTreeMap<u64, usize>, event: usize, ids: &[u8]) -> Result<(), RecordingError>
+    ensures refused { IfErr result (λ error. error ≡ RecordingError.OutOfMemory) }
+    ensures added { OnOk result ((id : ℕ) → get nat_cmp by_id.new id ≡ (if list_any (λ at. le8 ids.now at == id) (offsets 0 8 (length ids.now / 8)) then Some event else get nat_cmp by_id.old id)) }
+{
+    let mut at = 0;
+    while let Some(id) = word(ids, at) {
+        by_id.insert(id, event)?;
+        at += 8;
+    }
+    Ok(())
+}
+
 impl Events<'_> {
+    /// Returns when a record was made, in nanoseconds, if it says so: of a record that is no sample,
+    /// the time at its end. The time `u64::MAX` says that there is none.
+    #[tactic(auto, unfolding(crate::specs::Events::time_of))]
+    pub fn time_of(&self, record: Record<'_>) -> Option<u64>
+        ensures { result ≡ time_of (map attribute_view self.now.attributes.items) (record_view «record».entry) }
+    {
+        let event = self.event_of(record)?;
+        let attribute = self.attributes.get(event)?;
+        time_field(attribute, record)
+    }
+
     /// Returns which of the attributes is that of a record, if one is known to be.
     ///
     /// A single event has all records. Of several, the record's id says which. The records that perf
@@ -261,15 +206,68 @@ impl Events<'_> {
         }
         self.by_id.get(&id).copied()
     }
+}
 
-    /// Returns when a record was made, in nanoseconds, if it says so: of a record that is no sample,
-    /// the time at its end. The time `u64::MAX` says that there is none.
-    #[tactic(auto, unfolding(crate::specs::Events::time_of))]
-    pub fn time_of(&self, record: Record<'_>) -> Option<u64>
-        ensures { result ≡ time_of (map attribute_view self.now.attributes.items) (record_view «record».entry) }
-    {
-        let event = self.event_of(record)?;
-        let attribute = self.attributes.get(event)?;
-        time_field(attribute, record)
+/// Returns when a record of an event was made.
+#[tactic(auto, unfolding(crate::specs::Events::time_field))]
+fn time_field(attribute: &Attribute<'_>, record: Record<'_>) -> Option<u64>
+    ensures { result ≡ time_field (attribute_view attribute.now) (record_view «record».entry) }
+{
+    if attribute.sample_type & TIME == 0 {
+        return None;
     }
+    known_time(field(attribute, record, &BEFORE_TIME, &FROM_TIME)?)
+}
+
+/// Returns a time, unless it says that there is none.
+pub(crate) fn known_time(time: u64) -> Option<u64>
+    ensures { result ≡ known_time time }
+{
+    if time == NO_TIME { None } else { Some(time) }
+}
+
+/// Returns the id of the event that made a record, which has it where this event has it.
+#[tactic(auto, unfolding(crate::specs::Events::id_field))]
+fn id_field(attribute: &Attribute<'_>, record: Record<'_>) -> Option<u64>
+    ensures { result ≡ id_field (attribute_view attribute.now) (record_view «record».entry) }
+{
+    if attribute.sample_type & IDENTIFIER != 0 {
+        return field(attribute, record, &[], &[IDENTIFIER]);
+    }
+    if attribute.sample_type & ID == 0 {
+        return None;
+    }
+    field(attribute, record, &BEFORE_ID, &FROM_ID)
+}
+
+/// Returns the field of a record of an event that comes after some fields in a sample, and is the first of
+/// others at the end of another record.
+#[tactic(auto, unfolding(crate::specs::Events::field_between))]
+fn field(attribute: &Attribute<'_>, record: Record<'_>, before: &[u64], from: &[u64]) -> Option<u64>
+    requires before_few { length before.now < 2 ^ 16 }
+    requires from_few { length from.now < 2 ^ 16 }
+    ensures { result ≡ field_between (attribute_view attribute.now) (record_view «record».entry) before.now from.now }
+{
+    if record.kind == SAMPLE {
+        let before = count_present(attribute.sample_type, before);
+        return word(record.body, 8 * before);
+    }
+    if !attribute.sample_id_all || record.kind >= USER_TYPE_START {
+        return None;
+    }
+    word_from_end(record.body, count_present(attribute.sample_type, from))
+}
+
+/// Returns how many of these fields a sample has.
+fn count_present(sample_type: u64, fields: &[u64]) -> usize
+    ensures exact { result ≡ count_present sample_type fields.now }
+    ensures bound { result ≤ length fields.now }
+{
+    let mut count = 0;
+    for field in fields {
+        if sample_type & *field != 0 {
+            count += 1;
+        }
+    }
+    count
 }

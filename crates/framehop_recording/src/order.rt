@@ -17,37 +17,6 @@ pub struct TimedRecord<'a> {
     pub record: Record<'a>,
 }
 
-/// Returns each of these records with its time.
-fn with_times<'a>(
-    alloc: Global,
-    events: &Events<'_>,
-    records: &[Record<'a>],
-) -> Result<Vec<TimedRecord<'a>>, RecordingError>
-    ensures refused { IfErr result (λ error. error ≡ RecordingError.OutOfMemory) }
-    ensures exact { IfOk result (λ list. list.items ≡ map (timed (map attribute_view events.now.attributes.items)) records.entry.now) }
-{
-    let mut list = Vec::new(alloc);
-    for index in 0..records.len() {
-        let record = records[index];
-        let time = events.time_of(record).unwrap_or(0);
-        if list.push(TimedRecord { time, record }).is_err() {
-            return Err(RecordingError::OutOfMemory);
-        }
-    }
-    Ok(list)
-}
-
-/// Sorts records by their times.
-fn sort_by_time(list: &mut Vec<TimedRecord<'_>>) -> Result<(), RecordingError>
-    ensures refused { IfErr result (λ error. error ≡ RecordingError.OutOfMemory) }
-    ensures ordered { OnOk result (IsInOrderOfTime list.old.items list.new.items) }
-{
-    let Ok(()) = list.sort_by_key(|timed| timed.time) else {
-        return Err(RecordingError::OutOfMemory);
-    };
-    Ok(())
-}
-
 /// Returns these records in the order of their times, each with its own. In a file those of several
 /// processors are not in order.
 ///
@@ -71,4 +40,30 @@ pub fn in_order_of_time<'a>(
     let mut list = with_times(alloc, events, records)?;
     sort_by_time(&mut list)?;
     Ok(list)
+}
+
+/// Returns each of these records with its time.
+fn with_times<'a>(
+    alloc: Global,
+    events: &Events<'_>,
+    records: &[Record<'a>],
+) -> Result<Vec<TimedRecord<'a>>, RecordingError>
+    ensures refused { IfErr result (λ error. error ≡ RecordingError.OutOfMemory) }
+    ensures exact { IfOk result (λ list. list.items ≡ map (timed (map attribute_view events.now.attributes.items)) records.entry.now) }
+{
+    let mut list = Vec::new(alloc);
+    for index in 0..records.len() {
+        let record = records[index];
+        let time = events.time_of(record).unwrap_or(0);
+        list.push(TimedRecord { time, record })?;
+    }
+    Ok(list)
+}
+
+/// Sorts records by their times.
+fn sort_by_time(list: &mut Vec<TimedRecord<'_>>) -> Result<(), RecordingError>
+    ensures refused { IfErr result (λ error. error ≡ RecordingError.OutOfMemory) }
+    ensures ordered { OnOk result (IsInOrderOfTime list.old.items list.new.items) }
+{
+    Ok(list.sort_by_key(|timed| timed.time)?)
 }

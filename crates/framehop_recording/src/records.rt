@@ -31,16 +31,82 @@ pub struct Recorded<'a> {
     pub refusal: Option<RecordingError>,
 }
 
-/// Returns how many bytes after a record belong to it.
-#[tactic(auto, unfolding(crate::specs::Records::trailing_of))]
-fn trailing_size(offset: u64, kind: u32, whole: &[u8]) -> Result<u64, RecordingError>
-    ensures { result ≡ trailing_of offset kind whole.now }
+/// Reads the records of a section of the file, up to the first that can't be read. Of each only the
+/// header is read.
+///
+/// # Errors
+///
+/// `OutOfMemory`. The field `refusal` has the refusal of a record: `Eof` where the file or the section
+/// ends before the record does, `BadRecordSize`, and `Compressed`.
+///
+/// Source: Linux, `include/uapi/linux/perf_event.h`, `perf_event_header`;
+/// `perf.data-file-format.txt`, PERF_RECORD_AUXTRACE and PERF_RECORD_COMPRESSED;
+/// `tools/lib/perf/include/perf/event.h`, PERF_RECORD_COMPRESSED2.
+pub fn read_records<'a>(
+    alloc: Global,
+    file: &'a [u8],
+    section: Section,
+) -> Result<Recorded<'a>, RecordingError>
+    ensures refused { IfErr result (λ error. error ≡ RecordingError.OutOfMemory) }
+    ensures exact { IfOk result (λ read. run_view read ≡ run_of file.entry.now section) }
 {
-    if kind != AUXTRACE {
-        return Ok(0);
+    let offset = section.offset;
+    if offset > file.len() as u64 {
+        return Ok(Recorded {
+            records: Vec::new(alloc),
+            refusal: Some(RecordingError::Eof { offset }),
+        });
     }
-    let (trailing, _) = read_u64(whole, 8, RecordingError::BadRecordSize { offset })?;
-    Ok(trailing)
+    let bytes = front(back(file, offset), section.size as usize);
+    let is_cut = (bytes.len() as u64) < section.size;
+    read_run(alloc, is_cut, offset, bytes)
+}
+
+/// Reads the records in bytes, which are at an offset of the file, and of which some may be cut off.
+fn read_run<'a>(
+    alloc: Global,
+    is_cut: bool,
+    start: u64,
+    bytes: &'a [u8],
+) -> Result<Recorded<'a>, RecordingError>
+    requires { start + length bytes.now < 2 ^ 64 }
+    ensures refused { IfErr result (λ error. error ≡ RecordingError.OutOfMemory) }
+    ensures exact { IfOk result (λ read. run_view read ≡ run_in is_cut 0 start bytes.entry.now) }
+{
+    let mut records = Vec::new(alloc);
+    let mut offset = start;
+    let mut rest = bytes;
+    while !rest.is_empty() {
+        match read_record(offset, rest) {
+            Ok((record, size)) => {
+                records.push(record)?;
+                offset += size as u64;
+                rest = back(rest, size as u64);
+            }
+            Err(error) => {
+                let refusal = Some(error);
+                return Ok(Recorded { records, refusal });
+            }
+        }
+    }
+    let refusal = refusal_at_end(is_cut, offset);
+    Ok(Recorded { records, refusal })
+}
+
+/// Returns the record at the front of the bytes, which are at an offset of the file, and how many
+/// bytes it takes.
+#[tactic(auto, unfolding(crate::specs::Records::record_at))]
+fn read_record<'a>(offset: u64, bytes: &'a [u8]) -> Result<(Record<'a>, usize), RecordingError>
+    ensures exact { MatchResult result
+        (λ read. record_at offset bytes.entry.now ≡ Ok (record_view read.0, read.1))
+        (λ error. record_at offset bytes.entry.now ≡ Err error) }
+    ensures within { IfOk result (λ read. (0 < read.1) × (read.1 ≤ length bytes.entry.now)) }
+{
+    let eof = RecordingError::Eof { offset };
+    let (kind, _) = read_u32(bytes, 0, eof)?;
+    let (misc, _) = read_u16(bytes, 4, eof)?;
+    let (size, _) = read_u16(bytes, 6, eof)?;
+    read_sized_record(offset, bytes, kind, misc, size)
 }
 
 /// Returns the record of a kind and a size at the front of the bytes, and how many bytes it takes.
@@ -78,20 +144,16 @@ fn read_sized_record<'a>(
     Ok((record, end))
 }
 
-/// Returns the record at the front of the bytes, which are at an offset of the file, and how many
-/// bytes it takes.
-#[tactic(auto, unfolding(crate::specs::Records::record_at))]
-fn read_record<'a>(offset: u64, bytes: &'a [u8]) -> Result<(Record<'a>, usize), RecordingError>
-    ensures exact { MatchResult result
-        (λ read. record_at offset bytes.entry.now ≡ Ok (record_view read.0, read.1))
-        (λ error. record_at offset bytes.entry.now ≡ Err error) }
-    ensures within { IfOk result (λ read. (0 < read.1) × (read.1 ≤ length bytes.entry.now)) }
+/// Returns how many bytes after a record belong to it.
+#[tactic(auto, unfolding(crate::specs::Records::trailing_of))]
+fn trailing_size(offset: u64, kind: u32, whole: &[u8]) -> Result<u64, RecordingError>
+    ensures { result ≡ trailing_of offset kind whole.now }
 {
-    let eof = RecordingError::Eof { offset };
-    let (kind, _) = read_u32(bytes, 0, eof)?;
-    let (misc, _) = read_u16(bytes, 4, eof)?;
-    let (size, _) = read_u16(bytes, 6, eof)?;
-    read_sized_record(offset, bytes, kind, misc, size)
+    if kind != AUXTRACE {
+        return Ok(0);
+    }
+    let (trailing, _) = read_u64(whole, 8, RecordingError::BadRecordSize { offset })?;
+    Ok(trailing)
 }
 
 /// Returns the refusal after the last record, if more were to follow.
@@ -103,68 +165,4 @@ fn refusal_at_end(is_cut: bool, offset: u64) -> Option<RecordingError>
     } else {
         None
     }
-}
-
-/// Reads the records in bytes, which are at an offset of the file, and of which some may be cut off.
-fn read_run<'a>(
-    alloc: Global,
-    is_cut: bool,
-    start: u64,
-    bytes: &'a [u8],
-) -> Result<Recorded<'a>, RecordingError>
-    requires { start + length bytes.now < 2 ^ 64 }
-    ensures refused { IfErr result (λ error. error ≡ RecordingError.OutOfMemory) }
-    ensures exact { IfOk result (λ read. run_view read ≡ run_in is_cut 0 start bytes.entry.now) }
-{
-    let mut records = Vec::new(alloc);
-    let mut offset = start;
-    let mut rest = bytes;
-    while !rest.is_empty() {
-        match read_record(offset, rest) {
-            Ok((record, size)) => {
-                if records.push(record).is_err() {
-                    return Err(RecordingError::OutOfMemory);
-                }
-                offset += size as u64;
-                rest = back(rest, size as u64);
-            }
-            Err(error) => {
-                let refusal = Some(error);
-                return Ok(Recorded { records, refusal });
-            }
-        }
-    }
-    let refusal = refusal_at_end(is_cut, offset);
-    Ok(Recorded { records, refusal })
-}
-
-/// Reads the records of a section of the file, up to the first that can't be read. Of each only the
-/// header is read.
-///
-/// # Errors
-///
-/// `OutOfMemory`. The field `refusal` has the refusal of a record: `Eof` where the file or the section
-/// ends before the record does, `BadRecordSize`, and `Compressed`.
-///
-/// Source: Linux, `include/uapi/linux/perf_event.h`, `perf_event_header`;
-/// `perf.data-file-format.txt`, PERF_RECORD_AUXTRACE and PERF_RECORD_COMPRESSED;
-/// `tools/lib/perf/include/perf/event.h`, PERF_RECORD_COMPRESSED2.
-pub fn read_records<'a>(
-    alloc: Global,
-    file: &'a [u8],
-    section: Section,
-) -> Result<Recorded<'a>, RecordingError>
-    ensures refused { IfErr result (λ error. error ≡ RecordingError.OutOfMemory) }
-    ensures exact { IfOk result (λ read. run_view read ≡ run_of file.entry.now section) }
-{
-    let offset = section.offset;
-    if offset > file.len() as u64 {
-        return Ok(Recorded {
-            records: Vec::new(alloc),
-            refusal: Some(RecordingError::Eof { offset }),
-        });
-    }
-    let bytes = front(back(file, offset), section.size as usize);
-    let is_cut = (bytes.len() as u64) < section.size;
-    read_run(alloc, is_cut, offset, bytes)
 }

@@ -175,10 +175,8 @@ fn kept_symbols(alloc: Global, functions: Vec<Symbol>, names: &[u8]) -> Result<S
     ensures refused { IfErr result (λ error. error ≡ ElfError.OutOfMemory) }
 {
     let table = SymbolTable::new(functions)?;
-    match Vec::from_slice(alloc, names) {
-        Ok(names) => Ok(Symbols { table, names }),
-        Err(_) => Err(ElfError::OutOfMemory),
-    }
+    let names = Vec::from_slice(alloc, names)?;
+    Ok(Symbols { table, names })
 }
 
 /// Reads the symbols of a section, if the file has it. They count as absent where they can't be read.
@@ -225,10 +223,7 @@ fn push_symbols(
     let Some(symbols) = read_symbols(alloc, file, sections, section)? else {
         return Ok(());
     };
-    let Ok(()) = all.push(symbols) else {
-        return Err(ElfError::OutOfMemory);
-    };
-    Ok(())
+    Ok(all.push(symbols)?)
 }
 
 /// Reads the symbols of both symbol tables.
@@ -366,10 +361,7 @@ impl ObjectFile {
         let Some(symbols) = read_debug_symbols(alloc, build_id, bytes)? else {
             return Ok(());
         };
-        match self.symbols.insert(0, symbols) {
-            Ok(()) => Ok(()),
-            Err(_) => Err(ElfError::OutOfMemory),
-        }
+        Ok(self.symbols.insert(0, symbols)?)
     }
 
     /// Returns the build id of the file, or no bytes.

@@ -3,6 +3,7 @@
 use Rattle.std.specs.Prelude.{ℕ, ◌*◌, ◌==◌, nat_lt, if◌then◌else◌, List, [], ◌∷◌, Option, Some, None, Ok, Err, ℤ, pos, ◌-ℤ◌, ◌*ℤ◌}
 use Rattle.framehop_core.specs.Bits.{bits_at}
 use Rattle.framehop_cfi.specs.Numbers.{Parsed, u32_at}
+use Rattle.framehop_cfi.specs.Aarch64.{X29, SP}
 use Rattle.framehop_bytes.specs.ByCode.{by_code}
 use Rattle.framehop_code.specs.declared.effect.Base.{Base}
 use Rattle.framehop_code.specs.declared.effect.Base.TheVariants.{Sp, Fp}
@@ -16,13 +17,13 @@ use Rattle.framehop_code.specs.declared.aarch64.encoding.Class.TheVariants.{Keep
 use Rattle.framehop_code.specs.Effect.{plain, with_register}
 use Rattle.framehop_code.specs.Aarch64.Encodings.{class_of}
 
--- 31 is sp, 29 is x29; in DWARF they have these numbers too (DWARF for the Arm 64-bit Architecture, "DWARF register
--- names")
+-- the register that a field of an instruction names: 31 is sp, 29 is x29
 abbrev pub numbered : ℕ → Option Base
 numbered number = if number == 31 then Some Sp else (if number == 29 then Some Fp else None)
 
+-- the register that a number names in DWARF
 abbrev pub base_numbered : ℕ → Option Base
-base_numbered = numbered
+base_numbered number = if number == SP then Some Sp else (if number == X29 then Some Fp else None)
 
 -- ---- fields
 

@@ -5,6 +5,7 @@ use Rattle.std.specs.List.{list_any}
 use Rattle.std.specs.Int.{cast_signed, w8, w16, w32}
 use Rattle.framehop_bytes.specs.Bytes.{◌>>=◌}
 use Rattle.framehop_cfi.specs.Numbers.{Parsed, u8_at, u16_at, u32_at}
+use Rattle.framehop_cfi.specs.X86_64.{RBP, RSP}
 use Rattle.framehop_cfi.specs.declared.read_error.ReadError.{ReadError}
 use Rattle.framehop_cfi.specs.declared.read_error.ReadError.TheVariants.{Eof, UnknownInstruction}
 use Rattle.framehop_code.specs.declared.effect.Base.{Base}
@@ -23,9 +24,9 @@ use Rattle.framehop_code.specs.declared.x86_64.instruction.Parts.{Parts}
 use Rattle.framehop_code.specs.X86_64.Opcodes.{one_byte, two_byte, three_byte_38, three_byte_3a, vector}
 use Rattle.framehop_code.specs.X86_64.Operation.{effect_of}
 
--- the register that a number names in DWARF: rsp is 7, rbp is 6 (System V psABI, "DWARF Register Number Mapping")
+-- the register that a number names in DWARF
 abbrev pub base_numbered : ℕ → Option Base
-base_numbered number = if number == 7 then Some Sp else (if number == 6 then Some Fp else None)
+base_numbered number = if number == RSP then Some Sp else (if number == RBP then Some Fp else None)
 
 -- ---- prefixes
 

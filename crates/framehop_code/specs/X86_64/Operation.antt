@@ -1,6 +1,7 @@
 -- What an x86_64 instruction does to rsp and rbp, and where it leads, by its parts (Intel 64 and IA-32 Architectures
 -- Software Developer's Manual, volume 2, "Instruction Set Reference", and appendix A.4, "Opcode extensions").
-use Rattle.std.specs.Prelude.{ℕ, ◌/◌, ◌%◌, Bool, true, false, not, ◌==◌, ◌&&◌, ◌||◌, nat_le, nat_lt, if◌then◌else◌, Option, Some, None, ℤ, pos, negsuc, ◌-ℤ◌}
+use Rattle.std.specs.Prelude.{ℕ, ◌/◌, ◌%◌, Bool, true, false, not, ◌==◌, ◌&&◌, ◌||◌, nat_le, nat_lt, if◌then◌else◌, Option, Some, None, ℤ, pos, ◌-ℤ◌}
+use Rattle.framehop_bytes.specs.Minus.{minus}
 use Rattle.framehop_code.specs.declared.effect.Base.{Base}
 use Rattle.framehop_code.specs.declared.effect.Base.TheVariants.{Sp, Fp}
 use Rattle.framehop_code.specs.declared.effect.Change.{Change}
@@ -143,7 +144,7 @@ group5 parts =
     let reg = reg_of parts.address in
     if (reg == 2) || (reg == 3) then leading parts flow.Call
     else (if (reg == 4) || (reg == 5) then leading parts flow.Leaves
-    else (if reg == 6 then moving_stack parts (negsuc 7)
+    else (if reg == 6 then moving_stack parts (minus 8)
     else written parts Rm))
 
 -- LEAVE is `mov rsp, rbp` and `pop rbp`; ENTER is not told
@@ -189,7 +190,7 @@ effect_as (WriteByte operand) parts = byte_written parts operand
 effect_as (WriteIfRepeated operand) parts = written_if parts operand parts.opcode.prefixes.repeated
 effect_as (WriteIfPrefixed operand) parts = written_if parts operand (parts.opcode.prefixes.repeated || parts.opcode.prefixes.operand_size)
 effect_as (WriteUnlessRepeated operand) parts = written_if parts operand (not parts.opcode.prefixes.repeated)
-effect_as Push parts = moving_stack parts (negsuc 7)
+effect_as Push parts = moving_stack parts (minus 8)
 effect_as (Pop operand) parts = overwriting parts operand (moving_stack parts (pos 8))
 effect_as Branch parts = jumping parts true
 effect_as Jump parts = jumping parts false

@@ -1,9 +1,10 @@
 -- aarch64: a rule that a row is translated to does what the row means.
-use Rattle.std.proofs.Common.{◌≡◌, ℕ, ◌*◌, Bool, true, false, Option, Some, None, Ok, ℤ, pos, negsuc, ◌+ℤ◌, ◌*ℤ◌, ◌∙◌, ap, sym, subst, refl, arith, inl, inr, ◌==◌, ◌&&◌, List}
+use Rattle.std.proofs.Common.{◌≡◌, ℕ, ◌*◌, Bool, true, false, Option, Some, None, Ok, ℤ, pos, ◌+ℤ◌, ◌*ℤ◌, ◌∙◌, ap, sym, subst, refl, arith, inl, inr, ◌==◌, ◌&&◌, List}
 use Rattle.std.specs.Ordering.{int_eq}
 use Rattle.std.proofs.lemmas.Int.{ints}
 use Rattle.std.proofs.lemmas.Bool.{cases_Bool, and_parts, eqb-true}
 use Rattle.std.proofs.lemmas.Option.{same_Some}
+use Rattle.framehop_bytes.specs.Minus.{minus}
 use Rattle.framehop_core.specs.Memory.{Memory}
 use Rattle.framehop_core.specs.Outcome.{answered, above, beside}
 use Rattle.framehop_core.specs.Aarch64.Registers.{Registers, strip_ptr_auth}
@@ -13,6 +14,7 @@ use Rattle.framehop_core.specs.Laws.Basics.{ok-same, option_map-some}
 use Rattle.framehop_core.specs.declared.aarch64.unwind_rule.UnwindRuleAarch64.{UnwindRuleAarch64}
 use Rattle.framehop_core.specs.declared.aarch64.unwind_rule.UnwindRuleAarch64.TheVariants.{OffsetSp, OffsetSpIfFirstFrameOtherwiseStackEndsHere, OffsetSpAndRestoreLr, OffsetSpAndRestoreFpAndLr, UseFramePointer, UseFramepointerWithOffsets}
 use Rattle.framehop_cfi.specs.Row.{Row, rule_of}
+use Rattle.framehop_cfi.specs.Aarch64.{X29, SP}
 use Rattle.framehop_cfi.specs.declared.rule.Register.{Register}
 use Rattle.framehop_cfi.specs.declared.rule.CfaRule.{CfaRule}
 use Rattle.framehop_cfi.specs.declared.rule.CfaRule.TheVariants as cfa
@@ -186,21 +188,21 @@ module _ (bytes : List ℕ) (memory : Memory) (first : Bool) (old : Registers) (
       (word_from-stored memory new.sp (beside old.fp y) saved_fp new.fp
       (beside-cfa old.fp y offset saved_fp sp exact_fp) f.fp_is)
 
-  below-16 : above old.fp 16 ≡ pos new.sp → pos old.fp ≡ pos new.sp +ℤ negsuc 15
+  below-16 : above old.fp 16 ≡ pos new.sp → pos old.fp ≡ pos new.sp +ℤ minus 16
   below-16 is = omega (arith, ints, is)
 
-  below-8 : above old.fp 16 ≡ pos new.sp → above old.fp 8 ≡ pos new.sp +ℤ negsuc 7
+  below-8 : above old.fp 16 ≡ pos new.sp → above old.fp 8 ≡ pos new.sp +ℤ minus 8
   below-8 is = omega (arith, ints, is)
 
   by-frame_pointer : (register : Register) → register.0 ≡ 29 → Answers UseFramePointer
-      → Means (cfa.RegisterAndOffset register (pos 16)) (Some (rule.Offset (negsuc 15))) (Some (rule.Offset (negsuc 7)))
+      → Means (cfa.RegisterAndOffset register (pos 16)) (Some (rule.Offset (minus 16))) (Some (rule.Offset (minus 8)))
   by-frame_pointer register is e =
       let f = found (above old.fp 16) (stored_at (above old.fp 8)) (stored_at (pos old.fp)) frame_pointer_rises e in
-      made (cfa.RegisterAndOffset register (pos 16)) (Some (rule.Offset (negsuc 15))) (Some (rule.Offset (negsuc 7)))
+      made (cfa.RegisterAndOffset register (pos 16)) (Some (rule.Offset (minus 16))) (Some (rule.Offset (minus 8)))
       (above old.fp 16) (stored_at (above old.fp 8)) (stored_at (pos old.fp)) f
       (old.fp, fp-column register is, f.is_sp)
-      (word_from-stored memory new.sp (above old.fp 8) (negsuc 7) f.link (below-8 f.is_sp) f.lr_is)
-      (word_from-stored memory new.sp (pos old.fp) (negsuc 15) new.fp (below-16 f.is_sp) f.fp_is)
+      (word_from-stored memory new.sp (above old.fp 8) (minus 8) f.link (below-8 f.is_sp) f.lr_is)
+      (word_from-stored memory new.sp (pos old.fp) (minus 16) new.fp (below-16 f.is_sp) f.fp_is)
 
   -- ---- the tables
 
@@ -255,20 +257,20 @@ module _ (bytes : List ℕ) (memory : Memory) (first : Bool) (old : Registers) (
       → by_saved offset fp lr ≡ Some told → Answers told
       → Means (cfa.RegisterAndOffset register offset) (Some (rule.Offset fp)) (Some (rule.Offset lr))
   by-by_saved register offset fp lr told is tells e =
-      elim (cases_Bool (int_eq offset (pos 16) && int_eq fp (negsuc 15) && int_eq lr (negsuc 7))) [
+      elim (cases_Bool (int_eq offset (pos 16) && int_eq fp (minus 16) && int_eq lr (minus 8))) [
         | inl usual ↦
-            let outer = and_parts (int_eq offset (pos 16) && int_eq fp (negsuc 15)) (int_eq lr (negsuc 7)) usual in
-            let inner = and_parts (int_eq offset (pos 16)) (int_eq fp (negsuc 15)) outer.0 in
+            let outer = and_parts (int_eq offset (pos 16) && int_eq fp (minus 16)) (int_eq lr (minus 8)) usual in
+            let inner = and_parts (int_eq offset (pos 16)) (int_eq fp (minus 16)) outer.0 in
             let same = same_Some UseFramePointer told (rw usual at tells) in
             let o = int_same offset (pos 16) inner.0 in
-            let s = int_same fp (negsuc 15) inner.1 in
-            let l = int_same lr (negsuc 7) outer.1 in
+            let s = int_same fp (minus 16) inner.1 in
+            let l = int_same lr (minus 8) outer.1 in
             subst (λ p. Means (cfa.RegisterAndOffset register p) (Some (rule.Offset fp)) (Some (rule.Offset lr)))
             (sym o)
             (subst (λ p. Means (cfa.RegisterAndOffset register (pos 16)) (Some (rule.Offset p)) (Some (rule.Offset lr)))
             (sym s)
             (subst (λ p. Means (cfa.RegisterAndOffset register (pos 16))
-            (Some (rule.Offset (negsuc 15))) (Some (rule.Offset p)))
+            (Some (rule.Offset (minus 16))) (Some (rule.Offset p)))
             (sym l)
             (by-frame_pointer register is (subst Answers (sym same) e))))
         | inr unusual ↦
@@ -306,7 +308,7 @@ module _ (bytes : List ℕ) (memory : Memory) (first : Bool) (old : Registers) (
       → translated_by cfa_rule fp_rule lr_rule ≡ Some told → Answers told → Means cfa_rule fp_rule lr_rule
   by-translated (cfa.Expression expression) fp_rule lr_rule told tells e = cc
   by-translated (cfa.RegisterAndOffset register offset) fp_rule lr_rule told tells e =
-      elim (cases_Bool (register.0 == 31)) [
+      elim (cases_Bool (register.0 == SP)) [
         | inl sp ↦
             let f : by_sp offset fp_rule lr_rule ≡ Some told = rw sp at tells in
             let x = bind_some (units_of 16 offset) (λ units. with_lr units offset fp_rule lr_rule) told f in
@@ -314,7 +316,7 @@ module _ (bytes : List ℕ) (memory : Memory) (first : Bool) (old : Registers) (
             (units-exact 16 offset x.0 x.1) x.2 e
         | inr other ↦
             let f = rw other at tells in
-            elim (cases_Bool (register.0 == 29)) [
+            elim (cases_Bool (register.0 == X29)) [
               | inl fp ↦ by-by_fp register offset fp_rule lr_rule told (eqb-true register.0 29 fp) (rw fp at f) e
               | inr none ↦ (let g = rw none at f in cc)
             ]

@@ -5,6 +5,7 @@ use Rattle.std.specs.Ordering.{int_eq}
 use Rattle.std.proofs.lemmas.Int.{ints}
 use Rattle.std.proofs.lemmas.Bool.{cases_Bool, and_parts, eqb-true}
 use Rattle.std.proofs.lemmas.Option.{same_Some}
+use Rattle.framehop_bytes.specs.Minus.{minus}
 use Rattle.framehop_core.specs.Memory.{Memory}
 use Rattle.framehop_core.specs.Outcome.{answered, address_at, word_at, word_from, above, beside}
 use Rattle.framehop_core.specs.Laws.Basics.{ok-same, option_map-some}
@@ -15,6 +16,7 @@ use Rattle.framehop_core.specs.Laws.X86_64.{IsFinished, caller-answered}
 use Rattle.framehop_core.specs.declared.x86_64.unwind_rule.UnwindRuleX86_64.{UnwindRuleX86_64}
 use Rattle.framehop_core.specs.declared.x86_64.unwind_rule.UnwindRuleX86_64.TheVariants.{EndOfStack, OffsetSp, OffsetSpAndRestoreBp, UseFramePointer, UseFramePointerWithOffsets}
 use Rattle.framehop_cfi.specs.Row.{Row, rule_of}
+use Rattle.framehop_cfi.specs.X86_64.{RBP, RSP}
 use Rattle.framehop_cfi.specs.declared.rule.Register.{Register}
 use Rattle.framehop_cfi.specs.declared.rule.CfaRule.{CfaRule}
 use Rattle.framehop_cfi.specs.declared.rule.CfaRule.TheVariants as cfa
@@ -33,14 +35,14 @@ word_from-stored memory cfa z offset value same is =
     let at = and_then-ok (address_at z) (word_at memory) value is in
     (at.0, sym same ∙ (address_at-ok z at.0 at.1).0, word_at-ok memory at.0 value at.2)
 
-minus-8 : (cfa : ℕ) → pos cfa -ℤ pos 8 ≡ pos cfa +ℤ negsuc 7
+minus-8 : (cfa : ℕ) → pos cfa -ℤ pos 8 ≡ pos cfa +ℤ minus 8
 minus-8 cfa = omega (arith, ints)
 
 module _ (first : Bool) (memory : Memory) (old : Registers) (address : ℕ) (new : Registers) where
   -- what a rule has found: the caller's rsp, the return address below it, and rbp
   record Found (sp : ℤ) : Type 0 where
     is_sp : sp ≡ pos new.rsp
-    stored : IsStored memory new.rsp (negsuc 7) address
+    stored : IsStored memory new.rsp (minus 8) address
     is_ip : new.ip ≡ address
 
   found : (sp : ℤ) (cfa bp : ℕ) → sp ≡ pos cfa → IsFinished old (record old { rsp = cfa; rbp = bp }) memory address new
@@ -49,7 +51,7 @@ module _ (first : Bool) (memory : Memory) (old : Registers) (address : ℕ) (new
       let same : new.rsp ≡ cfa = ap (λ r. r.rsp) end.registers in
       record {
         is_sp = is ∙ ap pos (sym same);
-        stored = word_from-stored memory new.rsp (pos cfa -ℤ pos 8) (negsuc 7) address (rw same (minus-8 cfa)) end.word;
+        stored = word_from-stored memory new.rsp (pos cfa -ℤ pos 8) (minus 8) address (rw same (minus-8 cfa)) end.word;
         is_ip = ap (λ r. r.ip) end.registers;
       }
 
@@ -153,7 +155,7 @@ module _ (bytes : List ℕ) (memory : Memory) (first : Bool) (old : Registers) (
   by-offset_sp : (register : Register) (offset : ℤ) (x : ℕ) (bp_rule : Option RegisterRule) → register.0 ≡ 7
       → pos x *ℤ pos 8 ≡ offset
       → (new.rbp ≡ old.rbp → IsFramePointer (scope_of bytes None old) first memory old new.rsp bp_rule new.rbp)
-      → Answers (OffsetSp x) → Means (cfa.RegisterAndOffset register offset) bp_rule (Some (rule.Offset (negsuc 7)))
+      → Answers (OffsetSp x) → Means (cfa.RegisterAndOffset register offset) bp_rule (Some (rule.Offset (minus 8)))
   by-offset_sp register offset x bp_rule is exact keeps e =
       let f = offset_sp first memory old address new x e in
       record {
@@ -186,7 +188,7 @@ module _ (bytes : List ℕ) (memory : Memory) (first : Bool) (old : Registers) (
 
   by-restore_bp : (register : Register) (offset saved : ℤ) (x : ℕ) (y : ℤ) → register.0 ≡ 7 → pos x *ℤ pos 8 ≡ offset
       → y *ℤ pos 8 ≡ offset +ℤ saved → Answers (OffsetSpAndRestoreBp x y)
-      → Means (cfa.RegisterAndOffset register offset) (Some (rule.Offset saved)) (Some (rule.Offset (negsuc 7)))
+      → Means (cfa.RegisterAndOffset register offset) (Some (rule.Offset saved)) (Some (rule.Offset (minus 8)))
   by-restore_bp register offset saved x y is exact exact_saved e =
       let f = restore_bp first memory old address new x y e in
       let sp = sym (scaled old.rsp x offset exact) ∙ f.0.is_sp in
@@ -197,24 +199,24 @@ module _ (bytes : List ℕ) (memory : Memory) (first : Bool) (old : Registers) (
         ip = f.0.is_ip;
       }
 
-  below-16 : (cfa : ℕ) → above old.rbp 16 ≡ pos cfa → pos old.rbp ≡ pos cfa +ℤ negsuc 15
+  below-16 : (cfa : ℕ) → above old.rbp 16 ≡ pos cfa → pos old.rbp ≡ pos cfa +ℤ minus 16
   below-16 cfa is = omega (arith, ints, is)
 
   by-frame_pointer : (register : Register) → register.0 ≡ 6 → Answers UseFramePointer
-      → Means (cfa.RegisterAndOffset register (pos 16)) (Some (rule.Offset (negsuc 15))) (Some (rule.Offset (negsuc 7)))
+      → Means (cfa.RegisterAndOffset register (pos 16)) (Some (rule.Offset (minus 16))) (Some (rule.Offset (minus 8)))
   by-frame_pointer register is e =
       let f = by_frame_pointer first memory old address new e in
       record {
         cfa = (old.rbp, bp-column register is, f.0.is_sp);
         return_address = f.0.stored;
         frame_pointer =
-            inl (word_from-stored memory new.rsp (pos old.rbp) (negsuc 15) new.rbp (below-16 new.rsp f.0.is_sp) f.1);
+            inl (word_from-stored memory new.rsp (pos old.rbp) (minus 16) new.rbp (below-16 new.rsp f.0.is_sp) f.1);
         ip = f.0.is_ip;
       }
 
   by-offsets : (register : Register) (offset saved : ℤ) (x : ℕ) (y : ℤ) → register.0 ≡ 6 → pos x *ℤ pos 8 ≡ offset
       → y *ℤ pos 8 ≡ offset +ℤ saved → Answers (UseFramePointerWithOffsets x y)
-      → Means (cfa.RegisterAndOffset register offset) (Some (rule.Offset saved)) (Some (rule.Offset (negsuc 7)))
+      → Means (cfa.RegisterAndOffset register offset) (Some (rule.Offset saved)) (Some (rule.Offset (minus 8)))
   by-offsets register offset saved x y is exact exact_saved e =
       let f = by_offsets first memory old address new x y e in
       let sp = sym (scaled old.rbp x offset exact) ∙ f.0.is_sp in
@@ -228,7 +230,7 @@ module _ (bytes : List ℕ) (memory : Memory) (first : Bool) (old : Registers) (
 
   by-with_bp : (register : Register) (offset : ℤ) (x : ℕ) (bp_rule : Option RegisterRule) (told : UnwindRuleX86_64)
       → register.0 ≡ 7 → pos x *ℤ pos 8 ≡ offset → with_bp x offset bp_rule ≡ Some told → Answers told
-      → Means (cfa.RegisterAndOffset register offset) bp_rule (Some (rule.Offset (negsuc 7)))
+      → Means (cfa.RegisterAndOffset register offset) bp_rule (Some (rule.Offset (minus 8)))
   by-with_bp register offset x None told is exact tells e =
       by-offset_sp register offset x None is exact (λ kept. kept)
       (subst Answers (sym (same_Some (OffsetSp x) told tells)) e)
@@ -249,22 +251,22 @@ module _ (bytes : List ℕ) (memory : Memory) (first : Bool) (old : Registers) (
 
   by-by_bp : (register : Register) (offset : ℤ) (bp_rule : Option RegisterRule) (told : UnwindRuleX86_64)
       → register.0 ≡ 6 → by_bp offset bp_rule ≡ Some told → Answers told
-      → Means (cfa.RegisterAndOffset register offset) bp_rule (Some (rule.Offset (negsuc 7)))
+      → Means (cfa.RegisterAndOffset register offset) bp_rule (Some (rule.Offset (minus 8)))
   by-by_bp register offset None told is tells e = cc
   by-by_bp register offset (Some rule.Undefined) told is tells e = cc
   by-by_bp register offset (Some rule.SameValue) told is tells e = cc
   by-by_bp register offset (Some (rule.Offset saved)) told is tells e =
-      elim (cases_Bool (int_eq offset (pos 16) && int_eq saved (negsuc 15))) [
+      elim (cases_Bool (int_eq offset (pos 16) && int_eq saved (minus 16))) [
         | inl usual ↦
-            let tests = and_parts (int_eq offset (pos 16)) (int_eq saved (negsuc 15)) usual in
+            let tests = and_parts (int_eq offset (pos 16)) (int_eq saved (minus 16)) usual in
             let same = same_Some UseFramePointer told (rw usual at tells) in
             let o = int_same offset (pos 16) tests.0 in
-            let s = int_same saved (negsuc 15) tests.1 in
+            let s = int_same saved (minus 16) tests.1 in
             subst
-            (λ p. Means (cfa.RegisterAndOffset register p) (Some (rule.Offset saved)) (Some (rule.Offset (negsuc 7))))
+            (λ p. Means (cfa.RegisterAndOffset register p) (Some (rule.Offset saved)) (Some (rule.Offset (minus 8))))
             (sym o)
             (subst (λ p. Means (cfa.RegisterAndOffset register (pos 16))
-            (Some (rule.Offset p)) (Some (rule.Offset (negsuc 7))))
+            (Some (rule.Offset p)) (Some (rule.Offset (minus 8))))
             (sym s)
             (by-frame_pointer register is (subst Answers (sym same) e)))
         | inr unusual ↦
@@ -281,17 +283,17 @@ module _ (bytes : List ℕ) (memory : Memory) (first : Bool) (old : Registers) (
   by-by_bp register offset (Some (rule.ValExpression expression)) told is tells e = cc
 
   by-by_cfa : (cfa_rule : CfaRule) (bp_rule : Option RegisterRule) (told : UnwindRuleX86_64)
-      → by_cfa cfa_rule bp_rule ≡ Some told → Answers told → Means cfa_rule bp_rule (Some (rule.Offset (negsuc 7)))
+      → by_cfa cfa_rule bp_rule ≡ Some told → Answers told → Means cfa_rule bp_rule (Some (rule.Offset (minus 8)))
   by-by_cfa (cfa.Expression expression) bp_rule told tells e = cc
   by-by_cfa (cfa.RegisterAndOffset register offset) bp_rule told tells e =
-      elim (cases_Bool (register.0 == 7)) [
+      elim (cases_Bool (register.0 == RSP)) [
         | inl sp ↦
             let f : by_sp offset bp_rule ≡ Some told = rw sp at tells in
             let x = bind_some (units_of 8 offset) (λ words. with_bp words offset bp_rule) told f in
             by-with_bp register offset x.0 bp_rule told (eqb-true register.0 7 sp) (units-exact 8 offset x.0 x.1) x.2 e
         | inr other ↦
             let f = rw other at tells in
-            elim (cases_Bool (register.0 == 6)) [
+            elim (cases_Bool (register.0 == RBP)) [
               | inl bp ↦ by-by_bp register offset bp_rule told (eqb-true register.0 6 bp) (rw bp at f) e
               | inr none ↦ (let g = rw none at f in cc)
             ]
@@ -306,9 +308,9 @@ module _ (bytes : List ℕ) (memory : Memory) (first : Bool) (old : Registers) (
   by-translated cfa_rule bp_rule (Some rule.Undefined) told tells e = absurd (ends told tells e)
   by-translated cfa_rule bp_rule (Some rule.SameValue) told tells e = cc
   by-translated cfa_rule bp_rule (Some (rule.Offset offset)) told tells e =
-      elim (cases_Bool (int_eq offset (negsuc 7))) [
+      elim (cases_Bool (int_eq offset (minus 8))) [
         | inl usual ↦
-            let o = int_same offset (negsuc 7) usual in
+            let o = int_same offset (minus 8) usual in
             subst (λ p. Means cfa_rule bp_rule (Some (rule.Offset p))) (sym o)
             (by-by_cfa cfa_rule bp_rule told (rw usual at tells) e)
         | inr unusual ↦ (let f = rw unusual at tells in cc)

@@ -13,6 +13,7 @@ use crate::dwarf::{
     DwarfUnwinderError, DwarfUnwinding, eval_cfa_rule, eval_register_rule, units_of, words_of_sum,
 };
 use crate::evaluation::{DwarfUnwindRegs, EvaluationStorage};
+use framehop_cfi::aarch64::{SP, X29, X30};
 use framehop_cfi::read_error::ReadError;
 use framehop_cfi::row::UnwindTableRow;
 use framehop_cfi::rule::{CfaRule, Register, RegisterRule};
@@ -23,22 +24,16 @@ use framehop_core::aarch64::unwindregs::UnwindRegsAarch64;
 use framehop_core::unwind_result::UnwindResult;
 use std::alloc::Global;
 
-/// The column of fp, x29 (DWARF for the Arm 64-bit Architecture, section 4.1).
-const X29: Register = Register(29);
-
-/// The column of lr, x30.
-const X30: Register = Register(30);
-
 impl DwarfUnwindRegs for UnwindRegsAarch64 {
     ghost use Rattle.framehop_dwarf.specs.Aarch64.{column_of};
 
     ghost column = { column_of };
 
     fn get(&self, register: Register) -> Option<u64> {
-        match register.0 {
-            29 => Some(self.fp()),
-            30 => Some(self.lr()),
-            31 => Some(self.sp()),
+        match register {
+            X29 => Some(self.fp()),
+            X30 => Some(self.lr()),
+            SP => Some(self.sp()),
             _ => None,
         }
     }
@@ -107,40 +102,86 @@ fn rule_of_row<S: UnwindContextStorage>(
     translate_into_unwind_rule(*unwind_info.cfa(), fp_rule, lr_rule)
 }
 
-/// Computes the caller's registers by a row, and writes them. Returns the return address.
-#[tactic(auto, using(crate::proofs::MayTakeMemory::of_row), unfolding(crate::specs::Aarch64::direct_of))]
-fn unwind_by_row<S: UnwindContextStorage, E: EvaluationStorage, F>(
-    alloc: Global,
-    section: &[u8],
-    unwind_info: &UnwindTableRow<S>,
-    regs: &mut UnwindRegsAarch64,
-    is_first_frame: bool,
-    read_stack: &mut F,
-) -> Result<u64, DwarfUnwinderError>
-where
-    F: FnMut(u64) -> Result<u64, ()>,
-    requires { F.IsAlwaysCallable read_stack.old }
-    ensures callable { F.IsAlwaysCallable read_stack.new }
-    ensures kept { OnErr result (regs.new ≡ regs.old) }
-    ensures refused { IfErr result IsOfValues }
-    ensures unread { IfErr result (λ error. NeedsNoStack error → read_stack.new ≡ read_stack.old) }
-    ensures ascends { OnOk result (Ascends is_first_frame regs.old regs.new) }
-    ensures memory { result ≡ Err out_of_memory → (E.Stack.limit ≡ None) × (has_expression unwind_info.now ≡ true) }
-    ensures answers { Answering F.FnMut read_stack.old read_stack.new (λ memory.
-        Has (direct_of section.now E.Stack.limit memory unwind_info.now is_first_frame regs.old) result regs.new) }
+/// Returns the rule that a row is translated to, or `None` where its values are computed on the spot.
+fn translate_into_unwind_rule(
+    cfa_rule: CfaRule,
+    fp_rule: Option<RegisterRule>,
+    lr_rule: Option<RegisterRule>,
+) -> Option<UnwindRuleAarch64>
+    ensures { result ≡ translated_by cfa_rule fp_rule lr_rule }
 {
-    let fp_rule = unwind_info.register(X29);
-    let lr_rule = unwind_info.register(X30);
-    unwind_directly::<E, F>(
-        alloc,
-        section,
-        *unwind_info.cfa(),
-        fp_rule,
-        lr_rule,
-        regs,
-        is_first_frame,
-        read_stack,
-    )
+    match cfa_rule {
+        CfaRule::RegisterAndOffset { register, offset } => {
+            if register == SP {
+                return translate_by_sp(offset, fp_rule, lr_rule);
+            }
+            if register == X29 {
+                return translate_by_fp(offset, fp_rule, lr_rule);
+            }
+            None
+        }
+        CfaRule::Expression(_) => None,
+    }
+}
+
+/// Returns the rule of a row whose CFA is sp plus an offset in bytes.
+fn translate_by_sp(
+    offset: i64,
+    fp_rule: Option<RegisterRule>,
+    lr_rule: Option<RegisterRule>,
+) -> Option<UnwindRuleAarch64>
+    ensures { result ≡ by_sp offset fp_rule lr_rule }
+{
+    match units_of(16, offset) {
+        Some(sp_offset_by_16) => translate_with_lr(sp_offset_by_16, offset, fp_rule, lr_rule),
+        None => None,
+    }
+}
+
+/// Returns the rule of a row whose CFA is sp plus so many units of 16 bytes.
+fn translate_with_lr(
+    sp_offset_by_16: u16,
+    offset: i64,
+    fp_rule: Option<RegisterRule>,
+    lr_rule: Option<RegisterRule>,
+) -> Option<UnwindRuleAarch64>
+    ensures { result ≡ with_lr sp_offset_by_16 offset fp_rule lr_rule }
+{
+    let offset_sp = UnwindRuleAarch64::OffsetSp { sp_offset_by_16 };
+    let Some(lr_rule) = lr_rule else {
+        return translate_with_fp_kept(offset_sp, fp_rule);
+    };
+    match lr_rule {
+        RegisterRule::SameValue => translate_with_fp_kept(offset_sp, fp_rule),
+        RegisterRule::Undefined => {
+            let stack_ends = UnwindRuleAarch64::OffsetSpIfFirstFrameOtherwiseStackEndsHere {
+                sp_offset_by_16,
+            };
+            translate_with_fp_kept(stack_ends, fp_rule)
+        }
+        RegisterRule::Offset(lr_offset) => match words_of_sum(offset, lr_offset) {
+            Some(lr_words) => translate_with_fp(sp_offset_by_16, offset, lr_words, fp_rule),
+            None => None,
+        },
+        _ => None,
+    }
+}
+
+/// Returns a rule that keeps fp, where the row does.
+fn translate_with_fp_kept(
+    rule: UnwindRuleAarch64,
+    fp_rule: Option<RegisterRule>,
+) -> Option<UnwindRuleAarch64>
+    ensures { result ≡ with_fp_kept rule fp_rule }
+{
+    let Some(fp_rule) = fp_rule else {
+        return Some(rule);
+    };
+    match fp_rule {
+        RegisterRule::Undefined => Some(rule),
+        RegisterRule::SameValue => Some(rule),
+        _ => None,
+    }
 }
 
 /// Returns the rule of a row that saves lr so many words from sp.
@@ -176,64 +217,31 @@ fn translate_with_fp(
     }
 }
 
-/// Returns a rule that keeps fp, where the row does.
-fn translate_with_fp_kept(
-    rule: UnwindRuleAarch64,
-    fp_rule: Option<RegisterRule>,
-) -> Option<UnwindRuleAarch64>
-    ensures { result ≡ with_fp_kept rule fp_rule }
-{
-    let Some(fp_rule) = fp_rule else {
-        return Some(rule);
-    };
-    match fp_rule {
-        RegisterRule::Undefined => Some(rule),
-        RegisterRule::SameValue => Some(rule),
-        _ => None,
-    }
-}
-
-/// Returns the rule of a row whose CFA is sp plus so many units of 16 bytes.
-fn translate_with_lr(
-    sp_offset_by_16: u16,
+/// Returns the rule of a row whose CFA is fp plus an offset in bytes.
+fn translate_by_fp(
     offset: i64,
     fp_rule: Option<RegisterRule>,
     lr_rule: Option<RegisterRule>,
 ) -> Option<UnwindRuleAarch64>
-    ensures { result ≡ with_lr sp_offset_by_16 offset fp_rule lr_rule }
+    ensures { result ≡ by_fp offset fp_rule lr_rule }
 {
-    let offset_sp = UnwindRuleAarch64::OffsetSp { sp_offset_by_16 };
-    let Some(lr_rule) = lr_rule else {
-        return translate_with_fp_kept(offset_sp, fp_rule);
+    let Some(RegisterRule::Offset(fp_offset)) = fp_rule else {
+        return None;
     };
-    match lr_rule {
-        RegisterRule::SameValue => translate_with_fp_kept(offset_sp, fp_rule),
-        RegisterRule::Undefined => {
-            let stack_ends = UnwindRuleAarch64::OffsetSpIfFirstFrameOtherwiseStackEndsHere {
-                sp_offset_by_16,
-            };
-            translate_with_fp_kept(stack_ends, fp_rule)
-        }
-        RegisterRule::Offset(lr_offset) => match words_of_sum(offset, lr_offset) {
-            Some(lr_words) => translate_with_fp(sp_offset_by_16, offset, lr_words, fp_rule),
-            None => None,
-        },
-        _ => None,
-    }
+    let Some(RegisterRule::Offset(lr_offset)) = lr_rule else {
+        return None;
+    };
+    translate_saved(offset, fp_offset, lr_offset)
 }
 
-/// Returns the rule of a row whose CFA is sp plus an offset in bytes.
-fn translate_by_sp(
-    offset: i64,
-    fp_rule: Option<RegisterRule>,
-    lr_rule: Option<RegisterRule>,
-) -> Option<UnwindRuleAarch64>
-    ensures { result ≡ by_sp offset fp_rule lr_rule }
+/// Returns the same, but for the usual pair of words, which has a rule of its own.
+fn translate_saved(offset: i64, fp_offset: i64, lr_offset: i64) -> Option<UnwindRuleAarch64>
+    ensures { result ≡ by_saved offset fp_offset lr_offset }
 {
-    match units_of(16, offset) {
-        Some(sp_offset_by_16) => translate_with_lr(sp_offset_by_16, offset, fp_rule, lr_rule),
-        None => None,
+    if offset == 16 && fp_offset == -16 && lr_offset == -8 {
+        return Some(UnwindRuleAarch64::UseFramePointer);
     }
+    translate_beside_fp(offset, fp_offset, lr_offset)
 }
 
 /// Returns the rule of a row whose CFA is fp plus an offset in bytes, and which saves fp and lr at
@@ -257,80 +265,40 @@ fn translate_beside_fp(offset: i64, fp_offset: i64, lr_offset: i64) -> Option<Un
     })
 }
 
-/// Returns the same, but for the usual pair of words, which has a rule of its own.
-fn translate_saved(offset: i64, fp_offset: i64, lr_offset: i64) -> Option<UnwindRuleAarch64>
-    ensures { result ≡ by_saved offset fp_offset lr_offset }
+/// Computes the caller's registers by a row, and writes them. Returns the return address.
+#[tactic(auto, using(crate::proofs::MayTakeMemory::of_row), unfolding(crate::specs::Aarch64::direct_of))]
+fn unwind_by_row<S: UnwindContextStorage, E: EvaluationStorage, F>(
+    alloc: Global,
+    section: &[u8],
+    unwind_info: &UnwindTableRow<S>,
+    regs: &mut UnwindRegsAarch64,
+    is_first_frame: bool,
+    read_stack: &mut F,
+) -> Result<u64, DwarfUnwinderError>
+where
+    F: FnMut(u64) -> Result<u64, ()>,
+    requires { F.IsAlwaysCallable read_stack.old }
+    ensures callable { F.IsAlwaysCallable read_stack.new }
+    ensures kept { OnErr result (regs.new ≡ regs.old) }
+    ensures refused { IfErr result IsOfValues }
+    ensures unread { IfErr result (λ error. NeedsNoStack error → read_stack.new ≡ read_stack.old) }
+    ensures ascends { OnOk result (Ascends is_first_frame regs.old regs.new) }
+    ensures memory { result ≡ Err out_of_memory → (E.Stack.limit ≡ None) × (has_expression unwind_info.now ≡ true) }
+    ensures answers { Answering F.FnMut read_stack.old read_stack.new (λ memory.
+        Has (direct_of section.now E.Stack.limit memory unwind_info.now is_first_frame regs.old) result regs.new) }
 {
-    if offset == 16 && fp_offset == -16 && lr_offset == -8 {
-        return Some(UnwindRuleAarch64::UseFramePointer);
-    }
-    translate_beside_fp(offset, fp_offset, lr_offset)
-}
-
-/// Returns the rule of a row whose CFA is fp plus an offset in bytes.
-fn translate_by_fp(
-    offset: i64,
-    fp_rule: Option<RegisterRule>,
-    lr_rule: Option<RegisterRule>,
-) -> Option<UnwindRuleAarch64>
-    ensures { result ≡ by_fp offset fp_rule lr_rule }
-{
-    let Some(RegisterRule::Offset(fp_offset)) = fp_rule else {
-        return None;
-    };
-    let Some(RegisterRule::Offset(lr_offset)) = lr_rule else {
-        return None;
-    };
-    translate_saved(offset, fp_offset, lr_offset)
-}
-
-/// Returns the rule that a row is translated to, or `None` where its values are computed on the spot.
-fn translate_into_unwind_rule(
-    cfa_rule: CfaRule,
-    fp_rule: Option<RegisterRule>,
-    lr_rule: Option<RegisterRule>,
-) -> Option<UnwindRuleAarch64>
-    ensures { result ≡ translated_by cfa_rule fp_rule lr_rule }
-{
-    match cfa_rule {
-        CfaRule::RegisterAndOffset { register, offset } => {
-            if register.0 == 31 {
-                return translate_by_sp(offset, fp_rule, lr_rule);
-            }
-            if register.0 == 29 {
-                return translate_by_fp(offset, fp_rule, lr_rule);
-            }
-            None
-        }
-        CfaRule::Expression(_) => None,
-    }
-}
-
-/// Returns a value, or the register's own in a first frame where there is none.
-fn or_kept(is_first_frame: bool, value: u64, found: Option<u64>) -> Option<u64>
-    ensures { result ≡ or_kept is_first_frame value found }
-{
-    match found {
-        Some(found) => Some(found),
-        None => {
-            if is_first_frame {
-                return Some(value);
-            }
-            None
-        }
-    }
-}
-
-/// Writes the caller's registers, and returns the stripped lr.
-fn step_to(regs: &mut UnwindRegsAarch64, cfa: u64, fp: u64, lr: u64) -> u64
-    ensures step { stepped regs.old cfa fp lr ≡ Ok (result, regs.new) }
-    ensures sp { regs.new.sp ≡ cfa }
-    ensures fits { cfa < 2 ^ 64 }
-{
-    regs.set_lr(lr);
-    regs.set_sp(cfa);
-    regs.set_fp(fp);
-    regs.lr()
+    let fp_rule = unwind_info.register(X29);
+    let lr_rule = unwind_info.register(X30);
+    unwind_directly::<E, F>(
+        alloc,
+        section,
+        *unwind_info.cfa(),
+        fp_rule,
+        lr_rule,
+        regs,
+        is_first_frame,
+        read_stack,
+    )
 }
 
 /// Computes the caller's registers by a row's rules, and writes them. Returns the return address.
@@ -385,4 +353,31 @@ where
         return Err(DwarfUnwinderError::CouldNotRecoverReturnAddress);
     };
     Ok(step_to(regs, cfa, new_fp, new_lr))
+}
+
+/// Returns a value, or the register's own in a first frame where there is none.
+fn or_kept(is_first_frame: bool, value: u64, found: Option<u64>) -> Option<u64>
+    ensures { result ≡ or_kept is_first_frame value found }
+{
+    match found {
+        Some(found) => Some(found),
+        None => {
+            if is_first_frame {
+                return Some(value);
+            }
+            None
+        }
+    }
+}
+
+/// Writes the caller's registers, and returns the stripped lr.
+fn step_to(regs: &mut UnwindRegsAarch64, cfa: u64, fp: u64, lr: u64) -> u64
+    ensures step { stepped regs.old cfa fp lr ≡ Ok (result, regs.new) }
+    ensures sp { regs.new.sp ≡ cfa }
+    ensures fits { cfa < 2 ^ 64 }
+{
+    regs.set_lr(lr);
+    regs.set_sp(cfa);
+    regs.set_fp(fp);
+    regs.lr()
 }

@@ -19,17 +19,12 @@ use framehop_cfi::read_error::ReadError;
 use framehop_cfi::row::UnwindTableRow;
 use framehop_cfi::rule::{CfaRule, Register, RegisterRule};
 use framehop_cfi::storage::UnwindContextStorage;
+use framehop_cfi::x86_64::{RA, RBP, RSP};
 use framehop_core::unwind_result::UnwindResult;
 use framehop_core::x86_64::arch::ArchX86_64;
 use framehop_core::x86_64::unwind_rule::UnwindRuleX86_64;
 use framehop_core::x86_64::unwindregs::UnwindRegsX86_64;
 use std::alloc::Global;
-
-/// The column of rbp (System V ABI for AMD64, figure 3.36).
-const RBP: Register = Register(6);
-
-/// The column of the return address.
-const RA: Register = Register(16);
 
 impl DwarfUnwindRegs for UnwindRegsX86_64 {
     ghost use Rattle.framehop_dwarf.specs.X86_64.{column_of};
@@ -37,10 +32,10 @@ impl DwarfUnwindRegs for UnwindRegsX86_64 {
     ghost column = { column_of };
 
     fn get(&self, register: Register) -> Option<u64> {
-        match register.0 {
-            16 => Some(self.ip()),
-            7 => Some(self.sp()),
-            6 => Some(self.bp()),
+        match register {
+            RA => Some(self.ip()),
+            RSP => Some(self.sp()),
+            RBP => Some(self.bp()),
             _ => None,
         }
     }
@@ -108,6 +103,114 @@ fn rule_of_row<S: UnwindContextStorage>(unwind_info: &UnwindTableRow<S>) -> Opti
     translate_into_unwind_rule(*unwind_info.cfa(), bp_rule, ra_rule)
 }
 
+/// Returns the rule that a row is translated to, or `None` where its values are computed on the spot.
+fn translate_into_unwind_rule(
+    cfa_rule: CfaRule,
+    bp_rule: Option<RegisterRule>,
+    ra_rule: Option<RegisterRule>,
+) -> Option<UnwindRuleX86_64>
+    ensures exact { result ≡ translated_by cfa_rule bp_rule ra_rule }
+    ensures executable { IfSome result (λ rule. is_executable rule ≡ true) }
+{
+    let Some(ra_rule) = ra_rule else {
+        return Some(UnwindRuleX86_64::EndOfStack);
+    };
+    match ra_rule {
+        RegisterRule::Undefined => Some(UnwindRuleX86_64::EndOfStack),
+        RegisterRule::Offset(offset) => {
+            if offset != -8 {
+                return None;
+            }
+            translate_by_cfa(cfa_rule, bp_rule)
+        }
+        _ => None,
+    }
+}
+
+/// Returns the rule of a row whose return address is the word below the CFA.
+fn translate_by_cfa(cfa_rule: CfaRule, bp_rule: Option<RegisterRule>) -> Option<UnwindRuleX86_64>
+    ensures exact { result ≡ by_cfa cfa_rule bp_rule }
+    ensures executable { IfSome result (λ rule. is_executable rule ≡ true) }
+{
+    match cfa_rule {
+        CfaRule::RegisterAndOffset { register, offset } => {
+            if register == RSP {
+                return translate_by_sp(offset, bp_rule);
+            }
+            if register == RBP {
+                return translate_by_bp(offset, bp_rule);
+            }
+            None
+        }
+        CfaRule::Expression(_) => None,
+    }
+}
+
+/// Returns the rule of a row whose CFA is rsp plus an offset in bytes.
+fn translate_by_sp(offset: i64, bp_rule: Option<RegisterRule>) -> Option<UnwindRuleX86_64>
+    ensures exact { result ≡ by_sp offset bp_rule }
+    ensures executable { IfSome result (λ rule. is_executable rule ≡ true) }
+{
+    match units_of(8, offset) {
+        Some(sp_offset_by_8) => translate_with_bp(sp_offset_by_8, offset, bp_rule),
+        None => None,
+    }
+}
+
+/// Returns the rule of a row whose CFA is rsp plus a number of words.
+fn translate_with_bp(
+    sp_offset_by_8: u16,
+    offset: i64,
+    bp_rule: Option<RegisterRule>,
+) -> Option<UnwindRuleX86_64>
+    ensures exact { result ≡ with_bp sp_offset_by_8 offset bp_rule }
+    ensures executable { IfSome result (λ rule. is_executable rule ≡ true) }
+{
+    let Some(bp_rule) = bp_rule else {
+        return Some(UnwindRuleX86_64::OffsetSp { sp_offset_by_8 });
+    };
+    match bp_rule {
+        RegisterRule::Undefined => Some(UnwindRuleX86_64::OffsetSp { sp_offset_by_8 }),
+        RegisterRule::SameValue => Some(UnwindRuleX86_64::OffsetSp { sp_offset_by_8 }),
+        RegisterRule::Offset(bp_offset) => match words_of_sum(offset, bp_offset) {
+            Some(bp_storage_offset_from_sp_by_8) => Some(UnwindRuleX86_64::OffsetSpAndRestoreBp {
+                sp_offset_by_8,
+                bp_storage_offset_from_sp_by_8,
+            }),
+            None => None,
+        },
+        _ => None,
+    }
+}
+
+/// Returns the rule of a row whose CFA is rbp plus an offset in bytes.
+fn translate_by_bp(offset: i64, bp_rule: Option<RegisterRule>) -> Option<UnwindRuleX86_64>
+    ensures exact { result ≡ by_bp offset bp_rule }
+    ensures executable { IfSome result (λ rule. is_executable rule ≡ true) }
+{
+    match bp_rule {
+        Some(RegisterRule::Offset(bp_offset)) if offset == 16 && bp_offset == -16 => {
+            Some(UnwindRuleX86_64::UseFramePointer)
+        }
+        Some(RegisterRule::Offset(bp_offset)) => translate_with_offsets(offset, bp_offset),
+        _ => None,
+    }
+}
+
+/// Returns the rule of a row whose CFA is rbp plus a number of words, and that saves rbp at an offset in bytes
+/// from the CFA.
+fn translate_with_offsets(offset: i64, bp_offset: i64) -> Option<UnwindRuleX86_64>
+    ensures exact { result ≡ with_offsets offset bp_offset }
+    ensures executable { IfSome result (λ rule. is_executable rule ≡ true) }
+{
+    let sp_offset_from_bp_by_8 = units_of(8, offset)?;
+    let bp_storage_offset_from_bp_by_8 = words_of_sum(offset, bp_offset)?;
+    Some(UnwindRuleX86_64::UseFramePointerWithOffsets {
+        sp_offset_from_bp_by_8,
+        bp_storage_offset_from_bp_by_8,
+    })
+}
+
 /// Computes the caller's registers by a row, and writes them. Returns the return address.
 #[tactic(auto, using(crate::proofs::MayTakeMemory::of_row), unfolding(crate::specs::X86_64::direct_of))]
 fn unwind_by_row<S: UnwindContextStorage, E: EvaluationStorage, F>(
@@ -141,160 +244,6 @@ where
         is_first_frame,
         read_stack,
     )
-}
-
-/// Returns the rule of a row whose CFA is rsp plus a number of words.
-fn translate_with_bp(
-    sp_offset_by_8: u16,
-    offset: i64,
-    bp_rule: Option<RegisterRule>,
-) -> Option<UnwindRuleX86_64>
-    ensures exact { result ≡ with_bp sp_offset_by_8 offset bp_rule }
-    ensures executable { IfSome result (λ rule. is_executable rule ≡ true) }
-{
-    let Some(bp_rule) = bp_rule else {
-        return Some(UnwindRuleX86_64::OffsetSp { sp_offset_by_8 });
-    };
-    match bp_rule {
-        RegisterRule::Undefined => Some(UnwindRuleX86_64::OffsetSp { sp_offset_by_8 }),
-        RegisterRule::SameValue => Some(UnwindRuleX86_64::OffsetSp { sp_offset_by_8 }),
-        RegisterRule::Offset(bp_offset) => match words_of_sum(offset, bp_offset) {
-            Some(bp_storage_offset_from_sp_by_8) => Some(UnwindRuleX86_64::OffsetSpAndRestoreBp {
-                sp_offset_by_8,
-                bp_storage_offset_from_sp_by_8,
-            }),
-            None => None,
-        },
-        _ => None,
-    }
-}
-
-/// Returns the rule of a row whose CFA is rsp plus an offset in bytes.
-fn translate_by_sp(offset: i64, bp_rule: Option<RegisterRule>) -> Option<UnwindRuleX86_64>
-    ensures exact { result ≡ by_sp offset bp_rule }
-    ensures executable { IfSome result (λ rule. is_executable rule ≡ true) }
-{
-    match units_of(8, offset) {
-        Some(sp_offset_by_8) => translate_with_bp(sp_offset_by_8, offset, bp_rule),
-        None => None,
-    }
-}
-
-/// Returns the rule of a row whose CFA is rbp plus a number of words, and that saves rbp at an offset in bytes
-/// from the CFA.
-fn translate_with_offsets(offset: i64, bp_offset: i64) -> Option<UnwindRuleX86_64>
-    ensures exact { result ≡ with_offsets offset bp_offset }
-    ensures executable { IfSome result (λ rule. is_executable rule ≡ true) }
-{
-    let sp_offset_from_bp_by_8 = units_of(8, offset)?;
-    let bp_storage_offset_from_bp_by_8 = words_of_sum(offset, bp_offset)?;
-    Some(UnwindRuleX86_64::UseFramePointerWithOffsets {
-        sp_offset_from_bp_by_8,
-        bp_storage_offset_from_bp_by_8,
-    })
-}
-
-/// Returns the rule of a row whose CFA is rbp plus an offset in bytes.
-fn translate_by_bp(offset: i64, bp_rule: Option<RegisterRule>) -> Option<UnwindRuleX86_64>
-    ensures exact { result ≡ by_bp offset bp_rule }
-    ensures executable { IfSome result (λ rule. is_executable rule ≡ true) }
-{
-    match bp_rule {
-        Some(RegisterRule::Offset(bp_offset)) if offset == 16 && bp_offset == -16 => {
-            Some(UnwindRuleX86_64::UseFramePointer)
-        }
-        Some(RegisterRule::Offset(bp_offset)) => translate_with_offsets(offset, bp_offset),
-        _ => None,
-    }
-}
-
-/// Returns the rule of a row whose return address is the word below the CFA.
-fn translate_by_cfa(cfa_rule: CfaRule, bp_rule: Option<RegisterRule>) -> Option<UnwindRuleX86_64>
-    ensures exact { result ≡ by_cfa cfa_rule bp_rule }
-    ensures executable { IfSome result (λ rule. is_executable rule ≡ true) }
-{
-    match cfa_rule {
-        CfaRule::RegisterAndOffset { register, offset } => {
-            if register.0 == 7 {
-                return translate_by_sp(offset, bp_rule);
-            }
-            if register.0 == 6 {
-                return translate_by_bp(offset, bp_rule);
-            }
-            None
-        }
-        CfaRule::Expression(_) => None,
-    }
-}
-
-/// Returns the rule that a row is translated to, or `None` where its values are computed on the spot.
-fn translate_into_unwind_rule(
-    cfa_rule: CfaRule,
-    bp_rule: Option<RegisterRule>,
-    ra_rule: Option<RegisterRule>,
-) -> Option<UnwindRuleX86_64>
-    ensures exact { result ≡ translated_by cfa_rule bp_rule ra_rule }
-    ensures executable { IfSome result (λ rule. is_executable rule ≡ true) }
-{
-    let Some(ra_rule) = ra_rule else {
-        return Some(UnwindRuleX86_64::EndOfStack);
-    };
-    match ra_rule {
-        RegisterRule::Undefined => Some(UnwindRuleX86_64::EndOfStack),
-        RegisterRule::Offset(offset) => {
-            if offset != -8 {
-                return None;
-            }
-            translate_by_cfa(cfa_rule, bp_rule)
-        }
-        _ => None,
-    }
-}
-
-/// Returns the return address, which is the word below the CFA where its rule gives none.
-fn or_word_below<F: FnMut(u64) -> Result<u64, ()>>(
-    saved: Option<u64>,
-    cfa: u64,
-    read_stack: &mut F,
-) -> Option<u64>
-    requires { F.IsAlwaysCallable read_stack.old }
-    ensures callable { F.IsAlwaysCallable read_stack.new }
-    ensures answers { Answering F.FnMut read_stack.old read_stack.new (λ memory. result ≡ or_below saved (below memory cfa)) }
-{
-    if saved.is_some() {
-        return saved;
-    }
-    if cfa < 8 {
-        return None;
-    }
-    read_word(read_stack, cfa - 8)
-}
-
-/// Writes the caller's registers, and returns its code address; the same frame and one below it are
-/// refused.
-fn step_to(
-    is_first_frame: bool,
-    regs: &mut UnwindRegsX86_64,
-    cfa: u64,
-    new_bp: u64,
-    return_address: u64,
-) -> Result<u64, DwarfUnwinderError>
-    ensures kept { OnErr result (regs.new ≡ regs.old) }
-    ensures refused { IfErr result IsOfValues }
-    ensures late { IfErr result (λ error. NeedsNoStack error → ⊥) }
-    ensures memory { result ≢ Err out_of_memory }
-    ensures answers { Has (stepped is_first_frame regs.old cfa new_bp return_address) result regs.new }
-{
-    if cfa == regs.sp() && return_address == regs.ip() {
-        return Err(DwarfUnwinderError::DidNotAdvance);
-    }
-    if !is_first_frame && cfa < regs.sp() {
-        return Err(DwarfUnwinderError::StackPointerMovedBackwards);
-    }
-    regs.set_ip(return_address);
-    regs.set_sp(cfa);
-    regs.set_bp(new_bp);
-    Ok(return_address)
 }
 
 /// Computes the caller's registers by a row's rules, and writes them. Returns the return address.
@@ -348,4 +297,50 @@ where
         saved_bp.unwrap_or(bp),
         return_address,
     )
+}
+
+/// Returns the return address, which is the word below the CFA where its rule gives none.
+fn or_word_below<F: FnMut(u64) -> Result<u64, ()>>(
+    saved: Option<u64>,
+    cfa: u64,
+    read_stack: &mut F,
+) -> Option<u64>
+    requires { F.IsAlwaysCallable read_stack.old }
+    ensures callable { F.IsAlwaysCallable read_stack.new }
+    ensures answers { Answering F.FnMut read_stack.old read_stack.new (λ memory. result ≡ or_below saved (below memory cfa)) }
+{
+    if saved.is_some() {
+        return saved;
+    }
+    if cfa < 8 {
+        return None;
+    }
+    read_word(read_stack, cfa - 8)
+}
+
+/// Writes the caller's registers, and returns its code address; the same frame and one below it are
+/// refused.
+fn step_to(
+    is_first_frame: bool,
+    regs: &mut UnwindRegsX86_64,
+    cfa: u64,
+    new_bp: u64,
+    return_address: u64,
+) -> Result<u64, DwarfUnwinderError>
+    ensures kept { OnErr result (regs.new ≡ regs.old) }
+    ensures refused { IfErr result IsOfValues }
+    ensures late { IfErr result (λ error. NeedsNoStack error → ⊥) }
+    ensures memory { result ≢ Err out_of_memory }
+    ensures answers { Has (stepped is_first_frame regs.old cfa new_bp return_address) result regs.new }
+{
+    if cfa == regs.sp() && return_address == regs.ip() {
+        return Err(DwarfUnwinderError::DidNotAdvance);
+    }
+    if !is_first_frame && cfa < regs.sp() {
+        return Err(DwarfUnwinderError::StackPointerMovedBackwards);
+    }
+    regs.set_ip(return_address);
+    regs.set_sp(cfa);
+    regs.set_bp(new_bp);
+    Ok(return_address)
 }

@@ -2,7 +2,7 @@ use Rattle.std.proofs.Common.{◌<◌, ◌∙◌, suc, [], ◌∷◌, length, le
 use Rattle.framehop_cfi.specs.Section.{Section}
 use Rattle.framehop_dwarf.specs.Index.{pair_of_key, no_memory}
 use Rattle.framehop_dwarf.proofs.Lengths.{refused-length, after-length}
-use Rattle.framehop_dwarf.proofs.Walk.{span-refused, past-other, past-fde, begins, pushed, keyed, offset-small}
+use Rattle.framehop_dwarf.proofs.Walk.{extent-refused, past-other, past-fde, begins, pushed, keyed, offset-small}
 use Rattle.framehop_dwarf.proofs.index.read_keys.Goals as goal
 
 pub loop-at-init : goal.loop-at-init
@@ -18,7 +18,7 @@ returns-in-Err-clause-first c =
     let bytes = ap (λ (s : Section). s.bytes) c.section.view_is in
     let inside = rw bytes at c.loop-at-test.true in
     let read = rw bytes at c.in-Err.ensures.exact in
-    λ kept. sym inv.2 ∙ span-refused c.args.section.now c.args.base_svma (map pair_of_key c.loop-at.keys.items) inv.0 c.loop-at.at c.in-Err.error (inv.1, inside) (sym read)
+    λ kept. sym inv.2 ∙ extent-refused c.args.section.now c.args.base_svma (map pair_of_key c.loop-at.keys.items) inv.0 c.loop-at.at c.in-Err.error (inv.1, inside) (sym read)
 
 pub returns-in-Err-clause-lengths : goal.returns-in-Err-clause-lengths
 returns-in-Err-clause-lengths c = refused-length _ c.loop-at.at c.in-Err.error (sym c.in-Err.ensures.exact)
@@ -35,9 +35,9 @@ loop-at-preserved c =
     let within = c.in-Ok.ensures.within in
     let behind = within.behind in
     let ordered = within.ordered in
-    let further : c.loop-at.at < c.in-Ok.span.end = omega arith in
+    let further : c.loop-at.at < c.in-Ok.extent.end = omega arith in
     let some = sym c.is_zero_length.ensures ∙ c.if-is_zero_length.false in
-    let on = past-other c.args.section.now c.args.base_svma (map pair_of_key c.loop-at.keys.items) inv.0 c.loop-at.at c.in-Ok.span (inv.1, inside) further (sym read) some (sym c.visit_entry.ensures.exact ∙ c.in-None.is) in
+    let on = past-other c.args.section.now c.args.base_svma (map pair_of_key c.loop-at.keys.items) inv.0 c.loop-at.at c.in-Ok.extent (inv.1, inside) further (sym read) some (sym c.visit_entry.ensures.exact ∙ c.in-None.is) in
     record {
       known = c.visit_entry.ensures.known;
       few = (let so = c.loop-at.invariant.few.0 in omega arith, c.loop-at.invariant.few.1);
@@ -53,13 +53,13 @@ loop-at-preserved-else-is_err c =
     let within = c.in-Ok.ensures.within in
     let behind = within.behind in
     let ordered = within.ordered in
-    let further : c.loop-at.at < c.in-Ok.span.end = omega arith in
+    let further : c.loop-at.at < c.in-Ok.extent.end = omega arith in
     let some = sym c.is_zero_length.ensures ∙ c.if-is_zero_length.false in
-    let on = past-fde c.args.section.now c.args.base_svma (map pair_of_key c.loop-at.keys.items) inv.0 c.loop-at.at c.in-Ok.span c.in-Some.pair (inv.1, inside) further (sym read) some (sym c.visit_entry.ensures.exact ∙ c.in-Some.is) in
+    let on = past-fde c.args.section.now c.args.base_svma (map pair_of_key c.loop-at.keys.items) inv.0 c.loop-at.at c.in-Ok.extent c.in-Some.pair (inv.1, inside) further (sym read) some (sym c.visit_entry.ensures.exact ∙ c.in-Some.is) in
     let all = pushed c.push.result _ _ _ (sym c.is_err.ensures.value ∙ c.if-is_err.false) c.push.ensures.items in
     let long = ap length all ∙ length-append c.loop-at.keys.items (c.key_of.result ∷ []) in
     let so = c.loop-at.invariant.few.0 in
-    let past = after-length c.args.section.now.bytes c.loop-at.at c.in-Ok.span (sym read) in
+    let past = after-length c.args.section.now.bytes c.loop-at.at c.in-Ok.extent (sym read) in
     let at_small = offset-small c.args.section.now c.args.base_svma c.loop-at.at c.in-Some.pair (sym c.visit_entry.ensures.exact ∙ c.in-Some.is) in
     record {
       known = c.visit_entry.ensures.known;

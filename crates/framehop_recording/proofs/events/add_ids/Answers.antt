@@ -13,6 +13,6 @@ loop-id-preserved c =
     let within : l.at + 8 ≤ length ids = there.0 in (
       omega (arith, within),
       λ id. id-entered _ l.at (length ids) _ _ _ _ within (l.invariant.1 id)
-          (c.in-Ok.ensures.updates.0 id
+          (c.in_ok-insert.ensures.updates.0 id
           ∙ ap (λ same. cond same (Some c.args.event) (get nat_cmp l.by_id id)) (unsigned_tied c.in-Some.id id ∙ ap (λ word. word == id) (sym there.1))),
     )

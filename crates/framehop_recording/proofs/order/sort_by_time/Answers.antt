@@ -4,7 +4,7 @@ use Rattle.framehop_recording.proofs.order.sort_by_time.Goals as goal
 
 pub returns-clause-ordered : goal.returns-clause-ordered
 returns-clause-ordered c = (
-  c.in-Ok.ensures.permutation,
-  c.in-Ok.ensures.sorted (λ r. r.time) (answers_always _ _ _ (λ f a r g h. search rules)),
-  c.in-Ok.ensures.stable (λ r. r.time) (answers_always _ _ _ (λ f a r g h. search rules)),
+  c.in_ok-sort_by_key.ensures.permutation,
+  c.in_ok-sort_by_key.ensures.sorted (λ r. r.time) (answers_always _ _ _ (λ f a r g h. search rules)),
+  c.in_ok-sort_by_key.ensures.stable (λ r. r.time) (answers_always _ _ _ (λ f a r g h. search rules)),
 )

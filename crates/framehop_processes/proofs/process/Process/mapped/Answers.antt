@@ -4,10 +4,11 @@ use Rattle.std.proofs.lemmas.Result.{err_from_is_err_and}
 use Rattle.framehop.specs.Modules.{ModuleView, UnwinderView}
 use Rattle.framehop_processes.specs.declared.mapping.Mapping.{Mapping}
 use Rattle.framehop_processes.specs.Mappings.{IsInOrder, below, above, with_mapping, mapped_at, overlapped, changed_modules}
+use Rattle.framehop_processes.specs.declared.error.ProcessesError.TheVariants.{GenerationsExhausted}
 use Rattle.framehop_processes.specs.Process.{ProcessView, StartsAt}
 use Rattle.framehop_processes.proofs.MappingLemmas.{with_mapping-order, whole-parts, mapped-parts, overlapped-middle}
 use Rattle.framehop_processes.proofs.AddressLemmas.{mapped-by_address}
-use Rattle.framehop_processes.proofs.process.Process.map.Goals as goal
+use Rattle.framehop_processes.proofs.process.Process.mapped.Goals as goal
 
 -- how many modules change, by the mappings that are overlapped
 changed-is : (new : Mapping) (ms middle changed : List Mapping) → overlapped new ms ≡ middle → changed ≡ with_mapping new middle → changed_modules new ms ≡ length middle + length changed
@@ -22,8 +23,8 @@ some-change new middle changed are =
     let same = ap length are in
     omega (arith, count, same)
 
-pub invariant_of-self : goal.invariant_of-self
-invariant_of-self g c =
+pub invariant_of-result : goal.invariant_of-result
+invariant_of-result g c =
     let new = c.args.mapping in
     let ms = c.as_slice.result.now in
     let first = c.split_ending_by.ensures in
@@ -69,7 +70,7 @@ returns-clause-by_address g c address =
     c.split_starting_below.result.0.now c.split_starting_below.result.1.now first.whole first.before last.whole
     last.after order
     ∙ ap (with_mapping new) same in
-    ap (mapped_at address) all ∙ mapped-by_address address new c.args.self.now.mappings c.if-mapping.false
+    ap (mapped_at address) all ∙ mapped-by_address address new c.args.self.mappings c.if-mapping.false
 
 pub returns-clause-served : goal.returns-clause-served
 returns-clause-served g c =
@@ -90,8 +91,7 @@ returns-clause-served g c =
     let mapped = mapped-parts new some ms before rest middle after first.whole first.before last.whole last.after order in
     let added = c.as_slice-3.ensures.value ∙ c.in_ok-changed.ensures in
     let all = ap (λ (l : List Mapping). before ++ (l ++ after)) added ∙ mapped in
-    let copied = g.met.U.ProcessUnwinder.clone_is_same c.self.inside.unwinder c.in_ok-unwinder.unwinder c.in_ok-unwinder.ensures.cases in
-    let unwinder = copied ∙ ap (λ (p : ProcessView). p.unwinder) c.self.view_is in
+    let unwinder = ap (λ (p : ProcessView). p.unwinder) c.self.view_is in
     let modules = ap (λ (u : UnwinderView). u.modules) unwinder ∙ c.requires ∙ ap (map module_of) (sym same ∙ whole) in
     let removed = c.in_ok-remove_modules.ensures.removed module_of starts before after (subst (λ (l : List Mapping). IsInOrder 0 l) whole order) modules in
     let in_order = subst (λ (l : List Mapping). IsInOrder 0 l) (sym all) (with_mapping-order new ms some order) in
@@ -116,8 +116,7 @@ returns-clause-counted g c =
     let order = subst (λ (l : List Mapping). IsInOrder 0 l) (sym c.as_slice.ensures.value) c.self.invariant in
     let same = c.as_slice.ensures.value ∙ ap (λ (p : ProcessView). p.mappings) c.self.view_is in
     let whole = whole-parts new some ms before rest middle after first.whole first.before last.whole last.after order in
-    let copied = g.met.U.ProcessUnwinder.clone_is_same c.self.inside.unwinder c.in_ok-unwinder.unwinder c.in_ok-unwinder.ensures.cases in
-    let unwinder = copied ∙ ap (λ (p : ProcessView). p.unwinder) c.self.view_is in
+    let unwinder = ap (λ (p : ProcessView). p.unwinder) c.self.view_is in
     let modules = ap (λ (u : UnwinderView). u.modules) unwinder ∙ c.requires ∙ ap (map module_of) (sym same ∙ whole) in
     let removed = c.in_ok-remove_modules.ensures.removed module_of starts before after (subst (λ (l : List Mapping). IsInOrder 0 l) whole order) modules in
     let added = c.as_slice-3.ensures.value ∙ c.in_ok-changed.ensures in
@@ -146,8 +145,7 @@ returns-in_err-remove_modules-clause-exhausted g c is =
     let order = subst (λ (l : List Mapping). IsInOrder 0 l) (sym c.as_slice.ensures.value) c.self.invariant in
     let same = c.as_slice.ensures.value ∙ ap (λ (p : ProcessView). p.mappings) c.self.view_is in
     let whole = whole-parts new some ms before rest middle after first.whole first.before last.whole last.after order in
-    let copied = g.met.U.ProcessUnwinder.clone_is_same c.self.inside.unwinder c.in_ok-unwinder.unwinder c.in_ok-unwinder.ensures.cases in
-    let unwinder = copied ∙ ap (λ (p : ProcessView). p.unwinder) c.self.view_is in
+    let unwinder = ap (λ (p : ProcessView). p.unwinder) c.self.view_is in
     let modules = ap (λ (u : UnwinderView). u.modules) unwinder ∙ c.requires ∙ ap (map module_of) (sym same ∙ whole) in
     let count = ap (changed_modules new) (sym same) ∙ changed-is new ms middle c.in_ok-changed.changed.items
     (overlapped-middle new some ms before rest middle after first.whole first.before last.whole last.after order)
@@ -172,8 +170,7 @@ returns-in_err-add_modules-clause-exhausted g c is =
     let order = subst (λ (l : List Mapping). IsInOrder 0 l) (sym c.as_slice.ensures.value) c.self.invariant in
     let same = c.as_slice.ensures.value ∙ ap (λ (p : ProcessView). p.mappings) c.self.view_is in
     let whole = whole-parts new some ms before rest middle after first.whole first.before last.whole last.after order in
-    let copied = g.met.U.ProcessUnwinder.clone_is_same c.self.inside.unwinder c.in_ok-unwinder.unwinder c.in_ok-unwinder.ensures.cases in
-    let unwinder = copied ∙ ap (λ (p : ProcessView). p.unwinder) c.self.view_is in
+    let unwinder = ap (λ (p : ProcessView). p.unwinder) c.self.view_is in
     let modules = ap (λ (u : UnwinderView). u.modules) unwinder ∙ c.requires ∙ ap (map module_of) (sym same ∙ whole) in
     let removed = c.in_ok-remove_modules.ensures.removed module_of starts before after (subst (λ (l : List Mapping). IsInOrder 0 l) whole order) modules in
     let gone = removed.1 in
@@ -181,6 +178,8 @@ returns-in_err-add_modules-clause-exhausted g c is =
     (overlapped-middle new some ms before rest middle after first.whole first.before last.whole last.after order)
     (c.as_slice-3.ensures.value ∙ c.in_ok-changed.ensures) in
     let p = err_from_is_err_and c.from_residual-in_err-add_modules.result c.from_residual-in_err-add_modules.ensures.1 in
-    let ended = c.in_err-add_modules.ensures.exhausted (sym (p.1 ∙ ap (λ error. Err error) p.2) ∙ is) in
+    let same = sym (p.1 ∙ ap (λ error. Err error) p.2) ∙ is in
+    let same_error : c.in_err-add_modules.field-0.0 ≡ GenerationsExhausted = cc in
+    let ended = c.in_err-add_modules.ensures.exhausted (ap (λ error. Err error) same_error) in
     let short = ended.1 in
     (ended.0, omega (arith, count, gone, short))

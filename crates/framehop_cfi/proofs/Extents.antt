@@ -23,41 +23,41 @@ pub bind_ok : {A B E : Type 0} (r : Result A E) (f : A → Result B E) (y : B) �
 bind_ok (Ok x) f y is = (x, refl, is)
 bind_ok (Err e) f y is = cc
 
--- a span lies in the bytes, after its offset
-pub record Within (bytes : List ℕ) (at : ℕ) (span : EntryExtent) : Type 0 where
-  pub behind : at < span.contents
-  pub ordered : span.contents ≤ span.end
-  pub inside : span.end ≤ length bytes
+-- an extent lies in the bytes, after its offset
+pub record Within (bytes : List ℕ) (at : ℕ) (extent : EntryExtent) : Type 0 where
+  pub behind : at < extent.contents
+  pub ordered : extent.contents ≤ extent.end
+  pub inside : extent.end ≤ length bytes
 
-one-span : (a b : EntryExtent) → ◌≡◌ {A = Result EntryExtent ReadError} (Ok a) (Ok b) → a ≡ b
-one-span a b is = cc
+one-extent : (a b : EntryExtent) → ◌≡◌ {A = Result EntryExtent ReadError} (Ok a) (Ok b) → a ≡ b
+one-extent a b is = cc
 
-held-within : (bytes : List ℕ) (at size contents len : ℕ) (span : EntryExtent) → at < contents → held bytes size contents len ≡ Ok span → Within bytes at span
-held-within bytes at size contents len span past is =
+held-within : (bytes : List ℕ) (at size contents len : ℕ) (extent : EntryExtent) → at < contents → held bytes size contents len ≡ Ok extent → Within bytes at extent
+held-within bytes at size contents len extent past is =
     elim (cases_lt (length bytes) (contents + len)) [
       | inl beyond ↦ (let e = rw (lt-leb (contents + len) (length bytes) beyond) at is in cc)
       | inr fits ↦
           let e = rw (le-leb (contents + len) (length bytes) fits) at is in
           let made : EntryExtent = record { contents = contents; end = contents + len; offset_size = size } in
           let all : Within bytes at made = record { behind = past; ordered = omega arith; inside = fits } in
-          subst (λ s. Within bytes at s) (one-span made span e) all
+          subst (λ s. Within bytes at s) (one-extent made extent e) all
     ]
 
-pub span-within : (bytes : List ℕ) (at : ℕ) (span : EntryExtent) → extent_at bytes at ≡ Ok span → Within bytes at span
+pub extent-within : (bytes : List ℕ) (at : ℕ) (extent : EntryExtent) → extent_at bytes at ≡ Ok extent → Within bytes at extent
 unfolding extent_at long_extent
-span-within bytes at span is =
-    let short = bind_ok (u32_at bytes at) _ span is in
+extent-within bytes at extent is =
+    let short = bind_ok (u32_at bytes at) _ extent is in
     let past : at < short.0.1 = rw short.1 at (u32-reaches bytes at) in
     elim (cases_Bool (ltb short.0.0 0xFFFFFFF0)) [
-      | inl small ↦ held-within bytes at 4 short.0.1 short.0.0 span past (rw small at short.2)
+      | inl small ↦ held-within bytes at 4 short.0.1 short.0.0 extent past (rw small at short.2)
       | inr large ↦
           let e = rw large at short.2 in
           elim (cases_Bool (short.0.0 == 0xFFFFFFFF)) [
             | inl long ↦
                 let f = rw long at e in
-                let read = bind_ok (u64_at bytes short.0.1) _ span f in
+                let read = bind_ok (u64_at bytes short.0.1) _ extent f in
                 let further : short.0.1 < read.0.1 = rw read.1 at (u64-reaches bytes short.0.1) in
-                held-within bytes at 8 read.0.1 read.0.0 span (omega arith) read.2
+                held-within bytes at 8 read.0.1 read.0.0 extent (omega arith) read.2
             | inr reserved ↦ (let f = rw reserved at e in cc)
           ]
     ]
@@ -65,44 +65,44 @@ span-within bytes at span is =
 one-head : (a b : EntryHead) (end : ℕ) → ◌≡◌ {A = Result EntryHead ReadError} (Ok a) (Ok b) → end_of a ≡ end → end_of b ≡ end
 one-head a b end is there = let e : a ≡ b = cc in subst (λ h. end_of h ≡ end) e there
 
--- an entry ends where its span does
-module _ (bytes : List ℕ) (span : EntryExtent) (head : EntryHead) where
-  eh-frame-ends : eh_frame_id bytes span ≡ Ok head → end_of head ≡ span.end
+-- an entry ends where its extent does
+module _ (bytes : List ℕ) (extent : EntryExtent) (head : EntryHead) where
+  eh-frame-ends : eh_frame_id bytes extent ≡ Ok head → end_of head ≡ extent.end
   unfolding eh_frame_id
   eh-frame-ends is =
-      let id = bind_ok (u32_at bytes span.contents) _ head is in
+      let id = bind_ok (u32_at bytes extent.contents) _ head is in
       elim (cases_Bool (id.0.0 == 0)) [
-        | inl cie ↦ one-head (Cie id.0.1 span.end) head span.end (rw cie at id.2) refl
+        | inl cie ↦ one-head (Cie id.0.1 extent.end) head extent.end (rw cie at id.2) refl
         | inr fde ↦
             let e = rw fde at id.2 in
-            elim (cases_Bool (leb id.0.0 span.contents)) [
-              | inl near ↦ one-head (Fde (span.contents - id.0.0) id.0.1 span.end) head span.end (rw near at e) refl
+            elim (cases_Bool (leb id.0.0 extent.contents)) [
+              | inl near ↦ one-head (Fde (extent.contents - id.0.0) id.0.1 extent.end) head extent.end (rw near at e) refl
               | inr far ↦ (let f = rw far at e in cc)
             ]
       ]
 
-  short-ends : short_id bytes span ≡ Ok head → end_of head ≡ span.end
+  short-ends : short_id bytes extent ≡ Ok head → end_of head ≡ extent.end
   unfolding short_id
   short-ends is =
-      let id = bind_ok (u32_at bytes span.contents) _ head is in
+      let id = bind_ok (u32_at bytes extent.contents) _ head is in
       elim (cases_Bool (id.0.0 == 0xFFFFFFFF)) [
-        | inl cie ↦ one-head (Cie id.0.1 span.end) head span.end (rw cie at id.2) refl
-        | inr fde ↦ one-head (Fde id.0.0 id.0.1 span.end) head span.end (rw fde at id.2) refl
+        | inl cie ↦ one-head (Cie id.0.1 extent.end) head extent.end (rw cie at id.2) refl
+        | inr fde ↦ one-head (Fde id.0.0 id.0.1 extent.end) head extent.end (rw fde at id.2) refl
       ]
 
-  long-ends : long_id bytes span ≡ Ok head → end_of head ≡ span.end
+  long-ends : long_id bytes extent ≡ Ok head → end_of head ≡ extent.end
   unfolding long_id
   long-ends is =
-      let id = bind_ok (u64_at bytes span.contents) _ head is in
+      let id = bind_ok (u64_at bytes extent.contents) _ head is in
       elim (cases_Bool (id.0.0 == 0xFFFFFFFFFFFFFFFF)) [
-        | inl cie ↦ one-head (Cie id.0.1 span.end) head span.end (rw cie at id.2) refl
-        | inr fde ↦ one-head (Fde id.0.0 id.0.1 span.end) head span.end (rw fde at id.2) refl
+        | inl cie ↦ one-head (Cie id.0.1 extent.end) head extent.end (rw cie at id.2) refl
+        | inr fde ↦ one-head (Fde id.0.0 id.0.1 extent.end) head extent.end (rw fde at id.2) refl
       ]
 
-  pub id-ends : (kind : UnwindSectionType) → id_at kind bytes span ≡ Ok head → end_of head ≡ span.end
+  pub id-ends : (kind : UnwindSectionType) → id_at kind bytes extent ≡ Ok head → end_of head ≡ extent.end
   id-ends EhFrame is = eh-frame-ends is
   id-ends DebugFrame is =
-      elim (cases_Bool (span.offset_size == 4)) [
+      elim (cases_Bool (extent.offset_size == 4)) [
         | inl short ↦ short-ends (rw short at is)
         | inr long ↦ long-ends (rw long at is)
       ]
