@@ -3,3 +3,4 @@ pub mod GatherLemmas
 pub mod NoteLemmas
 pub mod ThreadLemmas
 pub mod FileLemmas
+mod VectorLemmas

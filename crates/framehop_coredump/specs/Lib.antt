@@ -10,4 +10,5 @@ pub mod Thread
 pub mod Registers
 pub mod MappedFile
 pub mod Process
+pub mod AuxiliaryVector
 pub mod Memory

@@ -1,5 +1,5 @@
 -- The numbers of the format, under the names of their sources: the System V gABI, Linux's include/uapi/linux/elf.h and
--- elf-em.h, and include/linux/elfcore.h. Sizes and places of fields are in bytes.
+-- elf-em.h and auxvec.h, and include/linux/elfcore.h. Sizes and places of fields are in bytes.
 use Rattle.std.specs.Prelude.{ℕ, List, [], ◌∷◌}
 
 -- e_type and e_machine
@@ -26,8 +26,15 @@ NT_PRSTATUS = 1
 abbrev pub NT_PRPSINFO : ℕ
 NT_PRPSINFO = 3
 
+abbrev pub NT_AUXV : ℕ
+NT_AUXV = 6
+
 abbrev pub NT_FILE : ℕ
 NT_FILE = 0x46494c45
+
+-- a_type of the entry of the auxiliary vector that has where the vdso begins
+abbrev pub AT_SYSINFO_EHDR : ℕ
+AT_SYSINFO_EHDR = 33
 
 abbrev pub NT_ARM_PAC_MASK : ℕ
 NT_ARM_PAC_MASK = 0x406

@@ -2,6 +2,7 @@
 //! that is gone. Each reader is given the bytes of the whole file and lends from them.
 #![tactic(auto)]
 
+pub mod auxiliary_vector;
 pub mod core_file;
 pub mod error;
 pub mod mapped_file;

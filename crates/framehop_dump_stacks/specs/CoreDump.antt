@@ -1,10 +1,11 @@
 -- What a core file says of a process (gABI, chapter 5, "Program Loading"; `core(5)`).
 -- Which code may be executed: gABI, chapter 5, "Program Header", p_flags.
-use Rattle.std.specs.Prelude.{ℕ, ◌+◌, ◌-◌, List, [], ◌∷◌, map, Bool, nat_le, nat_lt, nat_eq, ◌&&◌, ◌==◌, if◌then◌else◌, Option, Some, None, option_map, Result, Ok}
+use Rattle.std.specs.Prelude.{ℕ, ◌+◌, ◌-◌, ◌^◌, min, List, [], ◌∷◌, ◌++◌, codes, map, Bool, nat_le, nat_lt, nat_eq, ◌&&◌, ◌==◌, if◌then◌else◌, Option, Some, None, option_map, Result, Ok}
 use Rattle.std.specs.Cmp.Lexicographic.{pointwise}
 use Rattle.std.specs.List.{find, flat_map}
 use Rattle.std.specs.Option.{is_some}
 use Rattle.framehop_bytes.specs.Bytes.{◌>>=◌}
+use Rattle.framehop_coredump.specs.AuxiliaryVector.{vdso_of}
 use Rattle.framehop_coredump.specs.CoreFile.{core_file_of}
 use Rattle.framehop_coredump.specs.MappedFile.{MappedFileView, mapped_files_of}
 use Rattle.framehop_coredump.specs.Note.{notes_of}
@@ -89,6 +90,23 @@ code_if memory dumped files mapped = code_by dumped (head_in memory files mapped
 abbrev pub code_of : MemoryView → List Segment → List MappedFileView → List MappedCodeView
 code_of memory dumped files = flat_map (code_if memory dumped files) files
 
+-- the vdso, which no file has: as far as the segment has it that has its first address
+abbrev pub vdso_in : MemoryView → ℕ → Option Segment → List MappedCodeView
+vdso_in memory start None = []
+vdso_in memory start (Some segment) = record {
+  start = start;
+  end = min (segment.address + segment.size) (2 ^ 64 - 1);
+  offset = 0;
+  path = codes "[vdso]";
+  head = head_at memory start;
+  build_id = [];
+  base = None;
+} ∷ []
+
+abbrev pub vdso_code : MemoryView → List Segment → Option ℕ → List MappedCodeView
+vdso_code memory dumped None = []
+vdso_code memory dumped (Some start) = vdso_in memory start (find (has_address start) dumped)
+
 -- the memory that was dumped of these segments
 abbrev pub dumped_memory : List ℕ → List Segment → MemoryView
 dumped_memory file dumped = record { file = file; ranges = map range_of dumped }
@@ -106,7 +124,8 @@ core_dump_of file = do
     segments = loaded_segments_of core.1;
     machine = core.0;
     threads = map thread_of threads;
-    code = code_of (dumped_memory file (loaded_segments_of core.1)) (loaded_segments_of core.1) files;
+    code = code_of (dumped_memory file (loaded_segments_of core.1)) (loaded_segments_of core.1) files
+        ++ vdso_code (dumped_memory file (loaded_segments_of core.1)) (loaded_segments_of core.1) (vdso_of notes);
     name = name_of process;
     pid = pid_of process;
   })

@@ -6,10 +6,11 @@ ghost use Rattle.framehop_coredump.specs.Process.{process_view};
 ghost use Rattle.framehop_coredump.specs.Thread.{thread_view as noted_view};
 ghost use Rattle.framehop_dump_stacks.specs.Dump.{has_address, thread_view, mapped_code_view, dump_view};
 ghost use Rattle.framehop_memory.specs.Memory.{memory_view};
-ghost use Rattle.framehop_dump_stacks.specs.CoreDump.{cause_of_signal, thread_of, name_of, pid_of, is_beginning, head_in, base_in_memory, is_mapped_code, code_if, code_of, core_dump_of};
+ghost use Rattle.framehop_dump_stacks.specs.CoreDump.{cause_of_signal, thread_of, name_of, pid_of, is_beginning, head_in, base_in_memory, is_mapped_code, code_if, code_of, vdso_code, core_dump_of};
 
 use crate::dump::{Cause, Dump, Kind, MappedCode, Registers, Thread, has_address};
 use crate::image::{build_id_in, head_at, segments_in};
+use framehop_coredump::auxiliary_vector::vdso_of;
 use framehop_coredump::core_file::read_core_file;
 use framehop_coredump::error::CoreFileError;
 use framehop_coredump::mapped_file::{MappedFile, read_mapped_files};
@@ -188,6 +189,51 @@ fn code_of<'a>(
     Ok(code)
 }
 
+/// Returns the files that are mapped to be executed, and after them the vdso.
+fn all_code<'a>(
+    alloc: Global,
+    memory: &ProcessMemory<'a>,
+    dumped: &[Segment],
+    files: &[MappedFile<'a>],
+    vdso: Option<u64>,
+) -> Result<Vec<MappedCode<'a>>, AllocError>
+    ensures { IfOk result (λ code. map mapped_code_view code.items
+        ≡ code_of (memory_view memory.now) dumped.now (map mapped_file_view files.now)
+        ++ vdso_code (memory_view memory.now) dumped.now vdso) }
+{
+    let mut code = code_of(alloc, memory, dumped, files)?;
+    push_vdso(memory, dumped, vdso, &mut code)?;
+    Ok(code)
+}
+
+/// Appends the vdso, which no file has: from its first address (AVMA) on, as far as the segment of memory has it.
+fn push_vdso<'a>(
+    memory: &ProcessMemory<'a>,
+    dumped: &[Segment],
+    vdso: Option<u64>,
+    code: &mut Vec<MappedCode<'a>>,
+) -> Result<(), AllocError>
+    ensures { OnOk result (map mapped_code_view code.new.items ≡ map mapped_code_view code.old.items
+        ++ vdso_code (memory_view memory.now) dumped.now vdso) }
+{
+    let Some(start) = vdso else {
+        return Ok(());
+    };
+    let Some(segment) = segment_at(dumped, start) else {
+        return Ok(());
+    };
+    code.push(MappedCode {
+        start,
+        end: segment.address.saturating_add(segment.size),
+        offset: 0,
+        path: b"[vdso]",
+        head: head_at(memory, start),
+        build_id: &[],
+        base: None,
+    })?;
+    Ok(())
+}
+
 /// Reads what a core file says of its process.
 ///
 /// # Errors
@@ -214,7 +260,13 @@ pub fn read_core_dump<'a>(alloc: Global, file: &'a [u8]) -> Result<Dump<'a>, Cor
     let Ok(threads) = threads_of(alloc, noted.as_slice()) else {
         return Err(CoreFileError::OutOfMemory);
     };
-    let Ok(code) = code_of(alloc, &memory, dumped.as_slice(), files.as_slice()) else {
+    let Ok(code) = all_code(
+        alloc,
+        &memory,
+        dumped.as_slice(),
+        files.as_slice(),
+        vdso_of(notes.as_slice()),
+    ) else {
         return Err(CoreFileError::OutOfMemory);
     };
     Ok(Dump {
