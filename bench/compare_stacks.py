@@ -57,7 +57,8 @@ def our_samples(path):
             stack[1] = line.strip("[]")
         elif line and stack is not None:
             address, place = line.split(" ", 1)
-            stack[0].append((int(address, 16) - (1 if stack[0] else 0), place))
+            is_return_address = bool(stack[0]) and not place.endswith(" [signal]")
+            stack[0].append((int(address, 16) - is_return_address, place))
     return found
 
 

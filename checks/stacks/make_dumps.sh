@@ -93,18 +93,23 @@ waits() {
     kill -KILL "$process" 2>/dev/null
 }
 
-# A process that crashes: the kernel writes its core file, and LLDB stops another one: crashes NAME
+# A process that crashes: the kernel writes its core file, and LLDB stops another one, unless CORE says that no minidump is wanted:
+# crashes NAME [CORE]
 crashes() {
     local folder=$work/$1 program=$programs/$1
     rm -rf "$folder" && mkdir "$folder" || return
     (cd "$folder" && ulimit -c unlimited && ulimit -s 128 && "$program" || true) >/dev/null 2>&1
     mv "$folder"/core* "$cases/$1.core" && judge_core "$1" "$program" || complain "$1: no core file"
-    (ulimit -s 128 && judge_minidump "$1" "target create $program" "process launch")
+    [ "${2:-}" = core ] || (ulimit -s 128 && judge_minidump "$1" "target create $program" "process launch")
 }
 
 linux() {
     local sources=$here/judges/linux name
     for name in c system_call signal null_pointer; do gcc -O2 -g -o "$programs/$name" "$sources/$name.c" || exit 1; done
+    for name in handler_aborts other_stack nested_handlers interrupted_leaf null_call wild_call; do
+        gcc -O2 -g -fomit-frame-pointer -o "$programs/$name" "$sources/$name.c" || exit 1
+        gcc -O2 -g -fno-omit-frame-pointer -mno-omit-leaf-frame-pointer -o "$programs/${name}_fp" "$sources/$name.c" || exit 1
+    done
     gcc -O1 -g -o "$programs/overflow" "$sources/overflow.c" || exit 1
     for name in cxx_destructor cxx_catch; do g++ -O2 -o "$programs/$name" "$sources/$name.cc" || exit 1; done
     gcc -O2 -static -o "$programs/static" "$sources/c.c" || exit 1
@@ -114,6 +119,13 @@ linux() {
     for name in c cxx_destructor cxx_catch static no_tables debug_frame system_call signal four_threads; do waits "$name" "$programs/$name"; done
     waits python "$(realpath -- "$python")" "$sources/python.py"
     crashes null_pointer
+    for name in handler_aborts nested_handlers interrupted_leaf null_call wild_call; do
+        crashes "$name"
+        crashes "${name}_fp"
+    done
+    # of a full stack LLDB writes no minidump
+    crashes other_stack core
+    crashes other_stack_fp core
     crashes overflow
     # LLDB's minidumps have nothing of a stack that is full, in each of its styles
     judge_minidump_itself overflow

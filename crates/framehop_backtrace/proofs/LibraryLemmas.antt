@@ -35,11 +35,11 @@ module _ {Regs : Type 0} (stack : Stack Regs)
   abbrev steps : FrameLocation → Regs → Outcome Regs
   steps location regs = stack.step location regs stack.memory
 
-  next-by : (frame : FrameView Regs) (finding : Finding) → IsWithoutRow finding (is_first_frame frame.location)
+  next-by : (frame : FrameView Regs) (finding : Finding) → IsWithoutRow stack.code frame.location finding
       → stack.machine.can_step frame.columns ≡ true → (found : FoundBy)
       × (by_finding stack frame finding ≡ stepped_by stack.machine stack.code found frame (steps frame.location frame.regs))
   next-by frame no_row without known =
-      (if stack.is_by_info frame.location frame.regs stack.memory then Cfi else FramePointer, rw known refl)
+      (if stack.is_by_info frame.location frame.regs stack.memory then Cfi else FramePointer, rw without (rw known refl))
   next-by frame uncovered first known = (FramePointer, rw first (rw known refl))
   next-by frame (by_row section row) without known = absurd without
 

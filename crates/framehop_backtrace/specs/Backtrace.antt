@@ -11,7 +11,7 @@ use Rattle.framehop_columns.specs.Convention.{stack_pointer_of}
 use Rattle.framehop_columns.specs.Rules.{Source}
 use Rattle.framehop_columns.specs.declared.caller.RowRefusal.{RowRefusal}
 use Rattle.framehop_columns.specs.declared.caller.RowRefusal.TheVariants as refusal
-use Rattle.framehop_backtrace.specs.Code.{Code, is_in_trampoline, is_in_code}
+use Rattle.framehop_backtrace.specs.Code.{Code, is_in_trampoline, is_in_code, is_outside_code}
 use Rattle.framehop_backtrace.specs.Columns.{column, columns_by, returned_to}
 use Rattle.framehop_backtrace.specs.Machine.{Machine}
 use Rattle.framehop_backtrace.specs.Rows.{Finding, by_row, uncovered, no_row}
@@ -167,9 +167,12 @@ module _ {Regs : Type 0} (machine : Machine Regs) (code : Code) (frame : FrameVi
   by_start outcome fallback =
       if is_first_frame frame.location then by_guess outcome fallback else by_library FramePointer outcome
 
-  -- where it has none for it: PE or compact unwind info unwinds it (`true`), or the frame pointer is followed
-  abbrev pub without_row : Bool → Outcome Regs → Next Regs
-  without_row by_info outcome = by_library (if by_info then Cfi else FramePointer) outcome
+  -- where it has none for it: PE or compact unwind info unwinds it (`true`), or the frame pointer is followed. Outside of
+  -- code the rule of a function's start is tried, since a call has just led there.
+  abbrev pub without_row : Bool → Outcome Regs → Outcome Regs → Outcome Regs → Next Regs
+  without_row by_info outcome start fallback =
+      if is_outside_code code frame.location then by_guess start fallback
+      else by_library (if by_info then Cfi else FramePointer) outcome
 
 -- a stack: its machine; what a step of the library does, and whether PE or compact unwind info unwinds a frame; the rows
 -- of the modules; the memory and the code
@@ -190,7 +193,8 @@ module _ {Regs : Type 0} (stack : Stack Regs) (frame : FrameView Regs) where
       (stack.machine.fallback (is_first_frame frame.location) frame.regs stack.memory)
   by_finding no_row =
       without_row stack.machine stack.code frame (stack.is_by_info frame.location frame.regs stack.memory)
-      (stack.step frame.location frame.regs stack.memory)
+      (stack.step frame.location frame.regs stack.memory) (stack.machine.start frame.regs stack.memory)
+      (stack.machine.fallback (is_first_frame frame.location) frame.regs stack.memory)
 
   -- the caller of a frame, or the end
   unfoldable pub next_of : Next Regs

@@ -1,5 +1,5 @@
 -- The code of a process, and which of it a frame is in.
-use Rattle.std.specs.Prelude.{ℕ, ◌-◌, Bool, ◌||◌, List, Option}
+use Rattle.std.specs.Prelude.{ℕ, ◌-◌, Bool, false, not, ◌||◌, List, Option}
 use Rattle.framehop_core.specs.CodeAddress.{FrameLocation, at_instruction_pointer, at_return_address}
 
 -- so many bytes at an address, if they are known; whether an address lies in executable memory; and whether a trampoline,
@@ -20,3 +20,8 @@ is_in_trampoline code (at_instruction_pointer address) =
 -- a return address is in code: the call before it is, or else, as the first instruction of a trampoline, it itself
 abbrev pub is_in_code : Code → ℕ → Bool
 is_in_code code address = code.is_executable (address - 1) || code.is_executable address
+
+-- an instruction pointer lies in no code: a call has just led there
+abbrev pub is_outside_code : Code → FrameLocation → Bool
+is_outside_code code (at_instruction_pointer address) = not (code.is_executable address)
+is_outside_code code (at_return_address address) = false

@@ -3,17 +3,18 @@ use Rattle.std.specs.Prelude.{◌≡◌, ℕ, zero, suc, Bool, true, false, ⊤,
 use Rattle.framehop_core.specs.CodeAddress.{FrameLocation, at_instruction_pointer, at_return_address, is_first_frame}
 use Rattle.framehop_core.specs.Outcome.{Outcome, answered, root, refused}
 use Rattle.framehop.specs.Walk.{Walk, End, at_root, at_refusal, at_limit, walk_from}
-use Rattle.framehop_backtrace.specs.Code.{is_in_trampoline, is_in_code}
+use Rattle.framehop_backtrace.specs.Code.{Code, is_in_trampoline, is_in_code, is_outside_code}
 use Rattle.framehop_backtrace.specs.Rows.{Finding, by_row, uncovered, no_row}
 use Rattle.framehop_backtrace.specs.Backtrace.{Stack, FrameView, Backtrace}
 use Rattle.framehop_backtrace.specs.declared.frame.BacktraceEnd.{BacktraceEnd}
 use Rattle.framehop_backtrace.specs.declared.frame.BacktraceEnd.TheVariants.{Root, FramePointerZero, Limit, Refused}
 
--- a frame has no row, and is no first frame that call frames of its module do not cover
-abbrev pub IsWithoutRow : Finding → Bool → Type 0
-IsWithoutRow no_row first = ⊤
-IsWithoutRow uncovered first = first ≡ false
-IsWithoutRow (by_row section row) first = ⊥
+-- a frame has no row, and no guess is made: it is no first frame outside of code, or one that call frames of its module do
+-- not cover
+abbrev pub IsWithoutRow : Code → FrameLocation → Finding → Type 0
+IsWithoutRow code location no_row = is_outside_code code location ≡ false
+IsWithoutRow code location uncovered = is_first_frame location ≡ false
+IsWithoutRow code location (by_row section row) = ⊥
 
 -- after a step: a return address is 0, or in code and this holds there
 abbrev pub AfterStep : {Regs : Type 0} → Stack Regs → (FrameLocation → Regs → Type 0) → Outcome Regs → Type 0
@@ -27,7 +28,7 @@ AfterStep stack Holds (refused error) = ⊤
 abbrev pub IsPlain : {Regs : Type 0} → Stack Regs → ℕ → FrameLocation → Regs → Type 0
 IsPlain stack zero location regs = ⊤
 IsPlain stack (suc n) location regs =
-    (is_in_trampoline stack.code location ≡ false) × IsWithoutRow (stack.rows location) (is_first_frame location)
+    (is_in_trampoline stack.code location ≡ false) × IsWithoutRow stack.code location (stack.rows location)
     × AfterStep stack (IsPlain stack n) (stack.step location regs stack.memory)
 
 -- the same of a walk of at most so many frames

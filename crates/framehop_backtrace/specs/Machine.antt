@@ -1,16 +1,16 @@
 -- What a backtrace needs of an architecture.
 -- (System V ABI for AMD64, figure 3.36; DWARF for the Arm 64-bit Architecture, section 4.1; Linux, `struct
 -- sigcontext`.)
-use Rattle.std.specs.Prelude.{ℕ, ◌+◌, ◌*◌, Bool, ◌&&◌, is_some, nat_le, if◌then◌else◌, List, [], ◌∷◌, ◌++◌, length, slice_get, Option, Some, None, option_map, unwrap_or}
+use Rattle.std.specs.Prelude.{ℕ, ◌+◌, ◌*◌, Bool, true, ◌&&◌, is_some, nat_le, if◌then◌else◌, List, [], ◌∷◌, ◌++◌, length, slice_get, Option, Some, None, option_map, unwrap_or}
 use Rattle.framehop_bytes.specs.Bytes.{le8}
 use Rattle.framehop_core.specs.Memory.{Memory}
 use Rattle.framehop_core.specs.Outcome.{Outcome}
 use Rattle.framehop_core.specs.X86_64.Registers.{Registers as RegistersX86_64, words_of}
 use Rattle.framehop_core.specs.X86_64.Rules.{outcome as outcome_x86_64}
-use Rattle.framehop_core.specs.declared.x86_64.unwind_rule.UnwindRuleX86_64.TheVariants.{UseFramePointer as UseFramePointerX86_64}
+use Rattle.framehop_core.specs.declared.x86_64.unwind_rule.UnwindRuleX86_64.TheVariants.{JustReturn, UseFramePointer as UseFramePointerX86_64}
 use Rattle.framehop_core.specs.Aarch64.Registers.{Registers as RegistersAarch64, strip_ptr_auth}
 use Rattle.framehop_core.specs.Aarch64.Rules.{outcome as outcome_aarch64}
-use Rattle.framehop_core.specs.declared.aarch64.unwind_rule.UnwindRuleAarch64.TheVariants.{UseFramePointer as UseFramePointerAarch64}
+use Rattle.framehop_core.specs.declared.aarch64.unwind_rule.UnwindRuleAarch64.TheVariants.{NoOp, UseFramePointer as UseFramePointerAarch64}
 use Rattle.framehop_columns.specs.RegisterFile.{unknown}
 use Rattle.framehop_columns.specs.declared.convention.Convention.{Convention}
 use Rattle.framehop_columns.specs.declared.convention.Convention.TheVariants.{X86_64, Aarch64}
@@ -23,7 +23,8 @@ use Rattle.framehop_backtrace.specs.Columns.{columns_by, column, with_column}
 -- `can_step`: whether the columns that each step of the library may need are known. `frame_size`, `saved`: how much of a
 -- signal frame is read, and the interrupted instruction pointer and columns that it has. `is_after_call`: an address
 -- lies right after a call, by the bytes of code. `fallback`: the step by the frame pointer, of a first frame (`true`) or
--- another.
+-- another. `start`: that of a first frame at the
+-- first instruction of a function.
 pub record Machine (Regs : Type 0) : Type 0 where
   pub convention : Convention
   pub strip : Regs → ℕ → ℕ
@@ -34,6 +35,7 @@ pub record Machine (Regs : Type 0) : Type 0 where
   pub saved : List ℕ → Option (ℕ × List (Option ℕ))
   pub is_after_call : (ℕ → ℕ → Option (List ℕ)) → ℕ → Bool
   pub fallback : Bool → Regs → Memory → Outcome Regs
+  pub start : Regs → Memory → Outcome Regs
 
 -- ---- x86_64
 
@@ -87,6 +89,7 @@ machine_x86_64 = record {
   saved = saved_x86_64;
   is_after_call = is_after_call_x86_64;
   fallback = outcome_x86_64 UseFramePointerX86_64;
+  start = outcome_x86_64 JustReturn true;
 }
 
 -- ---- aarch64
@@ -128,4 +131,5 @@ machine_aarch64 = record {
   saved = saved_aarch64;
   is_after_call = is_after_call_aarch64;
   fallback = outcome_aarch64 UseFramePointerAarch64;
+  start = outcome_aarch64 NoOp true;
 }

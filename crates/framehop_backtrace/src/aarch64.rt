@@ -8,7 +8,7 @@ use crate::info::is_by_info;
 use crate::machine::BacktraceUnwinder;
 use crate::memory::CodeMemory;
 use crate::rows::{RowFinding, Rows};
-use crate::step::follow_frame_pointer;
+use crate::step::{follow_frame_pointer, step_at_start};
 use framehop::AllocationPolicy;
 use framehop::aarch64::UnwinderAarch64;
 use framehop_bytes::bytes::u64_at;
@@ -87,6 +87,13 @@ impl<D: SectionBytes + Drop, P: AllocationPolicy> BacktraceUnwinder for Unwinder
         regs: &mut UnwindRegsAarch64,
     ) -> Result<Option<u64>, Error> {
         follow_frame_pointer::<UnwindRuleAarch64, M>(memory, is_first_frame, regs)
+    }
+
+    fn step_at_start<M: WordMemory>(
+        memory: &M,
+        regs: &mut UnwindRegsAarch64,
+    ) -> Result<Option<u64>, Error> {
+        step_at_start::<UnwindRuleAarch64, M>(memory, regs)
     }
 
     fn is_by_info<M: WordMemory>(

@@ -64,6 +64,13 @@ pub trait BacktraceUnwinder: Unwinder {
     ) -> Result<Option<u64>, Error>
         ensures { HasDone (machine.fallback is_first_frame regs.old (M.memory memory.now)) result regs.old regs.new };
 
+    /// Unwinds a frame at the first instruction of a function, and returns as [`Unwinder::unwind_frame`] does.
+    fn step_at_start<M: WordMemory>(
+        memory: &M,
+        regs: &mut Self::UnwindRegs,
+    ) -> Result<Option<u64>, Error>
+        ensures { HasDone (machine.start regs.old (M.memory memory.now)) result regs.old regs.new };
+
     /// Returns whether PE or compact unwind info unwinds a frame.
     fn is_by_info<M: WordMemory>(
         &self,

@@ -1,7 +1,7 @@
 //! The memory of a process with its code.
 ghost use Rattle.std.specs.Prelude.{◌≡◌, option_map};
 ghost use Rattle.framehop_core.specs.CodeAddress.{location_of};
-ghost use Rattle.framehop_backtrace.specs.Code.{Code, is_in_trampoline, is_in_code};
+ghost use Rattle.framehop_backtrace.specs.Code.{Code, is_in_trampoline, is_in_code, is_outside_code};
 
 use framehop_columns::memory::WordMemory;
 use framehop_core::FrameAddress;
@@ -37,6 +37,16 @@ pub fn is_in_trampoline<M: CodeMemory>(memory: &M, frame: FrameAddress) -> bool
                 || memory.is_trampoline(address.saturating_sub(8))
                 || memory.is_trampoline(address.saturating_sub(9))
         }
+    }
+}
+
+/// Returns whether a frame's instruction pointer lies in no executable memory: a call has just led there.
+pub fn is_outside_code<M: CodeMemory>(memory: &M, frame: FrameAddress) -> bool
+    ensures { result ≡ is_outside_code (M.code memory.now) (location_of frame) }
+{
+    match frame {
+        FrameAddress::InstructionPointer(address) => !memory.is_executable(address),
+        FrameAddress::ReturnAddress(_) => false,
     }
 }
 

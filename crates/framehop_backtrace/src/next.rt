@@ -11,7 +11,7 @@ ghost use Rattle.framehop_backtrace.specs.Backtrace.{frame_view, next_view, by_s
 
 use crate::frame::{BacktraceEnd, FoundBy, Frame, end_of_refusal, root_of};
 use crate::machine::BacktraceUnwinder;
-use crate::memory::{CodeMemory, is_in_code, is_in_trampoline};
+use crate::memory::{CodeMemory, is_in_code, is_in_trampoline, is_outside_code};
 use crate::rows::{RowFinding, Rows};
 use crate::step::step;
 use framehop_cfi::context::UnwindContext;
@@ -28,7 +28,8 @@ use std::alloc::{AllocError, Global};
 /// 1. A frame in a trampoline, to which the handler of a signal returns, has the interrupted code as its caller.
 /// 2. A frame for which the modules have a row has its caller by that, over all registers that are known.
 /// 3. Else the library's step is taken, over the registers that it has. The rule of a function's start is a guess: its
-///    return address must lie right after a call, or else the frame pointer is followed to one that does.
+///    return address must lie right after a call, or else the frame pointer is followed to one that does. Where an
+///    instruction pointer lies in no code, a call has just led there: this guess is made, too.
 ///
 /// A return address of 2 and 3 must lie in executable memory. Only 3 looks at the cache.
 ///
@@ -184,7 +185,8 @@ fn by_start<U: BacktraceUnwinder, M: CodeMemory>(
     by_guess(unwinder, cache, memory, frame)
 }
 
-/// Returns the caller of a frame without a row, by PE or compact unwind info or by the frame pointer.
+/// Returns the caller of a frame without a row: by PE or compact unwind info, by the frame pointer, or, outside of code, by
+/// the call that has led there.
 fn without_row<U: BacktraceUnwinder, M: CodeMemory>(
     unwinder: &U,
     cache: &mut U::Cache,
@@ -197,14 +199,40 @@ fn without_row<U: BacktraceUnwinder, M: CodeMemory>(
     ensures exact { U.is_sound (U.unwinder_view unwinder.now) cache.old → IfOk result (λ next. next_view next
         ≡ without_row U.machine (M.code memory.now) (frame_view frame.now)
         (U.is_by_info unwinder.now (location_of frame.now.address) frame.now.regs (M.memory memory.now))
-        (U.step unwinder.now (location_of frame.now.address) frame.now.regs (M.memory memory.now))) }
+        (U.step unwinder.now (location_of frame.now.address) frame.now.regs (M.memory memory.now))
+        (U.machine.start frame.now.regs (M.memory memory.now))
+        (U.machine.fallback (is_first_frame (location_of frame.now.address)) frame.now.regs (M.memory memory.now))) }
 {
+    if is_outside_code(memory, frame.address) {
+        return Ok(by_call::<U, M>(memory, frame));
+    }
     let found = if unwinder.is_by_info(frame.address, frame.regs, memory) {
         FoundBy::Cfi
     } else {
         FoundBy::FramePointer
     };
     by_library(unwinder, cache, memory, frame, found)
+}
+
+/// Returns the caller of a frame outside of code, as if it were at the first instruction of a function: if it lies right
+/// after a call, or else by the frame pointer.
+fn by_call<U: BacktraceUnwinder, M: CodeMemory>(
+    memory: &M,
+    frame: &Frame<U::UnwindRegs>,
+) -> Result<Frame<U::UnwindRegs>, BacktraceEnd>
+    ensures { next_view result ≡ by_guess U.machine (M.code memory.now) (frame_view frame.now)
+        (U.machine.start frame.now.regs (M.memory memory.now))
+        (U.machine.fallback (is_first_frame (location_of frame.now.address)) frame.now.regs (M.memory memory.now)) }
+{
+    if !U::can_step(&frame.columns) {
+        return Err(BacktraceEnd::RegistersUnknown);
+    }
+    let mut regs = frame.regs;
+    let answer = U::step_at_start(memory, &mut regs);
+    if is_called::<U, M>(memory, answer) {
+        return stepped::<U, M>(memory, FoundBy::Guess, answer, regs);
+    }
+    fallen_back::<U, M>(memory, frame)
 }
 
 /// Returns the caller by the library's step.

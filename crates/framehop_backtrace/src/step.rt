@@ -1,5 +1,5 @@
 //! Steps of the library over a memory.
-ghost use Rattle.std.specs.Prelude.{◌≡◌, ◌≢◌, Err};
+ghost use Rattle.std.specs.Prelude.{◌≡◌, ◌≢◌, Err, true};
 ghost use Rattle.framehop_core.specs.CodeAddress.{location_of};
 ghost use Rattle.framehop_core.specs.Memory.{reply};
 ghost use Rattle.framehop_core.specs.Outcome.{HasDone};
@@ -61,4 +61,21 @@ pub fn follow_frame_pointer<R: UnwindRule, M: WordMemory>(
         ensures { result ≡ reply (M.memory memory.entry.now address) }
     { read(memory, address) };
     R::fallback_rule().exec(is_first_frame, regs, &mut read_stack)
+}
+
+/// Unwinds a frame by the rule of a function's first instruction, over a memory.
+///
+/// # Errors
+///
+/// Those of [`UnwindRule::exec`].
+pub fn step_at_start<R: UnwindRule, M: WordMemory>(
+    memory: &M,
+    regs: &mut R::UnwindRegs,
+) -> Result<Option<u64>, Error>
+    ensures { HasDone (R.outcome R.function_start_rule true regs.old (M.memory memory.now)) result regs.old regs.new }
+{
+    let mut read_stack = |address: u64| -> Result<u64, ()>
+        ensures { result ≡ reply (M.memory memory.entry.now address) }
+    { read(memory, address) };
+    R::rule_for_function_start().exec(true, regs, &mut read_stack)
 }

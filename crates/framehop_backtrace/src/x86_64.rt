@@ -8,7 +8,7 @@ use crate::info::is_by_info;
 use crate::machine::BacktraceUnwinder;
 use crate::memory::CodeMemory;
 use crate::rows::{RowFinding, Rows};
-use crate::step::follow_frame_pointer;
+use crate::step::{follow_frame_pointer, step_at_start};
 use framehop::AllocationPolicy;
 use framehop::x86_64::UnwinderX86_64;
 use framehop_bytes::section::SectionBytes;
@@ -80,6 +80,13 @@ impl<D: SectionBytes + Drop, P: AllocationPolicy> BacktraceUnwinder for Unwinder
         regs: &mut UnwindRegsX86_64,
     ) -> Result<Option<u64>, Error> {
         follow_frame_pointer::<UnwindRuleX86_64, M>(memory, is_first_frame, regs)
+    }
+
+    fn step_at_start<M: WordMemory>(
+        memory: &M,
+        regs: &mut UnwindRegsX86_64,
+    ) -> Result<Option<u64>, Error> {
+        step_at_start::<UnwindRuleX86_64, M>(memory, regs)
     }
 
     fn is_by_info<M: WordMemory>(

@@ -1,5 +1,5 @@
 -- The threads of a process as text.
-use Rattle.std.specs.Prelude.{ℕ, true, List, [], ◌∷◌, ◌++◌, codes, Option, Some, None}
+use Rattle.std.specs.Prelude.{ℕ, true, false, List, [], ◌∷◌, ◌++◌, codes, Option, Some, None}
 use Rattle.std.specs.Fmt.{decimal}
 use Rattle.framehop_processes.specs.declared.mapping.Mapping.{Mapping}
 use Rattle.framehop_frames.specs.Line.{plain, hexadecimal}
@@ -34,4 +34,4 @@ thread_head name pid thread = names_text name pid thread.tid ++ cause_text threa
 -- the block of a thread: its head, a line for each frame, and how the walk ended
 abbrev pub thread_text : DumpView → Files → List Mapping → ThreadView → StackView → List ℕ
 thread_text dump files mappings thread stack =
-    stack_text true files [] (thread_head dump.name dump.pid thread) mappings stack
+    stack_text true false files [] (thread_head dump.name dump.pid thread) mappings stack

@@ -1,5 +1,5 @@
 //! The threads of a process as text: a block for each.
-ghost use Rattle.std.specs.Prelude.{◌≡◌, ◌++◌, ℕ, List, [], true, option_map, string_bytes, IfOk, OnOk};
+ghost use Rattle.std.specs.Prelude.{◌≡◌, ◌++◌, ℕ, List, [], true, false, option_map, string_bytes, IfOk, OnOk};
 ghost use Rattle.framehop.specs.Modules.{UnwinderView};
 ghost use Rattle.framehop.specs.Soundness.{AreApart};
 ghost use Rattle.framehop_frames.specs.Stack.{stack_text};
@@ -82,7 +82,7 @@ fn thread_lines<U: Dumped>(
     ensures stays_sound { (other : UnwinderView) → AreApart process.now.unwinder other
         → U.is_sound other cache.old → U.is_sound other cache.new }
     ensures told { U.is_sound process.now.unwinder cache.old → IfOk result (λ block. (head : List ℕ) →
-        head ++ block.items ≡ stack_text true files.now [] head process.now.mappings
+        head ++ block.items ≡ stack_text true false files.now [] head process.now.mappings
         (thread_stack U.walker U.begins limit files.now process.now.mappings process.now.unwinder.modules (dump_view dump.now) (thread_view thread.entry))) }
 {
     let walked = walk_thread(

@@ -1,9 +1,11 @@
--- The labels of frames, by what the frames are and by where they are.
-use Rattle.std.proofs.Common.{◌≡◌, ◌∷◌, List, [], ℕ, map, reverse, refl, ap, ◌∙◌}
-use Rattle.std.specs.List.{flat_map}
+-- The labels of frames, by what the frames are and by where they are; the frames before the first that fails a test.
+use Rattle.std.proofs.Common.{◌≡◌, ◌+◌, ◌<◌, ◌∷◌, ◌++◌, List, [], ℕ, nat_lt, codes, if◌then◌else◌, Bool, false, map, take, drop, length, get_or, reverse, refl, ap, sym, ◌∙◌, arith}
+use Rattle.std.specs.List.{flat_map, prefix_len, take_while}
+use Rattle.std.proofs.lemmas.List.{at_drop_more, take-map}
 use mathlib.Core.List.{reverse_aux}
 use Rattle.std.proofs.lemmas.List.Folds.{flat_map-map}
-use Rattle.framehop_frames.specs.Line.{frames_text}
+use Rattle.framehop_backtrace.specs.declared.frame.BacktraceEnd.{BacktraceEnd}
+use Rattle.framehop_frames.specs.Line.{ShownFrame, plain, mark, mark_of, part_of, line_of, frames_text}
 
 reverse_aux-map : {A B : Type 0} (f : A → B) (xs ys : List A) → reverse_aux (map f xs) (map f ys) ≡ map f (reverse_aux xs ys)
 reverse_aux-map f [] ys = refl
@@ -14,3 +16,19 @@ pub frames_text-map : {A B : Type 0} (label : B → List ℕ) (f : A → B) (fra
 frames_text-map label f frames =
     ap (λ outermost. flat_map (λ frame. 59 ∷ label frame) outermost) (reverse_aux-map f frames [])
     ∙ flat_map-map (λ frame. 59 ∷ label frame) f (reverse frames)
+
+-- the items before the first that fails
+pub cut-at : {A B : Type 0} (p : B → Bool) (f : A → B) (items : List A) (i : ℕ) (d : A) → i < length items
+    → prefix_len p (map f items) ≡ i + prefix_len p (map f (drop i items)) → p (f (get_or items i d)) ≡ false
+    → map f (take i items) ≡ take_while p (map f items)
+cut-at p f items i d within so_far fails =
+    let none : prefix_len p (map f (drop i items)) ≡ 0 = at_drop_more (λ rest. prefix_len p (map f rest)) items i d within ∙ (rw fails refl) in
+    let size : prefix_len p (map f items) ≡ i = omega (arith, so_far, none) in
+    sym (ap (λ n. take n (map f items)) size ∙ take-map f i items)
+
+-- the line of a part of a stack is that of the stack
+pub line-of_part : (sure : Bool) (name : List ℕ) (end : BacktraceEnd) (label : ShownFrame → List ℕ) (part frames : List ShownFrame) (n m : ℕ)
+    → part ≡ part_of sure frames → n ≡ length part → m ≡ length frames
+    → plain name ++ (if nat_lt n m then mark (codes "not-sure") else mark_of end) ++ frames_text label part ≡ line_of sure name end label frames
+unfolding line_of
+line-of_part sure name end label part frames n m is few many = rw (few, many, is) refl

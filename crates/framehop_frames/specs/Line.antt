@@ -1,8 +1,8 @@
 -- Stacks as text: folded stacks, as flame graph tools read them (Brendan Gregg's FlameGraph, `stackcollapse-perf.pl`), and
 -- blocks of a line for each frame.
-use Rattle.std.specs.Prelude.{ℕ, Bool, false, List, [], ◌∷◌, ◌++◌, codes, map, reverse, Option, Some, None, ◌==◌, if◌then◌else◌}
+use Rattle.std.specs.Prelude.{ℕ, nat_lt, length, Bool, true, false, List, [], ◌∷◌, ◌++◌, codes, map, reverse, Option, Some, None, ◌==◌, if◌then◌else◌}
 use Rattle.std.specs.Fmt.{decimal, digits}
-use Rattle.std.specs.List.{after_last, flat_map}
+use Rattle.std.specs.List.{after_last, flat_map, take_while}
 use Rattle.framehop_core.specs.CodeAddress.{FrameLocation, address_of, lookup_address}
 use Rattle.framehop_core.specs.declared.error.Error.{Error}
 use Rattle.framehop_core.specs.declared.error.Error.TheVariants.{CouldNotReadStack, FramepointerUnwindingMovedBackwards, DidNotAdvance, IntegerOverflow, ReturnAddressIsNull, OutOfMemory}
@@ -83,15 +83,39 @@ pub record ShownFrame : Type 0 where
   pub found : FoundBy
   pub is_trampoline : Bool
 
+-- The address that is looked up for a frame: a handler returns to the first instruction of a trampoline, after no call.
+abbrev pub looked_up : ShownFrame → ℕ
+looked_up frame = if frame.is_trampoline then address_of frame.location else lookup_address frame.location
+
 -- what a frame is called: a trampoline as debuggers call it
 abbrev pub frame_label : Files → List Mapping → ShownFrame → List ℕ
 frame_label files mappings frame =
     if frame.is_trampoline then codes "<signal handler called>"
     else label_of (place_at files mappings (lookup_address frame.location))
 
+-- a frame is sure, but for those that no unwind data tells
+abbrev pub is_sure_by : FoundBy → Bool
+is_sure_by FramePointer = false
+is_sure_by Guess = false
+is_sure_by First = true
+is_sure_by Cfi = true
+is_sure_by Signal = true
+
+abbrev pub is_sure : ShownFrame → Bool
+is_sure frame = is_sure_by frame.found
+
+-- the frames that are shown: all, or only those before the first that is not sure
+abbrev pub part_of : Bool → List ShownFrame → List ShownFrame
+part_of sure frames = if sure then take_while is_sure frames else frames
+
+-- a stack that is cut before a frame that is not sure has a mark of its own
+abbrev pub mark_of_part : List ShownFrame → List ShownFrame → BacktraceEnd → List ℕ
+mark_of_part part frames end = if nat_lt (length part) (length frames) then mark (codes "not-sure") else mark_of end
+
 -- the line of a stack: the name of its thread, the mark of its end, and its frames
-unfoldable pub line_of : List ℕ → BacktraceEnd → (ShownFrame → List ℕ) → List ShownFrame → List ℕ
-line_of name end label frames = plain name ++ mark_of end ++ frames_text label frames
+unfoldable pub line_of : Bool → List ℕ → BacktraceEnd → (ShownFrame → List ℕ) → List ShownFrame → List ℕ
+line_of sure name end label frames =
+    plain name ++ mark_of_part (part_of sure frames) frames end ++ frames_text label (part_of sure frames)
 
 -- the line of a sample that has no stack: the name of its thread, and why
 unfoldable pub refused_line : List ℕ → List ℕ → List ℕ
@@ -120,7 +144,7 @@ trampoline_text is_trampoline = if is_trampoline then codes "<signal handler cal
 unfoldable pub frame_line : Files → List Mapping → ShownFrame → List ℕ
 frame_line files mappings frame =
     hexadecimal (address_of frame.location) ++ 32 ∷ trampoline_text frame.is_trampoline
-    ++ described (place_at files mappings (lookup_address frame.location)) ++ found_text frame.found ++ 10 ∷ []
+    ++ described (place_at files mappings (looked_up frame)) ++ found_text frame.found ++ 10 ∷ []
 
 -- the last line of a block, and a blank line
 abbrev pub last_line : List ℕ → List ℕ

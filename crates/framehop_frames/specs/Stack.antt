@@ -50,9 +50,9 @@ abbrev pub line_count : StackView → ℕ
 line_count (walked frames end) = length frames + 3
 line_count (no_stack why) = 3
 
--- its text: a block after its head, or else a folded line
-abbrev pub stack_text : Bool → Files → List ℕ → List ℕ → List Mapping → StackView → List ℕ
-stack_text true files name head mappings (walked frames end) = head ++ block_of end (frame_line files mappings) frames
-stack_text true files name head mappings (no_stack why) = head ++ last_line why
-stack_text false files name head mappings (walked frames end) = line_of name end (frame_label files mappings) frames
-stack_text false files name head mappings (no_stack why) = refused_line name why
+-- its text: a block after its head, or else a folded line, of all frames or (`true`) of those that are sure
+abbrev pub stack_text : Bool → Bool → Files → List ℕ → List ℕ → List Mapping → StackView → List ℕ
+stack_text true sure files name head mappings (walked frames end) = head ++ block_of end (frame_line files mappings) frames
+stack_text true sure files name head mappings (no_stack why) = head ++ last_line why
+stack_text false sure files name head mappings (walked frames end) = line_of sure name end (frame_label files mappings) frames
+stack_text false sure files name head mappings (no_stack why) = refused_line name why

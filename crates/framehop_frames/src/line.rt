@@ -2,12 +2,12 @@
 //!
 //! A frame is named by the nearest symbol at or before its address, as debuggers do, and otherwise by its place in
 //! the file.
-ghost use Rattle.std.specs.Prelude.{◌≡◌, ◌++◌, ◌∷◌, [], map, OnOk, IfOk, codes, string_bytes};
+ghost use Rattle.std.specs.Prelude.{◌≡◌, ◌++◌, ◌∷◌, [], map, OnOk, IfOk, codes, string_bytes, true, if◌then◌else◌};
 ghost use Rattle.std.specs.List.{flat_map};
 ghost use Rattle.framehop_processes.specs.Mappings.{IsInOrder};
 ghost use Rattle.framehop_symbols.specs.Place.{place_view};
 ghost use Rattle.framehop_frames.specs.Stack.{shown_frame};
-ghost use Rattle.framehop_frames.specs.Line.{plain_byte, plain, base_name, hexadecimal, label_of, refusal_name, end_name, end_text, mark, mark_of, frames_text, frame_label, line_of, refused_line, described, found_text, trampoline_text, frame_line, last_line, block_of, time_text, head_of};
+ghost use Rattle.framehop_frames.specs.Line.{plain_byte, plain, base_name, hexadecimal, label_of, refusal_name, end_name, is_sure_by, part_of, mark_of_part, end_text, mark, mark_of, frames_text, frame_label, line_of, refused_line, described, found_text, trampoline_text, looked_up, frame_line, last_line, block_of, time_text, head_of};
 
 use crate::stack::{Stack, StackFrame};
 use framehop::Error;
@@ -159,11 +159,11 @@ fn push_frames<R: Copy>(
     line: &mut Vec<u8>,
     files: &Files,
     mappings: &[Mapping],
-    frames: &Vec<StackFrame<R>>,
+    frames: &[StackFrame<R>],
 ) -> Result<(), AllocError>
     requires { IsInOrder 0 mappings.now }
     ensures { OnOk result (line.new.items ≡ line.old.items
-        ++ frames_text (λ frame. frame_label files.now mappings.now (shown_frame frame)) frames.now.items) }
+        ++ frames_text (λ frame. frame_label files.now mappings.now (shown_frame frame)) frames.now) }
 {
     for frame in frames.iter().rev() {
         line.push(b';')?;
@@ -192,24 +192,89 @@ fn push_end(line: &mut Vec<u8>, end: BacktraceEnd) -> Result<(), AllocError>
     }
 }
 
+/// Returns whether unwind data tells a frame, or it is the first.
+fn is_sure(found: FoundBy) -> bool
+    ensures { result ≡ is_sure_by found }
+{
+    match found {
+        FoundBy::First | FoundBy::Cfi | FoundBy::Signal => true,
+        FoundBy::FramePointer | FoundBy::Guess => false,
+    }
+}
+
+/// Returns the frames before the first that is not sure.
+pub fn sure_part<R: Copy>(frames: &[StackFrame<R>]) -> &[StackFrame<R>]
+    ensures { map shown_frame result.now ≡ part_of true (map shown_frame frames.entry.now) }
+{
+    let mut count = 0;
+    for frame in frames {
+        if !is_sure(frame.found) {
+            return &frames[..count];
+        }
+        count += 1;
+    }
+    frames
+}
+
+/// Appends the mark of a stack: of its end, or that it is cut before a frame that is not sure.
+fn push_end_of_part(line: &mut Vec<u8>, end: BacktraceEnd, is_cut: bool) -> Result<(), AllocError>
+    ensures { OnOk result (line.new.items ≡ line.old.items ++ (if is_cut then mark (codes "not-sure") else mark_of end)) }
+{
+    if is_cut {
+        return push_mark(line, "not-sure");
+    }
+    push_end(line, end)
+}
+
 /// Returns the line of a stack without its count, by the name of its thread and by its process's mappings
-/// in order.
-#[tactic(auto, unfolding(crate::specs::Line::line_of))]
+/// in order. Only the frames before the first that is not sure are in it, where `sure` asks for that.
 pub fn folded_line<R: Copy>(
     alloc: Global,
     files: &Files,
     mappings: &[Mapping],
     name: &[u8],
     stack: &Stack<R>,
+    sure: bool,
 ) -> Result<Vec<u8>, AllocError>
     requires { IsInOrder 0 mappings.now }
-    ensures { IfOk result (λ line. line.items ≡ line_of name.now stack.now.end
+    ensures { IfOk result (λ line. line.items ≡ line_of sure name.now stack.now.end
         (frame_label files.now mappings.now) (map shown_frame stack.now.frames.items)) }
+{
+    let frames = stack.frames.as_slice();
+    let part = part_of(frames, sure);
+    let is_cut = part.len() < frames.len();
+    line_of_part(alloc, files, mappings, name, part, stack.end, is_cut)
+}
+
+/// Returns the frames of a folded stack: all, or those before the first that is not sure.
+fn part_of<R: Copy>(frames: &[StackFrame<R>], sure: bool) -> &[StackFrame<R>]
+    ensures { map shown_frame result.now ≡ part_of sure (map shown_frame frames.entry.now) }
+{
+    if sure {
+        return sure_part(frames);
+    }
+    frames
+}
+
+/// Returns the line of a part of a stack, which may be cut, by the name of its thread and by its process's mappings in
+/// order.
+fn line_of_part<R: Copy>(
+    alloc: Global,
+    files: &Files,
+    mappings: &[Mapping],
+    name: &[u8],
+    part: &[StackFrame<R>],
+    end: BacktraceEnd,
+    is_cut: bool,
+) -> Result<Vec<u8>, AllocError>
+    requires { IsInOrder 0 mappings.now }
+    ensures { IfOk result (λ line. line.items ≡ plain name.now ++ (if is_cut then mark (codes "not-sure") else mark_of end)
+        ++ frames_text (frame_label files.now mappings.now) (map shown_frame part.now)) }
 {
     let mut line = Vec::new(alloc);
     push_name(&mut line, name)?;
-    push_end(&mut line, stack.end)?;
-    push_frames(alloc, &mut line, files, mappings, &stack.frames)?;
+    push_end_of_part(&mut line, end, is_cut)?;
+    push_frames(alloc, &mut line, files, mappings, part)?;
     Ok(line)
 }
 
@@ -264,11 +329,22 @@ fn push_frame_line<R: Copy>(
     let text = format!(in alloc; "{address:x} ")?;
     block.extend_from_slice(text.as_bytes())?;
     push_trampoline(block, frame.is_trampoline)?;
-    let place = place_of(files, mappings, frame.address.address_for_lookup());
+    let place = place_of(files, mappings, looked_up(frame));
     push_place(alloc, block, place)?;
     block.extend_from_slice(found_text(frame.found).as_bytes())?;
     block.push(b'\n')?;
     Ok(())
+}
+
+/// Returns the address (AVMA) that is looked up for a frame.
+fn looked_up<R: Copy>(frame: &StackFrame<R>) -> u64
+    ensures { result ≡ looked_up (shown_frame frame.now) }
+{
+    if frame.is_trampoline {
+        frame.address.address()
+    } else {
+        frame.address.address_for_lookup()
+    }
 }
 
 /// Appends that a frame is in a trampoline, if it is.

@@ -8,7 +8,7 @@ use framehop::cache::MayAllocateDuringUnwind;
 use framehop::section::SectionBytes;
 use framehop::walk::Words;
 use framehop::x86_64::{CacheX86_64, UnwindRegsX86_64, UnwinderX86_64};
-use framehop::{CacheStats, FrameAddress, Unwinder};
+use framehop::{FrameAddress, Unwinder};
 use framehop_backtrace::x86_64::all_columns;
 use framehop_backtrace::{BacktraceUnwinder, Rows};
 use framehop_columns::register_file::RegisterFile;
@@ -35,9 +35,6 @@ pub trait Steps: ProcessUnwinder + BacktraceUnwinder + Rows {
     /// Returns an empty cache, which changes no answer of any unwinder.
     fn new_cache(alloc: Global) -> Result<Self::Cache, AllocError>
         ensures { IfOk result (λ cache. (view : UnwinderView) → Self.is_sound view cache) };
-
-    /// Returns what a cache has counted.
-    fn stats(cache: &Self::Cache) -> CacheStats;
 
     /// Returns the registers with which a walk begins, by columns.
     fn first_columns(start: &Start<Self::UnwindRegs>) -> RegisterFile
@@ -86,10 +83,6 @@ impl<D: SectionBytes + Drop> Steps for UnwinderX86_64<D, MayAllocateDuringUnwind
         CacheX86_64::new(alloc)
     }
 
-    fn stats(cache: &CacheX86_64<MayAllocateDuringUnwind>) -> CacheStats {
-        cache.stats()
-    }
-
     fn first_columns(start: &Start<UnwindRegsX86_64>) -> RegisterFile {
         all_columns(&start.regs)
     }
@@ -123,10 +116,6 @@ impl<D: SectionBytes + Drop> Steps for UnwinderAarch64<D, MayAllocateDuringUnwin
 
     fn new_cache(alloc: Global) -> Result<CacheAarch64<MayAllocateDuringUnwind>, AllocError> {
         CacheAarch64::new(alloc)
-    }
-
-    fn stats(cache: &CacheAarch64<MayAllocateDuringUnwind>) -> CacheStats {
-        cache.stats()
     }
 
     fn first_columns(start: &Start<UnwindRegsAarch64>) -> RegisterFile {

@@ -72,12 +72,12 @@ module _ (mapped other : Mapped) (same : (pid : ℕ) → mapped pid ≡ other pi
   mapped-same files r pid = by-change (change_in files r) pid
 
 module _ {Regs : Type 0} (module_of : Mapping → ModuleView) (walker : Walker Regs)
-    (starts : List ModuleView → ℕ → List ℕ → Option (Start Regs) → Type 0) (frames : Bool) (limit : ℕ) (files : Files)
+    (starts : List ModuleView → ℕ → List ℕ → Option (Start Regs) → Type 0) (frames sure : Bool) (limit : ℕ) (files : Files)
     (state other : State) (named : (tid : ℕ) → state.named tid ≡ other.named tid)
     (mapped : (pid : ℕ) → state.mapped pid ≡ other.mapped pid) where
   pub text-same : (sample : Result (SampleView × ℕ) RecordingError) (text : List ℕ)
-      → IsTextAt module_of walker starts frames limit files state sample text
-      → IsTextAt module_of walker starts frames limit files other sample text
+      → IsTextAt module_of walker starts frames sure limit files state sample text
+      → IsTextAt module_of walker starts frames sure limit files other sample text
   text-same (Ok sample) text told =
       let pid = sample.0.pid in
       let tid = sample.0.tid in
@@ -85,8 +85,8 @@ module _ {Regs : Type 0} (module_of : Mapping → ModuleView) (walker : Walker R
         told.0,
         subst P (mapped pid) told.1,
         told.2
-            ∙ ap (λ name. stack_text frames files name (head_of name pid tid sample.0.time) (state.mapped pid) told.0) (named tid)
-            ∙ ap (λ mappings. stack_text frames files (other.named tid) (head_of (other.named tid) pid tid sample.0.time) mappings told.0) (mapped pid),
+            ∙ ap (λ name. stack_text frames sure files name (head_of name pid tid sample.0.time) (state.mapped pid) told.0) (named tid)
+            ∙ ap (λ mappings. stack_text frames sure files (other.named tid) (head_of (other.named tid) pid tid sample.0.time) mappings told.0) (mapped pid),
       )
   text-same (Err refusal) text told = told
 

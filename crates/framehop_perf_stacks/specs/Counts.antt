@@ -1,5 +1,5 @@
 -- What is counted of samples.
-use Rattle.std.specs.Prelude.{◌≡◌, ◌≢◌, ℕ, ◌+◌, List, Some}
+use Rattle.std.specs.Prelude.{◌≡◌, ◌≢◌, ℕ, ◌+◌, Bool, if◌then◌else◌, List, Some}
 use Rattle.framehop_folded.specs.Folded.{total_of, entry_of, count_in}
 use Rattle.framehop_folded.specs.declared.folded.Folded.{Folded}
 use Rattle.framehop_perf_stacks.specs.declared.counts.Counts.{Counts}
@@ -10,8 +10,9 @@ pub record CountsOneMore (old new : Folded) (line : List ℕ) : Type 0 where
   pub others : (other : List ℕ) → other ≢ line → entry_of new other ≡ entry_of old other
   pub total : total_of new ≡ total_of old + 1
 
--- a sample more, whose walk ended in this way
-pub record HasSampleMore (old new : Counts) (end : List ℕ) : Type 0 where
+-- a sample more, whose walk ended in this way, and whose frames unwind data tells (`true`) or not all
+pub record HasSampleMore (old new : Counts) (end : List ℕ) (sure : Bool) : Type 0 where
   pub samples : new.samples ≡ old.samples + 1
+  pub unsure : new.unsure ≡ old.unsure + (if sure then 0 else 1)
   pub ends : CountsOneMore old.ends new.ends end
   pub lost : new.lost ≡ old.lost

@@ -12,20 +12,20 @@ use Rattle.framehop_symbols.specs.declared.files.Files.{Files}
 use Rattle.framehop_perf_stacks.specs.declared.recording.Recording.{Recording}
 
 -- a text is that of a sample of one of the two architectures, by the modules of the files
-abbrev pub IsTextIn : Bool → Bool → ℕ → Files → List AttributeView → RecordView × State → List ℕ → Type 0
-IsTextIn true frames limit files attributes =
-    IsTextOf (module_at files) aarch64_walker StartsAarch64 frames limit files attributes
-IsTextIn false frames limit files attributes =
-    IsTextOf (module_at files) x86_64_walker StartsX86_64 frames limit files attributes
+abbrev pub IsTextIn : Bool → Bool → Bool → ℕ → Files → List AttributeView → RecordView × State → List ℕ → Type 0
+IsTextIn true frames sure limit files attributes =
+    IsTextOf (module_at files) aarch64_walker StartsAarch64 frames sure limit files attributes
+IsTextIn false frames sure limit files attributes =
+    IsTextOf (module_at files) x86_64_walker StartsX86_64 frames sure limit files attributes
 
 -- the texts of a recording's samples, each by the state that the records before it lead to
-abbrev pub AreTextsOf : Recording → Files → Bool → ℕ → List (List ℕ) → Type 0
-AreTextsOf recording files frames limit texts =
+abbrev pub AreTextsOf : Recording → Files → Bool → Bool → ℕ → List (List ℕ) → Type 0
+AreTextsOf recording files frames sure limit texts =
     let attributes = map attribute_view recording.events.attributes.items in
-    Each (IsTextIn (are_of_aarch64 attributes) frames limit files attributes)
+    Each (IsTextIn (are_of_aarch64 attributes) frames sure limit files attributes)
     (samples_from files beginning (records_in recording.records.items)) texts
 
 -- they are folded, or shown as blocks
-abbrev pub IsMadeOf : Recording → Files → Bool → Bool → ℕ → Folded → Option (List ℕ) → Option (List ℕ) → Type 0
-IsMadeOf recording files frames explain limit folded before after =
-    (texts : List (List ℕ)) × AreTextsOf recording files frames limit texts × IsMade frames explain texts folded before after
+abbrev pub IsMadeOf : Recording → Files → Bool → Bool → Bool → ℕ → Folded → Option (List ℕ) → Option (List ℕ) → Type 0
+IsMadeOf recording files frames sure explain limit folded before after =
+    (texts : List (List ℕ)) × AreTextsOf recording files frames sure limit texts × IsMade frames explain texts folded before after

@@ -108,20 +108,21 @@ head_text name (Some sample) = head_of name sample.pid sample.tid sample.time
 head_text name None = codes "[unknown]:\n"
 
 -- by the name of its thread and the mappings of its process
-abbrev pub sample_text : Bool → Files → State → Result (SampleView × ℕ) RecordingError → StackView → List ℕ
-sample_text frames files state (Ok sample) stack =
+abbrev pub sample_text : Bool → Bool → Files → State → Result (SampleView × ℕ) RecordingError → StackView → List ℕ
+sample_text frames sure files state (Ok sample) stack =
     let name = state.named sample.0.tid in
-    stack_text frames files name (head_of name sample.0.pid sample.0.tid sample.0.time) (state.mapped sample.0.pid) stack
-sample_text frames files state (Err refusal) stack =
-    stack_text frames files (codes "[unknown]") (codes "[unknown]:\n") [] stack
+    stack_text frames sure files name (head_of name sample.0.pid sample.0.tid sample.0.time) (state.mapped sample.0.pid) stack
+sample_text frames sure files state (Err refusal) stack =
+    stack_text frames sure files (codes "[unknown]") (codes "[unknown]:\n") [] stack
 
 module _ {Regs : Type 0} (module_of : Mapping → ModuleView) (walker : Walker Regs)
-    (starts : List ModuleView → ℕ → List ℕ → Option (Start Regs) → Type 0) (frames : Bool) (limit : ℕ) (files : Files) where
+    (starts : List ModuleView → ℕ → List ℕ → Option (Start Regs) → Type 0) (frames sure : Bool) (limit : ℕ)
+    (files : Files) where
   -- a text is that of a sample at a state: of its stack, by the modules of its process
   abbrev pub IsTextAt : State → Result (SampleView × ℕ) RecordingError → List ℕ → Type 0
   IsTextAt state sample text =
       (stack : StackView) × IsSampleStack walker starts limit files module_of state.mapped sample stack
-      × (text ≡ sample_text frames files state sample stack)
+      × (text ≡ sample_text frames sure files state sample stack)
 
   -- the same of a record of a recording with these events
   abbrev pub IsTextOf : List AttributeView → RecordView × State → List ℕ → Type 0

@@ -13,6 +13,8 @@ use std::alloc::Global;
 pub struct Counts {
     /// How many samples there were.
     pub samples: u64,
+    /// How many of them have a frame that no unwind data tells.
+    pub unsure: u64,
     /// How many records the kernel lost.
     pub lost: u64,
     /// How often walks ended in which way, or why there was none.
@@ -25,6 +27,7 @@ impl Counts {
     /// Returns counts of no samples.
     pub fn new(alloc: Global) -> Self
         ensures samples { result.samples ≡ 0 }
+        ensures unsure { result.unsure ≡ 0 }
         ensures lost { result.lost ≡ 0 }
         ensures ends { total_of result.ends ≡ 0 }
         ensures stacks { total_of result.stacks ≡ 0 }
@@ -32,29 +35,41 @@ impl Counts {
     {
         Counts {
             samples: 0,
+            unsure: 0,
             lost: 0,
             ends: Folded::new(alloc),
             stacks: Folded::new(alloc),
         }
     }
 
-    /// Counts a sample, by how its walk ended.
+    /// Counts a sample, by how its walk ended, and whether unwind data tells all its frames.
     ///
     /// # Errors
     ///
     /// `TooManySamples` if a count would be 2^64, and `OutOfMemory`.
-    pub fn add_sample(&mut self, alloc: Global, end: &[u8]) -> Result<(), StacksError>
-        ensures more { OnOk result (HasSampleMore self.old self.new end.now) }
+    pub fn add_sample(
+        &mut self,
+        alloc: Global,
+        end: &[u8],
+        is_sure: bool,
+    ) -> Result<(), StacksError>
+        ensures more { OnOk result (HasSampleMore self.old self.new end.now is_sure) }
         ensures stacks { self.new.stacks ≡ self.old.stacks }
         ensures refused { IfErr result (λ refusal. (refusal ≡ OutOfMemory)
-            ⊎ ((refusal ≡ TooManySamples) × ((2 ^ 64 ≤ count_in self.old.ends end.now + 1) ⊎ (2 ^ 64 ≤ self.old.samples + 1)))) }
+            ⊎ ((refusal ≡ TooManySamples) × ((2 ^ 64 ≤ count_in self.old.ends end.now + 1) ⊎ (2 ^ 64 ≤ self.old.samples + 1)
+            ⊎ (2 ^ 64 ≤ self.old.unsure + 1)))) }
     {
         let end = Vec::from_slice(alloc, end)?;
         let Some(samples) = self.samples.checked_add(1) else {
             return Err(StacksError::TooManySamples);
         };
+        let more = if is_sure { 0 } else { 1 };
+        let Some(unsure) = self.unsure.checked_add(more) else {
+            return Err(StacksError::TooManySamples);
+        };
         self.ends.add(end, 1)?;
         self.samples = samples;
+        self.unsure = unsure;
         Ok(())
     }
 
@@ -67,6 +82,7 @@ impl Counts {
         ensures more { OnOk result (CountsOneMore self.old.stacks self.new.stacks stack.items) }
         ensures samples { self.new.samples ≡ self.old.samples }
         ensures ends { self.new.ends ≡ self.old.ends }
+        ensures unsure { self.new.unsure ≡ self.old.unsure }
         ensures lost { self.new.lost ≡ self.old.lost }
         ensures refused { IfErr result (λ refusal. (refusal ≡ OutOfMemory)
             ⊎ ((refusal ≡ TooManySamples) × (2 ^ 64 ≤ count_in self.old.stacks stack.items + 1))) }

@@ -35,16 +35,15 @@ pub struct Unwound {
 }
 
 /// Writes what was counted.
-fn write_counts<E: Write>(
-    err: &mut E,
-    counts: &Counts,
-    hits: u64,
-    steps: u64,
-) -> Result<(), StacksError> {
+fn write_counts<E: Write>(err: &mut E, counts: &Counts) -> Result<(), StacksError> {
     let samples = counts.samples;
+    let unsure = counts.unsure;
     let lost = counts.lost;
     writeln!(err, "{samples} samples, {lost} records lost by the kernel")?;
-    writeln!(err, "cache hits: {hits} of {steps} frames")?;
+    writeln!(
+        err,
+        "{unsure} samples with frames that no unwind data tells"
+    )?;
     writeln!(err, "how the stacks ended:")?;
     counts.ends.write(err)?;
     Ok(())
@@ -65,14 +64,13 @@ where
     U::Module: Drop,
     ensures { IfOk result (λ unwound. IfOk unwound.ended (λ refusal. (refusal ≡ recording.now.refusal)
         × ((texts : List (List ℕ))
-        × Each (IsTextOf (M.module_of maker.now) U.walker U.starts options.frames options.limit files.now (map attribute_view recording.now.events.attributes.items))
+        × Each (IsTextOf (M.module_of maker.now) U.walker U.starts options.frames options.sure options.limit files.now (map attribute_view recording.now.events.attributes.items))
         (samples_from files.now beginning (records_in recording.now.records.items)) texts
         × IsMade options.frames options.explain texts unwound.folded (W.contents out.old) (W.contents out.new)))) }
 {
     let mut run: Run<U> = Run::new(alloc)?;
     let taken = run.take_records(alloc, recording, files, maker, options, out);
-    let stats = U::stats(run.cache());
-    let counted = write_counts(err, &run.counts, stats.hits(), stats.total());
+    let counted = write_counts(err, &run.counts);
     let ended = match counted.and(taken) {
         Ok(()) => Ok(recording.refusal),
         Err(error) => Err(error),
@@ -105,7 +103,7 @@ fn unwind_recording<W: Write, E: Write>(
     err: &mut E,
 ) -> Result<Unwound, StacksError>
     ensures { IfOk result (λ unwound. IfOk unwound.ended (λ refusal. (refusal ≡ recording.now.refusal)
-        × IsMadeOf recording.now files.now options.frames options.explain options.limit unwound.folded (W.contents out.old) (W.contents out.new))) }
+        × IsMadeOf recording.now files.now options.frames options.sure options.explain options.limit unwound.folded (W.contents out.old) (W.contents out.new))) }
 {
     let maker = FileModules { files };
     if is_aarch64(&recording.events) {
@@ -142,7 +140,7 @@ pub fn write_stacks<S: FileSource, W: Write, E: Write>(
         × (refusal ≡ recording.refusal)
         × ((files : Files) × AreFilesOf (S.gives source.now) (S.gives_debug source.now)
         (map file_build_id_view recording.build_ids.items) (records_in recording.records.items) files
-        × IsMadeOf recording files options.frames options.explain options.limit unwound.folded (W.contents out.old) (W.contents out.new)))) }
+        × IsMadeOf recording files options.frames options.sure options.explain options.limit unwound.folded (W.contents out.old) (W.contents out.new)))) }
 {
     let recording = read_recording(alloc, file)?;
     let files = read_files(alloc, &recording, source)?;

@@ -34,7 +34,7 @@ use framehop_cfi::context::UnwindContext;
 use framehop_cfi::storage::StoreOnHeap;
 use framehop_explain::Note;
 use framehop_frames::line::{
-    block_head, end_name, folded_line, frames_block, refused_block, refused_line,
+    block_head, end_name, folded_line, frames_block, refused_block, refused_line, sure_part,
 };
 use framehop_frames::stack::Stack;
 use framehop_processes::{Mapping, ModuleMaker};
@@ -55,6 +55,8 @@ pub struct Options {
     pub frames: bool,
     /// Notes under the lines of the blocks: where each frame's caller came from, and why walks ended.
     pub explain: bool,
+    /// Of a folded stack only the frames before the first that no unwind data tells.
+    pub sure: bool,
     /// The most frames of a stack.
     pub limit: u32,
 }
@@ -115,10 +117,12 @@ fn take_stack<R: Copy, W: Write>(
     requires { IsInOrder 0 mappings.now }
     ensures counted { OnOk result (CountsMore options.frames 1 counts.old counts.new) }
     ensures taken { OnOk result (IsTaken options.frames options.explain
-        (stack_text options.frames files.now name.now (head_text name.now (Some sample.entry)) mappings.now (stack_view stack.now))
+        (stack_text options.frames options.sure files.now name.now (head_text name.now (Some sample.entry)) mappings.now (stack_view stack.now))
         counts.old.stacks counts.new.stacks (W.contents out.old) (W.contents out.new)) }
 {
-    counts.add_sample(alloc, end_name(stack.end).as_bytes())?;
+    let frames = stack.frames.as_slice();
+    let is_sure = sure_part(frames).len() == frames.len();
+    counts.add_sample(alloc, end_name(stack.end).as_bytes(), is_sure)?;
     if options.frames {
         let head = head_of(alloc, name, Some(sample))?;
         let block = frames_block(alloc, files, mappings, stack)?;
@@ -131,7 +135,8 @@ fn take_stack<R: Copy, W: Write>(
             out,
         )?;
     } else {
-        counts.add_stack(folded_line(alloc, files, mappings, name, stack)?)?;
+        let line = folded_line(alloc, files, mappings, name, stack, options.sure)?;
+        counts.add_stack(line)?;
     }
     Ok(())
 }
@@ -148,10 +153,10 @@ fn take_refused<W: Write>(
 ) -> Result<(), StacksError>
     ensures counted { OnOk result (CountsMore options.frames 1 counts.old counts.new) }
     ensures taken { OnOk result ((files : Files) (mappings : List Mapping) → IsTaken options.frames options.explain
-        (stack_text options.frames files name.now (head_text name.now sample.entry) mappings (no_stack why.now))
+        (stack_text options.frames options.sure files name.now (head_text name.now sample.entry) mappings (no_stack why.now))
         counts.old.stacks counts.new.stacks (W.contents out.old) (W.contents out.new)) }
 {
-    counts.add_sample(alloc, why.as_bytes())?;
+    counts.add_sample(alloc, why.as_bytes(), true)?;
     if options.frames {
         let head = head_of(alloc, name, sample)?;
         let block = refused_block(alloc, why)?;
@@ -206,11 +211,6 @@ where
         })
     }
 
-    /// Returns the cache.
-    pub fn cache(&self) -> &U::Cache {
-        &self.cache
-    }
-
     /// Counts or writes the stack of a sample, whose process is known, or that it has none.
     fn take_walked<W: Write>(
         &mut self,
@@ -228,7 +228,7 @@ where
         ensures names { self.new.names ≡ self.old.names }
         ensures cache { self.new.cache ≡ self.old.cache }
         ensures taken { OnOk result (IsTaken options.frames options.explain
-            (stack_text options.frames files.now (named_in self.old.names sample.entry.tid) (head_text (named_in self.old.names sample.entry.tid) (Some sample.entry)) (mapped_in self.old.processes.by_pid sample.entry.pid) (option_stack_view walked.now))
+            (stack_text options.frames options.sure files.now (named_in self.old.names sample.entry.tid) (head_text (named_in self.old.names sample.entry.tid) (Some sample.entry)) (mapped_in self.old.processes.by_pid sample.entry.pid) (option_stack_view walked.now))
             self.old.counts.stacks self.new.counts.stacks (W.contents out.old) (W.contents out.new)) }
     {
         let name = self.names.get(sample.tid);
@@ -282,7 +282,7 @@ where
         ensures told { OnOk result ((module_of : Mapping → ModuleView)
             → IsServed module_of (λ view. U.is_sound view self.old.cache) self.old.processes.by_pid self.old.processes.generations
             → (stack : StackView) × IsUserStack U.walker U.starts options.limit files.now (mapped_in self.old.processes.by_pid sample.entry.pid) (map module_of (mapped_in self.old.processes.by_pid sample.entry.pid)) mask (Ok (user_view user.entry)) stack
-            × IsTaken options.frames options.explain (stack_text options.frames files.now (named_in self.old.names sample.entry.tid) (head_text (named_in self.old.names sample.entry.tid) (Some sample.entry)) (mapped_in self.old.processes.by_pid sample.entry.pid) stack)
+            × IsTaken options.frames options.explain (stack_text options.frames options.sure files.now (named_in self.old.names sample.entry.tid) (head_text (named_in self.old.names sample.entry.tid) (Some sample.entry)) (mapped_in self.old.processes.by_pid sample.entry.pid) stack)
             self.old.counts.stacks self.new.counts.stacks (W.contents out.old) (W.contents out.new)) }
     {
         let process = self.processes.known(sample.pid);
@@ -327,7 +327,7 @@ where
         ensures mapped { OnOk result ((pid : ℕ) → mapped_in self.new.processes.by_pid pid ≡ mapped_in self.old.processes.by_pid pid) }
         ensures told { OnOk result ((module_of : Mapping → ModuleView)
             → IsServed module_of (λ view. U.is_sound view self.old.cache) self.old.processes.by_pid self.old.processes.generations
-            → (text : List ℕ) × IsTextAt module_of U.walker U.starts options.frames options.limit files.now (state_in self.old.names self.old.processes.by_pid) (Ok (sample_view sample.entry, mask)) text
+            → (text : List ℕ) × IsTextAt module_of U.walker U.starts options.frames options.sure options.limit files.now (state_in self.old.names self.old.processes.by_pid) (Ok (sample_view sample.entry, mask)) text
             × IsTaken options.frames options.explain text self.old.counts.stacks self.new.counts.stacks (W.contents out.old) (W.contents out.new)) }
     {
         let user = match sample.user {
@@ -368,7 +368,7 @@ where
         ensures mapped { OnOk result ((pid : ℕ) → mapped_in self.new.processes.by_pid pid ≡ mapped_in self.old.processes.by_pid pid) }
         ensures told { OnOk result ((module_of : Mapping → ModuleView)
             → IsServed module_of (λ view. U.is_sound view self.old.cache) self.old.processes.by_pid self.old.processes.generations
-            → (text : List ℕ) × IsTextAt module_of U.walker U.starts options.frames options.limit files.now (state_in self.old.names self.old.processes.by_pid) (sample_in (map attribute_view events.now.attributes.items) (record_view «record».entry)) text
+            → (text : List ℕ) × IsTextAt module_of U.walker U.starts options.frames options.sure options.limit files.now (state_in self.old.names self.old.processes.by_pid) (sample_in (map attribute_view events.now.attributes.items) (record_view «record».entry)) text
             × IsTaken options.frames options.explain text self.old.counts.stacks self.new.counts.stacks (W.contents out.old) (W.contents out.new)) }
     {
         match sample_of(events, record) {
@@ -423,7 +423,7 @@ where
         ensures state { OnOk result (Agrees self.new.names self.new.processes.by_pid
             (state_after files.now (record_view «record».entry) (state_in self.old.names self.old.processes.by_pid))) }
         ensures sample { «record».entry.kind ≡ PERF_RECORD_SAMPLE → OnOk result ((text : List ℕ)
-            × IsTextOf (M.module_of maker.now) U.walker U.starts options.frames options.limit files.now (map attribute_view events.now.attributes.items)
+            × IsTextOf (M.module_of maker.now) U.walker U.starts options.frames options.sure options.limit files.now (map attribute_view events.now.attributes.items)
             (record_view «record».entry, state_in self.old.names self.old.processes.by_pid) text
             × IsTaken options.frames options.explain text self.old.counts.stacks self.new.counts.stacks (W.contents out.old) (W.contents out.new)) }
         ensures other { «record».entry.kind ≢ PERF_RECORD_SAMPLE → (self.new.counts.stacks ≡ self.old.counts.stacks) × (out.new ≡ out.old) }
@@ -460,7 +460,7 @@ where
         ensures state { (state : State) → Agrees self.old.names self.old.processes.by_pid state → OnOk result
             (Agrees self.new.names self.new.processes.by_pid (state_over files.now (records_in recording.now.records.items) state)) }
         ensures told { (state : State) → Agrees self.old.names self.old.processes.by_pid state → OnOk result ((texts : List (List ℕ))
-            × Each (IsTextOf (M.module_of maker.now) U.walker U.starts options.frames options.limit files.now (map attribute_view recording.now.events.attributes.items))
+            × Each (IsTextOf (M.module_of maker.now) U.walker U.starts options.frames options.sure options.limit files.now (map attribute_view recording.now.events.attributes.items))
             (samples_from files.now state (records_in recording.now.records.items)) texts
             × AreTaken options.frames options.explain texts self.old.counts.stacks self.new.counts.stacks (W.contents out.old) (W.contents out.new)) }
     {

@@ -57,6 +57,12 @@ pub fn command<'a>(alloc: Global) -> Result<Command<'a>> {
             "Print a note under each frame: where its caller came from, or why the frame pointer was followed. Of a recording, print blocks as by --frames",
         )
         .action(ArgAction::SetTrue);
+    let sure = Arg::new(alloc, "sure")
+        .long("sure")
+        .help(
+            "Leave out of folded stacks what is not sure: they are cut at the first frame that no unwind data tells",
+        )
+        .action(ArgAction::SetTrue);
     let svg = Arg::new(alloc, "svg")
         .long("svg")
         .help("Print a flame graph of all recordings as an SVG, in the place of folded stacks")
@@ -76,6 +82,7 @@ pub fn command<'a>(alloc: Global) -> Result<Command<'a>> {
         .arg(debug_dir)?
         .arg(frames)?
         .arg(explain)?
+        .arg(sure)?
         .arg(svg)?
         .arg(limit)?
         .arg(files)?;
@@ -92,6 +99,7 @@ pub fn options(matches: &ArgMatches<'_>) -> Option<Options> {
     Some(Options {
         frames: explain || matches.get_flag("frames"),
         explain,
+        sure: matches.get_flag("sure"),
         limit,
     })
 }

@@ -48,6 +48,10 @@ fn run(rt: &HostRuntime) -> Result<u8> {
         eprintln!(rt; "framehop-stacks: the limit is no number")?;
         return Ok(2);
     };
+    if options.sure && options.frames {
+        eprintln!(rt; "framehop-stacks: only folded stacks are cut at frames that are not sure")?;
+        return Ok(2);
+    }
     let root = matches.get_str("root").unwrap_or("");
     let debug_dir = matches.get_str("debug-dir").unwrap_or("/usr/lib/debug");
     let disk = Disk {
@@ -189,6 +193,10 @@ fn print_stacks(
     match fs::read(rt, path) {
         Ok(bytes) if form == Form::Graph && is_dump(bytes.as_slice()) => {
             eprintln!(rt; "framehop-stacks: {path}: only recordings are drawn")?;
+            Ok(2)
+        }
+        Ok(bytes) if options.sure && is_dump(bytes.as_slice()) => {
+            eprintln!(rt; "framehop-stacks: {path}: only recordings are folded")?;
             Ok(2)
         }
         Ok(bytes) if bytes.starts_with(b"\x7fELF") => {

@@ -5,6 +5,6 @@ use Rattle.framehop_frames.proofs.line.push_frames.Goals as goal
 
 pub returns : goal.returns
 returns g c =
-    let frames = YieldsList-from_rev_slice c.args.frames.now.items (search rules) in
+    let frames = YieldsList-from_rev_slice c.args.frames.now (search rules) in
     let yielded = YieldsList-end frames c.loop-frame.yielded c.loop-frame.frame-iterator c.loop-frame.yielded_by c.next.result c.next.new.self c.in-None.is c.next.ensures.steps in
     rw yielded.0 at c.loop-frame.invariant

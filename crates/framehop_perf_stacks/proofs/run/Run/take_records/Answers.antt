@@ -32,7 +32,7 @@ loop-timed-preserved g c =
     let records = c.args.recording.now.records.items in
     let attributes = map attribute_view c.args.recording.now.events.attributes.items in
     let module_of = g.M.ModuleMaker.module_of c.args.maker.now in
-    let text = text-same module_of g.U.Steps.walker g.U.Sampled.starts c.args.options.frames c.args.options.limit c.args.files.now in
+    let text = text-same module_of g.U.Steps.walker g.U.Sampled.starts c.args.options.frames c.args.options.sure c.args.options.limit c.args.files.now in
     let after = c.in_ok-take_record.ensures in
     let items = c.deref-timed-items.result.now in
     let same = c.deref-timed-items.ensures.value in
@@ -45,14 +45,14 @@ loop-timed-preserved g c =
           let so = l.invariant.2 first agrees in
           let left = records-left items records same l.timed-index _ within in
           step c.args.files.now
-          (IsTextOf module_of g.U.Steps.walker g.U.Sampled.starts c.args.options.frames c.args.options.limit c.args.files.now attributes)
+          (IsTextOf module_of g.U.Steps.walker g.U.Sampled.starts c.args.options.frames c.args.options.sure c.args.options.limit c.args.files.now attributes)
           (λ r state other named mapped. text state other named mapped (sample_in attributes r))
           c.args.options.frames c.args.options.explain (records_in records) first c.args.self.now.counts.stacks (g.W.Write.contents c.args.out.now)
           _ (records_in (drop (l.timed-index + 1) records)) l.self.names c.take_record.new.self.names
           l.self.processes.by_pid c.take_record.new.self.processes.by_pid l.self.counts.stacks c.take_record.new.self.counts.stacks
           (g.W.Write.contents l.out) (g.W.Write.contents c.take_record.new.out)
           (subst (λ rest. IsSoFar c.args.files.now
-          (IsTextOf module_of g.U.Steps.walker g.U.Sampled.starts c.args.options.frames c.args.options.limit c.args.files.now attributes)
+          (IsTextOf module_of g.U.Steps.walker g.U.Sampled.starts c.args.options.frames c.args.options.sure c.args.options.limit c.args.files.now attributes)
           c.args.options.frames c.args.options.explain (records_in records) first c.args.self.now.counts.stacks (g.W.Write.contents c.args.out.now) rest
           l.self.names l.self.processes.by_pid l.self.counts.stacks (g.W.Write.contents l.out)) left so)
           after.state after.sample
@@ -80,6 +80,6 @@ returns-clause-told g c = λ first agrees.
     sym (append-nil so.told) ∙ ap (λ rest. so.told ++ rest) (sym none) ∙ so.samples in (
       so.texts,
       subst (λ told. Each (IsTextOf (g.M.ModuleMaker.module_of c.args.maker.now) g.U.Steps.walker g.U.Sampled.starts
-          c.args.options.frames c.args.options.limit files (map attribute_view c.args.recording.now.events.attributes.items)) told so.texts) all so.each,
+          c.args.options.frames c.args.options.sure c.args.options.limit files (map attribute_view c.args.recording.now.events.attributes.items)) told so.texts) all so.each,
       so.taken,
     )

@@ -1,0 +1,6 @@
+// Calls a null pointer, three calls deep.
+#define NOINLINE __attribute__((noinline))
+static int (*volatile called)(int);
+static NOINLINE int calls(int number) { return called(number) + 1; }
+static NOINLINE int middle(int number) { return calls(number + 1) * 2; }
+int main(int argc, char **argv) { return middle(argc) + argv[0][0]; }
