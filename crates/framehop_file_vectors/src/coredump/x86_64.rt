@@ -1,9 +1,10 @@
 //! A core file of Linux 6.18 on x86_64: `scripts/coredump/crash.c`, as it is said there. The last segment is cut off,
 //! and the bytes of vector registers and of the vdso are 0. The expected values are those that `readelf -ln`
-//! and gdb's `info registers`, `info proc mappings`, `backtrace` and `x/gx` print.
+//! and gdb's `info registers`, `info auxv`, `info proc mappings`, `backtrace` and `x/gx` print.
 use crate::coredump::pieces::file_of;
 use framehop_bytes::bytes::front;
 use framehop_core::x86_64::Reg;
+use framehop_coredump::auxiliary_vector::vdso_of;
 use framehop_coredump::core_file::{Machine, read_core_file};
 use framehop_coredump::mapped_file::read_mapped_files;
 use framehop_coredump::memory::memory_of;
@@ -223,6 +224,7 @@ fn reads_the_process_and_its_files(rt: HostRuntime) -> Result<(), Fail> {
     let notes = read_notes(alloc, file.as_slice(), core.segments.as_slice())?;
     let process = read_process(notes.as_slice())?.ok_or("no process")?;
     assert_eq!(rt; (process.pid, process.name), (32706, b"crash".as_slice()));
+    assert_eq!(rt; vdso_of(notes.as_slice()), Some(0x7ff281570000));
     let mapped = read_mapped_files(alloc, notes.as_slice())?;
     assert_eq!(rt; mapped.len(), 3);
     for (part, (start, end, offset)) in mapped.iter().zip(MAPPED) {
