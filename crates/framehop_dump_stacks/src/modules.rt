@@ -204,7 +204,7 @@ where
     let mut process: Process<U> = Process::new(alloc, &mut generations)?;
     for code in &dump.code {
         if let Some(mapping) = mapping_in(alloc, files, *code)? {
-            process.map(alloc, maker, mapping, &mut generations)?;
+            process = process.mapped(alloc, maker, mapping, &mut generations)?;
         }
     }
     Ok(process)

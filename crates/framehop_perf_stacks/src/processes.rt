@@ -168,9 +168,7 @@ impl<U: ProcessUnwinder> Processes<U> {
             → IsServed (M.module_of maker.now) (λ view. U.is_sound view cache) self.old.by_pid self.old.generations
             → IsFit (M.module_of maker.now) (λ view. U.is_sound view cache) self.new.by_pid self.new.generations after) }
     {
-        let mut process = process;
-        process.map(alloc, maker, mapping, &mut self.generations)?;
-        Ok(process)
+        Ok(process.mapped(alloc, maker, mapping, &mut self.generations)?)
     }
 
     /// Maps a file into a process, which begins with it if it is not known.
