@@ -106,7 +106,7 @@ crashes() {
 linux() {
     local sources=$here/judges/linux name
     for name in c system_call signal null_pointer; do gcc -O2 -g -o "$programs/$name" "$sources/$name.c" || exit 1; done
-    for name in handler_aborts other_stack nested_handlers interrupted_leaf null_call wild_call; do
+    for name in handler_aborts other_stack nested_handlers interrupted_leaf null_call wild_call vdso; do
         gcc -O2 -g -fomit-frame-pointer -o "$programs/$name" "$sources/$name.c" || exit 1
         gcc -O2 -g -fno-omit-frame-pointer -mno-omit-leaf-frame-pointer -o "$programs/${name}_fp" "$sources/$name.c" || exit 1
     done
@@ -126,6 +126,9 @@ linux() {
     # of a full stack LLDB writes no minidump
     crashes other_stack core
     crashes other_stack_fp core
+    # a minidump does not say where the vdso is
+    crashes vdso core
+    crashes vdso_fp core
     crashes overflow
     # LLDB's minidumps have nothing of a stack that is full, in each of its styles
     judge_minidump_itself overflow
