@@ -23,6 +23,7 @@ use framehop_macho::macho::CuiUnwindResult;
 use std::alloc::AllocError;
 
 /// What call frame information has for a frame.
+#[derive(Clone, Copy, Drop)]
 pub enum RowFinding<'a> {
     /// A row, which is the context's. Its expressions lie in these bytes.
     Row(&'a [u8]),
@@ -76,7 +77,11 @@ impl<D: SectionBytes + Drop, A: Unwinding, P: AllocationPolicy> Rows for Unwinde
 }
 
 /// Looks for the row of a frame in a module.
-fn row_in_module<'a, D: SectionBytes + Drop, A: Unwinding, S: UnwindContextStorage>(
+///
+/// # Errors
+///
+/// An allocation failed. With limits of rows none is made.
+pub fn row_in_module<'a, D: SectionBytes + Drop, A: Unwinding, S: UnwindContextStorage>(
     module: &'a Module<D>,
     unwind_context: &mut UnwindContext<S>,
     lookup: Lookup,

@@ -29,6 +29,7 @@ use Rattle.framehop_minidump.specs.declared.system_info.Machine.{Machine as Syst
 use Rattle.framehop_minidump.specs.declared.system_info.Machine.TheVariants as system
 use Rattle.framehop_minidump.specs.declared.thread.Thread.{Thread}
 use Rattle.framehop_symbols.specs.ObjectFiles.{is_another}
+use Rattle.framehop_symbols.specs.Source.{SourceView}
 use Rattle.framehop_symbols.specs.Files.{is_unix_path, is_windows_path}
 use Rattle.framehop_dump_stacks.specs.Dump.{ThreadView, MappedCodeView, DumpView, of_context}
 use Rattle.framehop_dump_stacks.specs.Image.{head_at, segments_in, build_id_in}
@@ -225,10 +226,10 @@ code_of memory m given =
     let head = head_at memory m.base in
     code_by head m (loaded_segments_of (or_else (headers_given m.build_id given) (segments_in head)))
 
-module _ (gives : List ℕ → Option (List ℕ) → Type 0) where
+module _ (source : SourceView) where
   -- a file is asked for only by a path of Unix
   abbrev pub IsGivenIf : Bool → List ℕ → Option (List ℕ) → Type 0
-  IsGivenIf true name given = gives name given
+  IsGivenIf true name given = source.gives name given
   IsGivenIf false name given = given ≡ None
 
   -- the code of a module, by what is given of its file
@@ -244,6 +245,6 @@ module _ (gives : List ℕ → Option (List ℕ) → Type 0) where
       × ((later : List MappedCodeView) × AreCodeOf memory others later × (code ≡ first ++ later))
 
 -- what is known of a process by a minidump, and by the files of its modules
-abbrev pub IsDumpOf : (List ℕ → Option (List ℕ) → Type 0) → DumpView × List LoadedView → DumpView → Type 0
-IsDumpOf gives minidump dump = (code : List MappedCodeView) × AreCodeOf gives minidump.0.memory minidump.1 code
+abbrev pub IsDumpOf : SourceView → DumpView × List LoadedView → DumpView → Type 0
+IsDumpOf source minidump dump = (code : List MappedCodeView) × AreCodeOf source minidump.0.memory minidump.1 code
     × (dump ≡ record minidump.0 { code = code })

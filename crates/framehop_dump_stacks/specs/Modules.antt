@@ -11,18 +11,19 @@ use Rattle.framehop_processes.specs.Mappings.{with_mapping}
 use Rattle.framehop_processes.specs.declared.mapping.Mapping.{Mapping}
 use Rattle.framehop_symbols.specs.Files.{number_in, object_in}
 use Rattle.framehop_symbols.specs.Files.{placed_at, IsWithoutFiles, IsAdded}
+use Rattle.framehop_symbols.specs.Source.{SourceView}
 use Rattle.framehop_symbols.specs.declared.object_file.ObjectFile.{ObjectFile}
 use Rattle.framehop_symbols.specs.declared.files.Files.{Files}
 use Rattle.framehop_symbols.specs.declared.files.NamedFile.{NamedFile}
 use Rattle.framehop_dump_stacks.specs.Dump.{MappedCodeView, DumpView, head_of}
 use Rattle.framehop_dump_stacks.specs.Image.{segments_in, sections_of, sections_in}
 
-module _ (gives gives_debug : List ℕ → Option (List ℕ) → Type 0) where
+module _ (source : SourceView) where
   -- The files of mapped code are added one after another. The build id of each is to be the one that is told.
   abbrev pub AreAdded : List MappedCodeView → Files → Files → Type 0
   AreAdded [] old new = new ≡ old
   AreAdded (code ∷ others) old new =
-      (between : Files) × IsAdded gives gives_debug code.path code.build_id old between × AreAdded others between new
+      (between : Files) × IsAdded source code.path code.build_id old between × AreAdded others between new
 
   -- the files whose code is mapped, each once
   abbrev pub AreFilesOf : DumpView → Files → Type 0

@@ -10,6 +10,7 @@ use Rattle.framehop_memory.specs.Memory.{bytes_after}
 use Rattle.framehop_processes.specs.declared.mapping.Mapping.{Mapping}
 use Rattle.framehop_symbols.specs.declared.files.Files.{Files}
 use Rattle.framehop_frames.specs.Code.{code_of}
+use Rattle.framehop_frames.specs.Rows.{rows_in}
 use Rattle.framehop_frames.specs.Stack.{StackView, no_stack, stack_from}
 use Rattle.framehop_frames.specs.Walker.{Walker}
 use Rattle.framehop_frames.specs.Start.{x86_64_start, aarch64_start}
@@ -35,7 +36,7 @@ module _ {Regs : Type 0} (walker : Walker Regs) (begins : RegistersView → Opti
   -- the stack over the memory of a process by the bytes of modules, from the registers with which it begins
   abbrev pub dumped_from : Option (Start Regs) → StackView
   dumped_from (Some start) =
-      stack_from walker limit modules (memory_in dump) (code_in dump files mappings) start
+      stack_from walker limit modules (rows_in walker files mappings modules) (memory_in dump) (code_in dump files mappings) start
   dumped_from None = no_stack (codes "no-registers")
 
   -- the stack of a thread

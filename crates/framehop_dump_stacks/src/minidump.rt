@@ -344,7 +344,7 @@ fn headers_given(
 
 /// Returns the file of a module, if it is given. Only a path of Unix is asked for: no other file is an ELF file.
 fn file_of<S: FileSource>(source: &S, module: &LoadedModule) -> Option<Vec<u8>>
-    ensures { IsGivenIf (S.gives source.now) (is_unix_path (loaded_view «module».now).name)
+    ensures { IsGivenIf (S.source source.now) (is_unix_path (loaded_view «module».now).name)
         (loaded_view «module».now).name (bytes_in result) }
 {
     let name = module.name.as_slice();
@@ -464,7 +464,7 @@ fn push_module<'a, S: FileSource>(
     module: &'a LoadedModule,
 ) -> Result<(), AllocError>
     ensures { OnOk result ((first : List MappedCodeView)
-        × IsCodeOf (S.gives source.now) (memory_view memory.now) (loaded_view «module».entry.now) first
+        × IsCodeOf (S.source source.now) (memory_view memory.now) (loaded_view «module».entry.now) first
         × (map mapped_code_view code.new.items ≡ map mapped_code_view code.old.items ++ first)) }
 {
     let head = head_at(memory, module.base);
@@ -481,7 +481,7 @@ pub fn code_of<'a, S: FileSource>(
     modules: &'a [LoadedModule],
     source: &S,
 ) -> Result<Vec<MappedCode<'a>>, AllocError>
-    ensures { IfOk result (λ code. AreCodeOf (S.gives source.now) (memory_view memory.now)
+    ensures { IfOk result (λ code. AreCodeOf (S.source source.now) (memory_view memory.now)
         (map loaded_view modules.entry.now) (map mapped_code_view code.items)) }
 {
     let mut code = Vec::new(alloc);

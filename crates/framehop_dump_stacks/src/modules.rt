@@ -27,7 +27,7 @@ pub fn read_files<S: FileSource>(
     source: &S,
 ) -> Result<Files, AllocError>
     ensures { IfOk result (λ files.
-        AreFilesOf (S.gives source.now) (S.gives_debug source.now) (dump_view dump.now) files) }
+        AreFilesOf (S.source source.now) (dump_view dump.now) files) }
 {
     let mut files = Files::new(alloc)?;
     for code in &dump.code {

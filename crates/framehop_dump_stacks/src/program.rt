@@ -191,7 +191,7 @@ pub fn write_core_stacks<S: FileSource, W: Write, E: Write>(
     err: &mut E,
 ) -> Result<(), DumpStacksError>
     ensures printed { OnOk result ((dump : DumpView) × (core_dump_of file.now ≡ Ok dump)
-        × ((files : Files) × AreFilesOf (S.gives source.now) (S.gives_debug source.now) dump files
+        × ((files : Files) × AreFilesOf (S.source source.now) dump files
         × ((shown : List ℕ) × IsShown explain (text_of limit dump files) shown
         × Appends (W.contents out.old) (W.contents out.new) shown))) }
     ensures refused { (refusal : CoreFileError) → core_dump_of file.now ≡ Err refusal → IfErr result (λ error.
@@ -219,8 +219,8 @@ pub fn write_minidump_stacks<S: FileSource, W: Write, E: Write>(
     err: &mut E,
 ) -> Result<(), DumpStacksError>
     ensures printed { OnOk result ((minidump : DumpView × List LoadedView) × (minidump_of file.now ≡ Ok minidump)
-        × ((dump : DumpView) × IsDumpOf (S.gives source.now) minidump dump
-        × ((files : Files) × AreFilesOf (S.gives source.now) (S.gives_debug source.now) dump files
+        × ((dump : DumpView) × IsDumpOf (S.source source.now) minidump dump
+        × ((files : Files) × AreFilesOf (S.source source.now) dump files
         × ((shown : List ℕ) × IsShown explain (text_of limit dump files) shown
         × Appends (W.contents out.old) (W.contents out.new) shown)))) }
     ensures refused { (refusal : MinidumpError) → minidump_of file.now ≡ Err refusal → IfErr result (λ error.

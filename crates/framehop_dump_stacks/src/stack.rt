@@ -14,6 +14,7 @@ use framehop::walk::Words;
 use framehop_cfi::context::UnwindContext;
 use framehop_cfi::storage::StoreOnHeap;
 use framehop_frames::memory::{KnownMemory, MappedMemory};
+use framehop_frames::rows::MappedRows;
 use framehop_frames::stack::Stack;
 use framehop_frames::walk::walk_stack;
 use framehop_memory::memory::ProcessMemory;
@@ -47,9 +48,15 @@ pub fn walk_thread<U: Dumped>(
         process,
     };
     let unwinder = process.unwinder();
+    let rows = MappedRows {
+        unwinder,
+        files,
+        process,
+    };
     let stack = walk_stack(
         alloc,
         unwinder,
+        &rows,
         unwind_context,
         cache,
         &memory,

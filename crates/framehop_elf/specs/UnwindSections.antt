@@ -1,6 +1,6 @@
 -- The sections of a file that an unwinder needs, by their names.
 -- (gABI, chapter 4, "Special Sections"; LSB Core, "Exception Frames".)
-use Rattle.std.specs.Prelude.{ℕ, ◌+◌, ◌-◌, ◌^◌, ◌==◌, if◌then◌else◌, List, codes, Option, None, option_map, option_and_then, min, Vec}
+use Rattle.std.specs.Prelude.{ℕ, ◌+◌, ◌-◌, ◌^◌, ◌==◌, if◌then◌else◌, List, codes, Option, Some, None, option_map, option_and_then, min, Vec}
 use Rattle.std.specs.Result.{result_ok}
 use Rattle.std.specs.declared.alloc.Global.{Global}
 use Rattle.std.specs.declared.ops.Range.{Range}
@@ -57,6 +57,29 @@ unwind_sections_of file sections names =
       text_segment_svma = None;
       text_segment = None;
     }
+
+-- what it is to know of the `.debug_frame` of a file that holds `.eh_frame`, too
+abbrev pub debug_frame_beside : Option Stored → List ℕ → List SectionHeader → List ℕ → Option (List ℕ)
+debug_frame_beside (Some eh_frame) file sections names = data_of (stored_called file sections names (codes ".debug_frame"))
+debug_frame_beside None file sections names = None
+
+abbrev pub debug_frame_of : List ℕ → List SectionHeader → List ℕ → ExplicitModuleSectionInfo (List ℕ)
+debug_frame_of file sections names = record {
+  base_svma = 0;
+  text_svma = option_map range_in (section_called sections names (codes ".text"));
+  text = None;
+  stubs_svma = None;
+  stub_helper_svma = None;
+  got_svma = option_map range_in (section_called sections names (codes ".got"));
+  unwind_info = None;
+  eh_frame_svma = None;
+  eh_frame = None;
+  eh_frame_hdr_svma = None;
+  eh_frame_hdr = None;
+  debug_frame = debug_frame_beside (stored_called file sections names (codes ".eh_frame")) file sections names;
+  text_segment_svma = None;
+  text_segment = None;
+}
 
 -- the bytes of data, if there are some
 abbrev pub bytes_in : Option (Vec ℕ Global) → Option (List ℕ)

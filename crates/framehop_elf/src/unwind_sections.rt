@@ -1,7 +1,7 @@
 //! The sections of a file that an unwinder needs.
 ghost use Rattle.std.specs.Prelude.{◌≡◌, IfOk, IfErr, option_map};
 ghost use Rattle.framehop_elf.specs.Section.{section_called};
-ghost use Rattle.framehop_elf.specs.UnwindSections.{range_in, stored_in, stored_called, range_of, data_of, unwind_sections_of, bytes_in, sections_view};
+ghost use Rattle.framehop_elf.specs.UnwindSections.{range_in, stored_in, stored_called, range_of, data_of, unwind_sections_of, debug_frame_of, bytes_in, sections_view};
 
 use crate::error::ElfError;
 use crate::section::{read_contents, section_by_name};
@@ -56,6 +56,35 @@ pub fn read_unwind_sections(
         debug_frame: data_of(alloc, debug_frame)?,
         text_segment_svma: None,
         text_segment: None,
+    })
+}
+
+/// Returns what an unwinder needs of the `.debug_frame` of a file that holds `.eh_frame`, too: for the addresses of which
+/// `.eh_frame` has no row. Without either of them it has no section.
+///
+/// # Errors
+///
+/// `OutOfMemory`.
+///
+/// Source: DWARF 5 section 6.4.1, "Structure of Call Frame Information".
+pub fn read_debug_frame(
+    alloc: Global,
+    file: &[u8],
+    sections: &[SectionHeader],
+    names: &[u8],
+) -> Result<ExplicitModuleSectionInfo<Vec<u8>>, ElfError>
+    ensures exact { IfOk result (λ info. sections_view info ≡ debug_frame_of file.now sections.now names.now) }
+    ensures refused { IfErr result (λ error. error ≡ ElfError.OutOfMemory) }
+{
+    let debug_frame = match stored_called(file, sections, names, b".eh_frame") {
+        Some(_) => stored_called(file, sections, names, b".debug_frame"),
+        None => None,
+    };
+    Ok(ExplicitModuleSectionInfo {
+        text_svma: range_called(sections, names, b".text"),
+        got_svma: range_called(sections, names, b".got"),
+        debug_frame: data_of(alloc, debug_frame)?,
+        ..ExplicitModuleSectionInfo::default()
     })
 }
 

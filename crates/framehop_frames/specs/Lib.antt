@@ -5,3 +5,5 @@ pub mod Stack
 pub mod Explained
 pub mod Code
 pub mod Walker
+pub mod Rows
+pub mod Taken

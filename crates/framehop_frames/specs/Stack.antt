@@ -1,11 +1,12 @@
 -- The stack of a thread at a time, by its values, and its text.
 use Rattle.std.specs.Prelude.{ℕ, ◌+◌, Bool, true, false, Option, Some, None, List, ◌++◌, map, length, codes}
-use Rattle.framehop_core.specs.CodeAddress.{location_of}
+use Rattle.framehop_core.specs.CodeAddress.{FrameLocation, location_of}
 use Rattle.framehop_core.specs.Memory.{Memory}
 use Rattle.framehop.specs.Modules.{ModuleView}
 use Rattle.framehop_processes.specs.declared.mapping.Mapping.{Mapping}
 use Rattle.framehop_backtrace.specs.Backtrace.{Backtrace, FrameView}
 use Rattle.framehop_backtrace.specs.Code.{Code, is_in_trampoline}
+use Rattle.framehop_backtrace.specs.Rows.{Finding}
 use Rattle.framehop_backtrace.specs.declared.frame.BacktraceEnd.{BacktraceEnd}
 use Rattle.framehop_symbols.specs.declared.files.Files.{Files}
 use Rattle.framehop_frames.specs.Line.{ShownFrame, line_of, refused_line, frame_label, frame_line, block_of, last_line}
@@ -36,9 +37,10 @@ abbrev pub stack_of : {Regs : Type 0} → Code → Backtrace Regs → StackView
 stack_of code backtrace = walked (map (shown_of code) backtrace.frames) backtrace.end
 
 -- the stack from the registers with which a walk begins, at most so many frames
-abbrev pub stack_from : {Regs : Type 0} → Walker Regs → ℕ → List ModuleView → Memory → Code → Start Regs → StackView
-stack_from walker limit modules memory code start =
-    stack_of code (backtrace_from walker limit modules memory code start)
+abbrev pub stack_from : {Regs : Type 0} → Walker Regs → ℕ → List ModuleView → (FrameLocation → Finding) → Memory → Code → Start Regs
+    → StackView
+stack_from walker limit modules rows memory code start =
+    stack_of code (backtrace_from walker limit modules rows memory code start)
 
 -- the same, if there is one
 abbrev pub option_stack_view : {Regs : Type 0} → Option (Stack Regs) → StackView

@@ -6,7 +6,7 @@ ghost use Rattle.framehop_frames.specs.Stack.{line_count, option_stack_view};
 use crate::machine::Steps;
 use crate::stack::{Stack, StackFrame};
 use framehop::walk::Words;
-use framehop_backtrace::BacktraceEnd;
+use framehop_backtrace::{BacktraceEnd, FoundBy};
 use framehop_explain::{Note, annotated};
 use std::alloc::{AllocError, Global};
 
@@ -23,47 +23,46 @@ pub fn note_stack<U: Steps, M: Words>(
 {
     notes.push(Note::new(alloc))?;
     if let Some(stack) = walked {
-        note_frames(alloc, unwinder, words, stack.frames.as_slice(), notes)?;
+        note_frames(alloc, unwinder, words, stack.frames.as_slice(), stack.end, notes)?;
     }
     notes.push(end_note(alloc, walked)?)?;
     notes.push(Note::new(alloc))?;
     Ok(())
 }
 
-/// Notes where the caller of each frame comes from.
+/// Notes where the caller of each frame comes from, and how a walk ended at the last.
 fn note_frames<U: Steps, M: Words>(
     alloc: Global,
     unwinder: &U,
     words: &M,
     frames: &[StackFrame<U::UnwindRegs>],
+    end: BacktraceEnd,
     notes: &mut Vec<Note>,
 ) -> Result<(), AllocError>
     ensures { OnOk result (length notes.new.items ≡ length notes.old.items + length frames.now) }
 {
-    for frame in frames {
-        note_frame(alloc, unwinder, words, frame, notes)?;
+    for (at, frame) in frames.iter().enumerate() {
+        let caller = match frames.get(at + 1) {
+            Some(caller) => Ok(caller.found),
+            None => Err(end),
+        };
+        notes.push(frame_note(alloc, unwinder, words, frame, caller)?)?;
     }
     Ok(())
 }
 
-/// Notes where the caller of a frame comes from.
-fn note_frame<U: Steps, M: Words>(
+/// Returns the note of a frame, by how its caller was found, or how the walk ended there.
+fn frame_note<U: Steps, M: Words>(
     alloc: Global,
     unwinder: &U,
     words: &M,
     frame: &StackFrame<U::UnwindRegs>,
-    notes: &mut Vec<Note>,
-) -> Result<(), AllocError>
-    ensures { OnOk result (length notes.new.items ≡ length notes.old.items + 1) }
-{
+    caller: Result<FoundBy, BacktraceEnd>,
+) -> Result<Note, AllocError> {
     if frame.is_trampoline {
-        let note = Note::new(alloc).with_line(
-            "a signal frame: the registers of the interrupted code",
-        )?;
-        notes.push(note)?;
-        return Ok(());
+        return Note::new(alloc).with_line("a signal frame: the registers of the interrupted code");
     }
-    unwinder.note_frame(alloc, frame.address, frame.regs, words, notes)
+    unwinder.frame_note(alloc, frame.address, frame.regs, caller, words)
 }
 
 /// Returns the note of the end of a stack's walk: why it was refused, if it was.

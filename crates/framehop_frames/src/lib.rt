@@ -6,5 +6,7 @@ pub mod explain;
 pub mod line;
 pub mod machine;
 pub mod memory;
+pub mod note;
+pub mod rows;
 pub mod stack;
 pub mod walk;

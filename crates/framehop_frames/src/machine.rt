@@ -1,18 +1,26 @@
 //! What differs by the machine on which a process ran.
-ghost use Rattle.std.specs.Prelude.{◌≡◌, ◌+◌, length, IfOk, OnOk, None};
+ghost use Rattle.std.specs.Prelude.{◌≡◌, IfOk, IfErr, None};
 ghost use Rattle.framehop.specs.Modules.{UnwinderView};
+ghost use Rattle.framehop_backtrace.specs.Rows.{finding_of};
 ghost use Rattle.framehop_frames.specs.Walker.{Walker};
 
+use crate::note::frame_note;
 use framehop::aarch64::{CacheAarch64, UnwindRegsAarch64, UnwinderAarch64};
 use framehop::cache::MayAllocateDuringUnwind;
 use framehop::section::SectionBytes;
 use framehop::walk::Words;
 use framehop::x86_64::{CacheX86_64, UnwindRegsX86_64, UnwinderX86_64};
-use framehop::{FrameAddress, Unwinder};
+use framehop::unwind_by_data::Lookup;
+use framehop::{FrameAddress, Module, Unwinder};
 use framehop_backtrace::x86_64::all_columns;
-use framehop_backtrace::{BacktraceUnwinder, Rows};
+use framehop_backtrace::rows::row_in_module;
+use framehop_backtrace::{BacktraceEnd, BacktraceUnwinder, FoundBy, RowFinding, Rows};
+use framehop_cfi::context::UnwindContext;
+use framehop_cfi::storage::UnwindContextStorage;
 use framehop_columns::register_file::RegisterFile;
-use framehop_explain::{Note, note_frame};
+use framehop_core::aarch64::ArchAarch64;
+use framehop_core::x86_64::ArchX86_64;
+use framehop_explain::Note;
 use framehop_processes::ProcessUnwinder;
 use std::alloc::{AllocError, Global};
 
@@ -40,20 +48,34 @@ pub trait Steps: ProcessUnwinder + BacktraceUnwinder + Rows {
     fn first_columns(start: &Start<Self::UnwindRegs>) -> RegisterFile
         ensures { result ≡ walker.columns start.now.pc start.now.regs };
 
-    /// Notes where the caller of a frame comes from, over words.
+    /// Looks for the row of a frame in a module that lies at no address.
+    ///
+    /// # Errors
+    ///
+    /// An allocation failed. With limits of rows none is made.
+    fn row_in<'a, S: UnwindContextStorage>(
+        module: &'a Module<Vec<u8>>,
+        unwind_context: &mut UnwindContext<S>,
+        lookup: Lookup,
+    ) -> Result<RowFinding<'a>, AllocError>
+        ensures found { IfOk result (λ found. finding_of found unwind_context.new.row
+            ≡ walker.row_in S.limits «module».entry.now.unwind_data lookup.relative_address lookup.is_first_frame) }
+        ensures refused { IfErr result (λ _. S.limits ≡ None) };
+
+    /// Returns the note of a frame that is in no trampoline, over words: what its caller was found by. `caller` is how, or
+    /// how the walk ended there.
     ///
     /// # Errors
     ///
     /// An allocation failed.
-    fn note_frame<M: Words>(
+    fn frame_note<M: Words>(
         &self,
         alloc: Global,
         address: FrameAddress,
         regs: Self::UnwindRegs,
+        caller: Result<FoundBy, BacktraceEnd>,
         words: &M,
-        notes: &mut Vec<Note>,
-    ) -> Result<(), AllocError>
-        ensures { OnOk result (length notes.new.items ≡ length notes.old.items + 1) };
+    ) -> Result<Note, AllocError>;
 
     // an unwinder is of the machine, and what it finds is by the bytes of its modules
     ghost is_of_machine: { Self.machine ≡ walker.machine };
@@ -87,16 +109,23 @@ impl<D: SectionBytes + Drop> Steps for UnwinderX86_64<D, MayAllocateDuringUnwind
         all_columns(&start.regs)
     }
 
-    fn note_frame<M: Words>(
+    fn row_in<'a, S: UnwindContextStorage>(
+        module: &'a Module<Vec<u8>>,
+        unwind_context: &mut UnwindContext<S>,
+        lookup: Lookup,
+    ) -> Result<RowFinding<'a>, AllocError> {
+        row_in_module::<Vec<u8>, ArchX86_64, S>(module, unwind_context, lookup)
+    }
+
+    fn frame_note<M: Words>(
         &self,
         alloc: Global,
         address: FrameAddress,
         regs: UnwindRegsX86_64,
+        caller: Result<FoundBy, BacktraceEnd>,
         words: &M,
-        notes: &mut Vec<Note>,
-    ) -> Result<(), AllocError> {
-        note_frame(alloc, self.inner(), address, regs, words, notes)?;
-        Ok(())
+    ) -> Result<Note, AllocError> {
+        frame_note(alloc, self.inner(), address, regs, caller, words)
     }
 }
 
@@ -122,15 +151,22 @@ impl<D: SectionBytes + Drop> Steps for UnwinderAarch64<D, MayAllocateDuringUnwin
         Self::columns(start.pc, &start.regs)
     }
 
-    fn note_frame<M: Words>(
+    fn row_in<'a, S: UnwindContextStorage>(
+        module: &'a Module<Vec<u8>>,
+        unwind_context: &mut UnwindContext<S>,
+        lookup: Lookup,
+    ) -> Result<RowFinding<'a>, AllocError> {
+        row_in_module::<Vec<u8>, ArchAarch64, S>(module, unwind_context, lookup)
+    }
+
+    fn frame_note<M: Words>(
         &self,
         alloc: Global,
         address: FrameAddress,
         regs: UnwindRegsAarch64,
+        caller: Result<FoundBy, BacktraceEnd>,
         words: &M,
-        notes: &mut Vec<Note>,
-    ) -> Result<(), AllocError> {
-        note_frame(alloc, self.inner(), address, regs, words, notes)?;
-        Ok(())
+    ) -> Result<Note, AllocError> {
+        frame_note(alloc, self.inner(), address, regs, caller, words)
     }
 }

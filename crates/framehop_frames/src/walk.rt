@@ -1,5 +1,5 @@
 //! Walks over stacks.
-ghost use Rattle.std.specs.Prelude.{◌≡◌, IfOk, map};
+ghost use Rattle.std.specs.Prelude.{◌≡◌, IfOk, None, map};
 ghost use Rattle.framehop.specs.Modules.{UnwinderView};
 ghost use Rattle.framehop.specs.Soundness.{AreApart};
 ghost use Rattle.framehop_backtrace.specs.Backtrace.{frame_view};
@@ -8,19 +8,20 @@ ghost use Rattle.framehop_frames.specs.Stack.{shown_frame, shown_of, stack_view,
 use crate::machine::{Start, Steps};
 use crate::stack::{Stack, StackFrame};
 use framehop_backtrace::memory::is_in_trampoline;
-use framehop_backtrace::{CodeMemory, Frame, backtrace};
+use framehop_backtrace::{CodeMemory, Frame, Rows, backtrace};
 use framehop_cfi::context::UnwindContext;
 use framehop_cfi::storage::StoreOnHeap;
 use std::alloc::{AllocError, Global};
 
-/// Returns the stack from registers on, over a memory, at most `limit` frames.
+/// Returns the stack from registers on, by rows and over a memory, at most `limit` frames.
 ///
 /// # Errors
 ///
 /// An allocation failed.
-pub fn walk_stack<U: Steps, M: CodeMemory>(
+pub fn walk_stack<U: Steps, W: Rows, M: CodeMemory>(
     alloc: Global,
     unwinder: &U,
+    rows: &W,
     unwind_context: &mut UnwindContext<StoreOnHeap>,
     cache: &mut U::Cache,
     memory: &M,
@@ -30,13 +31,13 @@ pub fn walk_stack<U: Steps, M: CodeMemory>(
     ensures stays_sound { (other : UnwinderView) → AreApart (U.unwinder_view unwinder.now) other
         → U.is_sound other cache.old → U.is_sound other cache.new }
     ensures walked { U.is_sound (U.unwinder_view unwinder.now) cache.old → IfOk result (λ stack. stack_view stack
-        ≡ stack_from U.walker limit (U.unwinder_view unwinder.now).modules (M.memory memory.now) (M.code memory.now) start) }
+        ≡ stack_from U.walker limit (U.unwinder_view unwinder.now).modules (W.rows rows.now None) (M.memory memory.now) (M.code memory.now) start) }
 {
     let first = Frame::first(start.pc, U::first_columns(&start), start.regs);
     let found = backtrace(
         alloc,
         unwinder,
-        unwinder,
+        rows,
         unwind_context,
         cache,
         memory,

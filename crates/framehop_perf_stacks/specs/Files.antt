@@ -6,6 +6,7 @@ use Rattle.framehop_recording.specs.BuildIds.{FileBuildIdView}
 use Rattle.framehop_recording.specs.Mapping.{MappingView}
 use Rattle.framehop_recording.specs.Records.{RecordView}
 use Rattle.framehop_symbols.specs.Files.{IsWithoutFiles, IsAdded}
+use Rattle.framehop_symbols.specs.Source.{SourceView}
 use Rattle.framehop_symbols.specs.declared.files.Files.{Files}
 use Rattle.framehop_perf_stacks.specs.Changes.{code_mapping_in}
 
@@ -22,11 +23,11 @@ wanted_by build_ids name (byte ∷ bytes) = byte ∷ bytes
 abbrev pub wanted_for : List FileBuildIdView → MappingView → List ℕ
 wanted_for build_ids m = wanted_by build_ids m.name m.build_id
 
-module _ (gives gives_debug : List ℕ → Option (List ℕ) → Type 0) where
+module _ (source : SourceView) where
   -- The files after a record: that of a mapping of code is added. The build id that is wanted of it is the mapping's, or
   -- else the one that the recording has of its name.
   abbrev pub IsAddedFor : List FileBuildIdView → Option MappingView → Files → Files → Type 0
-  IsAddedFor build_ids (Some m) old new = IsAdded gives gives_debug m.name (wanted_for build_ids m) old new
+  IsAddedFor build_ids (Some m) old new = IsAdded source m.name (wanted_for build_ids m) old new
   IsAddedFor build_ids None old new = new ≡ old
 
   -- the same of records, one after another

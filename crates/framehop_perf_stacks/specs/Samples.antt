@@ -25,6 +25,7 @@ use Rattle.framehop_frames.specs.Explained.{IsShown}
 use Rattle.framehop_frames.specs.Line.{head_of}
 use Rattle.framehop_backtrace.specs.Code.{Code}
 use Rattle.framehop_frames.specs.Code.{bytes_after, code_of}
+use Rattle.framehop_frames.specs.Rows.{rows_in}
 use Rattle.framehop_frames.specs.Stack.{StackView, no_stack, stack_from, stack_text}
 use Rattle.framehop_frames.specs.Walker.{Walker}
 use Rattle.framehop_perf_stacks.specs.Names.{Named, named_in, named_after}
@@ -86,7 +87,7 @@ module _ {Regs : Type 0} (walker : Walker Regs)
   -- the stack over the bytes of a copy by the bytes of modules, from the registers with which it begins
   abbrev pub sampled_from : List Mapping → List ModuleView → List ℕ → Option (Start Regs) → StackView
   sampled_from mappings modules bytes (Some start) =
-      stack_from walker limit modules (memory_of_bytes start.sp bytes) (code_in mappings bytes start.sp) start
+      stack_from walker limit modules (rows_in walker files mappings modules) (memory_of_bytes start.sp bytes) (code_in mappings bytes start.sp) start
   sampled_from mappings modules bytes None = no_stack (codes "no-registers")
 
   -- the same of the user's side of a sample, if it can be read

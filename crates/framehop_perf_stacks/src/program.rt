@@ -138,7 +138,7 @@ pub fn write_stacks<S: FileSource, W: Write, E: Write>(
 ) -> Result<Unwound, StacksError>
     ensures made { IfOk result (λ unwound. IfOk unwound.ended (λ refusal. (recording : Recording) × IsReadOf file.now recording
         × (refusal ≡ recording.refusal)
-        × ((files : Files) × AreFilesOf (S.gives source.now) (S.gives_debug source.now)
+        × ((files : Files) × AreFilesOf (S.source source.now)
         (map file_build_id_view recording.build_ids.items) (records_in recording.records.items) files
         × IsMadeOf recording files options.frames options.sure options.explain options.limit unwound.folded (W.contents out.old) (W.contents out.new)))) }
 {

@@ -107,7 +107,7 @@ fn add_file<S: FileSource>(
     files: &mut Files,
     record: Record<'_>,
 ) -> Result<(), StacksError>
-    ensures { OnOk result (IsAddedFor (S.gives source.now) (S.gives_debug source.now) (map file_build_id_view recording.now.build_ids.items)
+    ensures { OnOk result (IsAddedFor (S.source source.now) (map file_build_id_view recording.now.build_ids.items)
         (code_mapping_in (record_view «record».entry)) files.old files.new) }
 {
     let Some(mapping) = code_mapping(record) else {
@@ -124,7 +124,7 @@ pub fn read_files<S: FileSource>(
     recording: &Recording<'_>,
     source: &S,
 ) -> Result<Files, StacksError>
-    ensures { IfOk result (λ files. AreFilesOf (S.gives source.now) (S.gives_debug source.now)
+    ensures { IfOk result (λ files. AreFilesOf (S.source source.now)
         (map file_build_id_view recording.now.build_ids.items) (records_in recording.now.records.items) files) }
 {
     let mut files = Files::new(alloc)?;

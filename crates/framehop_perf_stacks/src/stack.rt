@@ -11,6 +11,7 @@ use framehop::walk::StackBytes;
 use framehop_cfi::context::UnwindContext;
 use framehop_cfi::storage::StoreOnHeap;
 use framehop_frames::memory::MappedMemory;
+use framehop_frames::rows::MappedRows;
 use framehop_frames::stack::Stack;
 use framehop_frames::walk::walk_stack;
 use framehop_processes::Process;
@@ -48,9 +49,15 @@ pub fn walk_sample<U: Sampled>(
         files,
         process,
     };
+    let rows = MappedRows {
+        unwinder,
+        files,
+        process,
+    };
     let stack = walk_stack(
         alloc,
         unwinder,
+        &rows,
         unwind_context,
         cache,
         &memory,

@@ -39,6 +39,18 @@ pub fn command<'a>(alloc: Global) -> Result<Command<'a>> {
         "DIR",
         "Look for names in the debug files below this folder, as .build-id/xx/yyyy.debug [default: /usr/lib/debug]",
     );
+    let buildid_dir = valued(
+        alloc,
+        "buildid-dir",
+        "DIR",
+        "Look for files that are not found, or are others than those that were mapped, in the copies that perf keeps below this folder [default: ~/.debug]",
+    );
+    let vdso = valued(
+        alloc,
+        "vdso",
+        "FILE",
+        "The vdso of the kernel that ran, of a recording without a copy of it",
+    );
     let limit = valued(
         alloc,
         "limit",
@@ -54,7 +66,7 @@ pub fn command<'a>(alloc: Global) -> Result<Command<'a>> {
     let explain = Arg::new(alloc, "explain")
         .long("explain")
         .help(
-            "Print a note under each frame: where its caller came from, or why the frame pointer was followed. Of a recording, print blocks as by --frames",
+            "Print a note under each frame: the unwind data or the rule by which its caller was found. Of a recording, print blocks as by --frames",
         )
         .action(ArgAction::SetTrue);
     let sure = Arg::new(alloc, "sure")
@@ -80,6 +92,8 @@ pub fn command<'a>(alloc: Global) -> Result<Command<'a>> {
         .about(ABOUT)
         .arg(root)?
         .arg(debug_dir)?
+        .arg(buildid_dir)?
+        .arg(vdso)?
         .arg(frames)?
         .arg(explain)?
         .arg(sure)?

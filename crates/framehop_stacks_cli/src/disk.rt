@@ -1,6 +1,6 @@
 //! The files of a disk: those that were mapped, and those of a folder.
 use anyhow::Result;
-use framehop_symbols::files::{FileSource, is_windows_path};
+use framehop_symbols::files::{FileSource, is_vdso, is_windows_path};
 use std::alloc::{AllocError, Global};
 use std::fs;
 
@@ -15,6 +15,10 @@ pub struct Disk<'a> {
     pub root: &'a str,
     /// The folder below which debug files are.
     pub debug_dir: &'a str,
+    /// The folder in which perf keeps copies of files, if it is known.
+    pub buildid_dir: Option<&'a str>,
+    /// The file of the vdso, if one is named.
+    pub vdso: Option<&'a str>,
 }
 
 /// Reads a regular file of at most 4 GiB: a recording may name a device or a pipe, whose bytes don't end.
@@ -26,16 +30,15 @@ fn read_regular(rt: &HostRuntime, path: &str) -> Option<Vec<u8>> {
     fs::read(rt, path).ok()
 }
 
-/// Returns the path of the debug file of a build id: `.build-id/xx/yyyy.debug` below a folder.
-fn debug_path(alloc: Global, debug_dir: &str, build_id: &[u8]) -> Result<String, AllocError> {
-    let mut path = format!(in alloc; "{debug_dir}/.build-id/")?;
+/// Returns the path of a build id below a folder: `.build-id/xx/yyyy`.
+fn build_id_path(alloc: Global, folder: &str, build_id: &[u8]) -> Result<String, AllocError> {
+    let mut path = format!(in alloc; "{folder}/.build-id/")?;
     for (at, byte) in build_id.iter().enumerate() {
         if at == 1 {
             path.push_str("/")?;
         }
         write!(path, "{byte:02x}")?;
     }
-    path.push_str(".debug")?;
     Ok(path)
 }
 
@@ -72,11 +75,16 @@ impl Disk<'_> {
 
 impl FileSource for Disk<'_> {
     // what a disk gives is not known
-    ghost gives = { λ disk name given. Unit {0} };
-
-    ghost gives_debug = { λ disk build_id given. Unit {0} };
+    ghost source = { λ disk. record {
+      gives = λ name given. Unit {0};
+      gives_copied = λ build_id given. Unit {0};
+      gives_debug = λ build_id given. Unit {0};
+    } };
 
     fn read_file(&self, name: &[u8]) -> Option<Vec<u8>> {
+        if is_vdso(name) {
+            return read_regular(self.rt, self.vdso?);
+        }
         let is_windows = is_windows_path(name);
         let name = std::str::from_utf8(name).ok()?;
         if is_windows {
@@ -87,8 +95,21 @@ impl FileSource for Disk<'_> {
         read_regular(self.rt, path.as_str())
     }
 
+    fn read_copied_file(&self, build_id: &[u8]) -> Option<Vec<u8>> {
+        let alloc = self.rt.alloc();
+        let folder = build_id_path(alloc, self.buildid_dir?, build_id).ok()?;
+        for name in ["elf", "vdso"] {
+            let path = format!(in alloc; "{}/{name}", folder.as_str()).ok()?;
+            if let Some(bytes) = read_regular(self.rt, path.as_str()) {
+                return Some(bytes);
+            }
+        }
+        None
+    }
+
     fn read_debug_file(&self, build_id: &[u8]) -> Option<Vec<u8>> {
-        let path = debug_path(self.rt.alloc(), self.debug_dir, build_id).ok()?;
+        let mut path = build_id_path(self.rt.alloc(), self.debug_dir, build_id).ok()?;
+        path.push_str(".debug").ok()?;
         read_regular(self.rt, path.as_str())
     }
 }

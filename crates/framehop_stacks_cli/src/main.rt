@@ -54,10 +54,13 @@ fn run(rt: &HostRuntime) -> Result<u8> {
     }
     let root = matches.get_str("root").unwrap_or("");
     let debug_dir = matches.get_str("debug-dir").unwrap_or("/usr/lib/debug");
+    let buildid_dir = buildid_dir(rt, matches.get_str("buildid-dir"))?;
     let disk = Disk {
         rt,
         root,
         debug_dir,
+        buildid_dir: buildid_dir.as_deref(),
+        vdso: matches.get_str("vdso"),
     };
     let paths = matches.get_strs("file").unwrap_or(&[]);
     if matches.get_flag("svg") {
@@ -68,6 +71,19 @@ fn run(rt: &HostRuntime) -> Result<u8> {
         return print_all(rt, paths, &disk, options, Form::Graph);
     }
     print_all(rt, paths, &disk, options, Form::Text)
+}
+
+/// Returns the folder in which perf keeps copies of files: the one that is named, or `.debug` in the home folder, if that is
+/// known.
+fn buildid_dir(rt: &HostRuntime, named: Option<&str>) -> Result<Option<String>> {
+    let alloc = rt.alloc();
+    if let Some(folder) = named {
+        return Ok(Some(String::from_str(alloc, folder)?));
+    }
+    match env::home_dir(rt) {
+        Ok(Some(home)) => Ok(Some(format!(in alloc; "{}/.debug", home.as_str())?)),
+        _ => Ok(None),
+    }
 }
 
 /// Prints the stacks of all files, those of recordings last, where they are folded. Returns the greatest status.

@@ -2,6 +2,7 @@
 use Rattle.std.proofs.Common.{◌≡◌, ◌≢◌, ℕ, List, [], ◌∷◌, ◌++◌, length, Option, refl, arith}
 use Rattle.framehop_symbols.specs.ObjectFiles.{Listed, AreTables}
 use Rattle.framehop_symbols.specs.Files.{AreDebugTables, debug_tables_in}
+use Rattle.framehop_symbols.specs.Source.{SourceView}
 use Rattle.framehop_symbols.specs.declared.object_file.Symbols.{Symbols}
 
 pub AreTables-append : (xs ys : List Listed) (ss ts : List Symbols) → AreTables xs ss → AreTables ys ts → AreTables (xs ++ ys) (ss ++ ts)
@@ -10,10 +11,10 @@ AreTables-append [] ys (s ∷ ss) ts first second = absurd first
 AreTables-append (x ∷ xs) ys [] ts first second = absurd first
 AreTables-append (x ∷ xs) ys (s ∷ ss) ts first second = (first.0, AreTables-append xs ys ss ts first.1 second)
 
-pub debug-given : (gives gives_debug : List ℕ → Option (List ℕ) → Type 0) (build_id : List ℕ) (given : Option (List ℕ)) → build_id ≢ []
-    → gives_debug build_id given → AreDebugTables gives gives_debug build_id (debug_tables_in build_id given)
-debug-given gives gives_debug [] given some gave = absurd (some refl)
-debug-given gives gives_debug (byte ∷ bytes) given some gave = (given, gave, refl)
+pub debug-given : (source : SourceView) (build_id : List ℕ) (given : Option (List ℕ)) → build_id ≢ []
+    → source.gives_debug build_id given → AreDebugTables source build_id (debug_tables_in build_id given)
+debug-given source [] given some gave = absurd (some refl)
+debug-given source (byte ∷ bytes) given some gave = (given, gave, refl)
 
 pub empty-of_length : (bytes : List ℕ) → length bytes ≡ 0 → bytes ≡ []
 empty-of_length [] none = refl

@@ -1,12 +1,13 @@
 -- The files that processes map, and the modules of mappings.
 use Rattle.std.specs.Prelude.{◌≡◌, ◌≢◌, ◌⊎◌, ℕ, nat_eq, IsSome, List, [], ◌∷◌, ◌++◌, length, codes, Option, Some, None, option_and_then, slice_get, Bool, true, false, not, ◌&&◌, ◌||◌}
 use Rattle.std.specs.BTreeMap.{get_by}
-use Rattle.std.specs.Cmp.Lexicographic.{slice_cmp}
+use Rattle.std.specs.Cmp.Lexicographic.{pointwise, slice_cmp}
 use Rattle.std.specs.List.{starts_with}
 use Rattle.std.specs.Ordering.{nat_cmp}
 use Rattle.framehop.specs.Modules.{ModuleView}
 use Rattle.framehop_processes.specs.declared.mapping.Mapping.{Mapping}
-use Rattle.framehop_symbols.specs.ObjectFiles.{Listed, problem_of, debug_tables_of, IsKeptOf}
+use Rattle.framehop_symbols.specs.ObjectFiles.{Listed, problem_of, debug_tables_of, bare_module, IsKeptOf}
+use Rattle.framehop_symbols.specs.Source.{SourceView}
 use Rattle.framehop_symbols.specs.declared.object_file.ObjectFile.{ObjectFile}
 use Rattle.framehop_symbols.specs.declared.object_file.FileProblem.{FileProblem}
 use Rattle.framehop_symbols.specs.declared.object_file.FileProblem.TheVariants.{NotRead}
@@ -57,6 +58,20 @@ is_windows_path name = has_drive name || starts_with nat_eq name (codes "\\")
 unfoldable pub is_path : List ℕ → Bool
 is_path name = is_unix_path name || is_windows_path name
 
+-- the vdso, which the kernel maps and no path names
+abbrev pub is_vdso : List ℕ → Bool
+is_vdso name = pointwise nat_eq name (codes "[vdso]")
+
+-- the names of what a source is asked for
+abbrev pub is_read : List ℕ → Bool
+is_read name = is_path name || is_vdso name
+
+-- what is told of a problem: nothing of a vdso (`false`) that is not there
+abbrev pub told_of : Bool → FileProblem → Option FileProblem
+told_of true problem = Some problem
+told_of false NotRead = None
+told_of false problem = Some problem
+
 -- why nothing is kept of a file that is given or not
 abbrev pub IsProblem : Option (List ℕ) → List ℕ → FileProblem → Type 0
 IsProblem None wanted problem = problem ≡ NotRead
@@ -71,28 +86,47 @@ debug_tables_in build_id (Some bytes) = debug_tables_of build_id bytes
 pub record IsWithoutFiles (files : Files) : Type 0 where
   pub list : files.list.items ≡ []
   pub numbers : (name : List ℕ) → number_in files name ≡ None
+  pub bare : files.bare ≡ bare_module
 
-module _ (gives gives_debug : List ℕ → Option (List ℕ) → Type 0) where
+module _ (source : SourceView) where
   -- the symbol tables of the debug file of a build id: none without one
   abbrev pub AreDebugTables : List ℕ → List Listed → Type 0
   AreDebugTables [] tables = tables ≡ []
   AreDebugTables (byte ∷ bytes) tables =
-      (given : Option (List ℕ)) × gives_debug (byte ∷ bytes) given × (tables ≡ debug_tables_in (byte ∷ bytes) given)
+      (given : Option (List ℕ)) × source.gives_debug (byte ∷ bytes) given × (tables ≡ debug_tables_in (byte ∷ bytes) given)
 
-  -- a file that is kept, with its debug names, by what is given of both
+  -- the bytes of a file by its name, and by the build id that is wanted of it, if one is
+  abbrev pub IsNamed : List ℕ → List ℕ → List ℕ → Type 0
+  IsNamed name wanted bytes = source.gives name (Some bytes) × (problem_of bytes wanted ≡ None)
+
+  abbrev pub IsCopied : List ℕ → List ℕ → Type 0
+  IsCopied wanted bytes = (wanted ≢ []) × source.gives_copied wanted (Some bytes) × (problem_of bytes wanted ≡ None)
+
+  -- why none is kept by its name
+  abbrev pub IsRefused : List ℕ → List ℕ → FileProblem → Type 0
+  IsRefused name wanted problem = (given : Option (List ℕ)) × source.gives name given × IsProblem given wanted problem
+
+  -- and none by its build id
+  abbrev pub IsNotCopied : List ℕ → Type 0
+  IsNotCopied wanted =
+      (wanted ≡ [])
+      ⊎ ((given : Option (List ℕ)) × source.gives_copied wanted given × ((problem : FileProblem) × IsProblem given wanted problem))
+
+  -- a file that is kept, with its debug names, by what is given of both: the one of its name, or else the one of the build
+  -- id
   abbrev pub IsKept : List ℕ → List ℕ → ObjectFile → Type 0
   IsKept name wanted object =
-      (bytes : List ℕ) × gives name (Some bytes) × (problem_of bytes wanted ≡ None)
+      (bytes : List ℕ) × (IsNamed name wanted bytes ⊎ (((problem : FileProblem) × IsRefused name wanted problem) × IsCopied wanted bytes))
       × ((debug : List Listed) × AreDebugTables object.build_id.items debug × IsKeptOf bytes debug object)
 
-  -- or else why nothing is
+  -- or else why nothing is: a vdso that is not given is no problem
   abbrev pub IsLoaded : List ℕ → List ℕ → Option ObjectFile → Option FileProblem → Type 0
   IsLoaded name wanted (Some object) None = IsKept name wanted object
-  IsLoaded name wanted None (Some problem) = (given : Option (List ℕ)) × gives name given × IsProblem given wanted problem
-  IsLoaded name wanted None None = ⊥
+  IsLoaded name wanted None problem =
+      (refusal : FileProblem) × IsRefused name wanted refusal × IsNotCopied wanted × (problem ≡ told_of (is_path name) refusal)
   IsLoaded name wanted (Some object) (Some problem) = ⊥
 
-  -- only a path is read
+  -- only a path is read, and the vdso
   abbrev pub IsLoadedIf : Bool → List ℕ → List ℕ → Option ObjectFile → Option FileProblem → Type 0
   IsLoadedIf true name wanted object problem = IsLoaded name wanted object problem
   IsLoadedIf false name wanted object problem = (object ≡ None) × (problem ≡ None)
@@ -100,7 +134,7 @@ module _ (gives gives_debug : List ℕ → Option (List ℕ) → Type 0) where
   -- a file of a name, of which a build id is wanted, is what the source gives
   pub record IsFileOf (name wanted : List ℕ) (file : NamedFile) : Type 0 where
     pub called : file.name.items ≡ name
-    pub loaded : IsLoadedIf (is_path name) name wanted file.object file.problem
+    pub loaded : IsLoadedIf (is_read name) name wanted file.object file.problem
 
   -- a file is the next of all, under its name
   pub record IsNext (name wanted : List ℕ) (old new : Files) : Type 0 where

@@ -8,6 +8,7 @@ use Rattle.std.specs.Ordering.{nat_cmp}
 use Rattle.std.specs.Result.{result_ok}
 use Rattle.framehop_bytes.specs.Bytes.{◌>>=◌}
 use Rattle.framehop_bytes.specs.ExplicitSections.{table_of}
+use Rattle.framehop_bytes.specs.declared.section.ExplicitModuleSectionInfo.{ExplicitModuleSectionInfo}
 use Rattle.framehop_elf.specs.BuildId.{build_id_of_file}
 use Rattle.framehop_elf.specs.Header.{file_header_of}
 use Rattle.framehop_elf.specs.ProgramHeader.{program_headers_of}
@@ -15,7 +16,7 @@ use Rattle.framehop_elf.specs.Segment.{loaded_segments_of}
 use Rattle.framehop_elf.specs.Section.{section_called, section_names_of}
 use Rattle.framehop_elf.specs.SectionHeader.{section_headers_of}
 use Rattle.framehop_elf.specs.Symbol.{start_of, function_symbols_of, symbol_names_of}
-use Rattle.framehop_elf.specs.UnwindSections.{unwind_sections_of}
+use Rattle.framehop_elf.specs.UnwindSections.{unwind_sections_of, debug_frame_of}
 use Rattle.framehop_elf.specs.declared.error.ElfError.{ElfError}
 use Rattle.framehop_elf.specs.declared.program_header.ProgramHeader.{ProgramHeader}
 use Rattle.framehop_elf.specs.declared.section_header.SectionHeader.{SectionHeader}
@@ -30,7 +31,7 @@ use Rattle.framehop_pe_file.specs.declared.error.PeError.{PeError}
 use Rattle.framehop_pe_file.specs.declared.error.PeError.TheVariants.{OutOfMemory as PeOutOfMemory}
 use Rattle.framehop_pe_file.specs.declared.header.FileHeader.{FileHeader}
 use Rattle.framehop_pe_file.specs.declared.section_header.SectionHeader.{SectionHeader as PeSectionHeader}
-use Rattle.framehop.specs.Modules.{ModuleView}
+use Rattle.framehop.specs.Modules.{ModuleView, no_unwind_data}
 use Rattle.framehop.specs.ModuleData.{unwind_data_in}
 use Rattle.framehop_symbols.specs.declared.code.SegmentCode.{SegmentCode}
 use Rattle.framehop_symbols.specs.declared.object_file.ObjectFile.{ObjectFile}
@@ -113,15 +114,26 @@ AreTables [] (s ∷ symbols) = ⊥
 AreTables (l ∷ listed) [] = ⊥
 AreTables (l ∷ listed) (s ∷ symbols) = IsTable l s × AreTables listed symbols
 
--- a module that lies at no address, with the unwind data of the file's sections
-abbrev pub module_in : List ℕ → HeadersView → ModuleView
-module_in file headers = record {
+-- a module that lies at no address, with the unwind data of sections
+abbrev pub module_of : ExplicitModuleSectionInfo (List ℕ) → ModuleView
+module_of info = record {
   name = [];
   start = 0;
   end = 0;
   base_avma = 0;
-  unwind_data = unwind_data_in (λ bytes. bytes) (table_of (unwind_sections_of file headers.sections headers.names));
+  unwind_data = unwind_data_in (λ bytes. bytes) (table_of info);
 }
+
+-- the same of a file's sections, and of the `.debug_frame` that it has beside `.eh_frame`
+abbrev pub module_in : List ℕ → HeadersView → ModuleView
+module_in file headers = module_of (unwind_sections_of file headers.sections headers.names)
+
+abbrev pub debug_frame_in : List ℕ → HeadersView → ModuleView
+debug_frame_in file headers = module_of (debug_frame_of file headers.sections headers.names)
+
+-- the same without unwind data
+abbrev pub bare_module : ModuleView
+bare_module = record { name = []; start = 0; end = 0; base_avma = 0; unwind_data = no_unwind_data None }
 
 -- the code of a segment: where it begins, and its bytes in the file, or none where it may not be executed
 pub record CodeView : Type 0 where
@@ -140,12 +152,13 @@ code_of_segment file segment = record {
 abbrev pub code_of : List ℕ → List Segment → List CodeView
 code_of file segments = map (code_of_segment file) segments
 
--- what a file says that is kept: its segments, their code, its build id, its module and its symbol tables
+-- what a file says that is kept: its segments, their code, its build id, its modules and its symbol tables
 pub record Contents : Type 0 where
   pub segments : List Segment
   pub code : List CodeView
   pub build_id : List ℕ
   pub loaded : ModuleView
+  pub debug_frame : ModuleView
   pub tables : List Listed
 
 -- an ELF file
@@ -155,6 +168,7 @@ elf_contents file headers = record {
   code = code_of file (loaded_segments_of headers.segments);
   build_id = build_id_in file headers;
   loaded = module_in file headers;
+  debug_frame = debug_frame_in file headers;
   tables = tables_of file headers;
 }
 
@@ -203,6 +217,7 @@ pe_contents file header sections = record {
   code = code_of file (map segment_of sections);
   build_id = identity_of file header sections;
   loaded = pe_module_in file header sections;
+  debug_frame = bare_module;
   tables = [];
 }
 
@@ -249,6 +264,7 @@ pub record IsKeptBy (contents : Contents) (debug : List Listed) (object : Object
   pub code : map code_view object.code.items ≡ contents.code
   pub build_id : object.build_id.items ≡ contents.build_id
   pub loaded : object.«module» ≡ contents.loaded
+  pub debug_frame : object.debug_frame ≡ contents.debug_frame
   pub tables : AreTables (debug ++ contents.tables) object.symbols.items
 
 abbrev pub IsKeptOf : List ℕ → List Listed → ObjectFile → Type 0

@@ -1,37 +1,38 @@
 //! The files that processes map by their numbers, and the modules of their mappings.
-ghost use Rattle.std.specs.Prelude.{◌≡◌, ◌⊎◌, ℕ, List, [], Option, Some, None, Ok, IsSome, IfOk, IfErr, OnOk, option_map, option_copied, slice_get};
+ghost use Rattle.std.specs.Prelude.{◌≡◌, ◌⊎◌, ℕ, List, [], Option, Some, None, Ok, IsSome, IfOk, IfErr, OnOk, option_map, option_copied, slice_get, MatchOption};
 ghost use Rattle.framehop.specs.Modules.{ModuleView};
 ghost use Rattle.framehop_elf.specs.UnwindSections.{bytes_in};
 ghost use Rattle.framehop_elf.specs.declared.error.ElfError.{ElfError};
 ghost use Rattle.framehop_symbols.specs.ObjectFiles.{Listed, problem_of, IsOutOfMemory, IsKeptOf};
-ghost use Rattle.framehop_symbols.specs.Files.{number_in, object_in, module_at, placed_at, is_unix_path, has_drive, is_windows_path, is_path, IsProblem, AreDebugTables, IsFileOf, IsNext, IsAdded, IsWithoutFiles};
+ghost use Rattle.framehop_symbols.specs.Files.{number_in, object_in, module_at, placed_at, is_unix_path, has_drive, is_windows_path, is_path, is_vdso, is_read, told_of, IsNamed, IsRefused, IsCopied, IsNotCopied, AreDebugTables, IsFileOf, IsNext, IsAdded, IsWithoutFiles};
+ghost use Rattle.framehop_symbols.specs.Source.{SourceView};
 ghost use Rattle.framehop_symbols.specs.declared.object_file.FileProblem.{FileProblem};
 
-use crate::object_file::{FileProblem, ObjectFile};
+use crate::object_file::{FileProblem, ObjectFile, bare_module};
 use framehop::Module;
 use framehop::aarch64::UnwinderAarch64;
 use framehop::cache::AllocationPolicy;
-use framehop::section::ExplicitModuleSectionInfo;
 use framehop::x86_64::UnwinderX86_64;
 use framehop_processes::{Mapping, ModuleMaker, ProcessUnwinder};
 use std::alloc::{AllocError, Global};
 use std::collections::BTreeMap;
 
-/// What gives files by their names, as a disk does.
+/// What gives files by their names and their build ids, as a disk does.
 pub trait FileSource {
-    // what it can give for the name of a file
-    ghost gives: { Self → List ℕ → Option (List ℕ) → Type 0 };
+    // what it can give
+    ghost source: { Self → SourceView };
 
-    // what it can give for the build id of a debug file
-    ghost gives_debug: { Self → List ℕ → Option (List ℕ) → Type 0 };
-
-    /// Returns the bytes of a file, if it is there and can be read.
+    /// Returns the bytes of a file by its name, a path or `[vdso]`, if it is there and can be read.
     fn read_file(&self, name: &[u8]) -> Option<Vec<u8>>
-        ensures { gives self.now name.now (bytes_in result) };
+        ensures { (source self.now).gives name.now (bytes_in result) };
+
+    /// Returns the bytes of the file of a build id of which a profiler has a copy, if there is one and it can be read.
+    fn read_copied_file(&self, build_id: &[u8]) -> Option<Vec<u8>>
+        ensures { (source self.now).gives_copied build_id.now (bytes_in result) };
 
     /// Returns the bytes of the debug file of a build id, if it is there and can be read.
     fn read_debug_file(&self, build_id: &[u8]) -> Option<Vec<u8>>
-        ensures { gives_debug self.now build_id.now (bytes_in result) };
+        ensures { (source self.now).gives_debug build_id.now (bytes_in result) };
 }
 
 /// A file that processes map, by its name.
@@ -86,21 +87,102 @@ fn is_path(name: &[u8]) -> bool
     is_unix_path(name) || is_windows_path(name)
 }
 
-/// Reads a file from its source.
+/// Returns whether a name is that of the vdso, which the kernel maps.
+pub fn is_vdso(name: &[u8]) -> bool
+    ensures { result ≡ is_vdso name.now }
+{
+    name == b"[vdso]".as_slice()
+}
+
+/// Returns whether a source is asked for the file of a name.
+fn is_read(name: &[u8]) -> bool
+    ensures { result ≡ is_read name.now }
+{
+    is_path(name) || is_vdso(name)
+}
+
+/// Returns what is told of a file that is not kept: nothing of a vdso that is not there.
+fn told_of(is_path: bool, problem: FileProblem) -> Option<FileProblem>
+    ensures { result ≡ told_of is_path problem }
+{
+    match problem {
+        FileProblem::NotRead if !is_path => None,
+        problem => Some(problem),
+    }
+}
+
+/// Reads a file from its source: by its name, or else by the build id that is wanted of it.
 fn read_object<S: FileSource>(
     alloc: Global,
     source: &S,
     name: &[u8],
     build_id: &[u8],
 ) -> Result<ObjectFile, FileProblem>
-    ensures kept { IfOk result (λ object. (bytes : List ℕ) × S.gives source.now name.now (Some bytes)
-        × (problem_of bytes build_id.now ≡ None) × IsKeptOf bytes [] object) }
+    ensures kept { IfOk result (λ object. (bytes : List ℕ)
+        × (IsNamed (S.source source.now) name.now build_id.now bytes
+          ⊎ (((problem : FileProblem) × IsRefused (S.source source.now) name.now build_id.now problem)
+          × IsCopied (S.source source.now) build_id.now bytes))
+        × IsKeptOf bytes [] object) }
     ensures refused { IfErr result (λ problem. IsOutOfMemory problem
-        ⊎ ((given : Option (List ℕ)) × S.gives source.now name.now given × IsProblem given build_id.now problem)) }
+        ⊎ (IsRefused (S.source source.now) name.now build_id.now problem × IsNotCopied (S.source source.now) build_id.now)) }
+{
+    match read_named(alloc, source, name, build_id) {
+        Ok(object) => Ok(object),
+        Err(problem) => {
+            if problem.is_out_of_memory() {
+                return Err(problem);
+            }
+            match read_copied(alloc, source, build_id)? {
+                Some(object) => Ok(object),
+                None => Err(problem),
+            }
+        }
+    }
+}
+
+/// Reads the file of a name.
+fn read_named<S: FileSource>(
+    alloc: Global,
+    source: &S,
+    name: &[u8],
+    build_id: &[u8],
+) -> Result<ObjectFile, FileProblem>
+    ensures kept { IfOk result (λ object. (bytes : List ℕ)
+        × IsNamed (S.source source.now) name.now build_id.now bytes × IsKeptOf bytes [] object) }
+    ensures refused { IfErr result (λ problem. IsOutOfMemory problem
+        ⊎ IsRefused (S.source source.now) name.now build_id.now problem) }
 {
     match source.read_file(name) {
         Some(bytes) => ObjectFile::new(alloc, bytes.as_slice(), build_id),
         None => Err(FileProblem::NotRead),
+    }
+}
+
+/// Reads the copy of the file of a build id that is wanted: `None` where there is none, or it can't be used. Fails only
+/// where an allocation does.
+fn read_copied<S: FileSource>(
+    alloc: Global,
+    source: &S,
+    build_id: &[u8],
+) -> Result<Option<ObjectFile>, FileProblem>
+    ensures kept { IfOk result (λ found. MatchOption found (IsNotCopied (S.source source.now) build_id.now)
+        (λ object. (bytes : List ℕ) × IsCopied (S.source source.now) build_id.now bytes × IsKeptOf bytes [] object)) }
+    ensures refused { IfErr result (λ problem. IsOutOfMemory problem) }
+{
+    if build_id.is_empty() {
+        return Ok(None);
+    }
+    let Some(bytes) = source.read_copied_file(build_id) else {
+        return Ok(None);
+    };
+    match ObjectFile::new(alloc, bytes.as_slice(), build_id) {
+        Ok(object) => Ok(Some(object)),
+        Err(problem) => {
+            if problem.is_out_of_memory() {
+                return Err(problem);
+            }
+            Ok(None)
+        }
     }
 }
 
@@ -111,7 +193,7 @@ fn add_debug_names<S: FileSource>(
     object: &mut ObjectFile,
 ) -> Result<(), AllocError>
     ensures kept { (file : List ℕ) → IsKeptOf file [] object.old → OnOk result ((debug : List Listed)
-        × AreDebugTables (S.gives source.now) (S.gives_debug source.now) object.new.build_id.items debug × IsKeptOf file debug object.new) }
+        × AreDebugTables (S.source source.now) object.new.build_id.items debug × IsKeptOf file debug object.new) }
 {
     if object.build_id().is_empty() {
         return Ok(());
@@ -125,21 +207,21 @@ fn add_debug_names<S: FileSource>(
     }
 }
 
-/// Reads a file, if its name is a path.
+/// Reads a file, if its name is a path or that of the vdso.
 fn load<S: FileSource>(
     alloc: Global,
     source: &S,
     name: &[u8],
     build_id: &[u8],
 ) -> Result<NamedFile, AllocError>
-    ensures { IfOk result (λ file. IsFileOf (S.gives source.now) (S.gives_debug source.now) name.now build_id.now file) }
+    ensures { IfOk result (λ file. IsFileOf (S.source source.now) name.now build_id.now file) }
 {
     let mut file = NamedFile {
         name: Vec::from_slice(alloc, name)?,
         object: None,
         problem: None,
     };
-    if is_path(name) {
+    if is_read(name) {
         match read_object(alloc, source, name, build_id) {
             Ok(mut object) => {
                 add_debug_names(alloc, source, &mut object)?;
@@ -149,7 +231,7 @@ fn load<S: FileSource>(
                 if problem.is_out_of_memory() {
                     return Err(AllocError);
                 }
-                file.problem = Some(problem);
+                file.problem = told_of(is_path(name), problem);
             }
         }
     }
@@ -180,8 +262,8 @@ impl Files {
         ensures bare { self.new.bare ≡ self.old.bare }
         ensures known { IsSome (number_in self.old name.now) → (result ≡ Ok tt) × (self.new ≡ self.old) }
         ensures added { number_in self.old name.now ≡ None → OnOk result
-            (IsNext (S.gives source.now) (S.gives_debug source.now) name.now build_id.now self.old self.new) }
-        ensures either { OnOk result (IsAdded (S.gives source.now) (S.gives_debug source.now) name.now build_id.now self.old self.new) }
+            (IsNext (S.source source.now) name.now build_id.now self.old self.new) }
+        ensures either { OnOk result (IsAdded (S.source source.now) name.now build_id.now self.old self.new) }
     {
         if self.numbers.get(name).is_some() {
             return Ok(());
@@ -237,15 +319,6 @@ impl Files {
             Some(object) => placed_at(object.module(), mapping),
             None => placed_at(&self.bare, mapping),
         }
-    }
-}
-
-/// Returns a module without unwind data that lies at no address.
-fn bare_module(alloc: Global) -> Result<Module<Vec<u8>>, AllocError> {
-    let info: ExplicitModuleSectionInfo<Vec<u8>> = ExplicitModuleSectionInfo::default();
-    match Module::new(alloc, String::new(alloc), 0..0, 0, info) {
-        Ok(made) => Ok(made),
-        Err(_) => Err(AllocError),
     }
 }
 

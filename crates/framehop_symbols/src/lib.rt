@@ -3,6 +3,7 @@
 #![tactic(auto)]
 
 pub mod code;
+pub mod debug_frame;
 pub mod files;
 pub mod object_file;
 mod pe_file;

@@ -4,9 +4,10 @@
 //! no address: the modules of all mappings of the file share its unwind data.
 ghost use Rattle.std.specs.Prelude.{◌≡◌, ◌⊎◌, ◌↔◌, IsTrue, ℕ, List, [], ◌++◌, Some, None, Ok, Err, IfOk, IfErr, OnOk, MatchResult, option_map, option_to_list};
 ghost use Rattle.framehop_elf.specs.Symbol.{symbol_for};
+ghost use Rattle.framehop_elf.specs.UnwindSections.{sections_view};
 ghost use Rattle.framehop_elf.specs.declared.error.ElfError.{ElfError};
 ghost use Rattle.framehop_memory.specs.Segment.{base_of};
-ghost use Rattle.framehop_symbols.specs.ObjectFiles.{Contents, Listed, headers_view, headers_of, build_id_in, is_another, problem_by, problem_of, symbols_in, symbols_called, tables_of, debug_tables_of, IsTable, AreTables, module_in, elf_contents_of, pe_contents_of, IsOutOfMemory, IsKeptBy, IsKeptOf};
+ghost use Rattle.framehop_symbols.specs.ObjectFiles.{Contents, Listed, headers_view, headers_of, build_id_in, is_another, problem_by, problem_of, symbols_in, symbols_called, tables_of, debug_tables_of, IsTable, AreTables, module_of, module_in, debug_frame_in, bare_module, elf_contents_of, pe_contents_of, IsOutOfMemory, IsKeptBy, IsKeptOf};
 ghost use Rattle.framehop_symbols.specs.Code.{code_of_object};
 ghost use Rattle.framehop_symbols.specs.Place.{option_named, function_at};
 ghost use Rattle.framehop_symbols.specs.declared.object_file.FileProblem.{FileProblem};
@@ -14,6 +15,7 @@ ghost use Rattle.framehop_symbols.specs.declared.object_file.FileProblem.{FilePr
 use crate::code::{SegmentCode, code_from, code_of};
 use crate::pe_file;
 use framehop::Module;
+use framehop::section::ExplicitModuleSectionInfo;
 use framehop_bytes::string::string_at;
 use framehop_elf::build_id::read_build_id;
 use framehop_elf::error::ElfError;
@@ -23,7 +25,7 @@ use framehop_elf::section::{read_section_names, section_by_name};
 use framehop_elf::section_header::{SectionHeader, read_section_headers};
 use framehop_elf::segment::loaded_segments;
 use framehop_elf::symbol::{Symbol, SymbolTable, read_function_symbols, read_symbol_names};
-use framehop_elf::unwind_sections::read_unwind_sections;
+use framehop_elf::unwind_sections::{read_debug_frame, read_unwind_sections};
 use framehop_memory::segment::{Segment, base_avma};
 use framehop_pe_file::error::PeError;
 use std::alloc::{AllocError, Global};
@@ -58,6 +60,8 @@ pub struct ObjectFile {
     symbols: Vec<Symbols>,
     /// At no address. The modules of mappings share its unwind data.
     module: Module<Vec<u8>>,
+    /// The same by `.debug_frame` only, where the file has `.eh_frame`, too.
+    debug_frame: Module<Vec<u8>>,
     /// Its build id, or the GUID and the age of its program database: no bytes where it has none.
     build_id: Vec<u8>,
 }
@@ -264,16 +268,48 @@ fn read_debug_symbols(
     Ok(symbols)
 }
 
-/// Returns a module of a file that lies at no address.
+/// Returns a module that lies at no address, with the unwind data of the file's sections.
 fn module_in(alloc: Global, file: &[u8], headers: &Headers<'_>) -> Result<Module<Vec<u8>>, ElfError>
     ensures loaded { IfOk result (λ made. made ≡ module_in file.now (headers_view headers.now)) }
     ensures refused { IfErr result (λ error. error ≡ ElfError.OutOfMemory) }
 {
     let info = read_unwind_sections(alloc, file, headers.sections.as_slice(), headers.names)?;
+    Ok(module_of(alloc, info)?)
+}
+
+/// Returns a module that lies at no address, with the `.debug_frame` of a file that has `.eh_frame`, too: else it has no
+/// unwind data.
+fn debug_frame_in(
+    alloc: Global,
+    file: &[u8],
+    headers: &Headers<'_>,
+) -> Result<Module<Vec<u8>>, ElfError>
+    ensures loaded { IfOk result (λ made. made ≡ debug_frame_in file.now (headers_view headers.now)) }
+    ensures refused { IfErr result (λ error. error ≡ ElfError.OutOfMemory) }
+{
+    let info = read_debug_frame(alloc, file, headers.sections.as_slice(), headers.names)?;
+    Ok(module_of(alloc, info)?)
+}
+
+/// Returns a module that lies at no address, with the unwind data of sections.
+fn module_of(
+    alloc: Global,
+    info: ExplicitModuleSectionInfo<Vec<u8>>,
+) -> Result<Module<Vec<u8>>, AllocError>
+    ensures { IfOk result (λ made. made ≡ module_of (sections_view info)) }
+{
     match Module::new(alloc, String::new(alloc), 0..0, 0, info) {
         Ok(made) => Ok(made),
-        Err(_) => Err(ElfError::OutOfMemory),
+        Err(_) => Err(AllocError),
     }
+}
+
+/// Returns a module without unwind data that lies at no address.
+pub(crate) fn bare_module(alloc: Global) -> Result<Module<Vec<u8>>, AllocError>
+    ensures { IfOk result (λ made. made ≡ bare_module) }
+{
+    let info: ExplicitModuleSectionInfo<Vec<u8>> = ExplicitModuleSectionInfo::default();
+    module_of(alloc, info)
 }
 
 /// Reads an ELF file. Where a build id is wanted, the file's must be the same.
@@ -293,12 +329,14 @@ fn read_elf(alloc: Global, bytes: &[u8], wanted: &[u8]) -> Result<ObjectFile, Fi
     let code = code_of(alloc, bytes, segments.as_slice())?;
     let symbols = read_all_symbols(alloc, bytes, &headers)?;
     let module = module_in(alloc, bytes, &headers)?;
+    let debug_frame = debug_frame_in(alloc, bytes, &headers)?;
     let build_id = Vec::from_slice(alloc, found)?;
     Ok(ObjectFile {
         segments,
         code,
         symbols,
         module,
+        debug_frame,
         build_id,
     })
 }
@@ -325,6 +363,7 @@ fn read_pe(alloc: Global, bytes: &[u8], wanted: &[u8]) -> Result<ObjectFile, Fil
         code,
         symbols: Vec::new(alloc),
         module,
+        debug_frame: bare_module(alloc)?,
         build_id,
     })
 }
@@ -391,6 +430,14 @@ impl ObjectFile {
         ensures { result.now ≡ self.now.«module» }
     {
         &self.module
+    }
+
+    /// Returns a module of the file's `.debug_frame` that lies at no address: without unwind data where the file has none
+    /// beside its `.eh_frame`.
+    pub fn debug_frame(&self) -> &Module<Vec<u8>>
+        ensures { result.now ≡ self.now.debug_frame }
+    {
+        &self.debug_frame
     }
 
     /// Returns the name of the function that has an address (SVMA), and how far the address is from its

@@ -9,13 +9,13 @@ use Rattle.framehop_dump_stacks.proofs.minidump.code_of.Goals as goal
 
 pub loop-module-init : goal.loop-module-init
 loop-module-init g c = λ rest are.
-    subst (λ (items : List MappedCode). AreCodeOf (g.S.FileSource.gives c.args.source.now) (memory_view c.args.memory.now) (map loaded_view c.args.modules.now)
+    subst (λ (items : List MappedCode). AreCodeOf (g.S.FileSource.source c.args.source.now) (memory_view c.args.memory.now) (map loaded_view c.args.modules.now)
     (map mapped_code_view items ++ rest)) (sym c.new-code.ensures.items) are
 
 pub loop-module-preserved : goal.loop-module-preserved
 loop-module-preserved g c =
     let l = c.loop-module in
-    let gives = g.S.FileSource.gives c.args.source.now in
+    let source = g.S.FileSource.source c.args.source.now in
     let memory = memory_view c.args.memory.now in
     let modules = c.args.modules.now in
     let within : l.module-index < length modules = omega arith in
@@ -23,17 +23,17 @@ loop-module-preserved g c =
     ∙ ap (λ m. loaded_view m ∷ map loaded_view (drop (l.module-index + 1) modules)) (sym c.module-item.is) in
     let pushed = c.in_ok-push_module.ensures in
     λ rest are.
-    subst (AreCodeOf gives memory (map loaded_view modules))
+    subst (AreCodeOf source memory (map loaded_view modules))
     (append-assoc (map mapped_code_view l.code.items) pushed.0 rest ∙ ap (λ before. before ++ rest) (sym pushed.2))
     (l.invariant (pushed.0 ++ rest)
-    (subst (λ some. AreCodeOf gives memory some (pushed.0 ++ rest)) (sym left) (pushed.0, pushed.1, (rest, are, refl))))
+    (subst (λ some. AreCodeOf source memory some (pushed.0 ++ rest)) (sym left) (pushed.0, pushed.1, (rest, are, refl))))
 
 pub returns : goal.returns
 returns g c =
     let l = c.loop-module in
-    let gives = g.S.FileSource.gives c.args.source.now in
+    let source = g.S.FileSource.source c.args.source.now in
     let memory = memory_view c.args.memory.now in
     let modules = c.args.modules.now in
     let none : map loaded_view (drop l.module-index modules) ≡ [] = at_drop_all (map loaded_view) modules l.module-index (omega arith) in
-    subst (AreCodeOf gives memory (map loaded_view modules)) (append-none (map mapped_code_view l.code.items))
-    (l.invariant [] (subst (λ (some : List LoadedView). AreCodeOf gives memory some []) (sym none) refl))
+    subst (AreCodeOf source memory (map loaded_view modules)) (append-none (map mapped_code_view l.code.items))
+    (l.invariant [] (subst (λ (some : List LoadedView). AreCodeOf source memory some []) (sym none) refl))

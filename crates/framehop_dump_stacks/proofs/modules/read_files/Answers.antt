@@ -11,15 +11,14 @@ loop-code-init g c = (c.in_ok-files.files, c.in_ok-files.ensures, λ last added.
 pub loop-code-preserved : goal.loop-code-preserved
 loop-code-preserved g c =
     let l = c.loop-code in
-    let gives = g.S.FileSource.gives c.args.source.now in
-    let gives_debug = g.S.FileSource.gives_debug c.args.source.now in
+    let source = g.S.FileSource.source c.args.source.now in
     let items = c.deref-code-items.result.now in
     let within : l.code-index < length items = omega arith in
     let left = code-left items c.args.dump.now.code.items c.deref-code-items.ensures.value l.code-index _ within in (
       l.invariant.0,
       l.invariant.1,
       λ last rest. l.invariant.2 last
-          (subst (λ code. AreAdded gives gives_debug code l.files last) (sym left) (c.add.new.self, c.in_ok-add.ensures.either, rest)),
+          (subst (λ code. AreAdded source code l.files last) (sym left) (c.add.new.self, c.in_ok-add.ensures.either, rest)),
     )
 
 pub returns : goal.returns
@@ -29,6 +28,6 @@ returns g c =
     let none : map mapped_code_view (drop l.code-index code) ≡ [] = at_drop_all (map mapped_code_view) code l.code-index (omega arith) in (
       l.invariant.0,
       l.invariant.1,
-      l.invariant.2 l.files (subst (λ (code : List MappedCodeView). AreAdded (g.S.FileSource.gives c.args.source.now) (g.S.FileSource.gives_debug c.args.source.now)
+      l.invariant.2 l.files (subst (λ (code : List MappedCodeView). AreAdded (g.S.FileSource.source c.args.source.now)
           code l.files l.files) (sym none) refl),
     )

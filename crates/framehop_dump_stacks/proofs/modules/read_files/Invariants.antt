@@ -8,7 +8,7 @@ use Rattle.framehop_dump_stacks.proofs.modules.read_files.Given as goal
 abbrev pub invariant-loop-code : goal.invariant-loop-code
 invariant-loop-code g l =
     (none : Files) × IsWithoutFiles none × ((last : Files)
-    → AreAdded (g.S.FileSource.gives l.source) (g.S.FileSource.gives_debug l.source)
+    → AreAdded (g.S.FileSource.source l.source)
     (map mapped_code_view (drop l.code-index l.dump.code.items)) l.files last
-    → AreAdded (g.S.FileSource.gives l.source) (g.S.FileSource.gives_debug l.source)
+    → AreAdded (g.S.FileSource.source l.source)
     (map mapped_code_view l.dump.code.items) none last)

@@ -14,6 +14,7 @@ returns-clause-kept c =
         code = search rules;
         build_id = search rules;
         loaded = search rules;
+        debug_frame = search rules;
         tables = search rules;
       },
     )

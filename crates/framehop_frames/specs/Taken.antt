@@ -1,0 +1,65 @@
+-- What a walk took for the caller of a frame, beside what the library's step tells for it.
+use Rattle.std.specs.Prelude.{Bool, true, false, Result, Ok, Err, if◌then◌else◌}
+use Rattle.framehop_backtrace.specs.declared.frame.BacktraceEnd.{BacktraceEnd}
+use Rattle.framehop_backtrace.specs.declared.frame.BacktraceEnd.TheVariants.{Root, FramePointerZero, CfaUnknown, ReturnAddressUnknown, DidNotAdvance, NoCaller}
+use Rattle.framehop_backtrace.specs.declared.frame.FoundBy.{FoundBy}
+use Rattle.framehop_backtrace.specs.declared.frame.FoundBy.TheVariants.{Cfi, FramePointer as ByFramePointer, Guess}
+use Rattle.framehop_explain.specs.declared.source.RowSource.TheVariants.{Row as HasRow}
+use Rattle.framehop_explain.specs.declared.source.Source.{Source}
+use Rattle.framehop_explain.specs.declared.source.Source.TheVariants.{Fde, CompactFde, Pe, Compact}
+use Rattle.framehop_explain.specs.declared.told.Told.{Told}
+use Rattle.framehop_explain.specs.declared.told.Told.TheVariants.{Rule, Computed, Refused}
+use Rattle.framehop_frames.specs.declared.note.Data.{Data}
+use Rattle.framehop_frames.specs.declared.note.Data.TheVariants as data
+use Rattle.framehop_frames.specs.declared.note.Taken.{Taken}
+use Rattle.framehop_frames.specs.declared.note.Taken.TheVariants.{Step, Row, DebugFrame, Call, FramePointer}
+
+-- unwind data tells the caller, or that there is none, or that it can't be told
+abbrev pub is_by_row : Result FoundBy BacktraceEnd → Bool
+is_by_row (Ok Cfi) = true
+is_by_row (Err Root) = true
+is_by_row (Err CfaUnknown) = true
+is_by_row (Err ReturnAddressUnknown) = true
+is_by_row (Err DidNotAdvance) = true
+is_by_row caller = false
+
+-- after a guess the frame pointer was followed
+abbrev pub is_by_frame_pointer : Result FoundBy BacktraceEnd → Bool
+is_by_frame_pointer (Ok ByFramePointer) = true
+is_by_frame_pointer (Err FramePointerZero) = true
+is_by_frame_pointer (Err NoCaller) = true
+is_by_frame_pointer caller = false
+
+-- a row, and whether the library has a rule for it or computes the return address
+abbrev pub row_of : {R : Type 0} → Told R → Data
+row_of (Rule rule) = data.Row
+row_of (Computed address) = data.Row
+row_of (Refused error) = data.RefusedRow
+
+-- no row: the library has the rule of a function's start, or nothing
+abbrev pub start_of : {R : Type 0} → Told R → Data
+start_of (Rule rule) = data.Start
+start_of (Computed address) = data.Start
+start_of (Refused error) = data.Nothing
+
+-- what the module of a frame has for it
+abbrev pub data_of : {R : Type 0} → Source → Told R → Data
+data_of (Fde section offset HasRow) told = row_of told
+data_of (CompactFde function offset HasRow) told = row_of told
+data_of (Pe source) told = data.Info
+data_of (Compact source) told = data.Info
+data_of source told = start_of told
+
+-- in a module
+abbrev pub taken_by : Data → Result FoundBy BacktraceEnd → Taken
+taken_by data.Row caller = Step
+taken_by data.Info caller = Step
+taken_by data.RefusedRow caller = Row
+taken_by data.Start caller =
+    if is_by_row caller then DebugFrame else (if is_by_frame_pointer caller then FramePointer else Step)
+taken_by data.Nothing caller = if is_by_row caller then DebugFrame else Step
+
+-- in no module
+abbrev pub taken_outside : Result FoundBy BacktraceEnd → Taken
+taken_outside (Ok Guess) = Call
+taken_outside caller = Step

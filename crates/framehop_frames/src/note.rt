@@ -1,0 +1,202 @@
+//! The note of a frame: what its caller was found by.
+ghost use Rattle.std.specs.Prelude.{◌≡◌};
+ghost use Rattle.framehop_core.specs.Memory.{reply};
+ghost use Rattle.framehop_frames.specs.Taken.{is_by_row, is_by_frame_pointer, data_of, taken_by, taken_outside};
+
+use framehop::unwinder::UnwinderInternal;
+use framehop::walk::Words;
+use framehop::{AllocationPolicy, FrameAddress};
+use framehop_backtrace::{BacktraceEnd, FoundBy};
+use framehop_bytes::section::SectionBytes;
+use framehop_core::unwind_rule::UnwindRule;
+use framehop_explain::pe::Sources;
+use framehop_explain::{
+    DescribeRule, Described, Explanation, Finding, Note, RowSource, Source, Told, explain_frame,
+    frame_text,
+};
+use std::alloc::{AllocError, Global};
+
+/// What a walk took for the caller of a frame.
+#[derive(Clone, Copy, Debug, PartialEq, Eq)]
+pub enum Taken {
+    /// The library's step.
+    Step,
+    /// A row over all registers that are known, where the library has no rule for it.
+    Row,
+    /// A row of `.debug_frame`, where the module's other unwind data has none.
+    DebugFrame,
+    /// The stack as it is right after a call, since a call led to no code.
+    Call,
+    /// The frame pointer, since what a function's start would return to lies after no call.
+    FramePointer,
+}
+
+/// What the module of a frame has for it.
+#[derive(Clone, Copy, Debug, PartialEq, Eq)]
+pub enum Data {
+    /// A row of call frame information, of which the library has a rule or the return address.
+    Row,
+    /// A row for which it has none.
+    RefusedRow,
+    /// PE or compact unwind info.
+    Info,
+    /// No row, and the library has the rule of a function's start.
+    Start,
+    /// Nothing.
+    Nothing,
+}
+
+/// Returns the note of a frame that is in no trampoline, over words. `caller` is how its caller was found, or how the
+/// walk ended there.
+///
+/// # Errors
+///
+/// An allocation failed.
+pub(crate) fn frame_note<D: SectionBytes + Drop, A: Sources, P: AllocationPolicy, M: Words>(
+    alloc: Global,
+    unwinder: &UnwinderInternal<D, A, P>,
+    address: FrameAddress,
+    regs: A::UnwindRegs,
+    caller: Result<FoundBy, BacktraceEnd>,
+    words: &M,
+) -> Result<Note, AllocError>
+where
+    A::UnwindRule: DescribeRule,
+{
+    let mut read_stack = |word: u64| -> Result<u64, ()>
+        ensures { result ≡ reply (M.memory words.entry.now word) }
+    { words.read(word) };
+    let explanation = explain_frame(unwinder, alloc, address, regs, &mut read_stack)?;
+    let line = match &explanation.finding {
+        Some(finding) => taken_text::<D, A::UnwindRule>(alloc, finding, caller)?,
+        None => taken_outside_text::<A::UnwindRule>(alloc, address, caller)?,
+    };
+    let line = match line {
+        Some(line) => line,
+        None => frame_text::<D, A>(alloc, unwinder.modules(), address, &explanation)?,
+    };
+    Note::new(alloc).with_line(line.as_str())
+}
+
+/// Returns what a walk took for the caller of a frame in a module, or `None` for the library's step.
+fn taken_text<D: SectionBytes, R: DescribeRule>(
+    alloc: Global,
+    finding: &Finding<'_, D, R>,
+    caller: Result<FoundBy, BacktraceEnd>,
+) -> Result<Option<String>, AllocError> {
+    let address = finding.relative_address;
+    let source = finding.source;
+    let text = match taken_by(data_of(source, finding.told), caller) {
+        Taken::Row => format!(in alloc; "0x{address:x}: {source}: over all registers")?,
+        Taken::DebugFrame => {
+            format!(in alloc; "0x{address:x}: {source}; row of .debug_frame: over all registers")?
+        }
+        Taken::FramePointer => {
+            let rule = Described(R::fallback_rule());
+            format!(in alloc; "0x{address:x}: {source}: no call leads there: fallback: {rule}")?
+        }
+        Taken::Step | Taken::Call => return Ok(None),
+    };
+    Ok(Some(text))
+}
+
+/// Returns what a walk took for the caller of a frame in no module, or `None` for the library's step.
+fn taken_outside_text<R: DescribeRule>(
+    alloc: Global,
+    address: FrameAddress,
+    caller: Result<FoundBy, BacktraceEnd>,
+) -> Result<Option<String>, AllocError> {
+    match taken_outside(caller) {
+        Taken::Call => {
+            let address = address.address();
+            let rule = Described(R::rule_for_function_start());
+            let text = format!(in alloc; "0x{address:x}: no code, a call led there: {rule}")?;
+            Ok(Some(text))
+        }
+        _ => Ok(None),
+    }
+}
+
+/// Returns what a walk took for the caller of a frame in a module, by what the module has for the frame.
+fn taken_by(data: Data, caller: Result<FoundBy, BacktraceEnd>) -> Taken
+    ensures { result ≡ taken_by data caller }
+{
+    match data {
+        Data::Row | Data::Info => Taken::Step,
+        Data::RefusedRow => Taken::Row,
+        Data::Start if is_by_row(caller) => Taken::DebugFrame,
+        Data::Start if is_by_frame_pointer(caller) => Taken::FramePointer,
+        Data::Nothing if is_by_row(caller) => Taken::DebugFrame,
+        Data::Start | Data::Nothing => Taken::Step,
+    }
+}
+
+/// Returns what a walk took for the caller of a frame in no module.
+fn taken_outside(caller: Result<FoundBy, BacktraceEnd>) -> Taken
+    ensures { result ≡ taken_outside caller }
+{
+    match caller {
+        Ok(FoundBy::Guess) => Taken::Call,
+        _ => Taken::Step,
+    }
+}
+
+/// Returns whether a caller was found by unwind data, or unwind data ended the walk.
+fn is_by_row(caller: Result<FoundBy, BacktraceEnd>) -> bool
+    ensures { result ≡ is_by_row caller }
+{
+    match caller {
+        Ok(FoundBy::Cfi)
+        | Err(
+            BacktraceEnd::Root
+            | BacktraceEnd::CfaUnknown
+            | BacktraceEnd::ReturnAddressUnknown
+            | BacktraceEnd::DidNotAdvance,
+        ) => true,
+        _ => false,
+    }
+}
+
+/// Returns whether a caller was looked for by the frame pointer after a guess.
+fn is_by_frame_pointer(caller: Result<FoundBy, BacktraceEnd>) -> bool
+    ensures { result ≡ is_by_frame_pointer caller }
+{
+    match caller {
+        Ok(FoundBy::FramePointer)
+        | Err(BacktraceEnd::FramePointerZero | BacktraceEnd::NoCaller) => true,
+        _ => false,
+    }
+}
+
+/// Returns what the module of a frame has for it, by where that is and what it tells.
+fn data_of<R: Copy>(source: Source, told: Told<R>) -> Data
+    ensures { result ≡ data_of source told }
+{
+    match (source, told) {
+        (
+            Source::Fde {
+                row: RowSource::Row,
+                ..
+            }
+            | Source::CompactFde {
+                row: RowSource::Row,
+                ..
+            },
+            Told::Refused(_),
+        ) => Data::RefusedRow,
+        (
+            Source::Fde {
+                row: RowSource::Row,
+                ..
+            }
+            | Source::CompactFde {
+                row: RowSource::Row,
+                ..
+            },
+            _,
+        ) => Data::Row,
+        (Source::Pe(_) | Source::Compact(_), _) => Data::Info,
+        (_, Told::Refused(_)) => Data::Nothing,
+        _ => Data::Start,
+    }
+}

@@ -1,0 +1,16 @@
+use Rattle.std.proofs.Common.{ℕ, [], sym, ap, ◌∙◌}
+use Rattle.std.specs.Global.{Global}
+use Rattle.std.specs.declared.vec.Vec.{Vec}
+use Rattle.framehop_bytes.specs.ExplicitSections.{table_of}
+use Rattle.framehop.specs.Laws.SectionContents.{data-of_bytes}
+use Rattle.framehop.specs.Modules.{ModuleView, UnwindData}
+use Rattle.framehop_symbols.proofs.object_file.module_of.Goals as goal
+
+with_data : UnwindData → ModuleView
+with_data found = record { name = []; start = 0; end = 0; base_avma = 0; unwind_data = found }
+
+pub returns-in-Ok-clause : goal.returns-in-Ok-clause
+unfolding with_data
+returns-in-Ok-clause c =
+    rw c.new.ensures.bytes at c.in-Ok.ensures.made
+    ∙ ap with_data (sym (data-of_bytes (λ (bytes : Vec ℕ Global). bytes.items) (table_of c.args.info)))
