@@ -12,6 +12,7 @@ use Rattle.framehop_minidump.specs.CodeView.{CodeViewView, of_pdb, of_elf, codev
 use Rattle.framehop_minidump.specs.Exception.{exception_of, context_of}
 use Rattle.framehop_minidump.specs.Location.{located}
 use Rattle.framehop_minidump.specs.Memory.{ranges_of}
+use Rattle.framehop_minidump.specs.MemoryInfo.{regions_of}
 use Rattle.framehop_minidump.specs.MiscInfo.{process_id_of}
 use Rattle.framehop_minidump.specs.Module.{modules_of}
 use Rattle.framehop_minidump.specs.Stream.{streams_of}
@@ -148,10 +149,11 @@ dump_in file streams modules = do
   noted ← threads_of file streams
   threads ← each (thread_in file system.platform (mask_up_to (last_address modules)) exception) noted
   ranges ← ranges_of file streams
+  regions ← regions_of file streams
   pid ← process_id_of file streams
   Ok (record {
     memory = record { file = file; ranges = ranges };
-    segments = [];
+    segments = regions;
     machine = machine_of system.machine;
     threads = threads;
     code = [];

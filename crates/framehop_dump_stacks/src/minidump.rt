@@ -26,6 +26,7 @@ use framehop_minidump::error::MinidumpError;
 use framehop_minidump::exception::{Exception, context_of, read_exception};
 use framehop_minidump::location::read_located;
 use framehop_minidump::memory::read_memory;
+use framehop_minidump::memory_info::read_memory_info;
 use framehop_minidump::misc_info::read_process_id;
 use framehop_minidump::module::{Module, read_modules};
 use framehop_minidump::stream::{Stream, read_streams};
@@ -286,7 +287,7 @@ fn program_name<'a>(platform: u32, modules: &'a [LoadedModule]) -> Option<&'a [u
 /// # Errors
 ///
 /// The first refusal of the system information, of the exception, of the threads and their contexts, of the list
-/// of memory and of the number of the process; `OutOfMemory`.
+/// of memory, of that of its regions, and of the number of the process; `OutOfMemory`.
 #[tactic(auto, unfolding(crate::specs::Minidump::dump_in))]
 pub fn dump_in<'a>(
     alloc: Global,
@@ -310,11 +311,12 @@ pub fn dump_in<'a>(
     let threads = threads_in(alloc, file, of_all, listed.as_slice())?;
     let ranges = read_memory(alloc, file, streams)?;
     let memory = ProcessMemory { file, ranges };
+    let segments = read_memory_info(alloc, file, streams)?;
     let pid = read_process_id(file, streams)?;
     Ok(Dump {
         kind: Kind::Minidump,
         memory,
-        segments: Vec::new(alloc),
+        segments,
         machine: machine_of(system.machine),
         threads,
         code: Vec::new(alloc),

@@ -10,6 +10,7 @@ pub mod List
 pub mod SystemInfo
 pub mod MiscInfo
 pub mod Memory
+pub mod MemoryInfo
 pub mod Thread
 pub mod Exception
 pub mod Registers

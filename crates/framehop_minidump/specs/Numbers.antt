@@ -31,6 +31,9 @@ Memory64ListStream = 9
 abbrev pub MiscInfoStream : ℕ
 MiscInfoStream = 15
 
+abbrev pub MemoryInfoListStream : ℕ
+MemoryInfoListStream = 16
+
 -- Flags1 of MINIDUMP_MISC_INFO
 abbrev pub MINIDUMP_MISC1_PROCESS_ID : ℕ
 MINIDUMP_MISC1_PROCESS_ID = 1
@@ -57,6 +60,18 @@ MODULE_SIZE = 108
 
 abbrev pub MEMORY_DESCRIPTOR_SIZE : ℕ
 MEMORY_DESCRIPTOR_SIZE = 16
+
+abbrev pub MEMORY_INFO_SIZE : ℕ
+MEMORY_INFO_SIZE = 48
+
+-- that of what is before those entries
+abbrev pub MEMORY_INFO_LIST_SIZE : ℕ
+MEMORY_INFO_LIST_SIZE = 16
+
+-- the bits of Protect of which each means that memory may be executed: PAGE_EXECUTE, PAGE_EXECUTE_READ,
+-- PAGE_EXECUTE_READWRITE and PAGE_EXECUTE_WRITECOPY
+abbrev pub PAGE_EXECUTE_ANY : ℕ
+PAGE_EXECUTE_ANY = 0xf0
 
 -- the size of MINIDUMP_EXCEPTION_STREAM
 abbrev pub EXCEPTION_SIZE : ℕ

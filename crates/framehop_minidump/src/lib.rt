@@ -9,6 +9,7 @@ pub mod header;
 mod list;
 pub mod location;
 pub mod memory;
+pub mod memory_info;
 pub mod misc_info;
 pub mod module;
 pub mod registers;
