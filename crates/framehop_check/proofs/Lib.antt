@@ -2,3 +2,4 @@
 pub mod RowLemmas
 pub mod CheckLemmas
 pub mod ContradictionLemmas
+pub mod QuietLemmas

@@ -6,3 +6,4 @@ pub mod Tracked
 pub mod Report
 pub mod Check
 pub mod Contradiction
+pub mod Quiet

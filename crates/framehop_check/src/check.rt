@@ -1,7 +1,8 @@
 //! The check of a function: its rows against its code, from instruction to instruction.
 ghost use Rattle.std.specs.Prelude.{◌≡◌, ◌<◌, ◌≤◌, ◌+◌, ◌++◌, ℤ, pos, ◌+ℤ◌, length, IfSome, IfOk, OnOk};
 ghost use Rattle.std.specs.List.{AllByRecursion};
-ghost use Rattle.framehop_check.specs.Contradiction.{IsContradiction, RowsFollow};
+ghost use Rattle.framehop_check.specs.Contradiction.{HasMeaning, RowsFollow};
+ghost use Rattle.framehop_check.specs.Quiet.{IsQuiet};
 ghost use Rattle.std.specs.List.Sorted.{IsNonDecreasingBy};
 ghost use Rattle.framehop_core.specs.AddSigned.{fitting};
 ghost use Rattle.framehop_check.specs.Rows.{claim_at, end_of};
@@ -302,10 +303,12 @@ impl<S: UnwindContextStorage> Checker<S> {
         ensures notes { OnOk result (report.new.notes.items ≡ report.old.notes.items
             ++ notes_from (first_pass fde.now.initial_address)
             (items_of_fde C.instruction C.numbered C.return_column S.limits section.now fde.now code.now)) }
-        ensures quiet { RowsFollow (first_pass fde.now.initial_address)
+        ensures follows { RowsFollow (first_pass fde.now.initial_address)
+            (items_of_fde C.instruction C.numbered C.return_column S.limits section.now fde.now code.now) }
+        ensures quiet { IsQuiet C.entry (first_pass fde.now.initial_address)
             (items_of_fde C.instruction C.numbered C.return_column S.limits section.now fde.now code.now) }
         ensures contradiction { AllByRecursion
-            (IsContradiction (items_of_fde C.instruction C.numbered C.return_column S.limits section.now fde.now code.now))
+            (HasMeaning C.entry (items_of_fde C.instruction C.numbered C.return_column S.limits section.now fde.now code.now))
             (alarms_from C.entry (first_pass fde.now.initial_address)
             (items_of_fde C.instruction C.numbered C.return_column S.limits section.now fde.now code.now)) }
     {
