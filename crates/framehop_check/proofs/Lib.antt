@@ -3,3 +3,4 @@ pub mod RowLemmas
 pub mod CheckLemmas
 pub mod ContradictionLemmas
 pub mod QuietLemmas
+pub mod CountLemmas

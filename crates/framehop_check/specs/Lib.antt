@@ -7,3 +7,4 @@ pub mod Report
 pub mod Check
 pub mod Contradiction
 pub mod Quiet
+pub mod Counts
