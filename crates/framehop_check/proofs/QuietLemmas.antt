@@ -2,7 +2,7 @@
 use Rattle.std.proofs.Common.{◌≡◌, ◌⊎◌, ℕ, zero, suc, ℤ, ◌+ℤ◌, ◌-ℤ◌, Bool, true, false, ◌&&◌, List, [], ◌∷◌, ◌++◌, Option, Some, None, refl, sym, ap, subst, ◌∙◌, append_assoc, append-nil, arith, inl, inr}
 use Rattle.std.proofs.lemmas.Int.{ints}
 use Rattle.std.proofs.lemmas.Bool.{cases_Bool, and_parts}
-use Rattle.framehop_code.specs.Effect.{State, value_of, Becomes, Does}
+use Rattle.framehop_code.specs.Effect.{State, value_of, Becomes, Does, is_away}
 use Rattle.framehop_code.specs.declared.effect.Base.{Base}
 use Rattle.framehop_code.specs.declared.effect.Base.TheVariants.{Sp, Fp}
 use Rattle.framehop_code.specs.declared.effect.Change.{Change}
@@ -25,7 +25,7 @@ use Rattle.framehop_check.specs.Tracked.{arriving_by, arriving, same_claim, faul
 use Rattle.framehop_check.specs.Report.{list_of}
 use Rattle.framehop_check.specs.Check.{goes_on, difference, alarm_of, row_alarm, return_alarm, jump_alarm, step_of, alarms_at, pass_after, alarms_from, first_pass}
 use Rattle.framehop_check.specs.Contradiction.{change_of, pass_through}
-use Rattle.framehop_check.specs.Quiet.{Place, falls_through, Falls, JumpsTo, Run, AreRight, pass_at, IsPassed, known_before, known_at, BelievesNothing, IsQuiet}
+use Rattle.framehop_check.specs.Quiet.{Place, Falls, JumpsTo, Run, AreRight, pass_at, IsPassed, known_before, known_at, BelievesNothing, IsQuiet}
 use Rattle.framehop_check.proofs.ContradictionLemmas.{becomes, moved, agreed-from, change-from, known-after, none-of-nothing, some-same, agrees}
 
 -- ---- what is known is true
@@ -115,7 +115,7 @@ through-one pass [] i = refl
 through-one pass (j ∷ before) i = through-one (pass_after pass j) before i
 
 -- an instruction that goes on does not lead elsewhere
-never-elsewhere : (c : Came) (flow : Flow) → falls_through flow ≡ true → is_elsewhere (came_after c flow) ≡ false
+never-elsewhere : (c : Came) (flow : Flow) → is_away flow ≡ false → is_elsewhere (came_after c flow) ≡ false
 never-elsewhere c Next goes = refl
 never-elsewhere came.Next Padding goes = refl
 never-elsewhere came.Returned Padding goes = refl

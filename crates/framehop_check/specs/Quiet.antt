@@ -1,10 +1,8 @@
 -- A function of which nothing is told: its rows are right wherever it can be stopped.
 use Rattle.std.specs.Prelude.{◌≡◌, ◌⊎◌, ℕ, zero, suc, ℤ, ◌+ℤ◌, Bool, true, false, List, [], ◌∷◌, ◌++◌, Some}
-use Rattle.framehop_code.specs.Effect.{State, Does}
+use Rattle.framehop_code.specs.Effect.{State, Does, is_away}
 use Rattle.framehop_code.specs.declared.effect.Base.{Base}
 use Rattle.framehop_code.specs.declared.effect.Base.TheVariants.{Sp}
-use Rattle.framehop_code.specs.declared.effect.Flow.{Flow}
-use Rattle.framehop_code.specs.declared.effect.Flow.TheVariants.{Next, Padding, Call, Branch, Jump, Return, Leaves}
 use Rattle.framehop_check.specs.declared.claim.Claim.{Claim}
 use Rattle.framehop_check.specs.declared.claim.Claim.TheVariants.{Above}
 use Rattle.framehop_check.specs.declared.check.Item.{Item}
@@ -25,19 +23,9 @@ pub record Place (items : List Item) : Type 0 where
   pub after : List Item
   pub list : items ≡ before ++ here ∷ after
 
--- an instruction can lead to the next one; a call returns to it
-abbrev pub falls_through : Flow → Bool
-falls_through Next = true
-falls_through Padding = true
-falls_through Call = true
-falls_through (Branch distance) = true
-falls_through (Jump distance) = false
-falls_through Return = false
-falls_through Leaves = false
-
--- an instruction leads to the one after it
+-- an instruction leads to the one after it; a call returns to it
 pub record Falls {items : List Item} (p q : Place items) : Type 0 where
-  pub goes : falls_through p.here.effect.flow ≡ true
+  pub goes : is_away p.here.effect.flow ≡ false
   pub next : q.before ≡ p.before ++ p.here ∷ []
 
 -- a jump or a branch leads to its target inside the function

@@ -1,13 +1,12 @@
 -- The effect of an instruction is what the machine does by which the analysis of prologues and epilogues is judged. They
 -- share no word: the machine has rows of bytes of its own, an effect comes by the parts of an instruction and the opcode
 -- maps.
-use Rattle.std.specs.Prelude.{◌≡◌, ◌≢◌, ℕ, ◌+◌, pos, Bool, true, false, List, slice_get, Option, Some}
+use Rattle.std.specs.Prelude.{◌≡◌, ℕ, ◌+◌, pos, true, List, slice_get, Option, Some}
 use Rattle.framehop_analysis.specs.X86_64.Machine as machine
 use Rattle.framehop_code.specs.declared.effect.Base.TheVariants.{Sp, Fp}
 use Rattle.framehop_code.specs.declared.effect.Effect.{Effect}
-use Rattle.framehop_code.specs.declared.effect.Flow.{Flow}
-use Rattle.framehop_code.specs.declared.effect.Flow.TheVariants.{Next, Padding, Call, Branch, Jump, Return, Leaves}
-use Rattle.framehop_code.specs.Effect.{State, Does, kept}
+use Rattle.framehop_code.specs.declared.effect.Flow.TheVariants.{Next, Return}
+use Rattle.framehop_code.specs.Effect.{State, Does, kept, is_away}
 
 -- the registers of the machine as whole numbers, where it knows rbp
 abbrev pub as_numbers : machine.State → ℕ → State
@@ -33,15 +32,6 @@ abbrev pub MovesAll : ℕ → ℕ → machine.State → machine.State → Type 0
 MovesAll source destination s t = machine.Moves source destination s t × CopiesToSp source destination s t
 
 -- nothing is changed, and it leads out of the function or to another instruction
-abbrev pub is_away : Flow → Bool
-is_away (Jump distance) = true
-is_away Return = true
-is_away Leaves = true
-is_away Next = false
-is_away Padding = false
-is_away Call = false
-is_away (Branch distance) = false
-
 pub record IsEnd (effect : Effect) : Type 0 where
   pub sp : effect.sp ≡ kept Sp
   pub fp : effect.fp ≡ kept Fp
