@@ -1,11 +1,11 @@
 -- The rule by the code of a function is a prologue's or, where no prologue is recognised, an epilogue's.
-use Rattle.std.proofs.Common.{◌≡◌, ◌⊎◌, inl, inr, ◌↔◌, ℕ, Bool, true, false, List, Option, Some, None, refl, sym, ap, ◌∙◌, MatchOption}
+use Rattle.std.proofs.Common.{◌≡◌, inl, inr, ◌↔◌, ℕ, Bool, true, false, List, Option, Some, None, refl, sym, ap, ◌∙◌}
 use Rattle.std.specs.Prelude.{if◌then◌else◌}
 use Rattle.std.specs.Option.{is_some}
 use Rattle.framehop_analysis.specs.Answer.{IsOnly, FirstOf}
 use Rattle.framehop_macho.specs.declared.unwind_info.info.Function.{Function}
 use Rattle.framehop_explain.specs.CompactSource.{CodeReader, IsPlaceByCode}
-use Rattle.framehop_explain.specs.declared.source.CompactSource.TheVariants.{Prologue, Epilogue, Opcode}
+use Rattle.framehop_explain.specs.declared.source.CompactSource.TheVariants.{Prologue, Epilogue}
 
 -- the only rule is one that meets either fact
 only-is : {R : Type 0} (P : R → Type 0) (found : Option R) (rule : R) → IsOnly P found → P rule → found ≡ Some rule

@@ -5,15 +5,14 @@ use Rattle.framehop_core.specs.Memory.{Memory}
 use Rattle.framehop_core.specs.Outcome.{Outcome, answer_of, registers_after}
 use Rattle.framehop_core.specs.CodeAddress.{FrameLocation, lookup_address, is_first_frame}
 use Rattle.framehop_core.specs.declared.error.Error.{Error}
-use Rattle.framehop_cfi.specs.declared.dwarf_error.DwarfUnwinderError.{DwarfUnwinderError}
 use Rattle.framehop_cfi.specs.declared.storage.StorageLimits.{StorageLimits}
-use Rattle.framehop_dwarf.specs.Unwinder.{Reading, found_by, direct_by, reading_of}
+use Rattle.framehop_dwarf.specs.Unwinder.{found_by, direct_by, reading_of}
 use Rattle.framehop_macho.specs.Answer.{Answer}
 use Rattle.framehop_macho.specs.Unwinder.{unwound}
 use Rattle.framehop_macho.specs.declared.macho.CuiUnwindResult.TheVariants.{ExecRule, NeedDwarf}
 use Rattle.framehop.specs.Policy.{Policy}
 use Rattle.framehop.specs.Answer.{Fresh, by_rule, fresh_of}
-use Rattle.framehop.specs.CallFrames.{CallFrames, RowReader, fde_answer, fde_offset_of}
+use Rattle.framehop.specs.CallFrames.{CallFrames, fde_answer, fde_offset_of}
 use Rattle.framehop.specs.Compact.{by_info}
 use Rattle.framehop.specs.Fresh.{fresh, step, outcome_of}
 use Rattle.framehop.specs.Modules.{ModuleView, UnwindData, no_unwind_data, call_frames, pe_sections, compact_info, covering}
@@ -24,7 +23,6 @@ use Rattle.framehop_explain.specs.Decided.{IsOutcomeBy, IsDecidedBy}
 use Rattle.framehop_explain.specs.Explain.{Values, IsTold}
 use Rattle.framehop_explain.specs.Told.{told_by, pe_reason, offset_told, compact_told}
 use Rattle.framehop_explain.specs.declared.told.Told.{Told}
-use Rattle.framehop_explain.specs.declared.told.Told.TheVariants.{Refused}
 
 -- what readers give, from registers over a memory
 abbrev pub values_by : {R S : Type 0} → Readers R S → Option ℕ → Bool → S → Memory → Values R S

@@ -1,11 +1,9 @@
 -- What the trait `Sources` asks for: on aarch64 the code of a function with info gives what its analysis finds.
-use Rattle.std.specs.Prelude.{◌≡◌, ℕ, ◌==◌, Bool, true, false, not, List, Option, None, if◌then◌else◌}
+use Rattle.std.specs.Prelude.{◌≡◌, ℕ, ◌==◌, Bool, true, false, not, List, None, if◌then◌else◌}
 use Rattle.std.proofs.Common.{refl}
 use Rattle.framehop_core.specs.Bits.{bits_at}
-use Rattle.framehop_core.specs.declared.aarch64.unwind_rule.UnwindRuleAarch64.{UnwindRuleAarch64}
 use Rattle.framehop_analysis.specs.Aarch64.Analysed.{analysed}
 use Rattle.framehop_macho.specs.Aarch64.{analysed_with, by_code, opcode_of}
-use Rattle.framehop_macho.specs.declared.aarch64.opcode.OpcodeArm64.{OpcodeArm64}
 use Rattle.framehop_macho.specs.declared.aarch64.opcode.OpcodeArm64.TheVariants.{Null, Frameless, Dwarf, FrameBased, UnrecognizedKind}
 use Rattle.framehop_macho.specs.declared.unwind_info.info.Function.{Function}
 use Rattle.framehop_explain.specs.Analysed.{is_analysed}

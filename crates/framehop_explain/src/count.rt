@@ -1,10 +1,13 @@
 //! How much unwind data a module has.
-ghost use Rattle.std.specs.Prelude.{◌≡◌};
+ghost use Rattle.std.specs.Prelude.{◌≡◌, codes, Some};
+ghost use Rattle.std.specs.Fmt.{WritesOnOk};
 ghost use Rattle.framehop_cfi.specs.Header.{layout_of};
 ghost use Rattle.framehop_dwarf.specs.Unwinder.{header_bases};
 ghost use Rattle.framehop_macho.specs.UnwindInfo.{shared_lists_of};
+ghost use Rattle.framehop_explain.specs.DataText.{count_text, counted_text};
 ghost use Rattle.framehop_explain.specs.Count.{rows_in, pages_in, IsFramesCount, IsCountOf};
 
+use crate::reason::{CompactReadReason, ReadReason};
 use framehop::Module;
 use framehop::unwind_data::{IndexedFrames, ModuleUnwindDataInternal};
 use framehop_bytes::section::SectionBytes;
@@ -90,21 +93,37 @@ fn count_pages(unwind_info: &[u8]) -> UnwindDataCount
     }
 }
 
-/// Returns the ending of a word that says how many there are.
-fn plural(count: usize) -> &'static str {
-    if count == 1 { "" } else { "s" }
+/// Writes how many things of a name there are.
+#[tactic(auto, unfolding(crate::specs::DataText::counted_text))]
+fn write_counted<W: fmt::Write>(count: usize, name: &str, f: &mut fmt::Formatter<W>) -> fmt::Result
+    ensures { WritesOnOk W.write_str_gives f.old result (counted_text name.now count) f.new }
+{
+    if count == 1 {
+        write!(f, "{count} {name}")
+    } else {
+        write!(f, "{count} {name}s")
+    }
 }
 
 impl fmt::Display for UnwindDataCount {
+    ghost output = { λ count. Some (count_text count) };
+
+    #[tactic(auto, unfolding(crate::specs::DataText::count_text))]
     fn fmt<W: fmt::Write>(&self, f: &mut fmt::Formatter<W>) -> fmt::Result {
         match *self {
             UnwindDataCount::None => write!(f, "none"),
-            UnwindDataCount::Fdes(count) => write!(f, "{count} FDE{}", plural(count)),
-            UnwindDataCount::Rows(count) => write!(f, "{count} row{}", plural(count)),
-            UnwindDataCount::NoRows(error) => write!(f, "whose table can't be read ({error})"),
-            UnwindDataCount::Functions(count) => write!(f, "{count} function{}", plural(count)),
-            UnwindDataCount::Pages(count) => write!(f, "{count} page{}", plural(count)),
-            UnwindDataCount::NoPages(error) => write!(f, "whose index can't be read ({error})"),
+            UnwindDataCount::Fdes(count) => write_counted(count, "FDE", f),
+            UnwindDataCount::Rows(count) => write_counted(count, "row", f),
+            UnwindDataCount::NoRows(error) => {
+                let reason = ReadReason(error);
+                write!(f, "whose table can't be read ({reason})")
+            }
+            UnwindDataCount::Functions(count) => write_counted(count, "function", f),
+            UnwindDataCount::Pages(count) => write_counted(count, "page", f),
+            UnwindDataCount::NoPages(error) => {
+                let reason = CompactReadReason(error);
+                write!(f, "whose index can't be read ({reason})")
+            }
         }
     }
 }

@@ -1,7 +1,9 @@
 //! What kind of unwind data a module has, and why an index of its FDEs was refused.
-ghost use Rattle.std.specs.Prelude.{◌≡◌};
+ghost use Rattle.std.specs.Prelude.{◌≡◌, Some};
+ghost use Rattle.framehop_explain.specs.DataText.{kind_text, refusal_text};
 ghost use Rattle.framehop_explain.specs.Kind.{kind_of};
 
+use crate::source::SectionName;
 use framehop::Module;
 use framehop::unwind_data::ModuleUnwindDataInternal;
 use framehop_bytes::section::SectionBytes;
@@ -60,39 +62,46 @@ impl UnwindDataKind {
     }
 }
 
-/// Returns the name of a call frame section.
-fn section_name(section_type: UnwindSectionType) -> &'static str {
-    match section_type {
-        UnwindSectionType::EhFrame => ".eh_frame",
-        UnwindSectionType::DebugFrame => ".debug_frame",
-    }
-}
+/// Why an index was refused.
+#[derive(Clone, Copy)]
+struct IndexReason(DwarfCfiIndexError);
 
-/// Returns why an index was refused, in words.
-fn refusal_text(error: DwarfCfiIndexError) -> &'static str {
-    match error {
-        DwarfCfiIndexError::Gimli(ReadError::BadLength) => "an entry has a reserved length",
-        DwarfCfiIndexError::Gimli(ReadError::Eof) => "an entry reaches past the end of the section",
-        _ => "it can't be read",
+impl fmt::Display for IndexReason {
+    ghost output = { λ reason. Some (refusal_text reason.0) };
+
+    #[tactic(auto, unfolding(crate::specs::DataText::refusal_text))]
+    fn fmt<W: fmt::Write>(&self, f: &mut fmt::Formatter<W>) -> fmt::Result {
+        match self.0 {
+            DwarfCfiIndexError::Gimli(ReadError::BadLength) => {
+                write!(f, "an entry has a reserved length")
+            }
+            DwarfCfiIndexError::Gimli(ReadError::Eof) => {
+                write!(f, "an entry reaches past the end of the section")
+            }
+            _ => write!(f, "it can't be read"),
+        }
     }
 }
 
 impl fmt::Display for UnwindDataKind {
+    ghost output = { λ kind. Some (kind_text kind) };
+
+    #[tactic(auto, unfolding(crate::specs::DataText::kind_text))]
     fn fmt<W: fmt::Write>(&self, f: &mut fmt::Formatter<W>) -> fmt::Result {
         match *self {
             UnwindDataKind::None => write!(f, "no unwind data"),
             UnwindDataKind::IndexRefused {
                 section_type,
                 error,
-            } => write!(
-                f,
-                "no unwind data: {} is refused, since {}",
-                section_name(section_type),
-                refusal_text(error)
-            ),
+            } => {
+                let section = SectionName(section_type);
+                let reason = IndexReason(error);
+                write!(f, "no unwind data: {section} is refused, since {reason}")
+            }
             UnwindDataKind::EhFrameWithHeader => write!(f, ".eh_frame with .eh_frame_hdr"),
             UnwindDataKind::Indexed { section_type } => {
-                write!(f, "{} with an index", section_name(section_type))
+                let section = SectionName(section_type);
+                write!(f, "{section} with an index")
             }
             UnwindDataKind::Pe => write!(f, "PE unwind info"),
             UnwindDataKind::Compact { has_eh_frame: true } => {

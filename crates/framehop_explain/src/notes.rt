@@ -1,11 +1,15 @@
 //! Notes of frames, one for each.
-ghost use Rattle.std.specs.Prelude.{◌≡◌, ◌+◌, length, option_map, IfOk, OnOk};
-ghost use Rattle.framehop_core.specs.CodeAddress.{location_of};
+ghost use Rattle.std.specs.Prelude.{◌≡◌, ◌+◌, length, map, option_map, Some, IfOk, OnOk};
+ghost use Rattle.framehop_core.specs.CodeAddress.{location_of, lookup_address, at_instruction_pointer};
 ghost use Rattle.framehop_core.specs.Memory.{reply};
 ghost use Rattle.framehop_core.specs.Outcome.{answer_of, registers_after};
 ghost use Rattle.framehop.specs.CachedWorld.{step_of};
 ghost use Rattle.framehop.specs.Walk.{walk_from};
-ghost use Rattle.framehop_explain.specs.Callers.{caller_by, located};
+ghost use Rattle.framehop_explain.specs.Callers.{caller_by, frames_from, located};
+ghost use Rattle.framehop_explain.specs.Found.{finding_of};
+ghost use Rattle.framehop_explain.specs.FrameNotes.{IsFrameNote, AddsNote, AddsNotes};
+ghost use Rattle.framehop_explain.specs.FrameText.{frame_text};
+ghost use Rattle.framehop_explain.specs.Note.{note_line};
 
 use crate::explain::{Explanation, explain_frame};
 use crate::note::Note;
@@ -27,6 +31,8 @@ fn frame_note<D: SectionBytes + Drop, A: Sources>(
 ) -> Result<Note, AllocError>
 where
     A::UnwindRule: DescribeRule,
+    ensures { IfOk result (λ note. note ≡ note_line (frame_text A.UnwindRule.rule_text A.UnwindRule.fallback modules.now
+        (lookup_address (location_of address)) (option_map finding_of explanation.now.finding))) }
 {
     let line = frame_text::<D, A>(alloc, modules, address, explanation)?;
     Note::new(alloc).with_line(line.as_str())
@@ -61,6 +67,24 @@ pub fn note_frame<D: SectionBytes + Drop, A: Sources, P: AllocationPolicy, M: Wo
 where
     A::UnwindRule: DescribeRule,
     ensures noted { OnOk result (length notes.new.items ≡ length notes.old.items + 1) }
+    ensures note { OnOk result (AddsNote (IsFrameNote (record {
+      places = record {
+        pe = A.pe_source;
+        code = record { by_code = A.by_code; prologue = A.prologue_rule; epilogue = A.epilogue_rule };
+        compact = A.readers.compact;
+      };
+      values = λ read first old. record {
+        translated = A.translated;
+        uncovered = A.uncovered;
+        direct = λ bytes row. A.direct bytes P.GimliEvaluationStorage.Stack.limit read row first old;
+        found = A.found;
+        computed = λ sections relative frame. A.computed sections relative frame read old;
+        compact = A.readers.compact;
+      };
+      limits = P.GimliUnwindContextStorage.limits;
+      text = A.UnwindRule.rule_text;
+      fallback = A.UnwindRule.fallback;
+    }) unwinder.now.modules (M.memory memory.now) (location_of address) regs) notes.old.items notes.new.items) }
     ensures caller { IfOk result (λ frame.
         let outcome = step_of (A.unwinding P.policy) unwinder.now (M.memory memory.now) (location_of address) regs in
         option_map located frame ≡ caller_by (answer_of outcome) (registers_after regs outcome)) }
@@ -92,6 +116,29 @@ where
     A::UnwindRule: DescribeRule,
     ensures noted { OnOk result (length notes.new.items ≡ length notes.old.items
         + length (walk_from (step_of (A.unwinding P.policy) unwinder.now (M.memory memory.now)) limit pc regs).frames) }
+    ensures notes { OnOk result (AddsNotes (IsFrameNote (record {
+      places = record {
+        pe = A.pe_source;
+        code = record { by_code = A.by_code; prologue = A.prologue_rule; epilogue = A.epilogue_rule };
+        compact = A.readers.compact;
+      };
+      values = λ read first old. record {
+        translated = A.translated;
+        uncovered = A.uncovered;
+        direct = λ bytes row. A.direct bytes P.GimliEvaluationStorage.Stack.limit read row first old;
+        found = A.found;
+        computed = λ sections relative frame. A.computed sections relative frame read old;
+        compact = A.readers.compact;
+      };
+      limits = P.GimliUnwindContextStorage.limits;
+      text = A.UnwindRule.rule_text;
+      fallback = A.UnwindRule.fallback;
+    }) unwinder.now.modules (M.memory memory.now))
+        (frames_from (step_of (A.unwinding P.policy) unwinder.now (M.memory memory.now)) limit (Some (at_instruction_pointer pc, regs)))
+        notes.old.items notes.new.items) }
+    ensures frames { map (λ frame. frame.0)
+        (frames_from (step_of (A.unwinding P.policy) unwinder.now (M.memory memory.now)) limit (Some (at_instruction_pointer pc, regs)))
+        ≡ (walk_from (step_of (A.unwinding P.policy) unwinder.now (M.memory memory.now)) limit pc regs).frames }
 {
     let mut frame = Some((FrameAddress::from_instruction_pointer(pc), regs));
     for _number in 0..limit {

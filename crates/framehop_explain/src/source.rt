@@ -1,4 +1,8 @@
 //! Where the unwind data of a module tells how to unwind from an address.
+ghost use Rattle.std.specs.Prelude.{Some};
+ghost use Rattle.framehop_explain.specs.SourceText.{section_name, range_text, row_text, pe_source_text, compact_source_text, source_text};
+
+use crate::reason::ReadReason;
 use framehop::unwind_data::IndexRefusal;
 use framehop_cfi::entry::UnwindSectionType;
 use framehop_cfi::read_error::ReadError;
@@ -81,17 +85,48 @@ pub enum Source {
     },
 }
 
-fn section_name(section_type: UnwindSectionType) -> &'static str {
-    match section_type {
-        UnwindSectionType::EhFrame => ".eh_frame",
-        UnwindSectionType::DebugFrame => ".debug_frame",
+/// The name of a call frame section.
+#[derive(Clone, Copy)]
+pub struct SectionName(pub UnwindSectionType);
+
+impl fmt::Display for SectionName {
+    ghost output = { λ section. Some (section_name section.0) };
+
+    #[tactic(auto, unfolding(crate::specs::SourceText::section_name))]
+    fn fmt<W: fmt::Write>(&self, f: &mut fmt::Formatter<W>) -> fmt::Result {
+        match self.0 {
+            UnwindSectionType::EhFrame => write!(f, ".eh_frame"),
+            UnwindSectionType::DebugFrame => write!(f, ".debug_frame"),
+        }
+    }
+}
+
+/// The addresses of a function of a PE module.
+#[derive(Clone, Copy)]
+struct Range(RuntimeFunction);
+
+impl fmt::Display for Range {
+    ghost output = { λ range. Some (range_text range.0.begin_address range.0.end_address) };
+
+    fn fmt<W: fmt::Write>(&self, f: &mut fmt::Formatter<W>) -> fmt::Result {
+        write!(
+            f,
+            "0x{:x}..0x{:x}",
+            self.0.begin_address, self.0.end_address
+        )
     }
 }
 
 impl fmt::Display for RowSource {
+    ghost output = { λ source. Some (row_text source) };
+
+    #[tactic(auto, unfolding(crate::specs::SourceText::row_text))]
     fn fmt<W: fmt::Write>(&self, f: &mut fmt::Formatter<W>) -> fmt::Result {
         match *self {
-            RowSource::Unread(error) => write!(f, "no FDE can be read there ({error})"),
+            RowSource::Unread(error) => {
+                let reason = ReadReason(error);
+                write!(f, "no FDE can be read there ({reason})")
+            }
             RowSource::NoRow => write!(f, "no row for the address"),
             RowSource::Row => write!(f, "row"),
         }
@@ -99,30 +134,33 @@ impl fmt::Display for RowSource {
 }
 
 impl fmt::Display for PeSource {
+    ghost output = { λ source. Some (pe_source_text source) };
+
+    #[tactic(auto, unfolding(crate::specs::SourceText::pe_source_text))]
     fn fmt<W: fmt::Write>(&self, f: &mut fmt::Formatter<W>) -> fmt::Result {
         match *self {
             PeSource::Leaf => write!(f, "no function in .pdata: leaf function"),
-            PeSource::Codes(function) => write!(
-                f,
-                "unwind codes of function 0x{:x}..0x{:x}",
-                function.begin_address, function.end_address
-            ),
-            PeSource::Epilog(function) => write!(
-                f,
-                "epilog of function 0x{:x}..0x{:x}",
-                function.begin_address, function.end_address
-            ),
-            PeSource::Unread(function) => write!(
-                f,
-                "unwind info of function 0x{:x}..0x{:x}",
-                function.begin_address, function.end_address
-            ),
+            PeSource::Codes(function) => {
+                let range = Range(function);
+                write!(f, "unwind codes of function {range}")
+            }
+            PeSource::Epilog(function) => {
+                let range = Range(function);
+                write!(f, "epilog of function {range}")
+            }
+            PeSource::Unread(function) => {
+                let range = Range(function);
+                write!(f, "unwind info of function {range}")
+            }
             PeSource::Unsupported => write!(f, "PE unwind info of aarch64"),
         }
     }
 }
 
 impl fmt::Display for CompactSource {
+    ghost output = { λ source. Some (compact_source_text source) };
+
+    #[tactic(auto, unfolding(crate::specs::SourceText::compact_source_text))]
     fn fmt<W: fmt::Write>(&self, f: &mut fmt::Formatter<W>) -> fmt::Result {
         match *self {
             CompactSource::Stub => write!(f, "__stubs"),
@@ -148,38 +186,39 @@ impl fmt::Display for CompactSource {
 }
 
 impl fmt::Display for Source {
+    ghost output = { λ source. Some (source_text source) };
+
+    #[tactic(auto, unfolding(crate::specs::SourceText::source_text))]
     fn fmt<W: fmt::Write>(&self, f: &mut fmt::Formatter<W>) -> fmt::Result {
         match *self {
             Source::NoUnwindData(None) => write!(f, "no unwind data"),
-            Source::NoUnwindData(Some(refusal)) => write!(
-                f,
-                "no unwind data: {} is refused",
-                section_name(refusal.section_type)
-            ),
+            Source::NoUnwindData(Some(refusal)) => {
+                let section = SectionName(refusal.section_type);
+                write!(f, "no unwind data: {section} is refused")
+            }
             Source::NotInHeader => write!(f, ".eh_frame_hdr has no FDE"),
             Source::NotInIndex(section_type) => {
-                write!(f, "{} has no FDE", section_name(section_type))
+                let section = SectionName(section_type);
+                write!(f, "{section} has no FDE")
             }
             Source::Fde {
                 section_type,
                 offset,
                 row,
-            } => write!(
-                f,
-                "{row} of FDE 0x{offset:x} of {}",
-                section_name(section_type)
-            ),
+            } => {
+                let section = SectionName(section_type);
+                write!(f, "{row} of FDE 0x{offset:x} of {section}")
+            }
             Source::Pe(place) => write!(f, "{place}"),
             Source::Compact(place) => write!(f, "{place}"),
             Source::CompactFde {
                 function,
                 offset,
                 row,
-            } => write!(
-                f,
-                "opcode 0x{:x} of function 0x{:x}: {row} of FDE 0x{offset:x} of __eh_frame",
-                function.opcode, function.start_address
-            ),
+            } => {
+                let place = CompactSource::Opcode(function);
+                write!(f, "{place}: {row} of FDE 0x{offset:x} of __eh_frame")
+            }
         }
     }
 }

@@ -1,8 +1,16 @@
 //! What unwind data a module has, and what a frame came from, as text.
+ghost use Rattle.std.specs.Prelude.{◌≡◌, IfOk, string_bytes, option_map};
+ghost use Rattle.std.specs.Option.{option_copied};
+ghost use Rattle.framehop_core.specs.CodeAddress.{location_of, lookup_address};
+ghost use Rattle.framehop_explain.specs.DataText.{IsDataText};
+ghost use Rattle.framehop_explain.specs.Found.{finding_of};
+ghost use Rattle.framehop_explain.specs.FrameText.{name_text, place_text, last_text, uncovered_text, told_text, finding_text, frame_text};
+
 use crate::count::UnwindDataCount;
 use crate::explain::{Explanation, Finding};
 use crate::kind::UnwindDataKind;
 use crate::pe::Sources;
+use crate::reason::Reason;
 use crate::rule_text::{DescribeRule, Described};
 use crate::told::Told;
 use crate::uncovered::{Uncovered, last_module_by};
@@ -15,7 +23,9 @@ use std::alloc::{AllocError, Global};
 pub fn unwind_data_text<D: SectionBytes + Drop>(
     alloc: Global,
     loaded: &Module<D>,
-) -> Result<String, AllocError> {
+) -> Result<String, AllocError>
+    ensures { IfOk result (λ text. IsDataText loaded.now.unwind_data (string_bytes text)) }
+{
     let kind = UnwindDataKind::of(loaded);
     match UnwindDataCount::of(loaded) {
         UnwindDataCount::None => format!(in alloc; "{kind}"),
@@ -24,7 +34,9 @@ pub fn unwind_data_text<D: SectionBytes + Drop>(
 }
 
 /// Returns the name of a module, or what stands for one that is not named.
-fn name_of<D: SectionBytes + Drop>(loaded: &Module<D>) -> &str {
+fn name_of<D: SectionBytes + Drop>(loaded: &Module<D>) -> &str
+    ensures { result.now ≡ name_text loaded.entry.now.name }
+{
     match loaded.name() {
         "" => "a module",
         name => name,
@@ -32,18 +44,23 @@ fn name_of<D: SectionBytes + Drop>(loaded: &Module<D>) -> &str {
 }
 
 /// Returns where an address is in a module: `m+0x100`, or `0x100` in one that is not named.
-fn place_text(alloc: Global, name: &str, relative_address: u32) -> Result<String, AllocError> {
-    let plus = if name.is_empty() { "" } else { "+" };
-    format!(in alloc; "{name}{plus}0x{relative_address:x}")
+fn place_text(alloc: Global, name: &str, relative_address: u32) -> Result<String, AllocError>
+    ensures { IfOk result (λ text. string_bytes text ≡ place_text name.now relative_address) }
+{
+    match name {
+        "" => format!(in alloc; "0x{relative_address:x}"),
+        name => format!(in alloc; "{name}+0x{relative_address:x}"),
+    }
 }
 
-/// Returns why no module covers an address (AVMA).
-fn reason_text<D: SectionBytes + Drop>(
+/// Returns why no module covers an address (AVMA), by the last one that starts at or below it.
+fn last_text<D: SectionBytes + Drop>(
     alloc: Global,
-    modules: &[Module<D>],
+    last: Option<&Module<D>>,
     address: u64,
-) -> Result<String, AllocError> {
-    let last = last_module_by(modules, address);
+) -> Result<String, AllocError>
+    ensures { IfOk result (λ text. string_bytes text ≡ last_text (option_copied last.entry) address) }
+{
     let Some(loaded) = last else {
         return format!(in alloc; "no module starts at or below 0x{address:x}");
     };
@@ -64,6 +81,17 @@ fn reason_text<D: SectionBytes + Drop>(
     }
 }
 
+/// Returns why no module covers an address (AVMA).
+fn reason_text<D: SectionBytes + Drop>(
+    alloc: Global,
+    modules: &[Module<D>],
+    address: u64,
+) -> Result<String, AllocError>
+    ensures { IfOk result (λ text. string_bytes text ≡ uncovered_text modules.now address) }
+{
+    last_text(alloc, last_module_by(modules, address), address)
+}
+
 /// Returns what becomes of a frame that no module covers.
 fn uncovered_text<D: SectionBytes + Drop, A: Sources>(
     alloc: Global,
@@ -72,36 +100,43 @@ fn uncovered_text<D: SectionBytes + Drop, A: Sources>(
 ) -> Result<String, AllocError>
 where
     A::UnwindRule: DescribeRule,
+    ensures { IfOk result (λ text. string_bytes text
+        ≡ frame_text A.UnwindRule.rule_text A.UnwindRule.fallback modules.now address None) }
 {
     let reason = reason_text(alloc, modules, address)?;
     let rule = Described(A::UnwindRule::fallback_rule());
     format!(in alloc; "{}: fallback: {rule}", reason.as_str())
 }
 
-/// Returns what the covering module tells for a frame.
-fn finding_text<D: SectionBytes + Drop, A: Sources>(
-    alloc: Global,
-    finding: &Finding<'_, D, A::UnwindRule>,
-) -> Result<String, AllocError>
-where
-    A::UnwindRule: DescribeRule,
+/// Returns what is told of a frame.
+fn told_text<R: DescribeRule>(alloc: Global, told: Told<R>) -> Result<String, AllocError>
+    ensures { IfOk result (λ text. string_bytes text ≡ told_text R.rule_text R.fallback told) }
 {
-    let place = place_text(alloc, finding.module.name(), finding.relative_address)?;
-    let place = place.as_str();
-    let source = finding.source;
-    match finding.told {
+    match told {
         Told::Rule(rule) => {
             let rule = Described(rule);
-            format!(in alloc; "{place}: {source}: {rule}")
+            format!(in alloc; "{rule}")
         }
-        Told::Computed(address) => {
-            format!(in alloc; "{place}: {source}: computed: return address 0x{address:x}")
-        }
+        Told::Computed(address) => format!(in alloc; "computed: return address 0x{address:x}"),
         Told::Refused(error) => {
-            let rule = Described(A::UnwindRule::fallback_rule());
-            format!(in alloc; "{place}: {source}: {error:?}: fallback: {rule}")
+            let reason = Reason(error);
+            let rule = Described(R::fallback_rule());
+            format!(in alloc; "{reason}: fallback: {rule}")
         }
     }
+}
+
+/// Returns what the covering module tells for a frame.
+fn finding_text<D: SectionBytes + Drop, R: DescribeRule>(
+    alloc: Global,
+    finding: &Finding<'_, D, R>,
+) -> Result<String, AllocError>
+    ensures { IfOk result (λ text. string_bytes text ≡ finding_text R.rule_text R.fallback (finding_of finding.now)) }
+{
+    let place = place_text(alloc, finding.module.name(), finding.relative_address)?;
+    let told = told_text(alloc, finding.told)?;
+    let source = finding.source;
+    format!(in alloc; "{}: {source}: {}", place.as_str(), told.as_str())
 }
 
 /// Returns what a frame came from: what the module that covers it tells, or why no module does.
@@ -113,9 +148,12 @@ pub fn frame_text<D: SectionBytes + Drop, A: Sources>(
 ) -> Result<String, AllocError>
 where
     A::UnwindRule: DescribeRule,
+    ensures { IfOk result (λ text. string_bytes text
+        ≡ frame_text A.UnwindRule.rule_text A.UnwindRule.fallback modules.now (lookup_address (location_of address))
+        (option_map finding_of explanation.now.finding)) }
 {
     match &explanation.finding {
-        Some(finding) => finding_text::<D, A>(alloc, finding),
+        Some(finding) => finding_text::<D, A::UnwindRule>(alloc, finding),
         None => uncovered_text::<D, A>(alloc, modules, address.address_for_lookup()),
     }
 }

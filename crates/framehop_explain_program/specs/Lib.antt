@@ -1,3 +1,4 @@
--- What the contracts of this crate cite: answers with notes, and runs of the program.
+-- What the contracts of this crate cite: answers with notes, runs of the program, and the functions of a file.
 pub mod Explained
+pub mod Functions
 pub mod Runs

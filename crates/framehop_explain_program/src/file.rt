@@ -2,6 +2,10 @@
 //!
 //! What is printed is what unwinding does with a caller's frame over a stack that can't be read: the same calls
 //! tell it.
+ghost use Rattle.std.specs.Prelude.{◌≡◌, ◌++◌, OnOk, string_bytes};
+ghost use Rattle.framehop_cfi.specs.Entry.{fde_at};
+ghost use Rattle.framehop_explain_program.specs.Functions.{fde_line, entry_line, function_lines};
+
 use crate::row_text::{RegisterNames, push_row};
 use framehop::aarch64::{ArchAarch64, UnwindRegsAarch64};
 use framehop::cache::MayAllocateDuringUnwind;
@@ -21,6 +25,7 @@ use framehop_elf::section_header::read_section_headers;
 use framehop_elf::unwind_sections::read_unwind_sections;
 use framehop_explain::explain::explain_module;
 use framehop_explain::pe::Sources;
+use framehop_explain::reason::ReadReason;
 use framehop_explain::{DescribeRule, Described, RowSource, Source, Told, unwind_data_text};
 use framehop_pe::pe::PeUnwinderError;
 use framehop_pe::unwind_info::function_table::RuntimeFunction;
@@ -148,36 +153,53 @@ fn call_frames(module: &Module<Vec<u8>>) -> Option<UnwindSection<'_>> {
     }
 }
 
-/// Appends a line for the entry at an offset, if it is an FDE.
-fn push_function(
-    section: &UnwindSection<'_>,
-    at: usize,
-    out: &mut String,
-) -> Result<(), AllocError> {
-    let Ok(EntryHead::Fde { .. }) = section.head_at(at) else {
-        return Ok(());
-    };
+/// Appends the line of the FDE at an offset: the addresses that it covers, or why it can't be read.
+#[tactic(auto, unfolding(crate::specs::Functions::fde_line))]
+fn push_fde_line(section: &UnwindSection<'_>, at: usize, out: &mut String) -> Result<(), AllocError>
+    ensures { OnOk result (string_bytes out.new ≡ string_bytes out.old ++ fde_line at (fde_at section.now at)) }
+{
     match section.fde_from_offset(at) {
         Ok(fde) => {
             let start = fde.initial_address;
             let end = start.wrapping_add(fde.address_range);
             writeln!(out, "0x{start:x}..0x{end:x}: FDE 0x{at:x}")
         }
-        Err(error) => writeln!(out, "FDE 0x{at:x} can't be read: {error}"),
+        Err(error) => {
+            let reason = ReadReason(error);
+            writeln!(out, "FDE 0x{at:x} can't be read: {reason}")
+        }
     }
 }
 
-/// Appends a line for each FDE of a section, in its order.
-fn push_functions(section: &UnwindSection<'_>, out: &mut String) -> Result<(), AllocError> {
+/// Appends a line for the entry at an offset, if it is an FDE.
+#[tactic(auto, unfolding(crate::specs::Functions::entry_line))]
+fn push_entry(section: &UnwindSection<'_>, at: usize, out: &mut String) -> Result<(), AllocError>
+    ensures { OnOk result (string_bytes out.new ≡ string_bytes out.old ++ entry_line section.now at) }
+{
+    match section.head_at(at) {
+        Ok(EntryHead::Fde { .. }) => push_fde_line(section, at, out),
+        _ => Ok(()),
+    }
+}
+
+/// Appends a line for each FDE of a section, in its order. A length of 0 ends `.eh_frame`, and is passed over in
+/// `.debug_frame`.
+fn push_functions(section: &UnwindSection<'_>, out: &mut String) -> Result<(), AllocError>
+    ensures { OnOk result (string_bytes out.new ≡ string_bytes out.old ++ function_lines section.now) }
+{
     let mut at = 0;
     while at < section.bytes.len() {
         let Ok(extent) = read_extent(section.bytes, at) else {
             return Ok(());
         };
-        if extent.is_zero_length() && section.section_type == UnwindSectionType::EhFrame {
-            return Ok(());
+        if extent.is_zero_length() {
+            match section.section_type {
+                UnwindSectionType::EhFrame => return Ok(()),
+                UnwindSectionType::DebugFrame => {}
+            }
+        } else {
+            push_entry(section, at, out)?;
         }
-        push_function(section, at, out)?;
         at = extent.end;
     }
     Ok(())

@@ -18,6 +18,8 @@ mod paths;
 #[cfg(test)]
 mod readme;
 #[cfg(test)]
+mod reasons;
+#[cfg(test)]
 mod rule_text;
 #[cfg(test)]
 mod section_info;

@@ -1,5 +1,4 @@
-use Rattle.std.proofs.Common.{◌≡◌, true, false, Option, Some, None, sym, ◌∙◌}
-use Rattle.std.specs.Option.{is_some}
+use Rattle.std.proofs.Common.{sym, ◌∙◌}
 use Rattle.framehop_explain.proofs.CodeLemmas.{prologue-place, epilogue-place, some-of, none-of}
 use Rattle.framehop_explain.proofs.compact.place_by_code.Goals as goal
 

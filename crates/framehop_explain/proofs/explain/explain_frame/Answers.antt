@@ -1,4 +1,4 @@
-use Rattle.std.proofs.Common.{◌≡◌, ◌≢◌, Bool, true, false, Err, MatchBool, subst, ap, ◌∙◌}
+use Rattle.std.proofs.Common.{◌≡◌, Bool, true, false, MatchBool, ap, ◌∙◌}
 use Rattle.framehop_core.specs.CodeAddress.{location_of}
 use Rattle.framehop_core.proofs.Callback.{Answering-then, Answering-over}
 use Rattle.framehop.specs.Unwinding.{answer_by}
