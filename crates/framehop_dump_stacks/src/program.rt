@@ -25,6 +25,7 @@ use framehop::aarch64::UnwinderAarch64;
 use framehop::cache::MayAllocateDuringUnwind;
 use framehop::x86_64::UnwinderX86_64;
 use framehop_coredump::core_file::Machine;
+use framehop_frames::line::printed_name;
 use framehop_processes::{Mapping, ModuleMaker, Process};
 use framehop_symbols::files::{FileSource, Files};
 use framehop_symbols::object_file::FileProblem;
@@ -93,7 +94,8 @@ fn write_problems<E: Write>(
         if let Some(problem) = file.problem {
             let name = file.name.as_slice();
             let in_memory = is_in_memory(alloc, dump, mappings, name, number)?;
-            write_problem(err, dump.kind, name, problem, in_memory)?;
+            let printed = printed_name(alloc, name)?;
+            write_problem(err, dump.kind, printed.as_slice(), problem, in_memory)?;
         }
     }
     Ok(())

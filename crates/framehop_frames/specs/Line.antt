@@ -1,8 +1,9 @@
 -- Stacks as text: folded stacks, as flame graph tools read them (Brendan Gregg's FlameGraph, `stackcollapse-perf.pl`), and
 -- blocks of a line for each frame.
-use Rattle.std.specs.Prelude.{ℕ, nat_lt, length, Bool, true, false, List, [], ◌∷◌, ◌++◌, codes, map, reverse, Option, Some, None, ◌==◌, if◌then◌else◌}
+use Rattle.std.specs.Prelude.{ℕ, ◌+◌, ◌/◌, ◌%◌, nat_le, nat_lt, length, take, Bool, true, false, not, ◌&&◌, ◌||◌, List, [], ◌∷◌, ◌++◌, codes, reverse, Option, Some, None, ◌==◌, if◌then◌else◌}
 use Rattle.std.specs.Fmt.{decimal, digits}
 use Rattle.std.specs.List.{after_last, flat_map, take_while}
+use Rattle.std.specs.Str.{is_utf8}
 use Rattle.framehop_core.specs.CodeAddress.{FrameLocation, address_of, lookup_address}
 use Rattle.framehop_core.specs.declared.error.Error.{Error}
 use Rattle.framehop_core.specs.declared.error.Error.TheVariants.{CouldNotReadStack, FramepointerUnwindingMovedBackwards, DidNotAdvance, IntegerOverflow, ReturnAddressIsNull, OutOfMemory}
@@ -18,12 +19,47 @@ use Rattle.framehop_symbols.specs.Place.{PlaceView, in_function, in_file, unmapp
 abbrev pub hexadecimal : ℕ → List ℕ
 hexadecimal n = digits 16 false n
 
--- A byte of a name. A `;` would end the name and a line feed the line, so a colon and a blank are in their places.
-abbrev pub plain_byte : ℕ → ℕ
-plain_byte byte = if byte == 59 then 58 else if byte == 10 then 32 else byte
+-- ---- names, which a file says that others made
+
+-- how many bytes of a name are printed
+abbrev pub LONGEST_NAME : ℕ
+LONGEST_NAME = 2048
+
+-- after a byte there is a control character of the set C1, U+0080 to U+009F (ISO 6429): in UTF-8, 0xc2 and a byte below 0xa0
+abbrev pub has_c1_after : ℕ → List ℕ → Bool
+has_c1_after previous [] = false
+has_c1_after previous (byte ∷ bytes) = ((previous == 0xc2) && nat_lt byte 0xa0) || has_c1_after byte bytes
+
+-- a text: UTF-8 without such characters
+unfoldable pub is_text : List ℕ → Bool
+is_text name = is_utf8 name && not (has_c1_after 0 name)
+
+-- a digit of a number in hexadecimal
+abbrev pub hex_digit : ℕ → ℕ
+hex_digit n = if nat_lt n 10 then 48 + n else 87 + n
+
+-- a byte that a terminal might obey: `\xNN`
+abbrev pub escaped : ℕ → List ℕ
+escaped byte = codes "\\x" ++ hex_digit (byte / 16) ∷ hex_digit (byte % 16) ∷ []
+
+-- a byte of a control character of C0 or DEL; or one beyond ASCII, where the name is no text
+abbrev pub is_escaped : Bool → ℕ → Bool
+is_escaped text byte = nat_lt byte 32 || (byte == 127) || (nat_le 128 byte && not text)
+
+-- a byte of a name as it is printed: a `;` would end the name, so a colon is in its place
+abbrev pub printed_byte : Bool → ℕ → List ℕ
+printed_byte text byte = if byte == 59 then codes ":" else (if is_escaped text byte then escaped byte else byte ∷ [])
+
+-- what stands for the rest of a name that is cut
+abbrev pub cut_text : List ℕ → List ℕ
+cut_text name = if nat_lt LONGEST_NAME (length name) then codes "..." else []
+
+-- a name as it is printed, by its part that is
+abbrev pub printed : List ℕ → List ℕ
+printed part = flat_map (printed_byte (is_text part)) part
 
 abbrev pub plain : List ℕ → List ℕ
-plain name = map plain_byte name
+plain name = printed (take LONGEST_NAME name) ++ cut_text name
 
 -- a file's name without its folders
 abbrev pub base_name : List ℕ → List ℕ

@@ -2,20 +2,24 @@
 //!
 //! A frame is named by the nearest symbol at or before its address, as debuggers do, and otherwise by its place in
 //! the file.
-ghost use Rattle.std.specs.Prelude.{◌≡◌, ◌++◌, ◌∷◌, [], map, OnOk, IfOk, codes, string_bytes, true, if◌then◌else◌};
+ghost use Rattle.std.specs.Prelude.{◌≡◌, ◌<◌, ◌++◌, ◌∷◌, [], map, OnOk, IfOk, codes, string_bytes, true, if◌then◌else◌};
 ghost use Rattle.std.specs.List.{flat_map};
 ghost use Rattle.framehop_processes.specs.Mappings.{IsInOrder};
 ghost use Rattle.framehop_symbols.specs.Place.{place_view};
 ghost use Rattle.framehop_frames.specs.Stack.{shown_frame};
-ghost use Rattle.framehop_frames.specs.Line.{plain_byte, plain, base_name, hexadecimal, label_of, refusal_name, end_name, is_sure_by, part_of, mark_of_part, end_text, mark, mark_of, frames_text, frame_label, line_of, refused_line, described, found_text, trampoline_text, looked_up, frame_line, last_line, block_of, time_text, head_of};
+ghost use Rattle.framehop_frames.specs.Line.{has_c1_after, is_text, hex_digit, is_escaped, printed_byte, printed, plain, base_name, hexadecimal, label_of, refusal_name, end_name, is_sure_by, part_of, mark_of_part, end_text, mark, mark_of, frames_text, frame_label, line_of, refused_line, described, found_text, trampoline_text, looked_up, frame_line, last_line, block_of, time_text, head_of};
 
 use crate::stack::{Stack, StackFrame};
 use framehop::Error;
 use framehop_backtrace::{BacktraceEnd, FoundBy};
+use framehop_bytes::bytes::front;
 use framehop_processes::Mapping;
 use framehop_symbols::files::Files;
 use framehop_symbols::place::{Place, place_of};
 use std::alloc::{AllocError, Global};
+
+/// How many bytes of a name are printed.
+const LONGEST_NAME: usize = 2048;
 
 /// Returns what a refusal is called.
 fn refusal_name(error: Error) -> &'static str
@@ -88,25 +92,94 @@ fn base_name(path: &[u8]) -> &[u8]
     &path[start..]
 }
 
-/// Returns the byte that is printed for a byte of a name.
-fn plain_byte(byte: u8) -> u8
-    ensures { result ≡ plain_byte byte }
-{
-    match byte {
-        b';' => b':',
-        b'\n' => b' ',
-        other => other,
-    }
-}
-
-/// Appends a name, each `;` of which becomes a colon, and each line feed a blank.
+/// Appends a name as it is printed: a `;` becomes a colon, and a control character `\xNN`; in a name that is no UTF-8, or
+/// has a control character of C1, so does each byte beyond ASCII. Of a name of more than 2,048 bytes the rest is `...`.
 pub fn push_name(line: &mut Vec<u8>, name: &[u8]) -> Result<(), AllocError>
     ensures { OnOk result (line.new.items ≡ line.old.items ++ plain name.now) }
 {
-    for byte in name {
-        line.push(plain_byte(*byte))?;
+    push_printed(line, front(name, LONGEST_NAME))?;
+    if name.len() > LONGEST_NAME {
+        line.extend_from_slice(b"...")?;
     }
     Ok(())
+}
+
+/// Returns a name as it is printed.
+pub fn printed_name(alloc: Global, name: &[u8]) -> Result<Vec<u8>, AllocError>
+    ensures { IfOk result (λ printed. printed.items ≡ plain name.now) }
+{
+    let mut printed = Vec::new(alloc);
+    push_name(&mut printed, name)?;
+    Ok(printed)
+}
+
+/// Appends the part of a name that is printed.
+fn push_printed(line: &mut Vec<u8>, part: &[u8]) -> Result<(), AllocError>
+    ensures { OnOk result (line.new.items ≡ line.old.items ++ printed part.now) }
+{
+    let is_text = is_text(part);
+    for byte in part {
+        push_byte(line, is_text, *byte)?;
+    }
+    Ok(())
+}
+
+/// Returns whether a name is UTF-8 without control characters of C1.
+#[tactic(auto, unfolding(crate::specs::Line::is_text))]
+fn is_text(name: &[u8]) -> bool
+    ensures { result ≡ is_text name.now }
+{
+    match std::str::from_utf8(name) {
+        Ok(_) => !has_c1(name),
+        Err(_) => false,
+    }
+}
+
+/// Returns whether UTF-8 has a control character of C1.
+fn has_c1(text: &[u8]) -> bool
+    ensures { result ≡ has_c1_after 0 text.now }
+{
+    let mut previous = 0u8;
+    for byte in text {
+        if previous == 0xc2 && *byte < 0xa0 {
+            return true;
+        }
+        previous = *byte;
+    }
+    false
+}
+
+/// Appends a byte of a name as it is printed, by whether the name is a text.
+fn push_byte(line: &mut Vec<u8>, is_text: bool, byte: u8) -> Result<(), AllocError>
+    ensures { OnOk result (line.new.items ≡ line.old.items ++ printed_byte is_text byte) }
+{
+    if byte == b';' {
+        line.push(b':')?;
+    } else if is_escaped(is_text, byte) {
+        line.extend_from_slice(&[b'\\', b'x', hex_digit(byte / 16), hex_digit(byte % 16)])?;
+    } else {
+        line.push(byte)?;
+    }
+    Ok(())
+}
+
+/// Returns whether a byte of a name is printed as a number, by whether the name is a text.
+fn is_escaped(is_text: bool, byte: u8) -> bool
+    ensures { result ≡ is_escaped is_text byte }
+{
+    byte < 32 || byte == 127 || (byte >= 128 && !is_text)
+}
+
+/// Returns the digit of a number below 16 in hexadecimal.
+fn hex_digit(number: u8) -> u8
+    requires { number < 16 }
+    ensures { result ≡ hex_digit number }
+{
+    if number < 10 {
+        b'0' + number
+    } else {
+        b'a' - 10 + number
+    }
 }
 
 /// Appends an offset or an address after a plus sign.
