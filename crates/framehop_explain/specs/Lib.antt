@@ -2,6 +2,7 @@
 -- and notes.
 pub mod Analysed
 pub mod Annotated
+pub mod Architectures
 pub mod Callers
 pub mod CompactSource
 pub mod Count

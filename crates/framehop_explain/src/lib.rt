@@ -27,6 +27,6 @@ pub use notes::{note_frame, note_walk};
 pub use reason::Reason;
 pub use rule_text::{DescribeRule, Described};
 pub use source::{CompactSource, PeSource, RowSource, Source};
-pub use text::{frame_text, unwind_data_text};
+pub use text::{frame_text, module_name, unwind_data_text};
 pub use told::Told;
 pub use uncovered::{Uncovered, last_module_by};

@@ -6,7 +6,7 @@ ghost use Rattle.framehop_core.specs.Outcome.{answer_of, registers_after};
 ghost use Rattle.framehop.specs.CachedWorld.{step_of};
 ghost use Rattle.framehop.specs.Walk.{walk_from};
 ghost use Rattle.framehop_explain.specs.Callers.{caller_by, frames_from, located};
-ghost use Rattle.framehop_explain.specs.Found.{finding_of};
+ghost use Rattle.framehop_explain.specs.Found.{explaining_by, finding_of};
 ghost use Rattle.framehop_explain.specs.FrameNotes.{IsFrameNote, AddsNote, AddsNotes};
 ghost use Rattle.framehop_explain.specs.FrameText.{frame_text};
 ghost use Rattle.framehop_explain.specs.Note.{note_line};
@@ -67,24 +67,9 @@ pub fn note_frame<D: SectionBytes + Drop, A: Sources, P: AllocationPolicy, M: Wo
 where
     A::UnwindRule: DescribeRule,
     ensures noted { OnOk result (length notes.new.items ≡ length notes.old.items + 1) }
-    ensures note { OnOk result (AddsNote (IsFrameNote (record {
-      places = record {
-        pe = A.pe_source;
-        code = record { by_code = A.by_code; prologue = A.prologue_rule; epilogue = A.epilogue_rule };
-        compact = A.readers.compact;
-      };
-      values = λ read first old. record {
-        translated = A.translated;
-        uncovered = A.uncovered;
-        direct = λ bytes row. A.direct bytes P.GimliEvaluationStorage.Stack.limit read row first old;
-        found = A.found;
-        computed = λ sections relative frame. A.computed sections relative frame read old;
-        compact = A.readers.compact;
-      };
-      limits = P.GimliUnwindContextStorage.limits;
-      text = A.UnwindRule.rule_text;
-      fallback = A.UnwindRule.fallback;
-    }) unwinder.now.modules (M.memory memory.now) (location_of address) regs) notes.old.items notes.new.items) }
+    ensures note { OnOk result (AddsNote (IsFrameNote (explaining_by A.readers A.pe_source
+        (record { by_code = A.by_code; prologue = A.prologue_rule; epilogue = A.epilogue_rule })
+        A.UnwindRule.rule_text A.UnwindRule.fallback P.policy) unwinder.now.modules (M.memory memory.now) (location_of address) regs) notes.old.items notes.new.items) }
     ensures caller { IfOk result (λ frame.
         let outcome = step_of (A.unwinding P.policy) unwinder.now (M.memory memory.now) (location_of address) regs in
         option_map located frame ≡ caller_by (answer_of outcome) (registers_after regs outcome)) }
@@ -116,24 +101,9 @@ where
     A::UnwindRule: DescribeRule,
     ensures noted { OnOk result (length notes.new.items ≡ length notes.old.items
         + length (walk_from (step_of (A.unwinding P.policy) unwinder.now (M.memory memory.now)) limit pc regs).frames) }
-    ensures notes { OnOk result (AddsNotes (IsFrameNote (record {
-      places = record {
-        pe = A.pe_source;
-        code = record { by_code = A.by_code; prologue = A.prologue_rule; epilogue = A.epilogue_rule };
-        compact = A.readers.compact;
-      };
-      values = λ read first old. record {
-        translated = A.translated;
-        uncovered = A.uncovered;
-        direct = λ bytes row. A.direct bytes P.GimliEvaluationStorage.Stack.limit read row first old;
-        found = A.found;
-        computed = λ sections relative frame. A.computed sections relative frame read old;
-        compact = A.readers.compact;
-      };
-      limits = P.GimliUnwindContextStorage.limits;
-      text = A.UnwindRule.rule_text;
-      fallback = A.UnwindRule.fallback;
-    }) unwinder.now.modules (M.memory memory.now))
+    ensures notes { OnOk result (AddsNotes (IsFrameNote (explaining_by A.readers A.pe_source
+        (record { by_code = A.by_code; prologue = A.prologue_rule; epilogue = A.epilogue_rule })
+        A.UnwindRule.rule_text A.UnwindRule.fallback P.policy) unwinder.now.modules (M.memory memory.now))
         (frames_from (step_of (A.unwinding P.policy) unwinder.now (M.memory memory.now)) limit (Some (at_instruction_pointer pc, regs)))
         notes.old.items notes.new.items) }
     ensures frames { map (λ frame. frame.0)

@@ -34,7 +34,7 @@ pub fn unwind_data_text<D: SectionBytes + Drop>(
 }
 
 /// Returns the name of a module, or what stands for one that is not named.
-fn name_of<D: SectionBytes + Drop>(loaded: &Module<D>) -> &str
+pub fn module_name<D: SectionBytes + Drop>(loaded: &Module<D>) -> &str
     ensures { result.now ≡ name_text loaded.entry.now.name }
 {
     match loaded.name() {
@@ -64,7 +64,7 @@ fn last_text<D: SectionBytes + Drop>(
     let Some(loaded) = last else {
         return format!(in alloc; "no module starts at or below 0x{address:x}");
     };
-    let name = name_of(loaded);
+    let name = module_name(loaded);
     let base = loaded.base_avma();
     match Uncovered::by(last, address) {
         Uncovered::NoModule => format!(in alloc; "no module starts at or below 0x{address:x}"),

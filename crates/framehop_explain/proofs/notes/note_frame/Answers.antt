@@ -4,8 +4,8 @@ use Rattle.framehop_core.specs.Outcome.{Outcome, answer_of}
 use Rattle.framehop_core.proofs.Callback.{AnswersAs-unchanged, Answering-over}
 use Rattle.framehop.specs.CachedWorld.{step_of}
 use Rattle.framehop_explain.specs.Callers.{caller_by}
-use Rattle.framehop_explain.specs.Found.{Explaining, finding_of}
-use Rattle.framehop_explain.proofs.FoundLemmas.{found-by}
+use Rattle.framehop_explain.specs.Found.{Explaining, IsFinding, finding_of}
+use Rattle.framehop_explain.proofs.FoundLemmas.{found-by, named}
 use Rattle.framehop_explain.proofs.notes.note_frame.Goals as goal
 
 pub returns-clause-note : goal.returns-clause-note
@@ -32,7 +32,11 @@ returns-clause-note g c =
     } in
     let tells = Answering-over _ c.in_ok-explanation.ensures.answers memory answers in
     let found = found-by explaining c.args.unwinder.now.modules memory (location_of c.args.address) c.args.regs finding_of c.in_ok-explanation.explanation.finding c.in_ok-explanation.ensures.finding tells.1 in
-    (c.in_ok-note.note, (option_map finding_of c.in_ok-explanation.explanation.finding, found, rw c.modules.ensures at c.in_ok-note.ensures), search rules)
+    let limits = g.met.P.AllocationPolicy.is_policy in
+    let named-so = named g.A.Unwinding.readers _ g.A.Sources.pe_source (record { by_code = g.A.CompactUnwindInfoUnwinding.by_code; prologue = g.A.InstructionAnalysis.prologue_rule; epilogue = g.A.InstructionAnalysis.epilogue_rule }) g.A.UnwindRule.DescribeRule.rule_text g.A.UnwindRule.UnwindRule.fallback g.P.AllocationPolicy.policy _ _
+    (λ e. IsFinding e c.args.unwinder.now.modules memory (location_of c.args.address) c.args.regs (option_map finding_of c.in_ok-explanation.explanation.finding))
+    g.met.A.Unwinding.readers_are limits.1 limits.2 found in
+    (c.in_ok-note.note, (option_map finding_of c.in_ok-explanation.explanation.finding, named-so, rw c.modules.ensures at c.in_ok-note.ensures), search rules)
 
 pub returns-clause-caller : goal.returns-clause-caller
 returns-clause-caller g c =

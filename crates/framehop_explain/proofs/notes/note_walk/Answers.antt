@@ -4,7 +4,7 @@ use Rattle.framehop_core.specs.CodeAddress.{FrameLocation, location_of, at_instr
 use Rattle.framehop_core.specs.Outcome.{Outcome}
 use Rattle.framehop.specs.CachedWorld.{step_of}
 use Rattle.framehop_explain.specs.Callers.{frames_from, located}
-use Rattle.framehop_explain.specs.Found.{Explaining}
+use Rattle.framehop_explain.specs.Found.{Explaining, explaining_by}
 use Rattle.framehop_explain.specs.FrameNotes.{IsFrameNote}
 use Rattle.framehop_explain.proofs.CallerLemmas.{AreNoted, walk-frames, noted-next, noted-none, noted-end, noted-count}
 use Rattle.framehop_explain.proofs.notes.note_walk.Goals as goal
@@ -12,24 +12,7 @@ use Rattle.framehop_explain.proofs.notes.note_walk.Goals as goal
 pub loop-number-init : goal.loop-number-init
 loop-number-init g c =
     let step : FrameLocation → g.row.A-UnwindRegs.Denot → Outcome g.row.A-UnwindRegs.Denot = step_of (g.A.Unwinding.unwinding g.P.AllocationPolicy.policy) c.args.unwinder.now (g.M.Words.memory c.args.memory.now) in
-    let explaining : Explaining g.row.A-UnwindRule.Denot g.row.A-UnwindRegs.Denot = record {
-      places = record {
-        pe = g.A.Sources.pe_source;
-        code = record { by_code = g.A.CompactUnwindInfoUnwinding.by_code; prologue = g.A.InstructionAnalysis.prologue_rule; epilogue = g.A.InstructionAnalysis.epilogue_rule };
-        compact = g.A.Unwinding.readers.compact;
-      };
-      values = λ read first old. record {
-        translated = g.A.DwarfUnwinding.translated;
-        uncovered = g.A.DwarfUnwinding.uncovered;
-        direct = λ bytes row. g.A.DwarfUnwinding.direct bytes g.P.GimliEvaluationStorage.Stack.ValueStack.limit read row first old;
-        found = g.A.PeUnwinding.found;
-        computed = λ sections relative frame. g.A.PeUnwinding.computed sections relative frame read old;
-        compact = g.A.Unwinding.readers.compact;
-      };
-      limits = g.P.GimliUnwindContextStorage.UnwindContextStorage.limits;
-      text = g.A.UnwindRule.DescribeRule.rule_text;
-      fallback = g.A.UnwindRule.UnwindRule.fallback;
-    } in
+    let explaining : Explaining g.row.A-UnwindRule.Denot g.row.A-UnwindRegs.Denot = explaining_by g.A.Unwinding.readers g.A.Sources.pe_source (record { by_code = g.A.CompactUnwindInfoUnwinding.by_code; prologue = g.A.InstructionAnalysis.prologue_rule; epilogue = g.A.InstructionAnalysis.epilogue_rule }) g.A.UnwindRule.DescribeRule.rule_text g.A.UnwindRule.UnwindRule.fallback g.P.AllocationPolicy.policy in
     let Is : FrameLocation × g.row.A-UnwindRegs.Denot → List ℕ → Type 0 = λ frame note. IsFrameNote explaining c.args.unwinder.now.modules (g.M.Words.memory c.args.memory.now) frame.0 frame.1 note in
     let all : List (FrameLocation × g.row.A-UnwindRegs.Denot) = frames_from step c.args.limit (Some (at_instruction_pointer c.args.pc, c.args.regs)) in
     let whole : c.args.limit - 0 ≡ c.args.limit = omega arith in
@@ -41,24 +24,7 @@ loop-number-init g c =
 pub loop-number-preserved : goal.loop-number-preserved
 loop-number-preserved g c =
     let step : FrameLocation → g.row.A-UnwindRegs.Denot → Outcome g.row.A-UnwindRegs.Denot = step_of (g.A.Unwinding.unwinding g.P.AllocationPolicy.policy) c.args.unwinder.now (g.M.Words.memory c.args.memory.now) in
-    let explaining : Explaining g.row.A-UnwindRule.Denot g.row.A-UnwindRegs.Denot = record {
-      places = record {
-        pe = g.A.Sources.pe_source;
-        code = record { by_code = g.A.CompactUnwindInfoUnwinding.by_code; prologue = g.A.InstructionAnalysis.prologue_rule; epilogue = g.A.InstructionAnalysis.epilogue_rule };
-        compact = g.A.Unwinding.readers.compact;
-      };
-      values = λ read first old. record {
-        translated = g.A.DwarfUnwinding.translated;
-        uncovered = g.A.DwarfUnwinding.uncovered;
-        direct = λ bytes row. g.A.DwarfUnwinding.direct bytes g.P.GimliEvaluationStorage.Stack.ValueStack.limit read row first old;
-        found = g.A.PeUnwinding.found;
-        computed = λ sections relative frame. g.A.PeUnwinding.computed sections relative frame read old;
-        compact = g.A.Unwinding.readers.compact;
-      };
-      limits = g.P.GimliUnwindContextStorage.UnwindContextStorage.limits;
-      text = g.A.UnwindRule.DescribeRule.rule_text;
-      fallback = g.A.UnwindRule.UnwindRule.fallback;
-    } in
+    let explaining : Explaining g.row.A-UnwindRule.Denot g.row.A-UnwindRegs.Denot = explaining_by g.A.Unwinding.readers g.A.Sources.pe_source (record { by_code = g.A.CompactUnwindInfoUnwinding.by_code; prologue = g.A.InstructionAnalysis.prologue_rule; epilogue = g.A.InstructionAnalysis.epilogue_rule }) g.A.UnwindRule.DescribeRule.rule_text g.A.UnwindRule.UnwindRule.fallback g.P.AllocationPolicy.policy in
     let Is : FrameLocation × g.row.A-UnwindRegs.Denot → List ℕ → Type 0 = λ frame note. IsFrameNote explaining c.args.unwinder.now.modules (g.M.Words.memory c.args.memory.now) frame.0 frame.1 note in
     let all : List (FrameLocation × g.row.A-UnwindRegs.Denot) = frames_from step c.args.limit (Some (at_instruction_pointer c.args.pc, c.args.regs)) in
     let before = c.loop-number.invariant in
@@ -72,24 +38,7 @@ loop-number-preserved g c =
 pub returns-in_err-frame-clause-frames : goal.returns-in_err-frame-clause-frames
 returns-in_err-frame-clause-frames g c =
     let step : FrameLocation → g.row.A-UnwindRegs.Denot → Outcome g.row.A-UnwindRegs.Denot = step_of (g.A.Unwinding.unwinding g.P.AllocationPolicy.policy) c.args.unwinder.now (g.M.Words.memory c.args.memory.now) in
-    let explaining : Explaining g.row.A-UnwindRule.Denot g.row.A-UnwindRegs.Denot = record {
-      places = record {
-        pe = g.A.Sources.pe_source;
-        code = record { by_code = g.A.CompactUnwindInfoUnwinding.by_code; prologue = g.A.InstructionAnalysis.prologue_rule; epilogue = g.A.InstructionAnalysis.epilogue_rule };
-        compact = g.A.Unwinding.readers.compact;
-      };
-      values = λ read first old. record {
-        translated = g.A.DwarfUnwinding.translated;
-        uncovered = g.A.DwarfUnwinding.uncovered;
-        direct = λ bytes row. g.A.DwarfUnwinding.direct bytes g.P.GimliEvaluationStorage.Stack.ValueStack.limit read row first old;
-        found = g.A.PeUnwinding.found;
-        computed = λ sections relative frame. g.A.PeUnwinding.computed sections relative frame read old;
-        compact = g.A.Unwinding.readers.compact;
-      };
-      limits = g.P.GimliUnwindContextStorage.UnwindContextStorage.limits;
-      text = g.A.UnwindRule.DescribeRule.rule_text;
-      fallback = g.A.UnwindRule.UnwindRule.fallback;
-    } in
+    let explaining : Explaining g.row.A-UnwindRule.Denot g.row.A-UnwindRegs.Denot = explaining_by g.A.Unwinding.readers g.A.Sources.pe_source (record { by_code = g.A.CompactUnwindInfoUnwinding.by_code; prologue = g.A.InstructionAnalysis.prologue_rule; epilogue = g.A.InstructionAnalysis.epilogue_rule }) g.A.UnwindRule.DescribeRule.rule_text g.A.UnwindRule.UnwindRule.fallback g.P.AllocationPolicy.policy in
     let Is : FrameLocation × g.row.A-UnwindRegs.Denot → List ℕ → Type 0 = λ frame note. IsFrameNote explaining c.args.unwinder.now.modules (g.M.Words.memory c.args.memory.now) frame.0 frame.1 note in
     let all : List (FrameLocation × g.row.A-UnwindRegs.Denot) = frames_from step c.args.limit (Some (at_instruction_pointer c.args.pc, c.args.regs)) in
     walk-frames step c.args.limit c.args.pc c.args.regs
@@ -97,24 +46,7 @@ returns-in_err-frame-clause-frames g c =
 pub returns-in_default : goal.returns-in_default
 returns-in_default g c =
     let step : FrameLocation → g.row.A-UnwindRegs.Denot → Outcome g.row.A-UnwindRegs.Denot = step_of (g.A.Unwinding.unwinding g.P.AllocationPolicy.policy) c.args.unwinder.now (g.M.Words.memory c.args.memory.now) in
-    let explaining : Explaining g.row.A-UnwindRule.Denot g.row.A-UnwindRegs.Denot = record {
-      places = record {
-        pe = g.A.Sources.pe_source;
-        code = record { by_code = g.A.CompactUnwindInfoUnwinding.by_code; prologue = g.A.InstructionAnalysis.prologue_rule; epilogue = g.A.InstructionAnalysis.epilogue_rule };
-        compact = g.A.Unwinding.readers.compact;
-      };
-      values = λ read first old. record {
-        translated = g.A.DwarfUnwinding.translated;
-        uncovered = g.A.DwarfUnwinding.uncovered;
-        direct = λ bytes row. g.A.DwarfUnwinding.direct bytes g.P.GimliEvaluationStorage.Stack.ValueStack.limit read row first old;
-        found = g.A.PeUnwinding.found;
-        computed = λ sections relative frame. g.A.PeUnwinding.computed sections relative frame read old;
-        compact = g.A.Unwinding.readers.compact;
-      };
-      limits = g.P.GimliUnwindContextStorage.UnwindContextStorage.limits;
-      text = g.A.UnwindRule.DescribeRule.rule_text;
-      fallback = g.A.UnwindRule.UnwindRule.fallback;
-    } in
+    let explaining : Explaining g.row.A-UnwindRule.Denot g.row.A-UnwindRegs.Denot = explaining_by g.A.Unwinding.readers g.A.Sources.pe_source (record { by_code = g.A.CompactUnwindInfoUnwinding.by_code; prologue = g.A.InstructionAnalysis.prologue_rule; epilogue = g.A.InstructionAnalysis.epilogue_rule }) g.A.UnwindRule.DescribeRule.rule_text g.A.UnwindRule.UnwindRule.fallback g.P.AllocationPolicy.policy in
     let Is : FrameLocation × g.row.A-UnwindRegs.Denot → List ℕ → Type 0 = λ frame note. IsFrameNote explaining c.args.unwinder.now.modules (g.M.Words.memory c.args.memory.now) frame.0 frame.1 note in
     let all : List (FrameLocation × g.row.A-UnwindRegs.Denot) = frames_from step c.args.limit (Some (at_instruction_pointer c.args.pc, c.args.regs)) in
     let before = c.loop-number.invariant in
@@ -128,24 +60,7 @@ returns-in_default g c =
 pub returns : goal.returns
 returns g c =
     let step : FrameLocation → g.row.A-UnwindRegs.Denot → Outcome g.row.A-UnwindRegs.Denot = step_of (g.A.Unwinding.unwinding g.P.AllocationPolicy.policy) c.args.unwinder.now (g.M.Words.memory c.args.memory.now) in
-    let explaining : Explaining g.row.A-UnwindRule.Denot g.row.A-UnwindRegs.Denot = record {
-      places = record {
-        pe = g.A.Sources.pe_source;
-        code = record { by_code = g.A.CompactUnwindInfoUnwinding.by_code; prologue = g.A.InstructionAnalysis.prologue_rule; epilogue = g.A.InstructionAnalysis.epilogue_rule };
-        compact = g.A.Unwinding.readers.compact;
-      };
-      values = λ read first old. record {
-        translated = g.A.DwarfUnwinding.translated;
-        uncovered = g.A.DwarfUnwinding.uncovered;
-        direct = λ bytes row. g.A.DwarfUnwinding.direct bytes g.P.GimliEvaluationStorage.Stack.ValueStack.limit read row first old;
-        found = g.A.PeUnwinding.found;
-        computed = λ sections relative frame. g.A.PeUnwinding.computed sections relative frame read old;
-        compact = g.A.Unwinding.readers.compact;
-      };
-      limits = g.P.GimliUnwindContextStorage.UnwindContextStorage.limits;
-      text = g.A.UnwindRule.DescribeRule.rule_text;
-      fallback = g.A.UnwindRule.UnwindRule.fallback;
-    } in
+    let explaining : Explaining g.row.A-UnwindRule.Denot g.row.A-UnwindRegs.Denot = explaining_by g.A.Unwinding.readers g.A.Sources.pe_source (record { by_code = g.A.CompactUnwindInfoUnwinding.by_code; prologue = g.A.InstructionAnalysis.prologue_rule; epilogue = g.A.InstructionAnalysis.epilogue_rule }) g.A.UnwindRule.DescribeRule.rule_text g.A.UnwindRule.UnwindRule.fallback g.P.AllocationPolicy.policy in
     let Is : FrameLocation × g.row.A-UnwindRegs.Denot → List ℕ → Type 0 = λ frame note. IsFrameNote explaining c.args.unwinder.now.modules (g.M.Words.memory c.args.memory.now) frame.0 frame.1 note in
     let all : List (FrameLocation × g.row.A-UnwindRegs.Denot) = frames_from step c.args.limit (Some (at_instruction_pointer c.args.pc, c.args.regs)) in
     let before = c.loop-number.invariant in
