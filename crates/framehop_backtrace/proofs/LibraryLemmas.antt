@@ -1,7 +1,7 @@
 -- Where a backtrace is the library's walk.
 use Rattle.std.proofs.Common.{◌≡◌, ℕ, zero, suc, ◌∷◌, [], Bool, true, false, map, Ok, Err, refl, ap, sym, ◌∙◌, inl, inr, subst, ◌⊎◌, ◌==◌, if◌then◌else◌}
 use Rattle.std.proofs.lemmas.Bool.{true≢false}
-use Rattle.framehop_core.specs.CodeAddress.{FrameLocation, at_instruction_pointer, at_return_address, is_first_frame}
+use Rattle.framehop_core.specs.CodeAddress.{FrameLocation, at_instruction_pointer, at_return_address}
 use Rattle.framehop_core.specs.Outcome.{Outcome, answered, root, refused}
 use Rattle.framehop.specs.Walk.{Walk, at_root, onward, callers, walk_from, frame_before}
 use Rattle.framehop_backtrace.specs.Code.{is_in_trampoline, is_in_code}

@@ -43,9 +43,10 @@ frame_view frame = record {
 abbrev pub Next : Type 0 → Type 0
 Next Regs = Result (FrameView Regs) BacktraceEnd
 
-abbrev pub next_view : {Regs : Type 0} → Result (Frame Regs) BacktraceEnd → Next Regs
-next_view (Ok frame) = Ok (frame_view frame)
-next_view (Err end) = Err end
+-- a frame that has been made its caller, or the end
+abbrev pub moved_to : {Done Regs : Type 0} → Result Done BacktraceEnd → Frame Regs → Next Regs
+moved_to (Ok done) frame = Ok (frame_view frame)
+moved_to (Err end) frame = Err end
 
 -- ---- the caller of a frame
 

@@ -1,5 +1,5 @@
 -- Where a backtrace is the library's walk.
-use Rattle.std.specs.Prelude.{◌≡◌, ℕ, zero, suc, Bool, true, false, ⊤, ◌⊎◌, map}
+use Rattle.std.specs.Prelude.{◌≡◌, ℕ, zero, suc, true, false, ⊤, ◌⊎◌, map}
 use Rattle.framehop_core.specs.CodeAddress.{FrameLocation, at_instruction_pointer, at_return_address, is_first_frame}
 use Rattle.framehop_core.specs.Outcome.{Outcome, answered, root, refused}
 use Rattle.framehop.specs.Walk.{Walk, End, at_root, at_refusal, at_limit, walk_from}

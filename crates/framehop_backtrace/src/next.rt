@@ -1,5 +1,5 @@
 //! The caller of a frame.
-ghost use Rattle.std.specs.Prelude.{◌≡◌, ◌≢◌, ◌⊎◌, None, IfOk, IfErr, Err, MatchBool, true};
+ghost use Rattle.std.specs.Prelude.{◌≡◌, ◌≢◌, ◌⊎◌, None, IfOk, IfErr, OnErr, Err, MatchBool, true};
 ghost use Rattle.framehop_core.specs.CodeAddress.{location_of, is_first_frame};
 ghost use Rattle.framehop_core.specs.Outcome.{HasDone};
 ghost use Rattle.framehop.specs.Modules.{UnwinderView};
@@ -7,7 +7,7 @@ ghost use Rattle.framehop.specs.Soundness.{AreApart};
 ghost use Rattle.framehop_backtrace.specs.Code.{is_in_trampoline};
 ghost use Rattle.framehop_backtrace.specs.Rows.{IsRow};
 ghost use Rattle.framehop_backtrace.specs.Columns.{returned_to};
-ghost use Rattle.framehop_backtrace.specs.Backtrace.{frame_view, next_view, by_signal, by_row_of, returned_as, stepped, is_called, fallen_back_by, by_library, by_guess, by_start, without_row, stack_of, next_of};
+ghost use Rattle.framehop_backtrace.specs.Backtrace.{frame_view, moved_to, by_signal, by_row_of, returned_as, stepped, is_called, fallen_back_by, by_library, by_guess, by_start, without_row, stack_of, next_of};
 
 use crate::frame::{BacktraceEnd, FoundBy, Frame, end_of_refusal, root_of};
 use crate::machine::BacktraceUnwinder;
@@ -22,7 +22,7 @@ use framehop_columns::register_file::RegisterFile;
 use framehop_core::{Error, FrameAddress};
 use std::alloc::{AllocError, Global};
 
-/// Returns the caller of a frame, or how the stack ends there.
+/// Makes a frame its caller, or returns how the stack ends there. At an end the frame is as it was.
 ///
 /// 1. A frame in a trampoline, to which the handler of a signal returns, has the interrupted code as its caller.
 /// 2. A frame for which the modules have a row has its caller by that, over all registers that are known.
@@ -34,7 +34,7 @@ use std::alloc::{AllocError, Global};
 ///
 /// # Errors
 ///
-/// An allocation failed. That may be only where the context's rows have no limits, or where the library's step may take
+/// An allocation failed, and the frame is as it was. That may be only where the context's rows have no limits, or where the library's step may take
 /// memory.
 pub fn next_frame<U: BacktraceUnwinder, W: Rows, M: CodeMemory, S: UnwindContextStorage>(
     alloc: Global,
@@ -43,16 +43,18 @@ pub fn next_frame<U: BacktraceUnwinder, W: Rows, M: CodeMemory, S: UnwindContext
     unwind_context: &mut UnwindContext<S>,
     cache: &mut U::Cache,
     memory: &M,
-    frame: &Frame<U::UnwindRegs>,
-) -> Result<Result<Frame<U::UnwindRegs>, BacktraceEnd>, AllocError>
+    frame: &mut Frame<U::UnwindRegs>,
+) -> Result<Result<(), BacktraceEnd>, AllocError>
     ensures stays_sound { (other : UnwinderView) → AreApart (U.unwinder_view unwinder.now) other
         → U.is_sound other cache.old → U.is_sound other cache.new }
-    ensures kept_in_trampolines { is_in_trampoline (M.code memory.now) (location_of frame.now.address) ≡ true → cache.new ≡ cache.old }
-    ensures kept_by_rows { IsRow (W.rows rows.now S.limits (location_of frame.now.address)) → cache.new ≡ cache.old }
-    ensures refused { IfErr result (λ _. (S.limits ≡ None) ⊎ U.may_run_out unwinder.now cache.old (location_of frame.now.address)) }
-    ensures exact { U.is_sound (U.unwinder_view unwinder.now) cache.old → IfOk result (λ next. next_view next
+    ensures kept_in_trampolines { is_in_trampoline (M.code memory.now) (location_of frame.old.address) ≡ true → cache.new ≡ cache.old }
+    ensures kept_by_rows { IsRow (W.rows rows.now S.limits (location_of frame.old.address)) → cache.new ≡ cache.old }
+    ensures refused { IfErr result (λ _. (S.limits ≡ None) ⊎ U.may_run_out unwinder.now cache.old (location_of frame.old.address)) }
+    ensures exact { U.is_sound (U.unwinder_view unwinder.now) cache.old → IfOk result (λ moved. moved_to moved frame.new
         ≡ next_of (stack_of U.machine (U.step unwinder.now) (U.is_by_info unwinder.now) (W.rows rows.now S.limits)
-        (M.memory memory.now) (M.code memory.now)) (frame_view frame.now)) }
+        (M.memory memory.now) (M.code memory.now)) (frame_view frame.old)) }
+    ensures unmoved { OnErr result (frame.new ≡ frame.old) }
+    ensures ended { IfOk result (λ moved. OnErr moved (frame.new ≡ frame.old)) }
 {
     if is_in_trampoline(memory, frame.address) {
         return Ok(by_signal::<U, M>(memory, frame));
@@ -67,12 +69,13 @@ pub fn next_frame<U: BacktraceUnwinder, W: Rows, M: CodeMemory, S: UnwindContext
     }
 }
 
-/// Returns the code that a signal interrupted, by the signal frame at the stack pointer of a trampoline.
+/// Makes a frame the code that a signal interrupted, by the signal frame at the stack pointer of a trampoline.
 fn by_signal<U: BacktraceUnwinder, M: CodeMemory>(
     memory: &M,
-    frame: &Frame<U::UnwindRegs>,
-) -> Result<Frame<U::UnwindRegs>, BacktraceEnd>
-    ensures { next_view result ≡ by_signal U.machine (M.code memory.now) (frame_view frame.now) }
+    frame: &mut Frame<U::UnwindRegs>,
+) -> Result<(), BacktraceEnd>
+    ensures moved { moved_to result frame.new ≡ by_signal U.machine (M.code memory.now) (frame_view frame.old) }
+    ensures ended { OnErr result (frame.new ≡ frame.old) }
 {
     let Some(sp) = frame.columns.get(U::convention().stack_pointer()) else {
         return Err(BacktraceEnd::SignalFrameUnread);
@@ -83,43 +86,46 @@ fn by_signal<U: BacktraceUnwinder, M: CodeMemory>(
     let Some((pc, columns)) = U::saved(bytes) else {
         return Err(BacktraceEnd::SignalFrameUnread);
     };
-    Ok(Frame {
-        address: FrameAddress::from_instruction_pointer(pc),
-        regs: U::merged(frame.regs, &columns),
-        columns,
-        found: FoundBy::Signal,
-    })
+    frame.address = FrameAddress::from_instruction_pointer(pc);
+    frame.regs = U::merged(frame.regs, &columns);
+    frame.columns = columns;
+    frame.found = FoundBy::Signal;
+    Ok(())
 }
 
-/// Returns the caller by a row.
+/// Makes a frame its caller by a row.
 fn by_row<U: BacktraceUnwinder, M: CodeMemory, S: UnwindContextStorage>(
     alloc: Global,
     section: &[u8],
     row: &UnwindTableRow<S>,
     memory: &M,
-    frame: &Frame<U::UnwindRegs>,
-) -> Result<Frame<U::UnwindRegs>, BacktraceEnd>
-    ensures { next_view result ≡ by_row_of U.machine (M.code memory.now) (M.memory memory.now) (frame_view frame.now) section.now row.now }
+    frame: &mut Frame<U::UnwindRegs>,
+) -> Result<(), BacktraceEnd>
+    ensures moved { moved_to result frame.new ≡ by_row_of U.machine (M.code memory.now) (M.memory memory.now) (frame_view frame.old)
+        section.now row.now }
+    ensures ended { OnErr result (frame.new ≡ frame.old) }
 {
     let convention = U::convention();
     match caller_by_row(alloc, convention, section, row, &frame.columns, memory) {
         Ok(caller) => {
             let address = U::strip(&frame.regs, caller.return_address);
-            let columns = returned_to::<U>(&frame.regs, address, &caller.regs);
-            returned_as::<U, M>(memory, frame, address, columns)
+            let mut columns = caller.regs;
+            return_to::<U>(&frame.regs, address, &mut columns);
+            returned_as::<U, M>(memory, frame, address, &columns)
         }
         Err(refusal) => Err(end_of_refusal(refusal)),
     }
 }
 
-/// Returns the caller at a stripped return address (AVMA), with its columns.
+/// Makes a frame its caller at a stripped return address (AVMA), with these columns.
 fn returned_as<U: BacktraceUnwinder, M: CodeMemory>(
     memory: &M,
-    frame: &Frame<U::UnwindRegs>,
+    frame: &mut Frame<U::UnwindRegs>,
     address: u64,
-    columns: RegisterFile,
-) -> Result<Frame<U::UnwindRegs>, BacktraceEnd>
-    ensures { next_view result ≡ returned_as U.machine (M.code memory.now) (frame_view frame.now) address columns }
+    columns: &RegisterFile,
+) -> Result<(), BacktraceEnd>
+    ensures moved { moved_to result frame.new ≡ returned_as U.machine (M.code memory.now) (frame_view frame.old) address columns.now }
+    ensures ended { OnErr result (frame.new ≡ frame.old) }
 {
     let Some(location) = FrameAddress::from_return_address(address) else {
         return Err(BacktraceEnd::Refused(Error::ReturnAddressIsNull));
@@ -127,22 +133,17 @@ fn returned_as<U: BacktraceUnwinder, M: CodeMemory>(
     if !is_in_code(memory, address) {
         return Err(BacktraceEnd::NotCode(address));
     }
-    Ok(Frame {
-        address: location,
-        regs: U::merged(frame.regs, &columns),
-        columns,
-        found: FoundBy::Cfi,
-    })
+    frame.address = location;
+    frame.regs = U::merged(frame.regs, columns);
+    frame.columns = *columns;
+    frame.found = FoundBy::Cfi;
+    Ok(())
 }
 
-/// Returns a caller's columns with a stripped return address (AVMA) as the program counter, and with the return address'
-/// own column stripped.
-fn returned_to<U: BacktraceUnwinder>(
-    regs: &U::UnwindRegs,
-    address: u64,
-    columns: &RegisterFile,
-) -> RegisterFile
-    ensures { result ≡ returned_to U.machine.convention (U.machine.strip regs.now) address columns.now }
+/// Makes a stripped return address (AVMA) the program counter of a caller's columns, and strips the return address' own
+/// column.
+fn return_to<U: BacktraceUnwinder>(regs: &U::UnwindRegs, address: u64, columns: &mut RegisterFile)
+    ensures { columns.new ≡ returned_to U.machine.convention (U.machine.strip regs.now) address columns.old }
 {
     let convention = U::convention();
     let register = convention.return_address();
@@ -150,26 +151,26 @@ fn returned_to<U: BacktraceUnwinder>(
         Some(link) => Some(U::strip(regs, link)),
         None => None,
     };
-    let mut caller = *columns;
-    caller.set(register, link);
-    caller.set(convention.program_counter(), Some(address));
-    caller
+    columns.set(register, link);
+    columns.set(convention.program_counter(), Some(address));
 }
 
-/// Returns the caller of a frame that call frames of its module do not cover.
+/// Makes a frame its caller, where call frames of its module do not cover it.
 fn by_start<U: BacktraceUnwinder, M: CodeMemory>(
     unwinder: &U,
     cache: &mut U::Cache,
     memory: &M,
-    frame: &Frame<U::UnwindRegs>,
-) -> Result<Result<Frame<U::UnwindRegs>, BacktraceEnd>, AllocError>
+    frame: &mut Frame<U::UnwindRegs>,
+) -> Result<Result<(), BacktraceEnd>, AllocError>
     ensures stays_sound { (other : UnwinderView) → AreApart (U.unwinder_view unwinder.now) other
         → U.is_sound other cache.old → U.is_sound other cache.new }
-    ensures refused { IfErr result (λ _. U.may_run_out unwinder.now cache.old (location_of frame.now.address)) }
-    ensures exact { U.is_sound (U.unwinder_view unwinder.now) cache.old → IfOk result (λ next. next_view next
-        ≡ by_start U.machine (M.code memory.now) (frame_view frame.now)
-        (U.step unwinder.now (location_of frame.now.address) frame.now.regs (M.memory memory.now))
-        (U.machine.fallback (is_first_frame (location_of frame.now.address)) frame.now.regs (M.memory memory.now))) }
+    ensures refused { IfErr result (λ _. U.may_run_out unwinder.now cache.old (location_of frame.old.address)) }
+    ensures exact { U.is_sound (U.unwinder_view unwinder.now) cache.old → IfOk result (λ moved. moved_to moved frame.new
+        ≡ by_start U.machine (M.code memory.now) (frame_view frame.old)
+        (U.step unwinder.now (location_of frame.old.address) frame.old.regs (M.memory memory.now))
+        (U.machine.fallback (is_first_frame (location_of frame.old.address)) frame.old.regs (M.memory memory.now))) }
+    ensures unmoved { OnErr result (frame.new ≡ frame.old) }
+    ensures ended { IfOk result (λ moved. OnErr moved (frame.new ≡ frame.old)) }
 {
     if frame.address.is_return_address() {
         return by_library(unwinder, cache, memory, frame, FoundBy::FramePointer);
@@ -177,23 +178,25 @@ fn by_start<U: BacktraceUnwinder, M: CodeMemory>(
     by_guess(unwinder, cache, memory, frame)
 }
 
-/// Returns the caller of a frame without a row: by PE or compact unwind info, by the frame pointer, or, outside of code, by
+/// Makes a frame without a row its caller: by PE or compact unwind info, by the frame pointer, or, outside of code, by
 /// the call that has led there.
 fn without_row<U: BacktraceUnwinder, M: CodeMemory>(
     unwinder: &U,
     cache: &mut U::Cache,
     memory: &M,
-    frame: &Frame<U::UnwindRegs>,
-) -> Result<Result<Frame<U::UnwindRegs>, BacktraceEnd>, AllocError>
+    frame: &mut Frame<U::UnwindRegs>,
+) -> Result<Result<(), BacktraceEnd>, AllocError>
     ensures stays_sound { (other : UnwinderView) → AreApart (U.unwinder_view unwinder.now) other
         → U.is_sound other cache.old → U.is_sound other cache.new }
-    ensures refused { IfErr result (λ _. U.may_run_out unwinder.now cache.old (location_of frame.now.address)) }
-    ensures exact { U.is_sound (U.unwinder_view unwinder.now) cache.old → IfOk result (λ next. next_view next
-        ≡ without_row U.machine (M.code memory.now) (frame_view frame.now)
-        (U.is_by_info unwinder.now (location_of frame.now.address) frame.now.regs (M.memory memory.now))
-        (U.step unwinder.now (location_of frame.now.address) frame.now.regs (M.memory memory.now))
-        (U.machine.start frame.now.regs (M.memory memory.now))
-        (U.machine.fallback (is_first_frame (location_of frame.now.address)) frame.now.regs (M.memory memory.now))) }
+    ensures refused { IfErr result (λ _. U.may_run_out unwinder.now cache.old (location_of frame.old.address)) }
+    ensures exact { U.is_sound (U.unwinder_view unwinder.now) cache.old → IfOk result (λ moved. moved_to moved frame.new
+        ≡ without_row U.machine (M.code memory.now) (frame_view frame.old)
+        (U.is_by_info unwinder.now (location_of frame.old.address) frame.old.regs (M.memory memory.now))
+        (U.step unwinder.now (location_of frame.old.address) frame.old.regs (M.memory memory.now))
+        (U.machine.start frame.old.regs (M.memory memory.now))
+        (U.machine.fallback (is_first_frame (location_of frame.old.address)) frame.old.regs (M.memory memory.now))) }
+    ensures unmoved { OnErr result (frame.new ≡ frame.old) }
+    ensures ended { IfOk result (λ moved. OnErr moved (frame.new ≡ frame.old)) }
 {
     if is_outside_code(memory, frame.address) {
         return Ok(by_call::<U, M>(memory, frame));
@@ -206,15 +209,16 @@ fn without_row<U: BacktraceUnwinder, M: CodeMemory>(
     by_library(unwinder, cache, memory, frame, found)
 }
 
-/// Returns the caller of a frame outside of code, as if it were at the first instruction of a function: if it lies right
+/// Makes a frame outside of code its caller, as if it were at the first instruction of a function: if it lies right
 /// after a call, or else by the frame pointer.
 fn by_call<U: BacktraceUnwinder, M: CodeMemory>(
     memory: &M,
-    frame: &Frame<U::UnwindRegs>,
-) -> Result<Frame<U::UnwindRegs>, BacktraceEnd>
-    ensures { next_view result ≡ by_guess U.machine (M.code memory.now) (frame_view frame.now)
-        (U.machine.start frame.now.regs (M.memory memory.now))
-        (U.machine.fallback (is_first_frame (location_of frame.now.address)) frame.now.regs (M.memory memory.now)) }
+    frame: &mut Frame<U::UnwindRegs>,
+) -> Result<(), BacktraceEnd>
+    ensures moved { moved_to result frame.new ≡ by_guess U.machine (M.code memory.now) (frame_view frame.old)
+        (U.machine.start frame.old.regs (M.memory memory.now))
+        (U.machine.fallback (is_first_frame (location_of frame.old.address)) frame.old.regs (M.memory memory.now)) }
+    ensures ended { OnErr result (frame.new ≡ frame.old) }
 {
     if !U::can_step(&frame.columns) {
         return Err(BacktraceEnd::RegistersUnknown);
@@ -222,25 +226,27 @@ fn by_call<U: BacktraceUnwinder, M: CodeMemory>(
     let mut regs = frame.regs;
     let answer = U::step_at_start(memory, &mut regs);
     if is_called::<U, M>(memory, answer) {
-        return stepped::<U, M>(memory, FoundBy::Guess, answer, regs);
+        return stepped::<U, M>(memory, frame, FoundBy::Guess, answer, regs);
     }
     fallen_back::<U, M>(memory, frame)
 }
 
-/// Returns the caller by the library's step.
+/// Makes a frame its caller by the library's step.
 fn by_library<U: BacktraceUnwinder, M: CodeMemory>(
     unwinder: &U,
     cache: &mut U::Cache,
     memory: &M,
-    frame: &Frame<U::UnwindRegs>,
+    frame: &mut Frame<U::UnwindRegs>,
     found: FoundBy,
-) -> Result<Result<Frame<U::UnwindRegs>, BacktraceEnd>, AllocError>
+) -> Result<Result<(), BacktraceEnd>, AllocError>
     ensures stays_sound { (other : UnwinderView) → AreApart (U.unwinder_view unwinder.now) other
         → U.is_sound other cache.old → U.is_sound other cache.new }
-    ensures refused { IfErr result (λ _. U.may_run_out unwinder.now cache.old (location_of frame.now.address)) }
-    ensures exact { U.is_sound (U.unwinder_view unwinder.now) cache.old → IfOk result (λ next. next_view next
-        ≡ by_library U.machine (M.code memory.now) (frame_view frame.now) found
-        (U.step unwinder.now (location_of frame.now.address) frame.now.regs (M.memory memory.now))) }
+    ensures refused { IfErr result (λ _. U.may_run_out unwinder.now cache.old (location_of frame.old.address)) }
+    ensures exact { U.is_sound (U.unwinder_view unwinder.now) cache.old → IfOk result (λ moved. moved_to moved frame.new
+        ≡ by_library U.machine (M.code memory.now) (frame_view frame.old) found
+        (U.step unwinder.now (location_of frame.old.address) frame.old.regs (M.memory memory.now))) }
+    ensures unmoved { OnErr result (frame.new ≡ frame.old) }
+    ensures ended { IfOk result (λ moved. OnErr moved (frame.new ≡ frame.old)) }
 {
     if !U::can_step(&frame.columns) {
         return Ok(Err(BacktraceEnd::RegistersUnknown));
@@ -250,23 +256,25 @@ fn by_library<U: BacktraceUnwinder, M: CodeMemory>(
     if is_out_of_memory(answer) {
         return Err(AllocError);
     }
-    Ok(stepped::<U, M>(memory, found, answer, regs))
+    Ok(stepped::<U, M>(memory, frame, found, answer, regs))
 }
 
-/// Returns the caller by the rule of a function's start, if it lies right after a call, or else by the frame pointer.
+/// Makes a frame its caller by the rule of a function's start, if it lies right after a call, or else by the frame pointer.
 fn by_guess<U: BacktraceUnwinder, M: CodeMemory>(
     unwinder: &U,
     cache: &mut U::Cache,
     memory: &M,
-    frame: &Frame<U::UnwindRegs>,
-) -> Result<Result<Frame<U::UnwindRegs>, BacktraceEnd>, AllocError>
+    frame: &mut Frame<U::UnwindRegs>,
+) -> Result<Result<(), BacktraceEnd>, AllocError>
     ensures stays_sound { (other : UnwinderView) → AreApart (U.unwinder_view unwinder.now) other
         → U.is_sound other cache.old → U.is_sound other cache.new }
-    ensures refused { IfErr result (λ _. U.may_run_out unwinder.now cache.old (location_of frame.now.address)) }
-    ensures exact { U.is_sound (U.unwinder_view unwinder.now) cache.old → IfOk result (λ next. next_view next
-        ≡ by_guess U.machine (M.code memory.now) (frame_view frame.now)
-        (U.step unwinder.now (location_of frame.now.address) frame.now.regs (M.memory memory.now))
-        (U.machine.fallback (is_first_frame (location_of frame.now.address)) frame.now.regs (M.memory memory.now))) }
+    ensures refused { IfErr result (λ _. U.may_run_out unwinder.now cache.old (location_of frame.old.address)) }
+    ensures exact { U.is_sound (U.unwinder_view unwinder.now) cache.old → IfOk result (λ moved. moved_to moved frame.new
+        ≡ by_guess U.machine (M.code memory.now) (frame_view frame.old)
+        (U.step unwinder.now (location_of frame.old.address) frame.old.regs (M.memory memory.now))
+        (U.machine.fallback (is_first_frame (location_of frame.old.address)) frame.old.regs (M.memory memory.now))) }
+    ensures unmoved { OnErr result (frame.new ≡ frame.old) }
+    ensures ended { IfOk result (λ moved. OnErr moved (frame.new ≡ frame.old)) }
 {
     if !U::can_step(&frame.columns) {
         return Ok(Err(BacktraceEnd::RegistersUnknown));
@@ -277,18 +285,19 @@ fn by_guess<U: BacktraceUnwinder, M: CodeMemory>(
         return Err(AllocError);
     }
     if is_called::<U, M>(memory, answer) {
-        return Ok(stepped::<U, M>(memory, FoundBy::Guess, answer, regs));
+        return Ok(stepped::<U, M>(memory, frame, FoundBy::Guess, answer, regs));
     }
     Ok(fallen_back::<U, M>(memory, frame))
 }
 
-/// Returns the caller by the frame pointer, where a guess is wrong.
+/// Makes a frame its caller by the frame pointer, where a guess is wrong.
 fn fallen_back<U: BacktraceUnwinder, M: CodeMemory>(
     memory: &M,
-    frame: &Frame<U::UnwindRegs>,
-) -> Result<Frame<U::UnwindRegs>, BacktraceEnd>
-    ensures { next_view result ≡ fallen_back_by U.machine (M.code memory.now) (frame_view frame.now)
-        (U.machine.fallback (is_first_frame (location_of frame.now.address)) frame.now.regs (M.memory memory.now)) }
+    frame: &mut Frame<U::UnwindRegs>,
+) -> Result<(), BacktraceEnd>
+    ensures moved { moved_to result frame.new ≡ fallen_back_by U.machine (M.code memory.now) (frame_view frame.old)
+        (U.machine.fallback (is_first_frame (location_of frame.old.address)) frame.old.regs (M.memory memory.now)) }
+    ensures ended { OnErr result (frame.new ≡ frame.old) }
 {
     let is_first_frame = !frame.address.is_return_address();
     let mut regs = frame.regs;
@@ -297,7 +306,7 @@ fn fallen_back<U: BacktraceUnwinder, M: CodeMemory>(
         Ok(None) => Err(BacktraceEnd::FramePointerZero),
         Ok(Some(_)) => {
             if is_called::<U, M>(memory, answer) {
-                stepped::<U, M>(memory, FoundBy::FramePointer, answer, regs)
+                stepped::<U, M>(memory, frame, FoundBy::FramePointer, answer, regs)
             } else {
                 Err(BacktraceEnd::NoCaller)
             }
@@ -306,14 +315,16 @@ fn fallen_back<U: BacktraceUnwinder, M: CodeMemory>(
     }
 }
 
-/// Returns the caller by what a step of the library returns, and the registers after it.
+/// Makes a frame its caller by what a step of the library returns, and the registers after it.
 fn stepped<U: BacktraceUnwinder, M: CodeMemory>(
     memory: &M,
+    frame: &mut Frame<U::UnwindRegs>,
     found: FoundBy,
     answer: Result<Option<u64>, Error>,
     regs: U::UnwindRegs,
-) -> Result<Frame<U::UnwindRegs>, BacktraceEnd>
-    ensures { next_view result ≡ stepped U.machine (M.code memory.now) found answer regs }
+) -> Result<(), BacktraceEnd>
+    ensures moved { moved_to result frame.new ≡ stepped U.machine (M.code memory.now) found answer regs }
+    ensures ended { OnErr result (frame.new ≡ frame.old) }
 {
     let address = match answer {
         Ok(Some(address)) => address,
@@ -326,12 +337,11 @@ fn stepped<U: BacktraceUnwinder, M: CodeMemory>(
     if !is_in_code(memory, address) {
         return Err(BacktraceEnd::NotCode(address));
     }
-    Ok(Frame {
-        address: location,
-        columns: U::columns(address, &regs),
-        regs,
-        found,
-    })
+    frame.address = location;
+    frame.columns = U::columns(address, &regs);
+    frame.regs = regs;
+    frame.found = found;
+    Ok(())
 }
 
 /// Returns whether a step returns an address that lies in code, right after a call.

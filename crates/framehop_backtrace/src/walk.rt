@@ -58,12 +58,17 @@ pub fn backtrace<U: BacktraceUnwinder, W: Rows, M: CodeMemory, S: UnwindContextS
     let mut frame = first;
     frames.push(frame)?;
     for _caller in 1..limit {
-        let next = next_frame(alloc, unwinder, rows, unwind_context, cache, memory, &frame)?;
-        match next {
-            Ok(caller) => {
-                frames.push(caller)?;
-                frame = caller;
-            }
+        let moved = next_frame(
+            alloc,
+            unwinder,
+            rows,
+            unwind_context,
+            cache,
+            memory,
+            &mut frame,
+        )?;
+        match moved {
+            Ok(()) => frames.push(frame)?,
             Err(end) => return Ok(StackTrace { frames, end }),
         }
     }

@@ -11,7 +11,7 @@ returns-then-is_in_trampoline-clause-exact g c = λ sound.
     stack_of g.U.BacktraceUnwinder.machine (g.U.Unwinder.step c.args.unwinder.now)
     (g.U.BacktraceUnwinder.is_by_info c.args.unwinder.now) (g.W.Rows.rows c.args.rows.now g.S.UnwindContextStorage.limits)
     (g.M.WordMemory.memory c.args.memory.now) (g.M.CodeMemory.code c.args.memory.now) in
-    c.by_signal.ensures ∙ sym (at-signal stack (frame_view c.args.frame.now) (sym c.is_in_trampoline.ensures ∙ c.if-is_in_trampoline.true))
+    c.by_signal.ensures.moved ∙ sym (at-signal stack (frame_view c.args.frame.now) (sym c.is_in_trampoline.ensures ∙ c.if-is_in_trampoline.true))
 
 pub returns-in-Row-clause-exact : goal.returns-in-Row-clause-exact
 returns-in-Row-clause-exact g c = λ sound.
@@ -19,7 +19,7 @@ returns-in-Row-clause-exact g c = λ sound.
     stack_of g.U.BacktraceUnwinder.machine (g.U.Unwinder.step c.args.unwinder.now)
     (g.U.BacktraceUnwinder.is_by_info c.args.unwinder.now) (g.W.Rows.rows c.args.rows.now g.S.UnwindContextStorage.limits)
     (g.M.WordMemory.memory c.args.memory.now) (g.M.CodeMemory.code c.args.memory.now) in
-    c.by_row.ensures ∙ sym (at-finding stack (frame_view c.args.frame.now) (by_row c.in-Row.section.now c.row-row.result.now)
+    c.by_row.ensures.moved ∙ sym (at-finding stack (frame_view c.args.frame.now) (by_row c.in-Row.section.now c.row-row.result.now)
     (sym c.is_in_trampoline.ensures ∙ c.if-is_in_trampoline.false)
     (ap (by_row c.in-Row.section.now) c.row-row.ensures ∙ ap (λ found. finding_of found c.row_at.new.unwind_context.row) (sym c.in-Row.is) ∙ c.in_ok-section.ensures.found))
 

@@ -1,6 +1,6 @@
 use Rattle.std.proofs.Common.{◌∙◌, ◌-◌, ◌+◌, ◌++◌, ◌∷◌, [], map, ap, sym, refl, arith}
 use Rattle.std.proofs.lemmas.List.{map-append}
-use Rattle.framehop_backtrace.specs.Backtrace.{frame_view, next_view, stack_of}
+use Rattle.framehop_backtrace.specs.Backtrace.{frame_view, moved_to, stack_of}
 use Rattle.framehop_backtrace.proofs.BacktraceLemmas.{none, first, one-more, ended, limited}
 use Rattle.framehop_backtrace.proofs.LibraryLemmas.{library-is}
 use Rattle.framehop_backtrace.proofs.walk.backtrace.Goals as goal
@@ -32,11 +32,11 @@ loop-caller-preserved g c =
     (g.M.WordMemory.memory c.args.memory.now) (g.M.CodeMemory.code c.args.memory.now) in
     let view = g.U.Unwinder.unwinder_view c.args.unwinder.now in
     let l = c.loop-caller in (
-      λ other apart sound. c.in_ok-next.ensures.stays_sound other apart (l.invariant.0 other apart sound),
+      λ other apart sound. c.in_ok-moved.ensures.stays_sound other apart (l.invariant.0 other apart sound),
       λ sound. one-more stack (c.args.limit - l._caller) (c.args.limit - (l._caller + 1)) (frame_view l.frame)
-          (frame_view c.in-Ok.caller) (map frame_view l.frames.items) (map frame_view c.push-in-Ok.new.self.items) _ (omega arith)
-          (sym (ap next_view c.in-Ok.is) ∙ c.in_ok-next.ensures.exact (l.invariant.0 view (λ same. refl) sound))
-          (ap (map frame_view) c.in_ok-push-in-Ok.ensures.items ∙ map-append frame_view l.frames.items (c.in-Ok.caller ∷ []))
+          (frame_view c.next_frame.new.frame) (map frame_view l.frames.items) (map frame_view c.push-in-Ok.new.self.items) _ (omega arith)
+          (sym (ap (λ moved. moved_to moved c.next_frame.new.frame) c.in-Ok.is) ∙ c.in_ok-moved.ensures.exact (l.invariant.0 view (λ same. refl) sound))
+          (ap (map frame_view) c.in_ok-push-in-Ok.ensures.items ∙ map-append frame_view l.frames.items (c.next_frame.new.frame ∷ []))
           (l.invariant.1 sound),
     )
 
@@ -50,7 +50,7 @@ returns-in-Err-clause-exact g c = λ sound.
     let l = c.loop-caller in
     ended stack (c.args.limit - l._caller) (c.args.limit - (l._caller + 1)) (frame_view l.frame) c.in-Err.end
     (map frame_view l.frames.items) _ (omega arith)
-    (sym (ap next_view c.in-Err.is) ∙ c.in_ok-next.ensures.exact (l.invariant.0 view (λ same. refl) sound)) (l.invariant.1 sound)
+    (sym (ap (λ moved. moved_to moved c.next_frame.new.frame) c.in-Err.is) ∙ c.in_ok-moved.ensures.exact (l.invariant.0 view (λ same. refl) sound)) (l.invariant.1 sound)
 
 pub returns-clause-exact : goal.returns-clause-exact
 returns-clause-exact g c = λ sound.
