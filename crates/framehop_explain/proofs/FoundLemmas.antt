@@ -1,5 +1,5 @@
 -- What is found of a frame, from the clauses of the call that finds it.
-use Rattle.std.proofs.Common.{◌≡◌, ◌∙◌, ℕ, ◌-◌, Bool, List, Option, Some, None, option_map, MatchOption, IfSome, ap, sym, subst}
+use Rattle.std.proofs.Common.{◌≡◌, ◌∙◌, ℕ, ◌-◌, Bool, List, Option, Some, None, option_map, MatchOption, IfSome, Result, Ok, Err, IfOk, ap, sym, subst}
 use Rattle.framehop_core.specs.CodeAddress.{FrameLocation, lookup_address, is_first_frame}
 use Rattle.framehop_core.specs.Memory.{Memory}
 use Rattle.framehop_cfi.specs.declared.storage.StorageLimits.{StorageLimits}
@@ -50,3 +50,8 @@ named {R} {S} x r pe code text fallback policy rows values P is rows-are values-
     ∙ ap (λ limits. explaining_with r x.compact pe code text fallback limits policy.values) rows-are
     ∙ ap (λ limit. explaining_with r x.compact pe code text fallback rows limit) values-are in
     subst P (sym same) holds
+
+-- what two clauses say of a result that is there, by what follows of both
+pub ok-from : {A E : Type 0} {P Q R : A → Type 0} (result : Result A E) → IfOk result P → IfOk result Q → ((x : A) → P x → Q x → R x) → IfOk result R
+ok-from (Ok x) first second both = both x first second
+ok-from (Err error) first second both = tt

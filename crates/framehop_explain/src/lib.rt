@@ -23,7 +23,7 @@ pub use count::UnwindDataCount;
 pub use explain::{Explanation, Finding, explain_frame};
 pub use kind::UnwindDataKind;
 pub use note::Note;
-pub use notes::{note_frame, note_walk};
+pub use notes::{explain_over, note_frame, note_walk};
 pub use reason::Reason;
 pub use rule_text::{DescribeRule, Described};
 pub use source::{CompactSource, PeSource, RowSource, Source};

@@ -6,7 +6,7 @@ ghost use Rattle.framehop_core.specs.Outcome.{answer_of, registers_after};
 ghost use Rattle.framehop.specs.CachedWorld.{step_of};
 ghost use Rattle.framehop.specs.Walk.{walk_from};
 ghost use Rattle.framehop_explain.specs.Callers.{caller_by, frames_from, located};
-ghost use Rattle.framehop_explain.specs.Found.{explaining_by, finding_of};
+ghost use Rattle.framehop_explain.specs.Found.{IsFinding, explaining_by, finding_of};
 ghost use Rattle.framehop_explain.specs.FrameNotes.{IsFrameNote, AddsNote, AddsNotes};
 ghost use Rattle.framehop_explain.specs.FrameText.{frame_text};
 ghost use Rattle.framehop_explain.specs.Note.{note_line};
@@ -51,6 +51,34 @@ fn caller<R: Copy>(outcome: Result<Option<u64>, Error>, regs: R) -> Option<(Fram
     }
 }
 
+/// Explains a frame over a memory: where its rule comes from, and what unwinding it with an empty cache returns.
+///
+/// # Errors
+///
+/// An allocation failed.
+pub fn explain_over<'a, D: SectionBytes + Drop, A: Sources, P: AllocationPolicy, M: Words>(
+    alloc: Global,
+    unwinder: &'a UnwinderInternal<D, A, P>,
+    address: FrameAddress,
+    regs: A::UnwindRegs,
+    memory: &M,
+) -> Result<Explanation<'a, D, A>, AllocError>
+where
+    A::UnwindRule: DescribeRule,
+    ensures found { IfOk result (λ explanation. IsFinding (explaining_by A.readers A.pe_source
+        (record { by_code = A.by_code; prologue = A.prologue_rule; epilogue = A.epilogue_rule })
+        A.UnwindRule.rule_text A.UnwindRule.fallback P.policy) unwinder.entry.now.modules (M.memory memory.now) (location_of address) regs
+        (option_map finding_of explanation.finding)) }
+    ensures outcome { IfOk result (λ explanation.
+        let outcome = step_of (A.unwinding P.policy) unwinder.entry.now (M.memory memory.now) (location_of address) regs in
+        (explanation.outcome ≡ answer_of outcome) × (explanation.regs ≡ registers_after regs outcome)) }
+{
+    let mut read_stack = |word: u64| -> Result<u64, ()>
+        ensures { result ≡ reply (M.memory memory.entry.now word) }
+    { memory.read(word) };
+    explain_frame(unwinder, alloc, address, regs, &mut read_stack)
+}
+
 /// Notes where a frame came from, and returns the frame that called it, with its registers, if there is one.
 ///
 /// # Errors
@@ -74,10 +102,7 @@ where
         let outcome = step_of (A.unwinding P.policy) unwinder.now (M.memory memory.now) (location_of address) regs in
         option_map located frame ≡ caller_by (answer_of outcome) (registers_after regs outcome)) }
 {
-    let mut read_stack = |word: u64| -> Result<u64, ()>
-        ensures { result ≡ reply (M.memory memory.entry.now word) }
-    { memory.read(word) };
-    let explanation = explain_frame(unwinder, alloc, address, regs, &mut read_stack)?;
+    let explanation = explain_over(alloc, unwinder, address, regs, memory)?;
     let note = frame_note::<D, A>(alloc, unwinder.modules(), address, &explanation)?;
     notes.push(note)?;
     Ok(caller(explanation.outcome, explanation.regs))
