@@ -34,8 +34,8 @@ use std::alloc::{AllocError, Global};
 ///
 /// # Errors
 ///
-/// An allocation failed, and the frame is as it was. That may be only where the context's rows have no limits, or where the library's step may take
-/// memory.
+/// An allocation failed, and the frame is as it was. That may be only where the context's rows have no limits, or where
+/// the library's step may take memory.
 pub fn next_frame<U: BacktraceUnwinder, W: Rows, M: CodeMemory, S: UnwindContextStorage>(
     alloc: Global,
     unwinder: &U,
@@ -101,8 +101,8 @@ fn by_row<U: BacktraceUnwinder, M: CodeMemory, S: UnwindContextStorage>(
     memory: &M,
     frame: &mut Frame<U::UnwindRegs>,
 ) -> Result<(), BacktraceEnd>
-    ensures moved { moved_to result frame.new ≡ by_row_of U.machine (M.code memory.now) (M.memory memory.now) (frame_view frame.old)
-        section.now row.now }
+    ensures moved { moved_to result frame.new
+        ≡ by_row_of U.machine (M.code memory.now) (M.memory memory.now) (frame_view frame.old) section.now row.now }
     ensures ended { OnErr result (frame.new ≡ frame.old) }
 {
     let convention = U::convention();
