@@ -1,6 +1,5 @@
 //! The note of a frame: what its caller was found by.
 ghost use Rattle.std.specs.Prelude.{◌≡◌};
-ghost use Rattle.framehop_core.specs.Memory.{reply};
 ghost use Rattle.framehop_frames.specs.Taken.{is_by_row, is_by_frame_pointer, data_of, taken_by, taken_outside};
 
 use framehop::unwinder::UnwinderInternal;
@@ -11,7 +10,7 @@ use framehop_bytes::section::SectionBytes;
 use framehop_core::unwind_rule::UnwindRule;
 use framehop_explain::pe::Sources;
 use framehop_explain::{
-    DescribeRule, Described, Explanation, Finding, Note, RowSource, Source, Told, explain_frame,
+    DescribeRule, Described, Explanation, Finding, Note, RowSource, Source, Told, explain_over,
     frame_text,
 };
 use std::alloc::{AllocError, Global};
@@ -63,10 +62,7 @@ pub(crate) fn frame_note<D: SectionBytes + Drop, A: Sources, P: AllocationPolicy
 where
     A::UnwindRule: DescribeRule,
 {
-    let mut read_stack = |word: u64| -> Result<u64, ()>
-        ensures { result ≡ reply (M.memory words.entry.now word) }
-    { words.read(word) };
-    let explanation = explain_frame(unwinder, alloc, address, regs, &mut read_stack)?;
+    let explanation = explain_over(alloc, unwinder, address, regs, words)?;
     let line = match &explanation.finding {
         Some(finding) => taken_text::<D, A::UnwindRule>(alloc, finding, caller)?,
         None => taken_outside_text::<A::UnwindRule>(alloc, address, caller)?,
