@@ -2,4 +2,5 @@ mod ServedLemmas
 mod StateLemmas
 mod TakenLemmas
 mod EventLemmas
+mod EndedLemmas
 mod SoFarLemmas
