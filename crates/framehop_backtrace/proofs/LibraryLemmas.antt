@@ -1,13 +1,12 @@
 -- Where a backtrace is the library's walk.
-use Rattle.std.proofs.Common.{◌≡◌, ℕ, zero, suc, ◌∷◌, [], Bool, true, false, map, Result, Ok, Err, refl, ap, sym, ◌∙◌, inl, inr, subst, ◌⊎◌, ◌==◌, if◌then◌else◌}
-use Rattle.std.specs.Prelude.{IfOk}
+use Rattle.std.proofs.Common.{◌≡◌, ℕ, zero, suc, ◌∷◌, [], Bool, true, false, map, Ok, Err, refl, ap, sym, ◌∙◌, inl, inr, subst, ◌⊎◌, ◌==◌, if◌then◌else◌}
 use Rattle.std.proofs.lemmas.Bool.{true≢false}
 use Rattle.framehop_core.specs.CodeAddress.{FrameLocation, at_instruction_pointer, at_return_address, is_first_frame}
 use Rattle.framehop_core.specs.Outcome.{Outcome, answered, root, refused}
 use Rattle.framehop.specs.Walk.{Walk, at_root, onward, callers, walk_from, frame_before}
 use Rattle.framehop_backtrace.specs.Code.{is_in_trampoline, is_in_code}
 use Rattle.framehop_backtrace.specs.Rows.{Finding, by_row, uncovered, no_row}
-use Rattle.framehop_backtrace.specs.Library.{IsWithoutRow, AfterStep, IsPlain, IsPlainWalk, EndsAs, IsWalk, walk_of}
+use Rattle.framehop_backtrace.specs.Library.{IsWithoutRow, AfterStep, IsPlain, IsPlainWalk, EndsAs, IsWalk, walk_of, IsLibraryWalk}
 use Rattle.framehop_backtrace.specs.Backtrace.{Stack, FrameView, Backtrace, next_of, by_finding, stepped_by, onward as further, callers_of, backtrace_of, root_of}
 use Rattle.framehop_backtrace.specs.declared.frame.FoundBy.{FoundBy}
 use Rattle.framehop_backtrace.specs.declared.frame.FoundBy.TheVariants.{First, Cfi, Signal, FramePointer, Guess}
@@ -95,7 +94,7 @@ module _ {Regs : Type 0} (stack : Stack Regs)
   after-is n go found frame root plain = record { frames = refl; end = root-is found }
   after-is n go found frame (refused error) plain = record { frames = refl; end = refl }
 
-  pub callers-are : (n : ℕ) (frame : FrameView Regs) → IsPlain stack n frame.location frame.regs
+  callers-are : (n : ℕ) (frame : FrameView Regs) → IsPlain stack n frame.location frame.regs
       → stack.machine.can_step frame.columns ≡ true
       → IsWalk (callers steps n frame.location frame.regs) (callers_of stack n frame)
   callers-are zero frame plain known = none-is frame
@@ -104,7 +103,7 @@ module _ {Regs : Type 0} (stack : Stack Regs)
       let there = after-is n (callers-are n) next.0 frame (steps frame.location frame.regs) plain.2 in
       rw (walk-suc n frame.location frame.regs) (rw (stack-suc n frame ∙ ap (further (callers_of stack n)) (next-of frame plain.0 ∙ next.1)) there)
 
-  pub backtrace-is : (limit pc : ℕ) (frame : FrameView Regs) → frame.location ≡ at_instruction_pointer pc
+  backtrace-is : (limit pc : ℕ) (frame : FrameView Regs) → frame.location ≡ at_instruction_pointer pc
       → IsPlainWalk stack limit frame.location frame.regs → stack.machine.can_step frame.columns ≡ true
       → IsWalk (walk_of stack limit pc frame.regs) (backtrace_of stack limit frame)
   unfolding walk_from backtrace_of callers callers_of
@@ -113,8 +112,9 @@ module _ {Regs : Type 0} (stack : Stack Regs)
       before-is (at_instruction_pointer pc) frame _ _ here
       (subst (λ location. IsWalk (callers steps n location frame.regs) (callers_of stack n frame)) here (callers-are n frame plain known))
 
--- what holds of a result holds of it in other words
-pub each-ok : {A E : Type 0} {P Q : A → Type 0} (result : Result A E) → ((value : A) → P value → Q value) → IfOk result P
-    → IfOk result Q
-each-ok (Ok value) so holds = so value holds
-each-ok (Err error) so holds = tt
+  -- so is what is equal to that backtrace
+  pub library-is : (limit : ℕ) (frame : FrameView Regs) (found : Backtrace Regs) → found ≡ backtrace_of stack limit frame
+      → IsLibraryWalk stack limit frame found
+  library-is limit frame found is pc here known plain =
+      subst (λ backtrace. IsWalk (walk_of stack limit pc frame.regs) backtrace) (sym is)
+      (backtrace-is limit pc frame here plain known)

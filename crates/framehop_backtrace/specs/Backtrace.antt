@@ -1,5 +1,5 @@
 -- A backtrace: the frames of a stack, each with its registers and how it was found.
-use Rattle.std.specs.Prelude.{ℕ, zero, suc, Bool, false, ◌==◌, ◌&&◌, if◌then◌else◌, List, [], ◌∷◌, Option, Some, None, option_and_then, Result, Ok, Err}
+use Rattle.std.specs.Prelude.{ℕ, zero, suc, Bool, false, ◌==◌, ◌&&◌, if◌then◌else◌, List, [], ◌∷◌, map, Option, Some, None, option_and_then, Result, Ok, Err}
 use Rattle.framehop_core.specs.CodeAddress.{FrameLocation, at_instruction_pointer, at_return_address, is_first_frame, location_of}
 use Rattle.framehop_core.specs.Memory.{Memory}
 use Rattle.framehop_core.specs.Outcome.{Outcome, answer_of, registers_after}
@@ -20,6 +20,7 @@ use Rattle.framehop_backtrace.specs.declared.frame.BacktraceEnd.TheVariants.{Roo
 use Rattle.framehop_backtrace.specs.declared.frame.FoundBy.{FoundBy}
 use Rattle.framehop_backtrace.specs.declared.frame.FoundBy.TheVariants.{First, Cfi, Signal, FramePointer, Guess}
 use Rattle.framehop_backtrace.specs.declared.frame.Frame.{Frame}
+use Rattle.framehop_backtrace.specs.declared.walk.StackTrace.{StackTrace}
 
 -- ---- frames
 
@@ -88,8 +89,8 @@ returned_as machine code frame address columns = arrived code address (record {
   found = Cfi;
 })
 
-abbrev pub by_row_step : {Regs : Type 0} → Machine Regs → Code → FrameView Regs → Source → Row → Result (ℕ × ℕ) RowRefusal
-    → Next Regs
+abbrev pub by_row_step : {Regs : Type 0} → Machine Regs → Code → FrameView Regs → Source → Row
+    → Result (ℕ × ℕ) RowRefusal → Next Regs
 by_row_step machine code frame source row (Ok step) =
     returned_as machine code frame (machine.strip frame.regs step.1)
     (returned_to machine.convention (machine.strip frame.regs) (machine.strip frame.regs step.1)
@@ -167,15 +168,15 @@ module _ {Regs : Type 0} (machine : Machine Regs) (code : Code) (frame : FrameVi
   by_start outcome fallback =
       if is_first_frame frame.location then by_guess outcome fallback else by_library FramePointer outcome
 
-  -- where it has none for it: PE or compact unwind info unwinds it (`true`), or the frame pointer is followed. Outside of
-  -- code the rule of a function's start is tried, since a call has just led there.
+  -- where it has none for it: PE or compact unwind info unwinds it (`true`), or the frame pointer is followed. Outside
+  -- of code the rule of a function's start is tried, since a call has just led there.
   abbrev pub without_row : Bool → Outcome Regs → Outcome Regs → Outcome Regs → Next Regs
   without_row by_info outcome start fallback =
       if is_outside_code code frame.location then by_guess start fallback
       else by_library (if by_info then Cfi else FramePointer) outcome
 
--- a stack: its machine; what a step of the library does, and whether PE or compact unwind info unwinds a frame; the rows
--- of the modules; the memory and the code
+-- a stack: its machine; what a step of the library does, and whether PE or compact unwind info unwinds a frame; the
+-- rows of the modules; the memory and the code
 pub record Stack (Regs : Type 0) : Type 0 where
   pub machine : Machine Regs
   pub step : FrameLocation → Regs → Memory → Outcome Regs
@@ -183,6 +184,12 @@ pub record Stack (Regs : Type 0) : Type 0 where
   pub rows : FrameLocation → Finding
   pub memory : Memory
   pub code : Code
+
+-- a stack of these parts
+abbrev pub stack_of : {Regs : Type 0} → Machine Regs → (FrameLocation → Regs → Memory → Outcome Regs)
+    → (FrameLocation → Regs → Memory → Bool) → (FrameLocation → Finding) → Memory → Code → Stack Regs
+stack_of machine step is_by_info rows memory code =
+    record { machine = machine; step = step; is_by_info = is_by_info; rows = rows; memory = memory; code = code }
 
 module _ {Regs : Type 0} (stack : Stack Regs) (frame : FrameView Regs) where
   -- by what the modules have for the frame
@@ -208,6 +215,9 @@ module _ {Regs : Type 0} (stack : Stack Regs) (frame : FrameView Regs) where
 pub record Backtrace (Regs : Type 0) : Type 0 where
   pub frames : List (FrameView Regs)
   pub end : BacktraceEnd
+
+abbrev pub trace_view : {Regs : Type 0} → StackTrace Regs → Backtrace Regs
+trace_view trace = record { frames = map frame_view trace.frames.items; end = trace.end }
 
 -- a frame before the others
 abbrev pub frame_before : {Regs : Type 0} → FrameView Regs → Backtrace Regs → Backtrace Regs

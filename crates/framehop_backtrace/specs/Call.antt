@@ -5,8 +5,8 @@ use Rattle.std.specs.Prelude.{ℕ, ◌-◌, ◌/◌, ◌%◌, Bool, false, ◌&&
 abbrev pub byte_of : List ℕ → ℕ → ℕ
 byte_of code at = unwrap_or (slice_get code at) 0
 
--- How long an instruction of one opcode byte and a ModR/M byte is, by mod, r/m and the base of the SIB byte (Intel 64 and
--- IA-32 Architectures Software Developer's Manual, volume 2, table 2-2 and table 2-3, in 64-bit mode).
+-- How long an instruction of one opcode byte and a ModR/M byte is, by mod, r/m and the base of the SIB byte (Intel 64
+-- and IA-32 Architectures Software Developer's Manual, volume 2, table 2-2 and table 2-3, in 64-bit mode).
 abbrev pub modrm_length : ℕ → ℕ → ℕ → ℕ
 modrm_length mode rm base =
     if mode == 3 then 2

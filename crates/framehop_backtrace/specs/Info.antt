@@ -10,7 +10,8 @@ use Rattle.framehop.specs.Modules.{ModuleView, UnwindData, no_unwind_data, call_
 use Rattle.framehop.specs.Unwinding.{Readers}
 
 -- PE unwind info has a rule, or values that can be computed
-abbrev pub is_by_pe : {Rule Regs : Type 0} → Result (Option Rule) PeUnwinderError → Result (ℕ × Regs) PeUnwinderError → Bool
+abbrev pub is_by_pe : {Rule Regs : Type 0} → Result (Option Rule) PeUnwinderError
+    → Result (ℕ × Regs) PeUnwinderError → Bool
 is_by_pe (Ok (Some rule)) computed = true
 is_by_pe (Ok None) computed = is_ok computed
 is_by_pe (Err error) computed = false

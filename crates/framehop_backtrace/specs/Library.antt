@@ -9,8 +9,8 @@ use Rattle.framehop_backtrace.specs.Backtrace.{Stack, FrameView, Backtrace}
 use Rattle.framehop_backtrace.specs.declared.frame.BacktraceEnd.{BacktraceEnd}
 use Rattle.framehop_backtrace.specs.declared.frame.BacktraceEnd.TheVariants.{Root, FramePointerZero, Limit, Refused}
 
--- a frame has no row, and no guess is made: it is no first frame outside of code, or one that call frames of its module do
--- not cover
+-- a frame has no row, and no guess is made: it is no first frame outside of code, or one that call frames of its module
+-- do not cover
 abbrev pub IsWithoutRow : Code → FrameLocation → Finding → Type 0
 IsWithoutRow code location no_row = is_outside_code code location ≡ false
 IsWithoutRow code location uncovered = is_first_frame location ≡ false
@@ -23,8 +23,8 @@ AfterStep stack Holds (answered address new) =
 AfterStep stack Holds root = ⊤
 AfterStep stack Holds (refused error) = ⊤
 
--- In the library's walk of so many steps from a frame on, none is in a trampoline or has a row, no guess is made, and each
--- return address is in code.
+-- In the library's walk of so many steps from a frame on, none is in a trampoline or has a row, no guess is made, and
+-- each return address is in code.
 abbrev pub IsPlain : {Regs : Type 0} → Stack Regs → ℕ → FrameLocation → Regs → Type 0
 IsPlain stack zero location regs = ⊤
 IsPlain stack (suc n) location regs =

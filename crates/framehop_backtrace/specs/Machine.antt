@@ -6,11 +6,15 @@ use Rattle.framehop_bytes.specs.Bytes.{le8}
 use Rattle.framehop_core.specs.Memory.{Memory}
 use Rattle.framehop_core.specs.Outcome.{Outcome}
 use Rattle.framehop_core.specs.X86_64.Registers.{Registers as RegistersX86_64, words_of}
+use Rattle.framehop_core.specs.declared.x86_64.unwindregs.Reg.{Reg}
+use Rattle.framehop_core.specs.declared.x86_64.unwindregs.Reg.TheVariants as reg
 use Rattle.framehop_core.specs.X86_64.Rules.{outcome as outcome_x86_64}
 use Rattle.framehop_core.specs.declared.x86_64.unwind_rule.UnwindRuleX86_64.TheVariants.{JustReturn, UseFramePointer as UseFramePointerX86_64}
 use Rattle.framehop_core.specs.Aarch64.Registers.{Registers as RegistersAarch64, strip_ptr_auth}
 use Rattle.framehop_core.specs.Aarch64.Rules.{outcome as outcome_aarch64}
 use Rattle.framehop_core.specs.declared.aarch64.unwind_rule.UnwindRuleAarch64.TheVariants.{NoOp, UseFramePointer as UseFramePointerAarch64}
+use Rattle.framehop_cfi.specs.Aarch64.{X29, X30, SP, PC}
+use Rattle.framehop_cfi.specs.X86_64.{RBX, RBP, RSP, R12, R15, RA}
 use Rattle.framehop_columns.specs.RegisterFile.{unknown}
 use Rattle.framehop_columns.specs.declared.convention.Convention.{Convention}
 use Rattle.framehop_columns.specs.declared.convention.Convention.TheVariants.{X86_64, Aarch64}
@@ -20,11 +24,10 @@ use Rattle.framehop_backtrace.specs.Columns.{columns_by, column, with_column}
 
 -- `strip`: a pointer to code without its pointer authentication bits, by the mask of the registers. `columns`: what the
 -- library's step to an address leaves exactly. `merged`: the library's registers with the columns that are known.
--- `can_step`: whether the columns that each step of the library may need are known. `frame_size`, `saved`: how much of a
--- signal frame is read, and the interrupted instruction pointer and columns that it has. `is_after_call`: an address
--- lies right after a call, by the bytes of code. `fallback`: the step by the frame pointer, of a first frame (`true`) or
--- another. `start`: that of a first frame at the
--- first instruction of a function.
+-- `can_step`: whether the columns that each step of the library may need are known. `frame_size`, `saved`: how much of
+-- a signal frame is read, and the interrupted instruction pointer and columns that it has. `is_after_call`: an address
+-- lies right after a call, by the bytes of code. `fallback`: the step by the frame pointer, of a first frame (`true`)
+-- or another. `start`: that of a first frame at the first instruction of a function.
 pub record Machine (Regs : Type 0) : Type 0 where
   pub convention : Convention
   pub strip : Regs → ℕ → ℕ
@@ -39,39 +42,59 @@ pub record Machine (Regs : Type 0) : Type 0 where
 
 -- ---- x86_64
 
--- all registers, by their columns (System V ABI for AMD64, figure 3.36): the general ones, then rip
+-- the columns of the general registers (System V ABI for AMD64, figure 3.36)
+abbrev pub column_of : Reg → ℕ
+column_of reg.RAX = 0
+column_of reg.RDX = 1
+column_of reg.RCX = 2
+column_of reg.RBX = RBX
+column_of reg.RSI = 4
+column_of reg.RDI = 5
+column_of reg.RBP = RBP
+column_of reg.RSP = RSP
+column_of reg.R8 = 8
+column_of reg.R9 = 9
+column_of reg.R10 = 10
+column_of reg.R11 = 11
+column_of reg.R12 = R12
+column_of reg.R13 = 13
+column_of reg.R14 = 14
+column_of reg.R15 = R15
+
+-- all registers, by their columns: the general ones, then rip
 abbrev pub all_columns : RegistersX86_64 → List (Option ℕ)
 all_columns r = columns_by (slice_get (words_of r ++ r.ip ∷ []))
 
 -- rip, rsp and rbp
 abbrev pub columns_x86_64 : ℕ → RegistersX86_64 → List (Option ℕ)
-columns_x86_64 address r = with_column (with_column (with_column unknown 16 (Some address)) 7 (Some r.rsp)) 6 (Some r.rbp)
+columns_x86_64 address r =
+    with_column (with_column (with_column unknown RA (Some address)) RSP (Some r.rsp)) RBP (Some r.rbp)
 
 -- registers with the columns that are known in their places
 unfoldable pub merged_x86_64 : RegistersX86_64 → List (Option ℕ) → RegistersX86_64
 merged_x86_64 r columns = record {
-  ip = unwrap_or (column columns 16) r.ip;
-  rax = unwrap_or (column columns 0) r.rax;
-  rdx = unwrap_or (column columns 1) r.rdx;
-  rcx = unwrap_or (column columns 2) r.rcx;
-  rbx = unwrap_or (column columns 3) r.rbx;
-  rsi = unwrap_or (column columns 4) r.rsi;
-  rdi = unwrap_or (column columns 5) r.rdi;
-  rbp = unwrap_or (column columns 6) r.rbp;
-  rsp = unwrap_or (column columns 7) r.rsp;
-  r8 = unwrap_or (column columns 8) r.r8;
-  r9 = unwrap_or (column columns 9) r.r9;
-  r10 = unwrap_or (column columns 10) r.r10;
-  r11 = unwrap_or (column columns 11) r.r11;
-  r12 = unwrap_or (column columns 12) r.r12;
-  r13 = unwrap_or (column columns 13) r.r13;
-  r14 = unwrap_or (column columns 14) r.r14;
-  r15 = unwrap_or (column columns 15) r.r15;
+  ip = unwrap_or (column columns RA) r.ip;
+  rax = unwrap_or (column columns (column_of reg.RAX)) r.rax;
+  rdx = unwrap_or (column columns (column_of reg.RDX)) r.rdx;
+  rcx = unwrap_or (column columns (column_of reg.RCX)) r.rcx;
+  rbx = unwrap_or (column columns (column_of reg.RBX)) r.rbx;
+  rsi = unwrap_or (column columns (column_of reg.RSI)) r.rsi;
+  rdi = unwrap_or (column columns (column_of reg.RDI)) r.rdi;
+  rbp = unwrap_or (column columns (column_of reg.RBP)) r.rbp;
+  rsp = unwrap_or (column columns (column_of reg.RSP)) r.rsp;
+  r8 = unwrap_or (column columns (column_of reg.R8)) r.r8;
+  r9 = unwrap_or (column columns (column_of reg.R9)) r.r9;
+  r10 = unwrap_or (column columns (column_of reg.R10)) r.r10;
+  r11 = unwrap_or (column columns (column_of reg.R11)) r.r11;
+  r12 = unwrap_or (column columns (column_of reg.R12)) r.r12;
+  r13 = unwrap_or (column columns (column_of reg.R13)) r.r13;
+  r14 = unwrap_or (column columns (column_of reg.R14)) r.r14;
+  r15 = unwrap_or (column columns (column_of reg.R15)) r.r15;
 }
 
 -- rsp and rbp are known
 abbrev pub can_step_x86_64 : List (Option ℕ) → Bool
-can_step_x86_64 columns = is_some (column columns 7) && is_some (column columns 6)
+can_step_x86_64 columns = is_some (column columns RSP) && is_some (column columns RBP)
 
 -- the registers of a signal frame, as columns
 abbrev pub saved_x86_64 : List ℕ → Option (ℕ × List (Option ℕ))
@@ -97,21 +120,21 @@ machine_x86_64 = record {
 -- pc, sp, fp (x29) and lr (x30)
 abbrev pub columns_aarch64 : ℕ → RegistersAarch64 → List (Option ℕ)
 columns_aarch64 address r =
-    with_column (with_column (with_column (with_column unknown 32 (Some address)) 31 (Some r.sp)) 29 (Some r.fp)) 30
+    with_column (with_column (with_column (with_column unknown PC (Some address)) SP (Some r.sp)) X29 (Some r.fp)) X30
     (Some r.lr)
 
 -- registers with the columns that are known in their places, lr stripped
 abbrev pub merged_aarch64 : RegistersAarch64 → List (Option ℕ) → RegistersAarch64
 merged_aarch64 r columns = record {
   lr_mask = r.lr_mask;
-  lr = strip_ptr_auth r.lr_mask (unwrap_or (column columns 30) r.lr);
-  sp = unwrap_or (column columns 31) r.sp;
-  fp = unwrap_or (column columns 29) r.fp;
+  lr = strip_ptr_auth r.lr_mask (unwrap_or (column columns X30) r.lr);
+  sp = unwrap_or (column columns SP) r.sp;
+  fp = unwrap_or (column columns X29) r.fp;
 }
 
 -- sp, fp and lr are known
 abbrev pub can_step_aarch64 : List (Option ℕ) → Bool
-can_step_aarch64 columns = is_some (column columns 31) && is_some (column columns 29) && is_some (column columns 30)
+can_step_aarch64 columns = is_some (column columns SP) && is_some (column columns X29) && is_some (column columns X30)
 
 -- The registers of a signal frame: x0 to x30, sp and pc, which are the columns 0 to 32, have a word each after
 -- fault_address of `struct sigcontext` (arch/arm64/include/uapi/asm/sigcontext.h), which is 304 bytes from sp.

@@ -12,7 +12,8 @@ use Rattle.framehop.specs.Modules.{ModuleView, UnwindData, no_unwind_data, call_
 use Rattle.framehop_backtrace.specs.declared.rows.RowFinding.{RowFinding}
 use Rattle.framehop_backtrace.specs.declared.rows.RowFinding.TheVariants.{Row as FoundRow, Uncovered, NoRow}
 
--- A row, and the bytes of the section in which its expressions lie; or an FDE that does not cover the address; or neither.
+-- A row, and the bytes of the section in which its expressions lie; or an FDE that does not cover the address; or
+-- neither.
 pub data Finding : Type 0 where
   by_row : List ℕ → Row → Finding
   uncovered : Finding
@@ -23,6 +24,16 @@ abbrev pub IsRow : Finding → Type 0
 IsRow (by_row section row) = ⊤
 IsRow uncovered = ⊥
 IsRow no_row = ⊥
+
+-- a row, or else another finding
+abbrev pub row_or : Finding → Finding → Finding
+row_or (by_row section row) other = by_row section row
+row_or uncovered other = other
+row_or no_row other = other
+
+-- a first source's row, or else a second one's, or else what the first has found
+abbrev pub or_else : Finding → Finding → Finding
+or_else first second = row_or first (row_or second first)
 
 -- what a call has found, whose context has this row
 abbrev pub finding_of : RowFinding → Row → Finding

@@ -1,11 +1,11 @@
 //! Backtraces of aarch64.
-ghost use Rattle.std.specs.Prelude.{◌≡◌, ◌≤◌, ◌+◌, ◌*◌, Some, unwrap_or, length};
+ghost use Rattle.std.specs.Prelude.{◌≡◌, ◌≤◌, ◌+◌, ◌*◌, Some, length};
 ghost use Rattle.framehop_bytes.specs.Bytes.{le8};
-ghost use Rattle.framehop_backtrace.specs.Columns.{column, columns_by};
+ghost use Rattle.framehop_backtrace.specs.Columns.{columns_by};
 
 use crate::call::is_after_call_aarch64;
 use crate::info::is_by_info;
-use crate::machine::BacktraceUnwinder;
+use crate::machine::{BacktraceUnwinder, known_or};
 use crate::memory::CodeMemory;
 use crate::rows::{RowFinding, Rows};
 use crate::step::{follow_frame_pointer, step_at_start};
@@ -13,6 +13,7 @@ use framehop::AllocationPolicy;
 use framehop::aarch64::UnwinderAarch64;
 use framehop_bytes::bytes::u64_at;
 use framehop_bytes::section::SectionBytes;
+use framehop_cfi::aarch64;
 use framehop_cfi::context::UnwindContext;
 use framehop_cfi::rule::Register;
 use framehop_cfi::storage::UnwindContextStorage;
@@ -46,24 +47,24 @@ impl<D: SectionBytes + Drop, P: AllocationPolicy> BacktraceUnwinder for Unwinder
 
     fn columns(address: u64, regs: &UnwindRegsAarch64) -> RegisterFile {
         let mut columns = RegisterFile::new();
-        columns.set(Register(32), Some(address));
-        columns.set(Register(31), Some(regs.sp()));
-        columns.set(Register(29), Some(regs.fp()));
-        columns.set(Register(30), Some(regs.lr()));
+        columns.set(aarch64::PC, Some(address));
+        columns.set(aarch64::SP, Some(regs.sp()));
+        columns.set(aarch64::X29, Some(regs.fp()));
+        columns.set(aarch64::X30, Some(regs.lr()));
         columns
     }
 
     fn merged(regs: UnwindRegsAarch64, columns: &RegisterFile) -> UnwindRegsAarch64 {
-        let lr = known_or(columns, 30, regs.lr());
-        let sp = known_or(columns, 31, regs.sp());
-        let fp = known_or(columns, 29, regs.fp());
+        let lr = known_or(columns, aarch64::X30, regs.lr());
+        let sp = known_or(columns, aarch64::SP, regs.sp());
+        let fp = known_or(columns, aarch64::X29, regs.fp());
         UnwindRegsAarch64::new_with_ptr_auth_mask(regs.lr_mask(), lr, sp, fp)
     }
 
     fn can_step(columns: &RegisterFile) -> bool {
-        columns.get(Register(31)).is_some()
-            && columns.get(Register(29)).is_some()
-            && columns.get(Register(30)).is_some()
+        columns.get(aarch64::SP).is_some()
+            && columns.get(aarch64::X29).is_some()
+            && columns.get(aarch64::X30).is_some()
     }
 
     fn frame_size() -> u64 {
@@ -134,14 +135,4 @@ fn saved_columns(frame: &[u8]) -> RegisterFile
         at += 1;
     }
     columns
-}
-
-/// Returns the value of a column, or another one where it isn't known.
-fn known_or(columns: &RegisterFile, at: u16, other: u64) -> u64
-    ensures { result ≡ unwrap_or (column columns.now at) other }
-{
-    match columns.get(Register(at)) {
-        Some(value) => value,
-        None => other,
-    }
 }

@@ -21,5 +21,5 @@ pub use frame::{BacktraceEnd, FoundBy, Frame};
 pub use machine::BacktraceUnwinder;
 pub use memory::CodeMemory;
 pub use next::next_frame;
-pub use rows::{RowFinding, Rows};
+pub use rows::{OrElse, RowFinding, Rows, row_in_module};
 pub use walk::{StackTrace, backtrace};

@@ -1,12 +1,14 @@
 //! What a backtrace needs of an unwinder.
-ghost use Rattle.std.specs.Prelude.{◌≡◌, ℕ, Bool, true};
+ghost use Rattle.std.specs.Prelude.{◌≡◌, ℕ, Bool, true, unwrap_or};
 ghost use Rattle.framehop_core.specs.CodeAddress.{FrameLocation, location_of};
 ghost use Rattle.framehop_core.specs.Memory.{Memory};
 ghost use Rattle.framehop_core.specs.Outcome.{HasDone};
+ghost use Rattle.framehop_backtrace.specs.Columns.{column};
 ghost use Rattle.framehop_backtrace.specs.Machine.{Machine};
 
 use crate::memory::CodeMemory;
 use framehop::Unwinder;
+use framehop_cfi::rule::Register;
 use framehop_columns::convention::Convention;
 use framehop_columns::memory::WordMemory;
 use framehop_columns::register_file::RegisterFile;
@@ -79,4 +81,14 @@ pub trait BacktraceUnwinder: Unwinder {
         memory: &M,
     ) -> bool
         ensures { result ≡ is_by_info self.now (location_of address) regs (M.memory memory.now) };
+}
+
+/// Returns the value of a register, or another one where it isn't known.
+pub(crate) fn known_or(columns: &RegisterFile, register: Register, other: u64) -> u64
+    ensures { result ≡ unwrap_or (column columns.now register.0) other }
+{
+    match columns.get(register) {
+        Some(value) => value,
+        None => other,
+    }
 }

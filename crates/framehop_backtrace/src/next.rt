@@ -7,7 +7,7 @@ ghost use Rattle.framehop.specs.Soundness.{AreApart};
 ghost use Rattle.framehop_backtrace.specs.Code.{is_in_trampoline};
 ghost use Rattle.framehop_backtrace.specs.Rows.{IsRow};
 ghost use Rattle.framehop_backtrace.specs.Columns.{returned_to};
-ghost use Rattle.framehop_backtrace.specs.Backtrace.{frame_view, next_view, by_signal, by_row_of, returned_as, stepped, is_called, fallen_back_by, by_library, by_guess, by_start, without_row, next_of};
+ghost use Rattle.framehop_backtrace.specs.Backtrace.{frame_view, next_view, by_signal, by_row_of, returned_as, stepped, is_called, fallen_back_by, by_library, by_guess, by_start, without_row, stack_of, next_of};
 
 use crate::frame::{BacktraceEnd, FoundBy, Frame, end_of_refusal, root_of};
 use crate::machine::BacktraceUnwinder;
@@ -16,7 +16,6 @@ use crate::rows::{RowFinding, Rows};
 use crate::step::step;
 use framehop_cfi::context::UnwindContext;
 use framehop_cfi::row::UnwindTableRow;
-use framehop_cfi::rule::Register;
 use framehop_cfi::storage::UnwindContextStorage;
 use framehop_columns::caller::caller_by_row;
 use framehop_columns::register_file::RegisterFile;
@@ -52,14 +51,8 @@ pub fn next_frame<U: BacktraceUnwinder, W: Rows, M: CodeMemory, S: UnwindContext
     ensures kept_by_rows { IsRow (W.rows rows.now S.limits (location_of frame.now.address)) → cache.new ≡ cache.old }
     ensures refused { IfErr result (λ _. (S.limits ≡ None) ⊎ U.may_run_out unwinder.now cache.old (location_of frame.now.address)) }
     ensures exact { U.is_sound (U.unwinder_view unwinder.now) cache.old → IfOk result (λ next. next_view next
-        ≡ next_of (record {
-          machine = U.machine;
-          step = U.step unwinder.now;
-          is_by_info = U.is_by_info unwinder.now;
-          rows = W.rows rows.now S.limits;
-          memory = M.memory memory.now;
-          code = M.code memory.now;
-        }) (frame_view frame.now)) }
+        ≡ next_of (stack_of U.machine (U.step unwinder.now) (U.is_by_info unwinder.now) (W.rows rows.now S.limits)
+        (M.memory memory.now) (M.code memory.now)) (frame_view frame.now)) }
 {
     if is_in_trampoline(memory, frame.address) {
         return Ok(by_signal::<U, M>(memory, frame));
@@ -81,8 +74,7 @@ fn by_signal<U: BacktraceUnwinder, M: CodeMemory>(
 ) -> Result<Frame<U::UnwindRegs>, BacktraceEnd>
     ensures { next_view result ≡ by_signal U.machine (M.code memory.now) (frame_view frame.now) }
 {
-    let column = Register(U::convention().stack_pointer());
-    let Some(sp) = frame.columns.get(column) else {
+    let Some(sp) = frame.columns.get(U::convention().stack_pointer()) else {
         return Err(BacktraceEnd::SignalFrameUnread);
     };
     let Some(bytes) = memory.bytes_at(sp, U::frame_size()) else {
@@ -153,14 +145,14 @@ fn returned_to<U: BacktraceUnwinder>(
     ensures { result ≡ returned_to U.machine.convention (U.machine.strip regs.now) address columns.now }
 {
     let convention = U::convention();
-    let column = Register(convention.return_address());
-    let link = match columns.get(column) {
+    let register = convention.return_address();
+    let link = match columns.get(register) {
         Some(link) => Some(U::strip(regs, link)),
         None => None,
     };
     let mut caller = *columns;
-    caller.set(column, link);
-    caller.set(Register(convention.program_counter()), Some(address));
+    caller.set(register, link);
+    caller.set(convention.program_counter(), Some(address));
     caller
 }
 

@@ -23,7 +23,7 @@ use framehop_macho::macho::CuiUnwindResult;
 use std::alloc::AllocError;
 
 /// What call frame information has for a frame.
-#[derive(Clone, Copy, Drop)]
+#[derive(Clone, Copy)]
 pub enum RowFinding<'a> {
     /// A row, which is the context's. Its expressions lie in these bytes.
     Row(&'a [u8]),
@@ -76,7 +76,35 @@ impl<D: SectionBytes + Drop, A: Unwinding, P: AllocationPolicy> Rows for Unwinde
     }
 }
 
-/// Looks for the row of a frame in a module.
+/// Rows of a first source, and for frames of which that has none, those of a second.
+#[derive(Clone, Copy, Drop)]
+pub struct OrElse<'a, W, V> {
+    pub first: &'a W,
+    pub second: &'a V,
+}
+
+impl<W: Rows, V: Rows> Rows for OrElse<'_, W, V> {
+    ghost use Rattle.framehop_backtrace.specs.Rows.{or_else};
+
+    ghost rows = { λ both limits location. or_else (W.rows both.first.now limits location) (V.rows both.second.now limits location) };
+
+    fn row_at<S: UnwindContextStorage>(
+        &self,
+        unwind_context: &mut UnwindContext<S>,
+        address: FrameAddress,
+    ) -> Result<RowFinding<'_>, AllocError> {
+        let first = self.first.row_at(unwind_context, address)?;
+        if let RowFinding::Row(section) = first {
+            return Ok(RowFinding::Row(section));
+        }
+        match self.second.row_at(unwind_context, address)? {
+            RowFinding::Row(section) => Ok(RowFinding::Row(section)),
+            RowFinding::Uncovered | RowFinding::NoRow => Ok(first),
+        }
+    }
+}
+
+/// Looks for the row of a frame in a module, at an address relative to the module's base. It is made in the context.
 ///
 /// # Errors
 ///

@@ -1,8 +1,8 @@
 //! Backtraces of stacks.
-ghost use Rattle.std.specs.Prelude.{◌≡◌, IfOk, map};
+ghost use Rattle.std.specs.Prelude.{◌≡◌, IfOk};
 ghost use Rattle.framehop.specs.Modules.{UnwinderView};
 ghost use Rattle.framehop.specs.Soundness.{AreApart};
-ghost use Rattle.framehop_backtrace.specs.Backtrace.{frame_view, backtrace_of};
+ghost use Rattle.framehop_backtrace.specs.Backtrace.{frame_view, trace_view, stack_of, backtrace_of};
 ghost use Rattle.framehop_backtrace.specs.Library.{IsLibraryWalk};
 
 use crate::frame::{BacktraceEnd, Frame};
@@ -43,61 +43,12 @@ pub fn backtrace<U: BacktraceUnwinder, W: Rows, M: CodeMemory, S: UnwindContextS
 ) -> Result<StackTrace<U::UnwindRegs>, AllocError>
     ensures stays_sound { (other : UnwinderView) → AreApart (U.unwinder_view unwinder.now) other
         → U.is_sound other cache.old → U.is_sound other cache.new }
-    ensures exact { U.is_sound (U.unwinder_view unwinder.now) cache.old → IfOk result (λ found.
-        record { frames = map frame_view found.frames.items; end = found.end }
-        ≡ backtrace_of (record {
-          machine = U.machine;
-          step = U.step unwinder.now;
-          is_by_info = U.is_by_info unwinder.now;
-          rows = W.rows rows.now S.limits;
-          memory = M.memory memory.now;
-          code = M.code memory.now;
-        }) limit (frame_view first)) }
-    ensures library { U.is_sound (U.unwinder_view unwinder.now) cache.old → IfOk result (λ found.
-        IsLibraryWalk (record {
-          machine = U.machine;
-          step = U.step unwinder.now;
-          is_by_info = U.is_by_info unwinder.now;
-          rows = W.rows rows.now S.limits;
-          memory = M.memory memory.now;
-          code = M.code memory.now;
-        }) limit (frame_view first) (record { frames = map frame_view found.frames.items; end = found.end })) }
-{
-    frames_from(
-        alloc,
-        unwinder,
-        rows,
-        unwind_context,
-        cache,
-        memory,
-        first,
-        limit,
-    )
-}
-
-/// Returns a frame and its callers, at most `limit` frames.
-fn frames_from<U: BacktraceUnwinder, W: Rows, M: CodeMemory, S: UnwindContextStorage>(
-    alloc: Global,
-    unwinder: &U,
-    rows: &W,
-    unwind_context: &mut UnwindContext<S>,
-    cache: &mut U::Cache,
-    memory: &M,
-    first: Frame<U::UnwindRegs>,
-    limit: u32,
-) -> Result<StackTrace<U::UnwindRegs>, AllocError>
-    ensures stays_sound { (other : UnwinderView) → AreApart (U.unwinder_view unwinder.now) other
-        → U.is_sound other cache.old → U.is_sound other cache.new }
-    ensures exact { U.is_sound (U.unwinder_view unwinder.now) cache.old → IfOk result (λ found.
-        record { frames = map frame_view found.frames.items; end = found.end }
-        ≡ backtrace_of (record {
-          machine = U.machine;
-          step = U.step unwinder.now;
-          is_by_info = U.is_by_info unwinder.now;
-          rows = W.rows rows.now S.limits;
-          memory = M.memory memory.now;
-          code = M.code memory.now;
-        }) limit (frame_view first)) }
+    ensures exact { U.is_sound (U.unwinder_view unwinder.now) cache.old → IfOk result (λ found. trace_view found
+        ≡ backtrace_of (stack_of U.machine (U.step unwinder.now) (U.is_by_info unwinder.now) (W.rows rows.now S.limits)
+        (M.memory memory.now) (M.code memory.now)) limit (frame_view first)) }
+    ensures library { U.is_sound (U.unwinder_view unwinder.now) cache.old → IfOk result (λ found. IsLibraryWalk
+        (stack_of U.machine (U.step unwinder.now) (U.is_by_info unwinder.now) (W.rows rows.now S.limits)
+        (M.memory memory.now) (M.code memory.now)) limit (frame_view first) (trace_view found)) }
 {
     let mut frames = Vec::new(alloc);
     if limit == 0 {

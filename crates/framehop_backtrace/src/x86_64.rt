@@ -1,11 +1,12 @@
 //! Backtraces of x86_64.
 ghost use Rattle.std.specs.Prelude.{◌≡◌, unwrap_or};
-ghost use Rattle.framehop_backtrace.specs.Columns.{column, with_column};
-ghost use Rattle.framehop_backtrace.specs.Machine.{all_columns, columns_x86_64, merged_x86_64, can_step_x86_64, saved_x86_64};
+ghost use Rattle.framehop_core.specs.X86_64.Registers.{register as register_of, with_register};
+ghost use Rattle.framehop_backtrace.specs.Columns.{column};
+ghost use Rattle.framehop_backtrace.specs.Machine.{all_columns, column_of, merged_x86_64};
 
 use crate::call::is_after_call_x86_64;
 use crate::info::is_by_info;
-use crate::machine::BacktraceUnwinder;
+use crate::machine::{BacktraceUnwinder, known_or};
 use crate::memory::CodeMemory;
 use crate::rows::{RowFinding, Rows};
 use crate::step::{follow_frame_pointer, step_at_start};
@@ -15,6 +16,7 @@ use framehop_bytes::section::SectionBytes;
 use framehop_cfi::context::UnwindContext;
 use framehop_cfi::rule::Register;
 use framehop_cfi::storage::UnwindContextStorage;
+use framehop_cfi::x86_64;
 use framehop_columns::convention::Convention;
 use framehop_columns::memory::WordMemory;
 use framehop_columns::register_file::RegisterFile;
@@ -45,9 +47,9 @@ impl<D: SectionBytes + Drop, P: AllocationPolicy> BacktraceUnwinder for Unwinder
 
     fn columns(address: u64, regs: &UnwindRegsX86_64) -> RegisterFile {
         let mut columns = RegisterFile::new();
-        columns.set(Register(16), Some(address));
-        columns.set(Register(7), Some(regs.sp()));
-        columns.set(Register(6), Some(regs.bp()));
+        columns.set(x86_64::RA, Some(address));
+        columns.set(x86_64::RSP, Some(regs.sp()));
+        columns.set(x86_64::RBP, Some(regs.bp()));
         columns
     }
 
@@ -56,7 +58,7 @@ impl<D: SectionBytes + Drop, P: AllocationPolicy> BacktraceUnwinder for Unwinder
     }
 
     fn can_step(columns: &RegisterFile) -> bool {
-        columns.get(Register(7)).is_some() && columns.get(Register(6)).is_some()
+        columns.get(x86_64::RSP).is_some() && columns.get(x86_64::RBP).is_some()
     }
 
     fn frame_size() -> u64 {
@@ -120,23 +122,23 @@ pub fn all_columns(regs: &UnwindRegsX86_64) -> RegisterFile
     ensures { result ≡ all_columns regs.now }
 {
     let mut columns = RegisterFile::new();
-    columns.set(Register(0), Some(regs.get(Reg::RAX)));
-    columns.set(Register(1), Some(regs.get(Reg::RDX)));
-    columns.set(Register(2), Some(regs.get(Reg::RCX)));
-    columns.set(Register(3), Some(regs.get(Reg::RBX)));
-    columns.set(Register(4), Some(regs.get(Reg::RSI)));
-    columns.set(Register(5), Some(regs.get(Reg::RDI)));
-    columns.set(Register(6), Some(regs.get(Reg::RBP)));
-    columns.set(Register(7), Some(regs.get(Reg::RSP)));
-    columns.set(Register(8), Some(regs.get(Reg::R8)));
-    columns.set(Register(9), Some(regs.get(Reg::R9)));
-    columns.set(Register(10), Some(regs.get(Reg::R10)));
-    columns.set(Register(11), Some(regs.get(Reg::R11)));
-    columns.set(Register(12), Some(regs.get(Reg::R12)));
-    columns.set(Register(13), Some(regs.get(Reg::R13)));
-    columns.set(Register(14), Some(regs.get(Reg::R14)));
-    columns.set(Register(15), Some(regs.get(Reg::R15)));
-    columns.set(Register(16), Some(regs.ip()));
+    columns.set(column_of(Reg::RAX), Some(regs.get(Reg::RAX)));
+    columns.set(column_of(Reg::RDX), Some(regs.get(Reg::RDX)));
+    columns.set(column_of(Reg::RCX), Some(regs.get(Reg::RCX)));
+    columns.set(column_of(Reg::RBX), Some(regs.get(Reg::RBX)));
+    columns.set(column_of(Reg::RSI), Some(regs.get(Reg::RSI)));
+    columns.set(column_of(Reg::RDI), Some(regs.get(Reg::RDI)));
+    columns.set(column_of(Reg::RBP), Some(regs.get(Reg::RBP)));
+    columns.set(column_of(Reg::RSP), Some(regs.get(Reg::RSP)));
+    columns.set(column_of(Reg::R8), Some(regs.get(Reg::R8)));
+    columns.set(column_of(Reg::R9), Some(regs.get(Reg::R9)));
+    columns.set(column_of(Reg::R10), Some(regs.get(Reg::R10)));
+    columns.set(column_of(Reg::R11), Some(regs.get(Reg::R11)));
+    columns.set(column_of(Reg::R12), Some(regs.get(Reg::R12)));
+    columns.set(column_of(Reg::R13), Some(regs.get(Reg::R13)));
+    columns.set(column_of(Reg::R14), Some(regs.get(Reg::R14)));
+    columns.set(column_of(Reg::R15), Some(regs.get(Reg::R15)));
+    columns.set(x86_64::RA, Some(regs.ip()));
     columns
 }
 
@@ -146,32 +148,38 @@ fn merged(regs: UnwindRegsX86_64, columns: &RegisterFile) -> UnwindRegsX86_64
     ensures { result ≡ merged_x86_64 regs columns.now }
 {
     let mut merged = regs;
-    merged.set_ip(known_or(columns, 16, regs.ip()));
-    merged.set(Reg::RAX, known_or(columns, 0, regs.get(Reg::RAX)));
-    merged.set(Reg::RDX, known_or(columns, 1, regs.get(Reg::RDX)));
-    merged.set(Reg::RCX, known_or(columns, 2, regs.get(Reg::RCX)));
-    merged.set(Reg::RBX, known_or(columns, 3, regs.get(Reg::RBX)));
-    merged.set(Reg::RSI, known_or(columns, 4, regs.get(Reg::RSI)));
-    merged.set(Reg::RDI, known_or(columns, 5, regs.get(Reg::RDI)));
-    merged.set(Reg::RBP, known_or(columns, 6, regs.get(Reg::RBP)));
-    merged.set(Reg::RSP, known_or(columns, 7, regs.get(Reg::RSP)));
-    merged.set(Reg::R8, known_or(columns, 8, regs.get(Reg::R8)));
-    merged.set(Reg::R9, known_or(columns, 9, regs.get(Reg::R9)));
-    merged.set(Reg::R10, known_or(columns, 10, regs.get(Reg::R10)));
-    merged.set(Reg::R11, known_or(columns, 11, regs.get(Reg::R11)));
-    merged.set(Reg::R12, known_or(columns, 12, regs.get(Reg::R12)));
-    merged.set(Reg::R13, known_or(columns, 13, regs.get(Reg::R13)));
-    merged.set(Reg::R14, known_or(columns, 14, regs.get(Reg::R14)));
-    merged.set(Reg::R15, known_or(columns, 15, regs.get(Reg::R15)));
+    merged.set_ip(known_or(columns, x86_64::RA, regs.ip()));
+    set_known(&mut merged, Reg::RAX, columns);
+    set_known(&mut merged, Reg::RDX, columns);
+    set_known(&mut merged, Reg::RCX, columns);
+    set_known(&mut merged, Reg::RBX, columns);
+    set_known(&mut merged, Reg::RSI, columns);
+    set_known(&mut merged, Reg::RDI, columns);
+    set_known(&mut merged, Reg::RBP, columns);
+    set_known(&mut merged, Reg::RSP, columns);
+    set_known(&mut merged, Reg::R8, columns);
+    set_known(&mut merged, Reg::R9, columns);
+    set_known(&mut merged, Reg::R10, columns);
+    set_known(&mut merged, Reg::R11, columns);
+    set_known(&mut merged, Reg::R12, columns);
+    set_known(&mut merged, Reg::R13, columns);
+    set_known(&mut merged, Reg::R14, columns);
+    set_known(&mut merged, Reg::R15, columns);
     merged
 }
 
-/// Returns the value of a column, or another one where it isn't known.
-fn known_or(columns: &RegisterFile, at: u16, other: u64) -> u64
-    ensures { result ≡ unwrap_or (column columns.now at) other }
+/// Sets a general register to the value of its column, if that is known.
+fn set_known(regs: &mut UnwindRegsX86_64, register: Reg, columns: &RegisterFile)
+    ensures { regs.new ≡ with_register regs.old register
+        (unwrap_or (column columns.now (column_of register)) (register_of regs.old register)) }
 {
-    match columns.get(Register(at)) {
-        Some(value) => value,
-        None => other,
-    }
+    let value = known_or(columns, column_of(register), regs.get(register));
+    regs.set(register, value);
+}
+
+/// Returns the column of a general register: `Reg` has them in the order of their columns.
+fn column_of(register: Reg) -> Register
+    ensures { result ≡ record { 0 = column_of register } }
+{
+    Register(register as u16)
 }

@@ -8,4 +8,6 @@ mod calls;
 #[cfg(test)]
 mod dump;
 #[cfg(test)]
+mod sources;
+#[cfg(test)]
 mod x86_64;

@@ -1,3 +1,4 @@
 pub mod Columns
 pub mod Meaning
+pub mod ReturnAddress
 pub mod Values

@@ -20,8 +20,8 @@ abbrev pub return_address_of : Convention → ℕ
 return_address_of X86_64 = RA
 return_address_of Aarch64 = X30
 
--- a function that doesn't save it leaves the register as it was: rbx, rbp, r12 to r15 (System V ABI, figure 3.4); x19 to
--- x29 (Procedure Call Standard, section 6.1.1), and x30, by which a function returns that has not saved it
+-- a function that doesn't save it leaves the register as it was: rbx, rbp, r12 to r15 (System V ABI, figure 3.4); x19
+-- to x29 (Procedure Call Standard, section 6.1.1), and x30, by which a function returns that has not saved it
 abbrev pub keeps : Convention → ℕ → Bool
 keeps X86_64 column = (column == RBX) || (column == RBP) || (nat_le R12 column && nat_le column R15)
 keeps Aarch64 column = nat_le X19 column && nat_le column X30

@@ -1,5 +1,5 @@
--- The value of a DWARF expression that may read memory (DWARF 5 section 2.5.1): a list of states leads from position 0 to
--- its end. A step is one of `framehop_dwarf`, or reads memory.
+-- The value of a DWARF expression that may read memory (DWARF 5 section 2.5.1): a list of states leads from position 0
+-- to its end. A step is one of `framehop_dwarf`, or reads memory.
 use Rattle.std.specs.Prelude.{ℕ, zero, suc, ◌≤◌, ◌≡◌, true, List, [], ◌∷◌, length, slice_get, slice_range, Option, Some, None, option_map, option_and_then, option_to_list, ◌==◌, if◌then◌else◌}
 use Rattle.framehop_core.specs.Memory.{Memory}
 use Rattle.framehop_cfi.specs.declared.rule.Register.{Register}

@@ -44,8 +44,8 @@ value_by source cfa own (rule.Expression expression) =
 value_by source cfa own (rule.ValExpression expression) =
     value_in source.bytes (word_of source.words) source.memory expression (Some cfa)
 
--- the value of a register that the row doesn't name: the stack pointer is the CFA, and a register that functions keep has
--- its own value
+-- the value of a register that the row doesn't name: the stack pointer is the CFA, and a register that functions keep
+-- has its own value
 abbrev pub by_convention : Convention → ℕ → ℕ → Option ℕ → Option ℕ
 by_convention convention column cfa own =
     if column == stack_pointer_of convention then Some cfa else (if keeps convention column then own else None)

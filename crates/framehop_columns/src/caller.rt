@@ -59,44 +59,25 @@ pub fn caller_by_row<M: WordMemory, S: UnwindContextStorage>(
         HasColumns (caller_column convention (record { bytes = section.now; words = regs.now; memory = M.memory memory.now }) row.now caller.cfa) caller.regs) }
     ensures whole { IfOk result (λ caller. length caller.regs ≡ 33) }
 {
-    let (cfa, return_address) = step_of(alloc, convention, section, row, regs, memory)?;
-    let regs = caller_registers(alloc, convention, section, row, cfa, regs, memory);
-    Ok(Caller {
-        regs,
-        cfa,
-        return_address,
-    })
-}
-
-/// Returns the CFA and the return address that a row gives.
-fn step_of<M: WordMemory, S: UnwindContextStorage>(
-    alloc: Global,
-    convention: Convention,
-    section: &[u8],
-    row: &UnwindTableRow<S>,
-    regs: &RegisterFile,
-    memory: &M,
-) -> Result<(u64, u64), RowRefusal>
-    ensures { result ≡ step_of convention (record { bytes = section.now; words = regs.now; memory = M.memory memory.now }) row.now }
-{
-    let rule = row.register(Register(convention.return_address()));
-    if is_end(convention, rule) {
+    if is_end(convention, row.register(convention.return_address())) {
         return Err(RowRefusal::Outermost);
     }
     let Some(cfa) = cfa_of(alloc, section, *row.cfa(), regs, memory) else {
         return Err(RowRefusal::CfaUnknown);
     };
-    let column = convention.program_counter();
-    let word = caller_column(alloc, convention, section, row, cfa, column, regs, memory);
-    let Some(address) = word else {
+    let caller = caller_registers(alloc, convention, section, row, cfa, regs, memory);
+    let Some(return_address) = caller.get(convention.program_counter()) else {
         return Err(RowRefusal::ReturnAddressUnknown);
     };
-    let column = convention.stack_pointer();
-    let word = caller_column(alloc, convention, section, row, cfa, column, regs, memory);
-    if is_stuck(convention, regs, word, address) {
+    let stack_pointer = caller.get(convention.stack_pointer());
+    if is_stuck(convention, regs, stack_pointer, return_address) {
         return Err(RowRefusal::DidNotAdvance);
     }
-    Ok((cfa, address))
+    Ok(Caller {
+        regs: caller,
+        cfa,
+        return_address,
+    })
 }
 
 /// Returns whether a row says that there is no caller, by its rule for the return address.
@@ -119,8 +100,8 @@ fn is_stuck(
 ) -> bool
     ensures { result ≡ is_stuck convention regs.now stack_pointer address }
 {
-    let own_stack_pointer = regs.get(Register(convention.stack_pointer()));
-    let own_program_counter = regs.get(Register(convention.program_counter()));
+    let own_stack_pointer = regs.get(convention.stack_pointer());
+    let own_program_counter = regs.get(convention.program_counter());
     is_same(own_stack_pointer, stack_pointer) && is_same(own_program_counter, Some(address))
 }
 
@@ -134,7 +115,7 @@ fn is_same(word: Option<u64>, other: Option<u64>) -> bool
     }
 }
 
-/// Returns the registers of the caller, by a row.
+/// Returns the registers of the caller, by a row. The program counter is the return address.
 fn caller_registers<M: WordMemory, S: UnwindContextStorage>(
     alloc: Global,
     convention: Convention,
@@ -150,31 +131,15 @@ fn caller_registers<M: WordMemory, S: UnwindContextStorage>(
     let mut caller = RegisterFile::new();
     let mut column = 0u16;
     while column < 33 {
-        let word = caller_column(alloc, convention, section, row, cfa, column, regs, memory);
-        caller.set(Register(column), word);
+        let register = Register(column);
+        let rule = row.register(register);
+        let word = column_by(
+            alloc, convention, section, rule, register, cfa, regs, memory,
+        );
+        caller.set(register, word);
         column += 1;
     }
+    let return_address = caller.get(convention.return_address());
+    caller.set(convention.program_counter(), return_address);
     caller
-}
-
-/// Returns the value of a column of the caller, by a row. That of the program counter is the return address.
-fn caller_column<M: WordMemory, S: UnwindContextStorage>(
-    alloc: Global,
-    convention: Convention,
-    section: &[u8],
-    row: &UnwindTableRow<S>,
-    cfa: u64,
-    column: u16,
-    regs: &RegisterFile,
-    memory: &M,
-) -> Option<u64>
-    ensures { result ≡ caller_column convention (record { bytes = section.now; words = regs.now; memory = M.memory memory.now }) row.now cfa column }
-{
-    let column = if column == convention.program_counter() {
-        convention.return_address()
-    } else {
-        column
-    };
-    let rule = row.register(Register(column));
-    column_by(alloc, convention, section, rule, column, cfa, regs, memory)
 }

@@ -1,7 +1,8 @@
 //! What a calling convention says of columns that a row doesn't name.
-ghost use Rattle.std.specs.Prelude.{◌≡◌};
+ghost use Rattle.std.specs.Prelude.{◌≡◌, ◌&&◌, nat_le};
 ghost use Rattle.framehop_columns.specs.Convention.{stack_pointer_of, program_counter_of, return_address_of, keeps};
 
+use framehop_cfi::rule::Register;
 use framehop_cfi::{aarch64, x86_64};
 
 /// The calling convention of an architecture.
@@ -15,46 +16,53 @@ pub enum Convention {
 
 impl Convention {
     /// Returns the column of the stack pointer.
-    pub fn stack_pointer(self) -> u16
-        ensures { result ≡ stack_pointer_of self }
+    pub fn stack_pointer(self) -> Register
+        ensures { result ≡ record { 0 = stack_pointer_of self } }
     {
         match self {
-            Convention::X86_64 => x86_64::RSP.0,
-            Convention::Aarch64 => aarch64::SP.0,
+            Convention::X86_64 => x86_64::RSP,
+            Convention::Aarch64 => aarch64::SP,
         }
     }
 
     /// Returns the column of the program counter.
-    pub fn program_counter(self) -> u16
-        ensures { result ≡ program_counter_of self }
+    pub fn program_counter(self) -> Register
+        ensures { result ≡ record { 0 = program_counter_of self } }
     {
         match self {
-            Convention::X86_64 => x86_64::RA.0,
-            Convention::Aarch64 => aarch64::PC.0,
+            Convention::X86_64 => x86_64::RA,
+            Convention::Aarch64 => aarch64::PC,
         }
     }
 
     /// Returns the column of the return address.
-    pub fn return_address(self) -> u16
-        ensures { result ≡ return_address_of self }
+    pub fn return_address(self) -> Register
+        ensures { result ≡ record { 0 = return_address_of self } }
     {
         match self {
-            Convention::X86_64 => x86_64::RA.0,
-            Convention::Aarch64 => aarch64::X30.0,
+            Convention::X86_64 => x86_64::RA,
+            Convention::Aarch64 => aarch64::X30,
         }
     }
 
     /// Returns whether a function that doesn't save a register leaves it as it was.
-    pub fn keeps(self, column: u16) -> bool
-        ensures { result ≡ keeps self column }
+    pub fn keeps(self, register: Register) -> bool
+        ensures { result ≡ keeps self register.0 }
     {
         match self {
             Convention::X86_64 => {
-                column == x86_64::RBX.0
-                    || column == x86_64::RBP.0
-                    || (column >= x86_64::R12.0 && column <= x86_64::R15.0)
+                register == x86_64::RBX
+                    || register == x86_64::RBP
+                    || is_between(register, x86_64::R12, x86_64::R15)
             }
-            Convention::Aarch64 => column >= aarch64::X19.0 && column <= aarch64::X30.0,
+            Convention::Aarch64 => is_between(register, aarch64::X19, aarch64::X30),
         }
     }
+}
+
+/// Returns whether a register has the number of the first or the last one, or one between.
+fn is_between(register: Register, first: Register, last: Register) -> bool
+    ensures { result ≡ (nat_le first.0 register.0 && nat_le register.0 last.0) }
+{
+    first.0 <= register.0 && register.0 <= last.0
 }

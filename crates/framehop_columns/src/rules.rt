@@ -37,29 +37,38 @@ pub fn column_by<M: WordMemory>(
     convention: Convention,
     section: &[u8],
     rule: Option<RegisterRule>,
-    column: u16,
+    register: Register,
     cfa: u64,
     regs: &RegisterFile,
     memory: &M,
 ) -> Option<u64>
-    ensures { result ≡ column_by convention (record { bytes = section.now; words = regs.now; memory = M.memory memory.now }) cfa column rule }
+    ensures { result ≡ column_by convention (record { bytes = section.now; words = regs.now; memory = M.memory memory.now }) cfa register.0 rule }
 {
-    let own = regs.get(Register(column));
+    let own = regs.get(register);
     match rule {
         Some(rule) => value_by(alloc, section, rule, cfa, own, regs, memory),
-        None => by_convention(convention, column, cfa, own),
+        None => by_convention(convention, register, cfa, own),
     }
 }
 
 /// Returns the value of a register that a row doesn't name: the stack pointer is the CFA, a register that functions keep
 /// has its own value, and of others nothing is known.
-fn by_convention(convention: Convention, column: u16, cfa: u64, own: Option<u64>) -> Option<u64>
-    ensures { result ≡ by_convention convention column cfa own }
+fn by_convention(
+    convention: Convention,
+    register: Register,
+    cfa: u64,
+    own: Option<u64>,
+) -> Option<u64>
+    ensures { result ≡ by_convention convention register.0 cfa own }
 {
-    if column == convention.stack_pointer() {
+    if register == convention.stack_pointer() {
         return Some(cfa);
     }
-    if convention.keeps(column) { own } else { None }
+    if convention.keeps(register) {
+        own
+    } else {
+        None
+    }
 }
 
 /// Returns the value that a rule gives to a register of the caller. `own` is what the register has now.

@@ -11,10 +11,11 @@ ghost use Rattle.framehop_dump_stacks.specs.Thread.{thread_stack};
 use crate::dump::{Dump, Thread, is_code_at};
 use crate::machine::Dumped;
 use framehop::walk::Words;
+use framehop_backtrace::OrElse;
 use framehop_cfi::context::UnwindContext;
 use framehop_cfi::storage::StoreOnHeap;
 use framehop_frames::memory::{KnownMemory, MappedMemory};
-use framehop_frames::rows::MappedRows;
+use framehop_frames::rows::DebugFrames;
 use framehop_frames::stack::Stack;
 use framehop_frames::walk::walk_stack;
 use framehop_memory::memory::ProcessMemory;
@@ -48,10 +49,9 @@ pub fn walk_thread<U: Dumped>(
         process,
     };
     let unwinder = process.unwinder();
-    let rows = MappedRows {
-        unwinder,
-        files,
-        process,
+    let rows = OrElse {
+        first: unwinder,
+        second: &DebugFrames { files, process },
     };
     let stack = walk_stack(
         alloc,

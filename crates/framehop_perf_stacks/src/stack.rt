@@ -8,10 +8,11 @@ ghost use Rattle.framehop_frames.specs.Stack.{option_stack_view};
 
 use crate::machine::Sampled;
 use framehop::walk::StackBytes;
+use framehop_backtrace::OrElse;
 use framehop_cfi::context::UnwindContext;
 use framehop_cfi::storage::StoreOnHeap;
 use framehop_frames::memory::MappedMemory;
-use framehop_frames::rows::MappedRows;
+use framehop_frames::rows::DebugFrames;
 use framehop_frames::stack::Stack;
 use framehop_frames::walk::walk_stack;
 use framehop_processes::Process;
@@ -49,10 +50,9 @@ pub fn walk_sample<U: Sampled>(
         files,
         process,
     };
-    let rows = MappedRows {
-        unwinder,
-        files,
-        process,
+    let rows = OrElse {
+        first: unwinder,
+        second: &DebugFrames { files, process },
     };
     let stack = walk_stack(
         alloc,

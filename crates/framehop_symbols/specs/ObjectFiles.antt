@@ -31,7 +31,7 @@ use Rattle.framehop_pe_file.specs.declared.error.PeError.{PeError}
 use Rattle.framehop_pe_file.specs.declared.error.PeError.TheVariants.{OutOfMemory as PeOutOfMemory}
 use Rattle.framehop_pe_file.specs.declared.header.FileHeader.{FileHeader}
 use Rattle.framehop_pe_file.specs.declared.section_header.SectionHeader.{SectionHeader as PeSectionHeader}
-use Rattle.framehop.specs.Modules.{ModuleView, no_unwind_data}
+use Rattle.framehop.specs.Modules.{ModuleView}
 use Rattle.framehop.specs.ModuleData.{unwind_data_in}
 use Rattle.framehop_symbols.specs.declared.code.SegmentCode.{SegmentCode}
 use Rattle.framehop_symbols.specs.declared.object_file.ObjectFile.{ObjectFile}
@@ -131,9 +131,27 @@ module_in file headers = module_of (unwind_sections_of file headers.sections hea
 abbrev pub debug_frame_in : List ℕ → HeadersView → ModuleView
 debug_frame_in file headers = module_of (debug_frame_of file headers.sections headers.names)
 
--- the same without unwind data
+-- the same of no sections: it has no unwind data
+abbrev pub no_sections : ExplicitModuleSectionInfo (List ℕ)
+no_sections = record {
+  base_svma = 0;
+  text_svma = None;
+  text = None;
+  stubs_svma = None;
+  stub_helper_svma = None;
+  got_svma = None;
+  unwind_info = None;
+  eh_frame_svma = None;
+  eh_frame = None;
+  eh_frame_hdr_svma = None;
+  eh_frame_hdr = None;
+  debug_frame = None;
+  text_segment_svma = None;
+  text_segment = None;
+}
+
 abbrev pub bare_module : ModuleView
-bare_module = record { name = []; start = 0; end = 0; base_avma = 0; unwind_data = no_unwind_data None }
+bare_module = module_of no_sections
 
 -- the code of a segment: where it begins, and its bytes in the file, or none where it may not be executed
 pub record CodeView : Type 0 where

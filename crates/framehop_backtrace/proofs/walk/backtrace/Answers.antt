@@ -1,17 +1,87 @@
-use Rattle.framehop_backtrace.specs.Backtrace.{Stack, frame_view}
-use Rattle.framehop_backtrace.proofs.LibraryLemmas.{backtrace-is, each-ok}
+use Rattle.std.proofs.Common.{◌∙◌, ◌-◌, ◌+◌, ◌++◌, ◌∷◌, [], map, ap, sym, refl, arith}
+use Rattle.std.proofs.lemmas.List.{map-append}
+use Rattle.framehop_backtrace.specs.Backtrace.{frame_view, next_view, stack_of}
+use Rattle.framehop_backtrace.proofs.BacktraceLemmas.{none, first, one-more, ended, limited}
+use Rattle.framehop_backtrace.proofs.LibraryLemmas.{library-is}
 use Rattle.framehop_backtrace.proofs.walk.backtrace.Goals as goal
+
+pub returns-then-limit-eq0-clause-exact : goal.returns-then-limit-eq0-clause-exact
+returns-then-limit-eq0-clause-exact g c = λ sound.
+    let stack =
+    stack_of g.U.BacktraceUnwinder.machine (g.U.Unwinder.step c.args.unwinder.now)
+    (g.U.BacktraceUnwinder.is_by_info c.args.unwinder.now) (g.W.Rows.rows c.args.rows.now g.S.UnwindContextStorage.limits)
+    (g.M.WordMemory.memory c.args.memory.now) (g.M.CodeMemory.code c.args.memory.now) in
+    rw c.new-frames.ensures.items (none stack c.args.limit (frame_view c.args.first) c.if-limit-eq0.true)
+
+pub loop-caller-init : goal.loop-caller-init
+loop-caller-init g c =
+    let stack =
+    stack_of g.U.BacktraceUnwinder.machine (g.U.Unwinder.step c.args.unwinder.now)
+    (g.U.BacktraceUnwinder.is_by_info c.args.unwinder.now) (g.W.Rows.rows c.args.rows.now g.S.UnwindContextStorage.limits)
+    (g.M.WordMemory.memory c.args.memory.now) (g.M.CodeMemory.code c.args.memory.now) in (
+      λ other apart sound. sound,
+      λ sound. first stack c.args.limit (c.args.limit - 1) (frame_view c.args.first) (map frame_view c.push.new.self.items)
+          (omega arith) (ap (map frame_view) (c.in_ok-push.ensures.items ∙ ap (λ xs. xs ++ c.args.first ∷ []) c.new-frames.ensures.items)),
+    )
+
+pub loop-caller-preserved : goal.loop-caller-preserved
+loop-caller-preserved g c =
+    let stack =
+    stack_of g.U.BacktraceUnwinder.machine (g.U.Unwinder.step c.args.unwinder.now)
+    (g.U.BacktraceUnwinder.is_by_info c.args.unwinder.now) (g.W.Rows.rows c.args.rows.now g.S.UnwindContextStorage.limits)
+    (g.M.WordMemory.memory c.args.memory.now) (g.M.CodeMemory.code c.args.memory.now) in
+    let view = g.U.Unwinder.unwinder_view c.args.unwinder.now in
+    let l = c.loop-caller in (
+      λ other apart sound. c.in_ok-next.ensures.stays_sound other apart (l.invariant.0 other apart sound),
+      λ sound. one-more stack (c.args.limit - l._caller) (c.args.limit - (l._caller + 1)) (frame_view l.frame)
+          (frame_view c.in-Ok.caller) (map frame_view l.frames.items) (map frame_view c.push-in-Ok.new.self.items) _ (omega arith)
+          (sym (ap next_view c.in-Ok.is) ∙ c.in_ok-next.ensures.exact (l.invariant.0 view (λ same. refl) sound))
+          (ap (map frame_view) c.in_ok-push-in-Ok.ensures.items ∙ map-append frame_view l.frames.items (c.in-Ok.caller ∷ []))
+          (l.invariant.1 sound),
+    )
+
+pub returns-in-Err-clause-exact : goal.returns-in-Err-clause-exact
+returns-in-Err-clause-exact g c = λ sound.
+    let stack =
+    stack_of g.U.BacktraceUnwinder.machine (g.U.Unwinder.step c.args.unwinder.now)
+    (g.U.BacktraceUnwinder.is_by_info c.args.unwinder.now) (g.W.Rows.rows c.args.rows.now g.S.UnwindContextStorage.limits)
+    (g.M.WordMemory.memory c.args.memory.now) (g.M.CodeMemory.code c.args.memory.now) in
+    let view = g.U.Unwinder.unwinder_view c.args.unwinder.now in
+    let l = c.loop-caller in
+    ended stack (c.args.limit - l._caller) (c.args.limit - (l._caller + 1)) (frame_view l.frame) c.in-Err.end
+    (map frame_view l.frames.items) _ (omega arith)
+    (sym (ap next_view c.in-Err.is) ∙ c.in_ok-next.ensures.exact (l.invariant.0 view (λ same. refl) sound)) (l.invariant.1 sound)
+
+pub returns-clause-exact : goal.returns-clause-exact
+returns-clause-exact g c = λ sound.
+    let stack =
+    stack_of g.U.BacktraceUnwinder.machine (g.U.Unwinder.step c.args.unwinder.now)
+    (g.U.BacktraceUnwinder.is_by_info c.args.unwinder.now) (g.W.Rows.rows c.args.rows.now g.S.UnwindContextStorage.limits)
+    (g.M.WordMemory.memory c.args.memory.now) (g.M.CodeMemory.code c.args.memory.now) in
+    let l = c.loop-caller in
+    limited stack (c.args.limit - l._caller) (frame_view l.frame) (map frame_view l.frames.items) _ (omega arith)
+    (l.invariant.1 sound)
+
+pub returns-then-limit-eq0-clause-library : goal.returns-then-limit-eq0-clause-library
+returns-then-limit-eq0-clause-library g c = λ sound.
+    let stack =
+    stack_of g.U.BacktraceUnwinder.machine (g.U.Unwinder.step c.args.unwinder.now)
+    (g.U.BacktraceUnwinder.is_by_info c.args.unwinder.now) (g.W.Rows.rows c.args.rows.now g.S.UnwindContextStorage.limits)
+    (g.M.WordMemory.memory c.args.memory.now) (g.M.CodeMemory.code c.args.memory.now) in
+    library-is stack g.U.BacktraceUnwinder.steps_on c.args.limit (frame_view c.args.first) _ (returns-then-limit-eq0-clause-exact g c sound)
+
+pub returns-in-Err-clause-library : goal.returns-in-Err-clause-library
+returns-in-Err-clause-library g c = λ sound.
+    let stack =
+    stack_of g.U.BacktraceUnwinder.machine (g.U.Unwinder.step c.args.unwinder.now)
+    (g.U.BacktraceUnwinder.is_by_info c.args.unwinder.now) (g.W.Rows.rows c.args.rows.now g.S.UnwindContextStorage.limits)
+    (g.M.WordMemory.memory c.args.memory.now) (g.M.CodeMemory.code c.args.memory.now) in
+    library-is stack g.U.BacktraceUnwinder.steps_on c.args.limit (frame_view c.args.first) _ (returns-in-Err-clause-exact g c sound)
 
 pub returns-clause-library : goal.returns-clause-library
 returns-clause-library g c = λ sound.
-    let stack : Stack g.row.U-UnwindRegs.Denot = record {
-      machine = g.U.BacktraceUnwinder.machine;
-      step = g.U.Unwinder.step c.args.unwinder.now;
-      is_by_info = g.U.BacktraceUnwinder.is_by_info c.args.unwinder.now;
-      rows = g.W.Rows.rows c.args.rows.now g.S.UnwindContextStorage.limits;
-      memory = g.M.WordMemory.memory c.args.memory.now;
-      code = g.M.CodeMemory.code c.args.memory.now;
-    } in
-    each-ok c.frames_from.result (λ found exact pc here known plain.
-    rw exact (backtrace-is stack g.U.BacktraceUnwinder.steps_on c.args.limit pc (frame_view c.args.first) here plain known))
-    (c.frames_from.ensures.exact sound)
+    let stack =
+    stack_of g.U.BacktraceUnwinder.machine (g.U.Unwinder.step c.args.unwinder.now)
+    (g.U.BacktraceUnwinder.is_by_info c.args.unwinder.now) (g.W.Rows.rows c.args.rows.now g.S.UnwindContextStorage.limits)
+    (g.M.WordMemory.memory c.args.memory.now) (g.M.CodeMemory.code c.args.memory.now) in
+    library-is stack g.U.BacktraceUnwinder.steps_on c.args.limit (frame_view c.args.first) _ (returns-clause-exact g c sound)

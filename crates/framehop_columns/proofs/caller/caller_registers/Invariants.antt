@@ -1,6 +1,6 @@
 use Rattle.std.proofs.Common.{◌≡◌, ◌≤◌, ◌-◌, length}
-use Rattle.framehop_columns.specs.Rules.{Source}
-use Rattle.framehop_columns.specs.Caller.{caller_column}
+use Rattle.framehop_cfi.specs.Row.{rule_of}
+use Rattle.framehop_columns.specs.Rules.{Source, column_by}
 use Rattle.framehop_columns.proofs.Columns.{HasBefore}
 use Rattle.framehop_columns.proofs.caller.caller_registers.Given as goal
 
@@ -10,7 +10,7 @@ invariant-loop-column g l =
     record {
       within : l.column ≤ 33;
       long : length l.caller ≡ 33;
-      set : HasBefore (caller_column l.convention source l.row l.cfa) l.column l.caller;
+      set : HasBefore (λ k. column_by l.convention source l.cfa k (rule_of l.row.rules (record { 0 = k }))) l.column l.caller;
     }
 
 abbrev pub decreases-loop-column : goal.decreases-loop-column

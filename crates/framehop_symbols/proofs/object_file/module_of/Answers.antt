@@ -9,8 +9,8 @@ use Rattle.framehop_symbols.proofs.object_file.module_of.Goals as goal
 with_data : UnwindData → ModuleView
 with_data found = record { name = []; start = 0; end = 0; base_avma = 0; unwind_data = found }
 
-pub returns-in-Ok-clause : goal.returns-in-Ok-clause
+pub returns-in-Ok : goal.returns-in-Ok
 unfolding with_data
-returns-in-Ok-clause c =
+returns-in-Ok c =
     rw c.new.ensures.bytes at c.in-Ok.ensures.made
     ∙ ap with_data (sym (data-of_bytes (λ (bytes : Vec ℕ Global). bytes.items) (table_of c.args.info)))
