@@ -10,7 +10,7 @@ use Rattle.framehop_explain.specs.declared.source.Source.TheVariants.{Fde, Compa
 use Rattle.framehop_explain.specs.declared.told.Told.{Told}
 use Rattle.framehop_explain.specs.declared.told.Told.TheVariants.{Rule, Computed, Refused}
 use Rattle.framehop_frames.specs.declared.note.Data.{Data}
-use Rattle.framehop_frames.specs.declared.note.Data.TheVariants as data
+use Rattle.framehop_frames.specs.declared.note.Data.TheVariants as has
 use Rattle.framehop_frames.specs.declared.note.Taken.{Taken}
 use Rattle.framehop_frames.specs.declared.note.Taken.TheVariants.{Step, Row, DebugFrame, Call, FramePointer}
 
@@ -32,32 +32,32 @@ is_by_frame_pointer caller = false
 
 -- a row, and whether the library has a rule for it or computes the return address
 abbrev pub row_of : {R : Type 0} → Told R → Data
-row_of (Rule rule) = data.Row
-row_of (Computed address) = data.Row
-row_of (Refused error) = data.RefusedRow
+row_of (Rule rule) = has.Row
+row_of (Computed address) = has.Row
+row_of (Refused error) = has.RefusedRow
 
 -- no row: the library has the rule of a function's start, or nothing
 abbrev pub start_of : {R : Type 0} → Told R → Data
-start_of (Rule rule) = data.Start
-start_of (Computed address) = data.Start
-start_of (Refused error) = data.Nothing
+start_of (Rule rule) = has.Start
+start_of (Computed address) = has.Start
+start_of (Refused error) = has.Nothing
 
 -- what the module of a frame has for it
 abbrev pub data_of : {R : Type 0} → Source → Told R → Data
 data_of (Fde section offset HasRow) told = row_of told
 data_of (CompactFde function offset HasRow) told = row_of told
-data_of (Pe source) told = data.Info
-data_of (Compact source) told = data.Info
+data_of (Pe source) told = has.Info
+data_of (Compact source) told = has.Info
 data_of source told = start_of told
 
 -- in a module
 abbrev pub taken_by : Data → Result FoundBy BacktraceEnd → Taken
-taken_by data.Row caller = Step
-taken_by data.Info caller = Step
-taken_by data.RefusedRow caller = Row
-taken_by data.Start caller =
+taken_by has.Row caller = Step
+taken_by has.Info caller = Step
+taken_by has.RefusedRow caller = Row
+taken_by has.Start caller =
     if is_by_row caller then DebugFrame else (if is_by_frame_pointer caller then FramePointer else Step)
-taken_by data.Nothing caller = if is_by_row caller then DebugFrame else Step
+taken_by has.Nothing caller = if is_by_row caller then DebugFrame else Step
 
 -- in no module
 abbrev pub taken_outside : Result FoundBy BacktraceEnd → Taken

@@ -42,10 +42,14 @@ ends_more writes writes' refusal refusal' drawn drawn' samples samples' (Recordi
 within_total : (folded : Folded) (line : List ℕ) → count_in folded line ≤ total_of folded
 within_total folded line = lookup-le-sum (is_at (λ key. slice_cmp nat_cmp line key.items)) folded.counts.entries
 
+pub cannot_write : (refusal : Option RecordingError) (drawn samples : ℕ) (error : StacksError) → error ≡ CannotWrite
+    → MayEnd true refusal drawn samples error
+cannot_write refusal drawn samples error is = rw is refl
+
 too_many : (writes : Bool) (samples : ℕ) (error : StacksError) → error ≡ TooManySamples → 2 ^ 64 ≤ samples → MayEnd writes None 0 samples error
 too_many writes samples error is large = rw is large
 
-out_of_memory : (writes : Bool) (refusal : Option RecordingError) (drawn samples : ℕ) (error : StacksError) → error ≡ OutOfMemory
+pub out_of_memory : (writes : Bool) (refusal : Option RecordingError) (drawn samples : ℕ) (error : StacksError) → error ≡ OutOfMemory
     → MayEnd writes refusal drawn samples error
 out_of_memory writes refusal drawn samples error is = rw is tt
 
@@ -86,11 +90,21 @@ refused-after r rest is = ap (λ refusal. option_or refusal (first_refusal rest)
 
 -- ---- results
 
-abbrev failed : (T : Type 0) → StacksError → Result T StacksError
+abbrev pub failed : (T : Type 0) → StacksError → Result T StacksError
 failed T error = Err error
 
-same_error : (T : Type 0) (e error : StacksError) → failed T e ≡ failed T error → e ≡ error
+pub same_error : (T : Type 0) (e error : StacksError) → failed T e ≡ failed T error → e ≡ error
 same_error T e error is = ap (λ r. unwrap_or (result_err r) e) is
+
+pub if_err_weaker : {T E : Type 0} (result : Result T E) (P Q : E → Type 0) → ((error : E) → P error → Q error) → IfErr result P → IfErr result Q
+if_err_weaker (Ok x) P Q weaker told = tt
+if_err_weaker (Err e) P Q weaker told = weaker e told
+
+pub if_err_at : {T E : Type 0} (result : Result T E) (error : E) (P : E → Type 0) → result ≡ Err error → P error → IfErr result P
+if_err_at result error P is holds = subst (λ r. IfErr r P) (sym is) holds
+
+pub if_err_none : {T E : Type 0} (result : Result T E) (value : T) (P : E → Type 0) → result ≡ Ok value → IfErr result P
+if_err_none result value P is = subst (λ r. IfErr r P) (sym is) tt
 
 -- what holds of the errors of two results holds of that of both
 pub either_error : {T U : Type 0} (first : Result T StacksError) (second : Result U StacksError) (error : StacksError) (P : StacksError → Type 0)

@@ -4,3 +4,4 @@ mod TakenLemmas
 mod EventLemmas
 mod EndedLemmas
 mod SoFarLemmas
+mod PrintedLemmas

@@ -21,6 +21,9 @@ loop-timed-init g c = (
     agrees = agrees;
     leads = refl;
     samples = refl;
+    samples_before = refl;
+    unrefused = refl;
+    draws = omega arith;
     each = tt;
     taken = AreTaken-none c.args.options.frames c.args.options.explain c.args.self.now.counts.stacks (g.W.Write.contents c.args.out.now);
   },
@@ -48,14 +51,17 @@ loop-timed-preserved g c =
           (IsTextOf module_of g.U.Steps.walker g.U.Sampled.starts c.args.options.frames c.args.options.sure c.args.options.limit c.args.files.now attributes)
           (λ r state other named mapped. text state other named mapped (sample_in attributes r))
           c.args.options.frames c.args.options.explain (records_in records) first c.args.self.now.counts.stacks (g.W.Write.contents c.args.out.now)
+          c.args.self.now.processes.generations
           _ (records_in (drop (l.timed-index + 1) records)) l.self.names c.take_record.new.self.names
           l.self.processes.by_pid c.take_record.new.self.processes.by_pid l.self.counts.stacks c.take_record.new.self.counts.stacks
           (g.W.Write.contents l.out) (g.W.Write.contents c.take_record.new.out)
+          l.self.processes.generations c.take_record.new.self.processes.generations
           (subst (λ rest. IsSoFar c.args.files.now
           (IsTextOf module_of g.U.Steps.walker g.U.Sampled.starts c.args.options.frames c.args.options.sure c.args.options.limit c.args.files.now attributes)
-          c.args.options.frames c.args.options.explain (records_in records) first c.args.self.now.counts.stacks (g.W.Write.contents c.args.out.now) rest
-          l.self.names l.self.processes.by_pid l.self.counts.stacks (g.W.Write.contents l.out)) left so)
-          after.state after.sample
+          c.args.options.frames c.args.options.explain (records_in records) first c.args.self.now.counts.stacks (g.W.Write.contents c.args.out.now)
+          c.args.self.now.processes.generations rest
+          l.self.names l.self.processes.by_pid l.self.counts.stacks (g.W.Write.contents l.out) l.self.processes.generations) left so)
+          after.read after.drawn after.state after.sample
           (λ kind. let same = after.other kind in (same.0, ap (λ out. g.W.Write.contents out) same.1)),
     )
 
