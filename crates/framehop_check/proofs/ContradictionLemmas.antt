@@ -1,5 +1,5 @@
 -- What is known of the CFA follows from a row and a run, so that an alarm is a contradiction.
-use Rattle.std.proofs.Common.{◌≡◌, ◌⊎◌, ℕ, ℤ, ◌+ℤ◌, ◌-ℤ◌, Bool, true, false, List, [], ◌∷◌, ◌++◌, Option, Some, None, refl, sym, ap, subst, ◌∙◌, append_assoc, append-nil, arith, inl, inr}
+use Rattle.std.proofs.Common.{◌≡◌, ◌⊎◌, ℕ, ℤ, pos, ◌+ℤ◌, ◌-ℤ◌, Bool, true, false, ◌&&◌, List, [], ◌∷◌, ◌++◌, Option, Some, None, refl, sym, ap, subst, ◌∙◌, append_assoc, append-nil, arith, inl, inr}
 use Rattle.std.specs.List.{AllByRecursion}
 use Rattle.std.specs.Ordering.{int_eq}
 use Rattle.std.proofs.lemmas.Int.{ints}
@@ -27,20 +27,14 @@ use Rattle.framehop_check.specs.declared.tracked.Fault.{Fault}
 use Rattle.framehop_check.specs.declared.tracked.Fault.TheVariants.{Differs, Overwritten, Returns, Jumps}
 use Rattle.framehop_check.specs.Claim.{Says}
 use Rattle.framehop_check.specs.Known.{nothing, known_of, nearer, after_change, after, agreed_on, agreed}
-use Rattle.framehop_check.specs.Tracked.{arriving_by, arriving, same_claim, fault_by, fault_at, is_stale, step, returned, fault_of_return, jumped, fault_of_jump, is_elsewhere, is_padding, is_passed, beginning}
+use Rattle.framehop_check.specs.Tracked.{arriving_by, arriving, same_base, same_claim, fault_by, fault_at, is_lost, is_next, is_stale, is_unknown, step, returned, fault_of_return, jumped, fault_of_jump, is_elsewhere, is_padding, is_passed, beginning}
 use Rattle.framehop_check.specs.Report.{list_of}
 use Rattle.framehop_check.specs.Check.{goes_on, difference, alarm_of, row_alarm, return_alarm, jump_fault, jump_alarm, step_of, alarms_at, pass_after, alarms_from, first_pass}
-use Rattle.framehop_check.specs.Contradiction.{RunsThrough, NeverBoth, RowContradicts, JumpContradicts, IsContradiction, pass_through, RowsFollow}
+use Rattle.framehop_check.specs.Contradiction.{RunsThrough, NeverBoth, RowContradicts, JumpContradicts, ReturnContradicts, RowIsOverwritten, change_of, HasMeaning, pass_through, RowsFollow}
 
 -- ---- runs
 
--- the change of a register
-change_of : Effect → Base → Change
-change_of e Sp = e.sp
-change_of e Fp = e.fp
-
-becomes : (e : Effect) (s t : State) → Does e s t → (base : Base) → Becomes (change_of e base) s (value_of t base)
-unfolding change_of
+pub becomes : (e : Effect) (s t : State) → Does e s t → (base : Base) → Becomes (change_of e base) s (value_of t base)
 becomes e s t does Sp = does.sp
 becomes e s t does Fp = does.fp
 
@@ -64,7 +58,7 @@ pub record Knows (items : List Item) (base : Base) (offset : ℤ) : Type 0 where
   pub list : items ≡ early ++ first ∷ between
   pub tells : Tells first between base offset
 
-moved : (cfa u v : ℤ) (offset bytes : ℤ) → cfa ≡ u +ℤ offset → v ≡ u +ℤ bytes → cfa ≡ v +ℤ (offset -ℤ bytes)
+pub moved : (cfa u v : ℤ) (offset bytes : ℤ) → cfa ≡ u +ℤ offset → v ≡ u +ℤ bytes → cfa ≡ v +ℤ (offset -ℤ bytes)
 moved cfa u v offset bytes is to = omega (arith, ints, is, to)
 
 -- one more instruction
@@ -108,7 +102,7 @@ unfolding Grounded
 grounded-nothing items Sp offset is = cc
 grounded-nothing items Fp offset is = cc
 
-some-same : (x y : ℤ) → ◌≡◌ {A = Option ℤ} (Some x) (Some y) → x ≡ y
+pub some-same : (x y : ℤ) → ◌≡◌ {A = Option ℤ} (Some x) (Some y) → x ≡ y
 some-same x y is = cc
 
 -- where the known distance of a register comes from
@@ -121,11 +115,11 @@ agreed-on known Sp Fp row offset None is has = inl has
 agreed-on known Fp Sp row offset None is has = inl has
 agreed-on known Fp Fp row offset None is has = inr (ap (Above Fp) (some-same row offset has))
 
-none-of-nothing : (base : Base) (offset : ℤ) → known_of nothing base ≡ Some offset → ⊥
+pub none-of-nothing : (base : Base) (offset : ℤ) → known_of nothing base ≡ Some offset → ⊥
 none-of-nothing Sp offset is = cc
 none-of-nothing Fp offset is = cc
 
-agreed-from : (known : Known) (claim : Claim) (base : Base) (offset : ℤ) → known_of (agreed known claim) base ≡ Some offset
+pub agreed-from : (known : Known) (claim : Claim) (base : Base) (offset : ℤ) → known_of (agreed known claim) base ≡ Some offset
     → (known_of known base ≡ Some offset) ⊎ (claim ≡ Above base offset)
 agreed-from known (Above own row) base offset has = agreed-on known own base row offset (known_of known own) refl has
 agreed-from known Other base offset has = absurd (none-of-nothing base offset has)
@@ -139,12 +133,11 @@ nearer-from bytes (Some old) offset is =
     ]
 nearer-from bytes None offset is = cc
 
-known-after : (known : Known) (e : Effect) (to : Base) → known_of (after known e) to ≡ after_change known (change_of e to)
-unfolding change_of
+pub known-after : (known : Known) (e : Effect) (to : Base) → known_of (after known e) to ≡ after_change known (change_of e to)
 known-after known e Sp = refl
 known-after known e Fp = refl
 
-change-from : (known : Known) (change : Change) (offset : ℤ) → after_change known change ≡ Some offset
+pub change-from : (known : Known) (change : Change) (offset : ℤ) → after_change known change ≡ Some offset
     → (base : Base) × (bytes old : ℤ) × (change ≡ Sum base bytes) × (known_of known base ≡ Some old) × (offset ≡ old -ℤ bytes)
 change-from known (Sum base bytes) offset is =
     let from = nearer-from bytes (known_of known base) offset is in
@@ -263,6 +256,159 @@ no-row : (tracked : Tracked) (to : Option (ℕ × Claim)) (base : Base) (row cod
 no-row tracked (Some t) base row code is = no-row-of tracked.known t.0 t.1 base row code is
 no-row tracked None base row code is = cc
 
+-- ---- the instruction before
+
+-- the last of the instructions before, where it is what the pass has come from
+pub record Last (before : List Item) (tracked : Tracked) : Type 0 where
+  pub early : List Item
+  pub last : Item
+  pub list : before ≡ early ++ last ∷ []
+  pub claim : tracked.claim ≡ last.claim
+  pub sp : tracked.sp_lost ≡ is_unknown last.effect.sp
+  pub fp : tracked.fp_lost ≡ is_unknown last.effect.fp
+
+pub Preceded : List Item → Tracked → Type 0
+Preceded before tracked = is_next tracked.came ≡ true → Last before tracked
+
+not-both : (c : Came) → is_elsewhere c ≡ true → is_next c ≡ true → ⊥
+not-both came.Next elsewhere next = cc
+not-both came.Returned elsewhere next = cc
+not-both came.Elsewhere elsewhere next = cc
+
+preceded-elsewhere : (before : List Item) (tracked : Tracked) → is_elsewhere tracked.came ≡ true → Preceded before tracked
+unfolding Preceded
+preceded-elsewhere before tracked elsewhere next = absurd (not-both tracked.came elsewhere next)
+
+preceded-step : (before : List Item) (i : Item) (tracked : Tracked) → Preceded (before ++ i ∷ []) (step tracked i.claim i.effect)
+unfolding Preceded
+preceded-step before i tracked next = record { early = before; last = i; list = refl; claim = refl; sp = refl; fp = refl }
+
+-- ---- what is overwritten
+
+stale-by : (own base : Base) (said row : ℤ) (stale : Bool) (known : Option ℤ)
+    → fault_by own said stale known ≡ Some (Overwritten base row) → (stale ≡ true) × (Above own said ≡ Above base row)
+stale-by own base said row stale (Some c) is =
+    elim (cases_Bool (int_eq c said)) [
+      | inl same ↦ (let e = rw same at is in cc)
+      | inr other ↦ (let e = rw other at is in cc)
+    ]
+stale-by own base said row true None is = (refl, cc)
+stale-by own base said row false None is = cc
+
+stale-from : (tracked : Tracked) (claim : Claim) (base : Base) (row : ℤ) → fault_at tracked claim ≡ Some (Overwritten base row)
+    → (is_stale tracked claim ≡ true) × (claim ≡ Above base row)
+stale-from tracked (Above own said) base row is =
+    stale-by own base said row (is_stale tracked (Above own said)) (known_of (arriving tracked (Above own said)) own) is
+stale-from tracked Other base row is = cc
+
+same-bases : (one other : Base) → same_base one other ≡ true → one ≡ other
+same-bases Sp Sp is = refl
+same-bases Fp Fp is = refl
+same-bases Sp Fp is = cc
+same-bases Fp Sp is = cc
+
+same-claims : (one other : Claim) → same_claim one other ≡ true → one ≡ other
+same-claims (Above b x) (Above c y) is =
+    let both = and_parts (same_base b c) (int_eq x y) is in
+    rw (same-bases b c both.0, (Decides-int_eq x y).0 both.1) refl
+same-claims Other Other is = refl
+same-claims (Above b x) Other is = cc
+same-claims Other (Above b x) is = cc
+
+untold : (change : Change) → is_unknown change ≡ true → change ≡ Unknown
+untold (Sum base offset) is = cc
+untold Unknown is = refl
+
+lost : (before : List Item) (tracked : Tracked) (base : Base) (row : ℤ) → (l : Last before tracked)
+    → is_lost tracked (Above base row) ≡ true → change_of l.last.effect base ≡ Unknown
+lost before tracked Sp row l is = untold l.last.effect.sp (sym l.sp ∙ is)
+lost before tracked Fp row l is = untold l.last.effect.fp (sym l.fp ∙ is)
+
+-- a value that a register can have after a change of it
+value_after : Change → State → ℤ
+value_after (Sum base offset) s = value_of s base +ℤ offset
+value_after Unknown s = pos 0
+
+becomes-value : (change : Change) (s : State) → Becomes change s (value_after change s)
+unfolding value_after
+becomes-value (Sum base offset) s = refl
+becomes-value Unknown s = tt
+
+one-more : (cfa row : ℤ) → cfa ≡ (cfa -ℤ row +ℤ pos 1) +ℤ row → ⊥
+one-more cfa row is = omega (arith, ints, is)
+
+leads-elsewhere : (e : Effect) (base : Base) (row cfa : ℤ) (s : State) → change_of e base ≡ Unknown
+    → (t : State) × Does e s t × (Says (Above base row) cfa t → ⊥)
+leads-elsewhere e Sp row cfa s is =
+    let t : State = record { sp = cfa -ℤ row +ℤ pos 1; fp = value_after e.fp s } in (
+      t,
+      record {
+        sp = subst (λ (c : Change). Becomes c s (cfa -ℤ row +ℤ pos 1)) (sym is) tt;
+        fp = becomes-value e.fp s;
+      },
+      one-more cfa row,
+    )
+leads-elsewhere e Fp row cfa s is =
+    let t : State = record { sp = value_after e.sp s; fp = cfa -ℤ row +ℤ pos 1 } in (
+      t,
+      record {
+        sp = becomes-value e.sp s;
+        fp = subst (λ (c : Change). Becomes c s (cfa -ℤ row +ℤ pos 1)) (sym is) tt;
+      },
+      one-more cfa row,
+    )
+
+no-overwritten-jump-by : (to : ℕ) (own : Base) (said : ℤ) (known : Option ℤ) (base : Base) (row : ℤ)
+    → jumped to own said known ≡ Some (Overwritten base row) → ⊥
+no-overwritten-jump-by to own said (Some c) base row is =
+    elim (cases_Bool (int_eq c said)) [
+      | inl same ↦ (let e = rw same at is in cc)
+      | inr other ↦ (let e = rw other at is in cc)
+    ]
+no-overwritten-jump-by to own said None base row is = cc
+
+no-overwritten-jump-of : (known : Known) (to : ℕ) (claim : Claim) (base : Base) (row : ℤ)
+    → fault_of_jump known to claim ≡ Some (Overwritten base row) → ⊥
+no-overwritten-jump-of known to (Above own said) base row is = no-overwritten-jump-by to own said (known_of known own) base row is
+no-overwritten-jump-of known to Other base row is = cc
+
+no-overwritten-jump : (tracked : Tracked) (to : Option (ℕ × Claim)) (base : Base) (row : ℤ)
+    → jump_fault tracked to ≡ Some (Overwritten base row) → ⊥
+no-overwritten-jump tracked (Some t) base row is = no-overwritten-jump-of tracked.known t.0 t.1 base row is
+no-overwritten-jump tracked None base row is = cc
+
+no-return-jump-by : (to : ℕ) (own : Base) (said : ℤ) (known : Option ℤ) (code : ℤ)
+    → jumped to own said known ≡ Some (Returns code) → ⊥
+no-return-jump-by to own said (Some c) code is =
+    elim (cases_Bool (int_eq c said)) [
+      | inl same ↦ (let e = rw same at is in cc)
+      | inr other ↦ (let e = rw other at is in cc)
+    ]
+no-return-jump-by to own said None code is = cc
+
+no-return-jump-of : (known : Known) (to : ℕ) (claim : Claim) (code : ℤ) → fault_of_jump known to claim ≡ Some (Returns code) → ⊥
+no-return-jump-of known to (Above own said) code is = no-return-jump-by to own said (known_of known own) code is
+no-return-jump-of known to Other code is = cc
+
+no-return-jump : (tracked : Tracked) (to : Option (ℕ × Claim)) (code : ℤ) → jump_fault tracked to ≡ Some (Returns code) → ⊥
+no-return-jump tracked (Some t) code is = no-return-jump-of tracked.known t.0 t.1 code is
+no-return-jump tracked None code is = cc
+
+no-return-by : (own : Base) (said : ℤ) (stale : Bool) (known : Option ℤ) (code : ℤ)
+    → fault_by own said stale known ≡ Some (Returns code) → ⊥
+no-return-by own said stale (Some c) code is =
+    elim (cases_Bool (int_eq c said)) [
+      | inl same ↦ (let e = rw same at is in cc)
+      | inr other ↦ (let e = rw other at is in cc)
+    ]
+no-return-by own said true None code is = cc
+no-return-by own said false None code is = cc
+
+no-return : (tracked : Tracked) (claim : Claim) (code : ℤ) → fault_at tracked claim ≡ Some (Returns code) → ⊥
+no-return tracked (Above own said) code is =
+    no-return-by own said (is_stale tracked (Above own said)) (known_of (arriving tracked (Above own said)) own) code is
+no-return tracked Other code is = cc
+
 module _ (entry : ℤ) (items : List Item) where
   row-told : (before after : List Item) (pass : Pass) (i : Item) (address : ℕ) (base : Base) (row code : ℤ)
       → items ≡ before ++ i ∷ after → GroundedAt before pass.tracked → i.address ≡ address
@@ -336,55 +482,127 @@ module _ (entry : ℤ) (items : List Item) where
         never = never-both known.first known.between (Above base row) base row code known.tells refl from.2;
       }
 
+  overwritten-told : (before after : List Item) (pass : Pass) (i : Item) (base : Base) (row : ℤ) → items ≡ before ++ i ∷ after
+      → Preceded before pass.tracked → fault_at pass.tracked i.claim ≡ Some (Overwritten base row)
+      → RowIsOverwritten items i.address base row
+  unfolding Preceded
+  overwritten-told before after pass i base row list preceded is =
+      let from = stale-from pass.tracked i.claim base row is in
+      let parts = and_parts (is_next pass.tracked.came && same_claim pass.tracked.claim i.claim) (is_lost pass.tracked i.claim) from.0 in
+      let same = and_parts (is_next pass.tracked.came) (same_claim pass.tracked.claim i.claim) parts.0 in
+      let l = preceded same.0 in
+      let unknown = lost before pass.tracked base row l (subst (λ (c : Claim). is_lost pass.tracked c ≡ true) from.1 parts.1) in
+      record {
+        early = l.early;
+        last = l.last;
+        here = i;
+        late = after;
+        list = list ∙ (ap (λ (xs : List Item). xs ++ i ∷ after) l.list ∙ append_assoc l.early (l.last ∷ []) (i ∷ after));
+        at = refl;
+        said = sym l.claim ∙ (same-claims pass.tracked.claim i.claim same.1 ∙ from.1);
+        says = from.1;
+        untold = unknown;
+        may = λ cfa s.
+            subst (λ (c : Claim). (t : State) × Does l.last.effect s t × (Says c cfa t → ⊥)) (sym from.1)
+            (leads-elsewhere l.last.effect base row cfa s unknown);
+      }
+
   -- the alarm of a row, of a return and of a jump, if there is one
   of-row : (before after : List Item) (pass : Pass) (i : Item) (fault : Option Fault) → items ≡ before ++ i ∷ after
-      → GroundedAt before pass.tracked → fault_at pass.tracked i.claim ≡ fault
-      → AllByRecursion (IsContradiction items) (list_of (alarm_of i.address pass.before fault))
-  of-row before after pass i None list grounded is = tt
-  of-row before after pass i (Some (Differs base row code)) list grounded is =
+      → GroundedAt before pass.tracked → Preceded before pass.tracked → fault_at pass.tracked i.claim ≡ fault
+      → AllByRecursion (HasMeaning entry items) (list_of (alarm_of i.address pass.before fault))
+  of-row before after pass i None list grounded preceded is = tt
+  of-row before after pass i (Some (Differs base row code)) list grounded preceded is =
       (row-told before after pass i i.address base row code list grounded refl is, tt)
-  of-row before after pass i (Some (Overwritten base row)) list grounded is = (tt, tt)
-  of-row before after pass i (Some (Returns code)) list grounded is = (tt, tt)
-  of-row before after pass i (Some (Jumps target base row code)) list grounded is = absurd (no-jump pass.tracked i.claim target base row code is)
+  of-row before after pass i (Some (Overwritten base row)) list grounded preceded is =
+      (overwritten-told before after pass i base row list preceded is, tt)
+  of-row before after pass i (Some (Returns code)) list grounded preceded is = absurd (no-return pass.tracked i.claim code is)
+  of-row before after pass i (Some (Jumps target base row code)) list grounded preceded is =
+      absurd (no-jump pass.tracked i.claim target base row code is)
 
   of-jump : (before after : List Item) (tracked : Tracked) (i : Item) (fault : Option Fault) → items ≡ before ++ i ∷ after
       → Grounded (before ++ i ∷ []) tracked.known → jump_fault tracked i.target ≡ fault
-      → AllByRecursion (IsContradiction items) (list_of (alarm_of i.address i.address fault))
+      → AllByRecursion (HasMeaning entry items) (list_of (alarm_of i.address i.address fault))
   of-jump before after tracked i None list grounded is = tt
   of-jump before after tracked i (Some (Differs base row code)) list grounded is = absurd (no-row tracked i.target base row code is)
-  of-jump before after tracked i (Some (Overwritten base row)) list grounded is = (tt, tt)
-  of-jump before after tracked i (Some (Returns code)) list grounded is = (tt, tt)
+  of-jump before after tracked i (Some (Overwritten base row)) list grounded is = absurd (no-overwritten-jump tracked i.target base row is)
+  of-jump before after tracked i (Some (Returns code)) list grounded is = absurd (no-return-jump tracked i.target code is)
   of-jump before after tracked i (Some (Jumps target base row code)) list grounded is =
       (jump-told before after tracked i i.address target base row code list grounded refl is, tt)
 
-  of-returned : (i : Item) (before : ℕ) (known : Option ℤ)
-      → AllByRecursion (IsContradiction items) (list_of (alarm_of i.address before (returned entry known)))
-  of-returned i before (Some code) =
+  -- a return where the row, or a run, tells another distance than the entry's
+  return-told : (before after : List Item) (known : Known) (i : Item) (code : ℤ) → items ≡ before ++ i ∷ after
+      → Grounded before known → known_of (agreed known i.claim) Sp ≡ Some code → i.effect.flow ≡ Return → int_eq code entry ≡ false
+      → ReturnContradicts entry items i.address
+  unfolding Grounded Tells
+  return-told before after known i code list grounded has returns other =
+      elim (agreed-from known i.claim Sp code has) [
+        | inl old ↦
+            (let knows = grounded Sp code old in
+            record {
+              early = knows.early;
+              between = knows.first ∷ knows.between;
+              here = i;
+              late = after;
+              list = list ∙ ap (λ (xs : List Item). xs ++ i ∷ after) knows.list;
+              first = knows.first;
+              rest = knows.between ++ i ∷ [];
+              begins = refl;
+              at = refl;
+              returns = returns;
+              never = λ cfa s t run one two.
+                  let by_run = knows.tells cfa s t run one in
+                  unequal code entry other (omega (arith, ints, by_run, two));
+            })
+        | inr own ↦
+            record {
+              early = before;
+              between = [];
+              here = i;
+              late = after;
+              list = list ∙ ap (λ (xs : List Item). xs ++ i ∷ after) (sym (append-nil before));
+              first = i;
+              rest = [];
+              begins = refl;
+              at = refl;
+              returns = returns;
+              never = λ cfa s t run one two.
+                  let by_row = subst (λ (v : State). cfa ≡ v.sp +ℤ code) run (subst (λ (c : Claim). Says c cfa s) own one) in
+                  unequal code entry other (omega (arith, ints, by_row, two));
+            }
+      ]
+
+  of-returned : (before after : List Item) (known : Known) (i : Item) (last : ℕ) (sp : Option ℤ) → items ≡ before ++ i ∷ after
+      → Grounded before known → known_of (agreed known i.claim) Sp ≡ sp → i.effect.flow ≡ Return
+      → AllByRecursion (HasMeaning entry items) (list_of (alarm_of i.address last (returned entry sp)))
+  of-returned before after known i last (Some code) list grounded has returns =
       elim (cases_Bool (int_eq code entry)) [
         | inl same ↦ rw same tt
-        | inr other ↦ rw other (tt, tt)
+        | inr other ↦ rw other (return-told before after known i code list grounded has returns other, tt)
       ]
-  of-returned i before None = tt
+  of-returned before after known i last None list grounded has returns = tt
 
-  of-return : (i : Item) (before : ℕ) (known : Known) (flow : Flow)
-      → AllByRecursion (IsContradiction items) (list_of (alarm_of i.address before (fault_of_return entry known flow)))
-  of-return i before known Return = of-returned i before known.sp
-  of-return i before known Next = tt
-  of-return i before known Padding = tt
-  of-return i before known Call = tt
-  of-return i before known (Branch distance) = tt
-  of-return i before known (Jump distance) = tt
-  of-return i before known Leaves = tt
+  of-return : (before after : List Item) (known : Known) (i : Item) (last : ℕ) (flow : Flow) → items ≡ before ++ i ∷ after
+      → Grounded before known → i.effect.flow ≡ flow
+      → AllByRecursion (HasMeaning entry items) (list_of (alarm_of i.address last (fault_of_return entry (agreed known i.claim) flow)))
+  of-return before after known i last Return list grounded is =
+      of-returned before after known i last (agreed known i.claim).sp list grounded refl is
+  of-return before after known i last Next list grounded is = tt
+  of-return before after known i last Padding list grounded is = tt
+  of-return before after known i last Call list grounded is = tt
+  of-return before after known i last (Branch distance) list grounded is = tt
+  of-return before after known i last (Jump distance) list grounded is = tt
+  of-return before after known i last Leaves list grounded is = tt
 
-  both : (xs ys : List Alarm) → AllByRecursion (IsContradiction items) xs → AllByRecursion (IsContradiction items) ys
-      → AllByRecursion (IsContradiction items) (xs ++ ys)
+  both : (xs ys : List Alarm) → AllByRecursion (HasMeaning entry items) xs → AllByRecursion (HasMeaning entry items) ys
+      → AllByRecursion (HasMeaning entry items) (xs ++ ys)
   both [] ys one other = other
   both (x ∷ xs) ys one other = (one.0, both xs ys one.1 other)
 
   at-item : (before after : List Item) (pass : Pass) (i : Item) → items ≡ before ++ i ∷ after → GroundedAt before pass.tracked
-      → AllByRecursion (IsContradiction items) (alarms_at entry pass i)
+      → Preceded before pass.tracked → AllByRecursion (HasMeaning entry items) (alarms_at entry pass i)
   unfolding alarms_at GroundedAt
-  at-item before after pass i list grounded =
+  at-item before after pass i list grounded preceded =
       elim (cases_Bool (is_passed pass.tracked i.effect)) [
         | inl passed ↦ rw passed tt
         | inr looked ↦
@@ -393,9 +611,9 @@ module _ (entry : ℤ) (items : List Item) where
             (both (list_of (row_alarm pass i)) (list_of (return_alarm entry pass i))
             (elim (cases_Bool (goes_on (difference (fault_at pass.tracked i.claim)) pass.differed)) [
               | inl same ↦ rw same tt
-              | inr new ↦ rw new (of-row before after pass i (fault_at pass.tracked i.claim) list grounded refl)
+              | inr new ↦ rw new (of-row before after pass i (fault_at pass.tracked i.claim) list grounded preceded refl)
             ])
-            (of-return i pass.before (agreed (arriving pass.tracked i.claim) i.claim) i.effect.flow))
+            (of-return before after (arriving pass.tracked i.claim) i pass.before i.effect.flow list (grounded i.claim) refl))
             (of-jump before after (step_of pass i) i (jump_fault (step_of pass i) i.target) list
             (grounded-after before i (arriving pass.tracked i.claim) (grounded i.claim)) refl))
       ]
@@ -404,19 +622,23 @@ module _ (entry : ℤ) (items : List Item) where
   passed-elsewhere tracked e is = (and_parts (is_elsewhere tracked.came) (is_padding e.flow) is).0
 
   all-from : (after before : List Item) (pass : Pass) → items ≡ before ++ after → GroundedAt before pass.tracked
-      → AllByRecursion (IsContradiction items) (alarms_from entry pass after)
+      → Preceded before pass.tracked → AllByRecursion (HasMeaning entry items) (alarms_from entry pass after)
   unfolding pass_after
-  all-from [] before pass list grounded = tt
-  all-from (i ∷ after) before pass list grounded =
-      both (alarms_at entry pass i) (alarms_from entry (pass_after pass i) after) (at-item before after pass i list grounded)
+  all-from [] before pass list grounded preceded = tt
+  all-from (i ∷ after) before pass list grounded preceded =
+      both (alarms_at entry pass i) (alarms_from entry (pass_after pass i) after) (at-item before after pass i list grounded preceded)
       (all-from after (before ++ i ∷ []) (pass_after pass i) (list ∙ sym (append_assoc before (i ∷ []) after))
       (elim (cases_Bool (is_passed pass.tracked i.effect)) [
         | inl passed ↦ rw passed (grounded-elsewhere (before ++ i ∷ []) pass.tracked (passed-elsewhere pass.tracked i.effect passed))
         | inr looked ↦ rw looked (grounded-step before i pass.tracked grounded)
+      ])
+      (elim (cases_Bool (is_passed pass.tracked i.effect)) [
+        | inl passed ↦ rw passed (preceded-elsewhere (before ++ i ∷ []) pass.tracked (passed-elsewhere pass.tracked i.effect passed))
+        | inr looked ↦ rw looked (preceded-step before i pass.tracked)
       ]))
 
-  pub all-contradict : (start : ℕ) → AllByRecursion (IsContradiction items) (alarms_from entry (first_pass start) items)
-  all-contradict start = all-from items [] (first_pass start) refl (grounded-elsewhere [] beginning refl)
+  pub all-contradict : (start : ℕ) → AllByRecursion (HasMeaning entry items) (alarms_from entry (first_pass start) items)
+  all-contradict start = all-from items [] (first_pass start) refl (grounded-elsewhere [] beginning refl) (preceded-elsewhere [] beginning refl)
 
 -- ---- rows that are told nothing of
 
@@ -445,7 +667,7 @@ agrees-by base row code stale none =
       | inr other ↦ (let e = rw other at none in cc)
     ]
 
-agrees : (tracked : Tracked) (claim : Claim) (base : Base) (row code : ℤ) → claim ≡ Above base row
+pub agrees : (tracked : Tracked) (claim : Claim) (base : Base) (row code : ℤ) → claim ≡ Above base row
     → known_of (arriving tracked claim) base ≡ Some code → fault_at tracked claim ≡ None → code ≡ row
 agrees tracked claim base row code is known none =
     let none2 = subst (λ (c : Claim). fault_at tracked c ≡ None) is none in

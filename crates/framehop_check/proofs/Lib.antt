@@ -2,3 +2,5 @@
 pub mod RowLemmas
 pub mod CheckLemmas
 pub mod ContradictionLemmas
+pub mod QuietLemmas
+pub mod CountLemmas

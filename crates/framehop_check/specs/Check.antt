@@ -180,3 +180,11 @@ items_of_fde instruction numbered return_column limits section fde code =
     if nat_lt (fde.initial_address + fde.address_range) (2 ^ 64)
     then items_of instruction (claim_of_address numbered return_column limits section fde) fde.initial_address code
     else []
+
+-- whether all of an FDE's rows and code can be read
+unfoldable pub all_of_fde : (List ℕ → ℕ → Option Effect) → (ℕ → Option Base) → ℕ → Option StorageLimits → Section
+    → FrameDescriptionEntry → List ℕ → Bool
+all_of_fde instruction numbered return_column limits section fde code =
+    if nat_lt (fde.initial_address + fde.address_range) (2 ^ 64)
+    then all_of instruction (claim_of_address numbered return_column limits section fde) fde.initial_address code
+    else false

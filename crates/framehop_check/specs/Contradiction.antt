@@ -1,7 +1,12 @@
--- What an alarm means: rows and instructions contradict each other.
+-- What an alarm means: rows and instructions contradict each other, or a row counts from a register that was overwritten.
 use Rattle.std.specs.Prelude.{◌≡◌, ℕ, ℤ, List, [], ◌∷◌, ◌++◌, Some, None}
 use Rattle.framehop_code.specs.Effect.{State, Does}
 use Rattle.framehop_code.specs.declared.effect.Base.{Base}
+use Rattle.framehop_code.specs.declared.effect.Base.TheVariants.{Sp, Fp}
+use Rattle.framehop_code.specs.declared.effect.Change.{Change}
+use Rattle.framehop_code.specs.declared.effect.Change.TheVariants.{Unknown}
+use Rattle.framehop_code.specs.declared.effect.Effect.{Effect}
+use Rattle.framehop_code.specs.declared.effect.Flow.TheVariants.{Return}
 use Rattle.framehop_check.specs.declared.claim.Claim.{Claim}
 use Rattle.framehop_check.specs.declared.claim.Claim.TheVariants.{Above}
 use Rattle.framehop_check.specs.declared.check.Item.{Item}
@@ -51,15 +56,49 @@ pub record JumpContradicts (items : List Item) (address target : ℕ) (base : Ba
   pub says : here.target ≡ Some (target, Above base row)
   pub never : NeverBoth first between (Above base row)
 
--- of a row that differs and of a jump; the other alarms are none of this kind
-abbrev pub Contradicts : List Item → ℕ → Fault → Type 0
-Contradicts items address (Differs base row code) = RowContradicts items address base row
-Contradicts items address (Jumps target base row code) = JumpContradicts items address target base row
-Contradicts items address (Overwritten base row) = Unit {0}
-Contradicts items address (Returns code) = Unit {0}
+-- A function returns where its CFA is not the entry's: no CFA is where the row of the return, or of an instruction before
+-- it, says it is, and after a run up to the return so many bytes above the stack pointer as at the entry.
+pub record ReturnContradicts (entry : ℤ) (items : List Item) (address : ℕ) : Type 0 where
+  pub early : List Item
+  pub between : List Item
+  pub here : Item
+  pub late : List Item
+  pub list : items ≡ (early ++ between) ++ here ∷ late
+  pub first : Item
+  pub rest : List Item
+  pub begins : between ++ here ∷ [] ≡ first ∷ rest
+  pub at : here.address ≡ address
+  pub returns : here.effect.flow ≡ Return
+  pub never : (cfa : ℤ) (s t : State) → RunsThrough between s t → Says first.claim cfa s → Says (Above Sp entry) cfa t → ⊥
 
-abbrev pub IsContradiction : List Item → Alarm → Type 0
-IsContradiction items alarm = Contradicts items alarm.address alarm.fault
+-- the change of a register
+abbrev pub change_of : Effect → Base → Change
+change_of e Sp = e.sp
+change_of e Fp = e.fp
+
+-- The row of an instruction says what the row of the one before it says, although that one gives the register a value that
+-- is not told: whatever the CFA and the registers are before it, it can lead to registers of which the row is not true.
+pub record RowIsOverwritten (items : List Item) (address : ℕ) (base : Base) (row : ℤ) : Type 0 where
+  pub early : List Item
+  pub last : Item
+  pub here : Item
+  pub late : List Item
+  pub list : items ≡ early ++ last ∷ here ∷ late
+  pub at : here.address ≡ address
+  pub said : last.claim ≡ Above base row
+  pub says : here.claim ≡ Above base row
+  pub untold : change_of last.effect base ≡ Unknown
+  pub may : (cfa : ℤ) (s : State) → (t : State) × Does last.effect s t × (Says here.claim cfa t → ⊥)
+
+-- each kind of alarm
+abbrev pub Means : ℤ → List Item → ℕ → Fault → Type 0
+Means entry items address (Differs base row code) = RowContradicts items address base row
+Means entry items address (Jumps target base row code) = JumpContradicts items address target base row
+Means entry items address (Returns code) = ReturnContradicts entry items address
+Means entry items address (Overwritten base row) = RowIsOverwritten items address base row
+
+abbrev pub HasMeaning : ℤ → List Item → Alarm → Type 0
+HasMeaning entry items alarm = Means entry items alarm.address alarm.fault
 
 -- ---- rows that are told nothing of
 

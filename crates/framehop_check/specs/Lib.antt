@@ -6,3 +6,5 @@ pub mod Tracked
 pub mod Report
 pub mod Check
 pub mod Contradiction
+pub mod Quiet
+pub mod Counts

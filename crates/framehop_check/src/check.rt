@@ -1,11 +1,13 @@
 //! The check of a function: its rows against its code, from instruction to instruction.
-ghost use Rattle.std.specs.Prelude.{◌≡◌, ◌<◌, ◌≤◌, ◌+◌, ◌++◌, ℤ, pos, ◌+ℤ◌, length, IfSome, IfOk, OnOk};
+ghost use Rattle.std.specs.Prelude.{◌≡◌, ◌<◌, ◌≤◌, ◌+◌, ◌++◌, ℤ, pos, ◌+ℤ◌, [], ◌∷◌, length, IfSome, IfOk, OnOk};
 ghost use Rattle.std.specs.List.{AllByRecursion};
-ghost use Rattle.framehop_check.specs.Contradiction.{IsContradiction, RowsFollow};
+ghost use Rattle.framehop_check.specs.Contradiction.{HasMeaning, RowsFollow};
+ghost use Rattle.framehop_check.specs.Quiet.{IsQuiet};
+ghost use Rattle.framehop_check.specs.Counts.{plus, one_if, is_checked, is_believed, is_jump, is_changed, counted, with_function};
 ghost use Rattle.std.specs.List.Sorted.{IsNonDecreasingBy};
 ghost use Rattle.framehop_core.specs.AddSigned.{fitting};
 ghost use Rattle.framehop_check.specs.Rows.{claim_at, end_of};
-ghost use Rattle.framehop_check.specs.Check.{inside, target_of, target_with, says_otherwise, item_at, items_of, all_of, items_of_fde, first_pass, difference, goes_on, alarm_of, row_alarm, return_alarm, jump_alarm, alarms_at, notes_at, pass_after, alarms_from, notes_from};
+ghost use Rattle.framehop_check.specs.Check.{inside, target_of, target_with, says_otherwise, item_at, items_of, all_of, items_of_fde, first_pass, difference, goes_on, alarm_of, row_alarm, return_alarm, jump_alarm, alarms_at, notes_at, pass_after, alarms_from, notes_from, all_of_fde};
 
 use crate::claim::Claim;
 use crate::known::{agreed, known_of};
@@ -204,7 +206,16 @@ fn jump_alarm(tracked: Tracked, item: Item) -> Option<Alarm>
 }
 
 /// Returns the counts with an instruction added.
-fn counted(counts: Counts, tracked: Tracked, item: Item) -> Counts {
+fn counted(counts: Counts, tracked: Tracked, item: Item) -> Counts
+    ensures functions { result.functions ≡ counts.functions }
+    ensures unread { result.unread ≡ counts.unread }
+    ensures alarmed { result.alarmed ≡ counts.alarmed }
+    ensures instructions { result.instructions ≡ plus counts.instructions 1 }
+    ensures checked { result.checked ≡ plus counts.checked (one_if (is_checked tracked item)) }
+    ensures believed { result.believed ≡ plus counts.believed (one_if (is_believed tracked item)) }
+    ensures jumps { result.jumps ≡ plus counts.jumps (one_if (is_jump tracked item)) }
+    ensures calls { result.calls ≡ plus counts.calls (one_if (is_changed tracked item)) }
+{
     let mut counts = counts;
     counts.instructions = counts.instructions.saturating_add(1);
     if item.target.is_some() {
@@ -228,6 +239,7 @@ fn check_item<C: Code>(pass: Pass, item: Item, report: &mut Report) -> Result<Pa
     ensures pass { IfOk result (λ after. after ≡ pass_after pass item) }
     ensures alarms { OnOk result (report.new.alarms.items ≡ report.old.alarms.items ++ alarms_at C.entry pass item) }
     ensures notes { OnOk result (report.new.notes.items ≡ report.old.notes.items ++ notes_at pass item) }
+    ensures counts { OnOk result (report.new.counts ≡ counted report.old.counts pass (item ∷ [])) }
 {
     if is_passed(pass.tracked, item.effect) {
         return Ok(pass);
@@ -260,6 +272,8 @@ fn check_code<C: Code>(
         ++ alarms_from C.entry (first_pass start) (items_of C.instruction (claim_at spans.now) start code.now)) }
     ensures notes { OnOk result (report.new.notes.items ≡ report.old.notes.items
         ++ notes_from (first_pass start) (items_of C.instruction (claim_at spans.now) start code.now)) }
+    ensures counts { OnOk result (report.new.counts ≡ counted report.old.counts (first_pass start)
+        (items_of C.instruction (claim_at spans.now) start code.now)) }
     ensures all { IfOk result (λ all. all ≡ all_of C.instruction (claim_at spans.now) start code.now) }
 {
     let mut pass = first_pass(start);
@@ -302,10 +316,18 @@ impl<S: UnwindContextStorage> Checker<S> {
         ensures notes { OnOk result (report.new.notes.items ≡ report.old.notes.items
             ++ notes_from (first_pass fde.now.initial_address)
             (items_of_fde C.instruction C.numbered C.return_column S.limits section.now fde.now code.now)) }
-        ensures quiet { RowsFollow (first_pass fde.now.initial_address)
+        ensures counts { OnOk result (report.new.counts ≡ with_function report.old.counts
+            (all_of_fde C.instruction C.numbered C.return_column S.limits section.now fde.now code.now)
+            (first_pass fde.now.initial_address)
+            (items_of_fde C.instruction C.numbered C.return_column S.limits section.now fde.now code.now)
+            (alarms_from C.entry (first_pass fde.now.initial_address)
+            (items_of_fde C.instruction C.numbered C.return_column S.limits section.now fde.now code.now))) }
+        ensures follows { RowsFollow (first_pass fde.now.initial_address)
+            (items_of_fde C.instruction C.numbered C.return_column S.limits section.now fde.now code.now) }
+        ensures quiet { IsQuiet C.entry (first_pass fde.now.initial_address)
             (items_of_fde C.instruction C.numbered C.return_column S.limits section.now fde.now code.now) }
         ensures contradiction { AllByRecursion
-            (IsContradiction (items_of_fde C.instruction C.numbered C.return_column S.limits section.now fde.now code.now))
+            (HasMeaning C.entry (items_of_fde C.instruction C.numbered C.return_column S.limits section.now fde.now code.now))
             (alarms_from C.entry (first_pass fde.now.initial_address)
             (items_of_fde C.instruction C.numbered C.return_column S.limits section.now fde.now code.now)) }
     {
@@ -322,7 +344,7 @@ impl<S: UnwindContextStorage> Checker<S> {
 
     /// Checks the rows of an FDE against its code, and returns whether all of them and all of it were read. An FDE that ends
     /// above the last address of 64 bits is not.
-    #[tactic(auto, unfolding(crate::specs::Check::items_of_fde))]
+    #[tactic(auto, unfolding(crate::specs::Check::items_of_fde, crate::specs::Check::all_of_fde))]
     fn check_rows<C: Code>(
         &mut self,
         section: &UnwindSection,
@@ -336,6 +358,10 @@ impl<S: UnwindContextStorage> Checker<S> {
         ensures notes { OnOk result (report.new.notes.items ≡ report.old.notes.items
             ++ notes_from (first_pass fde.now.initial_address)
             (items_of_fde C.instruction C.numbered C.return_column S.limits section.now fde.now code.now)) }
+        ensures counts { OnOk result (report.new.counts ≡ counted report.old.counts (first_pass fde.now.initial_address)
+            (items_of_fde C.instruction C.numbered C.return_column S.limits section.now fde.now code.now)) }
+        ensures all { IfOk result (λ all. all
+            ≡ all_of_fde C.instruction C.numbered C.return_column S.limits section.now fde.now code.now) }
     {
         let Some(end) = fde.initial_address.checked_add(fde.address_range) else {
             return Ok(false);

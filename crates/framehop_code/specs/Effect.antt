@@ -1,10 +1,11 @@
 -- What an instruction does to the stack pointer and the frame pointer.
-use Rattle.std.specs.Prelude.{◌≡◌, ℕ, ℤ, pos, ◌+ℤ◌, Option, Some, None}
+use Rattle.std.specs.Prelude.{◌≡◌, ℕ, ℤ, pos, ◌+ℤ◌, Bool, true, false, Option, Some, None}
 use Rattle.framehop_code.specs.declared.effect.Base.{Base}
 use Rattle.framehop_code.specs.declared.effect.Base.TheVariants.{Sp, Fp}
 use Rattle.framehop_code.specs.declared.effect.Change.{Change}
 use Rattle.framehop_code.specs.declared.effect.Change.TheVariants.{Sum, Unknown}
-use Rattle.framehop_code.specs.declared.effect.Flow.TheVariants.{Next}
+use Rattle.framehop_code.specs.declared.effect.Flow.{Flow}
+use Rattle.framehop_code.specs.declared.effect.Flow.TheVariants.{Next, Padding, Call, Branch, Jump, Return, Leaves}
 use Rattle.framehop_code.specs.declared.effect.Effect.{Effect}
 
 -- a register keeps its value
@@ -20,6 +21,16 @@ abbrev pub with_register : Effect → Option Base → Change → Effect
 with_register effect (Some Sp) change = record effect { sp = change }
 with_register effect (Some Fp) change = record effect { fp = change }
 with_register effect None change = effect
+
+-- it does not lead to the next instruction
+abbrev pub is_away : Flow → Bool
+is_away (Jump distance) = true
+is_away Return = true
+is_away Leaves = true
+is_away Next = false
+is_away Padding = false
+is_away Call = false
+is_away (Branch distance) = false
 
 -- ---- what an effect means. Registers are whole numbers here: no sum wraps.
 

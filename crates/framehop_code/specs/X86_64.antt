@@ -2,3 +2,4 @@
 pub mod Opcodes
 pub mod Operation
 pub mod Instruction
+pub mod Machine

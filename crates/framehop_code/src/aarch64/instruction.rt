@@ -2,6 +2,7 @@
 //! for A-profile, "A64 base instruction descriptions").
 ghost use Rattle.std.specs.Prelude.{◌≡◌, pos, negsuc, ◌≤ℤ◌, ◌+◌, ◌<◌, ◌≤◌, length, IfSome};
 ghost use Rattle.framehop_core.specs.Bits.{bits_at};
+ghost use Rattle.framehop_code.specs.Aarch64.Machine.{AreAsMachine};
 ghost use Rattle.framehop_code.specs.Aarch64.Instruction.{signed, numbered, setting, writing, moving, added, pair_offset, imm9, moving_by_pair, writing_pair, distance, leading, register_flow, exclusive, compare_pair, memory_copy, written_back, effect_of_class, effect_of, instruction_at};
 
 use super::encoding::{Class, class_of};
@@ -259,6 +260,7 @@ pub fn effect_of(word: u32) -> Effect
 #[tactic(auto, unfolding(crate::specs::Aarch64::Instruction::instruction_at, framehop_cfi::specs::Numbers::u32_at))]
 pub fn read_instruction(code: &[u8], at: usize) -> Option<Effect>
     ensures exact { result ≡ instruction_at code.now at }
+    ensures machine { AreAsMachine code.now at result }
     ensures sized { IfSome result (λ effect. (0 < effect.size) × (at + effect.size ≤ length code.now)) }
 {
     match read_u32(code, at) {

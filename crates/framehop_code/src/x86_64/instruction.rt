@@ -4,6 +4,7 @@
 //! An instruction has at most 15 bytes. Those after them are not looked at, so that a longer one ends too early.
 ghost use Rattle.std.specs.Prelude.{◌≡◌, ◌+◌, ◌<◌, ◌≤◌, ◌%◌, ◌/◌, ◌==◌, not, take, drop, length, position, IfSome, IfNone, IfOk};
 ghost use Rattle.framehop_code.specs.X86_64.Instruction.{bit, is_legacy_prefix, rex_of, prefixes_of, prefixes_before, prefixes_at, opcode_of_row, vector_prefixes, vector_opcode_at, long_vector_at, short_vector_at, evex_at, is_xop, escaped_at, opcode_at, has_sib, displacement_size, immediate_size, signed_at, skipped, sib_at, memory_at, address_at, immediate_at, parts_at, instruction_at};
+ghost use Rattle.framehop_code.specs.X86_64.Machine.{IsAsMachine};
 ghost use Rattle.std.specs.List.{list_any};
 ghost use Rattle.framehop_cfi.specs.Numbers.{u8_at};
 
@@ -502,6 +503,7 @@ fn longest_at(code: &[u8], at: usize) -> Option<&[u8]>
 #[tactic(auto, unfolding(crate::specs::X86_64::Instruction::instruction_at))]
 pub fn read_instruction(code: &[u8], at: usize) -> Option<Effect>
     ensures exact { result ≡ instruction_at code.now at }
+    ensures machine { IsAsMachine code.now at result }
     ensures sized { IfSome result (λ effect. (0 < effect.size) × (at + effect.size ≤ length code.now)) }
 {
     match read_parts(longest_at(code, at)?) {
