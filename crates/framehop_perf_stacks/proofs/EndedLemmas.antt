@@ -39,7 +39,7 @@ ends_more writes writes' refusal refusal' drawn drawn' samples samples' (Recordi
 -- ---- counts
 
 -- a count is at most their sum
-within_total : (folded : Folded) (line : List ℕ) → count_in folded line ≤ total_of folded
+pub within_total : (folded : Folded) (line : List ℕ) → count_in folded line ≤ total_of folded
 within_total folded line = lookup-le-sum (is_at (λ key. slice_cmp nat_cmp line key.items)) folded.counts.entries
 
 pub cannot_write : (refusal : Option RecordingError) (drawn samples : ℕ) (error : StacksError) → error ≡ CannotWrite
@@ -63,12 +63,12 @@ module _ (writes frames : Bool) (counts : Counts) (samples : ℕ) (counted : Are
   sample_ends (inr (is, inr (inl large))) = too_many writes (samples + 1) error is (omega (arith, large, counted.samples))
   sample_ends (inr (is, inr (inr large))) = too_many writes (samples + 1) error is (omega (arith, large, counted.unsure))
 
-  pub stack_ends : frames ≡ false → (error ≡ OutOfMemory) ⊎ ((error ≡ TooManySamples) × (2 ^ 64 ≤ count_in counts.stacks line + 1))
-      → MayEnd writes None 0 (samples + 1) error
-  stack_ends folded (inl is) = out_of_memory writes None 0 (samples + 1) error is
-  stack_ends folded (inr (is, large)) =
-      let total : total_of counts.stacks ≡ samples = counted.stacks ∙ ap (λ b. cond b 0 samples) folded in
-      too_many writes (samples + 1) error is (omega (arith, large, within_total counts.stacks line, total))
+pub stack_ends : (writes : Bool) (counts : Counts) (line : List ℕ) (error : StacksError)
+    → (error ≡ OutOfMemory) ⊎ ((error ≡ TooManySamples) × (2 ^ 64 ≤ count_in counts.stacks line + 1))
+    → MayEnd writes None 0 (total_of counts.stacks + 1) error
+stack_ends writes counts line error (inl is) = out_of_memory writes None 0 (total_of counts.stacks + 1) error is
+stack_ends writes counts line error (inr (is, large)) =
+    too_many writes (total_of counts.stacks + 1) error is (omega (arith, large, within_total counts.stacks line))
 
 -- ---- records
 
