@@ -23,7 +23,14 @@ pub fn note_stack<U: Steps, M: Words>(
 {
     notes.push(Note::new(alloc))?;
     if let Some(stack) = walked {
-        note_frames(alloc, unwinder, words, stack.frames.as_slice(), stack.end, notes)?;
+        note_frames(
+            alloc,
+            unwinder,
+            words,
+            stack.frames.as_slice(),
+            stack.end,
+            notes,
+        )?;
     }
     notes.push(end_note(alloc, walked)?)?;
     notes.push(Note::new(alloc))?;

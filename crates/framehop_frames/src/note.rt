@@ -119,7 +119,7 @@ fn taken_outside_text<R: DescribeRule>(
 
 /// Returns what a walk took for the caller of a frame in a module, by what the module has for the frame.
 fn taken_by(data: Data, caller: Result<FoundBy, BacktraceEnd>) -> Taken
-    ensures { result ≡ taken_by data caller }
+    ensures { result ≡ taken_by «data» caller }
 {
     match data {
         Data::Row | Data::Info => Taken::Step,
@@ -162,8 +162,8 @@ fn is_by_frame_pointer(caller: Result<FoundBy, BacktraceEnd>) -> bool
     ensures { result ≡ is_by_frame_pointer caller }
 {
     match caller {
-        Ok(FoundBy::FramePointer)
-        | Err(BacktraceEnd::FramePointerZero | BacktraceEnd::NoCaller) => true,
+        Ok(FoundBy::FramePointer) | Err(BacktraceEnd::FramePointerZero | BacktraceEnd::NoCaller) =>
+            true,
         _ => false,
     }
 }

@@ -29,7 +29,7 @@ info_list_in offset list =
     if nat_lt (length list) MEMORY_INFO_LIST_SIZE then Err (ShortStream offset)
     else if has_other_sizes list then Ok []
     else if length list == MEMORY_INFO_LIST_SIZE + MEMORY_INFO_SIZE * le8 list 8 then
-      Ok (entries_in MEMORY_INFO_SIZE (drop MEMORY_INFO_LIST_SIZE list))
+    Ok (entries_in MEMORY_INFO_SIZE (drop MEMORY_INFO_LIST_SIZE list))
     else Err (BadListSize offset)
 
 -- those of the first stream of the type, if there is one

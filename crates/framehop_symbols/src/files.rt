@@ -120,8 +120,8 @@ fn read_object<S: FileSource>(
 ) -> Result<ObjectFile, FileProblem>
     ensures kept { IfOk result (λ object. (bytes : List ℕ)
         × (IsNamed (S.source source.now) name.now build_id.now bytes
-          ⊎ (((problem : FileProblem) × IsRefused (S.source source.now) name.now build_id.now problem)
-          × IsCopied (S.source source.now) build_id.now bytes))
+        ⊎ (((problem : FileProblem) × IsRefused (S.source source.now) name.now build_id.now problem)
+        × IsCopied (S.source source.now) build_id.now bytes))
         × IsKeptOf bytes [] object) }
     ensures refused { IfErr result (λ problem. IsOutOfMemory problem
         ⊎ (IsRefused (S.source source.now) name.now build_id.now problem × IsNotCopied (S.source source.now) build_id.now)) }
