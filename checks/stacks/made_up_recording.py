@@ -8,7 +8,7 @@ order of their times. The cases, whose output `checks/try_stacks.sh` has:
     cut         the same, of which the last record, that of lost records, is cut off
     short_comm  records without times, of which a PERF_RECORD_COMM after a sample ends before its fields do
     short_fork  a PERF_RECORD_FORK that ends before its fields do, in the order of times between two samples
-    lost        two records of lost records
+    lost        two records of lost records, and of two threads that begin
     files       a mapping of each of 1,100 files, and a sample in the last
     lines       70,000 samples, each with a stack of its own
 
@@ -120,8 +120,13 @@ def short_fork():
     return app() + [sample(100, 20, 0x10128, whole), short(PERF_RECORD_FORK, 100, 15), sample(100, 10, 0x10124, whole)]
 
 
+def thread(pid, tid, time):
+    return identified(PERF_RECORD_FORK, 0, struct.pack("<IIIIQ", pid, pid, tid, pid, time), pid, time)
+
+
 def lost_twice():
-    return app() + [lost(5, 100, 10), sample(100, 20, 0x10124, [(0, 0x10204)]), lost(7, 100, 30)]
+    threads = [thread(100, 101, 12), thread(100, 100, 13)]
+    return app() + threads + [lost(5, 100, 10), sample(100, 20, 0x10124, [(0, 0x10204)]), lost(7, 100, 30)]
 
 
 def files():

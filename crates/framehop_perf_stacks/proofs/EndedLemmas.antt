@@ -1,5 +1,5 @@
 -- Errors of steps, one after another.
-use Rattle.std.proofs.Common.{◌≡◌, ◌≢◌, ◌⊎◌, inl, inr, ℕ, ◌+◌, ◌-◌, ◌^◌, ◌<◌, ◌≤◌, Bool, true, false, cond, List, [], ◌∷◌, ◌++◌, Option, Some, None, Result, Ok, Err, IfErr, refl, ap, sym, ◌∙◌, subst, true≢false, arith}
+use Rattle.std.proofs.Common.{◌≡◌, ◌≢◌, ◌⊎◌, inl, inr, ℕ, ◌+◌, ◌-◌, ◌^◌, ◌<◌, ◌≤◌, Bool, true, false, cond, List, [], ◌∷◌, ◌++◌, Option, Some, None, Result, Ok, Err, IfErr, IsErrAnd, refl, ap, sym, ◌∙◌, subst, true≢false, arith}
 use Rattle.std.specs.Prelude.{is_some}
 use Rattle.std.specs.BTreeMap.{is_at}
 use Rattle.std.specs.Cmp.Lexicographic.{slice_cmp}
@@ -102,6 +102,11 @@ if_err_weaker (Err e) P Q weaker told = weaker e told
 
 pub if_err_at : {T E : Type 0} (result : Result T E) (error : E) (P : E → Type 0) → result ≡ Err error → P error → IfErr result P
 if_err_at result error P is holds = subst (λ r. IfErr r P) (sym is) holds
+
+-- what holds of an error holds of the result that has it
+pub failed_as : {T E : Type 0} (result : Result T E) (error : E) (P : E → Type 0) → IsErrAnd result (λ back. back ≡ error) → P error → IfErr result P
+failed_as (Ok x) error P is holds = absurd is
+failed_as (Err e) error P is holds = subst P (sym is) holds
 
 pub if_err_none : {T E : Type 0} (result : Result T E) (value : T) (P : E → Type 0) → result ≡ Ok value → IfErr result P
 if_err_none result value P is = subst (λ r. IfErr r P) (sym is) tt

@@ -1,21 +1,22 @@
 -- States that agree lead to states that agree, and a sample has the same text at both.
-use Rattle.std.proofs.Common.{◌≡◌, ℕ, ◌+◌, Bool, true, false, cond, List, map, Option, Some, None, Result, Ok, Err, refl, ap, sym, ◌∙◌, subst, true≢false, arith}
-use Rattle.std.specs.Prelude.{◌==◌, ◌||◌, is_some}
+use Rattle.std.proofs.Common.{◌≡◌, ℕ, ◌<◌, ◌+◌, IfOk, Bool, true, false, cond, List, map, Option, Some, None, Result, Ok, Err, refl, ap, sym, ◌∙◌, subst, true≢false, arith}
+use Rattle.std.specs.Prelude.{◌==◌, ◌||◌, ⊤, nat_le, is_some, option_and_then}
+use Rattle.std.proofs.lemmas.Bool.Decides.{nat_tests}
 use Rattle.std.specs.Result.{result_err}
 use Rattle.std.proofs.lemmas.Grind.{common_steps}
 use Rattle.framehop_bytes.specs.Bytes.{◌>>=◌}
 use Rattle.framehop.specs.Modules.{ModuleView}
 use Rattle.framehop_processes.specs.Mappings.{with_mapping, changed_modules}
 use Rattle.framehop_processes.specs.declared.mapping.Mapping.{Mapping}
-use Rattle.framehop_recording.specs.Mapping.{mapping_at}
+use Rattle.framehop_recording.specs.Mapping.{MappingView, mapping_at}
 use Rattle.framehop_recording.specs.Numbers.{PERF_RECORD_MMAP, PERF_RECORD_MMAP2, PERF_RECORD_COMM, PERF_RECORD_FORK, PERF_RECORD_LOST}
 use Rattle.framehop_recording.specs.Records.{RecordView}
 use Rattle.framehop_recording.specs.Sample.{SampleView}
 use Rattle.framehop_recording.specs.Tasks.{CommandView, command_at, task_at, lost_at}
 use Rattle.framehop_recording.specs.declared.error.RecordingError.{RecordingError}
 use Rattle.framehop_recording.specs.declared.tasks.Task.{Task}
-use Rattle.framehop_perf_stacks.specs.Changes.{change_in, maps_file, execs_program, forks_process}
-use Rattle.framehop_perf_stacks.specs.Ended.{drawn_in, naming_refusal, refusal_in}
+use Rattle.framehop_perf_stacks.specs.Changes.{change_in, is_of_code, end_of_mapping, base_in, mapping_based, maps_numbered, maps_file, execs_program, forks_process}
+use Rattle.framehop_perf_stacks.specs.Ended.{drawn_in, naming_refusal, refusal_in, IsWithoutAddress}
 use Rattle.framehop_frames.specs.Line.{head_of}
 use Rattle.framehop_perf_stacks.specs.Names.{Named, named_by, named_as_parent, named_after}
 use Rattle.framehop_perf_stacks.specs.Processes.{Mapped, after}
@@ -23,6 +24,7 @@ use Rattle.framehop_perf_stacks.specs.Samples.{State, mapped_by, IsUserStack, Is
 use Rattle.framehop_frames.specs.Stack.{stack_text}
 use Rattle.framehop_perf_stacks.specs.declared.changes.Change.{Change}
 use Rattle.framehop_perf_stacks.specs.declared.changes.Change.TheVariants.{Map, Begin, Fork}
+use Rattle.framehop_symbols.specs.Files.{number_in, object_in}
 use Rattle.framehop_symbols.specs.declared.files.Files.{Files}
 use Rattle.framehop_frames.specs.Walker.{Walker}
 use Rattle.framehop_frames.specs.declared.machine.Start.{Start}
@@ -185,3 +187,61 @@ module _ (r : RecordView) where
   pub naming-refused : (refusal : RecordingError) → (r.kind == PERF_RECORD_LOST) ≡ false → naming_refusal r ≡ Some refusal
       → refusal_in r ≡ Some refusal
   naming-refused refusal lost is = naming-by refusal lost is ((r.kind == PERF_RECORD_MMAP) || (r.kind == PERF_RECORD_MMAP2)) refl
+
+-- ---- mappings that have an address
+
+abbrev pub IsAddressed : Option Change → Type 0
+IsAddressed None = ⊤
+IsAddressed (Some (Map pid mapping)) = mapping.start < mapping.end
+IsAddressed (Some (Begin pid)) = ⊤
+IsAddressed (Some (Fork pid parent)) = ⊤
+
+based : (m : MappingView) (file : ℕ) (base : Option ℕ) → m.start < end_of_mapping m → (mapping_based m file base).start < (mapping_based m file base).end
+based m file (Some base) above = above
+based m file None above = above
+
+numbered-by : (files : Files) (m : MappingView) (file : ℕ) (b : Bool) → nat_le (end_of_mapping m) m.start ≡ b
+    → IsAddressed (cond b None (Some (Map m.pid (mapping_based m file (base_in (object_in files file) m)))))
+numbered-by files m file true is = tt
+numbered-by files m file false is =
+    let above : m.start < end_of_mapping m = grind (arith, nat_tests) in
+    based m file (base_in (object_in files file) m) above
+
+found-addressed : (files : Files) (m : MappingView) (found : Option ℕ) → IsAddressed (option_and_then (maps_numbered files m) found)
+found-addressed files m None = tt
+found-addressed files m (Some file) = numbered-by files m file (nat_le (end_of_mapping m) m.start) refl
+
+maps-by : (files : Files) (m : MappingView) (b : Bool) → IsAddressed (cond b (option_and_then (maps_numbered files m) (number_in files m.name)) None)
+maps-by files m true = found-addressed files m (number_in files m.name)
+maps-by files m false = tt
+
+begins-by : (pid : ℕ) (b : Bool) → IsAddressed (cond b (Some (Begin pid)) None)
+begins-by pid true = tt
+begins-by pid false = tt
+
+forks-by : (task : Task) (same made_up : Bool) → IsAddressed (cond same None (cond made_up (Some (Begin task.pid)) (Some (Fork task.pid task.parent_pid))))
+forks-by task true made_up = tt
+forks-by task false true = tt
+forks-by task false false = tt
+
+change-by : (files : Files) (maps command task : Bool) (m : Result MappingView RecordingError) (c : Result CommandView RecordingError) (t : Result Task RecordingError)
+    → IfOk (cond maps (m >>= (λ a. Ok (maps_file files a))) (cond command (c >>= (λ a. Ok (execs_program a))) (cond task (t >>= (λ a. Ok (forks_process a))) (Ok None)))) IsAddressed
+change-by files true command task (Ok m) c t = maps-by files m (is_of_code m)
+change-by files true command task (Err refusal) c t = tt
+change-by files false true task m (Ok c) t = begins-by c.pid c.is_exec
+change-by files false true task m (Err refusal) t = tt
+change-by files false false true m c (Ok t) = forks-by t (t.pid == t.parent_pid) t.is_made_up
+change-by files false false true m c (Err refusal) = tt
+change-by files false false false m c t = tt
+
+-- what a record maps has an address
+pub change-addressed : (files : Files) (r : RecordView) → IfOk (change_in files r) IsAddressed
+unfolding change_in
+change-addressed files r =
+    change-by files ((r.kind == PERF_RECORD_MMAP) || (r.kind == PERF_RECORD_MMAP2)) (r.kind == PERF_RECORD_COMM) (r.kind == PERF_RECORD_FORK)
+    (mapping_at r) (command_at r) (task_at r)
+
+pub not-empty : (change : Change) → IsAddressed (Some change) → IsWithoutAddress change → ⊥
+not-empty (Map pid mapping) addressed without = omega (arith, addressed, without)
+not-empty (Begin pid) addressed without = without
+not-empty (Fork pid parent) addressed without = without

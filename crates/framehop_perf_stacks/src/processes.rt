@@ -29,6 +29,7 @@ impl<U: ProcessUnwinder> Processes<U> {
     pub fn new(alloc: Global) -> Self
         ensures empty { (pid : ℕ) → get nat_cmp result.by_pid pid ≡ None }
         ensures none { (pid : ℕ) → mapped_in result.by_pid pid ≡ [] }
+        ensures undrawn { result.generations ≡ 0 }
     {
         Processes {
             by_pid: BTreeMap::new(alloc),

@@ -42,7 +42,7 @@ returns-clause-ended g c = elim c.match-and.branch [
       let EndsHere = MayEndAt c.args.recording.now c.args.files.now in
       if_err_at c.match-and.ended _ EndsHere w.ended-is
       (either_error c.write_counts-counted.result c.take_records-taken.result _ EndsHere (sym c.and.ensures ∙ w.in-Err.is)
-      (if_err_weaker c.write_counts-counted.result _ EndsHere (λ error is. cannot_write _ _ _ error is) c.write_counts-counted.ensures)
+      (if_err_weaker c.write_counts-counted.result _ EndsHere (λ error is. cannot_write _ _ _ error is) c.write_counts-counted.ensures.refused)
       (if_err_weaker c.take_records-taken.result _ EndsHere
       (λ error ends. ends_more c.args.options.frames true _ _ _ _ _ _ error (λ writes. refl) (λ refusal is. is) (omega (arith, c.in_ok-run.ensures.undrawn)) (omega arith) ends)
       (c.take_records-taken.ensures.refused beginning c.in_ok-run.ensures.begun)))
@@ -54,7 +54,7 @@ returns-clause-before g c = elim c.match-and.branch [
   | in-Err w ↦ λ refusal is.
       let same = same_error _ w.in-Err.error (Refused refusal) (sym w.ended-is ∙ is) in
       let both = sym c.and.ensures ∙ w.in-Err.is ∙ ap (λ error. Err error) same in
-      let taken = refusal_of_second c.write_counts-counted.result c.take_records-taken.result refusal both c.write_counts-counted.ensures in
+      let taken = refusal_of_second c.write_counts-counted.result c.take_records-taken.result refusal both c.write_counts-counted.ensures.refused in
       let told = c.take_records-taken.ensures.before beginning c.in_ok-run.ensures.begun refusal taken in (
         told.0,
         told.1,
