@@ -7,6 +7,9 @@
 # minidumps from LLDB's `thread backtrace all`: the same threads and addresses; with the file of the process, without it, and with
 # another file in its place; with --explain under each frame the row that `readelf --debug-dump=frames-interp` has for it. Status 0
 # where all is as it should be.
+#
+# What is written to standard error is compared, too: the summary of a recording is made by checks/stacks/summary.py from the
+# blocks of its samples, or, for the recordings of checks/stacks/made_up_recording.py, worked out by hand.
 set -u
 checks=$(dirname "$(realpath -- "${BASH_SOURCE[0]}")") || exit 2
 [ $# -ge 1 ] || { sed -n 2p "$0" >&2; exit 2; }
@@ -21,48 +24,89 @@ head -c 5000 "$data/crash.dmp" >"$work/short.dmp"
 mkdir -p "$work/other/usr/local/bin" && cp "$data/srv/tiny" "$work/other/usr/local/bin/crash"
 failed=0
 
-# Runs a program in the folder of the recordings, and compares its status and output: try STATUS OUTPUT ARGUMENT..
-try() {
-    local status=$1 wanted=$2 ended
-    shift 2
-    (cd "$data" && "$program" "$@" >"$work/out" 2>"$work/err")
+# Runs a program in a folder, and compares its status, its output and what it writes to standard error:
+# try_in FOLDER STATUS OUTPUT ERRORS ARGUMENT.. With `any` in the place of a file standard error is not compared.
+try_in() {
+    local folder=$1 status=$2 wanted=$3 errors=$4 ended
+    shift 4
+    (cd "$folder" && "$program" "$@" >"$work/out" 2>"$work/err")
     ended=$?
-    [ "$ended" = "$status" ] && cmp -s "$work/out" "$wanted" && return
-    echo "$program $*: status $ended and not $status, or another output than $wanted; error output: $(cat "$work/err")" >&2
+    [ "$ended" = "$status" ] && cmp -s "$work/out" "$wanted" && { [ "$errors" = any ] || cmp -s "$work/err" "$errors"; } && return
+    echo "$program $*: status $ended and not $status, another output than $wanted, or another error output than $errors: $(cat "$work/err")" >&2
     failed=1
 }
+
+# The same in the folder of the stored files.
+try() {
+    try_in "$data" "$@"
+}
+
+# A file of error lines, each after the name of the program: said LINE..
+said() {
+    printf 'framehop-stacks: %s\n' "$@" >"$work/said"
+    echo "$work/said"
+}
+
+# The recordings that no machine made, and what is printed of the large ones.
+made=$work/made
+mkdir "$made" || exit 1
+for case in cut short_comm short_fork lost files lines; do
+    python3 "$checks/stacks/made_up_recording.py" "$made/$case.data" "$case" || exit 1
+done
+python3 - "$work" <<'END' || exit 1
+import sys
+from pathlib import Path
+
+work = Path(sys.argv[1])
+counted = "{0} samples, 0 records lost by the kernel\n0 samples with frames that no unwind data tells\nhow the stacks ended:\nframe-pointer-0 {0}\n"
+work.joinpath("files.folded").write_text("app;[frame-pointer-0];1099+0x8 1\n")
+work.joinpath("files.errors").write_text("".join(f"/srv/{at:04}: can't be read\n" for at in range(1100)) + counted.format(1))
+lines = sorted(f"app;[frame-pointer-0];app+0x{0x10000 + 4 * at:x} 1\n" for at in range(70000))
+work.joinpath("lines.folded").write_text("".join(lines))
+work.joinpath("lines.errors").write_text("/srv/app: can't be read\n" + counted.format(70000))
+END
+python3 "$checks/stacks/summary.py" "$checks/stacks/tiny.frames" >"$work/tiny.summary" || exit 1
+cat "$checks/stacks/made-up.summary" "$work/tiny.summary" >"$work/both.summary"
+sed 's/^root /limit /' "$work/tiny.summary" >"$work/limit.summary"
 
 for program in "$@"; do
     [ -x "$program" ] || continue
     program=$(realpath -- "$program")
-    try 0 "$checks/stacks/tiny.frames" --root . --frames tiny.data
-    try 0 "$checks/stacks/tiny.limit" --root . --limit 3 tiny.data
-    try 0 "$checks/stacks/crash.stacks" --root . crash.core
-    try 0 "$checks/stacks/crash.missing" --root srv crash.core
-    try 0 "$checks/stacks/crash.missing" --root "$work/other" crash.core
-    try 0 "$checks/stacks/crash.limit" --root . --limit 1 crash.core
-    try 0 "$checks/stacks/crash.explained" --root . --explain crash.core
-    try 0 "$checks/stacks/crash.fallback" --root srv --explain crash.core
-    try 1 "$work/nothing" "$work/short.core"
-    try 0 "$checks/stacks/minidump.stacks" --root . crash.dmp
-    try 0 "$checks/stacks/minidump.limit" --root . --limit 1 crash.dmp
-    try 0 "$checks/stacks/minidump.explained" --root . --explain crash.dmp
-    try 1 "$work/nothing" "$work/short.dmp"
-    try 2 "$work/nothing"
-    try 2 "$work/nothing" --limit many tiny.data
-    try 0 "$checks/stacks/tiny.explained" --root . --explain tiny.data
-    try 1 "$work/nothing" missing.data
-    try 0 "$checks/stacks/both.folded" --root . .
-    try 1 "$work/nothing" --root . srv
-    try 2 "$work/nothing" --svg --frames tiny.data
-    try 2 "$work/nothing" --svg crash.core
+    try 0 "$checks/stacks/tiny.frames" "$work/tiny.summary" --root . --frames tiny.data
+    try 0 "$checks/stacks/tiny.limit" "$work/limit.summary" --root . --limit 3 tiny.data
+    try 0 "$checks/stacks/crash.stacks" any --root . crash.core
+    try 0 "$checks/stacks/crash.missing" any --root srv crash.core
+    try 0 "$checks/stacks/crash.missing" any --root "$work/other" crash.core
+    try 0 "$checks/stacks/crash.limit" any --root . --limit 1 crash.core
+    try 0 "$checks/stacks/crash.explained" any --root . --explain crash.core
+    try 0 "$checks/stacks/crash.fallback" any --root srv --explain crash.core
+    try 1 "$work/nothing" any "$work/short.core"
+    try 0 "$checks/stacks/minidump.stacks" any --root . crash.dmp
+    try 0 "$checks/stacks/minidump.limit" any --root . --limit 1 crash.dmp
+    try 0 "$checks/stacks/minidump.explained" any --root . --explain crash.dmp
+    try 1 "$work/nothing" any "$work/short.dmp"
+    try 2 "$work/nothing" any
+    try 2 "$work/nothing" "$(said "the limit is no number")" --limit many tiny.data
+    try 0 "$checks/stacks/tiny.explained" "$work/tiny.summary" --root . --explain tiny.data
+    try 1 "$work/nothing" "$(said "missing.data: No such file or directory (os error 2)")" missing.data
+    try 0 "$checks/stacks/both.folded" "$work/both.summary" --root . .
+    try 1 "$work/nothing" "$(said "srv: no file in it has a name in .data")" --root . srv
+    try 2 "$work/nothing" "$(said "a flame graph has no blocks of frames")" --svg --frames tiny.data
+    try 2 "$work/nothing" "$(said "crash.core: only recordings are drawn")" --svg crash.core
     (cd "$data" && "$program" --root . --svg .) 2>"$work/err" | python3 "$checks/stacks/boxes.py" "$checks/stacks/both.folded" || {
         echo "$program --svg: other boxes than those of both recordings; error output: $(cat "$work/err")" >&2
         failed=1
     }
-    try 1 "$work/nothing" srv/tiny
-    try 1 "$work/nothing" "$work/short"
-    try 1 "$checks/stacks/tiny.limit" --root . --limit 3 missing.data tiny.data
+    try 1 "$work/nothing" any srv/tiny
+    try 1 "$work/nothing" "$(said "$work/short: not a recording of perf: offset 0")" "$work/short"
+    try 1 "$checks/stacks/tiny.limit" any --root . --limit 3 missing.data tiny.data
+    # what no machine recorded: a record that is cut off or ends early, lost records, more files and lines than a round number
+    try_in "$made" 1 "$checks/stacks/cut.folded" "$checks/stacks/cut.errors" --root . cut.data
+    try_in "$made" 1 "$checks/stacks/short.folded" "$checks/stacks/short_comm.errors" --root . short_comm.data
+    try_in "$made" 1 "$checks/stacks/short.folded" "$checks/stacks/short_fork.errors" --root . short_fork.data
+    try_in "$made" 0 "$checks/stacks/lost.folded" "$checks/stacks/lost.errors" --root . lost.data
+    try_in "$made" 0 "$work/files.folded" "$work/files.errors" --root . files.data
+    try_in "$made" 0 "$work/lines.folded" "$work/lines.errors" --root . lines.data
 done
 [ "$failed" = 0 ] || exit 1
 echo "the runs of framehop-stacks with arguments are as they should be"

@@ -1,9 +1,18 @@
 #!/usr/bin/env python3
-"""made_up_recording.py FILE: writes a recording of aarch64 that no machine made, of which each stack is known by hand.
+"""made_up_recording.py FILE [CASE]: writes a recording of aarch64 that no machine made, of which each stack is known by hand.
 
-Its processes have frame pointers only. It has a signed return address, a stack that was cut off, a sample without registers, a
+Without a case its processes have frame pointers only. It has a signed return address, a stack that was cut off, a sample without registers, a
 new process, one that runs another program, a mapping over the middle of another, lost records, and records that are not in the
-order of their times. Layout: Linux, include/uapi/linux/perf_event.h, and tools/perf/Documentation/perf.data-file-format.txt.
+order of their times. The cases, whose output `checks/try_stacks.sh` has:
+
+    cut         the same, of which the last record, that of lost records, is cut off
+    short_comm  records without times, of which a PERF_RECORD_COMM after a sample ends before its fields do
+    short_fork  a PERF_RECORD_FORK that ends before its fields do, in the order of times between two samples
+    lost        two records of lost records, and of two threads that begin
+    files       a mapping of each of 1,100 files, and a sample in the last
+    lines       70,000 samples, each with a stack of its own
+
+Layout: Linux, include/uapi/linux/perf_event.h, and tools/perf/Documentation/perf.data-file-format.txt.
 """
 
 import struct
@@ -11,7 +20,7 @@ import sys
 
 PERF_RECORD_LOST, PERF_RECORD_COMM, PERF_RECORD_FORK, PERF_RECORD_SAMPLE, PERF_RECORD_MMAP2 = 2, 3, 7, 9, 10
 IN_USER_SPACE, EXEC = 2, 0x2000
-IP_TID_TIME_REGS_STACK = 0x3007
+IP_TID_TIME_REGS_STACK, TIME = 0x3007, 4
 AARCH64_REGISTERS = 0x1_FFFF_FFFF
 SAMPLE_ID_ALL = 1 << 18
 STACK = 0x7000_0000
@@ -86,17 +95,72 @@ def records():
     ]
 
 
-def recording():
+def short(kind, pid, time):
+    """A record that has nothing but its thread and its time."""
+    return identified(kind, 0, b"", pid, time)
+
+
+def untimed(pid, pc, links):
+    """The same sample without a time."""
+    timed = sample(pid, 0, pc, links)
+    return timed[:6] + struct.pack("<H", len(timed) - 8) + timed[8:24] + timed[32:]
+
+
+def app():
+    return [comm(100, "app", 1), mapping(100, 0x10000, 0x3000, 0x1000, "/srv/app", 2)]
+
+
+def short_comm():
+    whole = [(STACK + 16, 0x10204), (0, 0x10300)]
+    return app() + [untimed(100, 0x10124, whole), record(PERF_RECORD_COMM, 0, bytes(4)), untimed(100, 0x10128, whole)]
+
+
+def short_fork():
+    whole = [(STACK + 16, 0x10204), (0, 0x10300)]
+    return app() + [sample(100, 20, 0x10128, whole), short(PERF_RECORD_FORK, 100, 15), sample(100, 10, 0x10124, whole)]
+
+
+def thread(pid, tid, time):
+    return identified(PERF_RECORD_FORK, 0, struct.pack("<IIIIQ", pid, pid, tid, pid, time), pid, time)
+
+
+def lost_twice():
+    threads = [thread(100, 101, 12), thread(100, 100, 13)]
+    return app() + threads + [lost(5, 100, 10), sample(100, 20, 0x10124, [(0, 0x10204)]), lost(7, 100, 30)]
+
+
+def files():
+    name = "/srv/{:04}"
+    maps = [mapping(100, 0x10000 + at * 0x1000, 0x1000, 0, name.format(at), 2 + at) for at in range(1100)]
+    return [comm(100, "app", 1)] + maps + [sample(100, 5000, 0x10008 + 1099 * 0x1000, [(0, 0x10204)])]
+
+
+def lines():
+    maps = [comm(100, "app", 1), mapping(100, 0x10000, 0x200000, 0, "/srv/app", 2)]
+    return maps + [sample(100, 10 + at, 0x20000 + 4 * at, [(0, 0x10204)]) for at in range(70000)]
+
+
+CASES = {"short_comm": short_comm, "short_fork": short_fork, "lost": lost_twice, "files": files, "lines": lines}
+
+
+def recording(body, is_timed=True):
     attributes_at = 104
-    attribute = struct.pack("<IIQQQQQ", 1, 128, 0, 1000, IP_TID_TIME_REGS_STACK, 0, SAMPLE_ID_ALL)
+    fields = IP_TID_TIME_REGS_STACK if is_timed else IP_TID_TIME_REGS_STACK & ~TIME
+    attribute = struct.pack("<IIQQQQQ", 1, 128, 0, 1000, fields, 0, SAMPLE_ID_ALL if is_timed else 0)
     attribute += bytes(32) + struct.pack("<QI", AARCH64_REGISTERS, 1024) + bytes(36)
     assert len(attribute) == 128
     records_at = attributes_at + len(attribute) + 16
-    body = b"".join(records())
     header = b"PERFILE2" + struct.pack("<QQ", 104, 144)
     header += struct.pack("<QQQQQQ", attributes_at, 144, records_at, len(body), 0, 0) + bytes(32)
     return header + attribute + struct.pack("<QQ", records_at, 0) + body
 
 
-with open(sys.argv[1], "wb") as file:
-    file.write(recording())
+def main():
+    case = sys.argv[2] if len(sys.argv) > 2 else ""
+    made = CASES.get(case, records)()
+    whole = recording(b"".join(made), is_timed=case != "short_comm")
+    with open(sys.argv[1], "wb") as file:
+        file.write(whole[: -len(made[-1]) // 2] if case == "cut" else whole)
+
+
+main()

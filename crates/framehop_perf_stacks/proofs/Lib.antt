@@ -2,4 +2,6 @@ mod ServedLemmas
 mod StateLemmas
 mod TakenLemmas
 mod EventLemmas
+mod EndedLemmas
 mod SoFarLemmas
+mod PrintedLemmas

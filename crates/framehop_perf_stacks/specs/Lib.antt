@@ -4,6 +4,7 @@ pub mod Changes
 pub mod Files
 pub mod Names
 pub mod Processes
+pub mod Ended
 pub mod Start
 pub mod Counts
 pub mod Run

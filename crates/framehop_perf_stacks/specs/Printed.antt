@@ -1,14 +1,19 @@
 -- What is made of a recording.
-use Rattle.std.specs.Prelude.{ℕ, Bool, true, false, List, map, Option}
+use Rattle.std.specs.Prelude.{◌≡◌, ℕ, ⊤, Bool, true, false, List, map, count_by, Option, None}
 use Rattle.framehop_folded.specs.declared.folded.Folded.{Folded}
 use Rattle.framehop_recording.specs.Attributes.{AttributeView, attribute_view}
 use Rattle.framehop_recording.specs.Records.{RecordView}
 use Rattle.framehop_frames.specs.Walker.{x86_64_walker, aarch64_walker}
 use Rattle.framehop_symbols.specs.Files.{module_at}
+use Rattle.framehop_recording.specs.declared.error.RecordingError.{RecordingError}
+use Rattle.framehop_perf_stacks.specs.Ended.{first_refusal, before_refusal, MayEnd}
 use Rattle.framehop_perf_stacks.specs.Recording.{are_of_aarch64, records_in}
-use Rattle.framehop_perf_stacks.specs.Samples.{State, beginning, samples_from, Each, IsTextOf, IsMade}
+use Rattle.framehop_perf_stacks.specs.Run.{is_sample}
+use Rattle.framehop_perf_stacks.specs.Samples.{State, beginning, drawn_over, samples_from, Each, IsTextOf, IsMade}
 use Rattle.framehop_perf_stacks.specs.Start.{StartsX86_64, StartsAarch64}
 use Rattle.framehop_symbols.specs.declared.files.Files.{Files}
+use Rattle.framehop_perf_stacks.specs.declared.error.StacksError.{StacksError}
+use Rattle.framehop_perf_stacks.specs.declared.error.StacksError.TheVariants.{Recording as Refused}
 use Rattle.framehop_perf_stacks.specs.declared.recording.Recording.{Recording}
 
 -- a text is that of a sample of one of the two architectures, by the modules of the files
@@ -18,14 +23,36 @@ IsTextIn true frames sure limit files attributes =
 IsTextIn false frames sure limit files attributes =
     IsTextOf (module_at files) x86_64_walker StartsX86_64 frames sure limit files attributes
 
--- the texts of a recording's samples, each by the state that the records before it lead to
-abbrev pub AreTextsOf : Recording → Files → Bool → Bool → ℕ → List (List ℕ) → Type 0
-AreTextsOf recording files frames sure limit texts =
-    let attributes = map attribute_view recording.events.attributes.items in
-    Each (IsTextIn (are_of_aarch64 attributes) frames sure limit files attributes)
-    (samples_from files beginning (records_in recording.records.items)) texts
+-- the texts of the samples of records, each by the state that the records before it lead to
+abbrev pub AreTextsOf : List AttributeView → List RecordView → Files → Bool → Bool → ℕ → List (List ℕ) → Type 0
+AreTextsOf attributes records files frames sure limit texts =
+    Each (IsTextIn (are_of_aarch64 attributes) frames sure limit files attributes) (samples_from files beginning records) texts
 
 -- they are folded, or shown as blocks
+abbrev pub IsMadeFrom : List AttributeView → List RecordView → Files → Bool → Bool → Bool → ℕ → Folded → Option (List ℕ) → Option (List ℕ) → Type 0
+IsMadeFrom attributes records files frames sure explain limit folded before after =
+    (texts : List (List ℕ)) × AreTextsOf attributes records files frames sure limit texts × IsMade frames explain texts folded before after
+
+-- the same of all records of a recording
 abbrev pub IsMadeOf : Recording → Files → Bool → Bool → Bool → ℕ → Folded → Option (List ℕ) → Option (List ℕ) → Type 0
 IsMadeOf recording files frames sure explain limit folded before after =
-    (texts : List (List ℕ)) × AreTextsOf recording files frames sure limit texts × IsMade frames explain texts folded before after
+    IsMadeFrom (map attribute_view recording.events.attributes.items) (records_in recording.records.items) files frames sure
+    explain limit folded before after
+
+-- none of them is refused, and the refusal at their end is the recording's
+pub record IsWhole (recording : Recording) (refusal : Option RecordingError) : Type 0 where
+  pub at_end : refusal ≡ recording.refusal
+  pub none : first_refusal (records_in recording.records.items) ≡ None
+
+-- What is made where a run ends with an error: at the first record that is refused, of the samples before it.
+abbrev pub IsMadeUntil : StacksError → Recording → Files → Bool → Bool → Bool → ℕ → Folded → Option (List ℕ) → Option (List ℕ) → Type 0
+IsMadeUntil (Refused refusal) recording files frames sure explain limit folded before after =
+    IsMadeFrom (map attribute_view recording.events.attributes.items)
+    (before_refusal (records_in recording.records.items)) files frames sure explain limit folded before after
+IsMadeUntil error recording files frames sure explain limit folded before after = ⊤
+
+-- a run over the records of a recording may end with an error
+abbrev pub MayEndAt : Recording → Files → StacksError → Type 0
+MayEndAt recording files error =
+    let records = records_in recording.records.items in
+    MayEnd true (first_refusal records) (drawn_over files records beginning) (count_by is_sample recording.records.items) error

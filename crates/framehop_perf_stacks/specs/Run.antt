@@ -1,5 +1,5 @@
 -- The records of a recording one after another.
-use Rattle.std.specs.Prelude.{◌≡◌, ℕ, ◌+◌, Bool, ◌==◌, if◌then◌else◌, List, codes}
+use Rattle.std.specs.Prelude.{◌≡◌, ◌≤◌, ℕ, ◌+◌, Bool, ◌==◌, if◌then◌else◌, List, codes}
 use Rattle.framehop_recording.specs.Numbers.{PERF_RECORD_SAMPLE}
 use Rattle.framehop_recording.specs.declared.order.TimedRecord.{TimedRecord}
 use Rattle.framehop_recording.specs.declared.error.RecordingError.{RecordingError}
@@ -11,9 +11,10 @@ use Rattle.framehop_perf_stacks.specs.declared.counts.Counts.{Counts}
 abbrev pub folded_of : Bool → ℕ → ℕ
 folded_of frames samples = if frames then 0 else samples
 
--- So many samples were counted: the counts of ends sum to them, and those of stacks.
+-- So many samples were counted: the counts of ends sum to them, and those of stacks, and no more are unsure.
 pub record AreCounted (frames : Bool) (count : ℕ) (counts : Counts) : Type 0 where
   pub samples : counts.samples ≡ count
+  pub unsure : counts.unsure ≤ count
   pub ends : total_of counts.ends ≡ count
   pub stacks : total_of counts.stacks ≡ folded_of frames count
 

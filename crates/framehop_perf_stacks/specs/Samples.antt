@@ -28,6 +28,7 @@ use Rattle.framehop_frames.specs.Code.{bytes_after, code_of}
 use Rattle.framehop_frames.specs.Rows.{rows_in}
 use Rattle.framehop_frames.specs.Stack.{StackView, no_stack, stack_from, stack_text}
 use Rattle.framehop_frames.specs.Walker.{Walker}
+use Rattle.framehop_perf_stacks.specs.Ended.{drawn_in}
 use Rattle.framehop_perf_stacks.specs.Names.{Named, named_in, named_after}
 use Rattle.framehop_perf_stacks.specs.Processes.{Mapped, mapped_in, after}
 use Rattle.framehop_perf_stacks.specs.Recording.{sample_in}
@@ -61,6 +62,12 @@ state_after files r state =
 abbrev pub state_over : Files → List RecordView → State → State
 state_over files [] state = state
 state_over files (r ∷ records) state = state_over files records (state_after files r state)
+
+-- how many generations records draw at most, one after another
+abbrev pub drawn_over : Files → List RecordView → State → ℕ
+drawn_over files [] state = 0
+drawn_over files (r ∷ records) state =
+    drawn_in (change_in files r) state.mapped + drawn_over files records (state_after files r state)
 
 -- that of the names and the processes that there are
 abbrev pub state_in : Names → BTreeMap ℕ ProcessView → State

@@ -1,7 +1,9 @@
 //! What is counted of samples.
-ghost use Rattle.std.specs.Prelude.{ℕ, ◌≡◌, ◌≤◌, ◌+◌, ◌^◌, ◌⊎◌, List, None, OnOk, IfErr};
+ghost use Rattle.std.specs.Prelude.{ℕ, Bool, ◌≡◌, ◌≤◌, ◌+◌, ◌^◌, ◌⊎◌, List, None, OnOk, IfErr};
 ghost use Rattle.framehop_folded.specs.Folded.{count_in, total_of, entry_of};
 ghost use Rattle.framehop_perf_stacks.specs.Counts.{CountsOneMore, HasSampleMore};
+ghost use Rattle.framehop_perf_stacks.specs.Ended.{MayEnd};
+ghost use Rattle.framehop_perf_stacks.specs.Run.{AreCounted};
 ghost use Rattle.framehop_perf_stacks.specs.declared.error.StacksError.TheVariants.{OutOfMemory, TooManySamples};
 
 use crate::error::StacksError;
@@ -58,6 +60,8 @@ impl Counts {
         ensures refused { IfErr result (λ refusal. (refusal ≡ OutOfMemory)
             ⊎ ((refusal ≡ TooManySamples) × ((2 ^ 64 ≤ count_in self.old.ends end.now + 1) ⊎ (2 ^ 64 ≤ self.old.samples + 1)
             ⊎ (2 ^ 64 ≤ self.old.unsure + 1)))) }
+        ensures within { (writes frames : Bool) (samples : ℕ) → AreCounted frames samples self.old
+            → IfErr result (MayEnd writes None 0 (samples + 1)) }
     {
         let end = Vec::from_slice(alloc, end)?;
         let Some(samples) = self.samples.checked_add(1) else {
@@ -86,6 +90,7 @@ impl Counts {
         ensures lost { self.new.lost ≡ self.old.lost }
         ensures refused { IfErr result (λ refusal. (refusal ≡ OutOfMemory)
             ⊎ ((refusal ≡ TooManySamples) × (2 ^ 64 ≤ count_in self.old.stacks stack.items + 1))) }
+        ensures within { (writes : Bool) → IfErr result (MayEnd writes None 0 (total_of self.old.stacks + 1)) }
     {
         self.stacks.add(stack, 1)?;
         Ok(())

@@ -1,8 +1,9 @@
 //! Notes under the lines of a sample's block: where each frame's caller comes from, and why its walk ended.
-ghost use Rattle.std.specs.Prelude.{◌≡◌, ◌++◌, length, IfOk, OnOk, List, ℕ};
+ghost use Rattle.std.specs.Prelude.{◌≡◌, ◌++◌, ◌⊎◌, length, IfOk, IfErr, OnOk, List, ℕ};
 ghost use Rattle.std.specs.Io.KnownBytes.{Appends};
 ghost use Rattle.framehop_frames.specs.Explained.{IsShown};
 ghost use Rattle.framehop_frames.specs.Stack.{line_count, option_stack_view};
+ghost use Rattle.framehop_perf_stacks.specs.declared.error.StacksError.TheVariants.{OutOfMemory, CannotWrite};
 
 use crate::error::StacksError;
 use crate::machine::Sampled;
@@ -47,8 +48,9 @@ pub fn write_block<W: Write>(
     notes: &[Note],
     out: &mut W,
 ) -> Result<(), StacksError>
-    ensures { OnOk result ((shown : List ℕ) × IsShown explain (head.now ++ block.now) shown
+    ensures shown { OnOk result ((shown : List ℕ) × IsShown explain (head.now ++ block.now) shown
         × Appends (W.contents out.old) (W.contents out.new) shown) }
+    ensures refused { IfErr result (λ error. (error ≡ OutOfMemory) ⊎ (error ≡ CannotWrite)) }
 {
     let shown = shown_block(alloc, head, block, explain, notes)?;
     out.write_all(shown.as_slice())?;

@@ -1,7 +1,9 @@
 //! The names of threads at a time.
-ghost use Rattle.std.specs.Prelude.{◌≡◌, ℕ, codes, OnOk};
+ghost use Rattle.std.specs.Prelude.{◌≡◌, ℕ, codes, OnOk, IfErr, false, None};
 ghost use Rattle.framehop_recording.specs.Records.{record_view};
+ghost use Rattle.framehop_perf_stacks.specs.Ended.{naming_refusal, MayEnd};
 ghost use Rattle.framehop_perf_stacks.specs.Names.{named_in, with_name, named_after};
+ghost use Rattle.framehop_perf_stacks.specs.declared.error.StacksError.TheVariants.{OutOfMemory};
 
 use crate::error::StacksError;
 use framehop_recording::kind::{COMM, FORK};
@@ -38,7 +40,8 @@ impl Names {
 
     /// Gives a thread a name.
     fn put(&mut self, alloc: Global, tid: u32, name: &[u8]) -> Result<(), StacksError>
-        ensures { OnOk result ((thread : ℕ) → named_in self.new thread ≡ with_name tid name.now (named_in self.old) thread) }
+        ensures named { OnOk result ((thread : ℕ) → named_in self.new thread ≡ with_name tid name.now (named_in self.old) thread) }
+        ensures refused { IfErr result (λ error. error ≡ OutOfMemory) }
     {
         let name = Vec::from_slice(alloc, name)?;
         self.by_tid.insert(tid, name)?;
@@ -47,8 +50,9 @@ impl Names {
 
     /// Gives a thread the name of another.
     fn copy(&mut self, alloc: Global, tid: u32, parent: u32) -> Result<(), StacksError>
-        ensures { OnOk result ((thread : ℕ) → named_in self.new thread
+        ensures named { OnOk result ((thread : ℕ) → named_in self.new thread
             ≡ with_name tid (named_in self.old parent) (named_in self.old) thread) }
+        ensures refused { IfErr result (λ error. error ≡ OutOfMemory) }
     {
         let name = Vec::from_slice(alloc, self.get(parent))?;
         self.by_tid.insert(tid, name)?;
@@ -61,8 +65,10 @@ impl Names {
     ///
     /// `Recording` where a PERF_RECORD_COMM or PERF_RECORD_FORK is too short, and `OutOfMemory`.
     pub fn note(&mut self, alloc: Global, record: Record<'_>) -> Result<(), StacksError>
-        ensures { OnOk result ((thread : ℕ) → named_in self.new thread
+        ensures named { OnOk result ((thread : ℕ) → named_in self.new thread
             ≡ named_after (record_view «record».entry) (named_in self.old) thread) }
+        ensures read { OnOk result (naming_refusal (record_view «record».entry) ≡ None) }
+        ensures refused { IfErr result (MayEnd false (naming_refusal (record_view «record».entry)) 0 0) }
     {
         match record.kind {
             COMM => {

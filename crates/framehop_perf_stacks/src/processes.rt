@@ -1,12 +1,14 @@
 //! The processes of a recording at a time.
-ghost use Rattle.std.specs.Prelude.{◌≡◌, ℕ, IfOk, ◌==◌, if◌then◌else◌, [], Some, None, IsSome, IfSome, OnOk, option_map, option_copied};
+ghost use Rattle.std.specs.Prelude.{◌≡◌, ◌≤◌, ◌+◌, ◌⊎◌, ℕ, IfOk, IfErr, ◌==◌, if◌then◌else◌, [], Some, None, IsSome, IfSome, OnOk, option_map, option_copied, false};
 ghost use Rattle.std.specs.BTreeMap.{get};
 ghost use Rattle.std.specs.Ordering.{nat_cmp};
 ghost use Rattle.framehop.specs.Modules.{ModuleView, UnwinderView};
-ghost use Rattle.framehop_processes.specs.Mappings.{IsInOrder, with_mapping};
+ghost use Rattle.framehop_processes.specs.Mappings.{IsInOrder, with_mapping, changed_modules};
 ghost use Rattle.framehop_processes.specs.Process.{HasModules};
 ghost use Rattle.framehop_processes.specs.declared.mapping.Mapping.{Mapping};
+ghost use Rattle.framehop_perf_stacks.specs.Ended.{drawn_by, IsWithoutAddress, MayEnd};
 ghost use Rattle.framehop_perf_stacks.specs.Processes.{mapped_in, with_process, after, IsFit, IsServed};
+ghost use Rattle.framehop_perf_stacks.specs.declared.error.StacksError.TheVariants.{OutOfMemory, EmptyMapping};
 
 use crate::changes::Change;
 use crate::error::StacksError;
@@ -27,6 +29,7 @@ impl<U: ProcessUnwinder> Processes<U> {
     pub fn new(alloc: Global) -> Self
         ensures empty { (pid : ℕ) → get nat_cmp result.by_pid pid ≡ None }
         ensures none { (pid : ℕ) → mapped_in result.by_pid pid ≡ [] }
+        ensures undrawn { result.generations ≡ 0 }
     {
         Processes {
             by_pid: BTreeMap::new(alloc),
@@ -71,6 +74,8 @@ impl<U: ProcessUnwinder> Processes<U> {
             → IsServed module_of (λ view. U.is_sound view cache) self.old.by_pid self.old.generations
             → IsFit module_of (λ view. U.is_sound view cache) self.old.by_pid self.old.generations process
             → IsServed module_of (λ view. U.is_sound view cache) self.new.by_pid self.new.generations) }
+        ensures drawn { self.new.generations ≡ self.old.generations }
+        ensures refused { IfErr result (λ error. error ≡ OutOfMemory) }
     {
         self.by_pid.insert(pid, process)?;
         Ok(())
@@ -86,6 +91,8 @@ impl<U: ProcessUnwinder> Processes<U> {
         ensures fits { IfOk result (λ process. (module_of : Mapping → ModuleView) (cache : U.Cache)
             → IsServed module_of (λ view. U.is_sound view cache) self.old.by_pid self.old.generations
             → IsFit module_of (λ view. U.is_sound view cache) self.new.by_pid self.new.generations process) }
+        ensures drawn { self.new.generations ≤ self.old.generations + 1 }
+        ensures refused { IfErr result (MayEnd false None (self.old.generations + 1) 0) }
     {
         match self.by_pid.get(&pid) {
             Some(process) => Ok(process.clone()?),
@@ -103,6 +110,8 @@ impl<U: ProcessUnwinder> Processes<U> {
         ensures fits { IfOk result (λ process. (module_of : Mapping → ModuleView) (cache : U.Cache)
             → IsServed module_of (λ view. U.is_sound view cache) self.old.by_pid self.old.generations
             → IsFit module_of (λ view. U.is_sound view cache) self.new.by_pid self.new.generations process) }
+        ensures drawn { self.new.generations ≤ self.old.generations + 1 }
+        ensures refused { IfErr result (MayEnd false None (self.old.generations + 1) 0) }
     {
         let process: Process<U> = Process::new(alloc, &mut self.generations)?;
         Ok(process)
@@ -115,6 +124,8 @@ impl<U: ProcessUnwinder> Processes<U> {
         ensures served { OnOk result ((module_of : Mapping → ModuleView) (cache : U.Cache)
             → IsServed module_of (λ view. U.is_sound view cache) self.old.by_pid self.old.generations
             → IsServed module_of (λ view. U.is_sound view cache) self.new.by_pid self.new.generations) }
+        ensures drawn { self.new.generations ≤ self.old.generations + 1 }
+        ensures refused { IfErr result (MayEnd false None (self.old.generations + 1) 0) }
     {
         let process = self.fresh(alloc)?;
         self.put(pid, process)?;
@@ -128,6 +139,8 @@ impl<U: ProcessUnwinder> Processes<U> {
         ensures served { OnOk result ((module_of : Mapping → ModuleView) (cache : U.Cache)
             → IsServed module_of (λ view. U.is_sound view cache) self.old.by_pid self.old.generations
             → IsServed module_of (λ view. U.is_sound view cache) self.new.by_pid self.new.generations) }
+        ensures drawn { self.new.generations ≤ self.old.generations + 1 }
+        ensures refused { IfErr result (MayEnd false None (self.old.generations + 1) 0) }
     {
         if self.by_pid.contains_key(&pid) {
             return Ok(());
@@ -142,6 +155,8 @@ impl<U: ProcessUnwinder> Processes<U> {
         ensures served { OnOk result ((module_of : Mapping → ModuleView) (cache : U.Cache)
             → IsServed module_of (λ view. U.is_sound view cache) self.old.by_pid self.old.generations
             → IsServed module_of (λ view. U.is_sound view cache) self.new.by_pid self.new.generations) }
+        ensures drawn { self.new.generations ≤ self.old.generations + 1 }
+        ensures refused { IfErr result (MayEnd false None (self.old.generations + 1) 0) }
     {
         let process = self.copy_of(alloc, parent)?;
         self.put(pid, process)?;
@@ -167,6 +182,9 @@ impl<U: ProcessUnwinder> Processes<U> {
         ensures fits { IfOk result (λ after. (cache : U.Cache)
             → IsServed (M.module_of maker.now) (λ view. U.is_sound view cache) self.old.by_pid self.old.generations
             → IsFit (M.module_of maker.now) (λ view. U.is_sound view cache) self.new.by_pid self.new.generations after) }
+        ensures drawn { OnOk result (self.new.generations ≡ self.old.generations + changed_modules mapping process.mappings) }
+        ensures refused { IfErr result (λ error. MayEnd false None (self.old.generations + changed_modules mapping process.mappings) 0 error
+            ⊎ ((error ≡ EmptyMapping) × (mapping.end ≤ mapping.start))) }
     {
         Ok(process.mapped(alloc, maker, mapping, &mut self.generations)?)
     }
@@ -186,6 +204,9 @@ impl<U: ProcessUnwinder> Processes<U> {
         ensures served { OnOk result ((cache : U.Cache)
             → IsServed (M.module_of maker.now) (λ view. U.is_sound view cache) self.old.by_pid self.old.generations
             → IsServed (M.module_of maker.now) (λ view. U.is_sound view cache) self.new.by_pid self.new.generations) }
+        ensures drawn { OnOk result (self.new.generations ≤ self.old.generations + drawn_by (Change.Map pid mapping) (mapped_in self.old.by_pid)) }
+        ensures refused { IfErr result (λ error. MayEnd false None (self.old.generations + drawn_by (Change.Map pid mapping) (mapped_in self.old.by_pid)) 0 error
+            ⊎ ((error ≡ EmptyMapping) × (mapping.end ≤ mapping.start))) }
     {
         let process = self.copy_of(alloc, pid)?;
         let process = self.mapped(alloc, maker, process, mapping)?;
@@ -207,6 +228,9 @@ impl<U: ProcessUnwinder> Processes<U> {
         ensures served { OnOk result ((cache : U.Cache)
             → IsServed (M.module_of maker.now) (λ view. U.is_sound view cache) self.old.by_pid self.old.generations
             → IsServed (M.module_of maker.now) (λ view. U.is_sound view cache) self.new.by_pid self.new.generations) }
+        ensures drawn { OnOk result (self.new.generations ≤ self.old.generations + drawn_by change (mapped_in self.old.by_pid)) }
+        ensures refused { IfErr result (λ error. MayEnd false None (self.old.generations + drawn_by change (mapped_in self.old.by_pid)) 0 error
+            ⊎ ((error ≡ EmptyMapping) × IsWithoutAddress change)) }
     {
         match change {
             Change::Map { pid, mapping } => self.map(alloc, maker, pid, mapping)?,

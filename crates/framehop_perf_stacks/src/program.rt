@@ -1,12 +1,16 @@
 //! From the bytes of a recording to folded stacks or blocks.
-ghost use Rattle.std.specs.Prelude.{ℕ, ◌≡◌, IfOk, List, map};
+ghost use Rattle.std.specs.Prelude.{ℕ, ◌≡◌, Err, IfOk, IfErr, OnErr, MatchResult, List, map, true};
+ghost use Rattle.std.specs.Result.{result_err};
 ghost use Rattle.framehop_recording.specs.Attributes.{attribute_view};
 ghost use Rattle.framehop_recording.specs.BuildIds.{file_build_id_view};
+ghost use Rattle.framehop_recording.specs.declared.error.RecordingError.{RecordingError};
+ghost use Rattle.framehop_perf_stacks.specs.Ended.{before_refusal, MayEnd};
 ghost use Rattle.framehop_perf_stacks.specs.Files.{AreFilesOf};
-ghost use Rattle.framehop_perf_stacks.specs.Printed.{IsMadeOf};
-ghost use Rattle.framehop_perf_stacks.specs.Recording.{records_in, IsReadOf};
+ghost use Rattle.framehop_perf_stacks.specs.Printed.{IsMadeOf, IsWhole, IsMadeUntil, MayEndAt};
+ghost use Rattle.framehop_perf_stacks.specs.Recording.{records_in, events_in, IsReadOf};
 ghost use Rattle.framehop_perf_stacks.specs.Samples.{beginning, samples_from, Each, IsTextOf, IsMade};
 ghost use Rattle.framehop_symbols.specs.declared.files.Files.{Files};
+ghost use Rattle.framehop_perf_stacks.specs.declared.error.StacksError.TheVariants.{OutOfMemory, CannotWrite, Recording as Refused};
 ghost use Rattle.framehop_perf_stacks.specs.declared.recording.Recording.{Recording};
 
 use crate::counts::Counts;
@@ -35,7 +39,9 @@ pub struct Unwound {
 }
 
 /// Writes what was counted.
-fn write_counts<E: Write>(err: &mut E, counts: &Counts) -> Result<(), StacksError> {
+fn write_counts<E: Write>(err: &mut E, counts: &Counts) -> Result<(), StacksError>
+    ensures refused { IfErr result (λ error. error ≡ CannotWrite) }
+{
     let samples = counts.samples;
     let unsure = counts.unsure;
     let lost = counts.lost;
@@ -62,11 +68,17 @@ fn unwind_all<U: Sampled, M: ModuleMaker<U>, W: Write, E: Write>(
 where
     U::Cache: Drop,
     U::Module: Drop,
-    ensures { IfOk result (λ unwound. IfOk unwound.ended (λ refusal. (refusal ≡ recording.now.refusal)
-        × ((texts : List (List ℕ))
+    ensures made { IfOk result (λ unwound. IfOk unwound.ended (λ refusal. IsWhole recording.now refusal × ((texts : List (List ℕ))
         × Each (IsTextOf (M.module_of maker.now) U.walker U.starts options.frames options.sure options.limit files.now (map attribute_view recording.now.events.attributes.items))
         (samples_from files.now beginning (records_in recording.now.records.items)) texts
         × IsMade options.frames options.explain texts unwound.folded (W.contents out.old) (W.contents out.new)))) }
+    ensures ended { IfOk result (λ unwound. IfErr unwound.ended (MayEndAt recording.now files.now)) }
+    ensures before { IfOk result (λ unwound. (refusal : RecordingError) → unwound.ended ≡ Err (Refused refusal) → (texts : List (List ℕ))
+        × Each (IsTextOf (M.module_of maker.now) U.walker U.starts options.frames options.sure options.limit files.now (map attribute_view recording.now.events.attributes.items))
+        (samples_from files.now beginning (before_refusal (records_in recording.now.records.items))) texts
+        × IsMade options.frames options.explain texts unwound.folded (W.contents out.old) (W.contents out.new)) }
+    ensures refused { IfErr result (λ error. error ≡ OutOfMemory) }
+    ensures unwritten { OnErr result (out.new ≡ out.old) }
 {
     let mut run: Run<U> = Run::new(alloc)?;
     let taken = run.take_records(alloc, recording, files, maker, options, out);
@@ -83,7 +95,9 @@ where
 }
 
 /// Writes a line for each file of which nothing was read.
-fn write_problems<E: Write>(err: &mut E, files: &Files) -> Result<(), StacksError> {
+fn write_problems<E: Write>(err: &mut E, files: &Files) -> Result<(), StacksError>
+    ensures refused { IfErr result (λ error. error ≡ CannotWrite) }
+{
     for file in files.list() {
         if let Some(problem) = file.problem {
             err.write_all(file.name.as_slice())?;
@@ -102,8 +116,11 @@ fn unwind_recording<W: Write, E: Write>(
     out: &mut W,
     err: &mut E,
 ) -> Result<Unwound, StacksError>
-    ensures { IfOk result (λ unwound. IfOk unwound.ended (λ refusal. (refusal ≡ recording.now.refusal)
-        × IsMadeOf recording.now files.now options.frames options.sure options.explain options.limit unwound.folded (W.contents out.old) (W.contents out.new))) }
+    ensures made { IfOk result (λ unwound. MatchResult unwound.ended
+        (λ refusal. IsWhole recording.now refusal × IsMadeOf recording.now files.now options.frames options.sure options.explain options.limit unwound.folded (W.contents out.old) (W.contents out.new))
+        (λ error. MayEndAt recording.now files.now error × IsMadeUntil error recording.now files.now options.frames options.sure options.explain options.limit unwound.folded (W.contents out.old) (W.contents out.new))) }
+    ensures refused { IfErr result (λ error. error ≡ OutOfMemory) }
+    ensures unwritten { OnErr result (out.new ≡ out.old) }
 {
     let maker = FileModules { files };
     if is_aarch64(&recording.events) {
@@ -136,11 +153,14 @@ pub fn write_stacks<S: FileSource, W: Write, E: Write>(
     out: &mut W,
     err: &mut E,
 ) -> Result<Unwound, StacksError>
-    ensures made { IfOk result (λ unwound. IfOk unwound.ended (λ refusal. (recording : Recording) × IsReadOf file.now recording
-        × (refusal ≡ recording.refusal)
+    ensures made { IfOk result (λ unwound. (recording : Recording) × IsReadOf file.now recording
         × ((files : Files) × AreFilesOf (S.source source.now)
         (map file_build_id_view recording.build_ids.items) (records_in recording.records.items) files
-        × IsMadeOf recording files options.frames options.sure options.explain options.limit unwound.folded (W.contents out.old) (W.contents out.new)))) }
+        × MatchResult unwound.ended
+        (λ refusal. IsWhole recording refusal × IsMadeOf recording files options.frames options.sure options.explain options.limit unwound.folded (W.contents out.old) (W.contents out.new))
+        (λ error. MayEndAt recording files error × IsMadeUntil error recording files options.frames options.sure options.explain options.limit unwound.folded (W.contents out.old) (W.contents out.new)))) }
+    ensures refused { IfErr result (MayEnd true (result_err (events_in file.now)) 0 0) }
+    ensures unwritten { OnErr result (out.new ≡ out.old) }
 {
     let recording = read_recording(alloc, file)?;
     let files = read_files(alloc, &recording, source)?;

@@ -107,8 +107,9 @@ fn add_file<S: FileSource>(
     files: &mut Files,
     record: Record<'_>,
 ) -> Result<(), StacksError>
-    ensures { OnOk result (IsAddedFor (S.source source.now) (map file_build_id_view recording.now.build_ids.items)
+    ensures added { OnOk result (IsAddedFor (S.source source.now) (map file_build_id_view recording.now.build_ids.items)
         (code_mapping_in (record_view «record».entry)) files.old files.new) }
+    ensures refused { IfErr result (λ error. error ≡ StacksError.OutOfMemory) }
 {
     let Some(mapping) = code_mapping(record) else {
         return Ok(());
@@ -118,14 +119,15 @@ fn add_file<S: FileSource>(
     Ok(())
 }
 
-/// Reads the files whose code is mapped, each once.
+/// Reads the files whose code is mapped, each once. Fails only where an allocation does, or from 2^32 files on.
 pub fn read_files<S: FileSource>(
     alloc: Global,
     recording: &Recording<'_>,
     source: &S,
 ) -> Result<Files, StacksError>
-    ensures { IfOk result (λ files. AreFilesOf (S.source source.now)
+    ensures read { IfOk result (λ files. AreFilesOf (S.source source.now)
         (map file_build_id_view recording.now.build_ids.items) (records_in recording.now.records.items) files) }
+    ensures refused { IfErr result (λ error. error ≡ StacksError.OutOfMemory) }
 {
     let mut files = Files::new(alloc)?;
     for timed in &recording.records {

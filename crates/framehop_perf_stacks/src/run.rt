@@ -2,9 +2,10 @@
 //!
 //! The files that a recording maps are read before, so what makes modules stays as it is while processes change.
 //! All processes share one cache, since generations tell their lists of modules apart.
-ghost use Rattle.std.specs.Prelude.{ℕ, ◌≡◌, ◌≢◌, [], None, IfOk, OnOk, Ok, IsSome, Bool, List, map, count_by};
+ghost use Rattle.std.specs.Prelude.{ℕ, ◌≡◌, ◌≢◌, ◌≤◌, ◌+◌, [], None, IfOk, IfErr, OnOk, Ok, Err, IsSome, Bool, false, List, map, count_by};
 ghost use Rattle.std.specs.BTreeMap.{get};
 ghost use Rattle.std.specs.Ordering.{nat_cmp};
+ghost use Rattle.std.specs.Result.{result_err};
 ghost use Rattle.framehop.specs.Modules.{ModuleView};
 ghost use Rattle.framehop_folded.specs.Folded.{entry_of};
 ghost use Rattle.framehop_processes.specs.Mappings.{IsInOrder};
@@ -13,12 +14,17 @@ ghost use Rattle.framehop_recording.specs.Attributes.{attribute_view};
 ghost use Rattle.framehop_recording.specs.Numbers.{PERF_RECORD_SAMPLE};
 ghost use Rattle.framehop_recording.specs.Records.{record_view};
 ghost use Rattle.framehop_recording.specs.Sample.{user_view, sample_view};
+ghost use Rattle.framehop_recording.specs.Tasks.{lost_at};
+ghost use Rattle.framehop_recording.specs.declared.error.RecordingError.{RecordingError};
+ghost use Rattle.framehop_perf_stacks.specs.Changes.{change_in};
+ghost use Rattle.framehop_perf_stacks.specs.Ended.{refusal_in, first_refusal, before_refusal, drawn_in, MayEnd};
 ghost use Rattle.framehop_perf_stacks.specs.Names.{named_in};
 ghost use Rattle.framehop_perf_stacks.specs.Processes.{mapped_in, IsServed};
 ghost use Rattle.framehop_perf_stacks.specs.Recording.{sample_in, records_in};
 ghost use Rattle.framehop_perf_stacks.specs.Run.{AreCounted, CountsMore, is_sample, samples_in_kind, sample_refusal};
-ghost use Rattle.framehop_perf_stacks.specs.Samples.{State, beginning, state_in, state_after, state_over, Agrees, samples_from, head_text, IsUserStack, IsTextAt, IsTextOf, Each, IsTaken, AreTaken};
+ghost use Rattle.framehop_perf_stacks.specs.Samples.{State, beginning, state_in, state_after, state_over, drawn_over, Agrees, samples_from, head_text, IsUserStack, IsTextAt, IsTextOf, Each, IsTaken, AreTaken};
 ghost use Rattle.framehop_frames.specs.Stack.{StackView, no_stack, stack_text, stack_view, option_stack_view};
+ghost use Rattle.framehop_perf_stacks.specs.declared.error.StacksError.TheVariants.{OutOfMemory, Recording as RecordingRefused};
 ghost use Rattle.framehop_symbols.specs.declared.files.Files.{Files};
 
 use crate::changes::change_of;
@@ -119,6 +125,8 @@ fn take_stack<R: Copy, W: Write>(
     ensures taken { OnOk result (IsTaken options.frames options.explain
         (stack_text options.frames options.sure files.now name.now (head_text name.now (Some sample.entry)) mappings.now (stack_view stack.now))
         counts.old.stacks counts.new.stacks (W.contents out.old) (W.contents out.new)) }
+    ensures refused { (samples : ℕ) → AreCounted options.frames samples counts.old
+        → IfErr result (MayEnd options.frames None 0 (samples + 1)) }
 {
     let frames = stack.frames.as_slice();
     let is_sure = sure_part(frames).len() == frames.len();
@@ -155,6 +163,8 @@ fn take_refused<W: Write>(
     ensures taken { OnOk result ((files : Files) (mappings : List Mapping) → IsTaken options.frames options.explain
         (stack_text options.frames options.sure files name.now (head_text name.now sample.entry) mappings (no_stack why.now))
         counts.old.stacks counts.new.stacks (W.contents out.old) (W.contents out.new)) }
+    ensures refused { (samples : ℕ) → AreCounted options.frames samples counts.old
+        → IfErr result (MayEnd options.frames None 0 (samples + 1)) }
 {
     counts.add_sample(alloc, why.as_bytes(), true)?;
     if options.frames {
@@ -201,6 +211,8 @@ where
         ensures none { IfOk result (λ run. (frames : Bool) → AreCounted frames 0 run.counts) }
         ensures begun { IfOk result (λ run. Agrees run.names run.processes.by_pid beginning) }
         ensures uncounted { IfOk result (λ run. (stack : List ℕ) → entry_of run.counts.stacks stack ≡ None) }
+        ensures undrawn { IfOk result (λ run. run.processes.generations ≡ 0) }
+        ensures refused { IfErr result (λ error. error ≡ OutOfMemory) }
     {
         Ok(Run {
             processes: Processes::new(alloc),
@@ -230,6 +242,8 @@ where
         ensures taken { OnOk result (IsTaken options.frames options.explain
             (stack_text options.frames options.sure files.now (named_in self.old.names sample.entry.tid) (head_text (named_in self.old.names sample.entry.tid) (Some sample.entry)) (mapped_in self.old.processes.by_pid sample.entry.pid) (option_stack_view walked.now))
             self.old.counts.stacks self.new.counts.stacks (W.contents out.old) (W.contents out.new)) }
+        ensures refused { (samples : ℕ) → AreCounted options.frames samples self.old.counts
+            → IfErr result (MayEnd options.frames None 0 (samples + 1)) }
     {
         let name = self.names.get(sample.tid);
         match walked {
@@ -284,6 +298,8 @@ where
             → (stack : StackView) × IsUserStack U.walker U.starts options.limit files.now (mapped_in self.old.processes.by_pid sample.entry.pid) (map module_of (mapped_in self.old.processes.by_pid sample.entry.pid)) mask (Ok (user_view user.entry)) stack
             × IsTaken options.frames options.explain (stack_text options.frames options.sure files.now (named_in self.old.names sample.entry.tid) (head_text (named_in self.old.names sample.entry.tid) (Some sample.entry)) (mapped_in self.old.processes.by_pid sample.entry.pid) stack)
             self.old.counts.stacks self.new.counts.stacks (W.contents out.old) (W.contents out.new)) }
+        ensures refused { (samples : ℕ) → AreCounted options.frames samples self.old.counts
+            → IfErr result (MayEnd options.frames None 0 (samples + 1)) }
     {
         let process = self.processes.known(sample.pid);
         let walked = walk_sample(
@@ -329,6 +345,9 @@ where
             → IsServed module_of (λ view. U.is_sound view self.old.cache) self.old.processes.by_pid self.old.processes.generations
             → (text : List ℕ) × IsTextAt module_of U.walker U.starts options.frames options.sure options.limit files.now (state_in self.old.names self.old.processes.by_pid) (Ok (sample_view sample.entry, mask)) text
             × IsTaken options.frames options.explain text self.old.counts.stacks self.new.counts.stacks (W.contents out.old) (W.contents out.new)) }
+        ensures drawn { self.new.processes.generations ≤ self.old.processes.generations + 1 }
+        ensures refused { (samples : ℕ) → AreCounted options.frames samples self.old.counts
+            → IfErr result (MayEnd options.frames None (self.old.processes.generations + 1) (samples + 1)) }
     {
         let user = match sample.user {
             Ok(user) => user,
@@ -370,6 +389,9 @@ where
             → IsServed module_of (λ view. U.is_sound view self.old.cache) self.old.processes.by_pid self.old.processes.generations
             → (text : List ℕ) × IsTextAt module_of U.walker U.starts options.frames options.sure options.limit files.now (state_in self.old.names self.old.processes.by_pid) (sample_in (map attribute_view events.now.attributes.items) (record_view «record».entry)) text
             × IsTaken options.frames options.explain text self.old.counts.stacks self.new.counts.stacks (W.contents out.old) (W.contents out.new)) }
+        ensures drawn { self.new.processes.generations ≤ self.old.processes.generations + 1 }
+        ensures refused { (samples : ℕ) → AreCounted options.frames samples self.old.counts
+            → IfErr result (MayEnd options.frames None (self.old.processes.generations + 1) (samples + 1)) }
     {
         match sample_of(events, record) {
             Ok((sample, mask)) => self.take_sample(alloc, files, sample, mask, options, out)?,
@@ -395,6 +417,8 @@ where
         ensures cache { self.new.cache ≡ self.old.cache }
         ensures stacks { self.new.counts.stacks ≡ self.old.counts.stacks }
         ensures counted { OnOk result ((frames : Bool) → CountsMore frames 0 self.old.counts self.new.counts) }
+        ensures read { OnOk result (result_err (lost_at (record_view «record».entry)) ≡ None) }
+        ensures refused { IfErr result (MayEnd false (result_err (lost_at (record_view «record».entry))) 0 0) }
     {
         let lost = read_lost(record)?;
         self.counts.lost = self.counts.lost.saturating_add(lost);
@@ -427,6 +451,13 @@ where
             (record_view «record».entry, state_in self.old.names self.old.processes.by_pid) text
             × IsTaken options.frames options.explain text self.old.counts.stacks self.new.counts.stacks (W.contents out.old) (W.contents out.new)) }
         ensures other { «record».entry.kind ≢ PERF_RECORD_SAMPLE → (self.new.counts.stacks ≡ self.old.counts.stacks) × (out.new ≡ out.old) }
+        ensures drawn { OnOk result (self.new.processes.generations ≤ self.old.processes.generations
+            + drawn_in (change_in files.now (record_view «record».entry)) (mapped_in self.old.processes.by_pid)) }
+        ensures read { OnOk result (refusal_in (record_view «record».entry) ≡ None) }
+        ensures refused { (samples : ℕ) → AreCounted options.frames samples self.old.counts
+            → IfErr result (MayEnd options.frames (refusal_in (record_view «record».entry))
+            (self.old.processes.generations + drawn_in (change_in files.now (record_view «record».entry)) (mapped_in self.old.processes.by_pid))
+            (samples + samples_in_kind «record».entry.kind)) }
     {
         if record.kind == SAMPLE {
             self.take_sample_record(alloc, events, files, record, options, out)?;
@@ -463,6 +494,16 @@ where
             × Each (IsTextOf (M.module_of maker.now) U.walker U.starts options.frames options.sure options.limit files.now (map attribute_view recording.now.events.attributes.items))
             (samples_from files.now state (records_in recording.now.records.items)) texts
             × AreTaken options.frames options.explain texts self.old.counts.stacks self.new.counts.stacks (W.contents out.old) (W.contents out.new)) }
+        ensures read { OnOk result (first_refusal (records_in recording.now.records.items) ≡ None) }
+        ensures refused { (state : State) → Agrees self.old.names self.old.processes.by_pid state → IfErr result (MayEnd options.frames
+            (first_refusal (records_in recording.now.records.items))
+            (self.old.processes.generations + drawn_over files.now (records_in recording.now.records.items) state)
+            (count_by is_sample recording.now.records.items)) }
+        ensures before { (state : State) → Agrees self.old.names self.old.processes.by_pid state
+            → (refusal : RecordingError) → result ≡ Err (RecordingRefused refusal) → (texts : List (List ℕ))
+            × Each (IsTextOf (M.module_of maker.now) U.walker U.starts options.frames options.sure options.limit files.now (map attribute_view recording.now.events.attributes.items))
+            (samples_from files.now state (before_refusal (records_in recording.now.records.items))) texts
+            × AreTaken options.frames options.explain texts self.old.counts.stacks self.new.counts.stacks (W.contents out.old) (W.contents out.new) }
     {
         for timed in &recording.records {
             self.take_record(

@@ -1,8 +1,11 @@
-use Rattle.std.proofs.Common.{refl, ap, sym, ◌∙◌}
+use Rattle.std.proofs.Common.{◌≡◌, Err, true, refl, ap, sym, ◌∙◌, true≢false, arith}
 use Rattle.std.specs.Result.{is_err}
 use Rattle.std.proofs.lemmas.Result.{IfOk-from_err}
+use Rattle.framehop_perf_stacks.proofs.EndedLemmas.{ends_more, either_error, refusal_of_second, cannot_write, same_error, if_err_weaker, if_err_at, if_err_none}
 use Rattle.framehop_perf_stacks.proofs.TakenLemmas.{made, both_ok, at_ok}
+use Rattle.framehop_perf_stacks.specs.Printed.{MayEndAt}
 use Rattle.framehop_perf_stacks.specs.Samples.{beginning}
+use Rattle.framehop_perf_stacks.specs.declared.error.StacksError.TheVariants.{Recording as Refused}
 use Rattle.framehop_perf_stacks.proofs.program.unwind_all.Goals as goal
 use Rattle.framehop_perf_stacks.proofs.program.unwind_all.Goals.{in-Ok, in-Err}
 
@@ -12,13 +15,15 @@ take_records-taken-requires-clause-served g c = c.in_ok-run.ensures.served (g.M.
 pub take_records-taken-requires-clause-none : goal.take_records-taken-requires-clause-none
 take_records-taken-requires-clause-none g c = c.in_ok-run.ensures.none c.args.options.frames
 
-pub returns : goal.returns
-returns g c = elim c.match-and.branch [
+pub returns-clause-made : goal.returns-clause-made
+returns-clause-made g c = elim c.match-and.branch [
   | in-Ok w ↦
-      let told = both_ok c.write_counts-counted.result c.take_records-taken.result _ (sym c.and.ensures ∙ w.in-Ok.is)
+      let both = sym c.and.ensures ∙ w.in-Ok.is in
+      let told = both_ok c.write_counts-counted.result c.take_records-taken.result _ both
       (c.take_records-taken.ensures.told beginning c.in_ok-run.ensures.begun) in
+      let none = both_ok c.write_counts-counted.result c.take_records-taken.result _ both c.take_records-taken.ensures.read in
       at_ok c.match-and.ended c.args.recording.now.refusal _ w.ended-is (
-        refl,
+        record { at_end = refl; none = none },
         (
           told.0,
           told.1,
@@ -28,4 +33,33 @@ returns g c = elim c.match-and.branch [
         ),
       )
   | in-Err w ↦ IfOk-from_err c.match-and.ended _ (ap is_err w.ended-is)
+]
+
+pub returns-clause-ended : goal.returns-clause-ended
+returns-clause-ended g c = elim c.match-and.branch [
+  | in-Ok w ↦ if_err_none c.match-and.ended _ _ w.ended-is
+  | in-Err w ↦
+      let EndsHere = MayEndAt c.args.recording.now c.args.files.now in
+      if_err_at c.match-and.ended _ EndsHere w.ended-is
+      (either_error c.write_counts-counted.result c.take_records-taken.result _ EndsHere (sym c.and.ensures ∙ w.in-Err.is)
+      (if_err_weaker c.write_counts-counted.result _ EndsHere (λ error is. cannot_write _ _ _ error is) c.write_counts-counted.ensures.refused)
+      (if_err_weaker c.take_records-taken.result _ EndsHere
+      (λ error ends. ends_more c.args.options.frames true _ _ _ _ _ _ error (λ writes. refl) (λ refusal is. is) (omega (arith, c.in_ok-run.ensures.undrawn)) (omega arith) ends)
+      (c.take_records-taken.ensures.refused beginning c.in_ok-run.ensures.begun)))
+]
+
+pub returns-clause-before : goal.returns-clause-before
+returns-clause-before g c = elim c.match-and.branch [
+  | in-Ok w ↦ λ refusal is. absurd (true≢false (sym (ap is_err is) ∙ ap is_err w.ended-is))
+  | in-Err w ↦ λ refusal is.
+      let same = same_error _ w.in-Err.error (Refused refusal) (sym w.ended-is ∙ is) in
+      let both = sym c.and.ensures ∙ w.in-Err.is ∙ ap (λ error. Err error) same in
+      let taken = refusal_of_second c.write_counts-counted.result c.take_records-taken.result refusal both c.write_counts-counted.ensures.refused in
+      let told = c.take_records-taken.ensures.before beginning c.in_ok-run.ensures.begun refusal taken in (
+        told.0,
+        told.1,
+        made c.args.options.frames c.args.options.explain told.0 c.in_ok-run.run'.counts.stacks
+            c.take_records-taken.new.self.counts.stacks (g.W.Write.contents c.args.out.now)
+            (g.W.Write.contents c.take_records-taken.new.out) told.2 c.in_ok-run.ensures.uncounted,
+      )
 ]

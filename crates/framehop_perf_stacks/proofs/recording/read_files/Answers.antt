@@ -22,11 +22,11 @@ loop-timed-preserved g c =
       l.invariant.0,
       l.invariant.1,
       λ last rest. l.invariant.2 last
-          (subst (λ records. AreAdded source build_ids records l.files last) (sym left) (c.add_file.new.files, c.in_ok-add_file.ensures, rest)),
+          (subst (λ records. AreAdded source build_ids records l.files last) (sym left) (c.add_file.new.files, c.in_ok-add_file.ensures.added, rest)),
     )
 
-pub returns : goal.returns
-returns g c =
+pub returns-clause-read : goal.returns-clause-read
+returns-clause-read g c =
     let l = c.loop-timed in
     let records = c.args.recording.now.records.items in
     let none : records_in (drop l.timed-index records) ≡ [] = at_drop_all records_in records l.timed-index (omega arith) in (

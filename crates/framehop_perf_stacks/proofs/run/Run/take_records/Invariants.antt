@@ -16,5 +16,6 @@ invariant-loop-timed g l =
     × ((first : State) → Agrees l.initial.self.names l.initial.self.processes.by_pid first →
     IsSoFar l.files (IsTextOf (g.M.ModuleMaker.module_of l.maker) g.U.Steps.walker g.U.Sampled.starts l.options.frames l.options.sure l.options.limit l.files
     (map attribute_view l.recording.events.attributes.items)) l.options.frames l.options.explain (records_in l.recording.records.items) first
-    l.initial.self.counts.stacks (g.W.Write.contents l.initial.out) (records_in (drop l.timed-index l.recording.records.items))
-    l.self.names l.self.processes.by_pid l.self.counts.stacks (g.W.Write.contents l.out))
+    l.initial.self.counts.stacks (g.W.Write.contents l.initial.out) l.initial.self.processes.generations
+    (records_in (drop l.timed-index l.recording.records.items))
+    l.self.names l.self.processes.by_pid l.self.counts.stacks (g.W.Write.contents l.out) l.self.processes.generations)
