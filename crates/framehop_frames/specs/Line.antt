@@ -58,7 +58,7 @@ cut_text name = if nat_lt LONGEST_NAME (length name) then codes "..." else []
 abbrev pub printed : List ℕ → List ℕ
 printed part = flat_map (printed_byte (is_text part)) part
 
-abbrev pub plain : List ℕ → List ℕ
+unfoldable pub plain : List ℕ → List ℕ
 plain name = printed (take LONGEST_NAME name) ++ cut_text name
 
 -- a file's name without its folders

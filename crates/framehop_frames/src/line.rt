@@ -94,6 +94,7 @@ fn base_name(path: &[u8]) -> &[u8]
 
 /// Appends a name as it is printed: a `;` becomes a colon, and a control character `\xNN`; in a name that is no UTF-8, or
 /// has a control character of C1, so does each byte beyond ASCII. Of a name of more than 2,048 bytes the rest is `...`.
+#[tactic(auto, unfolding(crate::specs::Line::plain))]
 pub fn push_name(line: &mut Vec<u8>, name: &[u8]) -> Result<(), AllocError>
     ensures { OnOk result (line.new.items ≡ line.old.items ++ plain name.now) }
 {
