@@ -50,7 +50,7 @@ said() {
 # The recordings that no machine made, and what is printed of the large ones.
 made=$work/made
 mkdir "$made" || exit 1
-for case in cut short_comm short_fork lost files lines; do
+for case in cut short_comm short_fork lost files lines long; do
     python3 "$checks/stacks/made_up_recording.py" "$made/$case.data" "$case" || exit 1
 done
 python3 - "$work" <<'END' || exit 1
@@ -58,12 +58,15 @@ import sys
 from pathlib import Path
 
 work = Path(sys.argv[1])
-counted = "{0} samples, 0 records lost by the kernel\n0 samples with frames that no unwind data tells\nhow the stacks ended:\nframe-pointer-0 {0}\n"
+counted = "{0} samples, 0 records lost by the kernel\n{1} samples with frames that no unwind data tells\nhow the stacks ended:\nframe-pointer-0 {0}\n"
 work.joinpath("files.folded").write_text("app;[frame-pointer-0];1099+0x8 1\n")
-work.joinpath("files.errors").write_text("".join(f"/srv/{at:04}: can't be read\n" for at in range(1100)) + counted.format(1))
+work.joinpath("files.errors").write_text("".join(f"/srv/{at:04}: can't be read\n" for at in range(1100)) + counted.format(1, 0))
 lines = sorted(f"app;[frame-pointer-0];app+0x{0x10000 + 4 * at:x} 1\n" for at in range(70000))
 work.joinpath("lines.folded").write_text("".join(lines))
-work.joinpath("lines.errors").write_text("/srv/app: can't be read\n" + counted.format(70000))
+name = "x" * 60000
+work.joinpath("long.folded").write_text(f"app;[frame-pointer-0];{name}+0x1203;{name}+0x1124 1\n")
+work.joinpath("long.errors").write_text(f"/srv/{name}: can't be read\n" + counted.format(1, 1))
+work.joinpath("lines.errors").write_text("/srv/app: can't be read\n" + counted.format(70000, 0))
 END
 python3 "$checks/stacks/summary.py" "$checks/stacks/tiny.frames" >"$work/tiny.summary" || exit 1
 cat "$checks/stacks/made-up.summary" "$work/tiny.summary" >"$work/both.summary"
@@ -107,6 +110,7 @@ for program in "$@"; do
     try_in "$made" 0 "$checks/stacks/lost.folded" "$checks/stacks/lost.errors" --root . lost.data
     try_in "$made" 0 "$work/files.folded" "$work/files.errors" --root . files.data
     try_in "$made" 0 "$work/lines.folded" "$work/lines.errors" --root . lines.data
+    try_in "$made" 0 "$work/long.folded" "$work/long.errors" --root . long.data
 done
 [ "$failed" = 0 ] || exit 1
 echo "the runs of framehop-stacks with arguments are as they should be"

@@ -11,6 +11,7 @@ order of their times. The cases, whose output `checks/try_stacks.sh` has:
     lost        two records of lost records, and of two threads that begin
     files       a mapping of each of 1,100 files, and a sample in the last
     lines       70,000 samples, each with a stack of its own
+    long        a file with a name of 60,000 letters, which is twice in the stack of a sample
 
 Layout: Linux, include/uapi/linux/perf_event.h, and tools/perf/Documentation/perf.data-file-format.txt.
 """
@@ -140,7 +141,12 @@ def lines():
     return maps + [sample(100, 10 + at, 0x20000 + 4 * at, [(0, 0x10204)]) for at in range(70000)]
 
 
-CASES = {"short_comm": short_comm, "short_fork": short_fork, "lost": lost_twice, "files": files, "lines": lines}
+def long():
+    whole = [(STACK + 16, 0x10204), (0, 0x10300)]
+    return [comm(100, "app", 1), mapping(100, 0x10000, 0x3000, 0x1000, "/srv/" + "x" * 60000, 2), sample(100, 10, 0x10124, whole)]
+
+
+CASES = {"short_comm": short_comm, "short_fork": short_fork, "lost": lost_twice, "files": files, "lines": lines, "long": long}
 
 
 def recording(body, is_timed=True):

@@ -1,6 +1,6 @@
 -- What is counted of samples.
-use Rattle.std.specs.Prelude.{◌≡◌, ◌≢◌, ℕ, ◌+◌, Bool, if◌then◌else◌, List, Some}
-use Rattle.framehop_folded.specs.Folded.{total_of, entry_of, count_in}
+use Rattle.std.specs.Prelude.{◌≡◌, ◌≢◌, ℕ, ◌+◌, ◌++◌, Bool, if◌then◌else◌, List, Some, codes, decimal}
+use Rattle.framehop_folded.specs.Folded.{total_of, entry_of, count_in, text_of}
 use Rattle.framehop_folded.specs.declared.folded.Folded.{Folded}
 use Rattle.framehop_perf_stacks.specs.declared.counts.Counts.{Counts}
 
@@ -16,3 +16,11 @@ pub record HasSampleMore (old new : Counts) (end : List ℕ) (sure : Bool) : Typ
   pub unsure : new.unsure ≡ old.unsure + (if sure then 0 else 1)
   pub ends : CountsOneMore old.ends new.ends end
   pub lost : new.lost ≡ old.lost
+
+-- what is said of samples: how many they are, how many records were lost, how many samples are unsure, and how often walks
+-- ended in which way
+abbrev pub summary_text : Counts → List ℕ
+summary_text counts =
+    decimal counts.samples ++ codes " samples, " ++ decimal counts.lost ++ codes " records lost by the kernel\n"
+    ++ decimal counts.unsure ++ codes " samples with frames that no unwind data tells\n"
+    ++ codes "how the stacks ended:\n" ++ text_of counts.ends

@@ -1,9 +1,11 @@
 //! From the bytes of a recording to folded stacks or blocks.
-ghost use Rattle.std.specs.Prelude.{ℕ, ◌≡◌, Err, IfOk, IfErr, OnErr, MatchResult, List, map, true};
+ghost use Rattle.std.specs.Prelude.{ℕ, ◌≡◌, Err, IfOk, IfErr, OnOk, OnErr, MatchResult, List, map, true};
+ghost use Rattle.std.specs.Io.KnownBytes.{Appends};
 ghost use Rattle.std.specs.Result.{result_err};
 ghost use Rattle.framehop_recording.specs.Attributes.{attribute_view};
 ghost use Rattle.framehop_recording.specs.BuildIds.{file_build_id_view};
 ghost use Rattle.framehop_recording.specs.declared.error.RecordingError.{RecordingError};
+ghost use Rattle.framehop_perf_stacks.specs.Counts.{summary_text};
 ghost use Rattle.framehop_perf_stacks.specs.Ended.{before_refusal, MayEnd};
 ghost use Rattle.framehop_perf_stacks.specs.Files.{AreFilesOf};
 ghost use Rattle.framehop_perf_stacks.specs.Printed.{IsMadeOf, IsWhole, IsMadeUntil, MayEndAt};
@@ -40,6 +42,7 @@ pub struct Unwound {
 
 /// Writes what was counted.
 fn write_counts<E: Write>(err: &mut E, counts: &Counts) -> Result<(), StacksError>
+    ensures written { OnOk result (Appends (E.contents err.old) (E.contents err.new) (summary_text counts.now)) }
     ensures refused { IfErr result (λ error. error ≡ CannotWrite) }
 {
     let samples = counts.samples;

@@ -2,10 +2,10 @@
 //!
 //! The files that a recording maps are read before, so what makes modules stays as it is while processes change.
 //! All processes share one cache, since generations tell their lists of modules apart.
-ghost use Rattle.std.specs.Prelude.{ℕ, ◌≡◌, ◌≢◌, ◌≤◌, ◌+◌, [], None, IfOk, IfErr, OnOk, Ok, Err, IsSome, Bool, false, List, map, count_by};
+ghost use Rattle.std.specs.Prelude.{ℕ, ◌≡◌, ◌≢◌, ◌≤◌, ◌+◌, ◌-◌, ◌^◌, min, length, ◌&&◌, if◌then◌else◌, [], None, IfOk, IfErr, OnOk, Ok, Err, IsSome, Bool, false, List, map, count_by};
 ghost use Rattle.std.specs.BTreeMap.{get};
 ghost use Rattle.std.specs.Ordering.{nat_cmp};
-ghost use Rattle.std.specs.Result.{result_err};
+ghost use Rattle.std.specs.Result.{result_err, result_unwrap_or};
 ghost use Rattle.framehop.specs.Modules.{ModuleView};
 ghost use Rattle.framehop_folded.specs.Folded.{entry_of};
 ghost use Rattle.framehop_processes.specs.Mappings.{IsInOrder};
@@ -17,13 +17,15 @@ ghost use Rattle.framehop_recording.specs.Sample.{user_view, sample_view};
 ghost use Rattle.framehop_recording.specs.Tasks.{lost_at};
 ghost use Rattle.framehop_recording.specs.declared.error.RecordingError.{RecordingError};
 ghost use Rattle.framehop_perf_stacks.specs.Changes.{change_in};
+ghost use Rattle.framehop_perf_stacks.specs.Counts.{CountsOneMore};
 ghost use Rattle.framehop_perf_stacks.specs.Ended.{refusal_in, first_refusal, before_refusal, drawn_in, MayEnd};
 ghost use Rattle.framehop_perf_stacks.specs.Names.{named_in};
 ghost use Rattle.framehop_perf_stacks.specs.Processes.{mapped_in, IsServed};
 ghost use Rattle.framehop_perf_stacks.specs.Recording.{sample_in, records_in};
 ghost use Rattle.framehop_perf_stacks.specs.Run.{AreCounted, CountsMore, is_sample, samples_in_kind, sample_refusal};
 ghost use Rattle.framehop_perf_stacks.specs.Samples.{State, beginning, state_in, state_after, state_over, drawn_over, Agrees, samples_from, head_text, IsUserStack, IsTextAt, IsTextOf, Each, IsTaken, AreTaken};
-ghost use Rattle.framehop_frames.specs.Stack.{StackView, no_stack, stack_text, stack_view, option_stack_view};
+ghost use Rattle.framehop_frames.specs.Line.{end_name};
+ghost use Rattle.framehop_frames.specs.Stack.{line_count, StackView, no_stack, stack_text, stack_view, option_stack_view};
 ghost use Rattle.framehop_perf_stacks.specs.declared.error.StacksError.TheVariants.{OutOfMemory, Recording as RecordingRefused};
 ghost use Rattle.framehop_symbols.specs.declared.files.Files.{Files};
 
@@ -127,6 +129,7 @@ fn take_stack<R: Copy, W: Write>(
         counts.old.stacks counts.new.stacks (W.contents out.old) (W.contents out.new)) }
     ensures refused { (samples : ℕ) → AreCounted options.frames samples counts.old
         → IfErr result (MayEnd options.frames None 0 (samples + 1)) }
+    ensures ends { OnOk result (CountsOneMore counts.old.ends counts.new.ends (end_name stack.now.end)) }
 {
     let frames = stack.frames.as_slice();
     let is_sure = sure_part(frames).len() == frames.len();
@@ -165,6 +168,7 @@ fn take_refused<W: Write>(
         counts.old.stacks counts.new.stacks (W.contents out.old) (W.contents out.new)) }
     ensures refused { (samples : ℕ) → AreCounted options.frames samples counts.old
         → IfErr result (MayEnd options.frames None 0 (samples + 1)) }
+    ensures ends { OnOk result (CountsOneMore counts.old.ends counts.new.ends why.now) }
 {
     counts.add_sample(alloc, why.as_bytes(), true)?;
     if options.frames {
@@ -192,7 +196,10 @@ fn notes_of<U: Sampled>(
     user: UserStack<'_>,
     walked: &Option<Stack<U::UnwindRegs>>,
     options: Options,
-) -> Result<Vec<Note>, AllocError> {
+) -> Result<Vec<Note>, AllocError>
+    ensures { IfOk result (λ notes. length notes.items
+        ≡ (if options.frames && options.explain then line_count (option_stack_view walked.now) else 0)) }
+{
     if options.frames && options.explain {
         return sample_notes(alloc, unwinder, mask, user, walked);
     }
@@ -417,6 +424,8 @@ where
         ensures cache { self.new.cache ≡ self.old.cache }
         ensures stacks { self.new.counts.stacks ≡ self.old.counts.stacks }
         ensures counted { OnOk result ((frames : Bool) → CountsMore frames 0 self.old.counts self.new.counts) }
+        ensures lost { OnOk result (self.new.counts.lost
+            ≡ min (self.old.counts.lost + result_unwrap_or (lost_at (record_view «record».entry)) 0) (2 ^ 64 - 1)) }
         ensures read { OnOk result (result_err (lost_at (record_view «record».entry)) ≡ None) }
         ensures refused { IfErr result (MayEnd false (result_err (lost_at (record_view «record».entry))) 0 0) }
     {
