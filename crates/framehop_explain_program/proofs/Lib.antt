@@ -1,1 +1,2 @@
 pub mod FunctionLemmas
+pub mod SessionLemmas

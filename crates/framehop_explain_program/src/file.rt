@@ -4,7 +4,7 @@
 //! tell it.
 ghost use Rattle.std.specs.Prelude.{◌≡◌, ◌++◌, OnOk, string_bytes};
 ghost use Rattle.framehop_cfi.specs.Entry.{fde_at};
-ghost use Rattle.framehop_explain_program.specs.Functions.{fde_line, entry_line, function_lines};
+ghost use Rattle.framehop_explain_program.specs.Functions.{unread_line, fde_line, entry_line, ends_section, function_lines};
 
 use crate::row_text::{RegisterNames, push_row};
 use framehop::aarch64::{ArchAarch64, UnwindRegsAarch64};
@@ -15,7 +15,8 @@ use framehop::x86_64::{ArchX86_64, UnwindRegsX86_64};
 use framehop::{Module, ModuleListError, UnwinderError};
 use framehop_cfi::context::UnwindContext;
 use framehop_cfi::entry::{EntryHead, UnwindSection, UnwindSectionType};
-use framehop_cfi::extent::read_extent;
+use framehop_cfi::extent::{EntryExtent, read_extent};
+use framehop_cfi::read_error::ReadError;
 use framehop_cfi::storage::StoreOnHeap;
 use framehop_dwarf::unwinder::find_row;
 use framehop_elf::error::ElfError;
@@ -164,11 +165,17 @@ fn push_fde_line(section: &UnwindSection<'_>, at: usize, out: &mut String) -> Re
             let end = start.wrapping_add(fde.address_range);
             writeln!(out, "0x{start:x}..0x{end:x}: FDE 0x{at:x}")
         }
-        Err(error) => {
-            let reason = ReadReason(error);
-            writeln!(out, "FDE 0x{at:x} can't be read: {reason}")
-        }
+        Err(error) => push_unread(at, error, out),
     }
+}
+
+/// Appends the line of an FDE at an offset that can't be read.
+#[tactic(auto, unfolding(crate::specs::Functions::unread_line))]
+fn push_unread(at: usize, error: ReadError, out: &mut String) -> Result<(), AllocError>
+    ensures { OnOk result (string_bytes out.new ≡ string_bytes out.old ++ unread_line at error) }
+{
+    let reason = ReadReason(error);
+    writeln!(out, "FDE 0x{at:x} can't be read: {reason}")
 }
 
 /// Appends a line for the entry at an offset, if it is an FDE.
@@ -192,17 +199,23 @@ fn push_functions(section: &UnwindSection<'_>, out: &mut String) -> Result<(), A
         let Ok(extent) = read_extent(section.bytes, at) else {
             return Ok(());
         };
-        if extent.is_zero_length() {
-            match section.section_type {
-                UnwindSectionType::EhFrame => return Ok(()),
-                UnwindSectionType::DebugFrame => {}
-            }
-        } else {
-            push_entry(section, at, out)?;
+        if ends_section(section, &extent) {
+            return Ok(());
         }
+        push_entry(section, at, out)?;
         at = extent.end;
     }
     Ok(())
+}
+
+/// Returns whether an entry of this extent ends a section: a length of 0 does in `.eh_frame`.
+fn ends_section(section: &UnwindSection<'_>, extent: &EntryExtent) -> bool
+    ensures { result ≡ ends_section section.now.kind extent.now }
+{
+    match section.section_type {
+        UnwindSectionType::EhFrame => extent.is_zero_length(),
+        UnwindSectionType::DebugFrame => false,
+    }
 }
 
 /// Appends a line for each function of a PE module, in the order of its table.

@@ -1,6 +1,11 @@
 //! What the note of a module says, when it is added.
+ghost use Rattle.std.specs.Prelude.{◌≡◌, ◌++◌, ℕ, List, IfOk, string_bytes};
+ghost use Rattle.std.specs.List.{flat_map};
+ghost use Rattle.framehop_explain.specs.DataText.{IsDataText};
+ghost use Rattle.framehop_explain_program.specs.SessionNotes.{remark_line, module_line, base_lines, IsModuleNote};
+
 use framehop::Module;
-use framehop_explain::{Note, UnwindDataKind, unwind_data_text};
+use framehop_explain::{Note, UnwindDataKind, module_name, unwind_data_text};
 use serde_json::Value;
 use std::alloc::{AllocError, Global};
 
@@ -50,39 +55,94 @@ fn without_svma(kind: UnwindDataKind) -> &'static str {
     }
 }
 
+/// Returns what the input tells of a section beside, if anything.
+fn remark_on(
+    alloc: Global,
+    kind: UnwindDataKind,
+    section: &Value,
+) -> Result<Option<String>, AllocError> {
+    let Some(name) = section.get("name").and_then(Value::as_str) else {
+        return Ok(None);
+    };
+    if !is_section(name) {
+        return Ok(Some(format!(in alloc; "unwinding asks for no section {name}")?));
+    }
+    if needs_svma(kind, name) && section.get("svma").is_none() {
+        let effect = without_svma(kind);
+        return Ok(Some(format!(in alloc; "{name} has no svma, {effect}")?));
+    }
+    Ok(None)
+}
+
 /// Adds to a note what the input tells of a section beside.
 fn with_section(
     alloc: Global,
     kind: UnwindDataKind,
     section: &Value,
     note: Note,
-) -> Result<Note, AllocError> {
-    let Some(name) = section.get("name").and_then(Value::as_str) else {
-        return Ok(note);
-    };
-    if !is_section(name) {
-        let line = format!(in alloc; "note: unwinding asks for no section {name}")?;
-        return note.with_line(line.as_str());
+) -> Result<Note, AllocError>
+    ensures { IfOk result (λ more. (remarks : List (List ℕ)) × (more ≡ note ++ flat_map remark_line remarks)) }
+{
+    let remark = remark_on(alloc, kind, section)?;
+    match &remark {
+        Some(text) => with_remark(alloc, text.as_str(), note),
+        None => Ok(note),
     }
-    if needs_svma(kind, name) && section.get("svma").is_none() {
-        let effect = without_svma(kind);
-        let line = format!(in alloc; "note: {name} has no svma, {effect}")?;
-        return note.with_line(line.as_str());
-    }
-    Ok(note)
+}
+
+/// Adds a remark to a note.
+fn with_remark(alloc: Global, text: &str, note: Note) -> Result<Note, AllocError>
+    ensures { IfOk result (λ more. more ≡ note ++ remark_line text.now) }
+{
+    let line = format!(in alloc; "note: {text}")?;
+    note.with_line(line.as_str())
 }
 
 /// Adds to a note that the base of a module is above its start, if it is.
-fn with_base(alloc: Global, module: &Module<Vec<u8>>, note: Note) -> Result<Note, AllocError> {
+fn with_base(alloc: Global, module: &Module<Vec<u8>>, note: Note) -> Result<Note, AllocError>
+    ensures { IfOk result (λ more. more ≡ note ++ base_lines «module».now) }
+{
     let base = module.base_avma();
     let start = module.avma_range().start;
     if base <= start {
         return Ok(note);
     }
-    let line = format!(in alloc;
-        "note: the base 0x{base:x} is above the start 0x{start:x}: addresses below the base are not covered"
+    let text = format!(in alloc;
+        "the base 0x{base:x} is above the start 0x{start:x}: addresses below the base are not covered"
     )?;
-    note.with_line(line.as_str())
+    let more = with_remark(alloc, text.as_str(), note)?;
+    Ok(more)
+}
+
+/// Adds to a note what the input tells of the sections of a command beside.
+fn with_sections(
+    alloc: Global,
+    kind: UnwindDataKind,
+    command: &Value,
+    note: Note,
+) -> Result<Note, AllocError>
+    ensures { IfOk result (λ more. (remarks : List (List ℕ)) × (more ≡ note ++ flat_map remark_line remarks)) }
+{
+    let Some(sections) = command.get("sections").and_then(Value::as_array) else {
+        return Ok(note);
+    };
+    let mut more = note;
+    for section in sections {
+        more = with_section(alloc, kind, section, more)?;
+    }
+    Ok(more)
+}
+
+/// Returns the line of a module that a command adds: what unwind data it has.
+fn module_line(alloc: Global, module: &Module<Vec<u8>>) -> Result<Note, AllocError>
+    ensures { IfOk result (λ note. (unwind_data : List ℕ) × IsDataText «module».now.unwind_data unwind_data
+        × (note ≡ module_line «module».now unwind_data)) }
+{
+    let name = module_name(module);
+    let unwind_data = unwind_data_text(alloc, module)?;
+    let line = format!(in alloc; "{name}: {}", unwind_data.as_str())?;
+    let note = Note::new(alloc).with_line(line.as_str())?;
+    Ok(note)
 }
 
 /// Returns the note of a module that a command adds: what unwind data it has, and what in the input is of no use.
@@ -90,18 +150,10 @@ pub fn module_note(
     alloc: Global,
     module: &Module<Vec<u8>>,
     command: &Value,
-) -> Result<Note, AllocError> {
-    let kind = UnwindDataKind::of(module);
-    let name = module.name();
-    let unwind_data = unwind_data_text(alloc, module)?;
-    let line = format!(in alloc; "{name}: {}", unwind_data.as_str())?;
-    let mut note = Note::new(alloc).with_line(line.as_str())?;
-    note = with_base(alloc, module, note)?;
-    let Some(sections) = command.get("sections").and_then(Value::as_array) else {
-        return Ok(note);
-    };
-    for section in sections {
-        note = with_section(alloc, kind, section, note)?;
-    }
-    Ok(note)
+) -> Result<Note, AllocError>
+    ensures { IfOk result (IsModuleNote «module».now) }
+{
+    let note = module_line(alloc, module)?;
+    let note = with_base(alloc, module, note)?;
+    with_sections(alloc, UnwindDataKind::of(module), command, note)
 }

@@ -1,12 +1,16 @@
 //! The whole run of the program, over a reader and two writers.
-ghost use Rattle.std.specs.Prelude.{◌≡◌, ◌≢◌, ◌≤◌, ◌++◌, ◌||◌, is_err, IfOk, IfErr, OnOk, OnErr, IfSome, true, false, Err, option_map, string_bytes};
+ghost use Rattle.std.specs.Prelude.{◌≡◌, ◌≢◌, ◌≤◌, ◌++◌, ◌||◌, is_err, IfOk, IfErr, OnOk, OnErr, IfSome, MatchBool, true, false, Ok, Err, option_map, string_bytes};
 ghost use Rattle.std.specs.Io.KnownBytes.{Keeps, Appends};
+ghost use Rattle.serde_json.specs.Find.{as_str};
 ghost use Rattle.serde_json.specs.View.{view};
-ghost use Rattle.framehop_walk.specs.Answers.{Answers, IsJson, IsNoJson, IsOfRun};
+ghost use Rattle.framehop_explain.specs.Found.{explaining_by};
+ghost use Rattle.framehop_walk.specs.Answers.{Answers, IsJson, IsNoJson, IsOfRun, read_policy};
+ghost use Rattle.framehop_walk.specs.Fields.{field_as};
 ghost use Rattle.framehop_walk.specs.Refusals.{refusal_text, refusal_status};
 ghost use Rattle.framehop_walk.specs.Streams.{outputs};
 ghost use Rattle.framehop_walk.specs.declared.refusal.Refusal.TheVariants.{OutOfMemory};
 ghost use Rattle.framehop_explain_program.specs.Explained.{IsExplained, IsPrinted};
+ghost use Rattle.framehop_explain_program.specs.SessionNotes.{AreNotesUnder, AreSessionNotes};
 ghost use Rattle.framehop_explain_program.specs.Runs.{place_text, problem_line, IsRun};
 
 use crate::explainer::notes_of;
@@ -110,6 +114,17 @@ fn place_of(alloc: Global, value: &Value, refusal: Refusal) -> Result<Option<Str
     }
 }
 
+/// Returns whether a field is this word.
+fn is_word(value: &Value, field: &'static str, word: &str) -> bool
+    ensures { MatchBool result (field_as as_str field.entry.now (view value.now) ≡ Ok word.now)
+        (field_as as_str field.entry.now (view value.now) ≢ Ok word.now) }
+{
+    match text(value, field) {
+        Ok(text) => text == word,
+        Err(_) => false,
+    }
+}
+
 /// Returns the notes of a session on an architecture, under the policy that the input names.
 fn notes_under<A: Registers + Sources>(
     alloc: Global,
@@ -117,19 +132,25 @@ fn notes_under<A: Registers + Sources>(
 ) -> Result<Vec<Note>, AllocError>
 where
     A::UnwindRule: DescribeRule,
+    ensures { IfOk result (λ notes. AreNotesUnder A.reading (explaining_by A.readers A.pe_source
+        (record { by_code = A.by_code; prologue = A.prologue_rule; epilogue = A.epilogue_rule })
+        A.UnwindRule.rule_text A.UnwindRule.fallback)
+        A.unwinding (view value.now) (read_policy (view value.now)) notes.items) }
 {
-    match text(value, "policy") {
-        Ok("may") => notes_of::<A, MayAllocateDuringUnwind>(alloc, value),
-        _ => notes_of::<A, MustNotAllocateDuringUnwind>(alloc, value),
+    if is_word(value, "policy", "may") {
+        return notes_of::<A, MayAllocateDuringUnwind>(alloc, value);
     }
+    notes_of::<A, MustNotAllocateDuringUnwind>(alloc, value)
 }
 
 /// Returns the notes under the lines of the replies, on the architecture that the input names.
-fn notes_on(alloc: Global, value: &Value) -> Result<Vec<Note>, AllocError> {
-    match text(value, "arch") {
-        Ok("aarch64") => notes_under::<ArchAarch64>(alloc, value),
-        _ => notes_under::<ArchX86_64>(alloc, value),
+fn notes_on(alloc: Global, value: &Value) -> Result<Vec<Note>, AllocError>
+    ensures { IfOk result (λ notes. AreSessionNotes (view value.now) notes.items) }
+{
+    if is_word(value, "arch", "aarch64") {
+        return notes_under::<ArchAarch64>(alloc, value);
     }
+    notes_under::<ArchX86_64>(alloc, value)
 }
 
 /// Returns the replies to the bytes of the input, with notes under their lines.

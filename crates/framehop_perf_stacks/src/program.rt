@@ -98,12 +98,17 @@ where
 }
 
 /// Writes a line for each file of which nothing was read.
-fn write_problems<E: Write>(err: &mut E, files: &Files) -> Result<(), StacksError>
-    ensures refused { IfErr result (λ error. error ≡ CannotWrite) }
+fn write_problems<E: Write>(
+    alloc: Global,
+    err: &mut E,
+    files: &Files,
+) -> Result<(), StacksError>
+    ensures refused { IfErr result (λ error. (error ≡ OutOfMemory) ⊎ (error ≡ CannotWrite)) }
 {
     for file in files.list() {
         if let Some(problem) = file.problem {
-            err.write_all(file.name.as_slice())?;
+            let name = printed_name(alloc, file.name.as_slice())?;
+            err.write_all(name.as_slice())?;
             writeln!(err, ": {problem}")?;
         }
     }
@@ -167,6 +172,6 @@ pub fn write_stacks<S: FileSource, W: Write, E: Write>(
 {
     let recording = read_recording(alloc, file)?;
     let files = read_files(alloc, &recording, source)?;
-    write_problems(err, &files)?;
+    write_problems(alloc, err, &files)?;
     unwind_recording(alloc, &recording, &files, options, out, err)
 }
