@@ -1,5 +1,5 @@
 //! From the bytes of a recording to folded stacks or blocks.
-ghost use Rattle.std.specs.Prelude.{ℕ, ◌≡◌, Err, IfOk, IfErr, OnOk, OnErr, MatchResult, List, map, true};
+ghost use Rattle.std.specs.Prelude.{ℕ, ◌≡◌, ◌⊎◌, Err, IfOk, IfErr, OnOk, OnErr, MatchResult, List, map, true};
 ghost use Rattle.std.specs.Io.KnownBytes.{Appends};
 ghost use Rattle.std.specs.Result.{result_err};
 ghost use Rattle.framehop_recording.specs.Attributes.{attribute_view};
@@ -24,6 +24,7 @@ use framehop::aarch64::UnwinderAarch64;
 use framehop::cache::MayAllocateDuringUnwind;
 use framehop::x86_64::UnwinderX86_64;
 use framehop_folded::folded::Folded;
+use framehop_frames::line::printed_name;
 use framehop_processes::ModuleMaker;
 use framehop_recording::error::RecordingError;
 use framehop_symbols::files::{FileModules, FileSource, Files};
@@ -98,11 +99,7 @@ where
 }
 
 /// Writes a line for each file of which nothing was read.
-fn write_problems<E: Write>(
-    alloc: Global,
-    err: &mut E,
-    files: &Files,
-) -> Result<(), StacksError>
+fn write_problems<E: Write>(alloc: Global, err: &mut E, files: &Files) -> Result<(), StacksError>
     ensures refused { IfErr result (λ error. (error ≡ OutOfMemory) ⊎ (error ≡ CannotWrite)) }
 {
     for file in files.list() {
