@@ -235,7 +235,11 @@ fn counted(counts: Counts, tracked: Tracked, item: Item) -> Counts
 
 /// Checks an instruction, and returns where the check has then got to.
 #[tactic(auto, unfolding(crate::specs::Check::alarms_at, crate::specs::Check::notes_at, crate::specs::Check::pass_after))]
-pub(crate) fn check_item<C: Code>(pass: Pass, item: Item, report: &mut Report) -> Result<Pass, AllocError>
+pub(crate) fn check_item<C: Code>(
+    pass: Pass,
+    item: Item,
+    report: &mut Report,
+) -> Result<Pass, AllocError>
     ensures pass { IfOk result (λ after. after ≡ pass_after pass item) }
     ensures alarms { OnOk result (report.new.alarms.items ≡ report.old.alarms.items ++ alarms_at C.entry pass item) }
     ensures notes { OnOk result (report.new.notes.items ≡ report.old.notes.items ++ notes_at pass item) }
