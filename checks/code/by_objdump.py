@@ -1,16 +1,18 @@
 #!/usr/bin/env python3
-"""by_objdump.py FILE..: whether framehop-check reads each x86_64 instruction as objdump does: its size, and what it makes of rsp and rbp.
+"""by_objdump.py FILE..: whether framehop-check reads each instruction as a disassembler does: its size, and what it makes of the stack
+pointer and the frame pointer. Files of x86_64 are read by objdump, those of aarch64 by llvm-objdump.
 
-Of the instructions that objdump prints in the ranges of a file's FDEs, each that differs in its bytes goes into ELF files that are made
+Of the instructions that it prints in the ranges of a file's FDEs, each that differs in its bytes goes into ELF files that are made
 for it. FWAIT, which objdump prints with the x87 instruction after it, is taken for the instruction that it is. An FDE counts where
-objdump has an instruction at its first address.
+there is an instruction at its first address.
 
-Sizes: after a one-byte push, the instruction has an FDE of exactly these bytes. Where the sizes are the same, framehop-check reads two
+Sizes, of x86_64: after a one-byte push, the instruction has an FDE of exactly these bytes. Where the sizes are the same, framehop-check reads two
 instructions of each FDE, and all of each. Sets for which that is not so are halved, down to the instructions that differ.
 
-Effects: before a test of registers, the instruction has an FDE whose row counts from rsp, and one whose row counts from rbp. The alarm
-at the test, or that there is none, says what the instruction makes of that register. It is compared with what the operands say that
-objdump prints: the last one is written, where the mnemonic is not one of those that write none, or more.
+Effects: before an instruction that changes nothing, the instruction has an FDE whose row counts from the stack pointer, and one whose row
+counts from the frame pointer. The alarm at the second instruction, or that there is none, says what the first makes of that register. It is
+compared with what the operands say that are printed: the last one is written, of aarch64 the first, where the mnemonic is not one of those
+that write none, or others.
 
 The built program is out/framehop-check of this repository, or that of the variable FRAMEHOP_CHECK.
 """
@@ -26,13 +28,16 @@ TOP = os.path.dirname(os.path.dirname(os.path.dirname(os.path.realpath(__file__)
 PROGRAM = os.environ.get("FRAMEHOP_CHECK", os.path.join(TOP, "out", "framehop-check"))
 START = 0x1000
 PUSH = b"\x50"
-TEST = b"\x85\xc0"
+# an instruction that changes neither register
+AFTER = {"x86_64": b"\x85\xc0", "aarch64": bytes.fromhex("e00300aa")}
 FWAIT = 0x9B
 OFFSET = 100
-DWARF = {"rsp": 7, "rbp": 6}
-FAMILY = {"rsp": ("rsp", "esp", "sp", "spl"), "rbp": ("rbp", "ebp", "bp", "bpl")}
+MACHINE = {62: "x86_64", 183: "aarch64"}
+DWARF = {"x86_64": {"rsp": 7, "rbp": 6}, "aarch64": {"sp": 31, "x29": 29}}
+RETURN = {"x86_64": 16, "aarch64": 30}
+FAMILY = {"rsp": ("rsp", "esp", "sp", "spl"), "rbp": ("rbp", "ebp", "bp", "bpl"), "sp": ("sp", "wsp"), "x29": ("x29", "w29")}
 SUMMARY = re.compile(r": (\d+) functions, (\d+) not wholly read, (\d+) instructions,")
-LINE = re.compile(r"^ *([0-9a-f]+):\t((?:[0-9a-f]{2} )+) *\t(.*)$")
+LINE = re.compile(r"^ *([0-9a-f]+):[\t ]((?:[0-9a-f]{2} )+) *\t(.*)$")
 RANGE = re.compile(r" FDE .*pc=([0-9a-f]+)\.\.([0-9a-f]+)")
 ALARM = re.compile(r"^0x[0-9a-f]+ 0x([0-9a-f]+)\+0x([0-9a-f]+): row: CFA = (\w+)\+\d+, code: (?:CFA = \w+([+-]\d+)|\w+ is (overwritten))")
 PREFIXES = re.compile(r"^(?:(?:lock|rep|repz|repnz|bnd|notrack|data16|addr32|cs|ds|es|ss|fs|gs|xacquire|xrelease|rex[.\w]*|\{\w+\}) +)+")
@@ -60,12 +65,15 @@ def ranges_of(path):
     return sorted(found)
 
 
-def instructions_of(path):
+def instructions_of(path, arch):
     """The bytes of each instruction of the FDEs, with objdump's text, and how many there are."""
     ranges = ranges_of(path)
     starts = [start for start, _ in ranges]
     found, count, begun = {}, 0, None
-    for line in lines_of(["objdump", "-d", "-w", "--insn-width=15", path]):
+    command = ["objdump", "-d", "-w", "--insn-width=15", path]
+    if arch == "aarch64":
+        command = ["llvm-objdump", "-d", "--mattr=+v8.7a,+sve2,+mte", path]
+    for line in lines_of(command):
         match = LINE.match(line)
         if not match:
             continue
@@ -73,21 +81,21 @@ def instructions_of(path):
         place = bisect.bisect_right(starts, address) - 1
         code = bytes.fromhex(match[2].replace(" ", ""))
         end = address + len(code)
-        is_read = place >= 0 and address in (starts[place], begun) and end <= ranges[place][1] and "(bad)" not in match[3]
+        is_read = place >= 0 and address in (starts[place], begun) and end <= ranges[place][1] and "(bad)" not in match[3] and "<unknown>" not in match[3]
         begun = end if is_read else None
         if not is_read:
             continue
-        if code[0] == FWAIT:
+        if code[0] == FWAIT and arch == "x86_64":
             code = code[1:] or code
         count += 1
         found.setdefault(code, match[3])
     return found, count
 
 
-def elf_of(codes, register="rsp"):
+def elf_of(codes, register="rsp", arch="x86_64"):
     """An ELF file of which each code has an FDE, whose row counts from a register."""
     text, frames = bytearray(), bytearray()
-    cie = struct.pack("<IB", 0, 1) + b"zR\0" + bytes([1, 0x78, 16, 1, 0x1B, 0x0C, DWARF[register], OFFSET, 0x90, 1])
+    cie = struct.pack("<IB", 0, 1) + b"zR\0" + bytes([1, 0x78, RETURN[arch], 1, 0x1B, 0x0C, DWARF[arch][register], OFFSET, 0x80 | RETURN[arch], 1])
     cie += bytes(-len(cie) % 4)
     frames += struct.pack("<I", len(cie)) + cie
     svma = START + sum(len(code) for code in codes)
@@ -102,7 +110,7 @@ def elf_of(codes, register="rsp"):
     for name, kind, flags, address, data in ((1, 1, 6, START, text), (7, 1, 2, svma, frames), (17, 3, 0, 0, names)):
         headers.append((name, kind, flags, address, 64 + 4 * 64 + len(body), len(data), 0, 0, 1, 0))
         body += data
-    head = b"\x7fELF\x02\x01\x01" + bytes(9) + struct.pack("<HHIQQQIHHHHHH", 3, 62, 1, 0, 0, 64, 0, 64, 0, 0, 64, 4, 3)
+    head = b"\x7fELF\x02\x01\x01" + bytes(9) + struct.pack("<HHIQQQIHHHHHH", 3, 62 if arch == "x86_64" else 183, 1, 0, 0, 64, 0, 64, 0, 0, 64, 4, 3)
     return head + b"".join(struct.pack("<IIQQQQIIQQ", *header) for header in headers) + body
 
 
@@ -132,14 +140,14 @@ def others_in(codes):
 
 # ---- effects
 
-def told(codes, register):
+def told(codes, register, arch):
     """What the program tells of each instruction: how far the register moves, None where it keeps its value, or 'any'."""
     starts, at = {}, START
     for code in codes:
         starts[at] = code
-        at += len(code) + len(TEST)
+        at += len(code) + len(AFTER[arch])
     result = {}
-    for line in check(elf_of([code + TEST for code in codes], register)).splitlines():
+    for line in check(elf_of([code + AFTER[arch] for code in codes], register, arch)).splitlines():
         match = ALARM.match(line)
         if not match or match[3] != register:
             continue
@@ -169,7 +177,7 @@ def number(text):
     return value - 2**64 if value >= 2**63 else value
 
 
-def expected(text, register):
+def expected_x86_64(text, register):
     """What the operands say; 'away' where the next instruction is not reached from here."""
     mnemonic, operands = operands_of(text)
     if AWAY.match(mnemonic):
@@ -195,7 +203,7 @@ def expected(text, register):
         match = re.match(r"^(-?0x[0-9a-f]+)?\(%(r\w+)\)$", operands[0])
         if match and match[2] == register:
             return int(match[1] or "0", 16) or None
-        if match and match[2] in DWARF:
+        if match and match[2] in FAMILY:
             return "away"
     if mnemonic == "mov" and last == "%" + register and operands[0] in ("%rsp", "%rbp"):
         return None if operands[0] == last else "away"
@@ -208,30 +216,82 @@ def expected(text, register):
     return "any" if is_it(last) else moved
 
 
-def wrong_effects(codes, texts):
+# these write no register that they name first
+NO_WRITE_AARCH64 = re.compile(
+    r"^(st(?!l?xr|l?xp)\w*|cmp|cmn|tst|ccmp|ccmn|f\w+|nop|hint|[dit]sb|dmb|isb|svc|msr|prf\w+|cb\w+|tb\w+|b\.\w+|bl|blr\w*|yield|"
+    r"paci\w+|auti\w+|xpaclri|bti|csdb|clrex|dc|ic|at|tlbi|sys|ptrue|whilelo|sb|esb|hvc|smc|setf\d+|rmif|cfinv|[su]?cvtf|eret)$"
+)
+AWAY_AARCH64 = re.compile(r"^(b|br|bra\w+|ret\w*|udf|brk|hlt)$")
+ATOMIC = re.compile(r"^(ld(add|clr|eor|set|smax|smin|umax|umin)|swp)[abhl]*$")
+
+
+def expected_aarch64(text, register):
+    mnemonic, _, rest = text.split("<")[0].split("//")[0].strip().partition("\t")
+    operands = [it.strip() for it in re.findall(r"(?:\[[^\]]*\]!?|\{[^}]*\}|[^,\[{])+", rest) if it.strip()]
+    if AWAY_AARCH64.match(mnemonic):
+        return "away"
+    is_it = lambda operand: operand in FAMILY[register]
+    base = re.search(r"(?:^|, )\[(\w+)", rest)
+    moved = None
+    if base and is_it(base[1]):
+        before, after = re.search(r"#(-?\w+)\]!", rest), re.search(r"\], (?:#(-?\w+)|x\d+)", rest)
+        if before or after:
+            match = before or after
+            moved = (int(match[1], 0) or None) if match[1] else "any"
+            # by how much is not told
+            if re.match(r"^(ldra[ab]|(ld|st)[1-4]r?)$", mnemonic):
+                moved = "any"
+    if mnemonic in ("add", "sub") and operands[0] == register and operands[1] == register and operands[2].startswith("#"):
+        bytes_moved = int(operands[2][1:], 0) << (12 if operands[3:] == ["lsl #12"] else 0)
+        return (bytes_moved if mnemonic == "add" else -bytes_moved) or None
+    if mnemonic in ("add", "sub", "mov") and operands[0] == register and operands[1] in ("sp", "x29"):
+        return "away"
+    if NO_WRITE_AARCH64.match(mnemonic) and not re.match(r"^fmov|^fcvt[a-z]*[su]$|^fjcvt", mnemonic):
+        return moved
+    written = operands[:1]
+    if ATOMIC.match(mnemonic):
+        written = operands[1:2]
+    elif re.match(r"^(ldn?p|ldpsw|ldaxp|ldxp)$", mnemonic):
+        written = operands[:2]
+    elif mnemonic.startswith("casp"):
+        written = operands[:2]
+    return "any" if any(is_it(it) for it in written) else moved
+
+
+EXPECTED = {"x86_64": expected_x86_64, "aarch64": expected_aarch64}
+
+
+def wrong_effects(codes, texts, arch):
     result = []
-    for register in DWARF:
-        found = told(codes, register)
+    for register in DWARF[arch]:
+        found = told(codes, register, arch)
         for code in codes:
-            wanted = expected(texts[code], register)
+            wanted = EXPECTED[arch](texts[code], register)
             if wanted != "away" and found.get(code) != wanted:
                 result.append((code, f"{register}: {found.get(code)} and not {wanted}"))
     return result
 
 
+def arch_of(path):
+    with open(path, "rb") as file:
+        return MACHINE[struct.unpack_from("<H", file.read(20), 18)[0]]
+
+
 def main():
-    known, status = {}, 0
+    known, status = {"x86_64": {}, "aarch64": {}}, 0
     for path in sys.argv[1:]:
-        found, count = instructions_of(path)
-        new = [code for code in found if code not in known]
-        known.update((code, found[code]) for code in new)
-        sizes = others_in(new)
-        effects = wrong_effects(new, found)
+        arch = arch_of(path)
+        found, count = instructions_of(path, arch)
+        new = [code for code in found if code not in known[arch]]
+        known[arch].update((code, found[code]) for code in new)
+        sizes = others_in(new) if arch == "x86_64" else [code for code in new if len(code) != 4]
+        effects = wrong_effects(new, found, arch)
         print(f"{path}: {count} instructions, {len(found)} that differ in their bytes; {len(sizes)} of another size, {len(effects)} of another effect", flush=True)
         for code, what in [(code, "") for code in sizes[:40]] + effects[:40]:
             status = 1
             print(f"  {code.hex()} {found[code]} {what}", flush=True)
-    print(f"{len(known)} that differ in their bytes in all files")
+    for arch, codes in known.items():
+        print(f"{arch}: {len(codes)} that differ in their bytes in all files")
     return status
 
 
