@@ -226,7 +226,7 @@ def expected_x86_64(text, register):
 # these write no register that they name first
 NO_WRITE_AARCH64 = re.compile(
     r"^(st(?!l?xr|l?xp)\w*|cmp|cmn|tst|ccmp|ccmn|f\w+|nop|hint|[dit]sb|dmb|isb|svc|msr|prf\w+|cb\w+|tb\w+|b\.\w+|bl|blr\w*|yield|"
-    r"paci\w+|auti\w+|xpaclri|bti|csdb|clrex|dc|ic|at|tlbi|sys|ptrue|whilelo|sb|esb|hvc|smc|setf\d+|rmif|cfinv|[su]?cvtf|eret)$"
+    r"paci\w+|auti\w+|xpaclri|bti|csdb|clrex|dc|ic|at|tlbi|sys|ptrue|whilelo|sb|esb|hvc|smc|setf\d+|rmif|cfinv|cterm(eq|ne)|[su]?cvtf|eret)$"
 )
 AWAY_AARCH64 = re.compile(r"^(b|br|bra\w+|ret\w*|udf|brk|hlt)$")
 ATOMIC = re.compile(r"^(ld(add|clr|eor|set|smax|smin|umax|umin)|swp)[abhl]*$")
@@ -282,7 +282,7 @@ def wrong_effects(codes, texts, arch):
 # ---- random words
 
 ENCODING = re.compile(r"Encoding\(0x([0-9a-f_]+), 0x([0-9a-f_]+), \w+\)")
-SVE_COUNTS = re.compile(r"^(([su]q)?(inc|dec)[bhwdp]|cnt[bhwdp]|(last|clast)[ab]|whilerw|ctermeq)$")
+SVE_COUNTS = re.compile(r"^(([su]q)?(inc|dec)[bhwdp]|cnt[bhwdp]|(last|clast)[ab])$")
 
 
 def is_known(text, what):
