@@ -1,4 +1,4 @@
-use Rattle.std.proofs.Common.{◌≡◌, ◌+◌, ◌<◌, ◌^◌, ℕ, List, [], subst, sym, ◌∙◌, arith}
+use Rattle.std.proofs.Common.{◌≡◌, ◌+◌, ◌<◌, ◌^◌, ℕ, List, subst, ◌∙◌, arith}
 use Rattle.std.specs.Io.Iter.{u64_saturate}
 use Rattle.framehop_pe.specs.Info.{left_codes}
 use Rattle.framehop_pe.specs.declared.unwind_info.operation.UnwindCode.{UnwindCode}
