@@ -1,14 +1,11 @@
 -- Counts that are added one after another are the counts of all.
-use Rattle.std.proofs.Common.{◌≡◌, ℕ, zero, suc, ◌+◌, ◌-◌, ◌^◌, ◌<◌, ◌≤◌, min, Bool, true, false, not, ◌&&◌, List, [], ◌∷◌, ◌++◌, length, refl, sym, ap, subst, ◌∙◌, arith, inl, inr}
-use Rattle.std.proofs.lemmas.Bool.{cases_Bool}
-use Rattle.std.specs.Io.Iter.{u64_saturate}
+use Rattle.std.proofs.Common.{◌≡◌, ℕ, zero, suc, ◌+◌, Bool, List, [], ◌∷◌, refl, sym, ap, ◌∙◌, arith}
 use Rattle.framehop_check.specs.declared.check.Item.{Item}
 use Rattle.framehop_check.specs.declared.check.Pass.{Pass}
 use Rattle.framehop_check.specs.declared.report.Counts.{Counts}
 use Rattle.framehop_check.specs.declared.tracked.Tracked.{Tracked}
 use Rattle.framehop_check.specs.Check.{pass_after}
-use Rattle.framehop_check.specs.Counts.{plus, one_if, is_instruction, is_checked, is_believed, is_jump, is_changed, number, counted}
-use Rattle.framehop_check.specs.Tracked.{is_passed}
+use Rattle.framehop_check.specs.Counts.{plus, is_instruction, is_checked, is_believed, is_jump, is_changed, number, counted}
 
 pub plus-plus : (count some more : ℕ) → plus (plus count some) more ≡ plus count (some + more)
 plus-plus count zero more = let e : 0 + more ≡ more = omega arith in ap (plus count) (sym e)

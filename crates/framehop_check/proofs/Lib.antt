@@ -4,3 +4,4 @@ pub mod CheckLemmas
 pub mod ContradictionLemmas
 pub mod QuietLemmas
 pub mod CountLemmas
+pub mod QuietExample

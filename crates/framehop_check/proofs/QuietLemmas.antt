@@ -1,6 +1,5 @@
 -- Where nothing is told and nothing believed, what is known at an instruction is true on each run to it.
-use Rattle.std.proofs.Common.{◌≡◌, ◌⊎◌, ℕ, zero, suc, ℤ, ◌+ℤ◌, ◌-ℤ◌, Bool, true, false, ◌&&◌, List, [], ◌∷◌, ◌++◌, Option, Some, None, refl, sym, ap, subst, ◌∙◌, append_assoc, append-nil, arith, inl, inr}
-use Rattle.std.proofs.lemmas.Int.{ints}
+use Rattle.std.proofs.Common.{◌≡◌, ℕ, zero, suc, ℤ, ◌+ℤ◌, Bool, true, false, List, [], ◌∷◌, ◌++◌, Option, Some, None, refl, sym, ap, subst, ◌∙◌, inl, inr}
 use Rattle.std.proofs.lemmas.Bool.{cases_Bool, and_parts}
 use Rattle.framehop_code.specs.Effect.{State, value_of, Becomes, Does, is_away}
 use Rattle.framehop_code.specs.declared.effect.Base.{Base}
@@ -20,13 +19,13 @@ use Rattle.framehop_check.specs.declared.tracked.Came.TheVariants as came
 use Rattle.framehop_check.specs.declared.tracked.Tracked.{Tracked}
 use Rattle.framehop_check.specs.declared.tracked.Fault.{Fault}
 use Rattle.framehop_check.specs.Claim.{Says}
-use Rattle.framehop_check.specs.Known.{nothing, known_of, after_change, after, agreed_on, agreed}
-use Rattle.framehop_check.specs.Tracked.{arriving_by, arriving, same_claim, fault_at, came_after, step, is_elsewhere, is_padding, is_passed}
+use Rattle.framehop_check.specs.Known.{nothing, known_of, after, agreed_on, agreed}
+use Rattle.framehop_check.specs.Tracked.{arriving_by, arriving, same_claim, fault_at, came_after, is_elsewhere, is_padding, is_passed}
 use Rattle.framehop_check.specs.Report.{list_of}
 use Rattle.framehop_check.specs.Check.{goes_on, difference, alarm_of, row_alarm, return_alarm, jump_alarm, step_of, alarms_at, pass_after, alarms_from, first_pass}
 use Rattle.framehop_check.specs.Contradiction.{change_of, pass_through}
 use Rattle.framehop_check.specs.Quiet.{Place, Falls, JumpsTo, Run, AreRight, pass_at, IsPassed, known_before, known_at, BelievesNothing, IsQuiet}
-use Rattle.framehop_check.proofs.ContradictionLemmas.{becomes, moved, agreed-from, change-from, known-after, none-of-nothing, some-same, agrees}
+use Rattle.framehop_check.proofs.ContradictionLemmas.{becomes, moved, change-from, known-after, none-of-nothing, some-same, agrees}
 
 -- ---- what is known is true
 

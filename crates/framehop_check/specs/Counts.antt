@@ -1,5 +1,5 @@
 -- The numbers of the summary.
-use Rattle.std.specs.Prelude.{ℕ, zero, suc, ◌+◌, Bool, true, false, not, ◌&&◌, if◌then◌else◌, List, [], ◌∷◌, is_some}
+use Rattle.std.specs.Prelude.{ℕ, zero, suc, ◌+◌, Bool, true, false, not, ◌&&◌, List, [], ◌∷◌, is_some}
 use Rattle.std.specs.Io.Iter.{u64_saturate}
 use Rattle.framehop_check.specs.declared.claim.Claim.{Claim}
 use Rattle.framehop_check.specs.declared.claim.Claim.TheVariants.{Above, Other}

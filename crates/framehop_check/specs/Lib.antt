@@ -8,3 +8,4 @@ pub mod Check
 pub mod Contradiction
 pub mod Quiet
 pub mod Counts
+pub mod Prolog

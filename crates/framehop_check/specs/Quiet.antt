@@ -1,5 +1,5 @@
 -- A function of which nothing is told: its rows are right wherever it can be stopped.
-use Rattle.std.specs.Prelude.{◌≡◌, ◌⊎◌, ℕ, zero, suc, ℤ, ◌+ℤ◌, Bool, true, false, List, [], ◌∷◌, ◌++◌, Some}
+use Rattle.std.specs.Prelude.{◌≡◌, ◌⊎◌, ℕ, zero, suc, ℤ, ◌+ℤ◌, true, false, List, [], ◌∷◌, ◌++◌, Some}
 use Rattle.framehop_code.specs.Effect.{State, Does, is_away}
 use Rattle.framehop_code.specs.declared.effect.Base.{Base}
 use Rattle.framehop_code.specs.declared.effect.Base.TheVariants.{Sp}

@@ -54,7 +54,7 @@ pub struct Checker<S: UnwindContextStorage> {
 }
 
 /// Returns where the check of a function begins.
-fn first_pass(start: u64) -> Pass
+pub(crate) fn first_pass(start: u64) -> Pass
     ensures { result ≡ first_pass start }
 {
     Pass {
@@ -107,7 +107,7 @@ fn target_with(spans: &[Span], target: Option<u64>) -> Option<Option<(u64, Claim
 }
 
 /// Returns whether a row says otherwise than the one before it.
-fn says_otherwise(claim: Claim, last: Option<Claim>) -> bool
+pub(crate) fn says_otherwise(claim: Claim, last: Option<Claim>) -> bool
     ensures { result ≡ says_otherwise claim last }
 {
     match last {
@@ -235,7 +235,11 @@ fn counted(counts: Counts, tracked: Tracked, item: Item) -> Counts
 
 /// Checks an instruction, and returns where the check has then got to.
 #[tactic(auto, unfolding(crate::specs::Check::alarms_at, crate::specs::Check::notes_at, crate::specs::Check::pass_after))]
-fn check_item<C: Code>(pass: Pass, item: Item, report: &mut Report) -> Result<Pass, AllocError>
+pub(crate) fn check_item<C: Code>(
+    pass: Pass,
+    item: Item,
+    report: &mut Report,
+) -> Result<Pass, AllocError>
     ensures pass { IfOk result (λ after. after ≡ pass_after pass item) }
     ensures alarms { OnOk result (report.new.alarms.items ≡ report.old.alarms.items ++ alarms_at C.entry pass item) }
     ensures notes { OnOk result (report.new.notes.items ≡ report.old.notes.items ++ notes_at pass item) }

@@ -9,6 +9,7 @@
 pub mod check;
 pub mod claim;
 pub mod known;
+pub mod prolog;
 pub mod report;
 pub mod rows;
 pub mod tracked;

@@ -17,6 +17,7 @@ use framehop_elf::header::{FileHeader, read_file_header};
 use framehop_elf::section::{read_contents, read_section_names, section_by_name};
 use framehop_elf::section_header::{SectionHeader, read_section_headers};
 use framehop_elf::symbol::{SymbolTable, read_function_symbols, read_symbol_names};
+use framehop_pe_file::error::PeError;
 use std::alloc::{AllocError, Global};
 use std::fmt;
 
@@ -47,6 +48,12 @@ pub enum Refusal {
     Machine(u16),
     /// It has neither `.eh_frame` nor `.debug_frame`.
     NoRows,
+    /// It begins as a PE file does, and is a damaged one, or none of 64 bits.
+    Pe(PeError),
+    /// It is a PE file of another machine than x86_64.
+    PeMachine,
+    /// It is a PE file without a function table.
+    NoFunctionTable,
 }
 
 impl fmt::Display for Refusal {
@@ -58,6 +65,9 @@ impl fmt::Display for Refusal {
                 "machine {machine} is neither x86_64 nor aarch64"
             ),
             Refusal::NoRows => write!(f, "neither .eh_frame nor .debug_frame"),
+            Refusal::Pe(error) => write!(f, "{error}"),
+            Refusal::PeMachine => write!(f, "a PE file whose machine is not x86_64"),
+            Refusal::NoFunctionTable => write!(f, "no function table"),
         }
     }
 }

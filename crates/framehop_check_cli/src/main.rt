@@ -1,21 +1,23 @@
-//! The program `framehop-check`: checks the unwind data of ELF files against their code.
+//! The program `framehop-check`: checks the unwind data of ELF and PE files against their code.
 #![tactic(auto)]
 
 mod allowed;
 mod file;
+mod pe_file;
 mod text;
 
 use allowed::Allowed;
 use anyhow::Result;
 use clap::{Arg, ArgAction, Command};
 use file::{Checked, Options, check_file};
+use pe_file::{check_pe_file, is_pe};
 use std::alloc::Global;
 use std::process::ExitCode;
 use std::{env, fs, io};
 
 /// What the program does.
 const ABOUT: &str =
-    "Checks the unwind data of ELF files against their code: where the rows of .eh_frame or .debug_frame and the instructions contradict each other.";
+    "Checks the unwind data of ELF and PE files against their code: where the rows of .eh_frame or .debug_frame, or the codes of prologs, and the instructions contradict each other.";
 
 /// The size of the largest file that is read, in bytes: 4 GiB.
 const LARGEST_FILE: u64 = 0x1_0000_0000;
@@ -44,7 +46,7 @@ fn command<'a>(alloc: Global) -> Result<Command<'a>> {
         .value_name("FILE")
         .num_args(1..)
         .required(true)
-        .help("ELF files of x86_64 or aarch64")
+        .help("ELF files of x86_64 or aarch64, or PE files of x86_64")
         .action(ArgAction::Append);
     let command = Command::new(alloc, "framehop-check")
         .version("0.1.0")
@@ -131,7 +133,12 @@ fn check_path(
     let Some(bytes) = read_regular(rt, path)? else {
         return Ok(false);
     };
-    match check_file(rt.alloc(), path, bytes.as_slice(), options, allowed)? {
+    let checked = if is_pe(bytes.as_slice()) {
+        check_pe_file(rt.alloc(), path, bytes.as_slice(), options)?
+    } else {
+        check_file(rt.alloc(), path, bytes.as_slice(), options, allowed)?
+    };
+    match checked {
         Checked::Text { text, is_good } => {
             let mut out = io::writer(rt);
             io::Write::write_all(&mut out, text.as_bytes())?;

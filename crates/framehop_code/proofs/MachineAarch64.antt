@@ -22,7 +22,7 @@ use Rattle.framehop_bytes.specs.Bytes.{le4}
 use Rattle.framehop_code.specs.declared.effect.Base.{Base}
 use Rattle.framehop_code.specs.Effect.{State, Becomes, Does, plain, with_register, is_away}
 use Rattle.framehop_code.specs.Effect.{kept as kept_value}
-use Rattle.framehop_code.specs.Aarch64.Instruction.{numbered, rd, rn, rt2, rs, imm9, moved, moving_base, added, exclusive, compare_pair, memory_copy, instruction_at, signed_imm12, scale_of, pair_offset, setting, writing, writing_pair, moving_by_pair, effect_of_class, effect_of}
+use Rattle.framehop_code.specs.Aarch64.Instruction.{numbered, rd, rn, rt2, rs, imm9, moved, moving_base, moving, added, exclusive, compare_pair, memory_copy, instruction_at, signed_imm12, scale_of, pair_offset, setting, writing, writing_pair, moving_by_pair, effect_of_class, effect_of}
 use Rattle.framehop_code.specs.declared.aarch64.encoding.Class.{Class}
 use Rattle.framehop_code.specs.declared.aarch64.encoding.Class.TheVariants as class
 use Rattle.framehop_code.specs.declared.aarch64.encoding.Encoding.{Encoding}
@@ -207,27 +207,27 @@ pair-encoding value c = encoding 0x3EC00000 value c
 
 store-offset : (word : ℕ) (a : machine.Access) → a.mode ≡ 2 → IsPair 0 word a → class_of word ≡ class.Keep
 unfolding conflicts pair-bits bit pair-encoding
-store-offset word a is p = pair-found 2 0 word a is (omega arith) p 23 (pair-encoding 0x28000000 class.Keep) refl refl refl refl
+store-offset word a is p = pair-found 2 0 word a is (omega arith) p 24 (pair-encoding 0x28000000 class.Keep) refl refl refl refl
 
 store-after : (word : ℕ) (a : machine.Access) → a.mode ≡ 1 → IsPair 0 word a → class_of word ≡ class.PairIndexed
 unfolding conflicts pair-bits bit pair-encoding
-store-after word a is p = pair-found 1 0 word a is (omega arith) p 25 (pair-encoding 0x28800000 class.PairIndexed) refl refl refl refl
+store-after word a is p = pair-found 1 0 word a is (omega arith) p 26 (pair-encoding 0x28800000 class.PairIndexed) refl refl refl refl
 
 store-before : (word : ℕ) (a : machine.Access) → a.mode ≡ 3 → IsPair 0 word a → class_of word ≡ class.PairIndexed
 unfolding conflicts pair-bits bit pair-encoding
-store-before word a is p = pair-found 3 0 word a is (omega arith) p 25 (pair-encoding 0x28800000 class.PairIndexed) refl refl refl refl
+store-before word a is p = pair-found 3 0 word a is (omega arith) p 26 (pair-encoding 0x28800000 class.PairIndexed) refl refl refl refl
 
 load-offset : (word : ℕ) (a : machine.Access) → a.mode ≡ 2 → IsPair 1 word a → class_of word ≡ class.WriteRt2
 unfolding conflicts pair-bits bit pair-encoding
-load-offset word a is p = pair-found 2 1 word a is (omega arith) p 24 (pair-encoding 0x28400000 class.WriteRt2) refl refl refl refl
+load-offset word a is p = pair-found 2 1 word a is (omega arith) p 25 (pair-encoding 0x28400000 class.WriteRt2) refl refl refl refl
 
 load-after : (word : ℕ) (a : machine.Access) → a.mode ≡ 1 → IsPair 1 word a → class_of word ≡ class.LoadPairIndexed
 unfolding conflicts pair-bits bit pair-encoding
-load-after word a is p = pair-found 1 1 word a is (omega arith) p 26 (pair-encoding 0x28C00000 class.LoadPairIndexed) refl refl refl refl
+load-after word a is p = pair-found 1 1 word a is (omega arith) p 27 (pair-encoding 0x28C00000 class.LoadPairIndexed) refl refl refl refl
 
 load-before : (word : ℕ) (a : machine.Access) → a.mode ≡ 3 → IsPair 1 word a → class_of word ≡ class.LoadPairIndexed
 unfolding conflicts pair-bits bit pair-encoding
-load-before word a is p = pair-found 3 1 word a is (omega arith) p 26 (pair-encoding 0x28C00000 class.LoadPairIndexed) refl refl refl refl
+load-before word a is p = pair-found 3 1 word a is (omega arith) p 27 (pair-encoding 0x28C00000 class.LoadPairIndexed) refl refl refl refl
 
 -- the unit of 64-bit registers is 8 bytes
 not-small : (opc : ℕ) → 2 ≤ opc → ((opc == 0) ≡ false) × ((opc == 1) ≡ false)
@@ -299,7 +299,7 @@ load-by word a mode is p found other =
     (rw from_sp (rw (load-scale 1 word a p) (rw (p.imm7) (rw first (rw second (both (a.first == 29) (a.second == 29) (machine.sign_extended 7 (field word 21 15) *ℤ pos 8)))))))
   where
     both : (one two : Bool) (bytes : ℤ)
-        → setting (writing-if two (writing-if one (plain 4))) 31 (Sum Sp bytes)
+        → writing-if two (writing-if one (setting (plain 4) 31 (Sum Sp bytes)))
         ≡ record { size = 4; sp = Sum Sp bytes; fp = if two then Unknown else (if one then Unknown else kept_value Fp); flow = Next }
     both true true bytes = refl
     both true false bytes = refl
@@ -612,8 +612,8 @@ moving-size : (e : Effect) (number : ℕ) (bytes : Option ℤ) (base : Option Ba
 moving-size e number bytes (Some base) = with-size e (numbered number) (moved base bytes)
 moving-size e number bytes None = refl
 
-pair-size : (word : ℕ) → (writing_pair (plain 4) word).size ≡ 4
-pair-size word = writing-size (writing (plain 4) (rd word)) (rt2 word) ∙ writing-size (plain 4) (rd word)
+pair-size : (e : Effect) (word : ℕ) → (writing_pair e word).size ≡ e.size
+pair-size e word = writing-size (writing e (rd word)) (rt2 word) ∙ writing-size e (rd word)
 
 exclusive-size : (word : ℕ) → (exclusive word).size ≡ 4
 exclusive-size word =
@@ -649,12 +649,15 @@ size-of word class.BranchRegister = refl
 size-of word class.WriteRd = writing-size (plain 4) (rd word)
 size-of word class.SetRd = with-size (plain 4) (numbered (rd word)) Unknown
 size-of word class.AddImmediate = with-size (plain 4) (numbered (rd word)) (added word)
-size-of word class.WriteRt2 = pair-size word
+size-of word class.WriteRt2 = pair-size (plain 4) word
 size-of word class.Indexed = moving-size (plain 4) (rn word) (Some (imm9 word)) (numbered (rn word))
-size-of word class.LoadIndexed = moving-size (writing (plain 4) (rd word)) (rn word) (Some (imm9 word)) (numbered (rn word)) ∙ writing-size (plain 4) (rd word)
+size-of word class.LoadIndexed =
+    writing-size (moving (plain 4) word (Some (imm9 word))) (rd word) ∙ moving-size (plain 4) (rn word) (Some (imm9 word)) (numbered (rn word))
 size-of word class.TagIndexed = moving-size (plain 4) (rn word) (Some (imm9 word *ℤ pos 16)) (numbered (rn word))
 size-of word class.PairIndexed = moving-size (plain 4) (rn word) (Some (pair_offset word class.PairIndexed)) (numbered (rn word))
-size-of word class.LoadPairIndexed = moving-size (writing_pair (plain 4) word) (rn word) (Some (pair_offset word class.LoadPairIndexed)) (numbered (rn word)) ∙ pair-size word
+size-of word class.LoadPairIndexed =
+    pair-size (moving_by_pair (plain 4) word class.LoadPairIndexed) word
+    ∙ moving-size (plain 4) (rn word) (Some (pair_offset word class.LoadPairIndexed)) (numbered (rn word))
 size-of word class.VectorPairIndexed = moving-size (plain 4) (rn word) (Some (pair_offset word class.VectorPairIndexed)) (numbered (rn word))
 size-of word class.WriteBack = moving-size (plain 4) (rn word) (None) (numbered (rn word))
 size-of word class.WriteRtAndBack = moving-size (writing (plain 4) (rd word)) (rn word) (None) (numbered (rn word)) ∙ writing-size (plain 4) (rd word)

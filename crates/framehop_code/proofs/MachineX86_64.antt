@@ -1,15 +1,16 @@
 -- The instructions of the machine, read by the opcode maps.
-use Rattle.std.proofs.Common.{◌≡◌, ◌≢◌, ◌⊎◌, ℕ, zero, suc, ◌+◌, ◌*◌, ◌/◌, ◌%◌, ◌<◌, ◌≤◌, ◌==◌, eq-eqb, ℤ, pos, ◌+ℤ◌, Bool, true, false, not, ◌&&◌, ◌||◌, nat_le, if◌then◌else◌, List, [], ◌∷◌, length, position, take, drop, Option, Some, None, Result, Ok, Err, refl, sym, ap, subst, ◌∙◌, arith, inl, inr}
+use Rattle.std.proofs.Common.{◌≡◌, ◌≢◌, ◌⊎◌, ℕ, zero, suc, ◌+◌, ◌*◌, ◌/◌, ◌%◌, ◌^◌, ◌<◌, ◌≤◌, ◌==◌, eq-eqb, ℤ, pos, ◌+ℤ◌, ◌-ℤ◌, Bool, true, false, not, ◌&&◌, ◌||◌, nat_le, if◌then◌else◌, List, [], ◌∷◌, ◌++◌, length, position, take, drop, Option, Some, None, Result, Ok, Err, refl, sym, ap, subst, ◌∙◌, arith, inl, inr}
 use Rattle.std.specs.Prelude.{slice_get, slice_index}
+use Rattle.std.specs.Int.{cast_signed, w8, w32}
 use Rattle.std.proofs.lemmas.Int.{ints}
 use Rattle.std.proofs.lemmas.Bool.{le-leb, cases_Bool, eqb-true}
 use Rattle.std.proofs.lemmas.Option.{slice_get_within, get_or_from_slice_get}
 use Rattle.std.proofs.Math.Seq.{drop-cons}
-use Rattle.framehop_cfi.specs.Numbers.{Parsed, u8_at}
+use Rattle.framehop_cfi.specs.Numbers.{Parsed, u8_at, u32_at}
 use Rattle.framehop_code.specs.declared.x86_64.opcode.Operands.{Operands}
 use Rattle.framehop_code.specs.declared.x86_64.opcode.Operands.TheVariants.{Bare, ModRm, ModRmThen, Then}
 use Rattle.framehop_code.specs.declared.x86_64.opcode.Operation.{Operation}
-use Rattle.framehop_code.specs.declared.x86_64.opcode.Operation.TheVariants.{Push, Pop, MoveToRm, Return, Jump, Group5}
+use Rattle.framehop_code.specs.declared.x86_64.opcode.Operation.TheVariants.{Push, Pop, MoveToRm, LoadAddress, Return, Jump, Leave, Group1, Group5}
 use Rattle.framehop_code.specs.declared.x86_64.opcode.Operand.TheVariants.{OpcodeRegister}
 use Rattle.framehop_code.specs.declared.x86_64.instruction.Prefixes.{Prefixes}
 use Rattle.framehop_code.specs.declared.x86_64.instruction.Opcode.{Opcode}
@@ -25,9 +26,10 @@ use Rattle.framehop_code.specs.declared.effect.Flow.TheVariants.{Next}
 use Rattle.framehop_code.specs.declared.effect.Flow.TheVariants as flow
 use Rattle.framehop_code.specs.declared.x86_64.opcode.Immediate.{Immediate}
 use Rattle.framehop_code.specs.declared.x86_64.opcode.Immediate.TheVariants.{Byte, Near}
-use Rattle.framehop_bytes.specs.Bytes.{◌>>=◌}
+use Rattle.framehop_code.specs.declared.x86_64.opcode.Immediate.TheVariants as immediate
+use Rattle.framehop_bytes.specs.Bytes.{◌>>=◌, le4}
 use Rattle.framehop_analysis.specs.X86_64.Machine as machine
-use Rattle.framehop_code.specs.X86_64.Machine.{IsEnd, IsStep, DoesAs, as_numbers, MovesAll, IsAsMachine}
+use Rattle.framehop_code.specs.X86_64.Machine.{IsEnd, IsStep, DoesAs, as_numbers, MovesAll, AreAt, signed_of, IsMoveOfSp, add_byte, sub_byte, lea_byte, add_long, sub_long, lea_long, IsEffect, IsAsMachine}
 use Rattle.framehop_code.specs.Effect.{State, Becomes, Does, kept, plain}
 use Rattle.framehop_code.specs.X86_64.Operation.{leading, effect_of}
 use Rattle.framehop_code.specs.X86_64.Opcodes.{one_byte, row_of}
@@ -627,6 +629,183 @@ leaves text at e (machine.by_jmp_rel32 byte) is = rel32-end (take 14 (drop (suc 
 leaves text at e (machine.by_jmp_rm64 modrm byte second four) is =
     indirect-end modrm (take 13 (drop (suc (suc at)) text)) e four (sym (two text at 0xFF modrm byte second) ∙ is)
 
+-- ---- forms that the machine lacks
+
+-- the bytes at an offset, and what comes after them
+taken : (text : List ℕ) (at : ℕ) (bytes : List ℕ) → AreAt text at bytes → drop at text ≡ bytes ++ drop (at + length bytes) text
+taken text at [] are = let e : at + 0 ≡ at = omega arith in ap (λ (n : ℕ). drop n text) (sym e)
+taken text at (b ∷ bytes) are =
+    let next : at + 1 ≡ suc at = omega arith in
+    let after : suc at + length bytes ≡ at + suc (length bytes) = omega arith in
+    from text at b are.0
+    ∙ ap (λ (x : List ℕ). b ∷ x)
+    (taken text (suc at) bytes (subst (λ (n : ℕ). AreAt text n bytes) next are.1) ∙ ap (λ (n : ℕ). bytes ++ drop n text) after)
+
+begun : (text : List ℕ) (at first : ℕ) (bytes : List ℕ) → AreAt text at (first ∷ bytes)
+    → instruction_at text at ≡ effect_in (parts_at (take 15 ((first ∷ bytes) ++ drop (at + length (first ∷ bytes)) text)))
+unfolding instruction_at
+begun text at first bytes are =
+    let below = slice_get_within text at first are.0 in
+    rw (le-leb at (length text) (omega (arith, below)))
+    (ap (λ (x : List ℕ). effect_in (parts_at (take 15 x))) (taken text at (first ∷ bytes) are))
+
+moved_sp : ℕ → ℤ → Effect
+moved_sp size bytes = record { size = size; sp = Sum Sp bytes; fp = kept Fp; flow = Next }
+
+u8-fourth : (a b c d : ℕ) (rest : List ℕ) → u8_at (a ∷ b ∷ c ∷ d ∷ rest) 3 ≡ Ok (d, 4)
+unfolding u8_at
+u8-fourth a b c d rest = rw (le-leb 4 (length (a ∷ b ∷ c ∷ d ∷ rest)) (omega arith)) refl
+
+u8-fifth : (a b c d e : ℕ) (rest : List ℕ) → u8_at (a ∷ b ∷ c ∷ d ∷ e ∷ rest) 4 ≡ Ok (e, 5)
+unfolding u8_at
+u8-fifth a b c d e rest = rw (le-leb 5 (length (a ∷ b ∷ c ∷ d ∷ e ∷ rest)) (omega arith)) refl
+
+-- group 1 of rsp with an immediate operand
+sum-byte : (modrm a : ℕ) (rest : List ℕ) → has_sib modrm ≡ false → displacement_size modrm 0 ≡ 0
+    → effect_in (parts_at (0x48 ∷ 0x83 ∷ modrm ∷ a ∷ rest)) ≡ Some (effect_of (record {
+      opcode = opcode_record (prefixes_of [] 0x48) 0x83 (ModRmThen Byte) Group1;
+      address = register-address modrm;
+      immediate = cast_signed w8 a;
+      size = 4;
+    }))
+unfolding one_byte row_of signed_at
+sum-byte modrm a rest no_sib none =
+    ap effect_in
+    (parts-by (0x48 ∷ 0x83 ∷ modrm ∷ a ∷ rest) (prefixes_of [] 0x48, 1) (opcode_record (prefixes_of [] 0x48) 0x83 (ModRmThen Byte) Group1, 2)
+    (register-address modrm, 3) (cast_signed w8 a, 4)
+    (prefixes-by (0x48 ∷ 0x83 ∷ modrm ∷ a ∷ rest) 0x48 1 (position-here (λ b. not (is_legacy_prefix b)) 0x48 (0x83 ∷ modrm ∷ a ∷ rest) refl) (u8-first 0x48 (0x83 ∷ modrm ∷ a ∷ rest)))
+    (opcode-at (prefixes_of [] 0x48) (0x48 ∷ 0x83 ∷ modrm ∷ a ∷ rest) 1 0x83 2 (u8-second 0x48 0x83 (modrm ∷ a ∷ rest)))
+    (memory-register (0x48 ∷ 0x83 ∷ modrm ∷ a ∷ rest) 2 modrm 3 (u8-third 0x48 0x83 modrm (a ∷ rest)) no_sib none (omega arith))
+    (rw (u8-fourth 0x48 0x83 modrm a rest) refl))
+
+add-byte : (a : ℕ) (rest : List ℕ) → effect_in (parts_at (0x48 ∷ 0x83 ∷ 0xC4 ∷ a ∷ rest)) ≡ Some (moved_sp 4 (cast_signed w8 a))
+unfolding moved_sp effect_of register-address
+add-byte a rest = sum-byte 0xC4 a rest refl refl
+
+sub-byte : (a : ℕ) (rest : List ℕ) → effect_in (parts_at (0x48 ∷ 0x83 ∷ 0xEC ∷ a ∷ rest)) ≡ Some (moved_sp 4 (pos 0 -ℤ cast_signed w8 a))
+unfolding moved_sp effect_of register-address
+sub-byte a rest = sum-byte 0xEC a rest refl refl
+
+-- a signed number of four bytes
+four-bytes : (bytes : List ℕ) (at a b c d : ℕ) → at + 4 ≤ length bytes → slice_index bytes at ≡ a → slice_index bytes (at + 1) ≡ b
+    → slice_index bytes (at + 2) ≡ c → slice_index bytes (at + 2 + 1) ≡ d
+    → signed_at bytes at 4 ≡ Ok (signed_of a b c d, at + 4)
+unfolding signed_at u32_at
+four-bytes bytes at a b c d fits first second third fourth =
+    let same : le4 bytes at ≡ a + 2 ^ 8 * b + 2 ^ 16 * c + 2 ^ 24 * d = omega (arith, first, second, third, fourth) in
+    rw (le-leb (at + 4) (length bytes) fits) (ap (λ (n : ℕ). Ok (cast_signed w32 n, at + 4)) same)
+
+sum-long : (modrm a b c d : ℕ) (rest : List ℕ) → has_sib modrm ≡ false → displacement_size modrm 0 ≡ 0
+    → effect_in (parts_at (0x48 ∷ 0x81 ∷ modrm ∷ a ∷ b ∷ c ∷ d ∷ rest)) ≡ Some (effect_of (record {
+      opcode = opcode_record (prefixes_of [] 0x48) 0x81 (ModRmThen immediate.Long) Group1;
+      address = register-address modrm;
+      immediate = signed_of a b c d;
+      size = 7;
+    }))
+unfolding one_byte row_of
+sum-long modrm a b c d rest no_sib none =
+    let bytes = 0x48 ∷ 0x81 ∷ modrm ∷ a ∷ b ∷ c ∷ d ∷ rest in
+    ap effect_in
+    (parts-by bytes (prefixes_of [] 0x48, 1) (opcode_record (prefixes_of [] 0x48) 0x81 (ModRmThen immediate.Long) Group1, 2)
+    (register-address modrm, 3) (signed_of a b c d, 7)
+    (prefixes-by bytes 0x48 1 (position-here (λ b. not (is_legacy_prefix b)) 0x48 (0x81 ∷ modrm ∷ a ∷ b ∷ c ∷ d ∷ rest) refl) (u8-first 0x48 (0x81 ∷ modrm ∷ a ∷ b ∷ c ∷ d ∷ rest)))
+    (opcode-at (prefixes_of [] 0x48) bytes 1 0x81 2 (u8-second 0x48 0x81 (modrm ∷ a ∷ b ∷ c ∷ d ∷ rest)))
+    (memory-register bytes 2 modrm 3 (u8-third 0x48 0x81 modrm (a ∷ b ∷ c ∷ d ∷ rest)) no_sib none (omega arith))
+    (four-bytes bytes 3 a b c d (omega arith) refl refl refl refl))
+
+add-long : (a b c d : ℕ) (rest : List ℕ)
+    → effect_in (parts_at (0x48 ∷ 0x81 ∷ 0xC4 ∷ a ∷ b ∷ c ∷ d ∷ rest)) ≡ Some (moved_sp 7 (signed_of a b c d))
+unfolding moved_sp effect_of register-address
+add-long a b c d rest = sum-long 0xC4 a b c d rest refl refl
+
+sub-long : (a b c d : ℕ) (rest : List ℕ)
+    → effect_in (parts_at (0x48 ∷ 0x81 ∷ 0xEC ∷ a ∷ b ∷ c ∷ d ∷ rest)) ≡ Some (moved_sp 7 (pos 0 -ℤ signed_of a b c d))
+unfolding moved_sp effect_of register-address
+sub-long a b c d rest = sum-long 0xEC a b c d rest refl refl
+
+-- a ModRM byte with a SIB byte and a displacement
+memory-by : (bytes : List ℕ) (at modrm next sib after : ℕ) (displacement : ℤ × ℕ) → u8_at bytes at ≡ Ok (modrm, next)
+    → sib_at modrm bytes next ≡ Ok (sib, after) → signed_at bytes after (displacement_size modrm sib) ≡ Ok displacement
+    → memory_at bytes at ≡ Ok (record { modrm = modrm; sib = sib; displacement = displacement.0 }, displacement.1)
+unfolding memory_at
+memory-by bytes at modrm next sib after displacement first second third = rw first (rw second (rw third refl))
+
+load-parts : ℕ → ℤ → ℕ → Parts
+load-parts modrm displacement size = record {
+  opcode = opcode_record (prefixes_of [] 0x48) 0x8D ModRm LoadAddress;
+  address = record { modrm = modrm; sib = 0x24; displacement = displacement };
+  immediate = pos 0;
+  size = size;
+}
+
+lea : (modrm : ℕ) (rest : List ℕ) (displacement : ℤ) (size : ℕ) → has_sib modrm ≡ true
+    → signed_at (0x48 ∷ 0x8D ∷ modrm ∷ 0x24 ∷ rest) 4 (displacement_size modrm 0x24) ≡ Ok (displacement, size)
+    → effect_in (parts_at (0x48 ∷ 0x8D ∷ modrm ∷ 0x24 ∷ rest)) ≡ Some (effect_of (load-parts modrm displacement size))
+unfolding one_byte row_of load-parts sib_at
+lea modrm rest displacement size with_sib read =
+    let bytes = 0x48 ∷ 0x8D ∷ modrm ∷ 0x24 ∷ rest in
+    ap effect_in
+    (parts-by bytes (prefixes_of [] 0x48, 1) (opcode_record (prefixes_of [] 0x48) 0x8D ModRm LoadAddress, 2)
+    (record { modrm = modrm; sib = 0x24; displacement = displacement }, size) (pos 0, size)
+    (prefixes-by bytes 0x48 1 (position-here (λ b. not (is_legacy_prefix b)) 0x48 (0x8D ∷ modrm ∷ 0x24 ∷ rest) refl) (u8-first 0x48 (0x8D ∷ modrm ∷ 0x24 ∷ rest)))
+    (opcode-at (prefixes_of [] 0x48) bytes 1 0x8D 2 (u8-second 0x48 0x8D (modrm ∷ 0x24 ∷ rest)))
+    (memory-by bytes 2 modrm 3 0x24 4 (displacement, size) (u8-third 0x48 0x8D modrm (0x24 ∷ rest))
+    (rw with_sib (u8-fourth 0x48 0x8D modrm 0x24 rest)) read)
+    refl)
+
+lea-byte : (a : ℕ) (rest : List ℕ) → effect_in (parts_at (0x48 ∷ 0x8D ∷ 0x64 ∷ 0x24 ∷ a ∷ rest)) ≡ Some (moved_sp 5 (cast_signed w8 a))
+unfolding moved_sp effect_of load-parts signed_at
+lea-byte a rest = lea 0x64 (a ∷ rest) (cast_signed w8 a) 5 refl (rw (u8-fifth 0x48 0x8D 0x64 0x24 a rest) refl)
+
+lea-long : (a b c d : ℕ) (rest : List ℕ)
+    → effect_in (parts_at (0x48 ∷ 0x8D ∷ 0xA4 ∷ 0x24 ∷ a ∷ b ∷ c ∷ d ∷ rest)) ≡ Some (moved_sp 8 (signed_of a b c d))
+unfolding moved_sp effect_of load-parts
+lea-long a b c d rest =
+    lea 0xA4 (a ∷ b ∷ c ∷ d ∷ rest) (signed_of a b c d) 8 refl
+    (four-bytes (0x48 ∷ 0x8D ∷ 0xA4 ∷ 0x24 ∷ a ∷ b ∷ c ∷ d ∷ rest) 4 a b c d (omega arith) refl refl refl refl)
+
+leave-parts : (rest : List ℕ) → effect_in (parts_at (0xC9 ∷ rest)) ≡ Some (record { size = 1; sp = Sum Fp (pos 8); fp = Unknown; flow = Next })
+unfolding one_byte row_of plain_parts effect_of
+leave-parts rest = bare 0xC9 rest Leave refl refl refl
+
+effect-as : (found : Option Effect) (at next size : ℕ) (sp fp : Change)
+    → found ≡ Some (record { size = size; sp = sp; fp = fp; flow = Next }) → next ≡ at + size → IsEffect found at next sp fp
+effect-as found at next size sp fp is end = record {
+  effect = record { size = size; sp = sp; fp = fp; flow = Next };
+  is = is;
+  ends = sym end;
+  flow = refl;
+  sp_is = refl;
+  fp_is = refl;
+}
+
+sums : (text : List ℕ) (at next : ℕ) (bytes : ℤ) → IsMoveOfSp text at next bytes
+    → IsEffect (instruction_at text at) at next (Sum Sp bytes) (kept Fp)
+unfolding moved_sp
+sums text at next bytes (add_byte a are end is) =
+    effect-as (instruction_at text at) at next 4 (Sum Sp bytes) (kept Fp)
+    (begun text at 0x48 (0x83 ∷ 0xC4 ∷ a ∷ []) are ∙ (add-byte a (take 11 (drop (at + 4) text)) ∙ ap (λ (x : ℤ). Some (moved_sp 4 x)) (sym is))) end
+sums text at next bytes (sub_byte a are end is) =
+    effect-as (instruction_at text at) at next 4 (Sum Sp bytes) (kept Fp)
+    (begun text at 0x48 (0x83 ∷ 0xEC ∷ a ∷ []) are ∙ (sub-byte a (take 11 (drop (at + 4) text)) ∙ ap (λ (x : ℤ). Some (moved_sp 4 x)) (sym is))) end
+sums text at next bytes (lea_byte a are end is) =
+    effect-as (instruction_at text at) at next 5 (Sum Sp bytes) (kept Fp)
+    (begun text at 0x48 (0x8D ∷ 0x64 ∷ 0x24 ∷ a ∷ []) are ∙ (lea-byte a (take 10 (drop (at + 5) text)) ∙ ap (λ (x : ℤ). Some (moved_sp 5 x)) (sym is))) end
+sums text at next bytes (add_long a b c d are end is) =
+    effect-as (instruction_at text at) at next 7 (Sum Sp bytes) (kept Fp)
+    (begun text at 0x48 (0x81 ∷ 0xC4 ∷ a ∷ b ∷ c ∷ d ∷ []) are ∙ (add-long a b c d (take 8 (drop (at + 7) text)) ∙ ap (λ (x : ℤ). Some (moved_sp 7 x)) (sym is))) end
+sums text at next bytes (sub_long a b c d are end is) =
+    effect-as (instruction_at text at) at next 7 (Sum Sp bytes) (kept Fp)
+    (begun text at 0x48 (0x81 ∷ 0xEC ∷ a ∷ b ∷ c ∷ d ∷ []) are ∙ (sub-long a b c d (take 8 (drop (at + 7) text)) ∙ ap (λ (x : ℤ). Some (moved_sp 7 x)) (sym is))) end
+sums text at next bytes (lea_long a b c d are end is) =
+    effect-as (instruction_at text at) at next 8 (Sum Sp bytes) (kept Fp)
+    (begun text at 0x48 (0x8D ∷ 0xA4 ∷ 0x24 ∷ a ∷ b ∷ c ∷ d ∷ []) are ∙ (lea-long a b c d (take 7 (drop (at + 8) text)) ∙ ap (λ (x : ℤ). Some (moved_sp 8 x)) (sym is))) end
+
+leave-at : (text : List ℕ) (at : ℕ) → slice_get text at ≡ Some 0xC9 → IsEffect (instruction_at text at) at (at + 1) (Sum Fp (pos 8)) Unknown
+leave-at text at byte =
+    effect-as (instruction_at text at) at (at + 1) 1 (Sum Fp (pos 8)) Unknown
+    (one text at 0xC9 byte ∙ leave-parts (take 14 (drop (suc at) text))) refl
+
 pub as-machine : (text : List ℕ) (at : ℕ) → IsAsMachine text at (instruction_at text at)
 as-machine text at = record {
   pushes = pushes text at;
@@ -634,4 +813,6 @@ as-machine text at = record {
   moves = moves text at;
   returns = λ byte. (record (plain 1) { flow = flow.Return }, one text at 0xC3 byte ∙ return-parts (take 14 (drop (suc at) text)), refl, refl);
   leaves = leaves text at;
+  sums = sums text at;
+  leave = leave-at text at;
 }

@@ -46,6 +46,8 @@ encodings =
     ∷ encoding 0x3F200000 0x0B200000 SetRd
     -- CCMN and CCMP, which have flags in place of Rd
     ∷ encoding 0x1FE00000 0x1A400000 Keep
+    -- IRG
+    ∷ encoding 0xFFE0FC00 0x9AC01000 SetRd
     ∷ encoding 0x0E000000 0x0A000000 WriteRd
     -- ---- pairs
     -- STP and STGP; LDP and LDPSW

@@ -135,14 +135,14 @@ compare_pair word = if bits_at word 17 4 == 14 then writing (plain 4) 29 else pl
 abbrev pub memory_copy : ℕ → Effect
 memory_copy word = writing (writing (writing (plain 4) (rd word)) (rn word)) (rs word)
 
--- forms that write the base register back
+-- forms that write the base register back; a register that is loaded and is the base too has any value
 abbrev pub written_back : ℕ → Class → Effect
 written_back word Indexed = moving (plain 4) word (Some (imm9 word))
-written_back word LoadIndexed = moving (writing (plain 4) (rd word)) word (Some (imm9 word))
+written_back word LoadIndexed = writing (moving (plain 4) word (Some (imm9 word))) (rd word)
 written_back word TagIndexed = moving (plain 4) word (Some (imm9 word *ℤ pos 16))
 written_back word PairIndexed = moving_by_pair (plain 4) word PairIndexed
 written_back word VectorPairIndexed = moving_by_pair (plain 4) word VectorPairIndexed
-written_back word LoadPairIndexed = moving_by_pair (writing_pair (plain 4) word) word LoadPairIndexed
+written_back word LoadPairIndexed = writing_pair (moving_by_pair (plain 4) word LoadPairIndexed) word
 written_back word WriteRtAndBack = moving (writing (plain 4) (rd word)) word None
 written_back word _ = moving (plain 4) word None
 

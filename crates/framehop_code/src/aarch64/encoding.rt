@@ -65,7 +65,7 @@ pub enum Class {
 pub struct Encoding(pub u32, pub u32, pub Class);
 
 /// The encodings; of several that fit the first one counts.
-static ENCODINGS: [Encoding; 64] = [
+static ENCODINGS: [Encoding; 65] = [
     // UDF
     Encoding(0xffff_0000, 0x0000_0000, Stop),
     // ---- data processing (immediate)
@@ -100,6 +100,8 @@ static ENCODINGS: [Encoding; 64] = [
     Encoding(0x3f20_0000, 0x0b20_0000, SetRd),
     // CCMN and CCMP, which have flags in place of Rd
     Encoding(0x1fe0_0000, 0x1a40_0000, Keep),
+    // IRG
+    Encoding(0xffe0_fc00, 0x9ac0_1000, SetRd),
     Encoding(0x0e00_0000, 0x0a00_0000, WriteRd),
     // ---- pairs
     // STP and STGP; LDP and LDPSW

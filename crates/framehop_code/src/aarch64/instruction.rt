@@ -203,7 +203,7 @@ fn memory_copy(word: u32) -> Effect
     writing(writing(effect, bits(word, 5, 5)), bits(word, 16, 5))
 }
 
-/// Returns the effect of an access that changes its base register.
+/// Returns the effect of an access that changes its base register. A register that is loaded and is the base too has any value.
 fn written_back(word: u32, class: Class) -> Effect
     ensures exact { result ≡ written_back word class }
     ensures size { result.size ≡ 4 }
@@ -211,10 +211,10 @@ fn written_back(word: u32, class: Class) -> Effect
     let next = plain(SIZE);
     match class {
         Class::Indexed => moving(next, word, Some(imm9(word))),
-        Class::LoadIndexed => moving(writing(next, bits(word, 0, 5)), word, Some(imm9(word))),
+        Class::LoadIndexed => writing(moving(next, word, Some(imm9(word))), bits(word, 0, 5)),
         Class::TagIndexed => moving(next, word, Some(imm9(word) * 16)),
         Class::PairIndexed | Class::VectorPairIndexed => moving_by_pair(next, word, class),
-        Class::LoadPairIndexed => moving_by_pair(writing_pair(next, word), word, class),
+        Class::LoadPairIndexed => writing_pair(moving_by_pair(next, word, class), word),
         Class::WriteRtAndBack => moving(writing(next, bits(word, 0, 5)), word, None),
         _ => moving(next, word, None),
     }

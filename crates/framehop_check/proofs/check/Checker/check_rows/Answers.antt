@@ -1,4 +1,4 @@
-use Rattle.std.proofs.Common.{◌≡◌, ◌+◌, ◌^◌, ◌<◌, Bool, true, nat_lt, List, IfOk, OnOk, subst, arith}
+use Rattle.std.proofs.Common.{◌≡◌, ◌+◌, ◌^◌, Bool, true, nat_lt, List, IfOk, OnOk, subst}
 use Rattle.std.proofs.lemmas.Bool.{lt-ltb}
 use Rattle.framehop_check.specs.declared.check.Item.{Item}
 use Rattle.framehop_check.specs.Rows.{claim_at}
