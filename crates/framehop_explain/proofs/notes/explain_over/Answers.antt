@@ -30,10 +30,10 @@ returns-clause-found g c =
     let limits = g.met.P.AllocationPolicy.is_policy in
     ok-from c.explain_frame.result c.explain_frame.ensures.finding (Answering-over _ c.explain_frame.ensures.answers memory answers).1
     (λ explanation covers tells.
-        named g.A.Unwinding.readers _ g.A.Sources.pe_source (record { by_code = g.A.CompactUnwindInfoUnwinding.by_code; prologue = g.A.InstructionAnalysis.prologue_rule; epilogue = g.A.InstructionAnalysis.epilogue_rule }) g.A.UnwindRule.DescribeRule.rule_text g.A.UnwindRule.UnwindRule.fallback g.P.AllocationPolicy.policy _ _
-        (λ e. IsFinding e c.args.unwinder.now.modules memory (location_of c.args.address) c.args.regs (option_map finding_of explanation.finding))
-        g.met.A.Unwinding.readers_are limits.1 limits.2
-        (found-by explaining c.args.unwinder.now.modules memory (location_of c.args.address) c.args.regs finding_of explanation.finding covers tells))
+    named g.A.Unwinding.readers _ g.A.Sources.pe_source (record { by_code = g.A.CompactUnwindInfoUnwinding.by_code; prologue = g.A.InstructionAnalysis.prologue_rule; epilogue = g.A.InstructionAnalysis.epilogue_rule }) g.A.UnwindRule.DescribeRule.rule_text g.A.UnwindRule.UnwindRule.fallback g.P.AllocationPolicy.policy _ _
+    (λ e. IsFinding e c.args.unwinder.now.modules memory (location_of c.args.address) c.args.regs (option_map finding_of explanation.finding))
+    g.met.A.Unwinding.readers_are limits.1 limits.2
+    (found-by explaining c.args.unwinder.now.modules memory (location_of c.args.address) c.args.regs finding_of explanation.finding covers tells))
 
 pub returns-clause-outcome : goal.returns-clause-outcome
 returns-clause-outcome g c =

@@ -7,10 +7,11 @@ use Rattle.framehop_explain.specs.Found.{finding_of}
 use Rattle.framehop_explain.proofs.notes.note_frame.Goals as goal
 
 pub returns-clause-note : goal.returns-clause-note
-returns-clause-note g c =
-    (c.in_ok-note.note,
-      (option_map finding_of c.in_ok-explanation.explanation.finding, c.in_ok-explanation.ensures.found, rw c.modules.ensures at c.in_ok-note.ensures),
-      search rules)
+returns-clause-note g c = (
+  c.in_ok-note.note,
+  (option_map finding_of c.in_ok-explanation.explanation.finding, c.in_ok-explanation.ensures.found, rw c.modules.ensures at c.in_ok-note.ensures),
+  search rules,
+)
 
 pub returns-clause-caller : goal.returns-clause-caller
 returns-clause-caller g c =
