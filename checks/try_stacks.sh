@@ -83,6 +83,8 @@ for program in "$@"; do
     try 0 "$checks/stacks/crash.limit" any --root . --limit 1 crash.core
     try 0 "$checks/stacks/crash.explained" any --root . --explain crash.core
     try 0 "$checks/stacks/crash.fallback" any --root srv --explain crash.core
+    try 0 "$checks/stacks/debug_frame.stacks" any --root . debug_frame.core
+    try 0 "$checks/stacks/debug_frame.explained" any --root . --explain debug_frame.core
     try 1 "$work/nothing" any "$work/short.core"
     try 0 "$checks/stacks/minidump.stacks" any --root . crash.dmp
     try 0 "$checks/stacks/minidump.limit" any --root . --limit 1 crash.dmp
