@@ -3,6 +3,7 @@ use anyhow::Result;
 use framehop_symbols::files::{FileSource, is_vdso, is_windows_path};
 use std::alloc::{AllocError, Global};
 use std::fs;
+use std::path::PathBuf;
 
 /// The size of the largest file that is read for its unwind data and names, in bytes: 4 GiB.
 const LARGEST_FILE: u64 = 0x1_0000_0000;
@@ -15,8 +16,10 @@ pub struct Disk<'a> {
     pub root: &'a str,
     /// The folder below which debug files are.
     pub debug_dir: &'a str,
-    /// The folder in which perf keeps copies of files, if it is known.
+    /// The folder in which perf keeps copies of files, if one is named.
     pub buildid_dir: Option<&'a str>,
+    /// The home folder, if it is known: perf keeps them in its `.debug`.
+    pub home: Option<PathBuf>,
     /// The file of the vdso, if one is named.
     pub vdso: Option<&'a str>,
 }
@@ -97,7 +100,14 @@ impl FileSource for Disk<'_> {
 
     fn read_copied_file(&self, build_id: &[u8]) -> Option<Vec<u8>> {
         let alloc = self.rt.alloc();
-        let folder = build_id_path(alloc, self.buildid_dir?, build_id).ok()?;
+        let folder = match self.buildid_dir {
+            Some(folder) => build_id_path(alloc, folder, build_id).ok()?,
+            None => {
+                let home = self.home.as_ref()?;
+                let folder = format!(in alloc; "{}/.debug", home.as_str()).ok()?;
+                build_id_path(alloc, folder.as_str(), build_id).ok()?
+            }
+        };
         for name in ["elf", "vdso"] {
             let path = format!(in alloc; "{}/{name}", folder.as_str()).ok()?;
             if let Some(bytes) = read_regular(self.rt, path.as_str()) {

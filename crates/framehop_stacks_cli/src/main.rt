@@ -17,6 +17,7 @@ use framehop_perf_stacks::error::StacksError;
 use framehop_perf_stacks::program::write_stacks;
 use framehop_perf_stacks::run::Options;
 use std::io::{BufWriter, Write};
+use std::path::PathBuf;
 use std::process::ExitCode;
 use std::{env, fs, io};
 
@@ -52,14 +53,12 @@ fn run(rt: &HostRuntime) -> Result<u8> {
         eprintln!(rt; "framehop-stacks: only folded stacks are cut at frames that are not sure")?;
         return Ok(2);
     }
-    let root = matches.get_str("root").unwrap_or("");
-    let debug_dir = matches.get_str("debug-dir").unwrap_or("/usr/lib/debug");
-    let buildid_dir = buildid_dir(rt, matches.get_str("buildid-dir"))?;
     let disk = Disk {
         rt,
-        root,
-        debug_dir,
-        buildid_dir: buildid_dir.as_deref(),
+        root: matches.get_str("root").unwrap_or(""),
+        debug_dir: matches.get_str("debug-dir").unwrap_or("/usr/lib/debug"),
+        buildid_dir: matches.get_str("buildid-dir"),
+        home: home(rt),
         vdso: matches.get_str("vdso"),
     };
     let paths = matches.get_strs("file").unwrap_or(&[]);
@@ -73,17 +72,9 @@ fn run(rt: &HostRuntime) -> Result<u8> {
     print_all(rt, paths, &disk, options, Form::Text)
 }
 
-/// Returns the folder in which perf keeps copies of files: the one that is named, or `.debug` in the home folder, if that is
-/// known.
-fn buildid_dir(rt: &HostRuntime, named: Option<&str>) -> Result<Option<String>> {
-    let alloc = rt.alloc();
-    if let Some(folder) = named {
-        return Ok(Some(String::from_str(alloc, folder)?));
-    }
-    match env::home_dir(rt) {
-        Ok(Some(home)) => Ok(Some(format!(in alloc; "{}/.debug", home.as_str())?)),
-        _ => Ok(None),
-    }
+/// Returns the home folder, if it is known.
+fn home(rt: &HostRuntime) -> Option<PathBuf> {
+    env::home_dir(rt).ok()?
 }
 
 /// Prints the stacks of all files, those of recordings last, where they are folded. Returns the greatest status.
