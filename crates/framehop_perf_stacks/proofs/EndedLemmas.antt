@@ -1,5 +1,5 @@
 -- Errors of steps, one after another.
-use Rattle.std.proofs.Common.{◌≡◌, ◌≢◌, ◌⊎◌, inl, inr, ℕ, ◌+◌, ◌-◌, ◌^◌, ◌<◌, ◌≤◌, Bool, true, false, cond, List, [], ◌∷◌, ◌++◌, Option, Some, None, Result, Ok, Err, IfErr, IsErrAnd, refl, ap, sym, ◌∙◌, subst, true≢false, arith}
+use Rattle.std.proofs.Common.{◌≡◌, ◌≢◌, ◌⊎◌, inl, inr, ℕ, ◌+◌, ◌-◌, ◌^◌, ◌<◌, ◌≤◌, Bool, true, false, cond, List, [], ◌∷◌, ◌++◌, Option, Some, None, Result, Ok, Err, OnOk, IfErr, IsErrAnd, refl, ap, sym, ◌∙◌, subst, true≢false, arith}
 use Rattle.std.specs.Prelude.{is_some}
 use Rattle.std.specs.BTreeMap.{is_at}
 use Rattle.std.specs.Cmp.Lexicographic.{slice_cmp}
@@ -88,6 +88,21 @@ taken-first r rest is = ap (λ refusal. cond (is_some refusal) [] (r ∷ before_
 pub refused-after : (r : RecordView) (rest : List RecordView) → refusal_in r ≡ None → first_refusal (r ∷ rest) ≡ first_refusal rest
 refused-after r rest is = ap (λ refusal. option_or refusal (first_refusal rest)) is
 
+unrefused-by : (r : RecordView) (rest : List RecordView) (refusal : Option RecordingError) → option_or refusal (first_refusal rest) ≡ None → refusal ≡ None
+unrefused-by r rest None is = refl
+unrefused-by r rest (Some e) is = absurd (true≢false (ap is_some is))
+
+rest-unrefused : (refusal rest : Option RecordingError) → option_or refusal rest ≡ None → rest ≡ None
+rest-unrefused None rest is = is
+rest-unrefused (Some e) rest is = absurd (true≢false (ap is_some is))
+
+-- where none is refused, all are before
+pub all-before : (records : List RecordView) → first_refusal records ≡ None → before_refusal records ≡ records
+all-before [] is = refl
+all-before (r ∷ rest) is =
+    taken-first r rest (unrefused-by r rest (refusal_in r) is)
+    ∙ ap (λ records. r ∷ records) (all-before rest (rest-unrefused (refusal_in r) (first_refusal rest) is))
+
 -- ---- results
 
 abbrev pub failed : (T : Type 0) → StacksError → Result T StacksError
@@ -128,3 +143,14 @@ pub refusal_of_second : {T U : Type 0} (first : Result T StacksError) (second : 
 refusal_of_second (Ok x) second refusal is told = is
 refusal_of_second {T} {U} (Err e) second refusal is told =
     absurd (true≢false (sym (ap is_refusal (sym told ∙ same_error U e (Recording refusal) is))))
+
+-- what holds where the first of two results is `Ok`, holds where both are, and where the second is refused
+pub first_ok : {T U E : Type 0} {A : Type 0} (first : Result T E) (second : Result U E) (value : U) → result_and first second ≡ Ok value → OnOk first A → A
+first_ok (Ok x) second value is told = told
+first_ok (Err e) second value is told = absurd (true≢false (ap is_err is))
+
+pub first_ok_refused : {T U : Type 0} {A : Type 0} (first : Result T StacksError) (second : Result U StacksError) (refusal : RecordingError)
+    → result_and first second ≡ Err (Recording refusal) → IfErr first (λ error. error ≡ CannotWrite) → OnOk first A → A
+first_ok_refused (Ok x) second refusal is wrote told = told
+first_ok_refused {T} {U} (Err e) second refusal is wrote told =
+    absurd (true≢false (sym (ap is_refusal (sym wrote ∙ same_error U e (Recording refusal) is))))

@@ -7,21 +7,21 @@ use Rattle.framehop_recording.specs.Records.{RecordView}
 use Rattle.framehop_recording.specs.declared.error.RecordingError.{RecordingError}
 use Rattle.framehop_symbols.specs.declared.files.Files.{Files}
 use Rattle.framehop_perf_stacks.specs.Ended.{before_refusal}
-use Rattle.framehop_perf_stacks.specs.Printed.{IsTextIn, IsMadeOf, IsWhole, IsMadeUntil, MayEndAt}
+use Rattle.framehop_perf_stacks.specs.Printed.{IsToldIn, IsSaid, IsMadeOf, IsWhole, IsMadeUntil, MayEndAt}
 use Rattle.framehop_perf_stacks.specs.Recording.{are_of_aarch64, records_in}
-use Rattle.framehop_perf_stacks.specs.Samples.{beginning, samples_from, Each, IsMade}
+use Rattle.framehop_perf_stacks.specs.Samples.{beginning, samples_from, Told, Each, texts_of, IsMade}
 use Rattle.framehop_perf_stacks.specs.declared.error.StacksError.{StacksError}
 use Rattle.framehop_perf_stacks.specs.declared.error.StacksError.TheVariants.{Recording as Refused, OutOfMemory, GenerationsExhausted, EmptyMapping, TooManySamples, CannotWrite}
 use Rattle.framehop_perf_stacks.specs.declared.program.Unwound.{Unwound}
 use Rattle.framehop_perf_stacks.specs.declared.recording.Recording.{Recording}
 
-module _ (recording : Recording) (files : Files) (frames sure explain : Bool) (limit : ℕ) (before after : Option (List ℕ)) where
+module _ (recording : Recording) (files : Files) (frames sure explain : Bool) (limit : ℕ) (before after unsaid said : Option (List ℕ)) where
   -- what is made of records, by texts of an architecture
   abbrev pub IsMadeBy : Bool → List RecordView → Folded → Type 0
   IsMadeBy of_aarch64 records folded =
-      (texts : List (List ℕ))
-      × Each (IsTextIn of_aarch64 frames sure limit files (map attribute_view recording.events.attributes.items)) (samples_from files beginning records) texts
-      × IsMade frames explain texts folded before after
+      (samples : List Told)
+      × Each (IsToldIn of_aarch64 frames sure limit files (map attribute_view recording.events.attributes.items)) (samples_from files beginning records) samples
+      × IsMade frames explain (texts_of samples) folded before after × IsSaid samples records unsaid said
 
   abbrev pub IsWholeBy : Bool → Unwound → Type 0
   IsWholeBy of_aarch64 unwound =
@@ -34,8 +34,8 @@ module _ (recording : Recording) (files : Files) (frames sure explain : Bool) (l
 
   abbrev pub IsMadeAt : Folded → Result (Option RecordingError) StacksError → Type 0
   IsMadeAt folded ended = MatchResult ended
-      (λ refusal. IsWhole recording refusal × IsMadeOf recording files frames sure explain limit folded before after)
-      (λ error. MayEndAt recording files error × IsMadeUntil error recording files frames sure explain limit folded before after)
+      (λ refusal. IsWhole recording refusal × IsMadeOf recording files frames sure explain limit folded before after unsaid said)
+      (λ error. MayEndAt recording files error × IsMadeUntil error recording files frames sure explain limit folded before after unsaid said)
 
   abbrev actual : Bool
   actual = are_of_aarch64 (map attribute_view recording.events.attributes.items)

@@ -14,45 +14,48 @@ use Rattle.framehop_perf_stacks.specs.Changes.{change_in}
 use Rattle.framehop_perf_stacks.specs.Ended.{refusal_in, first_refusal, before_refusal, drawn_in}
 use Rattle.framehop_recording.specs.Records.{RecordView, record_view}
 use Rattle.framehop_recording.specs.declared.order.TimedRecord.{TimedRecord}
-use Rattle.framehop_folded.specs.declared.folded.Folded.{Folded}
+use Rattle.framehop_perf_stacks.specs.Counts.{HasSameSamples}
+use Rattle.framehop_perf_stacks.specs.declared.counts.Counts.{Counts}
 use Rattle.framehop_perf_stacks.specs.Names.{named_in}
 use Rattle.framehop_perf_stacks.specs.Processes.{mapped_in}
 use Rattle.framehop_perf_stacks.specs.Recording.{records_in}
-use Rattle.framehop_perf_stacks.specs.Samples.{State, state_in, state_after, state_over, drawn_over, Agrees, samples_from, Each, IsTaken, AreTaken}
+use Rattle.framehop_perf_stacks.specs.Samples.{State, state_in, state_after, state_over, drawn_over, Agrees, samples_from, Told, Each, IsTaken, AreTaken, lost_after, lost_over}
 use Rattle.framehop_symbols.specs.declared.files.Files.{Files}
 use Rattle.framehop_perf_stacks.specs.declared.names.Names.{Names}
 use Rattle.framehop_perf_stacks.proofs.EndedLemmas.{refused-first, none-before, taken-first, refused-after}
 use Rattle.framehop_perf_stacks.proofs.StateLemmas.{named-same, mapped-same, drawn-same}
-use Rattle.framehop_perf_stacks.proofs.TakenLemmas.{Each-more, AreTaken-more}
+use Rattle.framehop_perf_stacks.proofs.TakenLemmas.{Each-more, AreTaken-more, AreTaken-same}
 
 -- Of all records from a state on some are left. The state there agrees with the names and the processes, and the samples
 -- before it have their texts, which were taken. None of the records before it is refused, and so many generations were drawn.
-pub record IsSoFar (files : Files) (IsText : RecordView × State → List ℕ → Type 0) (frames explain : Bool) (all : List RecordView)
-    (first : State) (old : Folded) (before : Option (List ℕ)) (undrawn : ℕ) (rest : List RecordView) (names : Names)
-    (processes : BTreeMap ℕ ProcessView) (new : Folded) (after : Option (List ℕ)) (drawn : ℕ) : Type 0 where
+pub record IsSoFar (files : Files) (IsText : RecordView × State → Told → Type 0) (frames explain : Bool) (all : List RecordView)
+    (first : State) (old : Counts) (before : Option (List ℕ)) (undrawn : ℕ) (rest : List RecordView) (names : Names)
+    (processes : BTreeMap ℕ ProcessView) (new : Counts) (after : Option (List ℕ)) (drawn : ℕ) : Type 0 where
   pub state : State
   pub told : List (RecordView × State)
-  pub texts : List (List ℕ)
+  pub texts : List Told
   pub agrees : Agrees names processes state
   pub leads : state_over files rest state ≡ state_over files all first
   pub samples : told ++ samples_from files state rest ≡ samples_from files first all
   pub samples_before : told ++ samples_from files state (before_refusal rest) ≡ samples_from files first (before_refusal all)
   pub unrefused : first_refusal rest ≡ first_refusal all
   pub draws : drawn + drawn_over files rest state ≤ undrawn + drawn_over files all first
+  pub loses : lost_over (before_refusal rest) new.lost ≡ lost_over (before_refusal all) old.lost
   pub each : Each IsText told texts
   pub taken : AreTaken frames explain texts old new before after
 
-module _ (files : Files) (IsText : RecordView × State → List ℕ → Type 0)
+module _ (files : Files) (IsText : RecordView × State → Told → Type 0)
     (same_text : (r : RecordView) (state other : State) → ((tid : ℕ) → state.named tid ≡ other.named tid)
-    → ((pid : ℕ) → state.mapped pid ≡ other.mapped pid) → (text : List ℕ) → IsText (r, state) text → IsText (r, other) text)
-    (frames explain : Bool) (all : List RecordView) (first : State) (old : Folded) (before : Option (List ℕ)) (undrawn : ℕ)
+    → ((pid : ℕ) → state.mapped pid ≡ other.mapped pid) → (text : Told) → IsText (r, state) text → IsText (r, other) text)
+    (frames explain : Bool) (all : List RecordView) (first : State) (old : Counts) (before : Option (List ℕ)) (undrawn : ℕ)
     (r : RecordView) (rest : List RecordView) (names names' : Names) (processes processes' : BTreeMap ℕ ProcessView)
-    (new new' : Folded) (after after' : Option (List ℕ)) (drawn drawn' : ℕ)
+    (new new' : Counts) (after after' : Option (List ℕ)) (drawn drawn' : ℕ)
     (so : IsSoFar files IsText frames explain all first old before undrawn (r ∷ rest) names processes new after drawn)
     (none_refused : refusal_in r ≡ None) (draws : drawn' ≤ drawn + drawn_in (change_in files r) (mapped_in processes))
     (agrees : Agrees names' processes' (state_after files r (state_in names processes)))
-    (sample : r.kind ≡ PERF_RECORD_SAMPLE → (text : List ℕ) × IsText (r, state_in names processes) text × IsTaken frames explain text new new' after after')
-    (other : r.kind ≢ PERF_RECORD_SAMPLE → (new' ≡ new) × (after' ≡ after)) where
+    (sample : r.kind ≡ PERF_RECORD_SAMPLE → (text : Told) × IsText (r, state_in names processes) text × IsTaken frames explain text new new' after after')
+    (other : r.kind ≢ PERF_RECORD_SAMPLE → HasSameSamples new new' × (after' ≡ after))
+    (lost : new'.lost ≡ lost_after r new.lost) where
   agrees-on : Agrees names' processes' (state_after files r so.state)
   agrees-on = record {
     named = λ tid. agrees.named tid ∙ named-same (named_in names) so.state.named so.agrees.named r tid;
@@ -67,6 +70,11 @@ module _ (files : Files) (IsText : RecordView × State → List ℕ → Type 0)
 
   before-on : so.told ++ samples_from files so.state (r ∷ before_refusal rest) ≡ samples_from files first (before_refusal all)
   before-on = ap (λ records. so.told ++ samples_from files so.state records) (sym (taken-first r rest none_refused)) ∙ so.samples_before
+
+  loses-on : lost_over (before_refusal rest) new'.lost ≡ lost_over (before_refusal all) old.lost
+  loses-on =
+      ap (lost_over (before_refusal rest)) lost
+      ∙ ap (λ records. lost_over records new.lost) (sym (taken-first r rest none_refused)) ∙ so.loses
 
   step-by : (b : Bool) → (r.kind == PERF_RECORD_SAMPLE) ≡ b → IsSoFar files IsText frames explain all first old before undrawn rest names' processes' new' after' drawn'
   step-by true is =
@@ -87,6 +95,7 @@ module _ (files : Files) (IsText : RecordView × State → List ℕ → Type 0)
         samples_before = append_assoc so.told ((r, so.state) ∷ []) next-before ∙ here-before;
         unrefused = unrefused-on;
         draws = draws-on;
+        loses = loses-on;
         each = Each-more IsText so.told so.texts (r, so.state) one.0 so.each
             (same_text r (state_in names processes) so.state so.agrees.named so.agrees.mapped one.0 one.1);
         taken = AreTaken-more frames explain so.texts one.0 old new new' before after after' so.taken one.2;
@@ -105,23 +114,26 @@ module _ (files : Files) (IsText : RecordView × State → List ℕ → Type 0)
         samples_before = ap (λ b. so.told ++ cond b ((r, so.state) ∷ next-before) next-before) (sym is) ∙ before-on;
         unrefused = unrefused-on;
         draws = draws-on;
+        loses = loses-on;
         each = so.each;
-        taken = subst (λ folded. AreTaken frames explain so.texts old folded before after') (sym none.0)
-            (subst (λ bytes. AreTaken frames explain so.texts old new before bytes) (sym none.1) so.taken);
+        taken = AreTaken-same frames explain so.texts old new new' before after after' so.taken none.0 none.1;
       }
 
   pub step : IsSoFar files IsText frames explain all first old before undrawn rest names' processes' new' after' drawn'
   step = step-by (r.kind == PERF_RECORD_SAMPLE) refl
 
 -- where the next record is refused, what was told is of the samples before it
-module _ (files : Files) (IsText : RecordView × State → List ℕ → Type 0) (frames explain : Bool) (all : List RecordView)
-    (first : State) (old : Folded) (before : Option (List ℕ)) (undrawn : ℕ) (r : RecordView) (rest : List RecordView) (names : Names)
-    (processes : BTreeMap ℕ ProcessView) (new : Folded) (after : Option (List ℕ)) (drawn : ℕ)
+module _ (files : Files) (IsText : RecordView × State → Told → Type 0) (frames explain : Bool) (all : List RecordView)
+    (first : State) (old : Counts) (before : Option (List ℕ)) (undrawn : ℕ) (r : RecordView) (rest : List RecordView) (names : Names)
+    (processes : BTreeMap ℕ ProcessView) (new : Counts) (after : Option (List ℕ)) (drawn : ℕ)
     (so : IsSoFar files IsText frames explain all first old before undrawn (r ∷ rest) names processes new after drawn) where
   pub told-before : (refusal : RecordingError) → refusal_in r ≡ Some refusal → so.told ≡ samples_from files first (before_refusal all)
   told-before refusal is =
       sym (append-nil so.told) ∙ ap (λ records. so.told ++ samples_from files so.state records) (sym (none-before r rest refusal is))
       ∙ so.samples_before
+
+  pub loses-before : (refusal : RecordingError) → refusal_in r ≡ Some refusal → new.lost ≡ lost_over (before_refusal all) old.lost
+  loses-before refusal is = ap (λ records. lost_over records new.lost) (sym (none-before r rest refusal is)) ∙ so.loses
 
   pub refused-here : (refusal : RecordingError) → refusal_in r ≡ Some refusal → first_refusal all ≡ Some refusal
   refused-here refusal is = sym so.unrefused ∙ refused-first r rest refusal is

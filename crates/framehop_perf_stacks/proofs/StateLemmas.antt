@@ -20,8 +20,7 @@ use Rattle.framehop_perf_stacks.specs.Ended.{drawn_in, naming_refusal, refusal_i
 use Rattle.framehop_frames.specs.Line.{head_of}
 use Rattle.framehop_perf_stacks.specs.Names.{Named, named_by, named_as_parent, named_after}
 use Rattle.framehop_perf_stacks.specs.Processes.{Mapped, after}
-use Rattle.framehop_perf_stacks.specs.Samples.{State, mapped_by, IsUserStack, IsTextAt}
-use Rattle.framehop_frames.specs.Stack.{stack_text}
+use Rattle.framehop_perf_stacks.specs.Samples.{State, mapped_by, IsUserStack, IsToldAt, Told, stack_told}
 use Rattle.framehop_perf_stacks.specs.declared.changes.Change.{Change}
 use Rattle.framehop_perf_stacks.specs.declared.changes.Change.TheVariants.{Map, Begin, Fork}
 use Rattle.framehop_symbols.specs.Files.{number_in, object_in}
@@ -92,9 +91,9 @@ module _ {Regs : Type 0} (module_of : Mapping → ModuleView) (walker : Walker R
     (starts : List ModuleView → ℕ → List ℕ → Option (Start Regs) → Type 0) (frames sure : Bool) (limit : ℕ) (files : Files)
     (state other : State) (named : (tid : ℕ) → state.named tid ≡ other.named tid)
     (mapped : (pid : ℕ) → state.mapped pid ≡ other.mapped pid) where
-  pub text-same : (sample : Result (SampleView × ℕ) RecordingError) (text : List ℕ)
-      → IsTextAt module_of walker starts frames sure limit files state sample text
-      → IsTextAt module_of walker starts frames sure limit files other sample text
+  pub text-same : (sample : Result (SampleView × ℕ) RecordingError) (text : Told)
+      → IsToldAt module_of walker starts frames sure limit files state sample text
+      → IsToldAt module_of walker starts frames sure limit files other sample text
   text-same (Ok sample) text told =
       let pid = sample.0.pid in
       let tid = sample.0.tid in
@@ -102,8 +101,8 @@ module _ {Regs : Type 0} (module_of : Mapping → ModuleView) (walker : Walker R
         told.0,
         subst P (mapped pid) told.1,
         told.2
-            ∙ ap (λ name. stack_text frames sure files name (head_of name pid tid sample.0.time) (state.mapped pid) told.0) (named tid)
-            ∙ ap (λ mappings. stack_text frames sure files (other.named tid) (head_of (other.named tid) pid tid sample.0.time) mappings told.0) (mapped pid),
+            ∙ ap (λ name. stack_told frames sure files name (head_of name pid tid sample.0.time) (state.mapped pid) told.0) (named tid)
+            ∙ ap (λ mappings. stack_told frames sure files (other.named tid) (head_of (other.named tid) pid tid sample.0.time) mappings told.0) (mapped pid),
       )
   text-same (Err refusal) text told = told
 

@@ -1,18 +1,20 @@
 -- Texts that are taken one after another.
 use Rattle.std.proofs.Common.{◌≡◌, ℕ, zero, suc, ◌+◌, Bool, true, false, nat_eq, List, [], ◌∷◌, ◌++◌, Option, Some, None, Result, Ok, Err, OnOk, cond, refl, ap, sym, ◌∙◌, subst, append-nil, true≢false, arith}
-use Rattle.std.specs.Prelude.{unwrap_or}
+use Rattle.std.specs.Prelude.{unwrap_or, not, length, count_by}
 use Rattle.std.specs.Cmp.Lexicographic.{pointwise, same_text, other_text}
 use Rattle.std.specs.Io.KnownBytes.{Appends}
 use Rattle.std.specs.List.{flat_map}
 use Rattle.std.specs.Result.{IfOk, is_err, result_and}
-use Rattle.std.proofs.lemmas.List.{flat_map_more}
+use Rattle.std.proofs.lemmas.List.{flat_map_more, map_push, length-append}
 use Rattle.std.proofs.lemmas.List.Sums.{sum_by_push}
 use Rattle.std.proofs.KnownBytes.{Appends-trans}
-use Rattle.framehop_folded.specs.Folded.{entry_of, count_in}
+use Rattle.framehop_folded.specs.Folded.{entry_of, count_in, IsInOrderOfBytes}
 use Rattle.framehop_folded.specs.declared.folded.Folded.{Folded}
-use Rattle.framehop_perf_stacks.specs.Counts.{CountsOneMore}
+use Rattle.framehop_perf_stacks.specs.Counts.{CountsOneMore, HasSameSamples}
+use Rattle.framehop_perf_stacks.specs.declared.counts.Counts.{Counts}
+use Rattle.framehop_recording.specs.Records.{RecordView}
 use Rattle.framehop_frames.specs.Explained.{IsShown}
-use Rattle.framehop_perf_stacks.specs.Samples.{Each, occurrences, more, IsTaken, AreTaken, IsMade}
+use Rattle.framehop_perf_stacks.specs.Samples.{Told, Each, occurrences, more, IsTextTaken, AreTextsTaken, IsTaken, AreTaken, HasSamplesMore, AreSummed, texts_of, ends_of, unsure_among, lost_over, IsMade}
 
 -- one more of each list
 pub Each-more : {A B : Type 0} (R : A → B → Type 0) (xs : List A) (ys : List B) (a : A) (b : B) → Each R xs ys → R a b
@@ -54,10 +56,10 @@ module _ (texts : List (List ℕ)) (text : List ℕ) (old mid new : Folded)
       ∙ ap (more (entry_of old line)) (sym (occurrences-more line texts text (pointwise nat_eq line text) refl))
 
 -- a text that is taken after others
-pub AreTaken-more : (frames explain : Bool) (texts : List (List ℕ)) (text : List ℕ) (old mid new : Folded) (first before after : Option (List ℕ))
-    → AreTaken frames explain texts old mid first before → IsTaken frames explain text mid new before after
-    → AreTaken frames explain (texts ++ text ∷ []) old new first after
-AreTaken-more true explain texts text old mid new first before after taken one =
+texts-more : (frames explain : Bool) (texts : List (List ℕ)) (text : List ℕ) (old mid new : Folded) (first before after : Option (List ℕ))
+    → AreTextsTaken frames explain texts old mid first before → IsTextTaken frames explain text mid new before after
+    → AreTextsTaken frames explain (texts ++ text ∷ []) old new first after
+texts-more true explain texts text old mid new first before after taken one =
     let shown = taken.1.0 in
     let last = one.1.0 in (
       one.0 ∙ taken.0,
@@ -68,18 +70,73 @@ AreTaken-more true explain texts text old mid new first before after taken one =
             (Appends-trans first before after (flat_map (λ t. t) shown) last taken.1.2 one.1.2),
       ),
     )
-AreTaken-more false explain texts text old mid new first before after taken one =
+texts-more false explain texts text old mid new first before after taken one =
     (counted-more texts text old mid new taken.0 one.0, one.1 ∙ taken.1)
 
 -- nothing that is taken
-pub AreTaken-none : (frames explain : Bool) (folded : Folded) (bytes : Option (List ℕ)) → AreTaken frames explain [] folded folded bytes bytes
-AreTaken-none true explain folded None = (refl, ([], tt, tt))
-AreTaken-none true explain folded (Some bytes) = (refl, ([], tt, sym (append-nil bytes)))
-AreTaken-none false explain folded bytes = (λ line. refl, refl)
+texts-none : (frames explain : Bool) (folded : Folded) (bytes : Option (List ℕ)) → AreTextsTaken frames explain [] folded folded bytes bytes
+texts-none true explain folded None = (refl, ([], tt, tt))
+texts-none true explain folded (Some bytes) = (refl, ([], tt, sym (append-nil bytes)))
+texts-none false explain folded bytes = (λ line. refl, refl)
+
+-- ---- samples
+
+not-sure : (sure : Bool) → ◌≡◌ {A = ℕ} (cond (not sure) 1 0) (cond sure 0 1)
+not-sure true = refl
+not-sure false = refl
+
+-- a sample that is taken after others
+pub AreTaken-more : (frames explain : Bool) (samples : List Told) (told : Told) (old mid new : Counts) (first before after : Option (List ℕ))
+    → AreTaken frames explain samples old mid first before → IsTaken frames explain told mid new before after
+    → AreTaken frames explain (samples ++ told ∷ []) old new first after
+AreTaken-more frames explain samples told old mid new first before after taken one =
+    let unsure : unsure_among (samples ++ told ∷ []) ≡ unsure_among samples + cond (not told.is_sure) 1 0 =
+    sum_by_push (λ (t : Told). cond (not t.is_sure) 1 0) samples told in
+    let size : length (samples ++ told ∷ []) ≡ length samples + 1 = length-append samples (told ∷ []) in (
+      record {
+        count = omega (arith, one.0.samples, taken.0.count, size);
+        unsure = omega (arith, one.0.unsure, taken.0.unsure, unsure, not-sure told.is_sure);
+        ends = λ end. counted-more (ends_of samples) told.end old.ends mid.ends new.ends taken.0.ends one.0.ends end
+            ∙ ap (λ ends. more (entry_of old.ends end) (occurrences end ends)) (sym (map_push (λ (t : Told). t.end) samples told));
+      },
+      subst (λ texts. AreTextsTaken frames explain texts old.stacks new.stacks first after) (sym (map_push (λ (t : Told). t.text) samples told))
+          (texts-more frames explain (texts_of samples) told.text old.stacks mid.stacks new.stacks first before after taken.1 one.1),
+    )
+
+-- nothing that is taken
+pub AreTaken-none : (frames explain : Bool) (counts : Counts) (bytes : Option (List ℕ)) → AreTaken frames explain [] counts counts bytes bytes
+AreTaken-none frames explain counts bytes =
+    (record { count = omega arith; unsure = omega arith; ends = λ end. refl }, texts-none frames explain counts.stacks bytes)
+
+-- what is taken where another record is passed over
+pub AreTaken-same : (frames explain : Bool) (samples : List Told) (old mid new : Counts) (first before after : Option (List ℕ))
+    → AreTaken frames explain samples old mid first before → HasSameSamples mid new → after ≡ before
+    → AreTaken frames explain samples old new first after
+AreTaken-same frames explain samples old mid new first before after taken same kept = (
+  record {
+    count = same.samples ∙ taken.0.count;
+    unsure = same.unsure ∙ taken.0.unsure;
+    ends = λ end. ap (λ folded. entry_of folded end) same.ends ∙ taken.0.ends end;
+  },
+  subst (λ folded. AreTextsTaken frames explain (texts_of samples) old.stacks folded first after) (sym same.stacks)
+      (subst (λ bytes. AreTextsTaken frames explain (texts_of samples) old.stacks mid.stacks first bytes) (sym kept) taken.1),
+)
+
+-- the counts of all samples, from none on
+pub summed : (samples : List Told) (records : List RecordView) (old new : Counts) → HasSamplesMore samples old new
+    → old.samples ≡ 0 → old.unsure ≡ 0 → ((end : List ℕ) → entry_of old.ends end ≡ None) → new.lost ≡ lost_over records 0
+    → IsInOrderOfBytes new.ends → AreSummed samples records new
+summed samples records old new more-of none sure endless lost ordered = record {
+  count = omega (arith, more-of.count, none);
+  unsure = omega (arith, more-of.unsure, sure);
+  lost = lost;
+  ends = λ end. more-of.ends end ∙ ap (λ entry. more entry (occurrences end (ends_of samples))) (endless end);
+  ordered = ordered;
+}
 
 -- what is made of all texts
 pub made : (frames explain : Bool) (texts : List (List ℕ)) (old new : Folded) (before after : Option (List ℕ))
-    → AreTaken frames explain texts old new before after → ((line : List ℕ) → entry_of old line ≡ None) → IsMade frames explain texts new before after
+    → AreTextsTaken frames explain texts old new before after → ((line : List ℕ) → entry_of old line ≡ None) → IsMade frames explain texts new before after
 made true explain texts old new before after taken none = (λ line. ap (λ folded. entry_of folded line) taken.0 ∙ none line, taken.1)
 made false explain texts old new before after taken none =
     (λ line. taken.0 line ∙ ap (λ entry. more entry (occurrences line texts)) (none line), taken.1)

@@ -24,3 +24,10 @@ summary_text counts =
     decimal counts.samples ++ codes " samples, " ++ decimal counts.lost ++ codes " records lost by the kernel\n"
     ++ decimal counts.unsure ++ codes " samples with frames that no unwind data tells\n"
     ++ codes "how the stacks ended:\n" ++ text_of counts.ends
+
+-- the same samples are counted, of which the stacks are the same
+pub record HasSameSamples (old new : Counts) : Type 0 where
+  pub samples : new.samples ≡ old.samples
+  pub unsure : new.unsure ≡ old.unsure
+  pub ends : new.ends ≡ old.ends
+  pub stacks : new.stacks ≡ old.stacks

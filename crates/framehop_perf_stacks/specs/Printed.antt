@@ -1,5 +1,6 @@
 -- What is made of a recording.
 use Rattle.std.specs.Prelude.{◌≡◌, ℕ, ⊤, Bool, true, false, List, map, count_by, Option, None}
+use Rattle.std.specs.Io.KnownBytes.{Appends}
 use Rattle.framehop_folded.specs.declared.folded.Folded.{Folded}
 use Rattle.framehop_recording.specs.Attributes.{AttributeView, attribute_view}
 use Rattle.framehop_recording.specs.Records.{RecordView}
@@ -9,35 +10,45 @@ use Rattle.framehop_recording.specs.declared.error.RecordingError.{RecordingErro
 use Rattle.framehop_perf_stacks.specs.Ended.{first_refusal, before_refusal, MayEnd}
 use Rattle.framehop_perf_stacks.specs.Recording.{are_of_aarch64, records_in}
 use Rattle.framehop_perf_stacks.specs.Run.{is_sample}
-use Rattle.framehop_perf_stacks.specs.Samples.{State, beginning, drawn_over, samples_from, Each, IsTextOf, IsMade}
+use Rattle.framehop_perf_stacks.specs.Samples.{State, beginning, drawn_over, samples_from, Told, Each, IsToldOf, texts_of, IsMade, AreSummed}
 use Rattle.framehop_perf_stacks.specs.Start.{StartsX86_64, StartsAarch64}
 use Rattle.framehop_symbols.specs.declared.files.Files.{Files}
+use Rattle.framehop_perf_stacks.specs.Counts.{summary_text}
+use Rattle.framehop_perf_stacks.specs.declared.counts.Counts.{Counts}
 use Rattle.framehop_perf_stacks.specs.declared.error.StacksError.{StacksError}
 use Rattle.framehop_perf_stacks.specs.declared.error.StacksError.TheVariants.{Recording as Refused}
 use Rattle.framehop_perf_stacks.specs.declared.recording.Recording.{Recording}
 
--- a text is that of a sample of one of the two architectures, by the modules of the files
-abbrev pub IsTextIn : Bool → Bool → Bool → ℕ → Files → List AttributeView → RecordView × State → List ℕ → Type 0
-IsTextIn true frames sure limit files attributes =
-    IsTextOf (module_at files) aarch64_walker StartsAarch64 frames sure limit files attributes
-IsTextIn false frames sure limit files attributes =
-    IsTextOf (module_at files) x86_64_walker StartsX86_64 frames sure limit files attributes
+-- this is told of a sample of one of the two architectures, by the modules of the files
+abbrev pub IsToldIn : Bool → Bool → Bool → ℕ → Files → List AttributeView → RecordView × State → Told → Type 0
+IsToldIn true frames sure limit files attributes =
+    IsToldOf (module_at files) aarch64_walker StartsAarch64 frames sure limit files attributes
+IsToldIn false frames sure limit files attributes =
+    IsToldOf (module_at files) x86_64_walker StartsX86_64 frames sure limit files attributes
 
--- the texts of the samples of records, each by the state that the records before it lead to
-abbrev pub AreTextsOf : List AttributeView → List RecordView → Files → Bool → Bool → ℕ → List (List ℕ) → Type 0
-AreTextsOf attributes records files frames sure limit texts =
-    Each (IsTextIn (are_of_aarch64 attributes) frames sure limit files attributes) (samples_from files beginning records) texts
+-- what is told of the samples of records, of each by the state that the records before it lead to
+abbrev pub AreToldOf : List AttributeView → List RecordView → Files → Bool → Bool → ℕ → List Told → Type 0
+AreToldOf attributes records files frames sure limit samples =
+    Each (IsToldIn (are_of_aarch64 attributes) frames sure limit files attributes) (samples_from files beginning records) samples
 
--- they are folded, or shown as blocks
-abbrev pub IsMadeFrom : List AttributeView → List RecordView → Files → Bool → Bool → Bool → ℕ → Folded → Option (List ℕ) → Option (List ℕ) → Type 0
-IsMadeFrom attributes records files frames sure explain limit folded before after =
-    (texts : List (List ℕ)) × AreTextsOf attributes records files frames sure limit texts × IsMade frames explain texts folded before after
+-- what is said of samples is their summary
+abbrev pub IsSaid : List Told → List RecordView → Option (List ℕ) → Option (List ℕ) → Type 0
+IsSaid samples records before after =
+    (counts : Counts) × AreSummed samples records counts × Appends before after (summary_text counts)
+
+-- their texts are folded, or shown as blocks, and their summary is said
+abbrev pub IsMadeFrom : List AttributeView → List RecordView → Files → Bool → Bool → Bool → ℕ → Folded → Option (List ℕ) → Option (List ℕ)
+    → Option (List ℕ) → Option (List ℕ) → Type 0
+IsMadeFrom attributes records files frames sure explain limit folded before after unsaid said =
+    (samples : List Told) × AreToldOf attributes records files frames sure limit samples
+    × IsMade frames explain (texts_of samples) folded before after × IsSaid samples records unsaid said
 
 -- the same of all records of a recording
-abbrev pub IsMadeOf : Recording → Files → Bool → Bool → Bool → ℕ → Folded → Option (List ℕ) → Option (List ℕ) → Type 0
-IsMadeOf recording files frames sure explain limit folded before after =
+abbrev pub IsMadeOf : Recording → Files → Bool → Bool → Bool → ℕ → Folded → Option (List ℕ) → Option (List ℕ)
+    → Option (List ℕ) → Option (List ℕ) → Type 0
+IsMadeOf recording files frames sure explain limit folded before after unsaid said =
     IsMadeFrom (map attribute_view recording.events.attributes.items) (records_in recording.records.items) files frames sure
-    explain limit folded before after
+    explain limit folded before after unsaid said
 
 -- none of them is refused, and the refusal at their end is the recording's
 pub record IsWhole (recording : Recording) (refusal : Option RecordingError) : Type 0 where
@@ -45,11 +56,12 @@ pub record IsWhole (recording : Recording) (refusal : Option RecordingError) : T
   pub none : first_refusal (records_in recording.records.items) ≡ None
 
 -- What is made where a run ends with an error: at the first record that is refused, of the samples before it.
-abbrev pub IsMadeUntil : StacksError → Recording → Files → Bool → Bool → Bool → ℕ → Folded → Option (List ℕ) → Option (List ℕ) → Type 0
-IsMadeUntil (Refused refusal) recording files frames sure explain limit folded before after =
+abbrev pub IsMadeUntil : StacksError → Recording → Files → Bool → Bool → Bool → ℕ → Folded → Option (List ℕ) → Option (List ℕ)
+    → Option (List ℕ) → Option (List ℕ) → Type 0
+IsMadeUntil (Refused refusal) recording files frames sure explain limit folded before after unsaid said =
     IsMadeFrom (map attribute_view recording.events.attributes.items)
-    (before_refusal (records_in recording.records.items)) files frames sure explain limit folded before after
-IsMadeUntil error recording files frames sure explain limit folded before after = ⊤
+    (before_refusal (records_in recording.records.items)) files frames sure explain limit folded before after unsaid said
+IsMadeUntil error recording files frames sure explain limit folded before after unsaid said = ⊤
 
 -- a run over the records of a recording may end with an error
 abbrev pub MayEndAt : Recording → Files → StacksError → Type 0

@@ -34,6 +34,7 @@ impl Counts {
         ensures ends { total_of result.ends ≡ 0 }
         ensures stacks { total_of result.stacks ≡ 0 }
         ensures none { (stack : List ℕ) → entry_of result.stacks stack ≡ None }
+        ensures endless { (end : List ℕ) → entry_of result.ends end ≡ None }
     {
         Counts {
             samples: 0,

@@ -1,16 +1,17 @@
 //! From the bytes of a recording to folded stacks or blocks.
-ghost use Rattle.std.specs.Prelude.{ℕ, ◌≡◌, ◌⊎◌, Err, IfOk, IfErr, OnOk, OnErr, MatchResult, List, map, true};
+ghost use Rattle.std.specs.Prelude.{ℕ, ◌≡◌, ◌⊎◌, Err, IfOk, IfErr, OnOk, OnErr, MatchResult, Option, List, map, true};
 ghost use Rattle.std.specs.Io.KnownBytes.{Appends};
 ghost use Rattle.std.specs.Result.{result_err};
 ghost use Rattle.framehop_recording.specs.Attributes.{attribute_view};
 ghost use Rattle.framehop_recording.specs.BuildIds.{file_build_id_view};
 ghost use Rattle.framehop_recording.specs.declared.error.RecordingError.{RecordingError};
 ghost use Rattle.framehop_perf_stacks.specs.Counts.{summary_text};
+ghost use Rattle.framehop_folded.specs.Folded.{IsInOrderOfBytes};
 ghost use Rattle.framehop_perf_stacks.specs.Ended.{before_refusal, MayEnd};
 ghost use Rattle.framehop_perf_stacks.specs.Files.{AreFilesOf};
-ghost use Rattle.framehop_perf_stacks.specs.Printed.{IsMadeOf, IsWhole, IsMadeUntil, MayEndAt};
+ghost use Rattle.framehop_perf_stacks.specs.Printed.{IsMadeOf, IsSaid, IsWhole, IsMadeUntil, MayEndAt};
 ghost use Rattle.framehop_perf_stacks.specs.Recording.{records_in, events_in, IsReadOf};
-ghost use Rattle.framehop_perf_stacks.specs.Samples.{beginning, samples_from, Each, IsTextOf, IsMade};
+ghost use Rattle.framehop_perf_stacks.specs.Samples.{beginning, samples_from, Each, IsToldOf, Told, texts_of, IsMade};
 ghost use Rattle.framehop_symbols.specs.declared.files.Files.{Files};
 ghost use Rattle.framehop_perf_stacks.specs.declared.error.StacksError.TheVariants.{OutOfMemory, CannotWrite, Recording as Refused};
 ghost use Rattle.framehop_perf_stacks.specs.declared.recording.Recording.{Recording};
@@ -44,6 +45,7 @@ pub struct Unwound {
 /// Writes what was counted.
 fn write_counts<E: Write>(err: &mut E, counts: &Counts) -> Result<(), StacksError>
     ensures written { OnOk result (Appends (E.contents err.old) (E.contents err.new) (summary_text counts.now)) }
+    ensures ordered { OnOk result (IsInOrderOfBytes counts.now.ends) }
     ensures refused { IfErr result (λ error. error ≡ CannotWrite) }
 {
     let samples = counts.samples;
@@ -72,15 +74,17 @@ fn unwind_all<U: Sampled, M: ModuleMaker<U>, W: Write, E: Write>(
 where
     U::Cache: Drop,
     U::Module: Drop,
-    ensures made { IfOk result (λ unwound. IfOk unwound.ended (λ refusal. IsWhole recording.now refusal × ((texts : List (List ℕ))
-        × Each (IsTextOf (M.module_of maker.now) U.walker U.starts options.frames options.sure options.limit files.now (map attribute_view recording.now.events.attributes.items))
-        (samples_from files.now beginning (records_in recording.now.records.items)) texts
-        × IsMade options.frames options.explain texts unwound.folded (W.contents out.old) (W.contents out.new)))) }
+    ensures made { IfOk result (λ unwound. IfOk unwound.ended (λ refusal. IsWhole recording.now refusal × ((samples : List Told)
+        × Each (IsToldOf (M.module_of maker.now) U.walker U.starts options.frames options.sure options.limit files.now (map attribute_view recording.now.events.attributes.items))
+        (samples_from files.now beginning (records_in recording.now.records.items)) samples
+        × IsMade options.frames options.explain (texts_of samples) unwound.folded (W.contents out.old) (W.contents out.new)
+        × IsSaid samples (records_in recording.now.records.items) (E.contents err.old) (E.contents err.new)))) }
     ensures ended { IfOk result (λ unwound. IfErr unwound.ended (MayEndAt recording.now files.now)) }
-    ensures before { IfOk result (λ unwound. (refusal : RecordingError) → unwound.ended ≡ Err (Refused refusal) → (texts : List (List ℕ))
-        × Each (IsTextOf (M.module_of maker.now) U.walker U.starts options.frames options.sure options.limit files.now (map attribute_view recording.now.events.attributes.items))
-        (samples_from files.now beginning (before_refusal (records_in recording.now.records.items))) texts
-        × IsMade options.frames options.explain texts unwound.folded (W.contents out.old) (W.contents out.new)) }
+    ensures before { IfOk result (λ unwound. (refusal : RecordingError) → unwound.ended ≡ Err (Refused refusal) → (samples : List Told)
+        × Each (IsToldOf (M.module_of maker.now) U.walker U.starts options.frames options.sure options.limit files.now (map attribute_view recording.now.events.attributes.items))
+        (samples_from files.now beginning (before_refusal (records_in recording.now.records.items))) samples
+        × IsMade options.frames options.explain (texts_of samples) unwound.folded (W.contents out.old) (W.contents out.new)
+        × IsSaid samples (before_refusal (records_in recording.now.records.items)) (E.contents err.old) (E.contents err.new)) }
     ensures refused { IfErr result (λ error. error ≡ OutOfMemory) }
     ensures unwritten { OnErr result (out.new ≡ out.old) }
 {
@@ -122,8 +126,8 @@ fn unwind_recording<W: Write, E: Write>(
     err: &mut E,
 ) -> Result<Unwound, StacksError>
     ensures made { IfOk result (λ unwound. MatchResult unwound.ended
-        (λ refusal. IsWhole recording.now refusal × IsMadeOf recording.now files.now options.frames options.sure options.explain options.limit unwound.folded (W.contents out.old) (W.contents out.new))
-        (λ error. MayEndAt recording.now files.now error × IsMadeUntil error recording.now files.now options.frames options.sure options.explain options.limit unwound.folded (W.contents out.old) (W.contents out.new))) }
+        (λ refusal. IsWhole recording.now refusal × IsMadeOf recording.now files.now options.frames options.sure options.explain options.limit unwound.folded (W.contents out.old) (W.contents out.new) (E.contents err.old) (E.contents err.new))
+        (λ error. MayEndAt recording.now files.now error × IsMadeUntil error recording.now files.now options.frames options.sure options.explain options.limit unwound.folded (W.contents out.old) (W.contents out.new) (E.contents err.old) (E.contents err.new))) }
     ensures refused { IfErr result (λ error. error ≡ OutOfMemory) }
     ensures unwritten { OnErr result (out.new ≡ out.old) }
 {
@@ -161,9 +165,9 @@ pub fn write_stacks<S: FileSource, W: Write, E: Write>(
     ensures made { IfOk result (λ unwound. (recording : Recording) × IsReadOf file.now recording
         × ((files : Files) × AreFilesOf (S.source source.now)
         (map file_build_id_view recording.build_ids.items) (records_in recording.records.items) files
-        × MatchResult unwound.ended
-        (λ refusal. IsWhole recording refusal × IsMadeOf recording files options.frames options.sure options.explain options.limit unwound.folded (W.contents out.old) (W.contents out.new))
-        (λ error. MayEndAt recording files error × IsMadeUntil error recording files options.frames options.sure options.explain options.limit unwound.folded (W.contents out.old) (W.contents out.new)))) }
+        × ((unsaid : Option (List ℕ)) × MatchResult unwound.ended
+        (λ refusal. IsWhole recording refusal × IsMadeOf recording files options.frames options.sure options.explain options.limit unwound.folded (W.contents out.old) (W.contents out.new) unsaid (E.contents err.new))
+        (λ error. MayEndAt recording files error × IsMadeUntil error recording files options.frames options.sure options.explain options.limit unwound.folded (W.contents out.old) (W.contents out.new) unsaid (E.contents err.new))))) }
     ensures refused { IfErr result (MayEnd true (result_err (events_in file.now)) 0 0) }
     ensures unwritten { OnErr result (out.new ≡ out.old) }
 {

@@ -2,7 +2,7 @@
 //!
 //! The files that a recording maps are read before, so what makes modules stays as it is while processes change.
 //! All processes share one cache, since generations tell their lists of modules apart.
-ghost use Rattle.std.specs.Prelude.{ℕ, ◌≡◌, ◌≢◌, ◌≤◌, ◌+◌, ◌-◌, ◌^◌, min, length, ◌&&◌, if◌then◌else◌, [], None, IfOk, IfErr, OnOk, Ok, Err, IsSome, Bool, false, List, map, count_by};
+ghost use Rattle.std.specs.Prelude.{ℕ, ◌≡◌, ◌≢◌, ◌≤◌, ◌+◌, ◌-◌, ◌^◌, min, length, ◌&&◌, if◌then◌else◌, [], Some, None, IfOk, IfErr, OnOk, OnErr, Ok, Err, IsSome, Bool, false, List, map, count_by};
 ghost use Rattle.std.specs.BTreeMap.{get};
 ghost use Rattle.std.specs.Ordering.{nat_cmp};
 ghost use Rattle.std.specs.Result.{result_err, result_unwrap_or};
@@ -17,15 +17,15 @@ ghost use Rattle.framehop_recording.specs.Sample.{user_view, sample_view};
 ghost use Rattle.framehop_recording.specs.Tasks.{lost_at};
 ghost use Rattle.framehop_recording.specs.declared.error.RecordingError.{RecordingError};
 ghost use Rattle.framehop_perf_stacks.specs.Changes.{change_in};
-ghost use Rattle.framehop_perf_stacks.specs.Counts.{CountsOneMore};
+ghost use Rattle.framehop_perf_stacks.specs.Counts.{CountsOneMore, HasSameSamples};
 ghost use Rattle.framehop_perf_stacks.specs.Ended.{refusal_in, first_refusal, before_refusal, drawn_in, MayEnd};
 ghost use Rattle.framehop_perf_stacks.specs.Names.{named_in};
 ghost use Rattle.framehop_perf_stacks.specs.Processes.{mapped_in, IsServed};
 ghost use Rattle.framehop_perf_stacks.specs.Recording.{sample_in, records_in};
 ghost use Rattle.framehop_perf_stacks.specs.Run.{AreCounted, CountsMore, is_sample, samples_in_kind, sample_refusal};
-ghost use Rattle.framehop_perf_stacks.specs.Samples.{State, beginning, state_in, state_after, state_over, drawn_over, Agrees, samples_from, head_text, IsUserStack, IsTextAt, IsTextOf, Each, IsTaken, AreTaken};
+ghost use Rattle.framehop_perf_stacks.specs.Samples.{State, beginning, state_in, state_after, state_over, drawn_over, Agrees, samples_from, head_text, IsUserStack, IsToldAt, IsToldOf, Told, stack_told, lost_after, lost_over, Each, IsTaken, AreTaken};
 ghost use Rattle.framehop_frames.specs.Line.{end_name};
-ghost use Rattle.framehop_frames.specs.Stack.{line_count, StackView, no_stack, stack_text, stack_view, option_stack_view};
+ghost use Rattle.framehop_frames.specs.Stack.{line_count, StackView, no_stack, stack_view, option_stack_view};
 ghost use Rattle.framehop_perf_stacks.specs.declared.error.StacksError.TheVariants.{OutOfMemory, Recording as RecordingRefused};
 ghost use Rattle.framehop_symbols.specs.declared.files.Files.{Files};
 
@@ -125,8 +125,8 @@ fn take_stack<R: Copy, W: Write>(
     requires { IsInOrder 0 mappings.now }
     ensures counted { OnOk result (CountsMore options.frames 1 counts.old counts.new) }
     ensures taken { OnOk result (IsTaken options.frames options.explain
-        (stack_text options.frames options.sure files.now name.now (head_text name.now (Some sample.entry)) mappings.now (stack_view stack.now))
-        counts.old.stacks counts.new.stacks (W.contents out.old) (W.contents out.new)) }
+        (stack_told options.frames options.sure files.now name.now (head_text name.now (Some sample.entry)) mappings.now (stack_view stack.now))
+        counts.old counts.new (W.contents out.old) (W.contents out.new)) }
     ensures refused { (samples : ℕ) → AreCounted options.frames samples counts.old
         → IfErr result (MayEnd options.frames None 0 (samples + 1)) }
     ensures ends { OnOk result (CountsOneMore counts.old.ends counts.new.ends (end_name stack.now.end)) }
@@ -164,8 +164,8 @@ fn take_refused<W: Write>(
 ) -> Result<(), StacksError>
     ensures counted { OnOk result (CountsMore options.frames 1 counts.old counts.new) }
     ensures taken { OnOk result ((files : Files) (mappings : List Mapping) → IsTaken options.frames options.explain
-        (stack_text options.frames options.sure files name.now (head_text name.now sample.entry) mappings (no_stack why.now))
-        counts.old.stacks counts.new.stacks (W.contents out.old) (W.contents out.new)) }
+        (stack_told options.frames options.sure files name.now (head_text name.now sample.entry) mappings (no_stack why.now))
+        counts.old counts.new (W.contents out.old) (W.contents out.new)) }
     ensures refused { (samples : ℕ) → AreCounted options.frames samples counts.old
         → IfErr result (MayEnd options.frames None 0 (samples + 1)) }
     ensures ends { OnOk result (CountsOneMore counts.old.ends counts.new.ends why.now) }
@@ -218,6 +218,8 @@ where
         ensures none { IfOk result (λ run. (frames : Bool) → AreCounted frames 0 run.counts) }
         ensures begun { IfOk result (λ run. Agrees run.names run.processes.by_pid beginning) }
         ensures uncounted { IfOk result (λ run. (stack : List ℕ) → entry_of run.counts.stacks stack ≡ None) }
+        ensures endless { IfOk result (λ run. (end : List ℕ) → entry_of run.counts.ends end ≡ None) }
+        ensures unlost { IfOk result (λ run. run.counts.lost ≡ 0) }
         ensures undrawn { IfOk result (λ run. run.processes.generations ≡ 0) }
         ensures refused { IfErr result (λ error. error ≡ OutOfMemory) }
     {
@@ -247,8 +249,8 @@ where
         ensures names { self.new.names ≡ self.old.names }
         ensures cache { self.new.cache ≡ self.old.cache }
         ensures taken { OnOk result (IsTaken options.frames options.explain
-            (stack_text options.frames options.sure files.now (named_in self.old.names sample.entry.tid) (head_text (named_in self.old.names sample.entry.tid) (Some sample.entry)) (mapped_in self.old.processes.by_pid sample.entry.pid) (option_stack_view walked.now))
-            self.old.counts.stacks self.new.counts.stacks (W.contents out.old) (W.contents out.new)) }
+            (stack_told options.frames options.sure files.now (named_in self.old.names sample.entry.tid) (head_text (named_in self.old.names sample.entry.tid) (Some sample.entry)) (mapped_in self.old.processes.by_pid sample.entry.pid) (option_stack_view walked.now))
+            self.old.counts self.new.counts (W.contents out.old) (W.contents out.new)) }
         ensures refused { (samples : ℕ) → AreCounted options.frames samples self.old.counts
             → IfErr result (MayEnd options.frames None 0 (samples + 1)) }
     {
@@ -303,8 +305,8 @@ where
         ensures told { OnOk result ((module_of : Mapping → ModuleView)
             → IsServed module_of (λ view. U.is_sound view self.old.cache) self.old.processes.by_pid self.old.processes.generations
             → (stack : StackView) × IsUserStack U.walker U.starts options.limit files.now (mapped_in self.old.processes.by_pid sample.entry.pid) (map module_of (mapped_in self.old.processes.by_pid sample.entry.pid)) mask (Ok (user_view user.entry)) stack
-            × IsTaken options.frames options.explain (stack_text options.frames options.sure files.now (named_in self.old.names sample.entry.tid) (head_text (named_in self.old.names sample.entry.tid) (Some sample.entry)) (mapped_in self.old.processes.by_pid sample.entry.pid) stack)
-            self.old.counts.stacks self.new.counts.stacks (W.contents out.old) (W.contents out.new)) }
+            × IsTaken options.frames options.explain (stack_told options.frames options.sure files.now (named_in self.old.names sample.entry.tid) (head_text (named_in self.old.names sample.entry.tid) (Some sample.entry)) (mapped_in self.old.processes.by_pid sample.entry.pid) stack)
+            self.old.counts self.new.counts (W.contents out.old) (W.contents out.new)) }
         ensures refused { (samples : ℕ) → AreCounted options.frames samples self.old.counts
             → IfErr result (MayEnd options.frames None 0 (samples + 1)) }
     {
@@ -350,8 +352,8 @@ where
         ensures mapped { OnOk result ((pid : ℕ) → mapped_in self.new.processes.by_pid pid ≡ mapped_in self.old.processes.by_pid pid) }
         ensures told { OnOk result ((module_of : Mapping → ModuleView)
             → IsServed module_of (λ view. U.is_sound view self.old.cache) self.old.processes.by_pid self.old.processes.generations
-            → (text : List ℕ) × IsTextAt module_of U.walker U.starts options.frames options.sure options.limit files.now (state_in self.old.names self.old.processes.by_pid) (Ok (sample_view sample.entry, mask)) text
-            × IsTaken options.frames options.explain text self.old.counts.stacks self.new.counts.stacks (W.contents out.old) (W.contents out.new)) }
+            → (told : Told) × IsToldAt module_of U.walker U.starts options.frames options.sure options.limit files.now (state_in self.old.names self.old.processes.by_pid) (Ok (sample_view sample.entry, mask)) told
+            × IsTaken options.frames options.explain told self.old.counts self.new.counts (W.contents out.old) (W.contents out.new)) }
         ensures drawn { self.new.processes.generations ≤ self.old.processes.generations + 1 }
         ensures refused { (samples : ℕ) → AreCounted options.frames samples self.old.counts
             → IfErr result (MayEnd options.frames None (self.old.processes.generations + 1) (samples + 1)) }
@@ -394,8 +396,8 @@ where
         ensures mapped { OnOk result ((pid : ℕ) → mapped_in self.new.processes.by_pid pid ≡ mapped_in self.old.processes.by_pid pid) }
         ensures told { OnOk result ((module_of : Mapping → ModuleView)
             → IsServed module_of (λ view. U.is_sound view self.old.cache) self.old.processes.by_pid self.old.processes.generations
-            → (text : List ℕ) × IsTextAt module_of U.walker U.starts options.frames options.sure options.limit files.now (state_in self.old.names self.old.processes.by_pid) (sample_in (map attribute_view events.now.attributes.items) (record_view «record».entry)) text
-            × IsTaken options.frames options.explain text self.old.counts.stacks self.new.counts.stacks (W.contents out.old) (W.contents out.new)) }
+            → (told : Told) × IsToldAt module_of U.walker U.starts options.frames options.sure options.limit files.now (state_in self.old.names self.old.processes.by_pid) (sample_in (map attribute_view events.now.attributes.items) (record_view «record».entry)) told
+            × IsTaken options.frames options.explain told self.old.counts self.new.counts (W.contents out.old) (W.contents out.new)) }
         ensures drawn { self.new.processes.generations ≤ self.old.processes.generations + 1 }
         ensures refused { (samples : ℕ) → AreCounted options.frames samples self.old.counts
             → IfErr result (MayEnd options.frames None (self.old.processes.generations + 1) (samples + 1)) }
@@ -422,7 +424,8 @@ where
         ensures processes { self.new.processes ≡ self.old.processes }
         ensures names { self.new.names ≡ self.old.names }
         ensures cache { self.new.cache ≡ self.old.cache }
-        ensures stacks { self.new.counts.stacks ≡ self.old.counts.stacks }
+        ensures samples { HasSameSamples self.old.counts self.new.counts }
+        ensures kept { OnErr result (self.new.counts ≡ self.old.counts) }
         ensures counted { OnOk result ((frames : Bool) → CountsMore frames 0 self.old.counts self.new.counts) }
         ensures lost { OnOk result (self.new.counts.lost
             ≡ min (self.old.counts.lost + result_unwrap_or (lost_at (record_view «record».entry)) 0) (2 ^ 64 - 1)) }
@@ -455,11 +458,13 @@ where
         ensures counted { OnOk result (CountsMore options.frames (samples_in_kind «record».entry.kind) self.old.counts self.new.counts) }
         ensures state { OnOk result (Agrees self.new.names self.new.processes.by_pid
             (state_after files.now (record_view «record».entry) (state_in self.old.names self.old.processes.by_pid))) }
-        ensures sample { «record».entry.kind ≡ PERF_RECORD_SAMPLE → OnOk result ((text : List ℕ)
-            × IsTextOf (M.module_of maker.now) U.walker U.starts options.frames options.sure options.limit files.now (map attribute_view events.now.attributes.items)
-            (record_view «record».entry, state_in self.old.names self.old.processes.by_pid) text
-            × IsTaken options.frames options.explain text self.old.counts.stacks self.new.counts.stacks (W.contents out.old) (W.contents out.new)) }
-        ensures other { «record».entry.kind ≢ PERF_RECORD_SAMPLE → (self.new.counts.stacks ≡ self.old.counts.stacks) × (out.new ≡ out.old) }
+        ensures sample { «record».entry.kind ≡ PERF_RECORD_SAMPLE → OnOk result ((told : Told)
+            × IsToldOf (M.module_of maker.now) U.walker U.starts options.frames options.sure options.limit files.now (map attribute_view events.now.attributes.items)
+            (record_view «record».entry, state_in self.old.names self.old.processes.by_pid) told
+            × IsTaken options.frames options.explain told self.old.counts self.new.counts (W.contents out.old) (W.contents out.new)) }
+        ensures other { «record».entry.kind ≢ PERF_RECORD_SAMPLE → HasSameSamples self.old.counts self.new.counts × (out.new ≡ out.old) }
+        ensures lost { OnOk result (self.new.counts.lost ≡ lost_after (record_view «record».entry) self.old.counts.lost) }
+        ensures lost_before { (refusal : RecordingError) → refusal_in (record_view «record».entry) ≡ Some refusal → self.new.counts.lost ≡ self.old.counts.lost }
         ensures drawn { OnOk result (self.new.processes.generations ≤ self.old.processes.generations
             + drawn_in (change_in files.now (record_view «record».entry)) (mapped_in self.old.processes.by_pid)) }
         ensures read { OnOk result (refusal_in (record_view «record».entry) ≡ None) }
@@ -499,20 +504,23 @@ where
         ensures counted { OnOk result (AreCounted options.frames (count_by is_sample recording.now.records.items) self.new.counts) }
         ensures state { (state : State) → Agrees self.old.names self.old.processes.by_pid state → OnOk result
             (Agrees self.new.names self.new.processes.by_pid (state_over files.now (records_in recording.now.records.items) state)) }
-        ensures told { (state : State) → Agrees self.old.names self.old.processes.by_pid state → OnOk result ((texts : List (List ℕ))
-            × Each (IsTextOf (M.module_of maker.now) U.walker U.starts options.frames options.sure options.limit files.now (map attribute_view recording.now.events.attributes.items))
-            (samples_from files.now state (records_in recording.now.records.items)) texts
-            × AreTaken options.frames options.explain texts self.old.counts.stacks self.new.counts.stacks (W.contents out.old) (W.contents out.new)) }
+        ensures told { (state : State) → Agrees self.old.names self.old.processes.by_pid state → OnOk result ((samples : List Told)
+            × Each (IsToldOf (M.module_of maker.now) U.walker U.starts options.frames options.sure options.limit files.now (map attribute_view recording.now.events.attributes.items))
+            (samples_from files.now state (records_in recording.now.records.items)) samples
+            × AreTaken options.frames options.explain samples self.old.counts self.new.counts (W.contents out.old) (W.contents out.new)) }
         ensures read { OnOk result (first_refusal (records_in recording.now.records.items) ≡ None) }
         ensures refused { (state : State) → Agrees self.old.names self.old.processes.by_pid state → IfErr result (MayEnd options.frames
             (first_refusal (records_in recording.now.records.items))
             (self.old.processes.generations + drawn_over files.now (records_in recording.now.records.items) state)
             (count_by is_sample recording.now.records.items)) }
+        ensures lost { OnOk result (self.new.counts.lost ≡ lost_over (records_in recording.now.records.items) self.old.counts.lost) }
+        ensures lost_before { (refusal : RecordingError) → result ≡ Err (RecordingRefused refusal)
+            → self.new.counts.lost ≡ lost_over (before_refusal (records_in recording.now.records.items)) self.old.counts.lost }
         ensures before { (state : State) → Agrees self.old.names self.old.processes.by_pid state
-            → (refusal : RecordingError) → result ≡ Err (RecordingRefused refusal) → (texts : List (List ℕ))
-            × Each (IsTextOf (M.module_of maker.now) U.walker U.starts options.frames options.sure options.limit files.now (map attribute_view recording.now.events.attributes.items))
-            (samples_from files.now state (before_refusal (records_in recording.now.records.items))) texts
-            × AreTaken options.frames options.explain texts self.old.counts.stacks self.new.counts.stacks (W.contents out.old) (W.contents out.new) }
+            → (refusal : RecordingError) → result ≡ Err (RecordingRefused refusal) → (samples : List Told)
+            × Each (IsToldOf (M.module_of maker.now) U.walker U.starts options.frames options.sure options.limit files.now (map attribute_view recording.now.events.attributes.items))
+            (samples_from files.now state (before_refusal (records_in recording.now.records.items))) samples
+            × AreTaken options.frames options.explain samples self.old.counts self.new.counts (W.contents out.old) (W.contents out.new) }
     {
         for timed in &recording.records {
             self.take_record(

@@ -1,10 +1,12 @@
 use Rattle.std.proofs.Common.{◌≡◌, Err, true, refl, ap, sym, ◌∙◌, true≢false, arith}
 use Rattle.std.specs.Result.{is_err}
 use Rattle.std.proofs.lemmas.Result.{IfOk-from_err}
-use Rattle.framehop_perf_stacks.proofs.EndedLemmas.{ends_more, either_error, refusal_of_second, cannot_write, same_error, if_err_weaker, if_err_at, if_err_none}
-use Rattle.framehop_perf_stacks.proofs.TakenLemmas.{made, both_ok, at_ok}
+use Rattle.framehop_perf_stacks.proofs.EndedLemmas.{first_ok, first_ok_refused, ends_more, either_error, refusal_of_second, cannot_write, same_error, if_err_weaker, if_err_at, if_err_none}
+use Rattle.framehop_perf_stacks.proofs.TakenLemmas.{made, summed, both_ok, at_ok}
+use Rattle.framehop_perf_stacks.specs.Ended.{before_refusal}
+use Rattle.framehop_perf_stacks.specs.Recording.{records_in}
 use Rattle.framehop_perf_stacks.specs.Printed.{MayEndAt}
-use Rattle.framehop_perf_stacks.specs.Samples.{beginning}
+use Rattle.framehop_perf_stacks.specs.Samples.{beginning, texts_of, lost_over}
 use Rattle.framehop_perf_stacks.specs.declared.error.StacksError.TheVariants.{Recording as Refused}
 use Rattle.framehop_perf_stacks.proofs.program.unwind_all.Goals as goal
 use Rattle.framehop_perf_stacks.proofs.program.unwind_all.Goals.{in-Ok, in-Err}
@@ -27,9 +29,19 @@ returns-clause-made g c = elim c.match-and.branch [
         (
           told.0,
           told.1,
-          made c.args.options.frames c.args.options.explain told.0 c.in_ok-run.run'.counts.stacks
+          made c.args.options.frames c.args.options.explain (texts_of told.0) c.in_ok-run.run'.counts.stacks
               c.take_records-taken.new.self.counts.stacks (g.W.Write.contents c.args.out.now)
-              (g.W.Write.contents c.take_records-taken.new.out) told.2 c.in_ok-run.ensures.uncounted,
+              (g.W.Write.contents c.take_records-taken.new.out) told.2.1 c.in_ok-run.ensures.uncounted,
+          (
+            c.take_records-taken.new.self.counts,
+            summed told.0 _ c.in_ok-run.run'.counts c.take_records-taken.new.self.counts told.2.0
+                (c.in_ok-run.ensures.none c.args.options.frames).samples (omega (arith, (c.in_ok-run.ensures.none c.args.options.frames).unsure))
+                c.in_ok-run.ensures.endless
+                (both_ok c.write_counts-counted.result c.take_records-taken.result _ both c.take_records-taken.ensures.lost
+                ∙ ap (lost_over (records_in c.args.recording.now.records.items)) c.in_ok-run.ensures.unlost)
+                (first_ok c.write_counts-counted.result c.take_records-taken.result _ both c.write_counts-counted.ensures.ordered),
+            first_ok c.write_counts-counted.result c.take_records-taken.result _ both c.write_counts-counted.ensures.written,
+          ),
         ),
       )
   | in-Err w ↦ IfOk-from_err c.match-and.ended _ (ap is_err w.ended-is)
@@ -58,8 +70,18 @@ returns-clause-before g c = elim c.match-and.branch [
       let told = c.take_records-taken.ensures.before beginning c.in_ok-run.ensures.begun refusal taken in (
         told.0,
         told.1,
-        made c.args.options.frames c.args.options.explain told.0 c.in_ok-run.run'.counts.stacks
+        made c.args.options.frames c.args.options.explain (texts_of told.0) c.in_ok-run.run'.counts.stacks
             c.take_records-taken.new.self.counts.stacks (g.W.Write.contents c.args.out.now)
-            (g.W.Write.contents c.take_records-taken.new.out) told.2 c.in_ok-run.ensures.uncounted,
+            (g.W.Write.contents c.take_records-taken.new.out) told.2.1 c.in_ok-run.ensures.uncounted,
+        (
+          c.take_records-taken.new.self.counts,
+          summed told.0 _ c.in_ok-run.run'.counts c.take_records-taken.new.self.counts told.2.0
+              (c.in_ok-run.ensures.none c.args.options.frames).samples (omega (arith, (c.in_ok-run.ensures.none c.args.options.frames).unsure))
+              c.in_ok-run.ensures.endless
+              (c.take_records-taken.ensures.lost_before refusal taken
+              ∙ ap (lost_over (before_refusal (records_in c.args.recording.now.records.items))) c.in_ok-run.ensures.unlost)
+              (first_ok_refused c.write_counts-counted.result c.take_records-taken.result refusal both c.write_counts-counted.ensures.refused c.write_counts-counted.ensures.ordered),
+          first_ok_refused c.write_counts-counted.result c.take_records-taken.result refusal both c.write_counts-counted.ensures.refused c.write_counts-counted.ensures.written,
+        ),
       )
 ]

@@ -127,3 +127,26 @@ returns-in_default-clause-read g c =
     let other : (r.kind == PERF_RECORD_LOST) ≡ false = search rules in
     let is : change_in c.args.files.now r ≡ Ok None = sym c.in_ok-change.ensures.exact ∙ ap (λ read. Ok read) c.in_default.is in
     change-unrefused r c.args.files.now None other is
+
+pub returns-in_err-take_sample_record-clause-lost_before : goal.returns-in_err-take_sample_record-clause-lost_before
+returns-in_err-take_sample_record-clause-lost_before g c = λ refusal is.
+    let kind : c.args.record.kind ≡ 9 = search rules in
+    absurd (true≢false (sym (ap is_some is) ∙ ap is_some (sample-unrefused (record_view c.args.record) kind)))
+
+pub returns-then-record-eq-SAMPLE-clause-lost_before : goal.returns-then-record-eq-SAMPLE-clause-lost_before
+returns-then-record-eq-SAMPLE-clause-lost_before g c = λ refusal is.
+    let kind : c.args.record.kind ≡ 9 = search rules in
+    absurd (true≢false (sym (ap is_some is) ∙ ap is_some (sample-unrefused (record_view c.args.record) kind)))
+
+pub returns-then-record-eq-SAMPLE-clause-lost : goal.returns-then-record-eq-SAMPLE-clause-lost
+returns-then-record-eq-SAMPLE-clause-lost g c =
+    let r = record_view c.args.record in
+    let kind : c.args.record.kind ≡ 9 = search rules in
+    let other : (r.kind == PERF_RECORD_LOST) ≡ false = rw kind refl in
+    let told = c.in_ok-take_sample_record.ensures.told (g.M.ModuleMaker.module_of c.args.maker.now) c.requires.served in
+    rw other told.2.0.lost
+
+pub returns-then-record-eq-LOST-clause-lost_before : goal.returns-then-record-eq-LOST-clause-lost_before
+returns-then-record-eq-LOST-clause-lost_before g c = λ refusal is.
+    let kind : c.args.record.kind ≡ 2 = search rules in
+    absurd (true≢false (sym (ap is_some is) ∙ ap is_some (lost-refusal (record_view c.args.record) kind ∙ c.in_ok-lose.ensures.read)))

@@ -3,17 +3,17 @@ use Rattle.std.specs.Prelude.{is_some}
 use Rattle.std.specs.List.{count_by}
 use Rattle.std.proofs.lemmas.List.{at_drop_all}
 use Rattle.framehop_recording.specs.Attributes.{attribute_view}
-use Rattle.framehop_perf_stacks.specs.Ended.{first_refusal, MayEnd}
+use Rattle.framehop_perf_stacks.specs.Ended.{first_refusal, before_refusal, MayEnd}
 use Rattle.framehop_recording.specs.declared.error.RecordingError.{RecordingError}
 use Rattle.framehop_perf_stacks.specs.declared.error.StacksError.{StacksError}
 use Rattle.framehop_perf_stacks.specs.declared.error.StacksError.TheVariants.{Recording as Refused}
 use Rattle.framehop_perf_stacks.specs.Recording.{records_in, sample_in}
 use Rattle.framehop_perf_stacks.specs.Run.{AreCounted, is_sample}
-use Rattle.framehop_perf_stacks.specs.Samples.{state_in, state_over, samples_from, Agrees, Each, IsTextOf, AreTaken}
-use Rattle.framehop_perf_stacks.proofs.EndedLemmas.{same_error}
-use Rattle.framehop_perf_stacks.proofs.SoFarLemmas.{IsSoFar, step, told-before, records-left, samples-next}
+use Rattle.framehop_perf_stacks.specs.Samples.{state_in, state_over, samples_from, Agrees, Each, IsToldOf, lost_over}
+use Rattle.framehop_perf_stacks.proofs.EndedLemmas.{all-before, ends_more, failed_as, same_error}
+use Rattle.framehop_perf_stacks.proofs.SoFarLemmas.{IsSoFar, step, told-before, loses-before, refused-here, draws-here, samples-within, records-left, samples-next}
 use Rattle.framehop_perf_stacks.proofs.StateLemmas.{text-same, sample-unrefused}
-use Rattle.framehop_perf_stacks.proofs.TakenLemmas.{AreTaken-none}
+use Rattle.framehop_perf_stacks.proofs.TakenLemmas.{AreTaken-none, AreTaken-same}
 use Rattle.framehop_perf_stacks.proofs.run.Run.take_records.Goals as goal
 
 pub loop-timed-init : goal.loop-timed-init
@@ -30,8 +30,9 @@ loop-timed-init g c = (
     samples_before = refl;
     unrefused = refl;
     draws = omega arith;
+    loses = refl;
     each = tt;
-    taken = AreTaken-none c.args.options.frames c.args.options.explain c.args.self.now.counts.stacks (g.W.Write.contents c.args.out.now);
+    taken = AreTaken-none c.args.options.frames c.args.options.explain c.args.self.now.counts (g.W.Write.contents c.args.out.now);
   },
 )
 
@@ -54,21 +55,21 @@ loop-timed-preserved g c =
           let so = l.invariant.2 first agrees in
           let left = records-left items records same l.timed-index _ within in
           step c.args.files.now
-          (IsTextOf module_of g.U.Steps.walker g.U.Sampled.starts c.args.options.frames c.args.options.sure c.args.options.limit c.args.files.now attributes)
+          (IsToldOf module_of g.U.Steps.walker g.U.Sampled.starts c.args.options.frames c.args.options.sure c.args.options.limit c.args.files.now attributes)
           (λ r state other named mapped. text state other named mapped (sample_in attributes r))
-          c.args.options.frames c.args.options.explain (records_in records) first c.args.self.now.counts.stacks (g.W.Write.contents c.args.out.now)
+          c.args.options.frames c.args.options.explain (records_in records) first c.args.self.now.counts (g.W.Write.contents c.args.out.now)
           c.args.self.now.processes.generations
           _ (records_in (drop (l.timed-index + 1) records)) l.self.names c.take_record.new.self.names
-          l.self.processes.by_pid c.take_record.new.self.processes.by_pid l.self.counts.stacks c.take_record.new.self.counts.stacks
+          l.self.processes.by_pid c.take_record.new.self.processes.by_pid l.self.counts c.take_record.new.self.counts
           (g.W.Write.contents l.out) (g.W.Write.contents c.take_record.new.out)
           l.self.processes.generations c.take_record.new.self.processes.generations
           (subst (λ rest. IsSoFar c.args.files.now
-          (IsTextOf module_of g.U.Steps.walker g.U.Sampled.starts c.args.options.frames c.args.options.sure c.args.options.limit c.args.files.now attributes)
-          c.args.options.frames c.args.options.explain (records_in records) first c.args.self.now.counts.stacks (g.W.Write.contents c.args.out.now)
+          (IsToldOf module_of g.U.Steps.walker g.U.Sampled.starts c.args.options.frames c.args.options.sure c.args.options.limit c.args.files.now attributes)
+          c.args.options.frames c.args.options.explain (records_in records) first c.args.self.now.counts (g.W.Write.contents c.args.out.now)
           c.args.self.now.processes.generations rest
-          l.self.names l.self.processes.by_pid l.self.counts.stacks (g.W.Write.contents l.out) l.self.processes.generations) left so)
+          l.self.names l.self.processes.by_pid l.self.counts (g.W.Write.contents l.out) l.self.processes.generations) left so)
           after.read after.drawn after.state after.sample
-          (λ kind. let same = after.other kind in (same.0, ap (λ out. g.W.Write.contents out) same.1)),
+          (λ kind. let same = after.other kind in (same.0, ap (λ out. g.W.Write.contents out) same.1)) after.lost,
     )
 
 pub returns-clause-state : goal.returns-clause-state
@@ -91,7 +92,7 @@ returns-clause-told g c = λ first agrees.
     let all : so.told ≡ samples_from files first (records_in records) =
     sym (append-nil so.told) ∙ ap (λ rest. so.told ++ rest) (sym none) ∙ so.samples in (
       so.texts,
-      subst (λ told. Each (IsTextOf (g.M.ModuleMaker.module_of c.args.maker.now) g.U.Steps.walker g.U.Sampled.starts
+      subst (λ told. Each (IsToldOf (g.M.ModuleMaker.module_of c.args.maker.now) g.U.Steps.walker g.U.Sampled.starts
           c.args.options.frames c.args.options.sure c.args.options.limit files (map attribute_view c.args.recording.now.events.attributes.items)) told so.texts) all so.each,
       so.taken,
     )
@@ -115,7 +116,7 @@ returns-in_err-take_record-clause-before g c = λ first agrees refusal is.
     let files = c.args.files.now in
     let frames = c.args.options.frames in
     let records = c.args.recording.now.records.items in
-    let IsText = IsTextOf (g.M.ModuleMaker.module_of c.args.maker.now) g.U.Steps.walker g.U.Sampled.starts
+    let IsText = IsToldOf (g.M.ModuleMaker.module_of c.args.maker.now) g.U.Steps.walker g.U.Sampled.starts
     frames c.args.options.sure c.args.options.limit files (map attribute_view c.args.recording.now.events.attributes.items) in
     let items = c.deref-timed-items.result.now in
     let same = c.deref-timed-items.ensures.value in
@@ -126,16 +127,76 @@ returns-in_err-take_record-clause-before g c = λ first agrees refusal is.
     let ends = c.in_err-take_record.ensures.refused (count_by is_sample (take l.timed-index records)) l.invariant.1 in
     let here = subst (MayEnd frames _ _ _) ended ends in
     let kept = c.in_err-take_record.ensures.other (λ kind. true≢false (sym (ap is_some here) ∙ ap is_some (sample-unrefused _ kind))) in
-    let so = subst (λ rest. IsSoFar files IsText frames c.args.options.explain (records_in records) first c.args.self.now.counts.stacks
-    (g.W.Write.contents c.args.out.now) c.args.self.now.processes.generations rest l.self.names l.self.processes.by_pid l.self.counts.stacks
+    let so = subst (λ rest. IsSoFar files IsText frames c.args.options.explain (records_in records) first c.args.self.now.counts
+    (g.W.Write.contents c.args.out.now) c.args.self.now.processes.generations rest l.self.names l.self.processes.by_pid l.self.counts
     (g.W.Write.contents l.out) l.self.processes.generations) left (l.invariant.2 first agrees) in
-    let told = told-before files IsText frames c.args.options.explain (records_in records) first c.args.self.now.counts.stacks
-    (g.W.Write.contents c.args.out.now) c.args.self.now.processes.generations _ rest l.self.names l.self.processes.by_pid l.self.counts.stacks
+    let told = told-before files IsText frames c.args.options.explain (records_in records) first c.args.self.now.counts
+    (g.W.Write.contents c.args.out.now) c.args.self.now.processes.generations _ rest l.self.names l.self.processes.by_pid l.self.counts
     (g.W.Write.contents l.out) l.self.processes.generations so refusal here in (
       so.texts,
       subst (λ told. Each IsText told so.texts) told so.each,
-      subst (λ folded. AreTaken frames c.args.options.explain so.texts c.args.self.now.counts.stacks folded (g.W.Write.contents c.args.out.now) (g.W.Write.contents c.take_record.new.out))
-          (sym kept.0)
-          (subst (λ out. AreTaken frames c.args.options.explain so.texts c.args.self.now.counts.stacks l.self.counts.stacks (g.W.Write.contents c.args.out.now) (g.W.Write.contents out))
-          (sym kept.1) so.taken),
+      AreTaken-same frames c.args.options.explain so.texts c.args.self.now.counts l.self.counts c.take_record.new.self.counts
+          (g.W.Write.contents c.args.out.now) (g.W.Write.contents l.out) (g.W.Write.contents c.take_record.new.out) so.taken
+          kept.0 (ap (λ out. g.W.Write.contents out) kept.1),
     )
+
+pub returns-clause-lost : goal.returns-clause-lost
+returns-clause-lost g c =
+    let l = c.loop-timed in
+    let records = c.args.recording.now.records.items in
+    let begun = state_in c.args.self.now.names c.args.self.now.processes.by_pid in
+    let so = l.invariant.2 begun (record { named = λ tid. refl; mapped = λ pid. refl }) in
+    let none = sym so.unrefused ∙ at_drop_all (λ rest. first_refusal (records_in rest)) records l.timed-index (omega arith) in
+    sym (at_drop_all (λ rest. lost_over (before_refusal (records_in rest)) l.self.counts.lost) records l.timed-index (omega arith))
+    ∙ so.loses ∙ ap (λ all. lost_over all c.args.self.now.counts.lost) (all-before (records_in records) none)
+
+pub returns-in_err-take_record-clause-lost_before : goal.returns-in_err-take_record-clause-lost_before
+returns-in_err-take_record-clause-lost_before g c = λ refusal is.
+    let l = c.loop-timed in
+    let files = c.args.files.now in
+    let frames = c.args.options.frames in
+    let records = c.args.recording.now.records.items in
+    let begun = state_in c.args.self.now.names c.args.self.now.processes.by_pid in
+    let IsText = IsToldOf (g.M.ModuleMaker.module_of c.args.maker.now) g.U.Steps.walker g.U.Sampled.starts
+    frames c.args.options.sure c.args.options.limit files (map attribute_view c.args.recording.now.events.attributes.items) in
+    let items = c.deref-timed-items.result.now in
+    let within : l.timed-index < length items = omega arith in
+    let left = records-left items records c.deref-timed-items.ensures.value l.timed-index _ within in
+    let rest = records_in (drop (l.timed-index + 1) records) in
+    let ended = same-refusal c.from_residual.result c.in_err-take_record.field-0.0 refusal c.from_residual.ensures.1 is in
+    let ends = c.in_err-take_record.ensures.refused (count_by is_sample (take l.timed-index records)) l.invariant.1 in
+    let here = subst (MayEnd frames _ _ _) ended ends in
+    let so = subst (λ rest. IsSoFar files IsText frames c.args.options.explain (records_in records) begun c.args.self.now.counts
+    (g.W.Write.contents c.args.out.now) c.args.self.now.processes.generations rest l.self.names l.self.processes.by_pid l.self.counts
+    (g.W.Write.contents l.out) l.self.processes.generations) left (l.invariant.2 begun (record { named = λ tid. refl; mapped = λ pid. refl })) in
+    c.in_err-take_record.ensures.lost_before refusal here
+    ∙ loses-before files IsText frames c.args.options.explain (records_in records) begun c.args.self.now.counts
+    (g.W.Write.contents c.args.out.now) c.args.self.now.processes.generations _ rest l.self.names l.self.processes.by_pid l.self.counts
+    (g.W.Write.contents l.out) l.self.processes.generations so refusal here
+
+pub returns-in_err-take_record-clause-refused : goal.returns-in_err-take_record-clause-refused
+returns-in_err-take_record-clause-refused g c = λ first agrees.
+    let l = c.loop-timed in
+    let files = c.args.files.now in
+    let frames = c.args.options.frames in
+    let records = c.args.recording.now.records.items in
+    let IsText = IsToldOf (g.M.ModuleMaker.module_of c.args.maker.now) g.U.Steps.walker g.U.Sampled.starts
+    frames c.args.options.sure c.args.options.limit files (map attribute_view c.args.recording.now.events.attributes.items) in
+    let items = c.deref-timed-items.result.now in
+    let same = c.deref-timed-items.ensures.value in
+    let within : l.timed-index < length items = omega arith in
+    let left = records-left items records same l.timed-index _ within in
+    let rest = records_in (drop (l.timed-index + 1) records) in
+    let ends = c.in_err-take_record.ensures.refused (count_by is_sample (take l.timed-index records)) l.invariant.1 in
+    let so = subst (λ rest. IsSoFar files IsText frames c.args.options.explain (records_in records) first c.args.self.now.counts
+    (g.W.Write.contents c.args.out.now) c.args.self.now.processes.generations rest l.self.names l.self.processes.by_pid l.self.counts
+    (g.W.Write.contents l.out) l.self.processes.generations) left (l.invariant.2 first agrees) in
+    failed_as c.from_residual.result c.in_err-take_record.field-0.0 _ c.from_residual.ensures.1
+    (ends_more frames frames _ _ _ _ _ _ c.in_err-take_record.field-0.0 (λ writes. writes)
+    (λ refusal is. refused-here files IsText frames c.args.options.explain (records_in records) first c.args.self.now.counts
+    (g.W.Write.contents c.args.out.now) c.args.self.now.processes.generations _ rest l.self.names l.self.processes.by_pid l.self.counts
+    (g.W.Write.contents l.out) l.self.processes.generations so refusal is)
+    (draws-here files IsText frames c.args.options.explain (records_in records) first c.args.self.now.counts
+    (g.W.Write.contents c.args.out.now) c.args.self.now.processes.generations _ rest l.self.names l.self.processes.by_pid l.self.counts
+    (g.W.Write.contents l.out) l.self.processes.generations so)
+    (samples-within items records same l.timed-index _ within) ends)

@@ -5,8 +5,8 @@ use Rattle.framehop_frames.specs.Line.{head_of}
 use Rattle.framehop_perf_stacks.specs.Names.{named_in}
 use Rattle.framehop_perf_stacks.specs.Processes.{mapped_in}
 use Rattle.framehop_perf_stacks.specs.Run.{sample_refusal}
-use Rattle.framehop_frames.specs.Stack.{no_stack, stack_text}
-use Rattle.framehop_perf_stacks.specs.Samples.{IsUserStack}
+use Rattle.framehop_frames.specs.Stack.{no_stack}
+use Rattle.framehop_perf_stacks.specs.Samples.{stack_told, IsUserStack}
 use Rattle.framehop_perf_stacks.proofs.run.Run.take_sample.Goals as goal
 
 pub returns-clause-served : goal.returns-clause-served
@@ -20,7 +20,7 @@ returns-in-Err-clause-told g c = λ module_of served.
     let mappings = mapped_in c.args.self.now.processes.by_pid c.args.sample.pid in
     let stack = no_stack (sample_refusal c.in-Err.error) in
     let taken = c.in_ok-take_refused-in-Err.ensures.taken c.args.files.now mappings in (
-      stack_text c.args.options.frames c.args.options.sure c.args.files.now name head mappings stack,
+      stack_told c.args.options.frames c.args.options.sure c.args.files.now name head mappings stack,
       (stack, rw c.in-Err.is refl, refl),
       search (rules, taken),
     )
@@ -37,7 +37,7 @@ returns-clause-told g c = λ module_of served.
     IsUserStack g.U.Steps.walker g.U.Sampled.starts c.args.options.limit c.args.files.now list (map module_of list) c.args.mask (Ok (user_view c.in-Ok.user)) told.0 in
     let user = subst P met told.1 in
     let taken = told.2 in (
-      stack_text c.args.options.frames c.args.options.sure c.args.files.now name head mappings told.0,
+      stack_told c.args.options.frames c.args.options.sure c.args.files.now name head mappings told.0,
       (told.0, rw c.in-Ok.is user, refl),
       search (rules, taken, met),
     )

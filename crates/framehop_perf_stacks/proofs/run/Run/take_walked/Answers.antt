@@ -6,4 +6,4 @@ pub returns-in_ok-take_refused-in-None-clause-taken : goal.returns-in_ok-take_re
 returns-in_ok-take_refused-in-None-clause-taken g c =
     let mappings = mapped_in c.args.self.now.processes.by_pid c.args.sample.pid in
     let taken = c.in_ok-take_refused-in-None.ensures.taken c.args.files.now mappings in
-    rw c.in-None.is (search (rules, taken))
+    rw c.in-None.is (search (rules, taken.0), search (rules, taken.1))
