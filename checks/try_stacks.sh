@@ -64,8 +64,10 @@ work.joinpath("files.errors").write_text("".join(f"/srv/{at:04}: can't be read\n
 lines = sorted(f"app;[frame-pointer-0];app+0x{0x10000 + 4 * at:x} 1\n" for at in range(70000))
 work.joinpath("lines.folded").write_text("".join(lines))
 name = "x" * 60000
-work.joinpath("long.folded").write_text(f"app;[frame-pointer-0];{name}+0x1203;{name}+0x1124 1\n")
-work.joinpath("long.errors").write_text(f"/srv/{name}: can't be read\n" + counted.format(1, 1))
+# a name is cut after 2,048 bytes
+cut = name[:2048] + "..."
+work.joinpath("long.folded").write_text(f"app;[frame-pointer-0];{cut}+0x1203;{cut}+0x1124 1\n")
+work.joinpath("long.errors").write_text(f"/srv/{name[:2043]}...: can't be read\n" + counted.format(1, 1))
 work.joinpath("lines.errors").write_text("/srv/app: can't be read\n" + counted.format(70000, 0))
 END
 python3 "$checks/stacks/summary.py" "$checks/stacks/tiny.frames" >"$work/tiny.summary" || exit 1
@@ -97,7 +99,7 @@ for program in "$@"; do
     try 0 "$checks/stacks/both.folded" "$work/both.summary" --root . .
     try 1 "$work/nothing" "$(said "srv: no file in it has a name in .data")" --root . srv
     try 2 "$work/nothing" "$(said "a flame graph has no blocks of frames")" --svg --frames tiny.data
-    try 2 "$work/nothing" "$(said "crash.core: only recordings are drawn")" --svg crash.core
+    try 2 "$work/nothing" "$(said "crash.core: only recordings are drawn" "nothing was counted")" --svg crash.core
     (cd "$data" && "$program" --root . --svg .) 2>"$work/err" | python3 "$checks/stacks/boxes.py" "$checks/stacks/both.folded" || {
         echo "$program --svg: other boxes than those of both recordings; error output: $(cat "$work/err")" >&2
         failed=1
