@@ -12,4 +12,5 @@ pub mod processes;
 pub mod program;
 pub mod recording;
 pub mod run;
+pub mod shared;
 pub mod stack;

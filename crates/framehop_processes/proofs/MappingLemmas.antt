@@ -36,14 +36,14 @@ use Rattle.std.proofs.Common.{
 }
 use Rattle.std.proofs.Math.Seq.{drop-cons}
 use Rattle.std.proofs.lemmas.Bool.{leb-true, leb-false, ltb-true, ltb-false, le-leb, lt-leb, eq-eqb, ne_eqb, or_right, cond_both}
-use Rattle.std.proofs.lemmas.List.{length-append, map-append, take-append-drop, take_more}
+use Rattle.std.proofs.lemmas.List.{length-append, length-take, map-append, take-append-drop, take_more}
 use Rattle.std.proofs.lemmas.List.Elements.{filter-append}
 use Rattle.std.specs.List.Sorted.{IsNonDecreasingBy, IsPartitionPoint}
-use Rattle.framehop.specs.Modules.{ModuleView, with_module, has_start, without_module, starts_by, starting_by, starting_above}
+use Rattle.framehop.specs.Modules.{ModuleView, with_module, has_start, without_module, starts_by, starting_by, starting_above, greatest_end}
 use Rattle.framehop.proofs.ModuleLemmas.{filter-divided, filter-behind}
 use Rattle.framehop_processes.specs.declared.mapping.Mapping.{Mapping}
-use Rattle.framehop_processes.specs.Mappings.{IsInOrder, part_below, part_above, below, above, with_mapping, ending_by, starting_from, overlapped}
-use Rattle.framehop_processes.specs.Process.{StartsAt}
+use Rattle.framehop_processes.specs.Mappings.{IsInOrder, part_below, part_above, below, above, with_mapping, ending_by, starting_from, overlapped, greatest_end_of}
+use Rattle.framehop_processes.specs.Process.{StartsAt, EndsAt}
 
 -- ---- starts and ends rise
 
@@ -515,3 +515,65 @@ module _ (new : Mapping) (some : new.start < new.end) (ms before rest middle aft
       ∙ ap (λ kept. filter test middle ++ kept) (overlapped-none-after new new.end after starts (omega arith))
       ∙ append-empty (filter test middle)
       ∙ overlapped-all new middle not_by not_from
+
+-- ---- a part of a list in the place of another
+
+-- what is before a part of a list, and after it
+pub taken-before : {A : Type 0} (before rest : List A) → take (length before) (before ++ rest) ≡ before
+taken-before [] rest = refl
+taken-before (x ∷ before) rest = ap (λ others. x ∷ others) (taken-before before rest)
+
+dropped-front : {A : Type 0} (front rest : List A) → drop (length front) (front ++ rest) ≡ rest
+dropped-front [] rest = refl
+dropped-front (x ∷ front) rest = dropped-front front rest
+
+-- others in the place of the middle
+pub replaced-middle : (ms before middle after changed : List Mapping) (from to : ℕ) → ms ≡ before ++ (middle ++ after)
+    → from ≡ length before → to ≡ length before + length middle
+    → take from ms ++ (changed ++ drop to ms) ≡ before ++ (changed ++ after)
+replaced-middle ms before middle after changed from to whole is next =
+    let parted : ms ≡ (before ++ middle) ++ after = whole ∙ sym (append-parts before middle after) in
+    let size : to ≡ length (before ++ middle) = next ∙ sym (length-append before middle) in
+    let front : take from ms ≡ before = ap (λ n. take n ms) is ∙ ap (take (length before)) whole ∙ taken-before before (middle ++ after) in
+    let back : drop to ms ≡ after = ap (λ n. drop n ms) size ∙ ap (drop (length (before ++ middle))) parted ∙ dropped-front (before ++ middle) after in
+    rw (front, back) refl
+
+-- one more is inserted after some that were
+pub inserted-next : (old changed list : List Mapping) (from to i at : ℕ) (x d : Mapping)
+    → list ≡ take from old ++ (take i changed ++ drop to old) → from ≤ length old → i < length changed
+    → at ≡ from + i → x ≡ get_or changed i d
+    → take at list ++ x ∷ drop at list ≡ take from old ++ (take (i + 1) changed ++ drop to old)
+inserted-next old changed list from to i at x d is fits within place read =
+    let front = take from old ++ take i changed in
+    let back = drop to old in
+    let parted : list ≡ front ++ back = is ∙ sym (append-parts (take from old) (take i changed) back) in
+    let size : at ≡ length front =
+    let count = length-append (take from old) (take i changed) in
+    let first = length-take from old in
+    let second = length-take i changed in
+    omega (arith, place, count, first, second, fits, within) in
+    let before : take at list ≡ front = ap (λ n. take n list) size ∙ ap (take (length front)) parted ∙ taken-before front back in
+    let after : drop at list ≡ back = ap (λ n. drop n list) size ∙ ap (drop (length front)) parted ∙ dropped-front front back in
+    let next : take (i + 1) changed ≡ take i changed ++ x ∷ [] = take_more changed i d within ∙ ap (λ one. take i changed ++ one ∷ []) (sym read) in
+    rw (before, after, next)
+    (append-parts (take from old) (take i changed) (x ∷ back)
+    ∙ ap (λ rest. take from old ++ rest) (sym (append-parts (take i changed) (x ∷ []) back)))
+
+-- ---- the greatest end
+
+-- that of the modules of mappings
+pub greatest-mapped : (module_of : Mapping → ModuleView) → EndsAt module_of → (ms : List Mapping)
+    → greatest_end (map module_of ms) ≡ greatest_end_of ms
+greatest-mapped module_of ends [] = refl
+greatest-mapped module_of ends (m ∷ ms) = rw (ends m, greatest-mapped module_of ends ms) refl
+
+-- that of the last, since they are in order
+greatest-last : (from : ℕ) (m : Mapping) (ms : List Mapping) → IsInOrder from (m ∷ ms)
+    → (k : ℕ) (d : Mapping) → k ≡ length ms → greatest_end_of (m ∷ ms) ≡ (slice_index_or (m ∷ ms) k d).end
+greatest-last from m [] order k d is = rw is (omega arith)
+greatest-last from m (n ∷ ms) order zero d is = absurd (omega (arith, is))
+greatest-last from m (n ∷ ms) order (suc k) d is =
+    let rest = greatest-last m.end n ms order.2 k d (omega (arith, is)) in
+    let later = not-empty m.end (n ∷ ms) order.2 k d (omega (arith, is)) in
+    let start = starts-from m.end (n ∷ ms) order.2 k d (omega (arith, is)) in
+    rw rest (omega (arith, later, start))

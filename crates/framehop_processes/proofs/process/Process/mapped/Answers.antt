@@ -32,8 +32,7 @@ invariant_of-result g c =
     let some = c.if-mapping.false in
     let order = subst (λ (l : List Mapping). IsInOrder 0 l) (sym c.as_slice.ensures.value) c.self.invariant in
     let changed = c.as_slice-2.ensures.value ∙ c.in_ok-changed.ensures in
-    let all = c.in_ok-mappings.ensures
-    ∙ ap (λ (middle : List Mapping). c.split_ending_by.result.0.now ++ (middle ++ c.split_starting_below.result.1.now)) changed
+    let all = listed g c
     ∙ mapped-parts new some ms c.split_ending_by.result.0.now c.split_ending_by.result.1.now
     c.split_starting_below.result.0.now c.split_starting_below.result.1.now first.whole first.before last.whole
     last.after order in
@@ -48,8 +47,7 @@ returns-clause-mapped g c =
     let order = subst (λ (l : List Mapping). IsInOrder 0 l) (sym c.as_slice.ensures.value) c.self.invariant in
     let same = c.as_slice.ensures.value ∙ ap (λ (p : ProcessView). p.mappings) c.self.view_is in
     let changed = c.as_slice-2.ensures.value ∙ c.in_ok-changed.ensures in
-    c.in_ok-mappings.ensures
-    ∙ ap (λ (middle : List Mapping). c.split_ending_by.result.0.now ++ (middle ++ c.split_starting_below.result.1.now)) changed
+    listed g c
     ∙ mapped-parts new c.if-mapping.false ms c.split_ending_by.result.0.now c.split_ending_by.result.1.now
     c.split_starting_below.result.0.now c.split_starting_below.result.1.now first.whole first.before last.whole
     last.after order
@@ -64,8 +62,7 @@ returns-clause-by_address g c address =
     let order = subst (λ (l : List Mapping). IsInOrder 0 l) (sym c.as_slice.ensures.value) c.self.invariant in
     let same = c.as_slice.ensures.value ∙ ap (λ (p : ProcessView). p.mappings) c.self.view_is in
     let changed = c.as_slice-2.ensures.value ∙ c.in_ok-changed.ensures in
-    let all = c.in_ok-mappings.ensures
-    ∙ ap (λ (middle : List Mapping). c.split_ending_by.result.0.now ++ (middle ++ c.split_starting_below.result.1.now)) changed
+    let all = listed g c
     ∙ mapped-parts new c.if-mapping.false ms c.split_ending_by.result.0.now c.split_ending_by.result.1.now
     c.split_starting_below.result.0.now c.split_starting_below.result.1.now first.whole first.before last.whole
     last.after order
