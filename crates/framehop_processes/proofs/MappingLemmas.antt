@@ -439,22 +439,25 @@ order-removed-all from [] middle after order = order-back from middle after orde
 order-removed-all from (x ∷ before) middle after order =
     (order.0, order.1, order-removed-all x.end before middle after order.2)
 
--- the next mapping of a part is removed
-pub next-removed : (module_of : Mapping → ModuleView) → StartsAt module_of
+-- the last mapping of a part is removed
+pub last-removed : (module_of : Mapping → ModuleView) → StartsAt module_of
     → (removed : List Mapping) (i : ℕ) (d m : Mapping) (before after : List Mapping) → i < length removed
-    → m ≡ get_or removed i d → IsInOrder 0 (before ++ (drop i removed ++ after))
-    → IsInOrder 0 (before ++ (drop (i + 1) removed ++ after))
-    × (has_start m.start (map module_of (before ++ (drop i removed ++ after))) ≡ true)
-    × (without_module m.start (map module_of (before ++ (drop i removed ++ after))) ≡ map module_of
-    (before ++ (drop (i + 1) removed ++ after)))
-next-removed module_of starts removed i d m before after within is order =
-    let one : i + 1 ≡ suc i = omega arith in
-    let head : drop i removed ≡ m ∷ drop (suc i) removed = drop-cons removed i d within ∙ ap (λ x. x ∷ drop (suc i) removed) (sym is) in
-    let later = subst (λ (left : List Mapping). IsInOrder 0 (before ++ (left ++ after))) head order in
-    let parts = module-removed module_of starts 0 m before (drop (suc i) removed ++ after) later in (
-      rw one (order-removed 0 m before (drop (suc i) removed ++ after) later),
-      rw head parts.0,
-      rw (one, head) parts.1,
+    → m ≡ get_or removed i d → IsInOrder 0 (before ++ (take (i + 1) removed ++ after))
+    → IsInOrder 0 (before ++ (take i removed ++ after))
+    × (has_start m.start (map module_of (before ++ (take (i + 1) removed ++ after))) ≡ true)
+    × (without_module m.start (map module_of (before ++ (take (i + 1) removed ++ after))) ≡ map module_of
+    (before ++ (take i removed ++ after)))
+last-removed module_of starts removed i d m before after within is order =
+    let front = take i removed in
+    let next : take (i + 1) removed ≡ front ++ m ∷ [] = take_more removed i d within ∙ ap (λ one. front ++ one ∷ []) (sym is) in
+    let parted : before ++ (take (i + 1) removed ++ after) ≡ (before ++ front) ++ m ∷ after =
+    ap (λ all. before ++ (all ++ after)) next ∙ ap (λ rest. before ++ rest) (append-parts front (m ∷ []) after) ∙ sym (append-parts before front (m ∷ after)) in
+    let left : (before ++ front) ++ after ≡ before ++ (front ++ after) = append-parts before front after in
+    let later = subst (λ (all : List Mapping). IsInOrder 0 all) parted order in
+    let parts = module-removed module_of starts 0 m (before ++ front) after later in (
+      subst (λ (all : List Mapping). IsInOrder 0 all) left (order-removed 0 m (before ++ front) after later),
+      rw parted parts.0,
+      rw (parted, ← left) parts.1,
     )
 
 -- the next mapping of a part is added
