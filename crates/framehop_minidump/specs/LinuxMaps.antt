@@ -1,6 +1,6 @@
 -- Which memory of a process could be executed: MD_LINUX_MAPS, the text of /proc/PID/maps (proc(5)), which Breakpad and
 -- LLDB copy.
-use Rattle.std.specs.Prelude.{ℕ, ◌+◌, ◌-◌, List, [], length, drop, Bool, ◌&&◌, ◌||◌, ◌==◌, nat_lt, nat_le, slice_index, Option, Some, None, option_and_then, option_map, Result, Ok, Err, if◌then◌else◌}
+use Rattle.std.specs.Prelude.{ℕ, ◌+◌, ◌-◌, List, [], length, drop, Bool, ◌&&◌, ◌||◌, ◌==◌, nat_lt, nat_le, slice_index, Option, Some, None, option_and_then, option_map, Result, Ok, if◌then◌else◌}
 use Rattle.std.specs.Char.{is_digit}
 use Rattle.std.specs.List.{before_first, filter_map, list_all, slice_split}
 use Rattle.std.specs.Str.Parse.{digits_value}
