@@ -11,16 +11,6 @@ use framehop_columns::memory::WordMemory;
 use framehop_core::unwind_rule::UnwindRule;
 use framehop_core::{Error, FrameAddress};
 
-/// Returns the word at an address (AVMA), as steps read it.
-pub(crate) fn read<M: WordMemory>(memory: &M, address: u64) -> Result<u64, ()>
-    ensures { result ≡ reply (M.memory memory.now address) }
-{
-    match memory.word(address) {
-        Some(word) => Ok(word),
-        None => Err(()),
-    }
-}
-
 /// Unwinds a frame by the library's step over a memory.
 ///
 /// # Errors
@@ -78,4 +68,14 @@ pub fn step_at_start<R: UnwindRule, M: WordMemory>(
         ensures { result ≡ reply (M.memory memory.entry.now address) }
     { read(memory, address) };
     R::rule_for_function_start().exec(true, regs, &mut read_stack)
+}
+
+/// Returns the word at an address (AVMA), as steps read it.
+pub(crate) fn read<M: WordMemory>(memory: &M, address: u64) -> Result<u64, ()>
+    ensures { result ≡ reply (M.memory memory.now address) }
+{
+    match memory.word(address) {
+        Some(word) => Ok(word),
+        None => Err(()),
+    }
 }

@@ -16,6 +16,17 @@ pub enum Claim {
     Other,
 }
 
+/// Returns what a row says of the CFA. A row whose return address is undefined, as in the outermost function of a thread,
+/// says nothing: no caller is looked for.
+pub fn claim_of_row<C: Code, S: UnwindContextStorage>(row: &UnwindTableRow<S>) -> Claim
+    ensures { result ≡ claim_of_row C.numbered C.return_column row.now }
+{
+    match row.register(Register(C::return_address())) {
+        Some(RegisterRule::Undefined) => Claim::Other,
+        _ => claim_of_cfa::<C>(*row.cfa()),
+    }
+}
+
 /// Returns what a rule says of the CFA.
 fn claim_of_cfa<C: Code>(cfa: CfaRule) -> Claim
     ensures { result ≡ claim_of_cfa C.numbered cfa }
@@ -26,16 +37,5 @@ fn claim_of_cfa<C: Code>(cfa: CfaRule) -> Claim
             None => Claim::Other,
         },
         CfaRule::Expression(_) => Claim::Other,
-    }
-}
-
-/// Returns what a row says of the CFA. A row whose return address is undefined, as in the outermost function of a thread,
-/// says nothing: no caller is looked for.
-pub fn claim_of_row<C: Code, S: UnwindContextStorage>(row: &UnwindTableRow<S>) -> Claim
-    ensures { result ≡ claim_of_row C.numbered C.return_column row.now }
-{
-    match row.register(Register(C::return_address())) {
-        Some(RegisterRule::Undefined) => Claim::Other,
-        _ => claim_of_cfa::<C>(*row.cfa()),
     }
 }

@@ -12,11 +12,39 @@ pub struct Known {
     pub fp: Option<i64>,
 }
 
-/// Nothing is known.
-pub fn nothing() -> Known
-    ensures { result ≡ nothing }
+/// Returns what is known after an instruction.
+pub fn after(known: Known, effect: Effect) -> Known
+    ensures { result ≡ after known effect }
 {
-    Known { sp: None, fp: None }
+    Known {
+        sp: after_change(known, effect.sp),
+        fp: after_change(known, effect.fp),
+    }
+}
+
+/// Returns how far the CFA is above a register after a change of it.
+fn after_change(known: Known, change: Change) -> Option<i64>
+    ensures { result ≡ after_change known change }
+{
+    match change {
+        Change::Sum { base, offset } => known_of(known, base)?.checked_sub(offset),
+        Change::Unknown => None,
+    }
+}
+
+/// Returns what is known at an instruction once its row is read: what the code tells, and what the row says of its register
+/// where the code tells nothing. Of what no row says anything, as where the CFA counts from a third register, a loop can
+/// make something else, so that nothing is known there.
+pub fn agreed(known: Known, claim: Claim) -> Known
+    ensures { result ≡ agreed known claim }
+{
+    match claim {
+        Claim::Above { base, offset } => match known_of(known, base) {
+            Some(_) => known,
+            None => with(known, base, offset),
+        },
+        Claim::Other => nothing(),
+    }
 }
 
 /// Returns how far the CFA is above a register.
@@ -45,37 +73,9 @@ pub fn with(known: Known, base: Base, offset: i64) -> Known
     }
 }
 
-/// Returns how far the CFA is above a register after a change of it.
-fn after_change(known: Known, change: Change) -> Option<i64>
-    ensures { result ≡ after_change known change }
+/// Nothing is known.
+pub fn nothing() -> Known
+    ensures { result ≡ nothing }
 {
-    match change {
-        Change::Sum { base, offset } => known_of(known, base)?.checked_sub(offset),
-        Change::Unknown => None,
-    }
-}
-
-/// Returns what is known after an instruction.
-pub fn after(known: Known, effect: Effect) -> Known
-    ensures { result ≡ after known effect }
-{
-    Known {
-        sp: after_change(known, effect.sp),
-        fp: after_change(known, effect.fp),
-    }
-}
-
-/// Returns what is known at an instruction once its row is read: what the code tells, and what the row says of its register
-/// where the code tells nothing. Of what no row says anything, as where the CFA counts from a third register, a loop can
-/// make something else, so that nothing is known there.
-pub fn agreed(known: Known, claim: Claim) -> Known
-    ensures { result ≡ agreed known claim }
-{
-    match claim {
-        Claim::Above { base, offset } => match known_of(known, base) {
-            Some(_) => known,
-            None => with(known, base, offset),
-        },
-        Claim::Other => nothing(),
-    }
+    Known { sp: None, fp: None }
 }

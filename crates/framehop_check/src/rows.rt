@@ -43,15 +43,6 @@ fn claim_of_span(address: u64, span: Span) -> Option<Claim>
     }
 }
 
-/// Returns the lesser of two addresses.
-fn earlier(one: u64, other: u64) -> u64
-    ensures one { result ≤ one }
-    ensures other { result ≤ other }
-    ensures least { (n : ℕ) → n < one → n < other → n < result }
-{
-    if one < other { one } else { other }
-}
-
 /// Puts the spans of an FDE's rows, up to one that can't be read, in the place of others. The FDE's addresses end at one of
 /// 64 bits.
 ///
@@ -79,13 +70,6 @@ pub fn read_spans<C: Code, S: UnwindContextStorage>(
             Ok(())
         },
     }
-}
-
-/// Returns whether an allocation failed.
-fn is_out_of_memory(error: ReadError) -> bool
-    ensures { IsTrue result ↔ error ≡ ReadError.OutOfMemory }
-{
-    matches!(error, ReadError::OutOfMemory)
 }
 
 /// Appends the spans of an FDE's rows, up to one that can't be read.
@@ -124,4 +108,20 @@ fn read_rows<C: Code, S: UnwindContextStorage>(
         cursor = after;
     }
     Ok(())
+}
+
+/// Returns the lesser of two addresses.
+fn earlier(one: u64, other: u64) -> u64
+    ensures one { result ≤ one }
+    ensures other { result ≤ other }
+    ensures least { (n : ℕ) → n < one → n < other → n < result }
+{
+    if one < other { one } else { other }
+}
+
+/// Returns whether an allocation failed.
+fn is_out_of_memory(error: ReadError) -> bool
+    ensures { IsTrue result ↔ error ≡ ReadError.OutOfMemory }
+{
+    matches!(error, ReadError::OutOfMemory)
 }

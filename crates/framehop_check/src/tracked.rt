@@ -81,31 +81,6 @@ pub fn is_passed(tracked: Tracked, effect: Effect) -> bool
     }
 }
 
-/// Returns what is known at an instruction before its row is read, by how it is come to.
-pub fn arriving(tracked: Tracked, claim: Claim) -> Known
-    ensures { result ≡ arriving tracked claim }
-{
-    match tracked.came {
-        Came::Next => tracked.known,
-        Came::Returned if tracked.claim == claim => tracked.known,
-        _ => nothing(),
-    }
-}
-
-/// Returns whether a row still says what the row before said of a register that the instruction before overwrites.
-fn is_stale(tracked: Tracked, claim: Claim) -> bool
-    ensures { result ≡ is_stale tracked claim }
-{
-    if tracked.came != Came::Next || tracked.claim != claim {
-        return false;
-    }
-    match claim {
-        Claim::Above { base: Base::Sp, .. } => tracked.sp_lost,
-        Claim::Above { base: Base::Fp, .. } => tracked.fp_lost,
-        Claim::Other => false,
-    }
-}
-
 /// Returns what contradicts a row at an instruction, if anything does.
 pub fn fault_at(tracked: Tracked, claim: Claim) -> Option<Fault>
     ensures { result ≡ fault_at tracked claim }
@@ -124,16 +99,17 @@ pub fn fault_at(tracked: Tracked, claim: Claim) -> Option<Fault>
     }
 }
 
-/// Returns how the instruction after one is come to. After a call padding may follow, where the call does not return.
-fn came_after(came: Came, flow: Flow) -> Came
-    ensures { result ≡ came_after came flow }
+/// Returns whether a row still says what the row before said of a register that the instruction before overwrites.
+fn is_stale(tracked: Tracked, claim: Claim) -> bool
+    ensures { result ≡ is_stale tracked claim }
 {
-    match flow {
-        Flow::Next | Flow::Branch(_) => Came::Next,
-        Flow::Padding if came == Came::Returned => Came::Returned,
-        Flow::Padding => Came::Next,
-        Flow::Call => Came::Returned,
-        Flow::Jump(_) | Flow::Return | Flow::Leaves => Came::Elsewhere,
+    if tracked.came != Came::Next || tracked.claim != claim {
+        return false;
+    }
+    match claim {
+        Claim::Above { base: Base::Sp, .. } => tracked.sp_lost,
+        Claim::Above { base: Base::Fp, .. } => tracked.fp_lost,
+        Claim::Other => false,
     }
 }
 
@@ -147,6 +123,30 @@ pub fn step(tracked: Tracked, claim: Claim, effect: Effect) -> Tracked
         came: came_after(tracked.came, effect.flow),
         sp_lost: effect.sp == Change::Unknown,
         fp_lost: effect.fp == Change::Unknown,
+    }
+}
+
+/// Returns what is known at an instruction before its row is read, by how it is come to.
+pub fn arriving(tracked: Tracked, claim: Claim) -> Known
+    ensures { result ≡ arriving tracked claim }
+{
+    match tracked.came {
+        Came::Next => tracked.known,
+        Came::Returned if tracked.claim == claim => tracked.known,
+        _ => nothing(),
+    }
+}
+
+/// Returns how the instruction after one is come to. After a call padding may follow, where the call does not return.
+fn came_after(came: Came, flow: Flow) -> Came
+    ensures { result ≡ came_after came flow }
+{
+    match flow {
+        Flow::Next | Flow::Branch(_) => Came::Next,
+        Flow::Padding if came == Came::Returned => Came::Returned,
+        Flow::Padding => Came::Next,
+        Flow::Call => Came::Returned,
+        Flow::Jump(_) | Flow::Return | Flow::Leaves => Came::Elsewhere,
     }
 }
 

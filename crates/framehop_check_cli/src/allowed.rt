@@ -7,11 +7,6 @@ pub struct Allowed<'a> {
     names: Vec<&'a [u8]>,
 }
 
-/// Returns the bytes without spaces, tabs and carriage returns around them.
-fn trimmed(line: &[u8]) -> &[u8] {
-    line.trim_ascii()
-}
-
 impl<'a> Allowed<'a> {
     /// Returns the names of a file.
     pub fn new(alloc: Global, list: &'a [u8]) -> Result<Self, AllocError> {
@@ -29,4 +24,9 @@ impl<'a> Allowed<'a> {
     pub fn has(&self, name: &[u8]) -> bool {
         self.names.iter().any(|other| *other == name)
     }
+}
+
+/// Returns the bytes without spaces, tabs and carriage returns around them.
+fn trimmed(line: &[u8]) -> &[u8] {
+    line.trim_ascii()
 }

@@ -72,6 +72,92 @@ impl fmt::Display for Refusal {
     }
 }
 
+/// Returns the lines for a file, and whether there are no alarms and each entry was read, or why it can't be checked.
+pub fn check_file(
+    alloc: Global,
+    path: &str,
+    file: &[u8],
+    options: Options,
+    allowed: &Allowed<'_>,
+) -> Result<Checked> {
+    let opened = match open(alloc, file) {
+        Ok(opened) => opened,
+        Err(error) => return Ok(Checked::Refused(Refusal::Elf(error))),
+    };
+    let Some((contents, svma, kind)) = opened.rows else {
+        return Ok(Checked::Refused(Refusal::NoRows));
+    };
+    let bases = BaseAddresses {
+        eh_frame: svma,
+        ..BaseAddresses::default()
+    };
+    let section = UnwindSection::new(contents, kind, &bases);
+    let mut findings = Findings {
+        report: Report::new(alloc),
+        others: Others {
+            allowed: 0,
+            unreadable: 0,
+            without_code: 0,
+        },
+        text: String::new(alloc),
+    };
+    match opened.header.e_machine {
+        EM_X86_64 => check_section::<CodeX86_64>(
+            alloc,
+            &section,
+            &opened.parts,
+            options,
+            allowed,
+            &mut findings,
+        )?,
+        EM_AARCH64 => check_section::<CodeAarch64>(
+            alloc,
+            &section,
+            &opened.parts,
+            options,
+            allowed,
+            &mut findings,
+        )?,
+        machine => return Ok(Checked::Refused(Refusal::Machine(machine))),
+    }
+    let counts: Counts = findings.report.counts;
+    let others = findings.others;
+    let mut text = findings.text;
+    push_summary(path, counts, others, &mut text)?;
+    let is_good = counts.alarmed == others.allowed && others.unreadable == 0;
+    Ok(Checked::Text { text, is_good })
+}
+
+/// What a file has to be checked by.
+#[derive(Drop)]
+struct Opened<'a> {
+    header: FileHeader,
+    parts: Parts<'a>,
+    rows: Option<(&'a [u8], u64, UnwindSectionType)>,
+}
+
+/// Reads what a file has to be checked by.
+fn open(alloc: Global, file: &[u8]) -> Result<Opened<'_>, ElfError> {
+    let header = read_file_header(file)?;
+    let sections = read_section_headers(alloc, file, header)?;
+    let names = read_section_names(file, header, sections.as_slice())?;
+    let (symbols, strings) = read_symbols(alloc, file, sections.as_slice(), names)?;
+    let rows = match rows_section(sections.as_slice(), names) {
+        Some((section, kind)) => Some((read_contents(file, section)?, section.sh_addr, kind)),
+        None => None,
+    };
+    Ok(Opened {
+        header,
+        parts: Parts {
+            file,
+            sections,
+            symbols,
+            strings,
+        },
+        rows,
+    })
+}
+
 /// What a check of a file gives.
 #[derive(Drop)]
 pub enum Checked {
@@ -130,72 +216,44 @@ fn read_symbols<'a>(
     }
 }
 
-/// Returns the code that a section has of an FDE.
-fn code_in<'a>(
-    file: &'a [u8],
-    section: SectionHeader,
-    fde: &FrameDescriptionEntry,
-) -> Option<&'a [u8]> {
-    let start = fde.initial_address.checked_sub(section.sh_addr)?;
-    if section.sh_flags & SHF_EXECINSTR == 0 || start >= section.sh_size {
-        return None;
-    }
-    let Ok(contents) = read_contents(file, section) else {
-        return None;
-    };
-    let start = usize::try_from(start).ok()?;
-    let end = start.checked_add(usize::try_from(fde.address_range).ok()?)?;
-    contents.get(start..end)
-}
-
-/// Returns the code of an FDE.
-fn code_of<'a>(parts: &Parts<'a>, fde: &FrameDescriptionEntry) -> Option<&'a [u8]> {
-    for section in parts.sections.iter() {
-        if let Some(code) = code_in(parts.file, *section, fde) {
-            return Some(code);
+/// Returns the section that has the rows, and its kind.
+fn rows_section(
+    sections: &[SectionHeader],
+    names: &[u8],
+) -> Option<(SectionHeader, UnwindSectionType)> {
+    match section_by_name(sections, names, b".eh_frame") {
+        Some(section) => Some((section, UnwindSectionType::EhFrame)),
+        None => {
+            let section = section_by_name(sections, names, b".debug_frame")?;
+            Some((section, UnwindSectionType::DebugFrame))
         }
     }
-    None
 }
 
-/// Returns the name of the function at an address (SVMA), and where the function begins.
-fn name_of<'a>(parts: &Parts<'a>, address: u64) -> Option<(&'a str, u64)> {
-    let symbol = parts.symbols.symbol_for(address)?;
-    match str::from_utf8(string_at(parts.strings, symbol.st_name)) {
-        Ok(name) => Some((name, symbol.st_value)),
-        Err(_) => None,
-    }
-}
-
-/// Appends the alarms of the function that was checked last.
-fn push_alarms<C: Code>(
+/// Checks all FDEs of a section.
+fn check_section<C: Code>(
+    alloc: Global,
+    section: &UnwindSection<'_>,
     parts: &Parts<'_>,
-    fde: &FrameDescriptionEntry,
-    code: &[u8],
     options: Options,
     allowed: &Allowed<'_>,
     findings: &mut Findings,
 ) -> Result<(), AllocError> {
-    let name = name_of(parts, fde.initial_address);
-    let is_allowed = match name {
-        Some((name, _)) => allowed.has(name.as_bytes()),
-        None => false,
-    };
-    if is_allowed && findings.report.alarms.len() > 0 {
-        findings.others.allowed = findings.others.allowed.saturating_add(1);
-    }
-    if is_allowed || options.is_quiet {
-        return Ok(());
-    }
-    for alarm in findings.report.alarms.iter() {
-        let name = name_of(parts, alarm.address);
-        push_alarm::<C>(name, fde.initial_address, code, *alarm, &mut findings.text)?;
-    }
-    if options.has_notes {
-        for address in findings.report.notes.iter() {
-            let name = name_of(parts, *address);
-            push_note(name, fde.initial_address, *address, &mut findings.text)?;
+    let mut checker = Checker::new(alloc)?;
+    let mut at = 0;
+    for _count in 0..section.bytes.len() {
+        if at >= section.bytes.len() {
+            return Ok(());
         }
+        let Ok(extent) = read_extent(section.bytes, at) else {
+            findings.others.unreadable = findings.others.unreadable.saturating_add(1);
+            return Ok(());
+        };
+        if extent.is_zero_length() && section.section_type == UnwindSectionType::EhFrame {
+            return Ok(());
+        }
+        check_at::<C>(&mut checker, section, parts, at, options, allowed, findings)?;
+        at = extent.end;
     }
     Ok(())
 }
@@ -232,130 +290,72 @@ fn check_at<C: Code>(
     push_alarms::<C>(parts, &fde, code, options, allowed, findings)
 }
 
-/// Checks all FDEs of a section.
-fn check_section<C: Code>(
-    alloc: Global,
-    section: &UnwindSection<'_>,
+/// Returns the code of an FDE.
+fn code_of<'a>(parts: &Parts<'a>, fde: &FrameDescriptionEntry) -> Option<&'a [u8]> {
+    for section in parts.sections.iter() {
+        if let Some(code) = code_in(parts.file, *section, fde) {
+            return Some(code);
+        }
+    }
+    None
+}
+
+/// Returns the code that a section has of an FDE.
+fn code_in<'a>(
+    file: &'a [u8],
+    section: SectionHeader,
+    fde: &FrameDescriptionEntry,
+) -> Option<&'a [u8]> {
+    let start = fde.initial_address.checked_sub(section.sh_addr)?;
+    if section.sh_flags & SHF_EXECINSTR == 0 || start >= section.sh_size {
+        return None;
+    }
+    let Ok(contents) = read_contents(file, section) else {
+        return None;
+    };
+    let start = usize::try_from(start).ok()?;
+    let end = start.checked_add(usize::try_from(fde.address_range).ok()?)?;
+    contents.get(start..end)
+}
+
+/// Appends the alarms of the function that was checked last.
+fn push_alarms<C: Code>(
     parts: &Parts<'_>,
+    fde: &FrameDescriptionEntry,
+    code: &[u8],
     options: Options,
     allowed: &Allowed<'_>,
     findings: &mut Findings,
 ) -> Result<(), AllocError> {
-    let mut checker = Checker::new(alloc)?;
-    let mut at = 0;
-    for _count in 0..section.bytes.len() {
-        if at >= section.bytes.len() {
-            return Ok(());
+    let name = name_of(parts, fde.initial_address);
+    let is_allowed = match name {
+        Some((name, _)) => allowed.has(name.as_bytes()),
+        None => false,
+    };
+    if is_allowed && findings.report.alarms.len() > 0 {
+        findings.others.allowed = findings.others.allowed.saturating_add(1);
+    }
+    if is_allowed || options.is_quiet {
+        return Ok(());
+    }
+    for alarm in findings.report.alarms.iter() {
+        let name = name_of(parts, alarm.address);
+        push_alarm::<C>(name, fde.initial_address, code, *alarm, &mut findings.text)?;
+    }
+    if options.has_notes {
+        for address in findings.report.notes.iter() {
+            let name = name_of(parts, *address);
+            push_note(name, fde.initial_address, *address, &mut findings.text)?;
         }
-        let Ok(extent) = read_extent(section.bytes, at) else {
-            findings.others.unreadable = findings.others.unreadable.saturating_add(1);
-            return Ok(());
-        };
-        if extent.is_zero_length() && section.section_type == UnwindSectionType::EhFrame {
-            return Ok(());
-        }
-        check_at::<C>(&mut checker, section, parts, at, options, allowed, findings)?;
-        at = extent.end;
     }
     Ok(())
 }
 
-/// Returns the section that has the rows, and its kind.
-fn rows_section(
-    sections: &[SectionHeader],
-    names: &[u8],
-) -> Option<(SectionHeader, UnwindSectionType)> {
-    match section_by_name(sections, names, b".eh_frame") {
-        Some(section) => Some((section, UnwindSectionType::EhFrame)),
-        None => {
-            let section = section_by_name(sections, names, b".debug_frame")?;
-            Some((section, UnwindSectionType::DebugFrame))
-        }
+/// Returns the name of the function at an address (SVMA), and where the function begins.
+fn name_of<'a>(parts: &Parts<'a>, address: u64) -> Option<(&'a str, u64)> {
+    let symbol = parts.symbols.symbol_for(address)?;
+    match str::from_utf8(string_at(parts.strings, symbol.st_name)) {
+        Ok(name) => Some((name, symbol.st_value)),
+        Err(_) => None,
     }
-}
-
-/// What a file has to be checked by.
-#[derive(Drop)]
-struct Opened<'a> {
-    header: FileHeader,
-    parts: Parts<'a>,
-    rows: Option<(&'a [u8], u64, UnwindSectionType)>,
-}
-
-/// Reads what a file has to be checked by.
-fn open(alloc: Global, file: &[u8]) -> Result<Opened<'_>, ElfError> {
-    let header = read_file_header(file)?;
-    let sections = read_section_headers(alloc, file, header)?;
-    let names = read_section_names(file, header, sections.as_slice())?;
-    let (symbols, strings) = read_symbols(alloc, file, sections.as_slice(), names)?;
-    let rows = match rows_section(sections.as_slice(), names) {
-        Some((section, kind)) => Some((read_contents(file, section)?, section.sh_addr, kind)),
-        None => None,
-    };
-    Ok(Opened {
-        header,
-        parts: Parts {
-            file,
-            sections,
-            symbols,
-            strings,
-        },
-        rows,
-    })
-}
-
-/// Returns the lines for a file, and whether there are no alarms and each entry was read, or why it can't be checked.
-pub fn check_file(
-    alloc: Global,
-    path: &str,
-    file: &[u8],
-    options: Options,
-    allowed: &Allowed<'_>,
-) -> Result<Checked> {
-    let opened = match open(alloc, file) {
-        Ok(opened) => opened,
-        Err(error) => return Ok(Checked::Refused(Refusal::Elf(error))),
-    };
-    let Some((contents, svma, kind)) = opened.rows else {
-        return Ok(Checked::Refused(Refusal::NoRows));
-    };
-    let bases = BaseAddresses {
-        eh_frame: svma,
-        ..BaseAddresses::default()
-    };
-    let section = UnwindSection::new(contents, kind, &bases);
-    let mut findings = Findings {
-        report: Report::new(alloc),
-        others: Others {
-            allowed: 0,
-            unreadable: 0,
-            without_code: 0,
-        },
-        text: String::new(alloc),
-    };
-    match opened.header.e_machine {
-        EM_X86_64 => check_section::<CodeX86_64>(
-            alloc,
-            &section,
-            &opened.parts,
-            options,
-            allowed,
-            &mut findings,
-        )?,
-        EM_AARCH64 => check_section::<CodeAarch64>(
-            alloc,
-            &section,
-            &opened.parts,
-            options,
-            allowed,
-            &mut findings,
-        )?,
-        machine => return Ok(Checked::Refused(Refusal::Machine(machine))),
-    }
-    let counts: Counts = findings.report.counts;
-    let others = findings.others;
-    let mut text = findings.text;
-    push_summary(path, counts, others, &mut text)?;
-    let is_good = counts.alarmed == others.allowed && others.unreadable == 0;
-    Ok(Checked::Text { text, is_good })
 }

@@ -26,6 +26,33 @@ fn main(rt: HostRuntime) -> Result<ExitCode> {
     Ok(ExitCode::from(run(&rt)?))
 }
 
+/// Runs the program, and returns its status: 0, 1 where there are alarms, or a file or an entry of one
+/// is refused, or 2.
+fn run(rt: &HostRuntime) -> Result<u8> {
+    let alloc = rt.alloc();
+    let words: Vec<String> = env::args(rt)?.collect(alloc)?;
+    let matches = match command(alloc)?.try_get_matches_from(&words) {
+        Ok(matches) => matches,
+        Err(error) => return usage(rt, &error),
+    };
+    let list = match read_list(rt, matches.get_str("allow"))? {
+        Some(list) => list,
+        None => return Ok(2),
+    };
+    let allowed = Allowed::new(alloc, list.as_slice())?;
+    let options = Options {
+        is_quiet: matches.get_flag("quiet"),
+        has_notes: matches.get_flag("notes"),
+    };
+    let mut status = 0;
+    for path in matches.get_strs("file").unwrap_or(&[]) {
+        if !check_path(rt, path, options, &allowed)? {
+            status = 1;
+        }
+    }
+    Ok(status)
+}
+
 /// Returns the command line.
 fn command<'a>(alloc: Global) -> Result<Command<'a>> {
     let quiet = Arg::new(alloc, "quiet")
@@ -58,61 +85,10 @@ fn command<'a>(alloc: Global) -> Result<Command<'a>> {
     Ok(command)
 }
 
-/// Runs the program, and returns its status: 0, 1 where there are alarms, or a file or an entry of one
-/// is refused, or 2.
-fn run(rt: &HostRuntime) -> Result<u8> {
-    let alloc = rt.alloc();
-    let words: Vec<String> = env::args(rt)?.collect(alloc)?;
-    let matches = match command(alloc)?.try_get_matches_from(&words) {
-        Ok(matches) => matches,
-        Err(error) => return usage(rt, &error),
-    };
-    let list = match read_list(rt, matches.get_str("allow"))? {
-        Some(list) => list,
-        None => return Ok(2),
-    };
-    let allowed = Allowed::new(alloc, list.as_slice())?;
-    let options = Options {
-        is_quiet: matches.get_flag("quiet"),
-        has_notes: matches.get_flag("notes"),
-    };
-    let mut status = 0;
-    for path in matches.get_strs("file").unwrap_or(&[]) {
-        if !check_path(rt, path, options, &allowed)? {
-            status = 1;
-        }
-    }
-    Ok(status)
-}
-
 /// Prints the help, the version or the error of a command line.
 fn usage(rt: &HostRuntime, error: &clap::Error) -> Result<u8> {
     error.print(rt)?;
     if error.use_stderr() { Ok(2) } else { Ok(0) }
-}
-
-/// Reads a regular file of at most 4 GiB, or prints why it can't be read.
-fn read_regular(rt: &HostRuntime, path: &str) -> Result<Option<Vec<u8>>> {
-    match read_bytes(rt, path) {
-        Ok(Some(bytes)) => Ok(Some(bytes)),
-        Ok(None) => {
-            eprintln!(rt; "framehop-check: {path}: no regular file of at most 4 GiB")?;
-            Ok(None)
-        }
-        Err(error) => {
-            eprintln!(rt; "framehop-check: {path}: {error}")?;
-            Ok(None)
-        }
-    }
-}
-
-/// Returns the bytes of a regular file, or `None` of any other or of a larger one.
-fn read_bytes(rt: &HostRuntime, path: &str) -> io::Result<Option<Vec<u8>>> {
-    let metadata = fs::metadata(rt, path)?;
-    if !metadata.is_file() || metadata.len() > LARGEST_FILE {
-        return Ok(None);
-    }
-    Ok(Some(fs::read(rt, path)?))
 }
 
 /// Reads the list of names, which is empty without a path.
@@ -150,4 +126,28 @@ fn check_path(
             Ok(false)
         }
     }
+}
+
+/// Reads a regular file of at most 4 GiB, or prints why it can't be read.
+fn read_regular(rt: &HostRuntime, path: &str) -> Result<Option<Vec<u8>>> {
+    match read_bytes(rt, path) {
+        Ok(Some(bytes)) => Ok(Some(bytes)),
+        Ok(None) => {
+            eprintln!(rt; "framehop-check: {path}: no regular file of at most 4 GiB")?;
+            Ok(None)
+        }
+        Err(error) => {
+            eprintln!(rt; "framehop-check: {path}: {error}")?;
+            Ok(None)
+        }
+    }
+}
+
+/// Returns the bytes of a regular file, or `None` of any other or of a larger one.
+fn read_bytes(rt: &HostRuntime, path: &str) -> io::Result<Option<Vec<u8>>> {
+    let metadata = fs::metadata(rt, path)?;
+    if !metadata.is_file() || metadata.len() > LARGEST_FILE {
+        return Ok(None);
+    }
+    Ok(Some(fs::read(rt, path)?))
 }

@@ -38,6 +38,44 @@ pub fn is_pe(file: &[u8]) -> bool {
     file.starts_with(&MZ)
 }
 
+/// Returns the lines for a PE file, and whether there are no alarms and each entry was read, or why it can't be checked.
+pub fn check_pe_file(alloc: Global, path: &str, file: &[u8], options: Options) -> Result<Checked> {
+    let image = match open(alloc, file) {
+        Ok(image) => image,
+        Err(error) => return Ok(Checked::Refused(Refusal::Pe(error))),
+    };
+    if !matches!(image.header.machine, Machine::X86_64) {
+        return Ok(Checked::Refused(Refusal::PeMachine));
+    }
+    let Some(table) = image.table else {
+        return Ok(Checked::Refused(Refusal::NoFunctionTable));
+    };
+    let mut report = Report::new(alloc);
+    let mut others = Others {
+        allowed: 0,
+        unreadable: 0,
+        without_code: 0,
+    };
+    let mut text = String::new(alloc);
+    let mut rest = table;
+    for _count in 0..table.len() / ENTRY_SIZE {
+        if let Some(function) = RuntimeFunction::parse(rest) {
+            check_entry(
+                &image,
+                function,
+                options,
+                &mut report,
+                &mut others,
+                &mut text,
+            )?;
+        }
+        rest = skip_bytes(rest, ENTRY_SIZE);
+    }
+    push_summary(path, report.counts, others, &mut text)?;
+    let is_good = report.counts.alarmed == 0 && others.unreadable == 0;
+    Ok(Checked::Text { text, is_good })
+}
+
 /// Reads what a file has to be checked by.
 fn open(alloc: Global, file: &[u8]) -> Result<Image<'_>, PeError> {
     let header = read_file_header(file)?;
@@ -49,38 +87,6 @@ fn open(alloc: Global, file: &[u8]) -> Result<Image<'_>, PeError> {
         sections,
         table,
     })
-}
-
-/// Returns so many bytes of the image from an RVA on, if the file has them.
-fn bytes_at<'a>(image: &Image<'a>, rva: u32, size: u32) -> Option<&'a [u8]> {
-    match read_at_rva(
-        image.file,
-        image.header,
-        image.sections.as_slice(),
-        rva,
-        size,
-    ) {
-        Ok(bytes) => Some(bytes),
-        Err(_) => None,
-    }
-}
-
-/// Returns the unwind info at an RVA: its header, its codes, and the entry that it is chained to.
-fn info_at<'a>(image: &Image<'a>, rva: u32) -> Option<PrologInfo<'a>> {
-    let head = UnwindInfo::parse(bytes_at(image, rva, HEADER_SIZE)?)?;
-    let slots = u32::from(head.code_count) + u32::from(head.code_count % 2);
-    let chained = if head.is_chained {
-        ENTRY_SIZE as u32
-    } else {
-        0
-    };
-    UnwindInfo::parse(bytes_at(image, rva, HEADER_SIZE + 2 * slots + chained)?)?.read()
-}
-
-/// Returns the code of a function.
-fn code_of<'a>(image: &Image<'a>, function: RuntimeFunction) -> Option<&'a [u8]> {
-    let size = function.end_address.checked_sub(function.begin_address)?;
-    bytes_at(image, function.begin_address, size)
 }
 
 /// Checks an entry of the function table, and appends its lines.
@@ -121,40 +127,34 @@ fn check_entry(
     Ok(())
 }
 
-/// Returns the lines for a PE file, and whether there are no alarms and each entry was read, or why it can't be checked.
-pub fn check_pe_file(alloc: Global, path: &str, file: &[u8], options: Options) -> Result<Checked> {
-    let image = match open(alloc, file) {
-        Ok(image) => image,
-        Err(error) => return Ok(Checked::Refused(Refusal::Pe(error))),
+/// Returns the unwind info at an RVA: its header, its codes, and the entry that it is chained to.
+fn info_at<'a>(image: &Image<'a>, rva: u32) -> Option<PrologInfo<'a>> {
+    let head = UnwindInfo::parse(bytes_at(image, rva, HEADER_SIZE)?)?;
+    let slots = u32::from(head.code_count) + u32::from(head.code_count % 2);
+    let chained = if head.is_chained {
+        ENTRY_SIZE as u32
+    } else {
+        0
     };
-    if !matches!(image.header.machine, Machine::X86_64) {
-        return Ok(Checked::Refused(Refusal::PeMachine));
+    UnwindInfo::parse(bytes_at(image, rva, HEADER_SIZE + 2 * slots + chained)?)?.read()
+}
+
+/// Returns the code of a function.
+fn code_of<'a>(image: &Image<'a>, function: RuntimeFunction) -> Option<&'a [u8]> {
+    let size = function.end_address.checked_sub(function.begin_address)?;
+    bytes_at(image, function.begin_address, size)
+}
+
+/// Returns so many bytes of the image from an RVA on, if the file has them.
+fn bytes_at<'a>(image: &Image<'a>, rva: u32, size: u32) -> Option<&'a [u8]> {
+    match read_at_rva(
+        image.file,
+        image.header,
+        image.sections.as_slice(),
+        rva,
+        size,
+    ) {
+        Ok(bytes) => Some(bytes),
+        Err(_) => None,
     }
-    let Some(table) = image.table else {
-        return Ok(Checked::Refused(Refusal::NoFunctionTable));
-    };
-    let mut report = Report::new(alloc);
-    let mut others = Others {
-        allowed: 0,
-        unreadable: 0,
-        without_code: 0,
-    };
-    let mut text = String::new(alloc);
-    let mut rest = table;
-    for _count in 0..table.len() / ENTRY_SIZE {
-        if let Some(function) = RuntimeFunction::parse(rest) {
-            check_entry(
-                &image,
-                function,
-                options,
-                &mut report,
-                &mut others,
-                &mut text,
-            )?;
-        }
-        rest = skip_bytes(rest, ENTRY_SIZE);
-    }
-    push_summary(path, report.counts, others, &mut text)?;
-    let is_good = report.counts.alarmed == 0 && others.unreadable == 0;
-    Ok(Checked::Text { text, is_good })
 }

@@ -5,20 +5,20 @@ use framehop_check::tracked::Fault;
 use framehop_code::effect::{Base, Code};
 use std::alloc::AllocError;
 
-/// Appends the bytes of an instruction, at an offset of a function's code, in hexadecimal.
-fn push_bytes<C: Code>(code: &[u8], at: u64, out: &mut String) -> Result<(), AllocError> {
-    let Ok(at) = usize::try_from(at) else {
-        return Ok(());
-    };
-    let size = match C::effect_at(code, at) {
-        Some(effect) => effect.size,
-        None => 1,
-    };
-    for byte in code.iter().skip(at).take(size) {
-        let value = *byte;
-        write!(out, "{value:02x}")?;
-    }
-    Ok(())
+/// Appends the line of an alarm in a function whose FDE begins at an address (SVMA).
+pub fn push_alarm<C: Code>(
+    name: Option<(&str, u64)>,
+    start: u64,
+    code: &[u8],
+    alarm: Alarm,
+    out: &mut String,
+) -> Result<(), AllocError> {
+    push_place(name, start, alarm.address, out)?;
+    push_fault::<C>(alarm.fault, out)?;
+    let before = alarm.before;
+    write!(out, "; after 0x{before:x}: ")?;
+    push_bytes::<C>(code, before.saturating_sub(start), out)?;
+    out.push_str("\n")
 }
 
 /// Appends what contradicts what.
@@ -51,6 +51,33 @@ fn push_fault<C: Code>(fault: Fault, out: &mut String) -> Result<(), AllocError>
     }
 }
 
+/// Appends the bytes of an instruction, at an offset of a function's code, in hexadecimal.
+fn push_bytes<C: Code>(code: &[u8], at: u64, out: &mut String) -> Result<(), AllocError> {
+    let Ok(at) = usize::try_from(at) else {
+        return Ok(());
+    };
+    let size = match C::effect_at(code, at) {
+        Some(effect) => effect.size,
+        None => 1,
+    };
+    for byte in code.iter().skip(at).take(size) {
+        let value = *byte;
+        write!(out, "{value:02x}")?;
+    }
+    Ok(())
+}
+
+/// Appends the line of a note: another row begins inside the instruction.
+pub fn push_note(
+    name: Option<(&str, u64)>,
+    start: u64,
+    address: u64,
+    out: &mut String,
+) -> Result<(), AllocError> {
+    push_place(name, start, address, out)?;
+    out.push_str("note: another row begins inside this instruction\n")
+}
+
 /// Appends an address (SVMA) with the function that it is in: by its name and where that begins, or by where the FDE begins.
 fn push_place(
     name: Option<(&str, u64)>,
@@ -69,41 +96,6 @@ fn push_place(
             write!(out, "0x{start:x}+0x{distance:x}: ")
         }
     }
-}
-
-/// Appends the line of an alarm in a function whose FDE begins at an address (SVMA).
-pub fn push_alarm<C: Code>(
-    name: Option<(&str, u64)>,
-    start: u64,
-    code: &[u8],
-    alarm: Alarm,
-    out: &mut String,
-) -> Result<(), AllocError> {
-    push_place(name, start, alarm.address, out)?;
-    push_fault::<C>(alarm.fault, out)?;
-    let before = alarm.before;
-    write!(out, "; after 0x{before:x}: ")?;
-    push_bytes::<C>(code, before.saturating_sub(start), out)?;
-    out.push_str("\n")
-}
-
-/// Appends the line of a note: another row begins inside the instruction.
-pub fn push_note(
-    name: Option<(&str, u64)>,
-    start: u64,
-    address: u64,
-    out: &mut String,
-) -> Result<(), AllocError> {
-    push_place(name, start, address, out)?;
-    out.push_str("note: another row begins inside this instruction\n")
-}
-
-/// Appends a count, where there is something to count.
-fn push_count(count: u64, what: &str, out: &mut String) -> Result<(), AllocError> {
-    if count > 0 {
-        write!(out, ", {count} {what}")?;
-    }
-    Ok(())
 }
 
 /// Appends the summary of a file.
@@ -129,4 +121,12 @@ pub fn push_summary(
     push_count(others.unreadable, "entries unreadable", out)?;
     push_count(others.without_code, "functions without code", out)?;
     out.push_str("\n")
+}
+
+/// Appends a count, where there is something to count.
+fn push_count(count: u64, what: &str, out: &mut String) -> Result<(), AllocError> {
+    if count > 0 {
+        write!(out, ", {count} {what}")?;
+    }
+    Ok(())
 }

@@ -89,13 +89,6 @@ pub trait Code {
     fn name_of(base: Base) -> &'static str;
 }
 
-/// Returns the change that keeps a register's value.
-pub fn kept(base: Base) -> Change
-    ensures { result ≡ kept base }
-{
-    Change::Sum { base, offset: 0 }
-}
-
 /// Returns the effect of an instruction of so many bytes that changes neither register and leads to the next one.
 pub fn plain(size: usize) -> Effect
     ensures exact { result ≡ plain size }
@@ -107,6 +100,13 @@ pub fn plain(size: usize) -> Effect
         fp: kept(Base::Fp),
         flow: Flow::Next,
     }
+}
+
+/// Returns the change that keeps a register's value.
+pub fn kept(base: Base) -> Change
+    ensures { result ≡ kept base }
+{
+    Change::Sum { base, offset: 0 }
 }
 
 /// Returns the effect with another change of a register; `None` is any other register.

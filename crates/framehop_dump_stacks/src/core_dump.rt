@@ -23,217 +23,6 @@ use framehop_memory::memory::ProcessMemory;
 use framehop_memory::segment::{Segment, base_avma};
 use std::alloc::{AllocError, Global};
 
-/// Returns what a signal is the cause of: 0 is none.
-fn cause_of_signal(signal: u16) -> Option<Cause>
-    ensures { result ≡ cause_of_signal signal }
-{
-    if signal == 0 {
-        return None;
-    }
-    Some(Cause::Signal(u32::from(signal)))
-}
-
-/// Returns a thread of a core file.
-fn thread_of<'a>(thread: NotedThread<'a>) -> Thread<'a>
-    ensures { thread_view result ≡ thread_of (noted_view thread.entry) }
-{
-    Thread {
-        tid: thread.tid,
-        cause: cause_of_signal(thread.signal),
-        registers: Registers::Kernel {
-            values: thread.registers,
-            pac_mask: thread.pac_mask,
-        },
-    }
-}
-
-/// Appends a thread of a core file.
-fn push_thread<'a>(threads: &mut Vec<Thread<'a>>, thread: NotedThread<'a>) -> Result<(), AllocError>
-    ensures { OnOk result (map thread_view threads.new.items
-        ≡ map thread_view threads.old.items ++ thread_of (noted_view thread.entry) ∷ []) }
-{
-    threads.push(thread_of(thread))?;
-    Ok(())
-}
-
-/// Returns the threads of a core file.
-fn threads_of<'a>(alloc: Global, noted: &[NotedThread<'a>]) -> Result<Vec<Thread<'a>>, AllocError>
-    ensures { IfOk result (λ threads. map thread_view threads.items ≡ map thread_of (map noted_view noted.now)) }
-{
-    let mut threads = Vec::new(alloc);
-    for thread in noted {
-        push_thread(&mut threads, *thread)?;
-    }
-    Ok(threads)
-}
-
-/// Returns the name of the program of a process.
-fn name_of<'a>(process: Option<Process<'a>>) -> Option<&'a [u8]>
-    ensures { option_map (λ name. name.now) result ≡ name_of (option_map process_view process.entry) }
-{
-    let process = process?;
-    Some(process.name)
-}
-
-/// Returns the number of a process.
-fn pid_of(process: Option<Process<'_>>) -> Option<u32>
-    ensures { result ≡ pid_of (option_map process_view process.entry) }
-{
-    let process = process?;
-    Some(process.pid)
-}
-
-/// Returns whether a file of this path is mapped from its first byte on.
-fn is_beginning(mapped: MappedFile<'_>, path: &[u8]) -> bool
-    ensures { result ≡ is_beginning path.now (mapped_file_view mapped.entry) }
-{
-    mapped.offset == 0 && mapped.path == path
-}
-
-/// Returns the first mapping of a file that has its first byte.
-fn beginning<'a>(files: &[MappedFile<'a>], path: &[u8]) -> Option<MappedFile<'a>>
-    ensures { option_map mapped_file_view result ≡ find (is_beginning path.now) (map mapped_file_view files.now) }
-{
-    for mapped in files {
-        if is_beginning(*mapped, path) {
-            return Some(*mapped);
-        }
-    }
-    None
-}
-
-/// Returns the first bytes of a mapped file, as far as memory has them.
-fn head_in<'a>(memory: &ProcessMemory<'a>, files: &[MappedFile<'a>], path: &[u8]) -> &'a [u8]
-    ensures { result.now ≡ head_in (memory_view memory.now) (map mapped_file_view files.now) path.now }
-{
-    match beginning(files, path) {
-        Some(mapped) => head_at(memory, mapped.start),
-        None => &[],
-    }
-}
-
-/// Returns the first segment of memory that has an address (AVMA).
-fn segment_at(dumped: &[Segment], address: u64) -> Option<Segment>
-    ensures { result ≡ find (has_address address) dumped.now }
-{
-    for segment in dumped {
-        if has_address(*segment, address) {
-            return Some(*segment);
-        }
-    }
-    None
-}
-
-/// Returns where the stated address 0 of a mapped file is (AVMA), by the segments that its first bytes tell.
-fn base_in_memory(segments: &[Segment], mapped: MappedFile<'_>) -> Option<u64>
-    ensures { result ≡ base_in_memory segments.now (mapped_file_view mapped.entry) }
-{
-    let size = mapped.end.saturating_sub(mapped.start);
-    base_avma(segments, mapped.offset, size, mapped.start)
-}
-
-/// Returns whether a file is mapped to be executed: as the dumped segment says that has the first address, or else as
-/// the segments say that the file's first bytes tell.
-fn is_code(dumped: &[Segment], segments: &[Segment], mapped: MappedFile<'_>) -> bool
-    ensures { result ≡ is_mapped_code dumped.now segments.now (mapped_file_view mapped.entry) }
-{
-    match segment_at(dumped, mapped.start) {
-        Some(segment) => segment.is_code,
-        None => base_in_memory(segments, mapped).is_some(),
-    }
-}
-
-/// Appends a mapped file, if it is one of code.
-fn push_code<'a>(
-    alloc: Global,
-    memory: &ProcessMemory<'a>,
-    dumped: &[Segment],
-    files: &[MappedFile<'a>],
-    code: &mut Vec<MappedCode<'a>>,
-    mapped: MappedFile<'a>,
-) -> Result<(), AllocError>
-    ensures { OnOk result (map mapped_code_view code.new.items ≡ map mapped_code_view code.old.items
-        ++ code_if (memory_view memory.now) dumped.now (map mapped_file_view files.now) (mapped_file_view mapped.entry)) }
-{
-    let head = head_in(memory, files, mapped.path);
-    let headers = segments_in(alloc, head)?;
-    let segments = loaded_segments(alloc, headers.as_slice())?;
-    if is_code(dumped, segments.as_slice(), mapped) {
-        code.push(MappedCode {
-            start: mapped.start,
-            end: mapped.end,
-            offset: mapped.offset,
-            path: mapped.path,
-            head,
-            build_id: build_id_in(head, headers.as_slice()),
-            base: None,
-        })?;
-    }
-    Ok(())
-}
-
-/// Returns the files that are mapped to be executed.
-fn code_of<'a>(
-    alloc: Global,
-    memory: &ProcessMemory<'a>,
-    dumped: &[Segment],
-    files: &[MappedFile<'a>],
-) -> Result<Vec<MappedCode<'a>>, AllocError>
-    ensures { IfOk result (λ code. map mapped_code_view code.items
-        ≡ code_of (memory_view memory.now) dumped.now (map mapped_file_view files.now)) }
-{
-    let mut code = Vec::new(alloc);
-    for mapped in files {
-        push_code(alloc, memory, dumped, files, &mut code, *mapped)?;
-    }
-    Ok(code)
-}
-
-/// Returns the files that are mapped to be executed, and after them the vdso.
-fn all_code<'a>(
-    alloc: Global,
-    memory: &ProcessMemory<'a>,
-    dumped: &[Segment],
-    files: &[MappedFile<'a>],
-    vdso: Option<u64>,
-) -> Result<Vec<MappedCode<'a>>, AllocError>
-    ensures { IfOk result (λ code. map mapped_code_view code.items
-        ≡ code_of (memory_view memory.now) dumped.now (map mapped_file_view files.now)
-        ++ vdso_code (memory_view memory.now) dumped.now vdso) }
-{
-    let mut code = code_of(alloc, memory, dumped, files)?;
-    push_vdso(memory, dumped, vdso, &mut code)?;
-    Ok(code)
-}
-
-/// Appends the vdso, which no file has: from its first address (AVMA) on, as far as the segment of memory has it.
-fn push_vdso<'a>(
-    memory: &ProcessMemory<'a>,
-    dumped: &[Segment],
-    vdso: Option<u64>,
-    code: &mut Vec<MappedCode<'a>>,
-) -> Result<(), AllocError>
-    ensures { OnOk result (map mapped_code_view code.new.items ≡ map mapped_code_view code.old.items
-        ++ vdso_code (memory_view memory.now) dumped.now vdso) }
-{
-    let Some(start) = vdso else {
-        return Ok(());
-    };
-    let Some(segment) = segment_at(dumped, start) else {
-        return Ok(());
-    };
-    code.push(MappedCode {
-        start,
-        end: segment.address.saturating_add(segment.size),
-        offset: 0,
-        path: b"[vdso]",
-        head: head_at(memory, start),
-        build_id: &[],
-        base: None,
-    })?;
-    Ok(())
-}
-
 /// Reads what a core file says of its process.
 ///
 /// # Errors
@@ -279,4 +68,215 @@ pub fn read_core_dump<'a>(alloc: Global, file: &'a [u8]) -> Result<Dump<'a>, Cor
         name: name_of(process),
         pid: pid_of(process),
     })
+}
+
+/// Returns the threads of a core file.
+fn threads_of<'a>(alloc: Global, noted: &[NotedThread<'a>]) -> Result<Vec<Thread<'a>>, AllocError>
+    ensures { IfOk result (λ threads. map thread_view threads.items ≡ map thread_of (map noted_view noted.now)) }
+{
+    let mut threads = Vec::new(alloc);
+    for thread in noted {
+        push_thread(&mut threads, *thread)?;
+    }
+    Ok(threads)
+}
+
+/// Appends a thread of a core file.
+fn push_thread<'a>(threads: &mut Vec<Thread<'a>>, thread: NotedThread<'a>) -> Result<(), AllocError>
+    ensures { OnOk result (map thread_view threads.new.items
+        ≡ map thread_view threads.old.items ++ thread_of (noted_view thread.entry) ∷ []) }
+{
+    threads.push(thread_of(thread))?;
+    Ok(())
+}
+
+/// Returns a thread of a core file.
+fn thread_of<'a>(thread: NotedThread<'a>) -> Thread<'a>
+    ensures { thread_view result ≡ thread_of (noted_view thread.entry) }
+{
+    Thread {
+        tid: thread.tid,
+        cause: cause_of_signal(thread.signal),
+        registers: Registers::Kernel {
+            values: thread.registers,
+            pac_mask: thread.pac_mask,
+        },
+    }
+}
+
+/// Returns what a signal is the cause of: 0 is none.
+fn cause_of_signal(signal: u16) -> Option<Cause>
+    ensures { result ≡ cause_of_signal signal }
+{
+    if signal == 0 {
+        return None;
+    }
+    Some(Cause::Signal(u32::from(signal)))
+}
+
+/// Returns the files that are mapped to be executed, and after them the vdso.
+fn all_code<'a>(
+    alloc: Global,
+    memory: &ProcessMemory<'a>,
+    dumped: &[Segment],
+    files: &[MappedFile<'a>],
+    vdso: Option<u64>,
+) -> Result<Vec<MappedCode<'a>>, AllocError>
+    ensures { IfOk result (λ code. map mapped_code_view code.items
+        ≡ code_of (memory_view memory.now) dumped.now (map mapped_file_view files.now)
+        ++ vdso_code (memory_view memory.now) dumped.now vdso) }
+{
+    let mut code = code_of(alloc, memory, dumped, files)?;
+    push_vdso(memory, dumped, vdso, &mut code)?;
+    Ok(code)
+}
+
+/// Returns the files that are mapped to be executed.
+fn code_of<'a>(
+    alloc: Global,
+    memory: &ProcessMemory<'a>,
+    dumped: &[Segment],
+    files: &[MappedFile<'a>],
+) -> Result<Vec<MappedCode<'a>>, AllocError>
+    ensures { IfOk result (λ code. map mapped_code_view code.items
+        ≡ code_of (memory_view memory.now) dumped.now (map mapped_file_view files.now)) }
+{
+    let mut code = Vec::new(alloc);
+    for mapped in files {
+        push_code(alloc, memory, dumped, files, &mut code, *mapped)?;
+    }
+    Ok(code)
+}
+
+/// Appends a mapped file, if it is one of code.
+fn push_code<'a>(
+    alloc: Global,
+    memory: &ProcessMemory<'a>,
+    dumped: &[Segment],
+    files: &[MappedFile<'a>],
+    code: &mut Vec<MappedCode<'a>>,
+    mapped: MappedFile<'a>,
+) -> Result<(), AllocError>
+    ensures { OnOk result (map mapped_code_view code.new.items ≡ map mapped_code_view code.old.items
+        ++ code_if (memory_view memory.now) dumped.now (map mapped_file_view files.now) (mapped_file_view mapped.entry)) }
+{
+    let head = head_in(memory, files, mapped.path);
+    let headers = segments_in(alloc, head)?;
+    let segments = loaded_segments(alloc, headers.as_slice())?;
+    if is_code(dumped, segments.as_slice(), mapped) {
+        code.push(MappedCode {
+            start: mapped.start,
+            end: mapped.end,
+            offset: mapped.offset,
+            path: mapped.path,
+            head,
+            build_id: build_id_in(head, headers.as_slice()),
+            base: None,
+        })?;
+    }
+    Ok(())
+}
+
+/// Returns the first bytes of a mapped file, as far as memory has them.
+fn head_in<'a>(memory: &ProcessMemory<'a>, files: &[MappedFile<'a>], path: &[u8]) -> &'a [u8]
+    ensures { result.now ≡ head_in (memory_view memory.now) (map mapped_file_view files.now) path.now }
+{
+    match beginning(files, path) {
+        Some(mapped) => head_at(memory, mapped.start),
+        None => &[],
+    }
+}
+
+/// Returns the first mapping of a file that has its first byte.
+fn beginning<'a>(files: &[MappedFile<'a>], path: &[u8]) -> Option<MappedFile<'a>>
+    ensures { option_map mapped_file_view result ≡ find (is_beginning path.now) (map mapped_file_view files.now) }
+{
+    for mapped in files {
+        if is_beginning(*mapped, path) {
+            return Some(*mapped);
+        }
+    }
+    None
+}
+
+/// Returns whether a file of this path is mapped from its first byte on.
+fn is_beginning(mapped: MappedFile<'_>, path: &[u8]) -> bool
+    ensures { result ≡ is_beginning path.now (mapped_file_view mapped.entry) }
+{
+    mapped.offset == 0 && mapped.path == path
+}
+
+/// Returns whether a file is mapped to be executed: as the dumped segment says that has the first address, or else as
+/// the segments say that the file's first bytes tell.
+fn is_code(dumped: &[Segment], segments: &[Segment], mapped: MappedFile<'_>) -> bool
+    ensures { result ≡ is_mapped_code dumped.now segments.now (mapped_file_view mapped.entry) }
+{
+    match segment_at(dumped, mapped.start) {
+        Some(segment) => segment.is_code,
+        None => base_in_memory(segments, mapped).is_some(),
+    }
+}
+
+/// Returns where the stated address 0 of a mapped file is (AVMA), by the segments that its first bytes tell.
+fn base_in_memory(segments: &[Segment], mapped: MappedFile<'_>) -> Option<u64>
+    ensures { result ≡ base_in_memory segments.now (mapped_file_view mapped.entry) }
+{
+    let size = mapped.end.saturating_sub(mapped.start);
+    base_avma(segments, mapped.offset, size, mapped.start)
+}
+
+/// Appends the vdso, which no file has: from its first address (AVMA) on, as far as the segment of memory has it.
+fn push_vdso<'a>(
+    memory: &ProcessMemory<'a>,
+    dumped: &[Segment],
+    vdso: Option<u64>,
+    code: &mut Vec<MappedCode<'a>>,
+) -> Result<(), AllocError>
+    ensures { OnOk result (map mapped_code_view code.new.items ≡ map mapped_code_view code.old.items
+        ++ vdso_code (memory_view memory.now) dumped.now vdso) }
+{
+    let Some(start) = vdso else {
+        return Ok(());
+    };
+    let Some(segment) = segment_at(dumped, start) else {
+        return Ok(());
+    };
+    code.push(MappedCode {
+        start,
+        end: segment.address.saturating_add(segment.size),
+        offset: 0,
+        path: b"[vdso]",
+        head: head_at(memory, start),
+        build_id: &[],
+        base: None,
+    })?;
+    Ok(())
+}
+
+/// Returns the first segment of memory that has an address (AVMA).
+fn segment_at(dumped: &[Segment], address: u64) -> Option<Segment>
+    ensures { result ≡ find (has_address address) dumped.now }
+{
+    for segment in dumped {
+        if has_address(*segment, address) {
+            return Some(*segment);
+        }
+    }
+    None
+}
+
+/// Returns the name of the program of a process.
+fn name_of<'a>(process: Option<Process<'a>>) -> Option<&'a [u8]>
+    ensures { option_map (λ name. name.now) result ≡ name_of (option_map process_view process.entry) }
+{
+    let process = process?;
+    Some(process.name)
+}
+
+/// Returns the number of a process.
+fn pid_of(process: Option<Process<'_>>) -> Option<u32>
+    ensures { result ≡ pid_of (option_map process_view process.entry) }
+{
+    let process = process?;
+    Some(process.pid)
 }

@@ -95,20 +95,6 @@ pub struct Dump<'a> {
     pub pid: Option<u32>,
 }
 
-/// Returns whether a segment of memory has an address (AVMA).
-pub(crate) fn has_address(segment: Segment, address: u64) -> bool
-    ensures { result ≡ has_address address segment }
-{
-    segment.address <= address && address - segment.address < segment.size
-}
-
-/// Returns whether a segment of memory that may be executed has an address (AVMA).
-fn has_code(segment: Segment, address: u64) -> bool
-    ensures { result ≡ has_code address segment }
-{
-    segment.is_code && has_address(segment, address)
-}
-
 /// Returns whether an address (AVMA) is in a segment of memory that may be executed.
 pub(crate) fn is_code_at(dump: &Dump<'_>, address: u64) -> bool
     ensures { result ≡ is_code_at (dump_view dump.now) address }
@@ -121,11 +107,28 @@ pub(crate) fn is_code_at(dump: &Dump<'_>, address: u64) -> bool
     false
 }
 
-/// Returns whether code is of the file of a path.
-fn is_of_path(code: MappedCode<'_>, path: &[u8]) -> bool
-    ensures { result ≡ is_of_path path.now (mapped_code_view code.entry) }
+/// Returns whether a segment of memory that may be executed has an address (AVMA).
+fn has_code(segment: Segment, address: u64) -> bool
+    ensures { result ≡ has_code address segment }
 {
-    code.path == path
+    segment.is_code && has_address(segment, address)
+}
+
+/// Returns whether a segment of memory has an address (AVMA).
+pub(crate) fn has_address(segment: Segment, address: u64) -> bool
+    ensures { result ≡ has_address address segment }
+{
+    segment.address <= address && address - segment.address < segment.size
+}
+
+/// Returns the first bytes of a file whose code was mapped, as far as memory has them.
+pub fn head_of<'a>(dump: &Dump<'a>, path: &[u8]) -> &'a [u8]
+    ensures { result.now ≡ head_of (dump_view dump.now) path.now }
+{
+    match code_of_path(dump, path) {
+        Some(code) => code.head,
+        None => &[],
+    }
 }
 
 /// Returns the first mapping of code of the file of a path.
@@ -140,12 +143,9 @@ fn code_of_path<'a>(dump: &Dump<'a>, path: &[u8]) -> Option<MappedCode<'a>>
     None
 }
 
-/// Returns the first bytes of a file whose code was mapped, as far as memory has them.
-pub fn head_of<'a>(dump: &Dump<'a>, path: &[u8]) -> &'a [u8]
-    ensures { result.now ≡ head_of (dump_view dump.now) path.now }
+/// Returns whether code is of the file of a path.
+fn is_of_path(code: MappedCode<'_>, path: &[u8]) -> bool
+    ensures { result ≡ is_of_path path.now (mapped_code_view code.entry) }
 {
-    match code_of_path(dump, path) {
-        Some(code) => code.head,
-        None => &[],
-    }
+    code.path == path
 }

@@ -28,6 +28,31 @@ pub fn head_at<'a>(memory: &ProcessMemory<'a>, address: u64) -> &'a [u8]
     }
 }
 
+/// Returns the build id in the first bytes of a file, or no bytes.
+pub fn build_id_in<'a>(head: &'a [u8], segments: &[ProgramHeader]) -> &'a [u8]
+    ensures { result.now ≡ build_id_in head.entry.now segments.now }
+{
+    match read_build_id(head, segments, &[]) {
+        Some(build_id) => build_id,
+        None => &[],
+    }
+}
+
+/// Returns the unwind sections of a file of these first bytes that lies at a base, as memory has them: none where
+/// it has not both `.eh_frame_hdr` and `.eh_frame`.
+pub fn sections_in(
+    alloc: Global,
+    memory: &ProcessMemory<'_>,
+    head: &[u8],
+    base: u64,
+) -> Result<ExplicitModuleSectionInfo<Vec<u8>>, AllocError>
+    ensures { IfOk result (λ info. sections_view info ≡ sections_in (memory_view memory.now) head.now base) }
+{
+    let segments = segments_in(alloc, head)?;
+    let found = call_frames_at(memory, segments.as_slice(), base);
+    sections_of(alloc, found)
+}
+
 /// Returns the program headers in the first bytes of a file: none where they can't be read.
 #[tactic(auto, unfolding(crate::specs::Image::headers_in))]
 pub fn segments_in(alloc: Global, head: &[u8]) -> Result<Vec<ProgramHeader>, AllocError>
@@ -41,44 +66,6 @@ pub fn segments_in(alloc: Global, head: &[u8]) -> Result<Vec<ProgramHeader>, All
         Err(ElfError::OutOfMemory) => Err(AllocError),
         Err(_) => Ok(Vec::new(alloc)),
     }
-}
-
-/// Returns the build id in the first bytes of a file, or no bytes.
-pub fn build_id_in<'a>(head: &'a [u8], segments: &[ProgramHeader]) -> &'a [u8]
-    ensures { result.now ≡ build_id_in head.entry.now segments.now }
-{
-    match read_build_id(head, segments, &[]) {
-        Some(build_id) => build_id,
-        None => &[],
-    }
-}
-
-/// Returns the segment that has `.eh_frame_hdr`.
-fn eh_frame_header(segments: &[ProgramHeader]) -> Option<ProgramHeader>
-    ensures { result ≡ find is_eh_frame_header segments.now }
-{
-    for segment in segments {
-        if segment.p_type == PT_GNU_EH_FRAME {
-            return Some(*segment);
-        }
-    }
-    None
-}
-
-/// Returns so many bytes from an SVMA on of what lies at a base, if memory has them.
-fn memory_at<'a>(memory: &ProcessMemory<'a>, base: u64, svma: u64, size: u64) -> Option<&'a [u8]>
-    ensures { option_map (λ bytes. bytes.now) result ≡ memory_at (memory_view memory.now) base svma size }
-{
-    let avma = base.checked_add(svma)?;
-    memory.bytes_at(avma, size)
-}
-
-/// Returns the bytes from an SVMA on of what lies at a base, as far as memory has them.
-fn memory_after<'a>(memory: &ProcessMemory<'a>, base: u64, svma: u64) -> Option<&'a [u8]>
-    ensures { option_map (λ bytes. bytes.now) result ≡ memory_after (memory_view memory.now) base svma }
-{
-    let avma = base.checked_add(svma)?;
-    memory.bytes_from(avma)
 }
 
 /// The call frame sections of a file, and where they begin (SVMA).
@@ -121,11 +108,32 @@ fn call_frames_at<'a>(
     })
 }
 
-/// Returns where bytes are from an SVMA on. What ends above the last address ends at it.
-fn range_of(svma: u64, bytes: &[u8]) -> Range<u64>
-    ensures { result ≡ range_of svma bytes.now }
+/// Returns the segment that has `.eh_frame_hdr`.
+fn eh_frame_header(segments: &[ProgramHeader]) -> Option<ProgramHeader>
+    ensures { result ≡ find is_eh_frame_header segments.now }
 {
-    svma..svma.saturating_add(bytes.len() as u64)
+    for segment in segments {
+        if segment.p_type == PT_GNU_EH_FRAME {
+            return Some(*segment);
+        }
+    }
+    None
+}
+
+/// Returns so many bytes from an SVMA on of what lies at a base, if memory has them.
+fn memory_at<'a>(memory: &ProcessMemory<'a>, base: u64, svma: u64, size: u64) -> Option<&'a [u8]>
+    ensures { option_map (λ bytes. bytes.now) result ≡ memory_at (memory_view memory.now) base svma size }
+{
+    let avma = base.checked_add(svma)?;
+    memory.bytes_at(avma, size)
+}
+
+/// Returns the bytes from an SVMA on of what lies at a base, as far as memory has them.
+fn memory_after<'a>(memory: &ProcessMemory<'a>, base: u64, svma: u64) -> Option<&'a [u8]>
+    ensures { option_map (λ bytes. bytes.now) result ≡ memory_after (memory_view memory.now) base svma }
+{
+    let avma = base.checked_add(svma)?;
+    memory.bytes_from(avma)
 }
 
 /// Returns what an unwinder is to know of call frame sections, with copies of them.
@@ -145,17 +153,9 @@ fn sections_of(
     Ok(info)
 }
 
-/// Returns the unwind sections of a file of these first bytes that lies at a base, as memory has them: none where
-/// it has not both `.eh_frame_hdr` and `.eh_frame`.
-pub fn sections_in(
-    alloc: Global,
-    memory: &ProcessMemory<'_>,
-    head: &[u8],
-    base: u64,
-) -> Result<ExplicitModuleSectionInfo<Vec<u8>>, AllocError>
-    ensures { IfOk result (λ info. sections_view info ≡ sections_in (memory_view memory.now) head.now base) }
+/// Returns where bytes are from an SVMA on. What ends above the last address ends at it.
+fn range_of(svma: u64, bytes: &[u8]) -> Range<u64>
+    ensures { result ≡ range_of svma bytes.now }
 {
-    let segments = segments_in(alloc, head)?;
-    let found = call_frames_at(memory, segments.as_slice(), base);
-    sections_of(alloc, found)
+    svma..svma.saturating_add(bytes.len() as u64)
 }

@@ -63,36 +63,25 @@ pub struct LoadedModule {
     pub build_id: Vec<u8>,
 }
 
-/// Returns what the file of a name must have in common with its module: the build id of an ELF file, and of a file
-/// with a name of Windows the GUID and the age of its program database. No bytes, else.
-fn build_id_by<'a>(name: &[u8], codeview: Option<CodeView<'a>>) -> &'a [u8]
-    ensures { result.now ≡ build_id_by name.now (option_map codeview_view codeview.entry) }
-{
-    match codeview {
-        Some(CodeView::Elf { build_id }) => build_id,
-        Some(CodeView::Pdb { guid_and_age, .. }) if is_windows_path(name) => guid_and_age,
-        _ => &[],
-    }
-}
-
-/// Reads the name and the build id of a module.
-#[tactic(auto, unfolding(crate::specs::Minidump::loaded_in))]
-fn loaded_in(alloc: Global, file: &[u8], module: Module) -> Result<LoadedModule, MinidumpError>
+/// Reads the streams of a minidump, and its modules with their names and their build ids, in the order of the file.
+///
+/// # Errors
+///
+/// The first refusal of the header, of the directory, of the list of modules, and then, module by module, of the
+/// name and of the CodeView record; `OutOfMemory`.
+#[tactic(auto, unfolding(crate::specs::Minidump::streams_and_modules_of, crate::specs::Minidump::modules_in))]
+pub fn read_streams_and_modules(
+    alloc: Global,
+    file: &[u8],
+) -> Result<(Vec<Stream>, Vec<LoadedModule>), MinidumpError>
     ensures { MatchResult result
-        (λ loaded. loaded_in file.now «module» ≡ Ok (loaded_view loaded))
-        (λ error. (error ≡ MinidumpError.OutOfMemory) ⊎ (loaded_in file.now «module» ≡ Err error)) }
+        (λ read. streams_and_modules_of file.now ≡ Ok (read.0.items, map loaded_view read.1.items))
+        (λ error. (error ≡ MinidumpError.OutOfMemory) ⊎ (streams_and_modules_of file.now ≡ Err error)) }
 {
-    let name = read_string(alloc, file, module.name)?;
-    let codeview = read_codeview(file, module.codeview)?;
-    let Ok(build_id) = Vec::from_slice(alloc, build_id_by(name.as_bytes(), codeview)) else {
-        return Err(MinidumpError::OutOfMemory);
-    };
-    Ok(LoadedModule {
-        base: module.base,
-        size: module.size,
-        name: name.into_bytes(),
-        build_id,
-    })
+    let streams = read_streams(alloc, file)?;
+    let listed = read_modules(alloc, file, streams.as_slice())?;
+    let modules = loaded_modules(alloc, file, listed.as_slice())?;
+    Ok((streams, modules))
 }
 
 /// Reads the names and the build ids of modules.
@@ -115,171 +104,36 @@ fn loaded_modules(
     Ok(loaded)
 }
 
-/// Reads the streams of a minidump, and its modules with their names and their build ids, in the order of the file.
-///
-/// # Errors
-///
-/// The first refusal of the header, of the directory, of the list of modules, and then, module by module, of the
-/// name and of the CodeView record; `OutOfMemory`.
-#[tactic(auto, unfolding(crate::specs::Minidump::streams_and_modules_of, crate::specs::Minidump::modules_in))]
-pub fn read_streams_and_modules(
-    alloc: Global,
-    file: &[u8],
-) -> Result<(Vec<Stream>, Vec<LoadedModule>), MinidumpError>
+/// Reads the name and the build id of a module.
+#[tactic(auto, unfolding(crate::specs::Minidump::loaded_in))]
+fn loaded_in(alloc: Global, file: &[u8], module: Module) -> Result<LoadedModule, MinidumpError>
     ensures { MatchResult result
-        (λ read. streams_and_modules_of file.now ≡ Ok (read.0.items, map loaded_view read.1.items))
-        (λ error. (error ≡ MinidumpError.OutOfMemory) ⊎ (streams_and_modules_of file.now ≡ Err error)) }
+        (λ loaded. loaded_in file.now «module» ≡ Ok (loaded_view loaded))
+        (λ error. (error ≡ MinidumpError.OutOfMemory) ⊎ (loaded_in file.now «module» ≡ Err error)) }
 {
-    let streams = read_streams(alloc, file)?;
-    let listed = read_modules(alloc, file, streams.as_slice())?;
-    let modules = loaded_modules(alloc, file, listed.as_slice())?;
-    Ok((streams, modules))
-}
-
-/// Returns the machine.
-fn machine_of(machine: SystemMachine) -> Machine
-    ensures { result ≡ machine_of machine }
-{
-    match machine {
-        SystemMachine::X86_64 => Machine::X86_64,
-        SystemMachine::Aarch64 => Machine::Aarch64,
-    }
-}
-
-/// Returns what a code of Linux is the cause of: the signal of its number, if there is one.
-fn signal_of(code: u32) -> Option<Cause>
-    ensures { result ≡ signal_of code }
-{
-    match code {
-        0 => None,
-        DUMP_REQUESTED => None,
-        signal => Some(Cause::Signal(signal)),
-    }
-}
-
-/// Returns what the code of an exception is the cause of.
-fn cause_by(platform: u32, code: u32) -> Option<Cause>
-    ensures { result ≡ cause_by platform code }
-{
-    if platform == LINUX || platform == ANDROID {
-        return signal_of(code);
-    }
-    Some(Cause::Exception(code))
-}
-
-/// Returns what a thread got, if the exception is of it.
-fn cause_of(platform: u32, tid: u32, exception: Option<Exception>) -> Option<Cause>
-    ensures { result ≡ cause_of platform tid exception }
-{
-    match exception {
-        Some(exception) if exception.tid == tid => cause_by(platform, exception.code),
-        _ => None,
-    }
-}
-
-/// Returns the last address of modules (AVMA), or 0 where there is none.
-fn last_address(modules: &[LoadedModule]) -> u64
-    ensures { result ≡ last_address (map loaded_view modules.now) }
-{
-    let mut last = 0;
-    for module in modules {
-        let end = module.base.saturating_add(u64::from(module.size));
-        if end > last {
-            last = end;
-        }
-    }
-    last
-}
-
-/// Returns a mask of all bits up to the highest one of an address: all bits, for the address 0.
-fn mask_up_to(address: u64) -> u64
-    ensures { result ≡ mask_up_to address }
-{
-    if address == 0 {
-        return u64::MAX;
-    }
-    u64::MAX >> address.leading_zeros()
-}
-
-/// What a minidump says of all its threads.
-#[derive(Clone, Copy)]
-struct Circumstances {
-    platform: u32,
-    code_mask: u64,
-    exception: Option<Exception>,
-}
-
-/// Reads the registers of a thread.
-#[tactic(auto, unfolding(crate::specs::Minidump::thread_in))]
-fn thread_in<'a>(
-    file: &'a [u8],
-    of_all: Circumstances,
-    thread: ListedThread,
-) -> Result<Thread<'a>, MinidumpError>
-    ensures { MatchResult result
-        (λ read. thread_in file.entry.now of_all.platform of_all.code_mask of_all.exception thread ≡ Ok (thread_view read))
-        (λ error. thread_in file.entry.now of_all.platform of_all.code_mask of_all.exception thread ≡ Err error) }
-{
-    let values = read_located(file, context_of(thread, of_all.exception))?;
-    Ok(Thread {
-        tid: thread.tid,
-        cause: cause_of(of_all.platform, thread.tid, of_all.exception),
-        registers: Registers::Context {
-            values,
-            code_mask: of_all.code_mask,
-        },
+    let name = read_string(alloc, file, module.name)?;
+    let codeview = read_codeview(file, module.codeview)?;
+    let Ok(build_id) = Vec::from_slice(alloc, build_id_by(name.as_bytes(), codeview)) else {
+        return Err(MinidumpError::OutOfMemory);
+    };
+    Ok(LoadedModule {
+        base: module.base,
+        size: module.size,
+        name: name.into_bytes(),
+        build_id,
     })
 }
 
-/// Reads the registers of threads.
-fn threads_in<'a>(
-    alloc: Global,
-    file: &'a [u8],
-    of_all: Circumstances,
-    listed: &[ListedThread],
-) -> Result<Vec<Thread<'a>>, MinidumpError>
-    ensures { MatchResult result
-        (λ threads. each (thread_in file.entry.now of_all.platform of_all.code_mask of_all.exception) listed.now
-        ≡ Ok (map thread_view threads.items))
-        (λ error. (error ≡ MinidumpError.OutOfMemory)
-        ⊎ (each (thread_in file.entry.now of_all.platform of_all.code_mask of_all.exception) listed.now ≡ Err error)) }
+/// Returns what the file of a name must have in common with its module: the build id of an ELF file, and of a file
+/// with a name of Windows the GUID and the age of its program database. No bytes, else.
+fn build_id_by<'a>(name: &[u8], codeview: Option<CodeView<'a>>) -> &'a [u8]
+    ensures { result.now ≡ build_id_by name.now (option_map codeview_view codeview.entry) }
 {
-    let mut threads = Vec::new(alloc);
-    for thread in listed {
-        let one = thread_in(file, of_all, *thread)?;
-        let Ok(()) = threads.push(one) else {
-            return Err(MinidumpError::OutOfMemory);
-        };
+    match codeview {
+        Some(CodeView::Elf { build_id }) => build_id,
+        Some(CodeView::Pdb { guid_and_age, .. }) if is_windows_path(name) => guid_and_age,
+        _ => &[],
     }
-    Ok(threads)
-}
-
-/// Returns the byte that parts folders in the paths of a platform.
-fn separator(platform: u32) -> u8
-    ensures { result ≡ separator platform }
-{
-    if platform == WINDOWS { b'\\' } else { b'/' }
-}
-
-/// Returns a file's name without its folders.
-fn file_name(separator: u8, path: &[u8]) -> &[u8]
-    ensures { result.now ≡ file_name separator path.entry.now }
-{
-    let mut start = 0;
-    for (at, byte) in path.iter().enumerate() {
-        if *byte == separator {
-            start = at + 1;
-        }
-    }
-    &path[start..]
-}
-
-/// Returns the name of the program: that of the first module.
-fn program_name<'a>(platform: u32, modules: &'a [LoadedModule]) -> Option<&'a [u8]>
-    ensures { option_map (λ name. name.now) result ≡ program_name platform (map loaded_view modules.entry.now) }
-{
-    let program = modules.first()?;
-    Some(file_name(separator(platform), program.name.as_slice()))
 }
 
 /// Reads what else a minidump says of its process than its modules, but for where its code was mapped.
@@ -325,23 +179,186 @@ pub fn dump_in<'a>(
     })
 }
 
-/// Returns the program headers of a file that is given, if it has the build id that it must have: none, else.
-fn headers_given(
-    alloc: Global,
-    wanted: &[u8],
-    given: Option<Vec<u8>>,
-) -> Result<Vec<ProgramHeader>, AllocError>
-    ensures { IfOk result (λ segments. segments.items ≡ headers_given wanted.now (bytes_in given)) }
+/// Returns a mask of all bits up to the highest one of an address: all bits, for the address 0.
+fn mask_up_to(address: u64) -> u64
+    ensures { result ≡ mask_up_to address }
 {
-    let Some(bytes) = given else {
-        return Ok(Vec::new(alloc));
-    };
-    let segments = segments_in(alloc, bytes.as_slice())?;
-    let found = build_id_in(bytes.as_slice(), segments.as_slice());
-    if is_another(wanted, found) {
-        return Ok(Vec::new(alloc));
+    if address == 0 {
+        return u64::MAX;
     }
-    Ok(segments)
+    u64::MAX >> address.leading_zeros()
+}
+
+/// Returns the last address of modules (AVMA), or 0 where there is none.
+fn last_address(modules: &[LoadedModule]) -> u64
+    ensures { result ≡ last_address (map loaded_view modules.now) }
+{
+    let mut last = 0;
+    for module in modules {
+        let end = module.base.saturating_add(u64::from(module.size));
+        if end > last {
+            last = end;
+        }
+    }
+    last
+}
+
+/// Reads the registers of threads.
+fn threads_in<'a>(
+    alloc: Global,
+    file: &'a [u8],
+    of_all: Circumstances,
+    listed: &[ListedThread],
+) -> Result<Vec<Thread<'a>>, MinidumpError>
+    ensures { MatchResult result
+        (λ threads. each (thread_in file.entry.now of_all.platform of_all.code_mask of_all.exception) listed.now
+        ≡ Ok (map thread_view threads.items))
+        (λ error. (error ≡ MinidumpError.OutOfMemory)
+        ⊎ (each (thread_in file.entry.now of_all.platform of_all.code_mask of_all.exception) listed.now ≡ Err error)) }
+{
+    let mut threads = Vec::new(alloc);
+    for thread in listed {
+        let one = thread_in(file, of_all, *thread)?;
+        let Ok(()) = threads.push(one) else {
+            return Err(MinidumpError::OutOfMemory);
+        };
+    }
+    Ok(threads)
+}
+
+/// What a minidump says of all its threads.
+#[derive(Clone, Copy)]
+struct Circumstances {
+    platform: u32,
+    code_mask: u64,
+    exception: Option<Exception>,
+}
+
+/// Reads the registers of a thread.
+#[tactic(auto, unfolding(crate::specs::Minidump::thread_in))]
+fn thread_in<'a>(
+    file: &'a [u8],
+    of_all: Circumstances,
+    thread: ListedThread,
+) -> Result<Thread<'a>, MinidumpError>
+    ensures { MatchResult result
+        (λ read. thread_in file.entry.now of_all.platform of_all.code_mask of_all.exception thread ≡ Ok (thread_view read))
+        (λ error. thread_in file.entry.now of_all.platform of_all.code_mask of_all.exception thread ≡ Err error) }
+{
+    let values = read_located(file, context_of(thread, of_all.exception))?;
+    Ok(Thread {
+        tid: thread.tid,
+        cause: cause_of(of_all.platform, thread.tid, of_all.exception),
+        registers: Registers::Context {
+            values,
+            code_mask: of_all.code_mask,
+        },
+    })
+}
+
+/// Returns what a thread got, if the exception is of it.
+fn cause_of(platform: u32, tid: u32, exception: Option<Exception>) -> Option<Cause>
+    ensures { result ≡ cause_of platform tid exception }
+{
+    match exception {
+        Some(exception) if exception.tid == tid => cause_by(platform, exception.code),
+        _ => None,
+    }
+}
+
+/// Returns what the code of an exception is the cause of.
+fn cause_by(platform: u32, code: u32) -> Option<Cause>
+    ensures { result ≡ cause_by platform code }
+{
+    if platform == LINUX || platform == ANDROID {
+        return signal_of(code);
+    }
+    Some(Cause::Exception(code))
+}
+
+/// Returns what a code of Linux is the cause of: the signal of its number, if there is one.
+fn signal_of(code: u32) -> Option<Cause>
+    ensures { result ≡ signal_of code }
+{
+    match code {
+        0 => None,
+        DUMP_REQUESTED => None,
+        signal => Some(Cause::Signal(signal)),
+    }
+}
+
+/// Returns the machine.
+fn machine_of(machine: SystemMachine) -> Machine
+    ensures { result ≡ machine_of machine }
+{
+    match machine {
+        SystemMachine::X86_64 => Machine::X86_64,
+        SystemMachine::Aarch64 => Machine::Aarch64,
+    }
+}
+
+/// Returns the name of the program: that of the first module.
+fn program_name<'a>(platform: u32, modules: &'a [LoadedModule]) -> Option<&'a [u8]>
+    ensures { option_map (λ name. name.now) result ≡ program_name platform (map loaded_view modules.entry.now) }
+{
+    let program = modules.first()?;
+    Some(file_name(separator(platform), program.name.as_slice()))
+}
+
+/// Returns a file's name without its folders.
+fn file_name(separator: u8, path: &[u8]) -> &[u8]
+    ensures { result.now ≡ file_name separator path.entry.now }
+{
+    let mut start = 0;
+    for (at, byte) in path.iter().enumerate() {
+        if *byte == separator {
+            start = at + 1;
+        }
+    }
+    &path[start..]
+}
+
+/// Returns the byte that parts folders in the paths of a platform.
+fn separator(platform: u32) -> u8
+    ensures { result ≡ separator platform }
+{
+    if platform == WINDOWS { b'\\' } else { b'/' }
+}
+
+/// Returns the code of modules, by their files or else by their first bytes in memory.
+pub fn code_of<'a, S: FileSource>(
+    alloc: Global,
+    memory: &ProcessMemory<'a>,
+    modules: &'a [LoadedModule],
+    source: &S,
+) -> Result<Vec<MappedCode<'a>>, AllocError>
+    ensures { IfOk result (λ code. AreCodeOf (S.source source.now) (memory_view memory.now)
+        (map loaded_view modules.entry.now) (map mapped_code_view code.items)) }
+{
+    let mut code = Vec::new(alloc);
+    for module in modules {
+        push_module(alloc, memory, source, &mut code, module)?;
+    }
+    Ok(code)
+}
+
+/// Appends the code of a module, by its file or else by its first bytes in memory.
+fn push_module<'a, S: FileSource>(
+    alloc: Global,
+    memory: &ProcessMemory<'a>,
+    source: &S,
+    code: &mut Vec<MappedCode<'a>>,
+    module: &'a LoadedModule,
+) -> Result<(), AllocError>
+    ensures { OnOk result ((first : List MappedCodeView)
+        × IsCodeOf (S.source source.now) (memory_view memory.now) (loaded_view «module».entry.now) first
+        × (map mapped_code_view code.new.items ≡ map mapped_code_view code.old.items ++ first)) }
+{
+    let head = head_at(memory, module.base);
+    let given = file_of(source, module);
+    let headers = headers_of(alloc, module, given, head)?;
+    let segments = loaded_segments(alloc, headers.as_slice())?;
+    push_code(code, module, head, segments.as_slice())
 }
 
 /// Returns the file of a module, if it is given. Only a path of Unix is asked for: no other file is an ELF file.
@@ -373,29 +390,56 @@ fn headers_of(
     Ok(segments)
 }
 
-/// Returns where the base of a PE file is (AVMA), if the module has a name of Windows: it is the first address.
-fn base_by_name(module: &LoadedModule) -> Option<u64>
-    ensures { result ≡ base_by_name (loaded_view «module».now) }
+/// Returns the program headers of a file that is given, if it has the build id that it must have: none, else.
+fn headers_given(
+    alloc: Global,
+    wanted: &[u8],
+    given: Option<Vec<u8>>,
+) -> Result<Vec<ProgramHeader>, AllocError>
+    ensures { IfOk result (λ segments. segments.items ≡ headers_given wanted.now (bytes_in given)) }
 {
-    if is_windows_path(module.name.as_slice()) {
-        return Some(module.base);
+    let Some(bytes) = given else {
+        return Ok(Vec::new(alloc));
+    };
+    let segments = segments_in(alloc, bytes.as_slice())?;
+    let found = build_id_in(bytes.as_slice(), segments.as_slice());
+    if is_another(wanted, found) {
+        return Ok(Vec::new(alloc));
     }
-    None
+    Ok(segments)
 }
 
-/// Returns all addresses of a module as mapped code.
-fn whole<'a>(module: &'a LoadedModule, head: &'a [u8]) -> MappedCode<'a>
-    ensures { mapped_code_view result ≡ whole head.entry.now (loaded_view «module».entry.now) }
+/// Appends the code of a module that has these segments.
+fn push_code<'a>(
+    code: &mut Vec<MappedCode<'a>>,
+    module: &'a LoadedModule,
+    head: &'a [u8],
+    segments: &[Segment],
+) -> Result<(), AllocError>
+    ensures { OnOk result (map mapped_code_view code.new.items ≡ map mapped_code_view code.old.items
+        ++ code_by head.entry.now (loaded_view «module».entry.now) segments.now) }
 {
-    MappedCode {
-        start: module.base,
-        end: module.base.saturating_add(u64::from(module.size)),
-        offset: 0,
-        path: module.name.as_slice(),
-        head,
-        build_id: module.build_id.as_slice(),
-        base: base_by_name(module),
+    match base_from(segments, module.base) {
+        Some(base) => push_segments(code, module, head, base, segments),
+        None => Ok(code.push(whole(module, head))?),
     }
+}
+
+/// Appends the segments of a module that are code.
+fn push_segments<'a>(
+    code: &mut Vec<MappedCode<'a>>,
+    module: &'a LoadedModule,
+    head: &'a [u8],
+    base: u64,
+    segments: &[Segment],
+) -> Result<(), AllocError>
+    ensures { OnOk result (map mapped_code_view code.new.items ≡ map mapped_code_view code.old.items
+        ++ flat_map (segment_code head.entry.now (loaded_view «module».entry.now) base) segments.now) }
+{
+    for segment in segments {
+        push_segment(code, module, head, base, *segment)?;
+    }
+    Ok(())
 }
 
 /// Appends a segment of a module, if it is one of code.
@@ -424,71 +468,27 @@ fn push_segment<'a>(
     Ok(())
 }
 
-/// Appends the segments of a module that are code.
-fn push_segments<'a>(
-    code: &mut Vec<MappedCode<'a>>,
-    module: &'a LoadedModule,
-    head: &'a [u8],
-    base: u64,
-    segments: &[Segment],
-) -> Result<(), AllocError>
-    ensures { OnOk result (map mapped_code_view code.new.items ≡ map mapped_code_view code.old.items
-        ++ flat_map (segment_code head.entry.now (loaded_view «module».entry.now) base) segments.now) }
+/// Returns all addresses of a module as mapped code.
+fn whole<'a>(module: &'a LoadedModule, head: &'a [u8]) -> MappedCode<'a>
+    ensures { mapped_code_view result ≡ whole head.entry.now (loaded_view «module».entry.now) }
 {
-    for segment in segments {
-        push_segment(code, module, head, base, *segment)?;
-    }
-    Ok(())
-}
-
-/// Appends the code of a module that has these segments.
-fn push_code<'a>(
-    code: &mut Vec<MappedCode<'a>>,
-    module: &'a LoadedModule,
-    head: &'a [u8],
-    segments: &[Segment],
-) -> Result<(), AllocError>
-    ensures { OnOk result (map mapped_code_view code.new.items ≡ map mapped_code_view code.old.items
-        ++ code_by head.entry.now (loaded_view «module».entry.now) segments.now) }
-{
-    match base_from(segments, module.base) {
-        Some(base) => push_segments(code, module, head, base, segments),
-        None => Ok(code.push(whole(module, head))?),
+    MappedCode {
+        start: module.base,
+        end: module.base.saturating_add(u64::from(module.size)),
+        offset: 0,
+        path: module.name.as_slice(),
+        head,
+        build_id: module.build_id.as_slice(),
+        base: base_by_name(module),
     }
 }
 
-/// Appends the code of a module, by its file or else by its first bytes in memory.
-fn push_module<'a, S: FileSource>(
-    alloc: Global,
-    memory: &ProcessMemory<'a>,
-    source: &S,
-    code: &mut Vec<MappedCode<'a>>,
-    module: &'a LoadedModule,
-) -> Result<(), AllocError>
-    ensures { OnOk result ((first : List MappedCodeView)
-        × IsCodeOf (S.source source.now) (memory_view memory.now) (loaded_view «module».entry.now) first
-        × (map mapped_code_view code.new.items ≡ map mapped_code_view code.old.items ++ first)) }
+/// Returns where the base of a PE file is (AVMA), if the module has a name of Windows: it is the first address.
+fn base_by_name(module: &LoadedModule) -> Option<u64>
+    ensures { result ≡ base_by_name (loaded_view «module».now) }
 {
-    let head = head_at(memory, module.base);
-    let given = file_of(source, module);
-    let headers = headers_of(alloc, module, given, head)?;
-    let segments = loaded_segments(alloc, headers.as_slice())?;
-    push_code(code, module, head, segments.as_slice())
-}
-
-/// Returns the code of modules, by their files or else by their first bytes in memory.
-pub fn code_of<'a, S: FileSource>(
-    alloc: Global,
-    memory: &ProcessMemory<'a>,
-    modules: &'a [LoadedModule],
-    source: &S,
-) -> Result<Vec<MappedCode<'a>>, AllocError>
-    ensures { IfOk result (λ code. AreCodeOf (S.source source.now) (memory_view memory.now)
-        (map loaded_view modules.entry.now) (map mapped_code_view code.items)) }
-{
-    let mut code = Vec::new(alloc);
-    for module in modules {
-        push_module(alloc, memory, source, &mut code, module)?;
+    if is_windows_path(module.name.as_slice()) {
+        return Some(module.base);
     }
-    Ok(code)
+    None
 }

@@ -36,91 +36,6 @@ pub fn read_files<S: FileSource>(
     Ok(files)
 }
 
-/// Returns where the stated address 0 of the file of mapped code is (AVMA), by the program headers in its first
-/// bytes.
-fn base_in_memory(alloc: Global, code: MappedCode<'_>) -> Result<Option<u64>, AllocError>
-    ensures { IfOk result (λ base. base
-        ≡ base_by (loaded_segments_of (segments_in (mapped_code_view code.entry).head)) (mapped_code_view code.entry)) }
-{
-    let headers = segments_in(alloc, code.head)?;
-    let segments = loaded_segments(alloc, headers.as_slice())?;
-    let size = code.end.saturating_sub(code.start);
-    Ok(base_avma(segments.as_slice(), code.offset, size, code.start))
-}
-
-/// Returns where the stated address 0 of the file of mapped code is (AVMA): as it is known, by what was read of
-/// the file, or else by what memory has of it.
-fn base_in(
-    alloc: Global,
-    files: &Files,
-    number: u32,
-    code: MappedCode<'_>,
-) -> Result<Option<u64>, AllocError>
-    ensures { IfOk result (λ base. base ≡ base_in files.now number (mapped_code_view code.entry)) }
-{
-    if let Some(base) = code.base {
-        return Ok(Some(base));
-    }
-    if let Some(object) = files.object(number) {
-        let size = code.end.saturating_sub(code.start);
-        return Ok(object.base(code.offset, size, code.start));
-    }
-    base_in_memory(alloc, code)
-}
-
-/// Returns the mapping of mapped code: with its unwind data where its base is known.
-fn mapping_based(code: MappedCode<'_>, number: u32, base: Option<u64>) -> Mapping
-    ensures { result ≡ mapping_based (mapped_code_view code.entry) number base }
-{
-    match base {
-        Some(base) => Mapping {
-            start: code.start,
-            end: code.end,
-            base_avma: base,
-            file: number,
-            has_sections: true,
-        },
-        None => Mapping {
-            start: code.start,
-            end: code.end,
-            base_avma: code.start.saturating_sub(code.offset),
-            file: number,
-            has_sections: false,
-        },
-    }
-}
-
-/// Returns the mapping of mapped code, if it has an address.
-fn mapping_in(
-    alloc: Global,
-    files: &Files,
-    code: MappedCode<'_>,
-) -> Result<Option<Mapping>, AllocError>
-    ensures { IfOk result (λ mapping. mapping ≡ mapping_in files.now (mapped_code_view code.entry)) }
-{
-    if code.end <= code.start {
-        return Ok(None);
-    }
-    let Some(number) = files.number_of(code.path) else {
-        return Ok(None);
-    };
-    let base = base_in(alloc, files, number, code)?;
-    Ok(Some(mapping_based(code, number, base)))
-}
-
-/// Returns a module with these sections that lies at no address.
-fn module_with(
-    alloc: Global,
-    info: ExplicitModuleSectionInfo<Vec<u8>>,
-) -> Result<Module<Vec<u8>>, AllocError>
-    ensures { IfOk result (λ made. made ≡ module_with (sections_view info)) }
-{
-    match Module::new(alloc, String::new(alloc), 0..0, 0, info) {
-        Ok(made) => Ok(made),
-        Err(_) => Err(AllocError),
-    }
-}
-
 /// Makes the modules of mappings, by the files of a dump and by its memory.
 #[derive(Clone, Copy, Drop)]
 pub struct DumpModules<'a> {
@@ -174,6 +89,19 @@ impl DumpModules<'_> {
     }
 }
 
+/// Returns a module with these sections that lies at no address.
+fn module_with(
+    alloc: Global,
+    info: ExplicitModuleSectionInfo<Vec<u8>>,
+) -> Result<Module<Vec<u8>>, AllocError>
+    ensures { IfOk result (λ made. made ≡ module_with (sections_view info)) }
+{
+    match Module::new(alloc, String::new(alloc), 0..0, 0, info) {
+        Ok(made) => Ok(made),
+        Err(_) => Err(AllocError),
+    }
+}
+
 impl<U: FileUnwinder> ModuleMaker<U> for DumpModules<'_> {
     ghost use Rattle.std.specs.Prelude.{refl};
 
@@ -208,4 +136,76 @@ where
         }
     }
     Ok(process)
+}
+
+/// Returns the mapping of mapped code, if it has an address.
+fn mapping_in(
+    alloc: Global,
+    files: &Files,
+    code: MappedCode<'_>,
+) -> Result<Option<Mapping>, AllocError>
+    ensures { IfOk result (λ mapping. mapping ≡ mapping_in files.now (mapped_code_view code.entry)) }
+{
+    if code.end <= code.start {
+        return Ok(None);
+    }
+    let Some(number) = files.number_of(code.path) else {
+        return Ok(None);
+    };
+    let base = base_in(alloc, files, number, code)?;
+    Ok(Some(mapping_based(code, number, base)))
+}
+
+/// Returns where the stated address 0 of the file of mapped code is (AVMA): as it is known, by what was read of
+/// the file, or else by what memory has of it.
+fn base_in(
+    alloc: Global,
+    files: &Files,
+    number: u32,
+    code: MappedCode<'_>,
+) -> Result<Option<u64>, AllocError>
+    ensures { IfOk result (λ base. base ≡ base_in files.now number (mapped_code_view code.entry)) }
+{
+    if let Some(base) = code.base {
+        return Ok(Some(base));
+    }
+    if let Some(object) = files.object(number) {
+        let size = code.end.saturating_sub(code.start);
+        return Ok(object.base(code.offset, size, code.start));
+    }
+    base_in_memory(alloc, code)
+}
+
+/// Returns where the stated address 0 of the file of mapped code is (AVMA), by the program headers in its first
+/// bytes.
+fn base_in_memory(alloc: Global, code: MappedCode<'_>) -> Result<Option<u64>, AllocError>
+    ensures { IfOk result (λ base. base
+        ≡ base_by (loaded_segments_of (segments_in (mapped_code_view code.entry).head)) (mapped_code_view code.entry)) }
+{
+    let headers = segments_in(alloc, code.head)?;
+    let segments = loaded_segments(alloc, headers.as_slice())?;
+    let size = code.end.saturating_sub(code.start);
+    Ok(base_avma(segments.as_slice(), code.offset, size, code.start))
+}
+
+/// Returns the mapping of mapped code: with its unwind data where its base is known.
+fn mapping_based(code: MappedCode<'_>, number: u32, base: Option<u64>) -> Mapping
+    ensures { result ≡ mapping_based (mapped_code_view code.entry) number base }
+{
+    match base {
+        Some(base) => Mapping {
+            start: code.start,
+            end: code.end,
+            base_avma: base,
+            file: number,
+            has_sections: true,
+        },
+        None => Mapping {
+            start: code.start,
+            end: code.end,
+            base_avma: code.start.saturating_sub(code.offset),
+            file: number,
+            has_sections: false,
+        },
+    }
 }

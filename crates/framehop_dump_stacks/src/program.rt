@@ -32,151 +32,6 @@ use framehop_symbols::object_file::FileProblem;
 use std::alloc::{AllocError, Global};
 use std::io::Write;
 
-/// Returns whether memory has the unwind data of a file, by its first mapping.
-fn is_in_memory(
-    alloc: Global,
-    dump: &Dump<'_>,
-    mappings: &[Mapping],
-    name: &[u8],
-    number: u32,
-) -> Result<bool, AllocError> {
-    for mapping in mappings {
-        if mapping.file == number && mapping.has_sections {
-            let head = head_of(dump, name);
-            let info = sections_in(alloc, &dump.memory, head, mapping.base_avma)?;
-            return Ok(info.eh_frame.is_some());
-        }
-    }
-    Ok(false)
-}
-
-/// Returns what a kind of file is called.
-fn kind_name(kind: Kind) -> &'static str {
-    match kind {
-        Kind::CoreFile => "core file",
-        Kind::Minidump => "minidump",
-    }
-}
-
-/// Writes a line for a file of which nothing was read.
-fn write_problem<E: Write>(
-    err: &mut E,
-    kind: Kind,
-    name: &[u8],
-    problem: FileProblem,
-    in_memory: bool,
-) -> Result<(), DumpStacksError> {
-    let kind = kind_name(kind);
-    err.write_all(name)?;
-    match problem {
-        FileProblem::OtherBuildId => write!(err, ": its build id is not the {kind}'s")?,
-        problem => write!(err, ": {problem}")?,
-    }
-    if in_memory {
-        write!(err, "; its unwind data is the {kind}'s")?;
-    }
-    err.write_all(b"\n")?;
-    Ok(())
-}
-
-/// Writes a line for each file of which nothing was read.
-fn write_problems<E: Write>(
-    alloc: Global,
-    err: &mut E,
-    dump: &Dump<'_>,
-    files: &Files,
-    mappings: &[Mapping],
-) -> Result<(), DumpStacksError> {
-    for number in 0..u32::MAX {
-        let Some(file) = files.get(number) else {
-            return Ok(());
-        };
-        if let Some(problem) = file.problem {
-            let name = file.name.as_slice();
-            let in_memory = is_in_memory(alloc, dump, mappings, name, number)?;
-            let printed = printed_name(alloc, name)?;
-            write_problem(err, dump.kind, printed.as_slice(), problem, in_memory)?;
-        }
-    }
-    Ok(())
-}
-
-/// Returns the text of all threads, with notes where it is to be explained.
-fn shown_text<U: Dumped>(
-    alloc: Global,
-    dump: &Dump<'_>,
-    files: &Files,
-    process: &Process<U>,
-    limit: u32,
-    explain: bool,
-) -> Result<Vec<u8>, AllocError>
-where
-    U::Cache: Drop,
-    ensures { IfOk result (λ shown. IsShown explain
-        (blocks_of U.walker U.begins limit process.now.unwinder.modules (dump_view dump.now) files.now process.now.mappings) shown.items) }
-{
-    let text = threads_text(alloc, dump, files, process, limit)?;
-    if explain {
-        return explained_text(alloc, dump, files, process, limit, text.as_slice());
-    }
-    Ok(text)
-}
-
-/// Writes the stacks of all threads.
-fn write_threads<U: Dumped, M: ModuleMaker<U>, W: Write, E: Write>(
-    alloc: Global,
-    maker: &M,
-    dump: &Dump<'_>,
-    files: &Files,
-    limit: u32,
-    explain: bool,
-    out: &mut W,
-    err: &mut E,
-) -> Result<(), DumpStacksError>
-where
-    U::Cache: Drop,
-    U::Module: Drop,
-    ensures { OnOk result ((shown : List ℕ)
-        × IsShown explain (text_by U.walker U.begins limit (M.module_of maker.now) (dump_view dump.now) files.now) shown
-        × Appends (W.contents out.old) (W.contents out.new) shown) }
-{
-    let process: Process<U> = map_files(alloc, maker, dump, files)?;
-    write_problems(alloc, err, dump, files, process.mappings())?;
-    let text = shown_text(alloc, dump, files, &process, limit, explain)?;
-    out.write_all(text.as_slice())?;
-    Ok(())
-}
-
-/// Writes the stacks of all threads, by the unwinder of their machine.
-fn write_dump<W: Write, E: Write>(
-    alloc: Global,
-    dump: &Dump<'_>,
-    files: &Files,
-    limit: u32,
-    explain: bool,
-    out: &mut W,
-    err: &mut E,
-) -> Result<(), DumpStacksError>
-    ensures { OnOk result ((shown : List ℕ) × IsShown explain (text_of limit (dump_view dump.now) files.now) shown
-        × Appends (W.contents out.old) (W.contents out.new) shown) }
-{
-    let maker = DumpModules { dump, files };
-    match dump.machine {
-        Machine::X86_64 => write_threads::<
-            UnwinderX86_64<Vec<u8>, MayAllocateDuringUnwind>,
-            DumpModules<'_>,
-            W,
-            E,
-        >(alloc, &maker, dump, files, limit, explain, out, err),
-        Machine::Aarch64 => write_threads::<
-            UnwinderAarch64<Vec<u8>, MayAllocateDuringUnwind>,
-            DumpModules<'_>,
-            W,
-            E,
-        >(alloc, &maker, dump, files, limit, explain, out, err),
-    }
-}
-
 /// Writes the stacks of the threads of a core file to `out`, and to `err` which files were not read. Where they are to be
 /// explained, a note under each frame says what its caller came from.
 ///
@@ -234,4 +89,149 @@ pub fn write_minidump_stacks<S: FileSource, W: Write, E: Write>(
     let files = read_files(alloc, &dump, source)?;
     write_dump(alloc, &dump, &files, limit, explain, out, err)?;
     Ok(())
+}
+
+/// Writes the stacks of all threads, by the unwinder of their machine.
+fn write_dump<W: Write, E: Write>(
+    alloc: Global,
+    dump: &Dump<'_>,
+    files: &Files,
+    limit: u32,
+    explain: bool,
+    out: &mut W,
+    err: &mut E,
+) -> Result<(), DumpStacksError>
+    ensures { OnOk result ((shown : List ℕ) × IsShown explain (text_of limit (dump_view dump.now) files.now) shown
+        × Appends (W.contents out.old) (W.contents out.new) shown) }
+{
+    let maker = DumpModules { dump, files };
+    match dump.machine {
+        Machine::X86_64 => write_threads::<
+            UnwinderX86_64<Vec<u8>, MayAllocateDuringUnwind>,
+            DumpModules<'_>,
+            W,
+            E,
+        >(alloc, &maker, dump, files, limit, explain, out, err),
+        Machine::Aarch64 => write_threads::<
+            UnwinderAarch64<Vec<u8>, MayAllocateDuringUnwind>,
+            DumpModules<'_>,
+            W,
+            E,
+        >(alloc, &maker, dump, files, limit, explain, out, err),
+    }
+}
+
+/// Writes the stacks of all threads.
+fn write_threads<U: Dumped, M: ModuleMaker<U>, W: Write, E: Write>(
+    alloc: Global,
+    maker: &M,
+    dump: &Dump<'_>,
+    files: &Files,
+    limit: u32,
+    explain: bool,
+    out: &mut W,
+    err: &mut E,
+) -> Result<(), DumpStacksError>
+where
+    U::Cache: Drop,
+    U::Module: Drop,
+    ensures { OnOk result ((shown : List ℕ)
+        × IsShown explain (text_by U.walker U.begins limit (M.module_of maker.now) (dump_view dump.now) files.now) shown
+        × Appends (W.contents out.old) (W.contents out.new) shown) }
+{
+    let process: Process<U> = map_files(alloc, maker, dump, files)?;
+    write_problems(alloc, err, dump, files, process.mappings())?;
+    let text = shown_text(alloc, dump, files, &process, limit, explain)?;
+    out.write_all(text.as_slice())?;
+    Ok(())
+}
+
+/// Writes a line for each file of which nothing was read.
+fn write_problems<E: Write>(
+    alloc: Global,
+    err: &mut E,
+    dump: &Dump<'_>,
+    files: &Files,
+    mappings: &[Mapping],
+) -> Result<(), DumpStacksError> {
+    for number in 0..u32::MAX {
+        let Some(file) = files.get(number) else {
+            return Ok(());
+        };
+        if let Some(problem) = file.problem {
+            let name = file.name.as_slice();
+            let in_memory = is_in_memory(alloc, dump, mappings, name, number)?;
+            let printed = printed_name(alloc, name)?;
+            write_problem(err, dump.kind, printed.as_slice(), problem, in_memory)?;
+        }
+    }
+    Ok(())
+}
+
+/// Returns whether memory has the unwind data of a file, by its first mapping.
+fn is_in_memory(
+    alloc: Global,
+    dump: &Dump<'_>,
+    mappings: &[Mapping],
+    name: &[u8],
+    number: u32,
+) -> Result<bool, AllocError> {
+    for mapping in mappings {
+        if mapping.file == number && mapping.has_sections {
+            let head = head_of(dump, name);
+            let info = sections_in(alloc, &dump.memory, head, mapping.base_avma)?;
+            return Ok(info.eh_frame.is_some());
+        }
+    }
+    Ok(false)
+}
+
+/// Writes a line for a file of which nothing was read.
+fn write_problem<E: Write>(
+    err: &mut E,
+    kind: Kind,
+    name: &[u8],
+    problem: FileProblem,
+    in_memory: bool,
+) -> Result<(), DumpStacksError> {
+    let kind = kind_name(kind);
+    err.write_all(name)?;
+    match problem {
+        FileProblem::OtherBuildId => write!(err, ": its build id is not the {kind}'s")?,
+        problem => write!(err, ": {problem}")?,
+    }
+    if in_memory {
+        write!(err, "; its unwind data is the {kind}'s")?;
+    }
+    err.write_all(b"\n")?;
+    Ok(())
+}
+
+/// Returns what a kind of file is called.
+fn kind_name(kind: Kind) -> &'static str {
+    match kind {
+        Kind::CoreFile => "core file",
+        Kind::Minidump => "minidump",
+    }
+}
+
+/// Returns the text of all threads, with notes where it is to be explained.
+fn shown_text<U: Dumped>(
+    alloc: Global,
+    dump: &Dump<'_>,
+    files: &Files,
+    process: &Process<U>,
+    limit: u32,
+    explain: bool,
+) -> Result<Vec<u8>, AllocError>
+where
+    U::Cache: Drop,
+    ensures { IfOk result (λ shown. IsShown explain
+        (blocks_of U.walker U.begins limit process.now.unwinder.modules (dump_view dump.now) files.now process.now.mappings) shown.items) }
+{
+    let text = threads_text(alloc, dump, files, process, limit)?;
+    if explain {
+        return explained_text(alloc, dump, files, process, limit, text.as_slice());
+    }
+    Ok(text)
 }

@@ -18,87 +18,35 @@ use framehop_processes::Process;
 use framehop_symbols::files::Files;
 use std::alloc::{AllocError, Global};
 
-/// Appends the name of the program.
-fn push_program(text: &mut Vec<u8>, name: Option<&[u8]>) -> Result<(), AllocError>
-    ensures { OnOk result (text.new.items ≡ text.old.items ++ name_text (option_map (λ name. name.now) name.entry)) }
-{
-    match name {
-        Some(name) => push_name(text, name),
-        None => Ok(text.extend_from_slice(b"[unknown]")?),
-    }
-}
-
-/// Returns the numbers of the process and of the thread.
-fn numbers_text(alloc: Global, pid: Option<u32>, tid: u32) -> Result<String, AllocError>
-    ensures { IfOk result (λ text. string_bytes text ≡ numbers_text pid tid) }
-{
-    match pid {
-        Some(pid) => Ok(format!(in alloc; " {pid}/{tid}")?),
-        None => Ok(format!(in alloc; " {tid}")?),
-    }
-}
-
-/// Returns how the head of a block ends: with the signal or the exception of the thread, if it got one.
-fn cause_text(alloc: Global, cause: Option<Cause>) -> Result<String, AllocError>
-    ensures { IfOk result (λ text. string_bytes text ≡ cause_text cause) }
-{
-    match cause {
-        None => Ok(format!(in alloc; ":\n")?),
-        Some(Cause::Signal(signal)) => Ok(format!(in alloc; " signal {signal}:\n")?),
-        Some(Cause::Exception(code)) => Ok(format!(in alloc; " exception 0x{code:x}:\n")?),
-    }
-}
-
-/// Returns the head of a thread's block.
-#[tactic(auto, unfolding(crate::specs::Text::thread_head))]
-fn thread_head(
-    alloc: Global,
-    name: Option<&[u8]>,
-    pid: Option<u32>,
-    thread: Thread<'_>,
-) -> Result<Vec<u8>, AllocError>
-    ensures { IfOk result (λ head. head.items ≡ thread_head (option_map (λ name. name.now) name.entry) pid (thread_view thread.entry)) }
-{
-    let mut head = Vec::new(alloc);
-    push_program(&mut head, name)?;
-    let numbers = numbers_text(alloc, pid, thread.tid)?;
-    head.extend_from_slice(numbers.as_bytes())?;
-    let cause = cause_text(alloc, thread.cause)?;
-    head.extend_from_slice(cause.as_bytes())?;
-    Ok(head)
-}
-
-/// Returns the lines of a thread's frames and of the end of its walk.
-fn thread_lines<U: Dumped>(
+/// Returns the text of all threads, in their order.
+pub fn threads_text<U: Dumped>(
     alloc: Global,
     dump: &Dump<'_>,
     files: &Files,
     process: &Process<U>,
-    unwind_context: &mut UnwindContext<StoreOnHeap>,
-    cache: &mut U::Cache,
-    thread: Thread<'_>,
     limit: u32,
 ) -> Result<Vec<u8>, AllocError>
-    ensures stays_sound { (other : UnwinderView) → AreApart process.now.unwinder other
-        → U.is_sound other cache.old → U.is_sound other cache.new }
-    ensures told { U.is_sound process.now.unwinder cache.old → IfOk result (λ block. (head : List ℕ) →
-        head ++ block.items ≡ stack_text true false files.now [] head process.now.mappings
-        (thread_stack U.walker U.begins limit files.now process.now.mappings process.now.unwinder.modules (dump_view dump.now) (thread_view thread.entry))) }
+where
+    U::Cache: Drop,
+    ensures { IfOk result (λ text. text.items ≡ blocks_of U.walker U.begins limit process.now.unwinder.modules (dump_view dump.now) files.now process.now.mappings) }
 {
-    let walked = walk_thread(
-        alloc,
-        dump,
-        files,
-        process,
-        unwind_context,
-        cache,
-        thread,
-        limit,
-    )?;
-    match walked {
-        Some(stack) => frames_block(alloc, files, process.mappings(), &stack),
-        None => refused_block(alloc, "no-registers"),
+    let mut unwind_context = UnwindContext::new_in(alloc)?;
+    let mut cache = U::new_cache(alloc)?;
+    let mut text = Vec::new(alloc);
+    for thread in &dump.threads {
+        push_thread(
+            alloc,
+            &mut text,
+            dump,
+            files,
+            process,
+            &mut unwind_context,
+            &mut cache,
+            *thread,
+            limit,
+        )?;
     }
+    Ok(text)
 }
 
 /// Appends the block of a thread.
@@ -135,33 +83,85 @@ fn push_thread<U: Dumped>(
     Ok(())
 }
 
-/// Returns the text of all threads, in their order.
-pub fn threads_text<U: Dumped>(
+/// Returns the head of a thread's block.
+#[tactic(auto, unfolding(crate::specs::Text::thread_head))]
+fn thread_head(
+    alloc: Global,
+    name: Option<&[u8]>,
+    pid: Option<u32>,
+    thread: Thread<'_>,
+) -> Result<Vec<u8>, AllocError>
+    ensures { IfOk result (λ head. head.items ≡ thread_head (option_map (λ name. name.now) name.entry) pid (thread_view thread.entry)) }
+{
+    let mut head = Vec::new(alloc);
+    push_program(&mut head, name)?;
+    let numbers = numbers_text(alloc, pid, thread.tid)?;
+    head.extend_from_slice(numbers.as_bytes())?;
+    let cause = cause_text(alloc, thread.cause)?;
+    head.extend_from_slice(cause.as_bytes())?;
+    Ok(head)
+}
+
+/// Appends the name of the program.
+fn push_program(text: &mut Vec<u8>, name: Option<&[u8]>) -> Result<(), AllocError>
+    ensures { OnOk result (text.new.items ≡ text.old.items ++ name_text (option_map (λ name. name.now) name.entry)) }
+{
+    match name {
+        Some(name) => push_name(text, name),
+        None => Ok(text.extend_from_slice(b"[unknown]")?),
+    }
+}
+
+/// Returns the numbers of the process and of the thread.
+fn numbers_text(alloc: Global, pid: Option<u32>, tid: u32) -> Result<String, AllocError>
+    ensures { IfOk result (λ text. string_bytes text ≡ numbers_text pid tid) }
+{
+    match pid {
+        Some(pid) => Ok(format!(in alloc; " {pid}/{tid}")?),
+        None => Ok(format!(in alloc; " {tid}")?),
+    }
+}
+
+/// Returns how the head of a block ends: with the signal or the exception of the thread, if it got one.
+fn cause_text(alloc: Global, cause: Option<Cause>) -> Result<String, AllocError>
+    ensures { IfOk result (λ text. string_bytes text ≡ cause_text cause) }
+{
+    match cause {
+        None => Ok(format!(in alloc; ":\n")?),
+        Some(Cause::Signal(signal)) => Ok(format!(in alloc; " signal {signal}:\n")?),
+        Some(Cause::Exception(code)) => Ok(format!(in alloc; " exception 0x{code:x}:\n")?),
+    }
+}
+
+/// Returns the lines of a thread's frames and of the end of its walk.
+fn thread_lines<U: Dumped>(
     alloc: Global,
     dump: &Dump<'_>,
     files: &Files,
     process: &Process<U>,
+    unwind_context: &mut UnwindContext<StoreOnHeap>,
+    cache: &mut U::Cache,
+    thread: Thread<'_>,
     limit: u32,
 ) -> Result<Vec<u8>, AllocError>
-where
-    U::Cache: Drop,
-    ensures { IfOk result (λ text. text.items ≡ blocks_of U.walker U.begins limit process.now.unwinder.modules (dump_view dump.now) files.now process.now.mappings) }
+    ensures stays_sound { (other : UnwinderView) → AreApart process.now.unwinder other
+        → U.is_sound other cache.old → U.is_sound other cache.new }
+    ensures told { U.is_sound process.now.unwinder cache.old → IfOk result (λ block. (head : List ℕ) →
+        head ++ block.items ≡ stack_text true false files.now [] head process.now.mappings
+        (thread_stack U.walker U.begins limit files.now process.now.mappings process.now.unwinder.modules (dump_view dump.now) (thread_view thread.entry))) }
 {
-    let mut unwind_context = UnwindContext::new_in(alloc)?;
-    let mut cache = U::new_cache(alloc)?;
-    let mut text = Vec::new(alloc);
-    for thread in &dump.threads {
-        push_thread(
-            alloc,
-            &mut text,
-            dump,
-            files,
-            process,
-            &mut unwind_context,
-            &mut cache,
-            *thread,
-            limit,
-        )?;
+    let walked = walk_thread(
+        alloc,
+        dump,
+        files,
+        process,
+        unwind_context,
+        cache,
+        thread,
+        limit,
+    )?;
+    match walked {
+        Some(stack) => frames_block(alloc, files, process.mappings(), &stack),
+        None => refused_block(alloc, "no-registers"),
     }
-    Ok(text)
 }

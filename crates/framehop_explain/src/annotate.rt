@@ -7,26 +7,6 @@ ghost use Rattle.framehop_explain.specs.Annotated.{first_line as line_of, after_
 use crate::note::Note;
 use std::alloc::{AllocError, Global};
 
-/// Returns where the first line feed of a text is.
-fn first_feed(text: &[u8]) -> Option<usize>
-    ensures exact { result ≡ position (λ byte. byte == 10) text.now }
-    ensures within { IfSome result (λ feed. feed < length text.now) }
-{
-    text.iter().position(|byte| *byte == b'\n')
-}
-
-/// Returns the first line of a text, with its line feed, and what comes after it.
-#[tactic(auto, unfolding(crate::specs::Annotated::first_line, crate::specs::Annotated::after_first_line))]
-fn first_line(text: &[u8]) -> (&[u8], &[u8])
-    ensures line { result.0.now ≡ line_of text.entry.now }
-    ensures rest { result.1.now ≡ after_first_line text.entry.now }
-{
-    match first_feed(text) {
-        Some(feed) => text.split_at(feed + 1),
-        None => (text, &[]),
-    }
-}
-
 /// Returns a text with a note after each line, as far as there are notes.
 pub fn annotated(alloc: Global, text: &[u8], notes: &[Note]) -> Result<Vec<u8>, AllocError>
     ensures annotated { IfOk result (λ out. out.items ≡ annotated text.now notes.now) }
@@ -42,4 +22,24 @@ pub fn annotated(alloc: Global, text: &[u8], notes: &[Note]) -> Result<Vec<u8>, 
     }
     out.extend_from_slice(rest)?;
     Ok(out)
+}
+
+/// Returns the first line of a text, with its line feed, and what comes after it.
+#[tactic(auto, unfolding(crate::specs::Annotated::first_line, crate::specs::Annotated::after_first_line))]
+fn first_line(text: &[u8]) -> (&[u8], &[u8])
+    ensures line { result.0.now ≡ line_of text.entry.now }
+    ensures rest { result.1.now ≡ after_first_line text.entry.now }
+{
+    match first_feed(text) {
+        Some(feed) => text.split_at(feed + 1),
+        None => (text, &[]),
+    }
+}
+
+/// Returns where the first line feed of a text is.
+fn first_feed(text: &[u8]) -> Option<usize>
+    ensures exact { result ≡ position (λ byte. byte == 10) text.now }
+    ensures within { IfSome result (λ feed. feed < length text.now) }
+{
+    text.iter().position(|byte| *byte == b'\n')
 }

@@ -21,22 +21,72 @@ use framehop_macho::macho::{CuiUnwindResult, TextBytes, code_of_function, find_f
 use framehop_macho::unwind_info::info::Function;
 use std::alloc::{AllocError, Global};
 
-/// Returns the place at an offset of a function's code, in bytes, in a first frame.
-fn place_by_code<A: Sources>(function: Function, code: &[u8], offset: usize) -> CompactSource
-    requires { offset ≤ length code.now }
-    ensures { IsPlaceByCode (record { by_code = A.by_code; prologue = A.prologue_rule; epilogue = A.epilogue_rule })
-        function code.now offset (A.by_code function code.now offset) result }
+/// Explains a frame by compact unwind info.
+///
+/// # Errors
+///
+/// An allocation failed.
+pub fn explain_by_info<D: SectionBytes, A: Sources, P: AllocationPolicy, F>(
+    info: &CompactInfo<D>,
+    alloc: Global,
+    unwind_context: &mut UnwindContext<P::GimliUnwindContextStorage>,
+    lookup: Lookup,
+    regs: A::UnwindRegs,
+    read_stack: &mut F,
+) -> Result<(Source, Told<A::UnwindRule>), AllocError>
+where
+    F: FnMut(u64) -> Result<u64, ()>,
+    requires { F.IsAlwaysCallable read_stack.old }
+    ensures callable { F.IsAlwaysCallable read_stack.new }
+    ensures source { IfOk result (λ found. IsCompactSource
+        (record { by_code = A.by_code; prologue = A.prologue_rule; epilogue = A.epilogue_rule })
+        A.readers.compact P.GimliUnwindContextStorage.limits info.now lookup.relative_address lookup.is_first_frame found.0) }
+    ensures answers { Answering F.FnMut read_stack.old read_stack.new (λ memory.
+        IfOk result (λ found. found.1 ≡ compact_told A.translated A.uncovered
+        (λ bytes row. A.direct bytes P.GimliEvaluationStorage.Stack.limit memory row lookup.is_first_frame regs)
+        P.GimliUnwindContextStorage.limits info.now.frames lookup.relative_address
+        (unwound A.readers.compact info.now.info lookup.relative_address lookup.is_first_frame))) }
 {
-    if !A::is_analysed(function.opcode) {
-        return CompactSource::Opcode(function);
+    let place = place_of::<D, A>(info, lookup.relative_address, lookup.is_first_frame);
+    match info.rule_or_fde_offset::<A>(lookup) {
+        Ok(CuiUnwindResult::ExecRule(rule)) => Ok((Source::Compact(place), Told::Rule(rule))),
+        Ok(CuiUnwindResult::NeedDwarf(fde_offset)) => explain_by_eh_frame::<D, A, P, F>(
+            info,
+            place,
+            fde_offset,
+            alloc,
+            unwind_context,
+            lookup,
+            regs,
+            read_stack,
+        ),
+        Err(error) => Ok((
+            Source::Compact(place),
+            Told::Refused(UnwinderError::CompactUnwindInfo(error)),
+        )),
     }
-    if A::rule_from_prologue_analysis(code, offset).is_some() {
-        return CompactSource::Prologue(function);
+}
+
+/// Returns where compact unwind info tells how to unwind from a relative address.
+fn place_of<D: SectionBytes, A: Sources>(
+    info: &CompactInfo<D>,
+    address: u32,
+    is_first_frame: bool,
+) -> CompactSource
+    ensures { IsPlace (record { by_code = A.by_code; prologue = A.prologue_rule; epilogue = A.epilogue_rule })
+        info.now.info address is_first_frame result }
+{
+    if is_in(info.stubs, address) {
+        return CompactSource::Stub;
     }
-    if A::rule_from_epilogue_analysis(code, offset).is_some() {
-        return CompactSource::Epilogue(function);
+    if is_in(info.stub_helper, address) {
+        return CompactSource::StubHelper;
     }
-    CompactSource::Opcode(function)
+    match find_function(info.unwind_info.bytes(), address) {
+        Ok(Some(function)) => place_in_function::<D, A>(info, function, address, is_first_frame),
+        Ok(None) => CompactSource::Outside,
+        Err(error) => CompactSource::Unread(error),
+    }
 }
 
 /// Returns the place in a function of an address in it (relative).
@@ -68,40 +118,22 @@ fn place_in_function<D: SectionBytes, A: Sources>(
     }
 }
 
-/// Returns where compact unwind info tells how to unwind from a relative address.
-fn place_of<D: SectionBytes, A: Sources>(
-    info: &CompactInfo<D>,
-    address: u32,
-    is_first_frame: bool,
-) -> CompactSource
-    ensures { IsPlace (record { by_code = A.by_code; prologue = A.prologue_rule; epilogue = A.epilogue_rule })
-        info.now.info address is_first_frame result }
+/// Returns the place at an offset of a function's code, in bytes, in a first frame.
+fn place_by_code<A: Sources>(function: Function, code: &[u8], offset: usize) -> CompactSource
+    requires { offset ≤ length code.now }
+    ensures { IsPlaceByCode (record { by_code = A.by_code; prologue = A.prologue_rule; epilogue = A.epilogue_rule })
+        function code.now offset (A.by_code function code.now offset) result }
 {
-    if is_in(info.stubs, address) {
-        return CompactSource::Stub;
+    if !A::is_analysed(function.opcode) {
+        return CompactSource::Opcode(function);
     }
-    if is_in(info.stub_helper, address) {
-        return CompactSource::StubHelper;
+    if A::rule_from_prologue_analysis(code, offset).is_some() {
+        return CompactSource::Prologue(function);
     }
-    match find_function(info.unwind_info.bytes(), address) {
-        Ok(Some(function)) => place_in_function::<D, A>(info, function, address, is_first_frame),
-        Ok(None) => CompactSource::Outside,
-        Err(error) => CompactSource::Unread(error),
+    if A::rule_from_epilogue_analysis(code, offset).is_some() {
+        return CompactSource::Epilogue(function);
     }
-}
-
-/// Returns the source of a frame by the FDE that the opcode of a function names.
-fn named_fde(place: CompactSource, offset: u32, row: RowSource) -> Source
-    ensures { result ≡ named_fde offset row place }
-{
-    match place {
-        CompactSource::Opcode(function) => Source::CompactFde {
-            function,
-            offset,
-            row,
-        },
-        _ => Source::Compact(place),
-    }
+    CompactSource::Opcode(function)
 }
 
 /// Explains a frame by the FDE at an offset of `__eh_frame`, if there is one.
@@ -151,48 +183,16 @@ where
     Ok((named_fde(place, fde_offset, row), told))
 }
 
-/// Explains a frame by compact unwind info.
-///
-/// # Errors
-///
-/// An allocation failed.
-pub fn explain_by_info<D: SectionBytes, A: Sources, P: AllocationPolicy, F>(
-    info: &CompactInfo<D>,
-    alloc: Global,
-    unwind_context: &mut UnwindContext<P::GimliUnwindContextStorage>,
-    lookup: Lookup,
-    regs: A::UnwindRegs,
-    read_stack: &mut F,
-) -> Result<(Source, Told<A::UnwindRule>), AllocError>
-where
-    F: FnMut(u64) -> Result<u64, ()>,
-    requires { F.IsAlwaysCallable read_stack.old }
-    ensures callable { F.IsAlwaysCallable read_stack.new }
-    ensures source { IfOk result (λ found. IsCompactSource
-        (record { by_code = A.by_code; prologue = A.prologue_rule; epilogue = A.epilogue_rule })
-        A.readers.compact P.GimliUnwindContextStorage.limits info.now lookup.relative_address lookup.is_first_frame found.0) }
-    ensures answers { Answering F.FnMut read_stack.old read_stack.new (λ memory.
-        IfOk result (λ found. found.1 ≡ compact_told A.translated A.uncovered
-        (λ bytes row. A.direct bytes P.GimliEvaluationStorage.Stack.limit memory row lookup.is_first_frame regs)
-        P.GimliUnwindContextStorage.limits info.now.frames lookup.relative_address
-        (unwound A.readers.compact info.now.info lookup.relative_address lookup.is_first_frame))) }
+/// Returns the source of a frame by the FDE that the opcode of a function names.
+fn named_fde(place: CompactSource, offset: u32, row: RowSource) -> Source
+    ensures { result ≡ named_fde offset row place }
 {
-    let place = place_of::<D, A>(info, lookup.relative_address, lookup.is_first_frame);
-    match info.rule_or_fde_offset::<A>(lookup) {
-        Ok(CuiUnwindResult::ExecRule(rule)) => Ok((Source::Compact(place), Told::Rule(rule))),
-        Ok(CuiUnwindResult::NeedDwarf(fde_offset)) => explain_by_eh_frame::<D, A, P, F>(
-            info,
-            place,
-            fde_offset,
-            alloc,
-            unwind_context,
-            lookup,
-            regs,
-            read_stack,
-        ),
-        Err(error) => Ok((
-            Source::Compact(place),
-            Told::Refused(UnwinderError::CompactUnwindInfo(error)),
-        )),
+    match place {
+        CompactSource::Opcode(function) => Source::CompactFde {
+            function,
+            offset,
+            row,
+        },
+        _ => Source::Compact(place),
     }
 }

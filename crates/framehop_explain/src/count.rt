@@ -93,18 +93,6 @@ fn count_pages(unwind_info: &[u8]) -> UnwindDataCount
     }
 }
 
-/// Writes how many things of a name there are.
-#[tactic(auto, unfolding(crate::specs::DataText::counted_text))]
-fn write_counted<W: fmt::Write>(count: usize, name: &str, f: &mut fmt::Formatter<W>) -> fmt::Result
-    ensures { WritesOnOk W.write_str_gives f.old result (counted_text name.now count) f.new }
-{
-    if count == 1 {
-        write!(f, "{count} {name}")
-    } else {
-        write!(f, "{count} {name}s")
-    }
-}
-
 impl fmt::Display for UnwindDataCount {
     ghost output = { λ count. Some (count_text count) };
 
@@ -125,5 +113,17 @@ impl fmt::Display for UnwindDataCount {
                 write!(f, "whose index can't be read ({reason})")
             }
         }
+    }
+}
+
+/// Writes how many things of a name there are.
+#[tactic(auto, unfolding(crate::specs::DataText::counted_text))]
+fn write_counted<W: fmt::Write>(count: usize, name: &str, f: &mut fmt::Formatter<W>) -> fmt::Result
+    ensures { WritesOnOk W.write_str_gives f.old result (counted_text name.now count) f.new }
+{
+    if count == 1 {
+        write!(f, "{count} {name}")
+    } else {
+        write!(f, "{count} {name}s")
     }
 }

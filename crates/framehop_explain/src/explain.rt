@@ -43,123 +43,6 @@ pub struct Explanation<'a, D: SectionBytes, A: Arch> {
     pub regs: A::UnwindRegs,
 }
 
-/// Returns whether an allocation failed.
-fn is_out_of_memory(outcome: &Result<Option<u64>, Error>) -> bool
-    ensures { MatchBool result (outcome.now ≡ Err Error.OutOfMemory) (outcome.now ≢ Err Error.OutOfMemory) }
-{
-    match outcome {
-        Err(Error::OutOfMemory) => true,
-        _ => false,
-    }
-}
-
-/// Explains a frame by the unwind data of the module that covers it.
-pub fn explain_module<D: SectionBytes + Drop, A: Sources, P: AllocationPolicy, F>(
-    module: &Module<D>,
-    alloc: Global,
-    unwind_context: &mut UnwindContext<P::GimliUnwindContextStorage>,
-    lookup: Lookup,
-    regs: A::UnwindRegs,
-    read_stack: &mut F,
-) -> Result<(Source, Told<A::UnwindRule>), AllocError>
-where
-    F: FnMut(u64) -> Result<u64, ()>,
-    requires { F.IsAlwaysCallable read_stack.old }
-    ensures callable { F.IsAlwaysCallable read_stack.new }
-    ensures source { IfOk result (λ found.
-        IsSource (record {
-          pe = A.pe_source;
-          code = record { by_code = A.by_code; prologue = A.prologue_rule; epilogue = A.epilogue_rule };
-          compact = A.readers.compact;
-        }) P.GimliUnwindContextStorage.limits module.now.unwind_data lookup.relative_address lookup.is_first_frame found.0) }
-    ensures answers { Answering F.FnMut read_stack.old read_stack.new (λ memory.
-        IfOk result (λ found. IsTold (record {
-          translated = A.translated;
-          uncovered = A.uncovered;
-          direct = λ bytes row. A.direct bytes P.GimliEvaluationStorage.Stack.limit memory row lookup.is_first_frame regs;
-          found = A.found;
-          computed = λ sections relative first. A.computed sections relative first memory regs;
-          compact = A.readers.compact;
-        }) P.GimliUnwindContextStorage.limits module.now.unwind_data lookup.relative_address lookup.is_first_frame found.1)) }
-{
-    match module.unwind_data() {
-        ModuleUnwindDataInternal::None(refusal) => Ok((
-            Source::NoUnwindData(*refusal),
-            Told::Refused(UnwinderError::NoModuleUnwindData),
-        )),
-        ModuleUnwindDataInternal::DwarfCfiIndexAndFrames(frames) => {
-            explain_by_index::<D, A, P, F>(frames, alloc, unwind_context, lookup, regs, read_stack)
-        }
-        ModuleUnwindDataInternal::EhFrameHdrAndEhFrame(frames) => {
-            explain_by_header::<D, A, P, F>(frames, alloc, unwind_context, lookup, regs, read_stack)
-        }
-        ModuleUnwindDataInternal::PeUnwindInfo(info) => {
-            let sections = info.sections();
-            let source = A::pe_source(sections, lookup.relative_address, lookup.is_first_frame);
-            let told = told_by_sections::<D, A, F>(sections, lookup, regs, read_stack);
-            Ok((Source::Pe(source), told))
-        }
-        ModuleUnwindDataInternal::CompactUnwindInfoAndEhFrame(info) => {
-            explain_by_info::<D, A, P, F>(info, alloc, unwind_context, lookup, regs, read_stack)
-        }
-    }
-}
-
-/// Explains a frame by the module that covers a lookup address (AVMA), if there is one.
-fn explain_address<'a, D: SectionBytes + Drop, A: Sources, P: AllocationPolicy, F>(
-    unwinder: &'a UnwinderInternal<D, A, P>,
-    alloc: Global,
-    unwind_context: &mut UnwindContext<P::GimliUnwindContextStorage>,
-    address: u64,
-    is_first_frame: bool,
-    regs: A::UnwindRegs,
-    read_stack: &mut F,
-) -> Result<Option<Finding<'a, D, A::UnwindRule>>, AllocError>
-where
-    F: FnMut(u64) -> Result<u64, ()>,
-    requires { F.IsAlwaysCallable read_stack.old }
-    ensures callable { F.IsAlwaysCallable read_stack.new }
-    ensures finding { IfOk result (λ finding. MatchOption finding
-        (covering unwinder.entry.now.modules address ≡ None)
-        (λ found. (covering unwinder.entry.now.modules address ≡ Some found.«module».now)
-        × (found.relative_address ≡ address - found.«module».now.base_avma)
-        × IsSource (record {
-          pe = A.pe_source;
-          code = record { by_code = A.by_code; prologue = A.prologue_rule; epilogue = A.epilogue_rule };
-          compact = A.readers.compact;
-        }) P.GimliUnwindContextStorage.limits found.«module».now.unwind_data found.relative_address is_first_frame found.source)) }
-    ensures answers { Answering F.FnMut read_stack.old read_stack.new (λ memory.
-        IfOk result (λ finding. IfSome finding (λ found. IsTold (record {
-          translated = A.translated;
-          uncovered = A.uncovered;
-          direct = λ bytes row. A.direct bytes P.GimliEvaluationStorage.Stack.limit memory row is_first_frame regs;
-          found = A.found;
-          computed = λ sections relative first. A.computed sections relative first memory regs;
-          compact = A.readers.compact;
-        }) P.GimliUnwindContextStorage.limits found.«module».now.unwind_data found.relative_address is_first_frame found.told))) }
-{
-    let Some((module, relative_address)) = unwinder.find_module_for_address(address) else {
-        return Ok(None);
-    };
-    let (source, told) = explain_module::<D, A, P, F>(
-        module,
-        alloc,
-        unwind_context,
-        Lookup {
-            relative_address,
-            is_first_frame,
-        },
-        regs,
-        read_stack,
-    )?;
-    Ok(Some(Finding {
-        module,
-        relative_address,
-        source,
-        told,
-    }))
-}
-
 /// Explains a frame: where its rule comes from, and what unwinding it with an empty cache returns.
 ///
 /// # Errors
@@ -222,4 +105,121 @@ where
         outcome,
         regs: caller,
     })
+}
+
+/// Explains a frame by the module that covers a lookup address (AVMA), if there is one.
+fn explain_address<'a, D: SectionBytes + Drop, A: Sources, P: AllocationPolicy, F>(
+    unwinder: &'a UnwinderInternal<D, A, P>,
+    alloc: Global,
+    unwind_context: &mut UnwindContext<P::GimliUnwindContextStorage>,
+    address: u64,
+    is_first_frame: bool,
+    regs: A::UnwindRegs,
+    read_stack: &mut F,
+) -> Result<Option<Finding<'a, D, A::UnwindRule>>, AllocError>
+where
+    F: FnMut(u64) -> Result<u64, ()>,
+    requires { F.IsAlwaysCallable read_stack.old }
+    ensures callable { F.IsAlwaysCallable read_stack.new }
+    ensures finding { IfOk result (λ finding. MatchOption finding
+        (covering unwinder.entry.now.modules address ≡ None)
+        (λ found. (covering unwinder.entry.now.modules address ≡ Some found.«module».now)
+        × (found.relative_address ≡ address - found.«module».now.base_avma)
+        × IsSource (record {
+          pe = A.pe_source;
+          code = record { by_code = A.by_code; prologue = A.prologue_rule; epilogue = A.epilogue_rule };
+          compact = A.readers.compact;
+        }) P.GimliUnwindContextStorage.limits found.«module».now.unwind_data found.relative_address is_first_frame found.source)) }
+    ensures answers { Answering F.FnMut read_stack.old read_stack.new (λ memory.
+        IfOk result (λ finding. IfSome finding (λ found. IsTold (record {
+          translated = A.translated;
+          uncovered = A.uncovered;
+          direct = λ bytes row. A.direct bytes P.GimliEvaluationStorage.Stack.limit memory row is_first_frame regs;
+          found = A.found;
+          computed = λ sections relative first. A.computed sections relative first memory regs;
+          compact = A.readers.compact;
+        }) P.GimliUnwindContextStorage.limits found.«module».now.unwind_data found.relative_address is_first_frame found.told))) }
+{
+    let Some((module, relative_address)) = unwinder.find_module_for_address(address) else {
+        return Ok(None);
+    };
+    let (source, told) = explain_module::<D, A, P, F>(
+        module,
+        alloc,
+        unwind_context,
+        Lookup {
+            relative_address,
+            is_first_frame,
+        },
+        regs,
+        read_stack,
+    )?;
+    Ok(Some(Finding {
+        module,
+        relative_address,
+        source,
+        told,
+    }))
+}
+
+/// Explains a frame by the unwind data of the module that covers it.
+pub fn explain_module<D: SectionBytes + Drop, A: Sources, P: AllocationPolicy, F>(
+    module: &Module<D>,
+    alloc: Global,
+    unwind_context: &mut UnwindContext<P::GimliUnwindContextStorage>,
+    lookup: Lookup,
+    regs: A::UnwindRegs,
+    read_stack: &mut F,
+) -> Result<(Source, Told<A::UnwindRule>), AllocError>
+where
+    F: FnMut(u64) -> Result<u64, ()>,
+    requires { F.IsAlwaysCallable read_stack.old }
+    ensures callable { F.IsAlwaysCallable read_stack.new }
+    ensures source { IfOk result (λ found.
+        IsSource (record {
+          pe = A.pe_source;
+          code = record { by_code = A.by_code; prologue = A.prologue_rule; epilogue = A.epilogue_rule };
+          compact = A.readers.compact;
+        }) P.GimliUnwindContextStorage.limits module.now.unwind_data lookup.relative_address lookup.is_first_frame found.0) }
+    ensures answers { Answering F.FnMut read_stack.old read_stack.new (λ memory.
+        IfOk result (λ found. IsTold (record {
+          translated = A.translated;
+          uncovered = A.uncovered;
+          direct = λ bytes row. A.direct bytes P.GimliEvaluationStorage.Stack.limit memory row lookup.is_first_frame regs;
+          found = A.found;
+          computed = λ sections relative first. A.computed sections relative first memory regs;
+          compact = A.readers.compact;
+        }) P.GimliUnwindContextStorage.limits module.now.unwind_data lookup.relative_address lookup.is_first_frame found.1)) }
+{
+    match module.unwind_data() {
+        ModuleUnwindDataInternal::None(refusal) => Ok((
+            Source::NoUnwindData(*refusal),
+            Told::Refused(UnwinderError::NoModuleUnwindData),
+        )),
+        ModuleUnwindDataInternal::DwarfCfiIndexAndFrames(frames) => {
+            explain_by_index::<D, A, P, F>(frames, alloc, unwind_context, lookup, regs, read_stack)
+        }
+        ModuleUnwindDataInternal::EhFrameHdrAndEhFrame(frames) => {
+            explain_by_header::<D, A, P, F>(frames, alloc, unwind_context, lookup, regs, read_stack)
+        }
+        ModuleUnwindDataInternal::PeUnwindInfo(info) => {
+            let sections = info.sections();
+            let source = A::pe_source(sections, lookup.relative_address, lookup.is_first_frame);
+            let told = told_by_sections::<D, A, F>(sections, lookup, regs, read_stack);
+            Ok((Source::Pe(source), told))
+        }
+        ModuleUnwindDataInternal::CompactUnwindInfoAndEhFrame(info) => {
+            explain_by_info::<D, A, P, F>(info, alloc, unwind_context, lookup, regs, read_stack)
+        }
+    }
+}
+
+/// Returns whether an allocation failed.
+fn is_out_of_memory(outcome: &Result<Option<u64>, Error>) -> bool
+    ensures { MatchBool result (outcome.now ≡ Err Error.OutOfMemory) (outcome.now ≢ Err Error.OutOfMemory) }
+{
+    match outcome {
+        Err(Error::OutOfMemory) => true,
+        _ => false,
+    }
 }

@@ -52,6 +52,16 @@ impl Note {
     }
 }
 
+/// Appends a text. A control character becomes a question mark.
+fn push_printable(text: &str, out: &mut Vec<u8>) -> Result<(), AllocError>
+    ensures { OnOk result (out.new.items ≡ out.old.items ++ map printable text.now) }
+{
+    for byte in text.as_bytes() {
+        out.push(printable(*byte))?;
+    }
+    Ok(())
+}
+
 /// Returns a byte as it is printed.
 #[tactic(auto, unfolding(crate::specs::Note::printable))]
 fn printable(byte: u8) -> u8
@@ -62,14 +72,4 @@ fn printable(byte: u8) -> u8
     } else {
         byte
     }
-}
-
-/// Appends a text. A control character becomes a question mark.
-fn push_printable(text: &str, out: &mut Vec<u8>) -> Result<(), AllocError>
-    ensures { OnOk result (out.new.items ≡ out.old.items ++ map printable text.now) }
-{
-    for byte in text.as_bytes() {
-        out.push(printable(*byte))?;
-    }
-    Ok(())
 }

@@ -44,29 +44,6 @@ pub trait Sources: Unwinding {
         → Self.by_code function code offset ≡ (if is_analysed function.opcode then Self.analysed code offset else None) };
 }
 
-/// Returns where the unwind info of a function tells it.
-fn function_source<D: SectionBytes>(
-    sections: &PeSections<'_, D>,
-    function: RuntimeFunction,
-    address: u32,
-    is_first_frame: bool,
-) -> PeSource
-    ensures { result ≡ function_source (sections_of D.contents sections.now) address is_first_frame function }
-{
-    let info = match sections.unwind_info(function.unwind_info_address) {
-        Ok(info) => info,
-        Err(_) => return PeSource::Unread(function),
-    };
-    if !is_first_frame {
-        return PeSource::Codes(function);
-    }
-    match epilog_at(sections, function, frame_register(&info), address) {
-        Ok(Some(_)) => PeSource::Epilog(function),
-        Ok(None) => PeSource::Codes(function),
-        Err(_) => PeSource::Unread(function),
-    }
-}
-
 impl Sources for ArchX86_64 {
     ghost use Rattle.std.specs.Prelude.{true};
     ghost use Rattle.std.proofs.Common.{refl};
@@ -94,6 +71,29 @@ impl Sources for ArchX86_64 {
 
     fn is_analysed(_opcode: u32) -> bool {
         true
+    }
+}
+
+/// Returns where the unwind info of a function tells it.
+fn function_source<D: SectionBytes>(
+    sections: &PeSections<'_, D>,
+    function: RuntimeFunction,
+    address: u32,
+    is_first_frame: bool,
+) -> PeSource
+    ensures { result ≡ function_source (sections_of D.contents sections.now) address is_first_frame function }
+{
+    let info = match sections.unwind_info(function.unwind_info_address) {
+        Ok(info) => info,
+        Err(_) => return PeSource::Unread(function),
+    };
+    if !is_first_frame {
+        return PeSource::Codes(function);
+    }
+    match epilog_at(sections, function, frame_register(&info), address) {
+        Ok(Some(_)) => PeSource::Epilog(function),
+        Ok(None) => PeSource::Codes(function),
+        Err(_) => PeSource::Unread(function),
     }
 }
 

@@ -105,6 +105,38 @@ impl fmt::Display for Place {
     }
 }
 
+/// Registers that are popped from an offset of the stack pointer on, in words of 8 bytes.
+#[derive(Clone, Copy)]
+struct Pops {
+    sp_offset_by_8: u16,
+    register_count: u8,
+    encoded_registers: u16,
+}
+
+impl fmt::Display for Pops {
+    ghost output = { λ pops. Some (popped_text pops.sp_offset_by_8 (ordering pops.register_count pops.encoded_registers)) };
+
+    #[tactic(auto, unfolding(crate::specs::RuleText::popped_text))]
+    fn fmt<W: fmt::Write>(&self, f: &mut fmt::Formatter<W>) -> fmt::Result {
+        let registers = register_ordering::decode(self.register_count, self.encoded_registers);
+        let cfa = (u64::from(self.sp_offset_by_8) + registers.len() as u64 + 1) * 8;
+        write!(f, "CFA = rsp + {cfa}")?;
+        write_pops(registers.as_slice(), f)
+    }
+}
+
+/// Writes where registers lie that are popped one after another: the last one next to the return address.
+fn write_pops<W: fmt::Write>(registers: &[Reg], f: &mut fmt::Formatter<W>) -> fmt::Result
+    requires { length registers.now ≤ 8 }
+    ensures { WritesOnOk W.write_str_gives f.old result (pops_text registers.now) f.new }
+{
+    for (i, register) in registers.iter().enumerate() {
+        let distance = (registers.len() - i + 1) * 8;
+        write!(f, "; {} at CFA - {distance}", register_name(*register))?;
+    }
+    Ok(())
+}
+
 /// Returns the name of a register of x86_64.
 fn register_name(register: Reg) -> &'static str
     ensures { result.now ≡ register_name register }
@@ -126,38 +158,6 @@ fn register_name(register: Reg) -> &'static str
         Reg::R13 => "r13",
         Reg::R14 => "r14",
         Reg::R15 => "r15",
-    }
-}
-
-/// Writes where registers lie that are popped one after another: the last one next to the return address.
-fn write_pops<W: fmt::Write>(registers: &[Reg], f: &mut fmt::Formatter<W>) -> fmt::Result
-    requires { length registers.now ≤ 8 }
-    ensures { WritesOnOk W.write_str_gives f.old result (pops_text registers.now) f.new }
-{
-    for (i, register) in registers.iter().enumerate() {
-        let distance = (registers.len() - i + 1) * 8;
-        write!(f, "; {} at CFA - {distance}", register_name(*register))?;
-    }
-    Ok(())
-}
-
-/// Registers that are popped from an offset of the stack pointer on, in words of 8 bytes.
-#[derive(Clone, Copy)]
-struct Pops {
-    sp_offset_by_8: u16,
-    register_count: u8,
-    encoded_registers: u16,
-}
-
-impl fmt::Display for Pops {
-    ghost output = { λ pops. Some (popped_text pops.sp_offset_by_8 (ordering pops.register_count pops.encoded_registers)) };
-
-    #[tactic(auto, unfolding(crate::specs::RuleText::popped_text))]
-    fn fmt<W: fmt::Write>(&self, f: &mut fmt::Formatter<W>) -> fmt::Result {
-        let registers = register_ordering::decode(self.register_count, self.encoded_registers);
-        let cfa = (u64::from(self.sp_offset_by_8) + registers.len() as u64 + 1) * 8;
-        write!(f, "CFA = rsp + {cfa}")?;
-        write_pops(registers.as_slice(), f)
     }
 }
 

@@ -24,6 +24,26 @@ fn main(rt: HostRuntime) -> Result<ExitCode> {
     Ok(ExitCode::from(run(&rt)?))
 }
 
+/// Runs the program, and returns its status: 0, 1 where the input is refused, or 2.
+fn run(rt: &HostRuntime) -> Result<u8> {
+    let alloc = rt.alloc();
+    let words: Vec<String> = env::args(rt)?.collect(alloc)?;
+    let matches = match command(alloc)?.try_get_matches_from(&words) {
+        Ok(matches) => matches,
+        Err(error) => return usage(rt, &error),
+    };
+    let path = matches.get_str("file");
+    let addresses = matches.get_strs("address").unwrap_or(&[]);
+    match path {
+        Some(path) if matches.get_flag("elf") => print_file(rt, path, addresses),
+        _ if matches.get_flag("elf") || !addresses.is_empty() => {
+            eprintln!(rt; "framehop-explain: addresses are asked of a FILE, with --elf")?;
+            Ok(2)
+        }
+        _ => explain(rt, path),
+    }
+}
+
 /// Returns the command line.
 fn command<'a>(alloc: Global) -> Result<Command<'a>> {
     let elf = Arg::new(alloc, "elf")
@@ -50,54 +70,10 @@ fn command<'a>(alloc: Global) -> Result<Command<'a>> {
     Ok(command)
 }
 
-/// Opens the file at a path, or standard input for `None`.
-fn open_input(rt: &HostRuntime, path: Option<&str>) -> io::Result<Either<File, Stdin>> {
-    match path {
-        Some(path) => Ok(Left(fs::open(rt, path)?)),
-        None => Ok(Right(rt.stdin())),
-    }
-}
-
-/// Runs the program, and returns its status: 0, 1 where the input is refused, or 2.
-fn run(rt: &HostRuntime) -> Result<u8> {
-    let alloc = rt.alloc();
-    let words: Vec<String> = env::args(rt)?.collect(alloc)?;
-    let matches = match command(alloc)?.try_get_matches_from(&words) {
-        Ok(matches) => matches,
-        Err(error) => return usage(rt, &error),
-    };
-    let path = matches.get_str("file");
-    let addresses = matches.get_strs("address").unwrap_or(&[]);
-    match path {
-        Some(path) if matches.get_flag("elf") => print_file(rt, path, addresses),
-        _ if matches.get_flag("elf") || !addresses.is_empty() => {
-            eprintln!(rt; "framehop-explain: addresses are asked of a FILE, with --elf")?;
-            Ok(2)
-        }
-        _ => explain(rt, path),
-    }
-}
-
-/// Returns the numbers of texts of hexadecimal digits, with or without 0x before them.
-fn parse_addresses(alloc: Global, texts: &[&str]) -> Result<Option<Vec<u64>>> {
-    let mut addresses = Vec::new(alloc);
-    for text in texts {
-        let digits = text.strip_prefix("0x").unwrap_or(*text);
-        let Ok(address) = u64::from_str_radix(digits, 16) else {
-            return Ok(None);
-        };
-        addresses.push(address)?;
-    }
-    Ok(Some(addresses))
-}
-
-/// Reads a regular file of at most 4 GiB.
-fn read_regular(rt: &HostRuntime, path: &str) -> io::Result<Option<Vec<u8>>> {
-    let metadata = fs::metadata(rt, path)?;
-    if !metadata.is_file() || metadata.len() > LARGEST_FILE {
-        return Ok(None);
-    }
-    Ok(Some(fs::read(rt, path)?))
+/// Prints the help, the version or the error of a command line.
+fn usage(rt: &HostRuntime, error: &clap::Error) -> Result<u8> {
+    error.print(rt)?;
+    if error.use_stderr() { Ok(2) } else { Ok(0) }
 }
 
 /// Prints what an ELF file or a PE file has to unwind by.
@@ -135,10 +111,26 @@ fn print_file(rt: &HostRuntime, path: &str, texts: &[&str]) -> Result<u8> {
     }
 }
 
-/// Prints the help, the version or the error of a command line.
-fn usage(rt: &HostRuntime, error: &clap::Error) -> Result<u8> {
-    error.print(rt)?;
-    if error.use_stderr() { Ok(2) } else { Ok(0) }
+/// Returns the numbers of texts of hexadecimal digits, with or without 0x before them.
+fn parse_addresses(alloc: Global, texts: &[&str]) -> Result<Option<Vec<u64>>> {
+    let mut addresses = Vec::new(alloc);
+    for text in texts {
+        let digits = text.strip_prefix("0x").unwrap_or(*text);
+        let Ok(address) = u64::from_str_radix(digits, 16) else {
+            return Ok(None);
+        };
+        addresses.push(address)?;
+    }
+    Ok(Some(addresses))
+}
+
+/// Reads a regular file of at most 4 GiB.
+fn read_regular(rt: &HostRuntime, path: &str) -> io::Result<Option<Vec<u8>>> {
+    let metadata = fs::metadata(rt, path)?;
+    if !metadata.is_file() || metadata.len() > LARGEST_FILE {
+        return Ok(None);
+    }
+    Ok(Some(fs::read(rt, path)?))
 }
 
 /// Explains the commands of a file, or of standard input.
@@ -157,4 +149,12 @@ fn explain(rt: &HostRuntime, path: Option<&str>) -> Result<u8> {
     let mut out = Output::new(io::writer(rt));
     let mut err = Output::new(rt.stderr());
     Ok(explain_program(rt.alloc(), &mut input, &mut out, &mut err))
+}
+
+/// Opens the file at a path, or standard input for `None`.
+fn open_input(rt: &HostRuntime, path: Option<&str>) -> io::Result<Either<File, Stdin>> {
+    match path {
+        Some(path) => Ok(Left(fs::open(rt, path)?)),
+        None => Ok(Right(rt.stdin())),
+    }
 }

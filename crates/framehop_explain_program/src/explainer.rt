@@ -31,23 +31,6 @@ struct Explainer<A: Sources, P: AllocationPolicy> {
     notes: Vec<Note>,
 }
 
-/// Reads a command, if `framehop-walk` takes it.
-fn accepted_command<A: Registers>(
-    alloc: Global,
-    command: &Value,
-) -> Result<Option<Command<Vec<u8>, A::UnwindRegs>>, AllocError>
-    ensures { IfOk result (λ accepted. IsAccepted (read_next A.reading [] (view command.now)) accepted) }
-{
-    let Ok(verb) = text(command, "do") else {
-        return Ok(None);
-    };
-    match read_command::<A>(alloc, verb, command) {
-        Ok(accepted) => Ok(Some(accepted)),
-        Err(Refusal::OutOfMemory) => Err(AllocError),
-        Err(_) => Ok(None),
-    }
-}
-
 /// Returns the notes under the lines of the replies to the commands of the input. They end before the first command that
 /// `framehop-walk` refuses.
 ///
@@ -102,19 +85,21 @@ where
     Ok(explainer.notes)
 }
 
-/// Appends the note of a line that says nothing.
-fn note_nothing(alloc: Global, notes: &mut Vec<Note>) -> Result<(), AllocError>
-    ensures { OnOk result (notes.new.items ≡ notes.old.items ++ [] ∷ []) }
+/// Reads a command, if `framehop-walk` takes it.
+fn accepted_command<A: Registers>(
+    alloc: Global,
+    command: &Value,
+) -> Result<Option<Command<Vec<u8>, A::UnwindRegs>>, AllocError>
+    ensures { IfOk result (λ accepted. IsAccepted (read_next A.reading [] (view command.now)) accepted) }
 {
-    Ok(notes.push(Note::new(alloc))?)
-}
-
-/// Appends the notes of the end of a walk and of the registers there, which say nothing.
-fn note_end(alloc: Global, notes: &mut Vec<Note>) -> Result<(), AllocError>
-    ensures { OnOk result (notes.new.items ≡ notes.old.items ++ [] ∷ [] ∷ []) }
-{
-    notes.push(Note::new(alloc))?;
-    Ok(notes.push(Note::new(alloc))?)
+    let Ok(verb) = text(command, "do") else {
+        return Ok(None);
+    };
+    match read_command::<A>(alloc, verb, command) {
+        Ok(accepted) => Ok(Some(accepted)),
+        Err(Refusal::OutOfMemory) => Err(AllocError),
+        Err(_) => Ok(None),
+    }
 }
 
 impl<A: Sources, P: AllocationPolicy> Explainer<A, P>
@@ -303,4 +288,19 @@ where
     {
         note_nothing(self.alloc, &mut self.notes)
     }
+}
+
+/// Appends the note of a line that says nothing.
+fn note_nothing(alloc: Global, notes: &mut Vec<Note>) -> Result<(), AllocError>
+    ensures { OnOk result (notes.new.items ≡ notes.old.items ++ [] ∷ []) }
+{
+    Ok(notes.push(Note::new(alloc))?)
+}
+
+/// Appends the notes of the end of a walk and of the registers there, which say nothing.
+fn note_end(alloc: Global, notes: &mut Vec<Note>) -> Result<(), AllocError>
+    ensures { OnOk result (notes.new.items ≡ notes.old.items ++ [] ∷ [] ∷ []) }
+{
+    notes.push(Note::new(alloc))?;
+    Ok(notes.push(Note::new(alloc))?)
 }

@@ -59,120 +59,21 @@ impl From<AllocError> for Problem {
     }
 }
 
-/// Returns the value of the input.
-fn parse(alloc: Global, bytes: &[u8]) -> Result<Value, Problem>
-    ensures reading { IfOk result (λ value. IsJson bytes.now (view value)) }
-    ensures refused { IfErr result (λ problem. problem.refusal ≢ Refusal.OutOfMemory
-        → (problem.refusal ≡ Refusal.NotJson) × IsNoJson bytes.now) }
-{
-    match Value::from_slice(alloc, bytes) {
-        Ok(value) => Ok(value),
-        Err(error) => {
-            if error.is_memory() {
-                return Err(Problem::from(Refusal::OutOfMemory));
-            }
-            let (line, column) = (error.line(), error.column());
-            Err(Problem {
-                refusal: Refusal::NotJson,
-                place: Some(format!(in alloc; "line {line}, column {column}: not JSON")?),
-            })
-        }
-    }
-}
-
-/// Returns the number and the verb of a command, before what is wrong in it.
-fn command_text(alloc: Global, value: &Value, number: usize) -> Result<String, AllocError> {
-    let commands = items_of(value, "commands").unwrap_or(&[]);
-    let Some(command) = commands.get(number) else {
-        return format!(in alloc; "commands[{number}]");
-    };
-    match text_of(command, "do") {
-        Ok(verb) => format!(in alloc; "commands[{number}] ({verb})"),
-        Err(_) => format!(in alloc; "commands[{number}]"),
-    }
-}
-
-/// Returns where a field is wrong, and how.
-fn fault_text(alloc: Global, value: &Value, fault: Fault) -> Result<String, AllocError> {
-    let Some(number) = fault.command else {
-        return format!(in alloc; "{fault}");
-    };
-    let command = command_text(alloc, value, number)?;
-    format!(in alloc; "{}: {fault}", command.as_str())
-}
-
-/// Returns where the input is wrong that was refused, and how.
-fn place_of(alloc: Global, value: &Value, refusal: Refusal) -> Result<Option<String>, AllocError> {
-    let fault = match refusal {
-        Refusal::BadField(_) => wrong_field(alloc, value)?,
-        Refusal::NoSuchUnwinder | Refusal::NoSuchCache => wrong_number(value),
-        _ => None,
-    };
-    match fault {
-        Some(fault) => Ok(Some(fault_text(alloc, value, fault)?)),
-        None => Ok(None),
-    }
-}
-
-/// Returns whether a field is this word.
-fn is_word(value: &Value, field: &'static str, word: &str) -> bool
-    ensures { MatchBool result (field_as as_str field.entry.now (view value.now) ≡ Ok word.now)
-        (field_as as_str field.entry.now (view value.now) ≢ Ok word.now) }
-{
-    match text(value, field) {
-        Ok(text) => text == word,
-        Err(_) => false,
-    }
-}
-
-/// Returns the notes of a session on an architecture, under the policy that the input names.
-fn notes_under<A: Registers + Sources>(
+/// Reads commands, carries them out and writes the replies to `out`, with notes under their lines, or one line that says
+/// why the run was refused to `err`. Returns the exit status: 0, or that of the refusal. Nothing is written to `out` by a
+/// run that is refused, unless a write to it fails.
+pub fn explain_program<R: Read, W: Write, E: Write>(
     alloc: Global,
-    value: &Value,
-) -> Result<Vec<Note>, AllocError>
-where
-    A::UnwindRule: DescribeRule,
-    ensures { IfOk result (λ notes. AreNotesUnder A.reading (explaining_by A.readers A.pe_source
-        (record { by_code = A.by_code; prologue = A.prologue_rule; epilogue = A.epilogue_rule })
-        A.UnwindRule.rule_text A.UnwindRule.fallback)
-        A.unwinding (view value.now) (read_policy (view value.now)) notes.items) }
+    input: &mut Input<R>,
+    out: &mut Output<W>,
+    err: &mut Output<E>,
+) -> u8
+    ensures run { IsRun result input.old input.new (outputs out.old err.old) (outputs out.new err.new) }
+    ensures status { result ≤ 2 }
 {
-    if is_word(value, "policy", "may") {
-        return notes_of::<A, MayAllocateDuringUnwind>(alloc, value);
-    }
-    notes_of::<A, MustNotAllocateDuringUnwind>(alloc, value)
-}
-
-/// Returns the notes under the lines of the replies, on the architecture that the input names.
-fn notes_on(alloc: Global, value: &Value) -> Result<Vec<Note>, AllocError>
-    ensures { IfOk result (λ notes. AreSessionNotes (view value.now) notes.items) }
-{
-    if is_word(value, "arch", "aarch64") {
-        return notes_under::<ArchAarch64>(alloc, value);
-    }
-    notes_under::<ArchX86_64>(alloc, value)
-}
-
-/// Returns the replies to the bytes of the input, with notes under their lines.
-///
-/// # Errors
-///
-/// Where `framehop-walk` refuses the input, its refusal, and where the input is wrong; `OutOfMemory`.
-pub fn explain_text(alloc: Global, bytes: &[u8]) -> Result<Vec<u8>, Problem>
-    ensures answers { IfOk result (λ output. IsExplained bytes.now output.items) }
-    ensures refused { IfErr result (λ problem. problem.refusal ≢ Refusal.OutOfMemory
-        → Answers bytes.now (Err (refusal_text problem.refusal))) }
-{
-    let value = parse(alloc, bytes)?;
-    match replies_to_value(alloc, &value) {
-        Ok(replies) => {
-            let notes = notes_on(alloc, &value)?;
-            Ok(annotated(alloc, replies.as_bytes(), notes.as_slice())?)
-        }
-        Err(refusal) => Err(Problem {
-            refusal,
-            place: place_of(alloc, &value, refusal)?,
-        }),
+    match print_explained(alloc, input, out) {
+        Ok(()) => 0,
+        Err(problem) => refuse(err, &problem),
     }
 }
 
@@ -200,6 +101,134 @@ fn print_explained<R: Read, W: Write>(
     }
 }
 
+/// Returns the replies to the bytes of the input, with notes under their lines.
+///
+/// # Errors
+///
+/// Where `framehop-walk` refuses the input, its refusal, and where the input is wrong; `OutOfMemory`.
+pub fn explain_text(alloc: Global, bytes: &[u8]) -> Result<Vec<u8>, Problem>
+    ensures answers { IfOk result (λ output. IsExplained bytes.now output.items) }
+    ensures refused { IfErr result (λ problem. problem.refusal ≢ Refusal.OutOfMemory
+        → Answers bytes.now (Err (refusal_text problem.refusal))) }
+{
+    let value = parse(alloc, bytes)?;
+    match replies_to_value(alloc, &value) {
+        Ok(replies) => {
+            let notes = notes_on(alloc, &value)?;
+            Ok(annotated(alloc, replies.as_bytes(), notes.as_slice())?)
+        }
+        Err(refusal) => Err(Problem {
+            refusal,
+            place: place_of(alloc, &value, refusal)?,
+        }),
+    }
+}
+
+/// Returns the value of the input.
+fn parse(alloc: Global, bytes: &[u8]) -> Result<Value, Problem>
+    ensures reading { IfOk result (λ value. IsJson bytes.now (view value)) }
+    ensures refused { IfErr result (λ problem. problem.refusal ≢ Refusal.OutOfMemory
+        → (problem.refusal ≡ Refusal.NotJson) × IsNoJson bytes.now) }
+{
+    match Value::from_slice(alloc, bytes) {
+        Ok(value) => Ok(value),
+        Err(error) => {
+            if error.is_memory() {
+                return Err(Problem::from(Refusal::OutOfMemory));
+            }
+            let (line, column) = (error.line(), error.column());
+            Err(Problem {
+                refusal: Refusal::NotJson,
+                place: Some(format!(in alloc; "line {line}, column {column}: not JSON")?),
+            })
+        }
+    }
+}
+
+/// Returns the notes under the lines of the replies, on the architecture that the input names.
+fn notes_on(alloc: Global, value: &Value) -> Result<Vec<Note>, AllocError>
+    ensures { IfOk result (λ notes. AreSessionNotes (view value.now) notes.items) }
+{
+    if is_word(value, "arch", "aarch64") {
+        return notes_under::<ArchAarch64>(alloc, value);
+    }
+    notes_under::<ArchX86_64>(alloc, value)
+}
+
+/// Returns the notes of a session on an architecture, under the policy that the input names.
+fn notes_under<A: Registers + Sources>(
+    alloc: Global,
+    value: &Value,
+) -> Result<Vec<Note>, AllocError>
+where
+    A::UnwindRule: DescribeRule,
+    ensures { IfOk result (λ notes. AreNotesUnder A.reading (explaining_by A.readers A.pe_source
+        (record { by_code = A.by_code; prologue = A.prologue_rule; epilogue = A.epilogue_rule })
+        A.UnwindRule.rule_text A.UnwindRule.fallback)
+        A.unwinding (view value.now) (read_policy (view value.now)) notes.items) }
+{
+    if is_word(value, "policy", "may") {
+        return notes_of::<A, MayAllocateDuringUnwind>(alloc, value);
+    }
+    notes_of::<A, MustNotAllocateDuringUnwind>(alloc, value)
+}
+
+/// Returns whether a field is this word.
+fn is_word(value: &Value, field: &'static str, word: &str) -> bool
+    ensures { MatchBool result (field_as as_str field.entry.now (view value.now) ≡ Ok word.now)
+        (field_as as_str field.entry.now (view value.now) ≢ Ok word.now) }
+{
+    match text(value, field) {
+        Ok(text) => text == word,
+        Err(_) => false,
+    }
+}
+
+/// Returns where the input is wrong that was refused, and how.
+fn place_of(alloc: Global, value: &Value, refusal: Refusal) -> Result<Option<String>, AllocError> {
+    let fault = match refusal {
+        Refusal::BadField(_) => wrong_field(alloc, value)?,
+        Refusal::NoSuchUnwinder | Refusal::NoSuchCache => wrong_number(value),
+        _ => None,
+    };
+    match fault {
+        Some(fault) => Ok(Some(fault_text(alloc, value, fault)?)),
+        None => Ok(None),
+    }
+}
+
+/// Returns where a field is wrong, and how.
+fn fault_text(alloc: Global, value: &Value, fault: Fault) -> Result<String, AllocError> {
+    let Some(number) = fault.command else {
+        return format!(in alloc; "{fault}");
+    };
+    let command = command_text(alloc, value, number)?;
+    format!(in alloc; "{}: {fault}", command.as_str())
+}
+
+/// Returns the number and the verb of a command, before what is wrong in it.
+fn command_text(alloc: Global, value: &Value, number: usize) -> Result<String, AllocError> {
+    let commands = items_of(value, "commands").unwrap_or(&[]);
+    let Some(command) = commands.get(number) else {
+        return format!(in alloc; "commands[{number}]");
+    };
+    match text_of(command, "do") {
+        Ok(verb) => format!(in alloc; "commands[{number}] ({verb})"),
+        Err(_) => format!(in alloc; "commands[{number}]"),
+    }
+}
+
+/// Writes why a run was refused on one line, and returns its exit status.
+pub fn refuse<E: Write>(err: &mut Output<E>, problem: &Problem) -> u8
+    ensures status { result ≡ refusal_status problem.now.refusal }
+    ensures told { err.new.has_failed ≡ false → Appends err.old.bytes err.new.bytes
+        (problem_line (place_text problem.now.refusal (option_map (λ place. string_bytes place) problem.now.place))) }
+{
+    let (text, end) = problem_text(problem);
+    let _written = write_line(err, text, end);
+    problem.refusal.status()
+}
+
 /// Returns the text of a problem's line after the program's name, in two parts.
 fn problem_text(problem: &Problem) -> (&str, &str)
     ensures { place_text problem.entry.now.refusal (option_map (λ place. string_bytes place) problem.entry.now.place)
@@ -221,33 +250,4 @@ fn write_line<E: Write>(err: &mut Output<E>, text: &str, end: &str) -> io::Resul
     err.write_all(text.as_bytes())?;
     err.write_all(end.as_bytes())?;
     err.write_all(b"\n")
-}
-
-/// Writes why a run was refused on one line, and returns its exit status.
-pub fn refuse<E: Write>(err: &mut Output<E>, problem: &Problem) -> u8
-    ensures status { result ≡ refusal_status problem.now.refusal }
-    ensures told { err.new.has_failed ≡ false → Appends err.old.bytes err.new.bytes
-        (problem_line (place_text problem.now.refusal (option_map (λ place. string_bytes place) problem.now.place))) }
-{
-    let (text, end) = problem_text(problem);
-    let _written = write_line(err, text, end);
-    problem.refusal.status()
-}
-
-/// Reads commands, carries them out and writes the replies to `out`, with notes under their lines, or one line that says
-/// why the run was refused to `err`. Returns the exit status: 0, or that of the refusal. Nothing is written to `out` by a
-/// run that is refused, unless a write to it fails.
-pub fn explain_program<R: Read, W: Write, E: Write>(
-    alloc: Global,
-    input: &mut Input<R>,
-    out: &mut Output<W>,
-    err: &mut Output<E>,
-) -> u8
-    ensures run { IsRun result input.old input.new (outputs out.old err.old) (outputs out.new err.new) }
-    ensures status { result ≤ 2 }
-{
-    match print_explained(alloc, input, out) {
-        Ok(()) => 0,
-        Err(problem) => refuse(err, &problem),
-    }
 }

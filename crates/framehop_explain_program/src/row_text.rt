@@ -38,18 +38,23 @@ impl RegisterNames for ArchAarch64 {
     }
 }
 
-/// Appends the name of a register, or its number.
-fn push_register<A: RegisterNames>(register: Register, out: &mut String) -> Result<(), AllocError> {
-    match A::register_name(register) {
-        Some(name) => out.push_str(name),
-        None => write!(out, "r{}", register.0),
+/// Appends a row: how the CFA is found, and each register that has a rule, as `CFA=rsp+16 rbp=c-16 ra=c-8`.
+pub fn push_row<A: RegisterNames, S: UnwindContextStorage>(
+    row: &UnwindTableRow<S>,
+    out: &mut String,
+) -> Result<(), AllocError> {
+    out.push_str("CFA=")?;
+    push_cfa::<A>(row.cfa(), out)?;
+    for number in 0..REGISTERS {
+        let register = Register(number);
+        if let Some(rule) = row.register(register) {
+            out.push_str(" ")?;
+            push_register::<A>(register, out)?;
+            out.push_str("=")?;
+            push_rule::<A>(rule, out)?;
+        }
     }
-}
-
-/// Appends a number of bytes with its sign.
-fn push_offset(offset: i64, out: &mut String) -> Result<(), AllocError> {
-    let sign = if offset < 0 { '-' } else { '+' };
-    write!(out, "{sign}{}", offset.unsigned_abs())
+    Ok(())
 }
 
 /// Appends how the CFA is found.
@@ -82,21 +87,16 @@ fn push_rule<A: RegisterNames>(rule: RegisterRule, out: &mut String) -> Result<(
     }
 }
 
-/// Appends a row: how the CFA is found, and each register that has a rule, as `CFA=rsp+16 rbp=c-16 ra=c-8`.
-pub fn push_row<A: RegisterNames, S: UnwindContextStorage>(
-    row: &UnwindTableRow<S>,
-    out: &mut String,
-) -> Result<(), AllocError> {
-    out.push_str("CFA=")?;
-    push_cfa::<A>(row.cfa(), out)?;
-    for number in 0..REGISTERS {
-        let register = Register(number);
-        if let Some(rule) = row.register(register) {
-            out.push_str(" ")?;
-            push_register::<A>(register, out)?;
-            out.push_str("=")?;
-            push_rule::<A>(rule, out)?;
-        }
+/// Appends a number of bytes with its sign.
+fn push_offset(offset: i64, out: &mut String) -> Result<(), AllocError> {
+    let sign = if offset < 0 { '-' } else { '+' };
+    write!(out, "{sign}{}", offset.unsigned_abs())
+}
+
+/// Appends the name of a register, or its number.
+fn push_register<A: RegisterNames>(register: Register, out: &mut String) -> Result<(), AllocError> {
+    match A::register_name(register) {
+        Some(name) => out.push_str(name),
+        None => write!(out, "r{}", register.0),
     }
-    Ok(())
 }

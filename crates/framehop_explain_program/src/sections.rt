@@ -5,12 +5,6 @@ use serde_json::Value;
 use std::alloc::Global;
 use std::collections::BTreeSet;
 
-/// Tests the fields of a section, but not its name.
-fn check_contents(section: &Value) -> Result<(), Fault> {
-    check_optional(section, "svma", Kind::Range)?;
-    check_optional(section, "data", Kind::Bytes)
-}
-
 /// Tests the sections or segments of a command: their names differ.
 pub fn check_sections(alloc: Global, command: &Value, list: &'static str) -> Checked {
     let sections = match items_of(command, list) {
@@ -31,4 +25,10 @@ pub fn check_sections(alloc: Global, command: &Value, list: &'static str) -> Che
         }
     }
     Ok(Ok(()))
+}
+
+/// Tests the fields of a section, but not its name.
+fn check_contents(section: &Value) -> Result<(), Fault> {
+    check_optional(section, "svma", Kind::Range)?;
+    check_optional(section, "data", Kind::Bytes)
 }

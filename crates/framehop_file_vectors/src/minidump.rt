@@ -1,6 +1,7 @@
 //! Worked examples of minidumps, with the values that are to come out.
 
 mod aarch64;
+mod linux_maps;
 mod pieces;
 mod readme;
 mod refusals;

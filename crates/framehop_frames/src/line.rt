@@ -21,18 +21,334 @@ use std::alloc::{AllocError, Global};
 /// How many bytes of a name are printed.
 const LONGEST_NAME: usize = 2048;
 
-/// Returns what a refusal is called.
-fn refusal_name(error: Error) -> &'static str
-    ensures { result.now ≡ refusal_name error }
+/// Returns a name as it is printed.
+pub fn printed_name(alloc: Global, name: &[u8]) -> Result<Vec<u8>, AllocError>
+    ensures { IfOk result (λ printed. printed.items ≡ plain name.now) }
 {
-    match error {
-        Error::CouldNotReadStack(_) => "could-not-read-stack",
-        Error::FramepointerUnwindingMovedBackwards => "moved-backwards",
-        Error::DidNotAdvance => "did-not-advance",
-        Error::IntegerOverflow => "integer-overflow",
-        Error::ReturnAddressIsNull => "null-return-address",
-        Error::OutOfMemory => "out-of-memory",
+    let mut printed = Vec::new(alloc);
+    push_name(&mut printed, name)?;
+    Ok(printed)
+}
+
+/// Returns the line of a stack without its count, by the name of its thread and by its process's mappings
+/// in order. Only the frames before the first that is not sure are in it, where `sure` asks for that.
+pub fn folded_line<R: Copy>(
+    alloc: Global,
+    files: &Files,
+    mappings: &[Mapping],
+    name: &[u8],
+    stack: &Stack<R>,
+    sure: bool,
+) -> Result<Vec<u8>, AllocError>
+    requires { IsInOrder 0 mappings.now }
+    ensures { IfOk result (λ line. line.items ≡ line_of sure name.now stack.now.end
+        (frame_label files.now mappings.now) (map shown_frame stack.now.frames.items)) }
+{
+    let frames = stack.frames.as_slice();
+    let part = part_of(frames, sure);
+    let is_cut = part.len() < frames.len();
+    line_of_part(alloc, files, mappings, name, part, stack.end, is_cut)
+}
+
+/// Returns the frames of a folded stack: all, or those before the first that is not sure.
+fn part_of<R: Copy>(frames: &[StackFrame<R>], sure: bool) -> &[StackFrame<R>]
+    ensures { map shown_frame result.now ≡ part_of sure (map shown_frame frames.entry.now) }
+{
+    if sure {
+        return sure_part(frames);
     }
+    frames
+}
+
+/// Returns the frames before the first that is not sure.
+pub fn sure_part<R: Copy>(frames: &[StackFrame<R>]) -> &[StackFrame<R>]
+    ensures { map shown_frame result.now ≡ part_of true (map shown_frame frames.entry.now) }
+{
+    let mut count = 0;
+    for frame in frames {
+        if !is_sure(frame.found) {
+            return &frames[..count];
+        }
+        count += 1;
+    }
+    frames
+}
+
+/// Returns whether unwind data tells a frame, or it is the first.
+fn is_sure(found: FoundBy) -> bool
+    ensures { result ≡ is_sure_by found }
+{
+    match found {
+        FoundBy::First | FoundBy::Cfi | FoundBy::Signal => true,
+        FoundBy::FramePointer | FoundBy::Guess => false,
+    }
+}
+
+/// Returns the line of a part of a stack, which may be cut, by the name of its thread and by its process's mappings in
+/// order.
+fn line_of_part<R: Copy>(
+    alloc: Global,
+    files: &Files,
+    mappings: &[Mapping],
+    name: &[u8],
+    part: &[StackFrame<R>],
+    end: BacktraceEnd,
+    is_cut: bool,
+) -> Result<Vec<u8>, AllocError>
+    requires { IsInOrder 0 mappings.now }
+    ensures { IfOk result (λ line. line.items ≡ plain name.now ++ (if is_cut then mark (codes "not-sure") else mark_of end)
+        ++ frames_text (frame_label files.now mappings.now) (map shown_frame part.now)) }
+{
+    let mut line = Vec::new(alloc);
+    push_name(&mut line, name)?;
+    push_end_of_part(&mut line, end, is_cut)?;
+    push_frames(alloc, &mut line, files, mappings, part)?;
+    Ok(line)
+}
+
+/// Appends the mark of a stack: of its end, or that it is cut before a frame that is not sure.
+fn push_end_of_part(line: &mut Vec<u8>, end: BacktraceEnd, is_cut: bool) -> Result<(), AllocError>
+    ensures { OnOk result (line.new.items ≡ line.old.items ++ (if is_cut then mark (codes "not-sure") else mark_of end)) }
+{
+    if is_cut {
+        return push_mark(line, "not-sure");
+    }
+    push_end(line, end)
+}
+
+/// Appends the mark of a walk that did not reach the root.
+fn push_end(line: &mut Vec<u8>, end: BacktraceEnd) -> Result<(), AllocError>
+    ensures { OnOk result (line.new.items ≡ line.old.items ++ mark_of end) }
+{
+    match end {
+        BacktraceEnd::Root => Ok(()),
+        end => push_mark(line, end_name(end)),
+    }
+}
+
+/// Appends the frames of a stack from the outermost on, each after a `;`.
+fn push_frames<R: Copy>(
+    alloc: Global,
+    line: &mut Vec<u8>,
+    files: &Files,
+    mappings: &[Mapping],
+    frames: &[StackFrame<R>],
+) -> Result<(), AllocError>
+    requires { IsInOrder 0 mappings.now }
+    ensures { OnOk result (line.new.items ≡ line.old.items
+        ++ frames_text (λ frame. frame_label files.now mappings.now (shown_frame frame)) frames.now) }
+{
+    for frame in frames.iter().rev() {
+        line.push(b';')?;
+        push_frame(alloc, line, files, mappings, frame)?;
+    }
+    Ok(())
+}
+
+/// Appends what a frame is called, by mappings in order.
+fn push_frame<R: Copy>(
+    alloc: Global,
+    line: &mut Vec<u8>,
+    files: &Files,
+    mappings: &[Mapping],
+    frame: &StackFrame<R>,
+) -> Result<(), AllocError>
+    requires { IsInOrder 0 mappings.now }
+    ensures { OnOk result (line.new.items ≡ line.old.items ++ frame_label files.now mappings.now (shown_frame frame.now)) }
+{
+    if frame.is_trampoline {
+        line.extend_from_slice(b"<signal handler called>")?;
+        return Ok(());
+    }
+    let place = place_of(files, mappings, frame.address.address_for_lookup());
+    push_label(alloc, line, place)
+}
+
+/// Appends what a place is called.
+#[tactic(auto, unfolding(crate::specs::Line::label_of))]
+fn push_label(alloc: Global, line: &mut Vec<u8>, place: Place<'_>) -> Result<(), AllocError>
+    ensures { OnOk result (line.new.items ≡ line.old.items ++ label_of (place_view place.entry)) }
+{
+    match place {
+        Place::Function { name, .. } => push_name(line, name)?,
+        Place::File { file, address } => {
+            push_name(line, base_name(file))?;
+            push_offset(alloc, line, address)?;
+        }
+        Place::Unmapped => line.extend_from_slice(b"[unknown]")?,
+    }
+    Ok(())
+}
+
+/// Returns a file's name without its folders.
+fn base_name(path: &[u8]) -> &[u8]
+    ensures { result.now ≡ base_name path.entry.now }
+{
+    let mut start = 0;
+    for (at, byte) in path.iter().enumerate() {
+        if *byte == b'/' {
+            start = at + 1;
+        }
+    }
+    &path[start..]
+}
+
+/// Returns the line of a sample that has no stack, without its count, by the name of its thread.
+#[tactic(auto, unfolding(crate::specs::Line::refused_line))]
+pub fn refused_line(alloc: Global, name: &[u8], why: &str) -> Result<Vec<u8>, AllocError>
+    ensures { IfOk result (λ line. line.items ≡ refused_line name.now why.now) }
+{
+    let mut line = Vec::new(alloc);
+    push_name(&mut line, name)?;
+    push_mark(&mut line, why)?;
+    Ok(line)
+}
+
+/// Appends a mark after a `;`.
+fn push_mark(line: &mut Vec<u8>, name: &str) -> Result<(), AllocError>
+    ensures { OnOk result (line.new.items ≡ line.old.items ++ mark name.now) }
+{
+    line.extend_from_slice(b";[")?;
+    line.extend_from_slice(name.as_bytes())?;
+    line.extend_from_slice(b"]")?;
+    Ok(())
+}
+
+/// Returns the lines of a stack's frames and of its end, by its process's mappings in order.
+pub fn frames_block<R: Copy>(
+    alloc: Global,
+    files: &Files,
+    mappings: &[Mapping],
+    stack: &Stack<R>,
+) -> Result<Vec<u8>, AllocError>
+    requires { IsInOrder 0 mappings.now }
+    ensures { IfOk result (λ block. block.items ≡ block_of stack.now.end
+        (frame_line files.now mappings.now) (map shown_frame stack.now.frames.items)) }
+{
+    let mut block = Vec::new(alloc);
+    push_frame_lines(alloc, &mut block, files, mappings, stack.frames.as_slice())?;
+    push_last_line(&mut block, end_text(alloc, stack.end)?.as_slice())?;
+    Ok(block)
+}
+
+/// Appends the lines of a stack's frames, the innermost first, by mappings in order.
+fn push_frame_lines<R: Copy>(
+    alloc: Global,
+    block: &mut Vec<u8>,
+    files: &Files,
+    mappings: &[Mapping],
+    frames: &[StackFrame<R>],
+) -> Result<(), AllocError>
+    requires { IsInOrder 0 mappings.now }
+    ensures { OnOk result (block.new.items ≡ block.old.items
+        ++ flat_map (λ frame. frame_line files.now mappings.now (shown_frame frame)) frames.now) }
+{
+    for frame in frames {
+        push_frame_line(alloc, block, files, mappings, frame)?;
+    }
+    Ok(())
+}
+
+/// Appends the line of a frame in a block, by mappings in order.
+#[tactic(auto, unfolding(crate::specs::Line::frame_line))]
+fn push_frame_line<R: Copy>(
+    alloc: Global,
+    block: &mut Vec<u8>,
+    files: &Files,
+    mappings: &[Mapping],
+    frame: &StackFrame<R>,
+) -> Result<(), AllocError>
+    requires { IsInOrder 0 mappings.now }
+    ensures { OnOk result (block.new.items ≡ block.old.items ++ frame_line files.now mappings.now (shown_frame frame.now)) }
+{
+    let address = frame.address.address();
+    let text = format!(in alloc; "{address:x} ")?;
+    block.extend_from_slice(text.as_bytes())?;
+    push_trampoline(block, frame.is_trampoline)?;
+    let place = place_of(files, mappings, looked_up(frame));
+    push_place(alloc, block, place)?;
+    block.extend_from_slice(found_text(frame.found).as_bytes())?;
+    block.push(b'\n')?;
+    Ok(())
+}
+
+/// Appends that a frame is in a trampoline, if it is.
+fn push_trampoline(block: &mut Vec<u8>, is_trampoline: bool) -> Result<(), AllocError>
+    ensures { OnOk result (block.new.items ≡ block.old.items ++ trampoline_text is_trampoline) }
+{
+    if is_trampoline {
+        block.extend_from_slice(b"<signal handler called> ")?;
+    }
+    Ok(())
+}
+
+/// Returns the address (AVMA) that is looked up for a frame.
+fn looked_up<R: Copy>(frame: &StackFrame<R>) -> u64
+    ensures { result ≡ looked_up (shown_frame frame.now) }
+{
+    if frame.is_trampoline {
+        frame.address.address()
+    } else {
+        frame.address.address_for_lookup()
+    }
+}
+
+/// Appends where a place is.
+#[tactic(auto, unfolding(crate::specs::Line::described))]
+fn push_place(alloc: Global, line: &mut Vec<u8>, place: Place<'_>) -> Result<(), AllocError>
+    ensures { OnOk result (line.new.items ≡ line.old.items ++ described (place_view place.entry)) }
+{
+    match place {
+        Place::Function { file, name, offset } => {
+            push_name(line, name)?;
+            push_offset(alloc, line, offset)?;
+            line.extend_from_slice(b" (")?;
+            push_name(line, file)?;
+            line.extend_from_slice(b")")?;
+        }
+        Place::File { file, address } => {
+            line.extend_from_slice(b"[unknown] (")?;
+            push_name(line, file)?;
+            push_offset(alloc, line, address)?;
+            line.extend_from_slice(b")")?;
+        }
+        Place::Unmapped => line.extend_from_slice(b"[unknown] ([unknown])")?,
+    }
+    Ok(())
+}
+
+/// Appends an offset or an address after a plus sign.
+fn push_offset(alloc: Global, line: &mut Vec<u8>, offset: u64) -> Result<(), AllocError>
+    ensures { OnOk result (line.new.items ≡ line.old.items ++ codes "+0x" ++ hexadecimal offset) }
+{
+    let text = format!(in alloc; "+0x{offset:x}")?;
+    line.extend_from_slice(text.as_bytes())?;
+    Ok(())
+}
+
+/// Returns what is said of how a frame was found.
+fn found_text(found: FoundBy) -> &'static str
+    ensures { result.now ≡ found_text found }
+{
+    match found {
+        FoundBy::First => "",
+        FoundBy::Cfi => " [cfi]",
+        FoundBy::Signal => " [signal]",
+        FoundBy::FramePointer => " [frame-pointer]",
+        FoundBy::Guess => " [guess]",
+    }
+}
+
+/// Returns what the end of a walk is called, with the address that lies in no code.
+fn end_text(alloc: Global, end: BacktraceEnd) -> Result<Vec<u8>, AllocError>
+    ensures { IfOk result (λ text. text.items ≡ end_text end) }
+{
+    let mut text = Vec::from_slice(alloc, end_name(end).as_bytes())?;
+    if let BacktraceEnd::NotCode(address) = end {
+        let address = format!(in alloc; " {address:x}")?;
+        text.extend_from_slice(address.as_bytes())?;
+    }
+    Ok(text)
 }
 
 /// Returns what the end of a walk is called.
@@ -54,42 +370,57 @@ pub fn end_name(end: BacktraceEnd) -> &'static str
     }
 }
 
-/// Returns what the end of a walk is called, with the address that lies in no code.
-fn end_text(alloc: Global, end: BacktraceEnd) -> Result<Vec<u8>, AllocError>
-    ensures { IfOk result (λ text. text.items ≡ end_text end) }
+/// Returns what a refusal is called.
+fn refusal_name(error: Error) -> &'static str
+    ensures { result.now ≡ refusal_name error }
 {
-    let mut text = Vec::from_slice(alloc, end_name(end).as_bytes())?;
-    if let BacktraceEnd::NotCode(address) = end {
-        let address = format!(in alloc; " {address:x}")?;
-        text.extend_from_slice(address.as_bytes())?;
-    }
-    Ok(text)
-}
-
-/// Returns what is said of how a frame was found.
-fn found_text(found: FoundBy) -> &'static str
-    ensures { result.now ≡ found_text found }
-{
-    match found {
-        FoundBy::First => "",
-        FoundBy::Cfi => " [cfi]",
-        FoundBy::Signal => " [signal]",
-        FoundBy::FramePointer => " [frame-pointer]",
-        FoundBy::Guess => " [guess]",
+    match error {
+        Error::CouldNotReadStack(_) => "could-not-read-stack",
+        Error::FramepointerUnwindingMovedBackwards => "moved-backwards",
+        Error::DidNotAdvance => "did-not-advance",
+        Error::IntegerOverflow => "integer-overflow",
+        Error::ReturnAddressIsNull => "null-return-address",
+        Error::OutOfMemory => "out-of-memory",
     }
 }
 
-/// Returns a file's name without its folders.
-fn base_name(path: &[u8]) -> &[u8]
-    ensures { result.now ≡ base_name path.entry.now }
+/// Returns the last line of the block of a sample that has no stack.
+pub fn refused_block(alloc: Global, why: &str) -> Result<Vec<u8>, AllocError>
+    ensures { IfOk result (λ block. block.items ≡ last_line why.now) }
 {
-    let mut start = 0;
-    for (at, byte) in path.iter().enumerate() {
-        if *byte == b'/' {
-            start = at + 1;
-        }
-    }
-    &path[start..]
+    let mut block = Vec::new(alloc);
+    push_last_line(&mut block, why.as_bytes())?;
+    Ok(block)
+}
+
+/// Appends the last line of a block, and a blank line.
+fn push_last_line(block: &mut Vec<u8>, end: &[u8]) -> Result<(), AllocError>
+    ensures { OnOk result (block.new.items ≡ block.old.items ++ last_line end.now) }
+{
+    block.extend_from_slice(b"[")?;
+    block.extend_from_slice(end)?;
+    block.extend_from_slice(b"]\n\n")?;
+    Ok(())
+}
+
+/// Returns the head of a sample's block, by the name of its thread.
+#[tactic(auto, unfolding(crate::specs::Line::head_of))]
+pub fn block_head(
+    alloc: Global,
+    name: &[u8],
+    pid: u32,
+    tid: u32,
+    time: Option<u64>,
+) -> Result<Vec<u8>, AllocError>
+    ensures { IfOk result (λ head. head.items ≡ head_of name.now pid tid time) }
+{
+    let mut head = Vec::new(alloc);
+    push_name(&mut head, name)?;
+    let numbers = format!(in alloc; " {pid}/{tid}")?;
+    head.extend_from_slice(numbers.as_bytes())?;
+    let time = time_text(alloc, time)?;
+    head.extend_from_slice(time.as_bytes())?;
+    Ok(head)
 }
 
 /// Appends a name as it is printed: a `;` becomes a colon, and a control character `\xNN`; in a name that is no UTF-8, or
@@ -105,15 +436,6 @@ pub fn push_name(line: &mut Vec<u8>, name: &[u8]) -> Result<(), AllocError>
     Ok(())
 }
 
-/// Returns a name as it is printed.
-pub fn printed_name(alloc: Global, name: &[u8]) -> Result<Vec<u8>, AllocError>
-    ensures { IfOk result (λ printed. printed.items ≡ plain name.now) }
-{
-    let mut printed = Vec::new(alloc);
-    push_name(&mut printed, name)?;
-    Ok(printed)
-}
-
 /// Appends the part of a name that is printed.
 fn push_printed(line: &mut Vec<u8>, part: &[u8]) -> Result<(), AllocError>
     ensures { OnOk result (line.new.items ≡ line.old.items ++ printed part.now) }
@@ -123,31 +445,6 @@ fn push_printed(line: &mut Vec<u8>, part: &[u8]) -> Result<(), AllocError>
         push_byte(line, is_text, *byte)?;
     }
     Ok(())
-}
-
-/// Returns whether a name is UTF-8 without control characters of C1.
-#[tactic(auto, unfolding(crate::specs::Line::is_text))]
-fn is_text(name: &[u8]) -> bool
-    ensures { result ≡ is_text name.now }
-{
-    match std::str::from_utf8(name) {
-        Ok(_) => !has_c1(name),
-        Err(_) => false,
-    }
-}
-
-/// Returns whether UTF-8 has a control character of C1.
-fn has_c1(text: &[u8]) -> bool
-    ensures { result ≡ has_c1_after 0 text.now }
-{
-    let mut previous = 0u8;
-    for byte in text {
-        if previous == 0xc2 && *byte < 0xa0 {
-            return true;
-        }
-        previous = *byte;
-    }
-    false
 }
 
 /// Appends a byte of a name as it is printed, by whether the name is a text.
@@ -183,306 +480,29 @@ fn hex_digit(number: u8) -> u8
     }
 }
 
-/// Appends an offset or an address after a plus sign.
-fn push_offset(alloc: Global, line: &mut Vec<u8>, offset: u64) -> Result<(), AllocError>
-    ensures { OnOk result (line.new.items ≡ line.old.items ++ codes "+0x" ++ hexadecimal offset) }
+/// Returns whether a name is UTF-8 without control characters of C1.
+#[tactic(auto, unfolding(crate::specs::Line::is_text))]
+fn is_text(name: &[u8]) -> bool
+    ensures { result ≡ is_text name.now }
 {
-    let text = format!(in alloc; "+0x{offset:x}")?;
-    line.extend_from_slice(text.as_bytes())?;
-    Ok(())
+    match std::str::from_utf8(name) {
+        Ok(_) => !has_c1(name),
+        Err(_) => false,
+    }
 }
 
-/// Appends what a place is called.
-#[tactic(auto, unfolding(crate::specs::Line::label_of))]
-fn push_label(alloc: Global, line: &mut Vec<u8>, place: Place<'_>) -> Result<(), AllocError>
-    ensures { OnOk result (line.new.items ≡ line.old.items ++ label_of (place_view place.entry)) }
+/// Returns whether UTF-8 has a control character of C1.
+fn has_c1(text: &[u8]) -> bool
+    ensures { result ≡ has_c1_after 0 text.now }
 {
-    match place {
-        Place::Function { name, .. } => push_name(line, name)?,
-        Place::File { file, address } => {
-            push_name(line, base_name(file))?;
-            push_offset(alloc, line, address)?;
+    let mut previous = 0u8;
+    for byte in text {
+        if previous == 0xc2 && *byte < 0xa0 {
+            return true;
         }
-        Place::Unmapped => line.extend_from_slice(b"[unknown]")?,
+        previous = *byte;
     }
-    Ok(())
-}
-
-/// Appends what a frame is called, by mappings in order.
-fn push_frame<R: Copy>(
-    alloc: Global,
-    line: &mut Vec<u8>,
-    files: &Files,
-    mappings: &[Mapping],
-    frame: &StackFrame<R>,
-) -> Result<(), AllocError>
-    requires { IsInOrder 0 mappings.now }
-    ensures { OnOk result (line.new.items ≡ line.old.items ++ frame_label files.now mappings.now (shown_frame frame.now)) }
-{
-    if frame.is_trampoline {
-        line.extend_from_slice(b"<signal handler called>")?;
-        return Ok(());
-    }
-    let place = place_of(files, mappings, frame.address.address_for_lookup());
-    push_label(alloc, line, place)
-}
-
-/// Appends the frames of a stack from the outermost on, each after a `;`.
-fn push_frames<R: Copy>(
-    alloc: Global,
-    line: &mut Vec<u8>,
-    files: &Files,
-    mappings: &[Mapping],
-    frames: &[StackFrame<R>],
-) -> Result<(), AllocError>
-    requires { IsInOrder 0 mappings.now }
-    ensures { OnOk result (line.new.items ≡ line.old.items
-        ++ frames_text (λ frame. frame_label files.now mappings.now (shown_frame frame)) frames.now) }
-{
-    for frame in frames.iter().rev() {
-        line.push(b';')?;
-        push_frame(alloc, line, files, mappings, frame)?;
-    }
-    Ok(())
-}
-
-/// Appends a mark after a `;`.
-fn push_mark(line: &mut Vec<u8>, name: &str) -> Result<(), AllocError>
-    ensures { OnOk result (line.new.items ≡ line.old.items ++ mark name.now) }
-{
-    line.extend_from_slice(b";[")?;
-    line.extend_from_slice(name.as_bytes())?;
-    line.extend_from_slice(b"]")?;
-    Ok(())
-}
-
-/// Appends the mark of a walk that did not reach the root.
-fn push_end(line: &mut Vec<u8>, end: BacktraceEnd) -> Result<(), AllocError>
-    ensures { OnOk result (line.new.items ≡ line.old.items ++ mark_of end) }
-{
-    match end {
-        BacktraceEnd::Root => Ok(()),
-        end => push_mark(line, end_name(end)),
-    }
-}
-
-/// Returns whether unwind data tells a frame, or it is the first.
-fn is_sure(found: FoundBy) -> bool
-    ensures { result ≡ is_sure_by found }
-{
-    match found {
-        FoundBy::First | FoundBy::Cfi | FoundBy::Signal => true,
-        FoundBy::FramePointer | FoundBy::Guess => false,
-    }
-}
-
-/// Returns the frames before the first that is not sure.
-pub fn sure_part<R: Copy>(frames: &[StackFrame<R>]) -> &[StackFrame<R>]
-    ensures { map shown_frame result.now ≡ part_of true (map shown_frame frames.entry.now) }
-{
-    let mut count = 0;
-    for frame in frames {
-        if !is_sure(frame.found) {
-            return &frames[..count];
-        }
-        count += 1;
-    }
-    frames
-}
-
-/// Appends the mark of a stack: of its end, or that it is cut before a frame that is not sure.
-fn push_end_of_part(line: &mut Vec<u8>, end: BacktraceEnd, is_cut: bool) -> Result<(), AllocError>
-    ensures { OnOk result (line.new.items ≡ line.old.items ++ (if is_cut then mark (codes "not-sure") else mark_of end)) }
-{
-    if is_cut {
-        return push_mark(line, "not-sure");
-    }
-    push_end(line, end)
-}
-
-/// Returns the line of a stack without its count, by the name of its thread and by its process's mappings
-/// in order. Only the frames before the first that is not sure are in it, where `sure` asks for that.
-pub fn folded_line<R: Copy>(
-    alloc: Global,
-    files: &Files,
-    mappings: &[Mapping],
-    name: &[u8],
-    stack: &Stack<R>,
-    sure: bool,
-) -> Result<Vec<u8>, AllocError>
-    requires { IsInOrder 0 mappings.now }
-    ensures { IfOk result (λ line. line.items ≡ line_of sure name.now stack.now.end
-        (frame_label files.now mappings.now) (map shown_frame stack.now.frames.items)) }
-{
-    let frames = stack.frames.as_slice();
-    let part = part_of(frames, sure);
-    let is_cut = part.len() < frames.len();
-    line_of_part(alloc, files, mappings, name, part, stack.end, is_cut)
-}
-
-/// Returns the frames of a folded stack: all, or those before the first that is not sure.
-fn part_of<R: Copy>(frames: &[StackFrame<R>], sure: bool) -> &[StackFrame<R>]
-    ensures { map shown_frame result.now ≡ part_of sure (map shown_frame frames.entry.now) }
-{
-    if sure {
-        return sure_part(frames);
-    }
-    frames
-}
-
-/// Returns the line of a part of a stack, which may be cut, by the name of its thread and by its process's mappings in
-/// order.
-fn line_of_part<R: Copy>(
-    alloc: Global,
-    files: &Files,
-    mappings: &[Mapping],
-    name: &[u8],
-    part: &[StackFrame<R>],
-    end: BacktraceEnd,
-    is_cut: bool,
-) -> Result<Vec<u8>, AllocError>
-    requires { IsInOrder 0 mappings.now }
-    ensures { IfOk result (λ line. line.items ≡ plain name.now ++ (if is_cut then mark (codes "not-sure") else mark_of end)
-        ++ frames_text (frame_label files.now mappings.now) (map shown_frame part.now)) }
-{
-    let mut line = Vec::new(alloc);
-    push_name(&mut line, name)?;
-    push_end_of_part(&mut line, end, is_cut)?;
-    push_frames(alloc, &mut line, files, mappings, part)?;
-    Ok(line)
-}
-
-/// Returns the line of a sample that has no stack, without its count, by the name of its thread.
-#[tactic(auto, unfolding(crate::specs::Line::refused_line))]
-pub fn refused_line(alloc: Global, name: &[u8], why: &str) -> Result<Vec<u8>, AllocError>
-    ensures { IfOk result (λ line. line.items ≡ refused_line name.now why.now) }
-{
-    let mut line = Vec::new(alloc);
-    push_name(&mut line, name)?;
-    push_mark(&mut line, why)?;
-    Ok(line)
-}
-
-/// Appends where a place is.
-#[tactic(auto, unfolding(crate::specs::Line::described))]
-fn push_place(alloc: Global, line: &mut Vec<u8>, place: Place<'_>) -> Result<(), AllocError>
-    ensures { OnOk result (line.new.items ≡ line.old.items ++ described (place_view place.entry)) }
-{
-    match place {
-        Place::Function { file, name, offset } => {
-            push_name(line, name)?;
-            push_offset(alloc, line, offset)?;
-            line.extend_from_slice(b" (")?;
-            push_name(line, file)?;
-            line.extend_from_slice(b")")?;
-        }
-        Place::File { file, address } => {
-            line.extend_from_slice(b"[unknown] (")?;
-            push_name(line, file)?;
-            push_offset(alloc, line, address)?;
-            line.extend_from_slice(b")")?;
-        }
-        Place::Unmapped => line.extend_from_slice(b"[unknown] ([unknown])")?,
-    }
-    Ok(())
-}
-
-/// Appends the line of a frame in a block, by mappings in order.
-#[tactic(auto, unfolding(crate::specs::Line::frame_line))]
-fn push_frame_line<R: Copy>(
-    alloc: Global,
-    block: &mut Vec<u8>,
-    files: &Files,
-    mappings: &[Mapping],
-    frame: &StackFrame<R>,
-) -> Result<(), AllocError>
-    requires { IsInOrder 0 mappings.now }
-    ensures { OnOk result (block.new.items ≡ block.old.items ++ frame_line files.now mappings.now (shown_frame frame.now)) }
-{
-    let address = frame.address.address();
-    let text = format!(in alloc; "{address:x} ")?;
-    block.extend_from_slice(text.as_bytes())?;
-    push_trampoline(block, frame.is_trampoline)?;
-    let place = place_of(files, mappings, looked_up(frame));
-    push_place(alloc, block, place)?;
-    block.extend_from_slice(found_text(frame.found).as_bytes())?;
-    block.push(b'\n')?;
-    Ok(())
-}
-
-/// Returns the address (AVMA) that is looked up for a frame.
-fn looked_up<R: Copy>(frame: &StackFrame<R>) -> u64
-    ensures { result ≡ looked_up (shown_frame frame.now) }
-{
-    if frame.is_trampoline {
-        frame.address.address()
-    } else {
-        frame.address.address_for_lookup()
-    }
-}
-
-/// Appends that a frame is in a trampoline, if it is.
-fn push_trampoline(block: &mut Vec<u8>, is_trampoline: bool) -> Result<(), AllocError>
-    ensures { OnOk result (block.new.items ≡ block.old.items ++ trampoline_text is_trampoline) }
-{
-    if is_trampoline {
-        block.extend_from_slice(b"<signal handler called> ")?;
-    }
-    Ok(())
-}
-
-/// Appends the lines of a stack's frames, the innermost first, by mappings in order.
-fn push_frame_lines<R: Copy>(
-    alloc: Global,
-    block: &mut Vec<u8>,
-    files: &Files,
-    mappings: &[Mapping],
-    frames: &[StackFrame<R>],
-) -> Result<(), AllocError>
-    requires { IsInOrder 0 mappings.now }
-    ensures { OnOk result (block.new.items ≡ block.old.items
-        ++ flat_map (λ frame. frame_line files.now mappings.now (shown_frame frame)) frames.now) }
-{
-    for frame in frames {
-        push_frame_line(alloc, block, files, mappings, frame)?;
-    }
-    Ok(())
-}
-
-/// Appends the last line of a block, and a blank line.
-fn push_last_line(block: &mut Vec<u8>, end: &[u8]) -> Result<(), AllocError>
-    ensures { OnOk result (block.new.items ≡ block.old.items ++ last_line end.now) }
-{
-    block.extend_from_slice(b"[")?;
-    block.extend_from_slice(end)?;
-    block.extend_from_slice(b"]\n\n")?;
-    Ok(())
-}
-
-/// Returns the lines of a stack's frames and of its end, by its process's mappings in order.
-pub fn frames_block<R: Copy>(
-    alloc: Global,
-    files: &Files,
-    mappings: &[Mapping],
-    stack: &Stack<R>,
-) -> Result<Vec<u8>, AllocError>
-    requires { IsInOrder 0 mappings.now }
-    ensures { IfOk result (λ block. block.items ≡ block_of stack.now.end
-        (frame_line files.now mappings.now) (map shown_frame stack.now.frames.items)) }
-{
-    let mut block = Vec::new(alloc);
-    push_frame_lines(alloc, &mut block, files, mappings, stack.frames.as_slice())?;
-    push_last_line(&mut block, end_text(alloc, stack.end)?.as_slice())?;
-    Ok(block)
-}
-
-/// Returns the last line of the block of a sample that has no stack.
-pub fn refused_block(alloc: Global, why: &str) -> Result<Vec<u8>, AllocError>
-    ensures { IfOk result (λ block. block.items ≡ last_line why.now) }
-{
-    let mut block = Vec::new(alloc);
-    push_last_line(&mut block, why.as_bytes())?;
-    Ok(block)
+    false
 }
 
 /// Returns the time of a sample with which the head of its block ends.
@@ -493,24 +513,4 @@ fn time_text(alloc: Global, time: Option<u64>) -> Result<String, AllocError>
         Some(time) => Ok(format!(in alloc; " {time}:\n")?),
         None => Ok(format!(in alloc; ":\n")?),
     }
-}
-
-/// Returns the head of a sample's block, by the name of its thread.
-#[tactic(auto, unfolding(crate::specs::Line::head_of))]
-pub fn block_head(
-    alloc: Global,
-    name: &[u8],
-    pid: u32,
-    tid: u32,
-    time: Option<u64>,
-) -> Result<Vec<u8>, AllocError>
-    ensures { IfOk result (λ head. head.items ≡ head_of name.now pid tid time) }
-{
-    let mut head = Vec::new(alloc);
-    push_name(&mut head, name)?;
-    let numbers = format!(in alloc; " {pid}/{tid}")?;
-    head.extend_from_slice(numbers.as_bytes())?;
-    let time = time_text(alloc, time)?;
-    head.extend_from_slice(time.as_bytes())?;
-    Ok(head)
 }

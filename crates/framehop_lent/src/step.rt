@@ -11,57 +11,6 @@ ghost use Rattle.framehop_lent.specs.Window.{told_in, words_in, noted, unreadabl
 use crate::window::{Window, told, word_at};
 use framehop::{Error, FrameAddress, Unwinder};
 
-/// Returns the address (AVMA), if there is one and no window tells of it.
-fn untold(windows: &[Window<'_>], asked: Option<u64>) -> Option<u64>
-    ensures some { IfSome result (λ address. told_in windows.now address ≡ None) }
-    ensures none { result ≡ None → IfSome asked (λ address. told_in windows.now address ≢ None) }
-{
-    let address = asked?;
-    if told(windows, address).is_some() {
-        return None;
-    }
-    Some(address)
-}
-
-/// Returns the address (AVMA) of the stack word that a step could not read, if that is why it was refused.
-fn unreadable(answer: Result<Option<u64>, Error>) -> Option<u64>
-    ensures { result ≡ unreadable_word answer }
-{
-    match answer {
-        Err(Error::CouldNotReadStack(address)) => Some(address),
-        _ => None,
-    }
-}
-
-/// Returns what the windows tell of an address (AVMA). The first one of which they tell nothing is noted.
-#[inline(never)]
-fn look_up(windows: &[Window<'_>], first_missing: &mut Option<u64>, address: u64) -> Result<u64, ()>
-    ensures reads { result ≡ reply (words_in windows.now address) }
-    ensures notes { first_missing.new ≡ noted windows.now first_missing.old address }
-{
-    match told(windows, address) {
-        Some(word) => word,
-        None => {
-            *first_missing = first_missing.or(Some(address));
-            Err(())
-        }
-    }
-}
-
-/// Returns the first word (AVMA) that was asked for and of which no window tells, if there is one.
-#[inline(never)]
-fn missing_word(
-    windows: &[Window<'_>],
-    first_missing: Option<u64>,
-    answer: Result<Option<u64>, Error>,
-) -> Option<u64>
-    ensures missing { IfSome result (λ asked. told_in windows.now asked ≡ None) }
-    ensures none { result ≡ None → IfSome first_missing (λ address. told_in windows.now address ≢ None) }
-    ensures unreadable { result ≡ None → IfSome (unreadable_word answer) (λ address. told_in windows.now address ≢ None) }
-{
-    untold(windows, first_missing).or(untold(windows, unreadable(answer)))
-}
-
 /// Unwinds a single frame over the words of windows: [`Unwinder::unwind_frame`] with a callback that
 /// reads them, which can't read what no window has.
 ///
@@ -113,4 +62,55 @@ pub fn step_over<U: Unwinder>(
         _ => missing_word(windows, first_missing, answer),
     };
     answer
+}
+
+/// Returns what the windows tell of an address (AVMA). The first one of which they tell nothing is noted.
+#[inline(never)]
+fn look_up(windows: &[Window<'_>], first_missing: &mut Option<u64>, address: u64) -> Result<u64, ()>
+    ensures reads { result ≡ reply (words_in windows.now address) }
+    ensures notes { first_missing.new ≡ noted windows.now first_missing.old address }
+{
+    match told(windows, address) {
+        Some(word) => word,
+        None => {
+            *first_missing = first_missing.or(Some(address));
+            Err(())
+        }
+    }
+}
+
+/// Returns the first word (AVMA) that was asked for and of which no window tells, if there is one.
+#[inline(never)]
+fn missing_word(
+    windows: &[Window<'_>],
+    first_missing: Option<u64>,
+    answer: Result<Option<u64>, Error>,
+) -> Option<u64>
+    ensures missing { IfSome result (λ asked. told_in windows.now asked ≡ None) }
+    ensures none { result ≡ None → IfSome first_missing (λ address. told_in windows.now address ≢ None) }
+    ensures unreadable { result ≡ None → IfSome (unreadable_word answer) (λ address. told_in windows.now address ≢ None) }
+{
+    untold(windows, first_missing).or(untold(windows, unreadable(answer)))
+}
+
+/// Returns the address (AVMA), if there is one and no window tells of it.
+fn untold(windows: &[Window<'_>], asked: Option<u64>) -> Option<u64>
+    ensures some { IfSome result (λ address. told_in windows.now address ≡ None) }
+    ensures none { result ≡ None → IfSome asked (λ address. told_in windows.now address ≢ None) }
+{
+    let address = asked?;
+    if told(windows, address).is_some() {
+        return None;
+    }
+    Some(address)
+}
+
+/// Returns the address (AVMA) of the stack word that a step could not read, if that is why it was refused.
+fn unreadable(answer: Result<Option<u64>, Error>) -> Option<u64>
+    ensures { result ≡ unreadable_word answer }
+{
+    match answer {
+        Err(Error::CouldNotReadStack(address)) => Some(address),
+        _ => None,
+    }
 }

@@ -26,44 +26,6 @@ pub enum WalkStop {
     Missing(u64),
 }
 
-/// Writes the addresses of the next frames of an iterator: how many they are, and how the walk
-/// ended.
-fn next_into<U: Unwinder, F: FnMut(u64) -> Result<u64, ()>>(
-    unwinding: &mut UnwindIterator<'_, '_, '_, U, F>,
-    frames: &mut [u64],
-) -> (usize, WalkEnd)
-    requires { F.IsAlwaysCallable (read_stack_of unwinding.old).now }
-    ensures callable { F.IsAlwaysCallable (read_stack_of unwinding.new).now }
-    ensures same_unwinder { unwinder_of unwinding.new ≡ unwinder_of unwinding.old }
-    ensures same_cache { (cache_of unwinding.new).ghost_name ≡ (cache_of unwinding.old).ghost_name }
-    ensures same_callback { (read_stack_of unwinding.new).ghost_name ≡ (read_stack_of unwinding.old).ghost_name }
-    ensures stays_sound { (other : UnwinderView) → AreApart (U.unwinder_view (unwinder_of unwinding.old).now) other
-        → U.is_sound other (cache_of unwinding.old).now → U.is_sound other (cache_of unwinding.new).now }
-    ensures fits { result.0 ≤ length frames.old }
-    ensures others { drop result.0 frames.new ≡ drop result.0 frames.old }
-    ensures may_run_out { result.1 ≡ WalkEnd.Refused Error.OutOfMemory
-        → (location : FrameLocation) × (cache : U.Cache) × U.may_run_out (unwinder_of unwinding.old).now cache location }
-    ensures answers { U.is_sound (U.unwinder_view (unwinder_of unwinding.old).now) (cache_of unwinding.old).now
-        → Answering F.FnMut (read_stack_of unwinding.old).now (read_stack_of unwinding.new).now (λ memory.
-        let step : FrameLocation → U.UnwindRegs → Outcome U.UnwindRegs = λ location regs. U.step (unwinder_of unwinding.old).now location regs memory in
-        let limit = length frames.old in
-        let walk = walk_on step limit (progress_in unwinding.old) (regs_of unwinding.old) in
-        BeginsWalk walk result.0 frames.new
-        × (result.1 ≡ WalkEnd.Refused Error.OutOfMemory → IsWrittenWalk (walk_on step result.0 (progress_in unwinding.old) (regs_of unwinding.old)) result.0 frames.new WalkEnd.Limit (regs_of unwinding.new))
-        × (result.1 ≢ WalkEnd.Refused Error.OutOfMemory → IsWrittenWalk walk result.0 frames.new result.1 (regs_of unwinding.new)
-        × ((cache_of unwinding.new).now
-        ≡ cache_on step (U.cache_after (unwinder_of unwinding.old).now) limit (progress_in unwinding.old) (regs_of unwinding.old) (cache_of unwinding.old).now))) }
-{
-    for i in 0..frames.len() {
-        match unwinding.next() {
-            Ok(Some(frame)) => frames[i] = frame.address(),
-            Ok(None) => return (i, WalkEnd::Root),
-            Err(error) => return (i, WalkEnd::Refused(error)),
-        }
-    }
-    (frames.len(), WalkEnd::Limit)
-}
-
 /// Walks a stack over the words of a window, from an instruction pointer (AVMA) and initial
 /// registers on: writes the addresses (AVMAs) of its frames, the instruction pointer first, and
 /// returns how many they are, and how the walk ended. The registers are those at its end.
@@ -102,43 +64,42 @@ pub fn walk_into<U: Unwinder>(
     walked
 }
 
-/// Returns the caller of a frame over the words of windows, or why there is none. The registers become the
-/// caller's; where a word is missing, they are as before.
-#[inline(always)]
-fn caller_over<U: Unwinder>(
-    unwinder: &U,
-    cache: &mut U::Cache,
-    callee: FrameAddress,
-    regs: &mut U::UnwindRegs,
-    windows: &[Window<'_>],
-) -> Result<FrameAddress, WalkStop>
-    ensures stays_sound { (other : UnwinderView) → AreApart (U.unwinder_view unwinder.now) other
-        → U.is_sound other cache.old → U.is_sound other cache.new }
-    ensures missing { IfErr result (λ stop. IsUntold windows.now stop) }
-    ensures kept { IfErr result (λ stop. stop ≢ WalkStop.Ended (WalkEnd.Refused Error.ReturnAddressIsNull) → regs.new ≡ regs.old) }
-    ensures may_run_out { result ≡ Err (WalkStop.Ended (WalkEnd.Refused Error.OutOfMemory))
-        → U.may_run_out unwinder.now cache.old (location_of callee) }
-    ensures cached { MatchResult result
-        (λ _. cache.new ≡ U.cache_after unwinder.now cache.old (location_of callee))
-        (λ stop. WhereEnded stop (λ _. cache.new ≡ U.cache_after unwinder.now cache.old (location_of callee))) }
-    ensures answers { U.is_sound (U.unwinder_view unwinder.now) cache.old → (memory : Memory) → AgreesWith windows.now memory →
-        let step : FrameLocation → U.UnwindRegs → Outcome U.UnwindRegs = λ location regs. U.step unwinder.now location regs memory in
-        IsCallerOrEnd (next_of step (at_frame (location_of callee)) regs.old) result regs.new }
+/// Writes the addresses of the next frames of an iterator: how many they are, and how the walk
+/// ended.
+fn next_into<U: Unwinder, F: FnMut(u64) -> Result<u64, ()>>(
+    unwinding: &mut UnwindIterator<'_, '_, '_, U, F>,
+    frames: &mut [u64],
+) -> (usize, WalkEnd)
+    requires { F.IsAlwaysCallable (read_stack_of unwinding.old).now }
+    ensures callable { F.IsAlwaysCallable (read_stack_of unwinding.new).now }
+    ensures same_unwinder { unwinder_of unwinding.new ≡ unwinder_of unwinding.old }
+    ensures same_cache { (cache_of unwinding.new).ghost_name ≡ (cache_of unwinding.old).ghost_name }
+    ensures same_callback { (read_stack_of unwinding.new).ghost_name ≡ (read_stack_of unwinding.old).ghost_name }
+    ensures stays_sound { (other : UnwinderView) → AreApart (U.unwinder_view (unwinder_of unwinding.old).now) other
+        → U.is_sound other (cache_of unwinding.old).now → U.is_sound other (cache_of unwinding.new).now }
+    ensures fits { result.0 ≤ length frames.old }
+    ensures others { drop result.0 frames.new ≡ drop result.0 frames.old }
+    ensures may_run_out { result.1 ≡ WalkEnd.Refused Error.OutOfMemory
+        → (location : FrameLocation) × (cache : U.Cache) × U.may_run_out (unwinder_of unwinding.old).now cache location }
+    ensures answers { U.is_sound (U.unwinder_view (unwinder_of unwinding.old).now) (cache_of unwinding.old).now
+        → Answering F.FnMut (read_stack_of unwinding.old).now (read_stack_of unwinding.new).now (λ memory.
+        let step : FrameLocation → U.UnwindRegs → Outcome U.UnwindRegs = λ location regs. U.step (unwinder_of unwinding.old).now location regs memory in
+        let limit = length frames.old in
+        let walk = walk_on step limit (progress_in unwinding.old) (regs_of unwinding.old) in
+        BeginsWalk walk result.0 frames.new
+        × (result.1 ≡ WalkEnd.Refused Error.OutOfMemory → IsWrittenWalk (walk_on step result.0 (progress_in unwinding.old) (regs_of unwinding.old)) result.0 frames.new WalkEnd.Limit (regs_of unwinding.new))
+        × (result.1 ≢ WalkEnd.Refused Error.OutOfMemory → IsWrittenWalk walk result.0 frames.new result.1 (regs_of unwinding.new)
+        × ((cache_of unwinding.new).now
+        ≡ cache_on step (U.cache_after (unwinder_of unwinding.old).now) limit (progress_in unwinding.old) (regs_of unwinding.old) (cache_of unwinding.old).now))) }
 {
-    let before = *regs;
-    let mut missing = None;
-    let answer = step_over(unwinder, cache, callee, regs, windows, &mut missing);
-    if let Some(address) = missing {
-        *regs = before;
-        return Err(WalkStop::Missing(address));
+    for i in 0..frames.len() {
+        match unwinding.next() {
+            Ok(Some(frame)) => frames[i] = frame.address(),
+            Ok(None) => return (i, WalkEnd::Root),
+            Err(error) => return (i, WalkEnd::Refused(error)),
+        }
     }
-    match answer {
-        Ok(Some(return_address)) => FrameAddress::from_return_address(return_address).ok_or(
-            WalkStop::Ended(WalkEnd::Refused(Error::ReturnAddressIsNull)),
-        ),
-        Ok(None) => Err(WalkStop::Ended(WalkEnd::Root)),
-        Err(error) => Err(WalkStop::Ended(WalkEnd::Refused(error))),
-    }
+    (frames.len(), WalkEnd::Limit)
 }
 
 /// Walks on from a frame over the words of windows: writes the return addresses (AVMAs) of the
@@ -179,4 +140,43 @@ pub fn walk_on<U: Unwinder>(
         }
     }
     (frames.len(), WalkStop::Ended(WalkEnd::Limit))
+}
+
+/// Returns the caller of a frame over the words of windows, or why there is none. The registers become the
+/// caller's; where a word is missing, they are as before.
+#[inline(always)]
+fn caller_over<U: Unwinder>(
+    unwinder: &U,
+    cache: &mut U::Cache,
+    callee: FrameAddress,
+    regs: &mut U::UnwindRegs,
+    windows: &[Window<'_>],
+) -> Result<FrameAddress, WalkStop>
+    ensures stays_sound { (other : UnwinderView) → AreApart (U.unwinder_view unwinder.now) other
+        → U.is_sound other cache.old → U.is_sound other cache.new }
+    ensures missing { IfErr result (λ stop. IsUntold windows.now stop) }
+    ensures kept { IfErr result (λ stop. stop ≢ WalkStop.Ended (WalkEnd.Refused Error.ReturnAddressIsNull) → regs.new ≡ regs.old) }
+    ensures may_run_out { result ≡ Err (WalkStop.Ended (WalkEnd.Refused Error.OutOfMemory))
+        → U.may_run_out unwinder.now cache.old (location_of callee) }
+    ensures cached { MatchResult result
+        (λ _. cache.new ≡ U.cache_after unwinder.now cache.old (location_of callee))
+        (λ stop. WhereEnded stop (λ _. cache.new ≡ U.cache_after unwinder.now cache.old (location_of callee))) }
+    ensures answers { U.is_sound (U.unwinder_view unwinder.now) cache.old → (memory : Memory) → AgreesWith windows.now memory →
+        let step : FrameLocation → U.UnwindRegs → Outcome U.UnwindRegs = λ location regs. U.step unwinder.now location regs memory in
+        IsCallerOrEnd (next_of step (at_frame (location_of callee)) regs.old) result regs.new }
+{
+    let before = *regs;
+    let mut missing = None;
+    let answer = step_over(unwinder, cache, callee, regs, windows, &mut missing);
+    if let Some(address) = missing {
+        *regs = before;
+        return Err(WalkStop::Missing(address));
+    }
+    match answer {
+        Ok(Some(return_address)) => FrameAddress::from_return_address(return_address).ok_or(
+            WalkStop::Ended(WalkEnd::Refused(Error::ReturnAddressIsNull)),
+        ),
+        Ok(None) => Err(WalkStop::Ended(WalkEnd::Root)),
+        Err(error) => Err(WalkStop::Ended(WalkEnd::Refused(error))),
+    }
 }

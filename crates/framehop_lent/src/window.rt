@@ -12,21 +12,6 @@ pub struct Window<'a> {
     pub words: &'a [u64],
 }
 
-/// Returns the stack word at an address (AVMA), where word `i` is at `base + 8 * i`, and no other address
-/// can be read.
-#[inline(always)]
-pub fn word_at(base: u64, words: &[u64], address: u64) -> Result<u64, ()>
-    ensures { result ≡ reply (words_from base words.now address) }
-{
-    let Some(offset) = address.checked_sub(base) else {
-        return Err(());
-    };
-    if offset % 8 != 0 {
-        return Err(());
-    }
-    words.get((offset / 8) as usize).copied().ok_or(())
-}
-
 impl Window<'_> {
     /// Returns what the window tells of an address (AVMA): its word there, or that it can't be read, or
     /// nothing (`None`).
@@ -46,6 +31,21 @@ impl Window<'_> {
             Err(()) => None,
         }
     }
+}
+
+/// Returns the stack word at an address (AVMA), where word `i` is at `base + 8 * i`, and no other address
+/// can be read.
+#[inline(always)]
+pub fn word_at(base: u64, words: &[u64], address: u64) -> Result<u64, ()>
+    ensures { result ≡ reply (words_from base words.now address) }
+{
+    let Some(offset) = address.checked_sub(base) else {
+        return Err(());
+    };
+    if offset % 8 != 0 {
+        return Err(());
+    }
+    words.get((offset / 8) as usize).copied().ok_or(())
 }
 
 /// Returns what the first window that tells of an address (AVMA) tells of it, or `None` if none does.

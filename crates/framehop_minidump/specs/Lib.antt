@@ -11,6 +11,7 @@ pub mod SystemInfo
 pub mod MiscInfo
 pub mod Memory
 pub mod MemoryInfo
+pub mod LinuxMaps
 pub mod Thread
 pub mod Exception
 pub mod Registers

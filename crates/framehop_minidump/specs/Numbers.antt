@@ -34,6 +34,9 @@ MiscInfoStream = 15
 abbrev pub MemoryInfoListStream : ℕ
 MemoryInfoListStream = 16
 
+abbrev pub MD_LINUX_MAPS : ℕ
+MD_LINUX_MAPS = 0x47670009
+
 -- Flags1 of MINIDUMP_MISC_INFO
 abbrev pub MINIDUMP_MISC1_PROCESS_ID : ℕ
 MINIDUMP_MISC1_PROCESS_ID = 1

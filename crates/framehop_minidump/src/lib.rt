@@ -6,6 +6,7 @@ pub mod codeview;
 pub mod error;
 pub mod exception;
 pub mod header;
+pub mod linux_maps;
 mod list;
 pub mod location;
 pub mod memory;

@@ -36,83 +36,6 @@ pub struct Rsds<'a> {
     pub guid_and_age: &'a [u8],
 }
 
-/// Returns the record that the bytes are, if they are one.
-fn rsds_in(bytes: &[u8]) -> Option<Rsds<'_>>
-    ensures { option_map rsds_view result ≡ rsds_in bytes.entry.now }
-{
-    if bytes.len() < RSDS_SIZE || u32_at(bytes, 0) != RSDS {
-        return None;
-    }
-    Some(Rsds {
-        guid: front(back(bytes, 4), 16),
-        age: u32_at(bytes, 20),
-        path: string_at(bytes, 24),
-        guid_and_age: front(back(bytes, 4), 20),
-    })
-}
-
-/// Returns the record of an entry of the debug directory, if it has one and the file holds it.
-fn rsds_of_entry<'a>(file: &'a [u8], entry: &[u8; ENTRY_SIZE]) -> Option<Rsds<'a>>
-    ensures { option_map rsds_view result ≡ rsds_of_entry file.entry.now entry.now }
-{
-    if u32_at(entry, 12) != CODEVIEW {
-        return None;
-    }
-    let (size, offset) = (u32_at(entry, 16), u32_at(entry, 24));
-    match read_block(file, u64::from(offset), u64::from(size)) {
-        Ok(bytes) => rsds_in(bytes),
-        Err(_) => None,
-    }
-}
-
-/// Returns the record of the first entry that has one.
-fn first_rsds<'a>(file: &'a [u8], entries: &[[u8; ENTRY_SIZE]]) -> Option<Rsds<'a>>
-    ensures { option_map rsds_view result ≡ first_rsds file.entry.now entries.now }
-{
-    for entry in entries {
-        let found = rsds_of_entry(file, entry);
-        if found.is_some() {
-            return found;
-        }
-    }
-    None
-}
-
-/// Returns the bytes of the debug directory, none where there is no such directory.
-fn debug_bytes<'a>(
-    file: &'a [u8],
-    header: FileHeader,
-    sections: &[SectionHeader],
-) -> Result<&'a [u8], PeError>
-    ensures { MatchResult result
-        (λ bytes. debug_bytes_of file.entry.now header sections.now ≡ Ok bytes.now)
-        (λ error. debug_bytes_of file.entry.now header sections.now ≡ Err error) }
-{
-    match header.debug_directory {
-        Some(directory) => {
-            let (rva, size) = (directory.virtual_address, directory.size);
-            read_at_rva(file, header, sections, rva, size)
-        }
-        None => Ok(&[]),
-    }
-}
-
-/// Returns the entries of the debug directory.
-#[tactic(auto, unfolding(crate::specs::CodeView::debug_entries_of))]
-fn debug_entries<'a>(
-    file: &'a [u8],
-    header: FileHeader,
-    sections: &[SectionHeader],
-) -> Result<&'a [[u8; ENTRY_SIZE]], PeError>
-    ensures { MatchResult result
-        (λ entries. debug_entries_of file.entry.now header sections.now ≡ Ok entries.now)
-        (λ error. debug_entries_of file.entry.now header sections.now ≡ Err error) }
-{
-    let bytes = debug_bytes(file, header, sections)?;
-    let (entries, _) = bytes.as_chunks::<ENTRY_SIZE>();
-    Ok(entries)
-}
-
 /// Reads which program database belongs to a file: the record "RSDS" of the first entry of the debug directory
 /// that has one, or `None` where no entry has. An entry whose bytes the file does not hold has none.
 ///
@@ -135,4 +58,81 @@ pub fn read_rsds<'a>(
 {
     let entries = debug_entries(file, header, sections)?;
     Ok(first_rsds(file, entries))
+}
+
+/// Returns the entries of the debug directory.
+#[tactic(auto, unfolding(crate::specs::CodeView::debug_entries_of))]
+fn debug_entries<'a>(
+    file: &'a [u8],
+    header: FileHeader,
+    sections: &[SectionHeader],
+) -> Result<&'a [[u8; ENTRY_SIZE]], PeError>
+    ensures { MatchResult result
+        (λ entries. debug_entries_of file.entry.now header sections.now ≡ Ok entries.now)
+        (λ error. debug_entries_of file.entry.now header sections.now ≡ Err error) }
+{
+    let bytes = debug_bytes(file, header, sections)?;
+    let (entries, _) = bytes.as_chunks::<ENTRY_SIZE>();
+    Ok(entries)
+}
+
+/// Returns the bytes of the debug directory, none where there is no such directory.
+fn debug_bytes<'a>(
+    file: &'a [u8],
+    header: FileHeader,
+    sections: &[SectionHeader],
+) -> Result<&'a [u8], PeError>
+    ensures { MatchResult result
+        (λ bytes. debug_bytes_of file.entry.now header sections.now ≡ Ok bytes.now)
+        (λ error. debug_bytes_of file.entry.now header sections.now ≡ Err error) }
+{
+    match header.debug_directory {
+        Some(directory) => {
+            let (rva, size) = (directory.virtual_address, directory.size);
+            read_at_rva(file, header, sections, rva, size)
+        }
+        None => Ok(&[]),
+    }
+}
+
+/// Returns the record of the first entry that has one.
+fn first_rsds<'a>(file: &'a [u8], entries: &[[u8; ENTRY_SIZE]]) -> Option<Rsds<'a>>
+    ensures { option_map rsds_view result ≡ first_rsds file.entry.now entries.now }
+{
+    for entry in entries {
+        let found = rsds_of_entry(file, entry);
+        if found.is_some() {
+            return found;
+        }
+    }
+    None
+}
+
+/// Returns the record of an entry of the debug directory, if it has one and the file holds it.
+fn rsds_of_entry<'a>(file: &'a [u8], entry: &[u8; ENTRY_SIZE]) -> Option<Rsds<'a>>
+    ensures { option_map rsds_view result ≡ rsds_of_entry file.entry.now entry.now }
+{
+    if u32_at(entry, 12) != CODEVIEW {
+        return None;
+    }
+    let (size, offset) = (u32_at(entry, 16), u32_at(entry, 24));
+    match read_block(file, u64::from(offset), u64::from(size)) {
+        Ok(bytes) => rsds_in(bytes),
+        Err(_) => None,
+    }
+}
+
+/// Returns the record that the bytes are, if they are one.
+fn rsds_in(bytes: &[u8]) -> Option<Rsds<'_>>
+    ensures { option_map rsds_view result ≡ rsds_in bytes.entry.now }
+{
+    if bytes.len() < RSDS_SIZE || u32_at(bytes, 0) != RSDS {
+        return None;
+    }
+    Some(Rsds {
+        guid: front(back(bytes, 4), 16),
+        age: u32_at(bytes, 20),
+        path: string_at(bytes, 24),
+        guid_and_age: front(back(bytes, 4), 20),
+    })
 }

@@ -85,47 +85,30 @@ pub struct FileHeader {
     pub section_table: u64,
 }
 
-/// Returns the machine of a number.
-fn machine_of(number: u16) -> Machine
-    ensures { result ≡ machine_of number }
+/// Reads the headers of a PE file. A data directory that the optional header does not have, or whose address
+/// or size is 0, is `None`.
+///
+/// # Errors
+///
+/// The first of these:
+///
+/// - `Eof` where the file ends before the DOS header does;
+/// - `NotPe` where it does not begin with "MZ";
+/// - `Eof` where it ends before the COFF header and the magic number after it do;
+/// - `NotPe` where the signature is another;
+/// - `NotPe32Plus` where the magic number is another;
+/// - `ShortOptionalHeader` where `SizeOfOptionalHeader` is less than that of its fields;
+/// - `Eof` where the file ends before the optional header does.
+///
+/// Source: Microsoft, "PE Format": "MS-DOS Stub", "Signature", "COFF File Header" and "Optional Header".
+#[tactic(auto, unfolding(crate::specs::Header::file_header_of))]
+pub fn read_file_header(file: &[u8]) -> Result<FileHeader, PeError>
+    ensures { result ≡ file_header_of file.now }
 {
-    match number {
-        AMD64 => Machine::X86_64,
-        ARM64 => Machine::Aarch64,
-        _ => Machine::Other(number),
-    }
-}
-
-/// Returns the data directory of an index, if the optional header has it and it has bytes.
-fn directory(optional: &[u8], index: usize) -> Option<DataDirectory>
-    requires fields { 112 ≤ length optional.now }
-    requires listed { index < 16 }
-    ensures { result ≡ directory_of optional.now index }
-{
-    let at = FIELDS_SIZE + 8 * index;
-    if index >= u32_at(optional, 108) as usize || at + 8 > optional.len() {
-        return None;
-    }
-    let (virtual_address, size) = (u32_at(optional, at), u32_at(optional, at + 4));
-    if virtual_address == 0 || size == 0 {
-        return None;
-    }
-    Some(DataDirectory {
-        virtual_address,
-        size,
-    })
-}
-
-/// Returns where the signature is, in bytes from the start of the file.
-#[tactic(auto, unfolding(crate::specs::Header::start_of))]
-fn start(file: &[u8]) -> Result<u32, PeError>
-    ensures { result ≡ start_of file.now }
-{
-    let header = read_block(file, 0, DOS_HEADER_SIZE)?;
-    if u16_at(header, 0) != DOS_SIGNATURE {
-        return Err(PeError::NotPe { offset: 0 });
-    }
-    Ok(u32_at(header, 0x3c))
+    let start = start(file)?;
+    let coff = coff_header(file, start)?;
+    let optional = optional_header(file, start, u16_at(coff, 20))?;
+    Ok(fields(start, coff, optional))
 }
 
 /// Returns the signature, the COFF header and the magic number after it, which begin at an offset.
@@ -185,28 +168,45 @@ fn fields(start: u32, coff: &[u8], optional: &[u8]) -> FileHeader
     }
 }
 
-/// Reads the headers of a PE file. A data directory that the optional header does not have, or whose address
-/// or size is 0, is `None`.
-///
-/// # Errors
-///
-/// The first of these:
-///
-/// - `Eof` where the file ends before the DOS header does;
-/// - `NotPe` where it does not begin with "MZ";
-/// - `Eof` where it ends before the COFF header and the magic number after it do;
-/// - `NotPe` where the signature is another;
-/// - `NotPe32Plus` where the magic number is another;
-/// - `ShortOptionalHeader` where `SizeOfOptionalHeader` is less than that of its fields;
-/// - `Eof` where the file ends before the optional header does.
-///
-/// Source: Microsoft, "PE Format": "MS-DOS Stub", "Signature", "COFF File Header" and "Optional Header".
-#[tactic(auto, unfolding(crate::specs::Header::file_header_of))]
-pub fn read_file_header(file: &[u8]) -> Result<FileHeader, PeError>
-    ensures { result ≡ file_header_of file.now }
+/// Returns the machine of a number.
+fn machine_of(number: u16) -> Machine
+    ensures { result ≡ machine_of number }
 {
-    let start = start(file)?;
-    let coff = coff_header(file, start)?;
-    let optional = optional_header(file, start, u16_at(coff, 20))?;
-    Ok(fields(start, coff, optional))
+    match number {
+        AMD64 => Machine::X86_64,
+        ARM64 => Machine::Aarch64,
+        _ => Machine::Other(number),
+    }
+}
+
+/// Returns the data directory of an index, if the optional header has it and it has bytes.
+fn directory(optional: &[u8], index: usize) -> Option<DataDirectory>
+    requires fields { 112 ≤ length optional.now }
+    requires listed { index < 16 }
+    ensures { result ≡ directory_of optional.now index }
+{
+    let at = FIELDS_SIZE + 8 * index;
+    if index >= u32_at(optional, 108) as usize || at + 8 > optional.len() {
+        return None;
+    }
+    let (virtual_address, size) = (u32_at(optional, at), u32_at(optional, at + 4));
+    if virtual_address == 0 || size == 0 {
+        return None;
+    }
+    Some(DataDirectory {
+        virtual_address,
+        size,
+    })
+}
+
+/// Returns where the signature is, in bytes from the start of the file.
+#[tactic(auto, unfolding(crate::specs::Header::start_of))]
+fn start(file: &[u8]) -> Result<u32, PeError>
+    ensures { result ≡ start_of file.now }
+{
+    let header = read_block(file, 0, DOS_HEADER_SIZE)?;
+    if u16_at(header, 0) != DOS_SIGNATURE {
+        return Err(PeError::NotPe { offset: 0 });
+    }
+    Ok(u32_at(header, 0x3c))
 }

@@ -54,44 +54,119 @@ pub struct Files {
     bare: Module<Vec<u8>>,
 }
 
-/// Returns whether a name is a path of Unix: perf calls memory that is no file `[vdso]`, `//anon` and the like, and
-/// LLDB adds an address in brackets to that of the vdso.
-pub fn is_unix_path(name: &[u8]) -> bool
-    ensures { result ≡ is_unix_path name.now }
-{
-    name.starts_with(b"/") && !name.starts_with(b"//")
-}
+impl Files {
+    /// Returns no files.
+    pub fn new(alloc: Global) -> Result<Self, AllocError>
+        ensures { IfOk result (λ files. IsWithoutFiles files) }
+    {
+        Ok(Files {
+            list: Vec::new(alloc),
+            numbers: BTreeMap::new(alloc),
+            bare: bare_module(alloc)?,
+        })
+    }
 
-/// Returns whether a name begins with a drive of Windows.
-fn has_drive(name: &[u8]) -> bool
-    ensures { result ≡ has_drive name.now }
-{
-    match name.split_first() {
-        Some((_, rest)) => rest.starts_with(b":\\"),
-        None => false,
+    /// Reads a file that a process maps, if it has not been read. Where a build id is wanted, the file's must be
+    /// the same. Fails only where an allocation does, or from 2^32 files on.
+    pub fn add<S: FileSource>(
+        &mut self,
+        alloc: Global,
+        source: &S,
+        name: &[u8],
+        build_id: &[u8],
+    ) -> Result<(), AllocError>
+        ensures bare { self.new.bare ≡ self.old.bare }
+        ensures known { IsSome (number_in self.old name.now) → (result ≡ Ok tt) × (self.new ≡ self.old) }
+        ensures added { number_in self.old name.now ≡ None → OnOk result
+            (IsNext (S.source source.now) name.now build_id.now self.old self.new) }
+        ensures either { OnOk result (IsAdded (S.source source.now) name.now build_id.now self.old self.new) }
+    {
+        if self.numbers.get(name).is_some() {
+            return Ok(());
+        }
+        let Ok(number) = u32::try_from(self.list.len()) else {
+            return Err(AllocError);
+        };
+        let key = Vec::from_slice(alloc, name)?;
+        let file = load(alloc, source, name, build_id)?;
+        self.numbers.insert(key, number)?;
+        self.list.push(file)?;
+        Ok(())
+    }
+
+    /// Returns the number of a file by its name.
+    pub fn number_of(&self, name: &[u8]) -> Option<u32>
+        ensures { result ≡ number_in self.now name.now }
+    {
+        self.numbers.get(name).copied()
+    }
+
+    /// Returns the file of a number.
+    pub fn get(&self, number: u32) -> Option<&NamedFile>
+        ensures { option_map (λ file. file.now) result ≡ slice_get self.now.list.items number }
+    {
+        self.list.get(number as usize)
+    }
+
+    /// Returns all of them, in the order of their numbers.
+    pub fn list(&self) -> &[NamedFile] {
+        self.list.as_slice()
+    }
+
+    /// Returns what was read of the file of a number.
+    pub fn object(&self, number: u32) -> Option<&ObjectFile>
+        ensures { option_copied result ≡ object_in self.now number }
+    {
+        match self.get(number) {
+            Some(file) => file.object.as_ref(),
+            None => None,
+        }
+    }
+
+    /// Returns the module of a mapping. It has no unwind data where the mapping is without sections, or
+    /// where nothing was read of the file.
+    fn module_at(&self, mapping: &Mapping) -> Result<Module<Vec<u8>>, AllocError>
+        ensures { IfOk result (λ made. made ≡ module_at self.now mapping.now) }
+    {
+        if !mapping.has_sections {
+            return placed_at(&self.bare, mapping);
+        }
+        match self.object(mapping.file) {
+            Some(object) => placed_at(object.module(), mapping),
+            None => placed_at(&self.bare, mapping),
+        }
     }
 }
 
-/// Returns whether a name is a path of Windows: after its drive, or from a root on.
-pub fn is_windows_path(name: &[u8]) -> bool
-    ensures { result ≡ is_windows_path name.now }
+/// Reads a file, if its name is a path or that of the vdso.
+fn load<S: FileSource>(
+    alloc: Global,
+    source: &S,
+    name: &[u8],
+    build_id: &[u8],
+) -> Result<NamedFile, AllocError>
+    ensures { IfOk result (λ file. IsFileOf (S.source source.now) name.now build_id.now file) }
 {
-    has_drive(name) || name.starts_with(b"\\")
-}
-
-/// Returns whether a name is a path.
-#[tactic(auto, unfolding(crate::specs::Files::is_path))]
-fn is_path(name: &[u8]) -> bool
-    ensures { result ≡ is_path name.now }
-{
-    is_unix_path(name) || is_windows_path(name)
-}
-
-/// Returns whether a name is that of the vdso, which the kernel maps.
-pub fn is_vdso(name: &[u8]) -> bool
-    ensures { result ≡ is_vdso name.now }
-{
-    name == b"[vdso]".as_slice()
+    let mut file = NamedFile {
+        name: Vec::from_slice(alloc, name)?,
+        object: None,
+        problem: None,
+    };
+    if is_read(name) {
+        match read_object(alloc, source, name, build_id) {
+            Ok(mut object) => {
+                add_debug_names(alloc, source, &mut object)?;
+                file.object = Some(object);
+            }
+            Err(problem) => {
+                if problem.is_out_of_memory() {
+                    return Err(AllocError);
+                }
+                file.problem = told_of(is_path(name), problem);
+            }
+        }
+    }
+    Ok(file)
 }
 
 /// Returns whether a source is asked for the file of a name.
@@ -101,14 +176,11 @@ fn is_read(name: &[u8]) -> bool
     is_path(name) || is_vdso(name)
 }
 
-/// Returns what is told of a file that is not kept: nothing of a vdso that is not there.
-fn told_of(is_path: bool, problem: FileProblem) -> Option<FileProblem>
-    ensures { result ≡ told_of is_path problem }
+/// Returns whether a name is that of the vdso, which the kernel maps.
+pub fn is_vdso(name: &[u8]) -> bool
+    ensures { result ≡ is_vdso name.now }
 {
-    match problem {
-        FileProblem::NotRead if !is_path => None,
-        problem => Some(problem),
-    }
+    name == b"[vdso]".as_slice()
 }
 
 /// Reads a file from its source: by its name, or else by the build id that is wanted of it.
@@ -207,118 +279,46 @@ fn add_debug_names<S: FileSource>(
     }
 }
 
-/// Reads a file, if its name is a path or that of the vdso.
-fn load<S: FileSource>(
-    alloc: Global,
-    source: &S,
-    name: &[u8],
-    build_id: &[u8],
-) -> Result<NamedFile, AllocError>
-    ensures { IfOk result (λ file. IsFileOf (S.source source.now) name.now build_id.now file) }
+/// Returns what is told of a file that is not kept: nothing of a vdso that is not there.
+fn told_of(is_path: bool, problem: FileProblem) -> Option<FileProblem>
+    ensures { result ≡ told_of is_path problem }
 {
-    let mut file = NamedFile {
-        name: Vec::from_slice(alloc, name)?,
-        object: None,
-        problem: None,
-    };
-    if is_read(name) {
-        match read_object(alloc, source, name, build_id) {
-            Ok(mut object) => {
-                add_debug_names(alloc, source, &mut object)?;
-                file.object = Some(object);
-            }
-            Err(problem) => {
-                if problem.is_out_of_memory() {
-                    return Err(AllocError);
-                }
-                file.problem = told_of(is_path(name), problem);
-            }
-        }
+    match problem {
+        FileProblem::NotRead if !is_path => None,
+        problem => Some(problem),
     }
-    Ok(file)
 }
 
-impl Files {
-    /// Returns no files.
-    pub fn new(alloc: Global) -> Result<Self, AllocError>
-        ensures { IfOk result (λ files. IsWithoutFiles files) }
-    {
-        Ok(Files {
-            list: Vec::new(alloc),
-            numbers: BTreeMap::new(alloc),
-            bare: bare_module(alloc)?,
-        })
-    }
+/// Returns whether a name is a path.
+#[tactic(auto, unfolding(crate::specs::Files::is_path))]
+fn is_path(name: &[u8]) -> bool
+    ensures { result ≡ is_path name.now }
+{
+    is_unix_path(name) || is_windows_path(name)
+}
 
-    /// Reads a file that a process maps, if it has not been read. Where a build id is wanted, the file's must be
-    /// the same. Fails only where an allocation does, or from 2^32 files on.
-    pub fn add<S: FileSource>(
-        &mut self,
-        alloc: Global,
-        source: &S,
-        name: &[u8],
-        build_id: &[u8],
-    ) -> Result<(), AllocError>
-        ensures bare { self.new.bare ≡ self.old.bare }
-        ensures known { IsSome (number_in self.old name.now) → (result ≡ Ok tt) × (self.new ≡ self.old) }
-        ensures added { number_in self.old name.now ≡ None → OnOk result
-            (IsNext (S.source source.now) name.now build_id.now self.old self.new) }
-        ensures either { OnOk result (IsAdded (S.source source.now) name.now build_id.now self.old self.new) }
-    {
-        if self.numbers.get(name).is_some() {
-            return Ok(());
-        }
-        let Ok(number) = u32::try_from(self.list.len()) else {
-            return Err(AllocError);
-        };
-        let key = Vec::from_slice(alloc, name)?;
-        let file = load(alloc, source, name, build_id)?;
-        self.numbers.insert(key, number)?;
-        self.list.push(file)?;
-        Ok(())
-    }
+/// Returns whether a name is a path of Unix: perf calls memory that is no file `[vdso]`, `//anon` and the like, and
+/// LLDB adds an address in brackets to that of the vdso.
+pub fn is_unix_path(name: &[u8]) -> bool
+    ensures { result ≡ is_unix_path name.now }
+{
+    name.starts_with(b"/") && !name.starts_with(b"//")
+}
 
-    /// Returns the number of a file by its name.
-    pub fn number_of(&self, name: &[u8]) -> Option<u32>
-        ensures { result ≡ number_in self.now name.now }
-    {
-        self.numbers.get(name).copied()
-    }
+/// Returns whether a name is a path of Windows: after its drive, or from a root on.
+pub fn is_windows_path(name: &[u8]) -> bool
+    ensures { result ≡ is_windows_path name.now }
+{
+    has_drive(name) || name.starts_with(b"\\")
+}
 
-    /// Returns the file of a number.
-    pub fn get(&self, number: u32) -> Option<&NamedFile>
-        ensures { option_map (λ file. file.now) result ≡ slice_get self.now.list.items number }
-    {
-        self.list.get(number as usize)
-    }
-
-    /// Returns all of them, in the order of their numbers.
-    pub fn list(&self) -> &[NamedFile] {
-        self.list.as_slice()
-    }
-
-    /// Returns what was read of the file of a number.
-    pub fn object(&self, number: u32) -> Option<&ObjectFile>
-        ensures { option_copied result ≡ object_in self.now number }
-    {
-        match self.get(number) {
-            Some(file) => file.object.as_ref(),
-            None => None,
-        }
-    }
-
-    /// Returns the module of a mapping. It has no unwind data where the mapping is without sections, or
-    /// where nothing was read of the file.
-    fn module_at(&self, mapping: &Mapping) -> Result<Module<Vec<u8>>, AllocError>
-        ensures { IfOk result (λ made. made ≡ module_at self.now mapping.now) }
-    {
-        if !mapping.has_sections {
-            return placed_at(&self.bare, mapping);
-        }
-        match self.object(mapping.file) {
-            Some(object) => placed_at(object.module(), mapping),
-            None => placed_at(&self.bare, mapping),
-        }
+/// Returns whether a name begins with a drive of Windows.
+fn has_drive(name: &[u8]) -> bool
+    ensures { result ≡ has_drive name.now }
+{
+    match name.split_first() {
+        Some((_, rest)) => rest.starts_with(b":\\"),
+        None => false,
     }
 }
 

@@ -124,250 +124,6 @@ impl From<AllocError> for FileProblem {
     }
 }
 
-/// The segments and the sections of a file.
-#[derive(Drop)]
-struct Headers<'a> {
-    segments: Vec<ProgramHeader>,
-    sections: Vec<SectionHeader>,
-    /// The string table that has the names of the sections.
-    names: &'a [u8],
-}
-
-/// Reads the segments and the sections of a file.
-#[tactic(auto, unfolding(crate::specs::ObjectFiles::headers_of))]
-fn read_headers<'a>(alloc: Global, file: &'a [u8]) -> Result<Headers<'a>, ElfError>
-    ensures { MatchResult result
-        (λ headers. headers_of file.entry.now ≡ Ok (headers_view headers))
-        (λ error. (error ≡ ElfError.OutOfMemory) ⊎ (headers_of file.entry.now ≡ Err error)) }
-{
-    let header = read_file_header(file)?;
-    let segments = read_program_headers(alloc, file, header)?;
-    let sections = read_section_headers(alloc, file, header)?;
-    let names = read_section_names(file, header, sections.as_slice())?;
-    Ok(Headers {
-        segments,
-        sections,
-        names,
-    })
-}
-
-/// Returns the build id of a file, or no bytes.
-fn build_id_in<'a>(file: &'a [u8], headers: &Headers<'_>) -> &'a [u8]
-    ensures { result.now ≡ build_id_in file.entry.now (headers_view headers.now) }
-{
-    let found = read_build_id(
-        file,
-        headers.segments.as_slice(),
-        headers.sections.as_slice(),
-    );
-    match found {
-        Some(build_id) => build_id,
-        None => &[],
-    }
-}
-
-/// Returns whether a build id that is wanted is another.
-pub fn is_another(wanted: &[u8], found: &[u8]) -> bool
-    ensures { result ≡ is_another wanted.now found.now }
-{
-    !wanted.is_empty() && found != wanted
-}
-
-/// Keeps the functions of a symbol table with the strings that have their names.
-fn kept_symbols(alloc: Global, functions: Vec<Symbol>, names: &[u8]) -> Result<Symbols, ElfError>
-    ensures kept { IfOk result (λ symbols. IsTable (functions.items, names.now) symbols) }
-    ensures refused { IfErr result (λ error. error ≡ ElfError.OutOfMemory) }
-{
-    let table = SymbolTable::new(functions)?;
-    let names = Vec::from_slice(alloc, names)?;
-    Ok(Symbols { table, names })
-}
-
-/// Reads the symbols of a section, if the file has it. They count as absent where they can't be read.
-#[tactic(auto, unfolding(crate::specs::ObjectFiles::symbols_of))]
-fn read_symbols(
-    alloc: Global,
-    file: &[u8],
-    sections: &[SectionHeader],
-    section: Option<SectionHeader>,
-) -> Result<Option<Symbols>, ElfError>
-    ensures kept { IfOk result (λ symbols. AreTables (option_to_list (symbols_in file.now sections.now section)) (option_to_list symbols)) }
-    ensures refused { IfErr result (λ error. error ≡ ElfError.OutOfMemory) }
-{
-    let Some(section) = section else {
-        return Ok(None);
-    };
-    let Ok(names) = read_symbol_names(file, sections, section) else {
-        return Ok(None);
-    };
-    match read_function_symbols(alloc, file, sections, section) {
-        Ok(functions) => {
-            let symbols = kept_symbols(alloc, functions, names)?;
-            Ok(Some(symbols))
-        }
-        Err(ElfError::OutOfMemory) => Err(ElfError::OutOfMemory),
-        Err(_) => Ok(None),
-    }
-}
-
-/// Appends the symbols of a section of a name, if they can be read.
-fn push_symbols(
-    alloc: Global,
-    all: &mut Vec<Symbols>,
-    file: &[u8],
-    headers: &Headers<'_>,
-    name: &[u8],
-) -> Result<(), ElfError>
-    ensures kept { (listed : List Listed) → AreTables listed all.old.items → OnOk result
-        (AreTables (listed ++ option_to_list (symbols_called file.now (headers_view headers.now) name.now)) all.new.items) }
-    ensures refused { IfErr result (λ error. error ≡ ElfError.OutOfMemory) }
-{
-    let sections = headers.sections.as_slice();
-    let section = section_by_name(sections, headers.names, name);
-    let Some(symbols) = read_symbols(alloc, file, sections, section)? else {
-        return Ok(());
-    };
-    Ok(all.push(symbols)?)
-}
-
-/// Reads the symbols of both symbol tables.
-fn read_all_symbols(
-    alloc: Global,
-    file: &[u8],
-    headers: &Headers<'_>,
-) -> Result<Vec<Symbols>, ElfError>
-    ensures kept { IfOk result (λ all. AreTables (tables_of file.now (headers_view headers.now)) all.items) }
-    ensures refused { IfErr result (λ error. error ≡ ElfError.OutOfMemory) }
-{
-    let mut all = Vec::new(alloc);
-    push_symbols(alloc, &mut all, file, headers, b".symtab")?;
-    push_symbols(alloc, &mut all, file, headers, b".dynsym")?;
-    Ok(all)
-}
-
-/// Reads the symbols of the debug file of a build id: none where it can't be read, or has another build id.
-fn read_debug_symbols(
-    alloc: Global,
-    build_id: &[u8],
-    file: &[u8],
-) -> Result<Option<Symbols>, ElfError>
-    ensures kept { IfOk result (λ symbols. AreTables (debug_tables_of build_id.now file.now) (option_to_list symbols)) }
-    ensures refused { IfErr result (λ error. error ≡ ElfError.OutOfMemory) }
-{
-    let headers = match read_headers(alloc, file) {
-        Ok(headers) => headers,
-        Err(ElfError::OutOfMemory) => return Err(ElfError::OutOfMemory),
-        Err(_) => return Ok(None),
-    };
-    if is_another(build_id_in(file, &headers), build_id) {
-        return Ok(None);
-    }
-    let sections = headers.sections.as_slice();
-    let section = section_by_name(sections, headers.names, b".symtab");
-    let symbols = read_symbols(alloc, file, sections, section)?;
-    Ok(symbols)
-}
-
-/// Returns a module that lies at no address, with the unwind data of the file's sections.
-fn module_in(alloc: Global, file: &[u8], headers: &Headers<'_>) -> Result<Module<Vec<u8>>, ElfError>
-    ensures loaded { IfOk result (λ made. made ≡ module_in file.now (headers_view headers.now)) }
-    ensures refused { IfErr result (λ error. error ≡ ElfError.OutOfMemory) }
-{
-    let info = read_unwind_sections(alloc, file, headers.sections.as_slice(), headers.names)?;
-    Ok(module_of(alloc, info)?)
-}
-
-/// Returns a module that lies at no address, with the `.debug_frame` of a file that has `.eh_frame`, too: else it has no
-/// unwind data.
-fn debug_frame_in(
-    alloc: Global,
-    file: &[u8],
-    headers: &Headers<'_>,
-) -> Result<Module<Vec<u8>>, ElfError>
-    ensures loaded { IfOk result (λ made. made ≡ debug_frame_in file.now (headers_view headers.now)) }
-    ensures refused { IfErr result (λ error. error ≡ ElfError.OutOfMemory) }
-{
-    let info = read_debug_frame(alloc, file, headers.sections.as_slice(), headers.names)?;
-    Ok(module_of(alloc, info)?)
-}
-
-/// Returns a module that lies at no address, with the unwind data of sections.
-fn module_of(
-    alloc: Global,
-    info: ExplicitModuleSectionInfo<Vec<u8>>,
-) -> Result<Module<Vec<u8>>, AllocError>
-    ensures { IfOk result (λ made. made ≡ module_of (sections_view info)) }
-{
-    match Module::new(alloc, String::new(alloc), 0..0, 0, info) {
-        Ok(made) => Ok(made),
-        Err(_) => Err(AllocError),
-    }
-}
-
-/// Returns a module without unwind data that lies at no address.
-pub(crate) fn bare_module(alloc: Global) -> Result<Module<Vec<u8>>, AllocError>
-    ensures { IfOk result (λ made. made ≡ bare_module) }
-{
-    let info: ExplicitModuleSectionInfo<Vec<u8>> = ExplicitModuleSectionInfo::default();
-    module_of(alloc, info)
-}
-
-/// Reads an ELF file. Where a build id is wanted, the file's must be the same.
-fn read_elf(alloc: Global, bytes: &[u8], wanted: &[u8]) -> Result<ObjectFile, FileProblem>
-    ensures kept { IfOk result (λ object. (contents : Contents) × (elf_contents_of bytes.now ≡ Ok contents)
-        × IsKeptBy contents [] object) }
-    ensures wanted { IfOk result (λ _. problem_by wanted.now (elf_contents_of bytes.now) ≡ None) }
-    ensures refused { IfErr result (λ problem. IsOutOfMemory problem
-        ⊎ (problem_by wanted.now (elf_contents_of bytes.now) ≡ Some problem)) }
-{
-    let headers = read_headers(alloc, bytes)?;
-    let found = build_id_in(bytes, &headers);
-    if is_another(wanted, found) {
-        return Err(FileProblem::OtherBuildId);
-    }
-    let segments = loaded_segments(alloc, headers.segments.as_slice())?;
-    let code = code_of(alloc, bytes, segments.as_slice())?;
-    let symbols = read_all_symbols(alloc, bytes, &headers)?;
-    let module = module_in(alloc, bytes, &headers)?;
-    let debug_frame = debug_frame_in(alloc, bytes, &headers)?;
-    let build_id = Vec::from_slice(alloc, found)?;
-    Ok(ObjectFile {
-        segments,
-        code,
-        symbols,
-        module,
-        debug_frame,
-        build_id,
-    })
-}
-
-/// Reads a PE file. Where the GUID and the age of a program database are wanted, the file's must be the same.
-fn read_pe(alloc: Global, bytes: &[u8], wanted: &[u8]) -> Result<ObjectFile, FileProblem>
-    ensures kept { IfOk result (λ object. (contents : Contents) × (pe_contents_of bytes.now ≡ Ok contents)
-        × IsKeptBy contents [] object) }
-    ensures wanted { IfOk result (λ _. problem_by wanted.now (pe_contents_of bytes.now) ≡ None) }
-    ensures refused { IfErr result (λ problem. IsOutOfMemory problem
-        ⊎ (problem_by wanted.now (pe_contents_of bytes.now) ≡ Some problem)) }
-{
-    let (header, sections) = pe_file::read_headers(alloc, bytes)?;
-    let identity = pe_file::identity_in(bytes, header, sections.as_slice());
-    if is_another(wanted, identity) {
-        return Err(FileProblem::OtherBuildId);
-    }
-    let module = pe_file::module_in(alloc, bytes, header, sections.as_slice())?;
-    let segments = pe_file::segments_of(alloc, sections.as_slice())?;
-    let code = code_of(alloc, bytes, segments.as_slice())?;
-    let build_id = Vec::from_slice(alloc, identity)?;
-    Ok(ObjectFile {
-        segments,
-        code,
-        symbols: Vec::new(alloc),
-        module,
-        debug_frame: bare_module(alloc)?,
-        build_id,
-    })
-}
-
 impl ObjectFile {
     /// Reads an ELF file or a PE file. Where a build id is wanted, the file's must be the same; that of a PE file
     /// is the GUID and the age of its program database.
@@ -452,4 +208,248 @@ impl ObjectFile {
         }
         None
     }
+}
+
+/// Reads a PE file. Where the GUID and the age of a program database are wanted, the file's must be the same.
+fn read_pe(alloc: Global, bytes: &[u8], wanted: &[u8]) -> Result<ObjectFile, FileProblem>
+    ensures kept { IfOk result (λ object. (contents : Contents) × (pe_contents_of bytes.now ≡ Ok contents)
+        × IsKeptBy contents [] object) }
+    ensures wanted { IfOk result (λ _. problem_by wanted.now (pe_contents_of bytes.now) ≡ None) }
+    ensures refused { IfErr result (λ problem. IsOutOfMemory problem
+        ⊎ (problem_by wanted.now (pe_contents_of bytes.now) ≡ Some problem)) }
+{
+    let (header, sections) = pe_file::read_headers(alloc, bytes)?;
+    let identity = pe_file::identity_in(bytes, header, sections.as_slice());
+    if is_another(wanted, identity) {
+        return Err(FileProblem::OtherBuildId);
+    }
+    let module = pe_file::module_in(alloc, bytes, header, sections.as_slice())?;
+    let segments = pe_file::segments_of(alloc, sections.as_slice())?;
+    let code = code_of(alloc, bytes, segments.as_slice())?;
+    let build_id = Vec::from_slice(alloc, identity)?;
+    Ok(ObjectFile {
+        segments,
+        code,
+        symbols: Vec::new(alloc),
+        module,
+        debug_frame: bare_module(alloc)?,
+        build_id,
+    })
+}
+
+/// Returns a module without unwind data that lies at no address.
+pub(crate) fn bare_module(alloc: Global) -> Result<Module<Vec<u8>>, AllocError>
+    ensures { IfOk result (λ made. made ≡ bare_module) }
+{
+    let info: ExplicitModuleSectionInfo<Vec<u8>> = ExplicitModuleSectionInfo::default();
+    module_of(alloc, info)
+}
+
+/// Reads an ELF file. Where a build id is wanted, the file's must be the same.
+fn read_elf(alloc: Global, bytes: &[u8], wanted: &[u8]) -> Result<ObjectFile, FileProblem>
+    ensures kept { IfOk result (λ object. (contents : Contents) × (elf_contents_of bytes.now ≡ Ok contents)
+        × IsKeptBy contents [] object) }
+    ensures wanted { IfOk result (λ _. problem_by wanted.now (elf_contents_of bytes.now) ≡ None) }
+    ensures refused { IfErr result (λ problem. IsOutOfMemory problem
+        ⊎ (problem_by wanted.now (elf_contents_of bytes.now) ≡ Some problem)) }
+{
+    let headers = read_headers(alloc, bytes)?;
+    let found = build_id_in(bytes, &headers);
+    if is_another(wanted, found) {
+        return Err(FileProblem::OtherBuildId);
+    }
+    let segments = loaded_segments(alloc, headers.segments.as_slice())?;
+    let code = code_of(alloc, bytes, segments.as_slice())?;
+    let symbols = read_all_symbols(alloc, bytes, &headers)?;
+    let module = module_in(alloc, bytes, &headers)?;
+    let debug_frame = debug_frame_in(alloc, bytes, &headers)?;
+    let build_id = Vec::from_slice(alloc, found)?;
+    Ok(ObjectFile {
+        segments,
+        code,
+        symbols,
+        module,
+        debug_frame,
+        build_id,
+    })
+}
+
+/// Reads the symbols of both symbol tables.
+fn read_all_symbols(
+    alloc: Global,
+    file: &[u8],
+    headers: &Headers<'_>,
+) -> Result<Vec<Symbols>, ElfError>
+    ensures kept { IfOk result (λ all. AreTables (tables_of file.now (headers_view headers.now)) all.items) }
+    ensures refused { IfErr result (λ error. error ≡ ElfError.OutOfMemory) }
+{
+    let mut all = Vec::new(alloc);
+    push_symbols(alloc, &mut all, file, headers, b".symtab")?;
+    push_symbols(alloc, &mut all, file, headers, b".dynsym")?;
+    Ok(all)
+}
+
+/// Appends the symbols of a section of a name, if they can be read.
+fn push_symbols(
+    alloc: Global,
+    all: &mut Vec<Symbols>,
+    file: &[u8],
+    headers: &Headers<'_>,
+    name: &[u8],
+) -> Result<(), ElfError>
+    ensures kept { (listed : List Listed) → AreTables listed all.old.items → OnOk result
+        (AreTables (listed ++ option_to_list (symbols_called file.now (headers_view headers.now) name.now)) all.new.items) }
+    ensures refused { IfErr result (λ error. error ≡ ElfError.OutOfMemory) }
+{
+    let sections = headers.sections.as_slice();
+    let section = section_by_name(sections, headers.names, name);
+    let Some(symbols) = read_symbols(alloc, file, sections, section)? else {
+        return Ok(());
+    };
+    Ok(all.push(symbols)?)
+}
+
+/// Returns a module that lies at no address, with the unwind data of the file's sections.
+fn module_in(alloc: Global, file: &[u8], headers: &Headers<'_>) -> Result<Module<Vec<u8>>, ElfError>
+    ensures loaded { IfOk result (λ made. made ≡ module_in file.now (headers_view headers.now)) }
+    ensures refused { IfErr result (λ error. error ≡ ElfError.OutOfMemory) }
+{
+    let info = read_unwind_sections(alloc, file, headers.sections.as_slice(), headers.names)?;
+    Ok(module_of(alloc, info)?)
+}
+
+/// Returns a module that lies at no address, with the `.debug_frame` of a file that has `.eh_frame`, too: else it has no
+/// unwind data.
+fn debug_frame_in(
+    alloc: Global,
+    file: &[u8],
+    headers: &Headers<'_>,
+) -> Result<Module<Vec<u8>>, ElfError>
+    ensures loaded { IfOk result (λ made. made ≡ debug_frame_in file.now (headers_view headers.now)) }
+    ensures refused { IfErr result (λ error. error ≡ ElfError.OutOfMemory) }
+{
+    let info = read_debug_frame(alloc, file, headers.sections.as_slice(), headers.names)?;
+    Ok(module_of(alloc, info)?)
+}
+
+/// Returns a module that lies at no address, with the unwind data of sections.
+fn module_of(
+    alloc: Global,
+    info: ExplicitModuleSectionInfo<Vec<u8>>,
+) -> Result<Module<Vec<u8>>, AllocError>
+    ensures { IfOk result (λ made. made ≡ module_of (sections_view info)) }
+{
+    match Module::new(alloc, String::new(alloc), 0..0, 0, info) {
+        Ok(made) => Ok(made),
+        Err(_) => Err(AllocError),
+    }
+}
+
+/// Reads the symbols of the debug file of a build id: none where it can't be read, or has another build id.
+fn read_debug_symbols(
+    alloc: Global,
+    build_id: &[u8],
+    file: &[u8],
+) -> Result<Option<Symbols>, ElfError>
+    ensures kept { IfOk result (λ symbols. AreTables (debug_tables_of build_id.now file.now) (option_to_list symbols)) }
+    ensures refused { IfErr result (λ error. error ≡ ElfError.OutOfMemory) }
+{
+    let headers = match read_headers(alloc, file) {
+        Ok(headers) => headers,
+        Err(ElfError::OutOfMemory) => return Err(ElfError::OutOfMemory),
+        Err(_) => return Ok(None),
+    };
+    if is_another(build_id_in(file, &headers), build_id) {
+        return Ok(None);
+    }
+    let sections = headers.sections.as_slice();
+    let section = section_by_name(sections, headers.names, b".symtab");
+    let symbols = read_symbols(alloc, file, sections, section)?;
+    Ok(symbols)
+}
+
+/// The segments and the sections of a file.
+#[derive(Drop)]
+struct Headers<'a> {
+    segments: Vec<ProgramHeader>,
+    sections: Vec<SectionHeader>,
+    /// The string table that has the names of the sections.
+    names: &'a [u8],
+}
+
+/// Reads the segments and the sections of a file.
+#[tactic(auto, unfolding(crate::specs::ObjectFiles::headers_of))]
+fn read_headers<'a>(alloc: Global, file: &'a [u8]) -> Result<Headers<'a>, ElfError>
+    ensures { MatchResult result
+        (λ headers. headers_of file.entry.now ≡ Ok (headers_view headers))
+        (λ error. (error ≡ ElfError.OutOfMemory) ⊎ (headers_of file.entry.now ≡ Err error)) }
+{
+    let header = read_file_header(file)?;
+    let segments = read_program_headers(alloc, file, header)?;
+    let sections = read_section_headers(alloc, file, header)?;
+    let names = read_section_names(file, header, sections.as_slice())?;
+    Ok(Headers {
+        segments,
+        sections,
+        names,
+    })
+}
+
+/// Returns whether a build id that is wanted is another.
+pub fn is_another(wanted: &[u8], found: &[u8]) -> bool
+    ensures { result ≡ is_another wanted.now found.now }
+{
+    !wanted.is_empty() && found != wanted
+}
+
+/// Returns the build id of a file, or no bytes.
+fn build_id_in<'a>(file: &'a [u8], headers: &Headers<'_>) -> &'a [u8]
+    ensures { result.now ≡ build_id_in file.entry.now (headers_view headers.now) }
+{
+    let found = read_build_id(
+        file,
+        headers.segments.as_slice(),
+        headers.sections.as_slice(),
+    );
+    match found {
+        Some(build_id) => build_id,
+        None => &[],
+    }
+}
+
+/// Reads the symbols of a section, if the file has it. They count as absent where they can't be read.
+#[tactic(auto, unfolding(crate::specs::ObjectFiles::symbols_of))]
+fn read_symbols(
+    alloc: Global,
+    file: &[u8],
+    sections: &[SectionHeader],
+    section: Option<SectionHeader>,
+) -> Result<Option<Symbols>, ElfError>
+    ensures kept { IfOk result (λ symbols. AreTables (option_to_list (symbols_in file.now sections.now section)) (option_to_list symbols)) }
+    ensures refused { IfErr result (λ error. error ≡ ElfError.OutOfMemory) }
+{
+    let Some(section) = section else {
+        return Ok(None);
+    };
+    let Ok(names) = read_symbol_names(file, sections, section) else {
+        return Ok(None);
+    };
+    match read_function_symbols(alloc, file, sections, section) {
+        Ok(functions) => {
+            let symbols = kept_symbols(alloc, functions, names)?;
+            Ok(Some(symbols))
+        }
+        Err(ElfError::OutOfMemory) => Err(ElfError::OutOfMemory),
+        Err(_) => Ok(None),
+    }
+}
+
+/// Keeps the functions of a symbol table with the strings that have their names.
+fn kept_symbols(alloc: Global, functions: Vec<Symbol>, names: &[u8]) -> Result<Symbols, ElfError>
+    ensures kept { IfOk result (λ symbols. IsTable (functions.items, names.now) symbols) }
+    ensures refused { IfErr result (λ error. error ≡ ElfError.OutOfMemory) }
+{
+    let table = SymbolTable::new(functions)?;
+    let names = Vec::from_slice(alloc, names)?;
+    Ok(Symbols { table, names })
 }

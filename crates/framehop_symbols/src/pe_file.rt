@@ -22,6 +22,16 @@ pub fn is_pe(file: &[u8]) -> bool
     file.starts_with(b"MZ")
 }
 
+/// Returns the segments that sections are loaded as.
+pub fn segments_of(alloc: Global, sections: &[SectionHeader]) -> Result<Vec<Segment>, AllocError>
+    ensures { IfOk result (λ segments. segments.items ≡ map segment_of sections.now) }
+{
+    sections
+        .iter()
+        .map(|section| segment_of(*section))
+        .collect(alloc)
+}
+
 /// Returns the segment that a section is loaded as. Its addresses are relative to the base of the image (RVAs).
 fn segment_of(section: SectionHeader) -> Segment
     ensures { result ≡ segment_of section }
@@ -33,16 +43,6 @@ fn segment_of(section: SectionHeader) -> Segment
         file_size: u64::from(section.size_of_raw_data),
         is_code: section.characteristics & EXECUTE != 0,
     }
-}
-
-/// Returns the segments that sections are loaded as.
-pub fn segments_of(alloc: Global, sections: &[SectionHeader]) -> Result<Vec<Segment>, AllocError>
-    ensures { IfOk result (λ segments. segments.items ≡ map segment_of sections.now) }
-{
-    sections
-        .iter()
-        .map(|section| segment_of(*section))
-        .collect(alloc)
 }
 
 /// Returns what tells a file from others of its name: the GUID and the age of its program database, or no bytes.

@@ -31,13 +31,18 @@ pub enum Place<'a> {
     Unmapped,
 }
 
-/// Returns the mapping at a place if it starts at or below an address (AVMA).
-fn mapping_from(mappings: &[Mapping], place: usize, address: u64) -> Option<Mapping>
-    ensures { result ≡ starting_by address (slice_get mappings.now place) }
+/// Returns where an address (AVMA) is, by mappings in order.
+#[tactic(auto, unfolding(crate::specs::Place::place_at))]
+pub fn place_of<'a>(files: &'a Files, mappings: &[Mapping], address: u64) -> Place<'a>
+    requires { IsInOrder 0 mappings.now }
+    ensures { place_view result ≡ place_at files.entry.now mappings.now address }
 {
-    match mappings.get(place) {
-        Some(mapping) if mapping.start <= address => Some(*mapping),
-        _ => None,
+    let Some(mapping) = mapping_at(mappings, address) else {
+        return Place::Unmapped;
+    };
+    match files.get(mapping.file) {
+        Some(file) => place_in_file(file, mapping, address),
+        None => Place::Unmapped,
     }
 }
 
@@ -50,16 +55,13 @@ pub(crate) fn mapping_at(mappings: &[Mapping], address: u64) -> Option<Mapping>
     mapping_from(mappings, place, address)
 }
 
-/// Returns where an address (SVMA) of an ELF file is.
-fn place_in_object<'a>(file: &'a [u8], object: &'a ObjectFile, svma: u64) -> Place<'a>
-    ensures { place_view result ≡ place_in_object true file.entry.now (Some object.entry.now) svma }
+/// Returns the mapping at a place if it starts at or below an address (AVMA).
+fn mapping_from(mappings: &[Mapping], place: usize, address: u64) -> Option<Mapping>
+    ensures { result ≡ starting_by address (slice_get mappings.now place) }
 {
-    match object.function_at(svma) {
-        Some((name, offset)) => Place::Function { file, name, offset },
-        None => Place::File {
-            file,
-            address: svma,
-        },
+    match mappings.get(place) {
+        Some(mapping) if mapping.start <= address => Some(*mapping),
+        _ => None,
     }
 }
 
@@ -80,17 +82,15 @@ fn place_in_file<'a>(file: &'a NamedFile, mapping: Mapping, address: u64) -> Pla
     }
 }
 
-/// Returns where an address (AVMA) is, by mappings in order.
-#[tactic(auto, unfolding(crate::specs::Place::place_at))]
-pub fn place_of<'a>(files: &'a Files, mappings: &[Mapping], address: u64) -> Place<'a>
-    requires { IsInOrder 0 mappings.now }
-    ensures { place_view result ≡ place_at files.entry.now mappings.now address }
+/// Returns where an address (SVMA) of an ELF file is.
+fn place_in_object<'a>(file: &'a [u8], object: &'a ObjectFile, svma: u64) -> Place<'a>
+    ensures { place_view result ≡ place_in_object true file.entry.now (Some object.entry.now) svma }
 {
-    let Some(mapping) = mapping_at(mappings, address) else {
-        return Place::Unmapped;
-    };
-    match files.get(mapping.file) {
-        Some(file) => place_in_file(file, mapping, address),
-        None => Place::Unmapped,
+    match object.function_at(svma) {
+        Some((name, offset)) => Place::Function { file, name, offset },
+        None => Place::File {
+            file,
+            address: svma,
+        },
     }
 }

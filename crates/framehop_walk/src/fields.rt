@@ -15,25 +15,46 @@ use serde_json::{Map, Value};
 
 const MAX_DIGITS: usize = 16;
 
-pub fn field<'v>(object: &'v Value, name: &'static str) -> Result<&'v Value, Refusal>
-    ensures { reading_of (λ value. view value.now) result
-        ≡ required name.entry.now (get name.entry.now (view object.entry.now)) }
+#[cycle(has_bad_number)]
+#[inline(never)]
+fn any_bad_member(members: &Map<String, Value>) -> bool
+    ensures { result ≡ any_bad_member (members_view members.now.entries) }
 {
-    match object.get(name) {
-        Some(value) => Ok(value),
-        None => Err(Refusal::BadField(name)),
+    for (_name, member) in members.iter() {
+        if has_bad_number(member) {
+            return true;
+        }
+    }
+    false
+}
+
+/// Returns whether a number is in the value, at any depth, that is not whole or does not fit 64 bits.
+#[cycle(has_bad_number)]
+#[inline(always)]
+pub fn has_bad_number(value: &Value) -> bool
+    ensures { result ≡ has_bad_number (view value.now) }
+{
+    match value {
+        Value::Null => false,
+        Value::Bool(_) => false,
+        Value::Number(number) => number.as_u64().is_none() && number.as_i64().is_none(),
+        Value::String(_) => false,
+        Value::Array(items) => any_bad_item(items),
+        Value::Object(members) => any_bad_member(members),
     }
 }
 
-/// Returns a field that is a text.
-#[tactic(auto, unfolding(crate::specs::Fields::field_as))]
-pub fn text<'v>(object: &'v Value, name: &'static str) -> Result<&'v str, Refusal>
-    ensures { reading_of (λ text. text.now) result ≡ field_as as_str name.entry.now (view object.entry.now) }
+#[cycle(has_bad_number)]
+#[inline(never)]
+fn any_bad_item(items: &Vec<Value>) -> bool
+    ensures { result ≡ any_bad_item (items_view items.now.items) }
 {
-    match field(object, name)?.as_str() {
-        Some(text) => Ok(text),
-        None => Err(Refusal::BadField(name)),
+    for item in items {
+        if has_bad_number(item) {
+            return true;
+        }
     }
+    false
 }
 
 /// Returns a field that is a list.
@@ -59,24 +80,6 @@ pub fn group<'v>(object: &'v Value, name: &'static str) -> Result<&'v Value, Ref
         return Err(Refusal::BadField(name));
     }
     Ok(inner)
-}
-
-/// Returns a whole number below 2^64.
-#[tactic(auto, unfolding(crate::specs::Fields::field_as))]
-pub fn count(object: &Value, name: &'static str) -> Result<u64, Refusal>
-    ensures { told result ≡ field_as whole_number name.entry.now (view object.now) }
-{
-    match field(object, name)?.as_u64() {
-        Some(number) => Ok(number),
-        None => Err(Refusal::BadField(name)),
-    }
-}
-
-/// Returns the number of an unwinder or a cache.
-pub fn number(object: &Value, name: &'static str) -> Result<usize, Refusal>
-    ensures { told result ≡ field_as whole_number name.entry.now (view object.now) }
-{
-    Ok(count(object, name)? as usize)
 }
 
 /// Returns an address, a register or a word: a text of hexadecimal digits.
@@ -147,44 +150,41 @@ fn hexadecimal_digit(byte: u8) -> Option<u64>
     }
 }
 
-/// Returns whether a number is in the value, at any depth, that is not whole or does not fit 64 bits.
-#[cycle(has_bad_number)]
-#[inline(always)]
-pub fn has_bad_number(value: &Value) -> bool
-    ensures { result ≡ has_bad_number (view value.now) }
+/// Returns a field that is a text.
+#[tactic(auto, unfolding(crate::specs::Fields::field_as))]
+pub fn text<'v>(object: &'v Value, name: &'static str) -> Result<&'v str, Refusal>
+    ensures { reading_of (λ text. text.now) result ≡ field_as as_str name.entry.now (view object.entry.now) }
 {
-    match value {
-        Value::Null => false,
-        Value::Bool(_) => false,
-        Value::Number(number) => number.as_u64().is_none() && number.as_i64().is_none(),
-        Value::String(_) => false,
-        Value::Array(items) => any_bad_item(items),
-        Value::Object(members) => any_bad_member(members),
+    match field(object, name)?.as_str() {
+        Some(text) => Ok(text),
+        None => Err(Refusal::BadField(name)),
     }
 }
 
-#[cycle(has_bad_number)]
-#[inline(never)]
-fn any_bad_item(items: &Vec<Value>) -> bool
-    ensures { result ≡ any_bad_item (items_view items.now.items) }
+/// Returns the number of an unwinder or a cache.
+pub fn number(object: &Value, name: &'static str) -> Result<usize, Refusal>
+    ensures { told result ≡ field_as whole_number name.entry.now (view object.now) }
 {
-    for item in items {
-        if has_bad_number(item) {
-            return true;
-        }
-    }
-    false
+    Ok(count(object, name)? as usize)
 }
 
-#[cycle(has_bad_number)]
-#[inline(never)]
-fn any_bad_member(members: &Map<String, Value>) -> bool
-    ensures { result ≡ any_bad_member (members_view members.now.entries) }
+/// Returns a whole number below 2^64.
+#[tactic(auto, unfolding(crate::specs::Fields::field_as))]
+pub fn count(object: &Value, name: &'static str) -> Result<u64, Refusal>
+    ensures { told result ≡ field_as whole_number name.entry.now (view object.now) }
 {
-    for (_name, member) in members.iter() {
-        if has_bad_number(member) {
-            return true;
-        }
+    match field(object, name)?.as_u64() {
+        Some(number) => Ok(number),
+        None => Err(Refusal::BadField(name)),
     }
-    false
+}
+
+pub fn field<'v>(object: &'v Value, name: &'static str) -> Result<&'v Value, Refusal>
+    ensures { reading_of (λ value. view value.now) result
+        ≡ required name.entry.now (get name.entry.now (view object.entry.now)) }
+{
+    match object.get(name) {
+        Some(value) => Ok(value),
+        None => Err(Refusal::BadField(name)),
+    }
 }

@@ -10,22 +10,6 @@ use crate::sections::Section;
 use std::ops::Range;
 
 // the place of the first section of that name
-fn location_of(name: &[u8], sections: &[Section]) -> Option<usize>
-    ensures { result ≡ position (is_named name.now) sections.now }
-{
-    sections
-        .iter()
-        .position(|section| section.name.as_bytes() == name)
-}
-
-// the first section of that name
-fn section_of<'s>(name: &[u8], sections: &'s [Section]) -> Option<&'s Section>
-    ensures { option_copied result ≡ find (is_named name.now) sections.entry.now }
-{
-    sections
-        .iter()
-        .find(|section| section.name.as_bytes() == name)
-}
 
 /// Returns where the section of that name lies, as SVMAs.
 pub fn range_under(name: &[u8], sections: &[Section]) -> Option<Range<u64>>
@@ -40,6 +24,15 @@ pub fn range_under(name: &[u8], sections: &[Section]) -> Option<Range<u64>>
     }
 }
 
+// the first section of that name
+fn section_of<'s>(name: &[u8], sections: &'s [Section]) -> Option<&'s Section>
+    ensures { option_copied result ≡ find (is_named name.now) sections.entry.now }
+{
+    sections
+        .iter()
+        .find(|section| section.name.as_bytes() == name)
+}
+
 /// Takes out the bytes of the section of that name.
 pub fn take_bytes(name: &[u8], sections: &mut Vec<Section>) -> Option<Vec<u8>>
     ensures answer { result ≡ data_of name.now (entries_view sections.old.items) }
@@ -50,4 +43,12 @@ pub fn take_bytes(name: &[u8], sections: &mut Vec<Section>) -> Option<Vec<u8>>
         Some(index) => sections[index].bytes.take(),
         None => None,
     }
+}
+
+fn location_of(name: &[u8], sections: &[Section]) -> Option<usize>
+    ensures { result ≡ position (is_named name.now) sections.now }
+{
+    sections
+        .iter()
+        .position(|section| section.name.as_bytes() == name)
 }

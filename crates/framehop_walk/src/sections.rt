@@ -18,14 +18,6 @@ use std::alloc::Global;
 use std::collections::BTreeSet;
 use std::ops::Range;
 
-/// Returns the bytes of a section, which the input gives as pairs of hexadecimal digits of either case.
-pub fn section_bytes(alloc: Global, text: &str) -> Result<Vec<u8>, FromHexError>
-    ensures ok { IfOk result (λ bytes. decode_of text.now ≡ Ok bytes.items) }
-    ensures err { IfErr result (λ e. e ≢ OutOfMemory → decode_of text.now ≡ Err e) }
-{
-    hex::decode(alloc, text)
-}
-
 /// A section or a segment of the input.
 #[derive(Drop)]
 pub struct Section {
@@ -178,4 +170,12 @@ fn read_bytes(alloc: Global, section: &Value) -> Result<Option<Vec<u8>>, Refusal
         Err(FromHexError::OutOfMemory) => Err(Refusal::OutOfMemory),
         Err(_) => Err(Refusal::BadField("data")),
     }
+}
+
+/// Returns the bytes of a section, which the input gives as pairs of hexadecimal digits of either case.
+pub fn section_bytes(alloc: Global, text: &str) -> Result<Vec<u8>, FromHexError>
+    ensures ok { IfOk result (λ bytes. decode_of text.now ≡ Ok bytes.items) }
+    ensures err { IfErr result (λ e. e ≢ OutOfMemory → decode_of text.now ≡ Err e) }
+{
+    hex::decode(alloc, text)
 }

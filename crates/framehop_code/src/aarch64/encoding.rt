@@ -168,17 +168,6 @@ static ENCODINGS: [Encoding; 65] = [
     Encoding(0xbfe0_fc00, 0x0e00_3c00, WriteRd),
 ];
 
-/// Returns the first encoding that a word has.
-#[tactic(auto, unfolding(crate::specs::Aarch64::Encodings::encoding_in))]
-fn encoding_in(encodings: &[Encoding], word: u32) -> Option<Encoding>
-    ensures { result ≡ encoding_in encodings.now word }
-{
-    encodings
-        .iter()
-        .copied()
-        .find(|encoding| word & encoding.0 == encoding.1)
-}
-
 /// Returns what an instruction does, by its word. One of no encoding here writes neither `sp` nor `x29`; of SVE that is
 /// taken to be so.
 #[tactic(auto, unfolding(crate::specs::Aarch64::Encodings::class_of))]
@@ -189,4 +178,15 @@ pub fn class_of(word: u32) -> Class
         Some(Encoding(_, _, class)) => class,
         None => Class::Keep,
     }
+}
+
+/// Returns the first encoding that a word has.
+#[tactic(auto, unfolding(crate::specs::Aarch64::Encodings::encoding_in))]
+fn encoding_in(encodings: &[Encoding], word: u32) -> Option<Encoding>
+    ensures { result ≡ encoding_in encodings.now word }
+{
+    encodings
+        .iter()
+        .copied()
+        .find(|encoding| word & encoding.0 == encoding.1)
 }

@@ -12,71 +12,82 @@ use framehop_cfi::numbers::read_u32;
 /// The size of an instruction, in bytes.
 const SIZE: usize = 4;
 
-/// Returns so many bits of a word, from a lowest one on.
-fn bits(word: u32, low: u32, count: u32) -> u32
-    requires low { low < 32 }
-    requires count { count < 32 }
-    ensures { result ≡ bits_at word low count }
+/// Returns the instruction at an offset of code, or `None` where the bytes end.
+#[tactic(auto, unfolding(crate::specs::Aarch64::Instruction::instruction_at, framehop_cfi::specs::Numbers::u32_at))]
+pub fn read_instruction(code: &[u8], at: usize) -> Option<Effect>
+    ensures exact { result ≡ instruction_at code.now at }
+    ensures machine { AreAsMachine code.now at result }
+    ensures sized { IfSome result (λ effect. (0 < effect.size) × (at + effect.size ≤ length code.now)) }
 {
-    (word >> low) % (1 << count)
-}
-
-/// Returns a number with the sign that its highest bit is, by that bit's value.
-fn signed(number: u32, highest: u32) -> i64
-    ensures exact { result ≡ signed number highest }
-    ensures least { negsuc 8589934591 ≤ℤ result }
-    ensures most { result ≤ℤ pos 8589934592 }
-{
-    let number = i64::from(number);
-    let highest = i64::from(highest);
-    if number < highest {
-        number
-    } else {
-        number - 2 * highest
+    match read_u32(code, at) {
+        Ok((word, _)) => Some(effect_of(word)),
+        Err(_) => None,
     }
 }
 
-/// Returns which of the two registers a number names: 31 is `sp`.
-fn numbered(number: u32) -> Option<Base>
-    ensures { result ≡ numbered number }
+/// Returns the effect of an instruction, by its word.
+#[tactic(auto, unfolding(crate::specs::Aarch64::Instruction::effect_of))]
+pub fn effect_of(word: u32) -> Effect
+    ensures exact { result ≡ effect_of word }
+    ensures size { result.size ≡ 4 }
 {
-    match number {
-        31 => Some(Base::Sp),
-        29 => Some(Base::Fp),
-        _ => None,
+    effect_of_class(word, class_of(word))
+}
+
+/// Returns the effect of an instruction, by its class.
+fn effect_of_class(word: u32, class: Class) -> Effect
+    ensures exact { result ≡ effect_of_class word class }
+    ensures size { result.size ≡ 4 }
+{
+    let next = plain(SIZE);
+    let rd = bits(word, 0, 5);
+    match class {
+        Class::Keep => next,
+        Class::Padding => leading(Flow::Padding),
+        Class::Stop => leading(Flow::Leaves),
+        Class::Jump => leading(Flow::Jump(distance(bits(word, 0, 26), 0x200_0000))),
+        Class::Call => leading(Flow::Call),
+        Class::Branch => leading(Flow::Branch(distance(bits(word, 5, 19), 0x4_0000))),
+        Class::TestBranch => leading(Flow::Branch(distance(bits(word, 5, 14), 0x2000))),
+        Class::BranchRegister => leading(register_flow(word)),
+        Class::WriteRd => writing(next, rd),
+        Class::SetRd => setting(next, rd, Change::Unknown),
+        Class::AddImmediate => setting(next, rd, added(word)),
+        Class::WriteRt2 => writing_pair(next, word),
+        Class::Exclusive => exclusive(word),
+        Class::ComparePair => compare_pair(word),
+        Class::MemoryCopy => memory_copy(word),
+        _ => written_back(word, class),
     }
 }
 
-/// Returns the effect with a register changed, of which 31 is `sp`.
-fn setting(effect: Effect, number: u32, change: Change) -> Effect
-    ensures exact { result ≡ setting effect number change }
-    ensures size { result.size ≡ effect.size }
+/// Returns an instruction that only leads somewhere.
+fn leading(flow: Flow) -> Effect
+    ensures exact { result ≡ leading flow }
+    ensures size { result.size ≡ 4 }
 {
-    with_register(effect, numbered(number), change)
-}
-
-/// Returns the effect with a register overwritten by any value, of which 31 is no register.
-fn writing(effect: Effect, number: u32) -> Effect
-    ensures exact { result ≡ writing effect number }
-    ensures size { result.size ≡ effect.size }
-{
-    if number == 29 {
-        setting(effect, 29, Change::Unknown)
-    } else {
-        effect
+    Effect {
+        flow,
+        ..plain(SIZE)
     }
 }
 
-/// Returns the effect with so many bytes added to the base register Rn, or with any value in it.
-fn moving(effect: Effect, word: u32, bytes: Option<i64>) -> Effect
-    ensures exact { result ≡ moving effect word bytes }
-    ensures size { result.size ≡ effect.size }
+/// Returns how far a jump leads from the next instruction, in bytes, by its distance in words from this one and the value
+/// of that field's highest bit.
+fn distance(words: u32, highest: u32) -> i64
+    ensures { result ≡ distance words highest }
 {
-    let number = bits(word, 5, 5);
-    match (numbered(number), bytes) {
-        (Some(base), Some(offset)) => setting(effect, number, Change::Sum { base, offset }),
-        (Some(_), None) => setting(effect, number, Change::Unknown),
-        (None, _) => effect,
+    signed(words, highest) * 4 - 4
+}
+
+/// Returns where BR, BLR, RET and their kin lead, by opc: BLR is 1, RET is 2; 9 is BLRAA with a modifier.
+fn register_flow(word: u32) -> Flow
+    ensures { result ≡ register_flow word }
+{
+    match bits(word, 21, 4) {
+        1 | 9 => Flow::Call,
+        2 => Flow::Return,
+        _ => Flow::Leaves,
     }
 }
 
@@ -96,76 +107,6 @@ fn added(word: u32) -> Change
             },
         },
         None => Change::Unknown,
-    }
-}
-
-/// Returns imm7 of a pair, in bytes: it counts 4, 8 or 16 bytes by opc. Of general registers 1 is LDPSW, or STGP.
-fn pair_offset(word: u32, class: Class) -> i64
-    ensures { result ≡ pair_offset word class }
-{
-    let units = signed(bits(word, 15, 7), 0x40);
-    match (class, bits(word, 30, 2)) {
-        (_, 0) => units * 4,
-        (Class::VectorPairIndexed, 1) => units * 8,
-        (Class::VectorPairIndexed, _) => units * 16,
-        (Class::LoadPairIndexed, 1) => units * 4,
-        (_, 1) => units * 16,
-        (_, _) => units * 8,
-    }
-}
-
-/// Returns imm9, in bytes.
-fn imm9(word: u32) -> i64
-    ensures exact { result ≡ imm9 word }
-    ensures least { negsuc 8589934591 ≤ℤ result }
-    ensures most { result ≤ℤ pos 8589934592 }
-{
-    signed(bits(word, 12, 9), 0x100)
-}
-
-/// Returns the effect with the base register moved by imm7, in the unit of a pair.
-fn moving_by_pair(effect: Effect, word: u32, class: Class) -> Effect
-    ensures exact { result ≡ moving_by_pair effect word class }
-    ensures size { result.size ≡ effect.size }
-{
-    moving(effect, word, Some(pair_offset(word, class)))
-}
-
-/// Returns the effect with Rt and Rt2 overwritten.
-fn writing_pair(effect: Effect, word: u32) -> Effect
-    ensures exact { result ≡ writing_pair effect word }
-    ensures size { result.size ≡ effect.size }
-{
-    writing(writing(effect, bits(word, 0, 5)), bits(word, 10, 5))
-}
-
-/// Returns how far a jump leads from the next instruction, in bytes, by its distance in words from this one and the value
-/// of that field's highest bit.
-fn distance(words: u32, highest: u32) -> i64
-    ensures { result ≡ distance words highest }
-{
-    signed(words, highest) * 4 - 4
-}
-
-/// Returns an instruction that only leads somewhere.
-fn leading(flow: Flow) -> Effect
-    ensures exact { result ≡ leading flow }
-    ensures size { result.size ≡ 4 }
-{
-    Effect {
-        flow,
-        ..plain(SIZE)
-    }
-}
-
-/// Returns where BR, BLR, RET and their kin lead, by opc: BLR is 1, RET is 2; 9 is BLRAA with a modifier.
-fn register_flow(word: u32) -> Flow
-    ensures { result ≡ register_flow word }
-{
-    match bits(word, 21, 4) {
-        1 | 9 => Flow::Call,
-        2 => Flow::Return,
-        _ => Flow::Leaves,
     }
 }
 
@@ -220,51 +161,110 @@ fn written_back(word: u32, class: Class) -> Effect
     }
 }
 
-/// Returns the effect of an instruction, by its class.
-fn effect_of_class(word: u32, class: Class) -> Effect
-    ensures exact { result ≡ effect_of_class word class }
-    ensures size { result.size ≡ 4 }
+/// Returns imm9, in bytes.
+fn imm9(word: u32) -> i64
+    ensures exact { result ≡ imm9 word }
+    ensures least { negsuc 8589934591 ≤ℤ result }
+    ensures most { result ≤ℤ pos 8589934592 }
 {
-    let next = plain(SIZE);
-    let rd = bits(word, 0, 5);
-    match class {
-        Class::Keep => next,
-        Class::Padding => leading(Flow::Padding),
-        Class::Stop => leading(Flow::Leaves),
-        Class::Jump => leading(Flow::Jump(distance(bits(word, 0, 26), 0x200_0000))),
-        Class::Call => leading(Flow::Call),
-        Class::Branch => leading(Flow::Branch(distance(bits(word, 5, 19), 0x4_0000))),
-        Class::TestBranch => leading(Flow::Branch(distance(bits(word, 5, 14), 0x2000))),
-        Class::BranchRegister => leading(register_flow(word)),
-        Class::WriteRd => writing(next, rd),
-        Class::SetRd => setting(next, rd, Change::Unknown),
-        Class::AddImmediate => setting(next, rd, added(word)),
-        Class::WriteRt2 => writing_pair(next, word),
-        Class::Exclusive => exclusive(word),
-        Class::ComparePair => compare_pair(word),
-        Class::MemoryCopy => memory_copy(word),
-        _ => written_back(word, class),
+    signed(bits(word, 12, 9), 0x100)
+}
+
+/// Returns the effect with the base register moved by imm7, in the unit of a pair.
+fn moving_by_pair(effect: Effect, word: u32, class: Class) -> Effect
+    ensures exact { result ≡ moving_by_pair effect word class }
+    ensures size { result.size ≡ effect.size }
+{
+    moving(effect, word, Some(pair_offset(word, class)))
+}
+
+/// Returns the effect with so many bytes added to the base register Rn, or with any value in it.
+fn moving(effect: Effect, word: u32, bytes: Option<i64>) -> Effect
+    ensures exact { result ≡ moving effect word bytes }
+    ensures size { result.size ≡ effect.size }
+{
+    let number = bits(word, 5, 5);
+    match (numbered(number), bytes) {
+        (Some(base), Some(offset)) => setting(effect, number, Change::Sum { base, offset }),
+        (Some(_), None) => setting(effect, number, Change::Unknown),
+        (None, _) => effect,
     }
 }
 
-/// Returns the effect of an instruction, by its word.
-#[tactic(auto, unfolding(crate::specs::Aarch64::Instruction::effect_of))]
-pub fn effect_of(word: u32) -> Effect
-    ensures exact { result ≡ effect_of word }
-    ensures size { result.size ≡ 4 }
+/// Returns imm7 of a pair, in bytes: it counts 4, 8 or 16 bytes by opc. Of general registers 1 is LDPSW, or STGP.
+fn pair_offset(word: u32, class: Class) -> i64
+    ensures { result ≡ pair_offset word class }
 {
-    effect_of_class(word, class_of(word))
+    let units = signed(bits(word, 15, 7), 0x40);
+    match (class, bits(word, 30, 2)) {
+        (_, 0) => units * 4,
+        (Class::VectorPairIndexed, 1) => units * 8,
+        (Class::VectorPairIndexed, _) => units * 16,
+        (Class::LoadPairIndexed, 1) => units * 4,
+        (_, 1) => units * 16,
+        (_, _) => units * 8,
+    }
 }
 
-/// Returns the instruction at an offset of code, or `None` where the bytes end.
-#[tactic(auto, unfolding(crate::specs::Aarch64::Instruction::instruction_at, framehop_cfi::specs::Numbers::u32_at))]
-pub fn read_instruction(code: &[u8], at: usize) -> Option<Effect>
-    ensures exact { result ≡ instruction_at code.now at }
-    ensures machine { AreAsMachine code.now at result }
-    ensures sized { IfSome result (λ effect. (0 < effect.size) × (at + effect.size ≤ length code.now)) }
+/// Returns a number with the sign that its highest bit is, by that bit's value.
+fn signed(number: u32, highest: u32) -> i64
+    ensures exact { result ≡ signed number highest }
+    ensures least { negsuc 8589934591 ≤ℤ result }
+    ensures most { result ≤ℤ pos 8589934592 }
 {
-    match read_u32(code, at) {
-        Ok((word, _)) => Some(effect_of(word)),
-        Err(_) => None,
+    let number = i64::from(number);
+    let highest = i64::from(highest);
+    if number < highest {
+        number
+    } else {
+        number - 2 * highest
     }
+}
+
+/// Returns the effect with Rt and Rt2 overwritten.
+fn writing_pair(effect: Effect, word: u32) -> Effect
+    ensures exact { result ≡ writing_pair effect word }
+    ensures size { result.size ≡ effect.size }
+{
+    writing(writing(effect, bits(word, 0, 5)), bits(word, 10, 5))
+}
+
+/// Returns the effect with a register overwritten by any value, of which 31 is no register.
+fn writing(effect: Effect, number: u32) -> Effect
+    ensures exact { result ≡ writing effect number }
+    ensures size { result.size ≡ effect.size }
+{
+    if number == 29 {
+        setting(effect, 29, Change::Unknown)
+    } else {
+        effect
+    }
+}
+
+/// Returns the effect with a register changed, of which 31 is `sp`.
+fn setting(effect: Effect, number: u32, change: Change) -> Effect
+    ensures exact { result ≡ setting effect number change }
+    ensures size { result.size ≡ effect.size }
+{
+    with_register(effect, numbered(number), change)
+}
+
+/// Returns which of the two registers a number names: 31 is `sp`.
+fn numbered(number: u32) -> Option<Base>
+    ensures { result ≡ numbered number }
+{
+    match number {
+        31 => Some(Base::Sp),
+        29 => Some(Base::Fp),
+        _ => None,
+    }
+}
+
+/// Returns so many bits of a word, from a lowest one on.
+fn bits(word: u32, low: u32, count: u32) -> u32
+    requires low { low < 32 }
+    requires count { count < 32 }
+    ensures { result ≡ bits_at word low count }
+{
+    (word >> low) % (1 << count)
 }

@@ -81,12 +81,53 @@ pub struct Parts {
     pub size: usize,
 }
 
-/// Returns a bit of a byte.
-fn bit(byte: u8, place: u8) -> bool
-    requires { place < 8 }
-    ensures { result ≡ bit byte place }
+/// Returns the instruction at an offset of code, or `None` where the bytes end or none is recognised.
+#[tactic(auto, unfolding(crate::specs::X86_64::Instruction::instruction_at))]
+pub fn read_instruction(code: &[u8], at: usize) -> Option<Effect>
+    ensures exact { result ≡ instruction_at code.now at }
+    ensures machine { IsAsMachine code.now at result }
+    ensures sized { IfSome result (λ effect. (0 < effect.size) × (at + effect.size ≤ length code.now)) }
 {
-    (byte >> place) % 2 == 1
+    match read_parts(longest_at(code, at)?) {
+        Ok(parts) => Some(effect_of(parts)),
+        Err(_) => None,
+    }
+}
+
+/// Returns the parts of the instruction at the front of bytes.
+#[tactic(auto, unfolding(crate::specs::X86_64::Instruction::parts_at))]
+fn read_parts(bytes: &[u8]) -> Result<Parts, ReadError>
+    ensures exact { result ≡ parts_at bytes.now }
+    ensures inside { IfOk result (λ parts. (0 < parts.size) × (parts.size ≤ length bytes.now)) }
+{
+    let (prefixes, next) = read_prefixes(bytes)?;
+    let (opcode, next) = read_opcode(prefixes, bytes, next)?;
+    let (address, next) = read_address(opcode.operands, bytes, next)?;
+    let (immediate, size) = read_immediate(opcode, address.modrm, bytes, next)?;
+    Ok(Parts {
+        opcode,
+        address,
+        immediate,
+        size,
+    })
+}
+
+/// Returns the prefixes at the front, and the offset after them.
+#[tactic(auto, unfolding(crate::specs::X86_64::Instruction::prefixes_at))]
+fn read_prefixes(bytes: &[u8]) -> Result<(Prefixes, usize), ReadError>
+    ensures { result ≡ prefixes_at bytes.now }
+{
+    match count_legacy(bytes) {
+        Some(count) => prefixes_before(bytes, count),
+        None => Err(ReadError::Eof),
+    }
+}
+
+/// Returns how many legacy prefixes are at the front, or `None` where nothing follows them.
+fn count_legacy(bytes: &[u8]) -> Option<usize>
+    ensures { result ≡ position (λ byte. not (is_legacy_prefix byte)) bytes.now }
+{
+    bytes.iter().position(|byte| !is_legacy_prefix(*byte))
 }
 
 /// Returns whether a byte is a legacy prefix: LOCK, REPNE, REP, a segment override, or one of operand or address size.
@@ -97,6 +138,34 @@ fn is_legacy_prefix(byte: u8) -> bool
         byte,
         0x26 | 0x2e | 0x36 | 0x3e | 0x64..=0x67 | 0xf0 | 0xf2 | 0xf3
     )
+}
+
+/// Returns so many legacy prefixes with REX, if it follows, and the offset after them.
+fn prefixes_before(bytes: &[u8], count: usize) -> Result<(Prefixes, usize), ReadError>
+    ensures { result ≡ prefixes_before bytes.now (Some count) }
+{
+    let (first, after) = read_u8(bytes, count)?;
+    let prefixes = prefixes_of(front(bytes, count), first);
+    Ok((prefixes, if prefixes.rex.present { after } else { count }))
+}
+
+/// Returns the legacy prefixes, and the bits of the byte after them if it is REX.
+fn prefixes_of(legacy: &[u8], first: u8) -> Prefixes
+    ensures { result ≡ prefixes_of legacy.now first }
+{
+    Prefixes {
+        operand_size: contains(legacy, 0x66),
+        address_size: contains(legacy, 0x67),
+        repeated: contains(legacy, 0xf2) || contains(legacy, 0xf3),
+        rex: rex_of(first),
+    }
+}
+
+/// Returns whether a byte is among others.
+fn contains(bytes: &[u8], wanted: u8) -> bool
+    ensures { result ≡ list_any (λ byte. byte == wanted) bytes.now }
+{
+    bytes.iter().any(|byte| *byte == wanted)
 }
 
 /// Returns the bits of a byte that may be a REX prefix.
@@ -113,122 +182,46 @@ fn rex_of(byte: u8) -> Rex
     }
 }
 
-/// Returns how many legacy prefixes are at the front, or `None` where nothing follows them.
-fn count_legacy(bytes: &[u8]) -> Option<usize>
-    ensures { result ≡ position (λ byte. not (is_legacy_prefix byte)) bytes.now }
-{
-    bytes.iter().position(|byte| !is_legacy_prefix(*byte))
-}
-
-/// Returns whether a byte is among others.
-fn contains(bytes: &[u8], wanted: u8) -> bool
-    ensures { result ≡ list_any (λ byte. byte == wanted) bytes.now }
-{
-    bytes.iter().any(|byte| *byte == wanted)
-}
-
-/// Returns the legacy prefixes, and the bits of the byte after them if it is REX.
-fn prefixes_of(legacy: &[u8], first: u8) -> Prefixes
-    ensures { result ≡ prefixes_of legacy.now first }
-{
-    Prefixes {
-        operand_size: contains(legacy, 0x66),
-        address_size: contains(legacy, 0x67),
-        repeated: contains(legacy, 0xf2) || contains(legacy, 0xf3),
-        rex: rex_of(first),
-    }
-}
-
-/// Returns the prefixes at the front, and the offset after them.
-#[tactic(auto, unfolding(crate::specs::X86_64::Instruction::prefixes_at))]
-fn read_prefixes(bytes: &[u8]) -> Result<(Prefixes, usize), ReadError>
-    ensures { result ≡ prefixes_at bytes.now }
-{
-    match count_legacy(bytes) {
-        Some(count) => prefixes_before(bytes, count),
-        None => Err(ReadError::Eof),
-    }
-}
-
-/// Returns so many legacy prefixes with REX, if it follows, and the offset after them.
-fn prefixes_before(bytes: &[u8], count: usize) -> Result<(Prefixes, usize), ReadError>
-    ensures { result ≡ prefixes_before bytes.now (Some count) }
-{
-    let (first, after) = read_u8(bytes, count)?;
-    let prefixes = prefixes_of(front(bytes, count), first);
-    Ok((prefixes, if prefixes.rex.present { after } else { count }))
-}
-
-/// Returns an opcode with the row of its map.
-fn opcode_of_row(
-    prefixes: Prefixes,
-    byte: u8,
-    vvvv: u8,
-    row: Option<Opcodes>,
-) -> Result<Opcode, ReadError>
-    ensures { result ≡ opcode_of_row prefixes byte vvvv row }
-{
-    match row {
-        Some(Opcodes(_, _, operands, operation)) => Ok(Opcode {
-            prefixes,
-            byte,
-            vvvv,
-            operands,
-            operation,
-        }),
-        None => Err(ReadError::UnknownInstruction),
-    }
-}
-
-/// Returns the prefixes that VEX, EVEX or XOP has, by its bytes with the inverted bits R, X and B, and with W and pp.
-fn vector_prefixes(prefixes: Prefixes, high: u8, low: u8) -> Prefixes
-    ensures { result ≡ vector_prefixes prefixes high low }
-{
-    Prefixes {
-        operand_size: low % 4 == 1,
-        repeated: low % 4 >= 2,
-        rex: Rex {
-            present: true,
-            w: bit(low, 7),
-            r: !bit(high, 7),
-            x: !bit(high, 6),
-            b: !bit(high, 5),
-        },
-        ..prefixes
-    }
-}
-
-/// Returns the opcode at an offset after the prefix VEX, EVEX or XOP, and the offset after it.
-#[tactic(auto, unfolding(crate::specs::X86_64::Instruction::vector_opcode_at))]
-fn read_vector_opcode(
-    prefixes: Prefixes,
-    map: u8,
-    vvvv: u8,
-    bytes: &[u8],
-    at: usize,
-) -> Result<(Opcode, usize), ReadError>
-    ensures exact { result ≡ vector_opcode_at prefixes map vvvv bytes.now at }
+/// Returns the opcode at an offset after the legacy prefixes and REX, and the offset after it.
+#[tactic(auto, unfolding(crate::specs::X86_64::Instruction::opcode_at))]
+fn read_opcode(prefixes: Prefixes, bytes: &[u8], at: usize) -> Result<(Opcode, usize), ReadError>
+    ensures exact { result ≡ opcode_at prefixes bytes.now at }
     ensures inside { IfOk result (λ read. (at < read.1) × (read.1 ≤ length bytes.now)) }
 {
     let (byte, next) = read_byte(bytes, at)?;
-    let opcode = opcode_of_row(prefixes, byte, vvvv, vector(map, byte))?;
-    Ok((opcode, next))
+    if byte == 0x0f {
+        return read_escaped(prefixes, bytes, next);
+    }
+    if byte == 0xc5 {
+        return read_short_vector(prefixes, bytes, next);
+    }
+    if byte == 0x62 {
+        return read_evex(prefixes, bytes, next);
+    }
+    if byte == 0xc4 || (byte == 0x8f && is_xop(bytes, next)) {
+        return read_long_vector(prefixes, bytes, next);
+    }
+    Ok((opcode_of_row(prefixes, byte, 0, one_byte(byte))?, next))
 }
 
-/// Returns the opcode after a prefix VEX of three bytes, or XOP, whose second byte is at an offset.
-#[tactic(auto, unfolding(crate::specs::X86_64::Instruction::long_vector_at))]
-fn read_long_vector(
-    prefixes: Prefixes,
-    bytes: &[u8],
-    at: usize,
-) -> Result<(Opcode, usize), ReadError>
-    ensures exact { result ≡ long_vector_at prefixes bytes.now at }
+/// Returns the opcode after 0F, and the offset after it.
+#[tactic(auto, unfolding(crate::specs::X86_64::Instruction::escaped_at))]
+fn read_escaped(prefixes: Prefixes, bytes: &[u8], at: usize) -> Result<(Opcode, usize), ReadError>
+    ensures exact { result ≡ escaped_at prefixes bytes.now at }
     ensures inside { IfOk result (λ read. (at < read.1) × (read.1 ≤ length bytes.now)) }
 {
-    let (high, next) = read_byte(bytes, at)?;
-    let (low, next) = read_byte(bytes, next)?;
-    let prefixes = vector_prefixes(prefixes, high, low);
-    read_vector_opcode(prefixes, high % 32, 15 - low / 8 % 16, bytes, next)
+    let (byte, next) = read_byte(bytes, at)?;
+    match byte {
+        0x38 => {
+            let (byte, next) = read_byte(bytes, next)?;
+            Ok((opcode_of_row(prefixes, byte, 0, three_byte_38(byte))?, next))
+        }
+        0x3a => {
+            let (byte, next) = read_byte(bytes, next)?;
+            Ok((opcode_of_row(prefixes, byte, 0, three_byte_3a(byte))?, next))
+        }
+        _ => Ok((opcode_of_row(prefixes, byte, 0, two_byte(byte))?, next)),
+    }
 }
 
 /// Returns the opcode after a prefix VEX of two bytes, whose second one is at an offset: X, B and W are 0, the map is 1.
@@ -270,46 +263,140 @@ fn is_xop(bytes: &[u8], at: usize) -> bool
     }
 }
 
-/// Returns the opcode after 0F, and the offset after it.
-#[tactic(auto, unfolding(crate::specs::X86_64::Instruction::escaped_at))]
-fn read_escaped(prefixes: Prefixes, bytes: &[u8], at: usize) -> Result<(Opcode, usize), ReadError>
-    ensures exact { result ≡ escaped_at prefixes bytes.now at }
+/// Returns the opcode after a prefix VEX of three bytes, or XOP, whose second byte is at an offset.
+#[tactic(auto, unfolding(crate::specs::X86_64::Instruction::long_vector_at))]
+fn read_long_vector(
+    prefixes: Prefixes,
+    bytes: &[u8],
+    at: usize,
+) -> Result<(Opcode, usize), ReadError>
+    ensures exact { result ≡ long_vector_at prefixes bytes.now at }
     ensures inside { IfOk result (λ read. (at < read.1) × (read.1 ≤ length bytes.now)) }
 {
-    let (byte, next) = read_byte(bytes, at)?;
-    match byte {
-        0x38 => {
-            let (byte, next) = read_byte(bytes, next)?;
-            Ok((opcode_of_row(prefixes, byte, 0, three_byte_38(byte))?, next))
-        }
-        0x3a => {
-            let (byte, next) = read_byte(bytes, next)?;
-            Ok((opcode_of_row(prefixes, byte, 0, three_byte_3a(byte))?, next))
-        }
-        _ => Ok((opcode_of_row(prefixes, byte, 0, two_byte(byte))?, next)),
+    let (high, next) = read_byte(bytes, at)?;
+    let (low, next) = read_byte(bytes, next)?;
+    let prefixes = vector_prefixes(prefixes, high, low);
+    read_vector_opcode(prefixes, high % 32, 15 - low / 8 % 16, bytes, next)
+}
+
+/// Returns the prefixes that VEX, EVEX or XOP has, by its bytes with the inverted bits R, X and B, and with W and pp.
+fn vector_prefixes(prefixes: Prefixes, high: u8, low: u8) -> Prefixes
+    ensures { result ≡ vector_prefixes prefixes high low }
+{
+    Prefixes {
+        operand_size: low % 4 == 1,
+        repeated: low % 4 >= 2,
+        rex: Rex {
+            present: true,
+            w: bit(low, 7),
+            r: !bit(high, 7),
+            x: !bit(high, 6),
+            b: !bit(high, 5),
+        },
+        ..prefixes
     }
 }
 
-/// Returns the opcode at an offset after the legacy prefixes and REX, and the offset after it.
-#[tactic(auto, unfolding(crate::specs::X86_64::Instruction::opcode_at))]
-fn read_opcode(prefixes: Prefixes, bytes: &[u8], at: usize) -> Result<(Opcode, usize), ReadError>
-    ensures exact { result ≡ opcode_at prefixes bytes.now at }
+/// Returns a bit of a byte.
+fn bit(byte: u8, place: u8) -> bool
+    requires { place < 8 }
+    ensures { result ≡ bit byte place }
+{
+    (byte >> place) % 2 == 1
+}
+
+/// Returns the opcode at an offset after the prefix VEX, EVEX or XOP, and the offset after it.
+#[tactic(auto, unfolding(crate::specs::X86_64::Instruction::vector_opcode_at))]
+fn read_vector_opcode(
+    prefixes: Prefixes,
+    map: u8,
+    vvvv: u8,
+    bytes: &[u8],
+    at: usize,
+) -> Result<(Opcode, usize), ReadError>
+    ensures exact { result ≡ vector_opcode_at prefixes map vvvv bytes.now at }
     ensures inside { IfOk result (λ read. (at < read.1) × (read.1 ≤ length bytes.now)) }
 {
     let (byte, next) = read_byte(bytes, at)?;
-    if byte == 0x0f {
-        return read_escaped(prefixes, bytes, next);
+    let opcode = opcode_of_row(prefixes, byte, vvvv, vector(map, byte))?;
+    Ok((opcode, next))
+}
+
+/// Returns an opcode with the row of its map.
+fn opcode_of_row(
+    prefixes: Prefixes,
+    byte: u8,
+    vvvv: u8,
+    row: Option<Opcodes>,
+) -> Result<Opcode, ReadError>
+    ensures { result ≡ opcode_of_row prefixes byte vvvv row }
+{
+    match row {
+        Some(Opcodes(_, _, operands, operation)) => Ok(Opcode {
+            prefixes,
+            byte,
+            vvvv,
+            operands,
+            operation,
+        }),
+        None => Err(ReadError::UnknownInstruction),
     }
-    if byte == 0xc5 {
-        return read_short_vector(prefixes, bytes, next);
+}
+
+/// Returns the ModRM byte with what it asks for, where the operands have one, and the offset after it.
+fn read_address(operands: Operands, bytes: &[u8], at: usize) -> Result<(Address, usize), ReadError>
+    requires { at ≤ length bytes.now }
+    ensures exact { result ≡ address_at operands bytes.now at }
+    ensures inside { IfOk result (λ read. (at ≤ read.1) × (read.1 ≤ length bytes.now)) }
+{
+    match operands {
+        Operands::Bare | Operands::Then(_) => {
+            let none = Address {
+                modrm: 0,
+                sib: 0,
+                displacement: 0,
+            };
+            Ok((none, at))
+        }
+        Operands::ModRm | Operands::ModRmThen(_) => read_memory(bytes, at),
     }
-    if byte == 0x62 {
-        return read_evex(prefixes, bytes, next);
+}
+
+/// Returns the ModRM byte at an offset with what it asks for, and the offset after it.
+#[tactic(auto, unfolding(crate::specs::X86_64::Instruction::memory_at))]
+fn read_memory(bytes: &[u8], at: usize) -> Result<(Address, usize), ReadError>
+    ensures exact { result ≡ memory_at bytes.now at }
+    ensures inside { IfOk result (λ read. (at ≤ read.1) × (read.1 ≤ length bytes.now)) }
+{
+    let (modrm, next) = read_byte(bytes, at)?;
+    let (sib, next) = read_sib(modrm, bytes, next)?;
+    let (displacement, next) = read_signed(bytes, next, displacement_size(modrm, sib))?;
+    let address = Address {
+        modrm,
+        sib,
+        displacement,
+    };
+    Ok((address, next))
+}
+
+/// Returns the SIB byte at an offset where the ModRM byte asks for one, else 0, and the offset after it.
+#[tactic(auto, unfolding(crate::specs::X86_64::Instruction::sib_at))]
+fn read_sib(modrm: u8, bytes: &[u8], at: usize) -> Result<(u8, usize), ReadError>
+    requires { at ≤ length bytes.now }
+    ensures exact { result ≡ sib_at modrm bytes.now at }
+    ensures inside { IfOk result (λ read. (at ≤ read.1) × (read.1 ≤ length bytes.now)) }
+{
+    if has_sib(modrm) {
+        return read_byte(bytes, at);
     }
-    if byte == 0xc4 || (byte == 0x8f && is_xop(bytes, next)) {
-        return read_long_vector(prefixes, bytes, next);
-    }
-    Ok((opcode_of_row(prefixes, byte, 0, one_byte(byte))?, next))
+    Ok((0, at))
+}
+
+/// Returns whether a SIB byte follows a ModRM byte.
+fn has_sib(modrm: u8) -> bool
+    ensures { result ≡ has_sib modrm }
+{
+    modrm / 64 != 3 && modrm % 8 == 4
 }
 
 /// Returns the byte at an offset, and the offset after it.
@@ -319,13 +406,6 @@ fn read_byte(bytes: &[u8], at: usize) -> Result<(u8, usize), ReadError>
     ensures inside { IfOk result (λ read. (read.1 ≡ at + 1) × (read.1 ≤ length bytes.now)) }
 {
     read_u8(bytes, at)
-}
-
-/// Returns whether a SIB byte follows a ModRM byte.
-fn has_sib(modrm: u8) -> bool
-    ensures { result ≡ has_sib modrm }
-{
-    modrm / 64 != 3 && modrm % 8 == 4
 }
 
 /// Returns how many bytes a displacement has, after a ModRM byte and a SIB byte.
@@ -341,26 +421,22 @@ fn displacement_size(modrm: u8, sib: u8) -> usize
     }
 }
 
-/// Returns how many bytes an immediate operand has.
-fn immediate_size(immediate: Immediate, prefixes: Prefixes, modrm: u8) -> usize
-    ensures { result ≡ immediate_size immediate prefixes modrm }
+/// Returns the immediate operand, where the operands have one, and the offset after it.
+fn read_immediate(
+    opcode: Opcode,
+    modrm: u8,
+    bytes: &[u8],
+    at: usize,
+) -> Result<(i32, usize), ReadError>
+    requires { at ≤ length bytes.now }
+    ensures exact { result ≡ immediate_at opcode modrm bytes.now at }
+    ensures inside { IfOk result (λ read. (at ≤ read.1) × (read.1 ≤ length bytes.now)) }
 {
-    let long = if prefixes.operand_size && !prefixes.rex.w {
-        2
-    } else {
-        4
-    };
-    let is_test = modrm / 8 % 8 < 2;
-    match immediate {
-        Immediate::Byte => 1,
-        Immediate::Word => 2,
-        Immediate::WordAndByte => 3,
-        Immediate::Long => long,
-        Immediate::Near => 4,
-        Immediate::Full => if prefixes.rex.w { 8 } else { long },
-        Immediate::Address => if prefixes.address_size { 4 } else { 8 },
-        Immediate::ByteOfTest => if is_test { 1 } else { 0 },
-        Immediate::LongOfTest => if is_test { long } else { 0 },
+    match opcode.operands {
+        Operands::Bare | Operands::ModRm => Ok((0, at)),
+        Operands::Then(immediate) | Operands::ModRmThen(immediate) => {
+            read_signed(bytes, at, immediate_size(immediate, opcode.prefixes, modrm))
+        }
     }
 }
 
@@ -400,90 +476,27 @@ fn skip(bytes: &[u8], at: usize, size: usize) -> Result<(i32, usize), ReadError>
     Ok((0, at + size))
 }
 
-/// Returns the SIB byte at an offset where the ModRM byte asks for one, else 0, and the offset after it.
-#[tactic(auto, unfolding(crate::specs::X86_64::Instruction::sib_at))]
-fn read_sib(modrm: u8, bytes: &[u8], at: usize) -> Result<(u8, usize), ReadError>
-    requires { at ≤ length bytes.now }
-    ensures exact { result ≡ sib_at modrm bytes.now at }
-    ensures inside { IfOk result (λ read. (at ≤ read.1) × (read.1 ≤ length bytes.now)) }
+/// Returns how many bytes an immediate operand has.
+fn immediate_size(immediate: Immediate, prefixes: Prefixes, modrm: u8) -> usize
+    ensures { result ≡ immediate_size immediate prefixes modrm }
 {
-    if has_sib(modrm) {
-        return read_byte(bytes, at);
-    }
-    Ok((0, at))
-}
-
-/// Returns the ModRM byte at an offset with what it asks for, and the offset after it.
-#[tactic(auto, unfolding(crate::specs::X86_64::Instruction::memory_at))]
-fn read_memory(bytes: &[u8], at: usize) -> Result<(Address, usize), ReadError>
-    ensures exact { result ≡ memory_at bytes.now at }
-    ensures inside { IfOk result (λ read. (at ≤ read.1) × (read.1 ≤ length bytes.now)) }
-{
-    let (modrm, next) = read_byte(bytes, at)?;
-    let (sib, next) = read_sib(modrm, bytes, next)?;
-    let (displacement, next) = read_signed(bytes, next, displacement_size(modrm, sib))?;
-    let address = Address {
-        modrm,
-        sib,
-        displacement,
+    let long = if prefixes.operand_size && !prefixes.rex.w {
+        2
+    } else {
+        4
     };
-    Ok((address, next))
-}
-
-/// Returns the ModRM byte with what it asks for, where the operands have one, and the offset after it.
-fn read_address(operands: Operands, bytes: &[u8], at: usize) -> Result<(Address, usize), ReadError>
-    requires { at ≤ length bytes.now }
-    ensures exact { result ≡ address_at operands bytes.now at }
-    ensures inside { IfOk result (λ read. (at ≤ read.1) × (read.1 ≤ length bytes.now)) }
-{
-    match operands {
-        Operands::Bare | Operands::Then(_) => {
-            let none = Address {
-                modrm: 0,
-                sib: 0,
-                displacement: 0,
-            };
-            Ok((none, at))
-        }
-        Operands::ModRm | Operands::ModRmThen(_) => read_memory(bytes, at),
+    let is_test = modrm / 8 % 8 < 2;
+    match immediate {
+        Immediate::Byte => 1,
+        Immediate::Word => 2,
+        Immediate::WordAndByte => 3,
+        Immediate::Long => long,
+        Immediate::Near => 4,
+        Immediate::Full => if prefixes.rex.w { 8 } else { long },
+        Immediate::Address => if prefixes.address_size { 4 } else { 8 },
+        Immediate::ByteOfTest => if is_test { 1 } else { 0 },
+        Immediate::LongOfTest => if is_test { long } else { 0 },
     }
-}
-
-/// Returns the immediate operand, where the operands have one, and the offset after it.
-fn read_immediate(
-    opcode: Opcode,
-    modrm: u8,
-    bytes: &[u8],
-    at: usize,
-) -> Result<(i32, usize), ReadError>
-    requires { at ≤ length bytes.now }
-    ensures exact { result ≡ immediate_at opcode modrm bytes.now at }
-    ensures inside { IfOk result (λ read. (at ≤ read.1) × (read.1 ≤ length bytes.now)) }
-{
-    match opcode.operands {
-        Operands::Bare | Operands::ModRm => Ok((0, at)),
-        Operands::Then(immediate) | Operands::ModRmThen(immediate) => {
-            read_signed(bytes, at, immediate_size(immediate, opcode.prefixes, modrm))
-        }
-    }
-}
-
-/// Returns the parts of the instruction at the front of bytes.
-#[tactic(auto, unfolding(crate::specs::X86_64::Instruction::parts_at))]
-fn read_parts(bytes: &[u8]) -> Result<Parts, ReadError>
-    ensures exact { result ≡ parts_at bytes.now }
-    ensures inside { IfOk result (λ parts. (0 < parts.size) × (parts.size ≤ length bytes.now)) }
-{
-    let (prefixes, next) = read_prefixes(bytes)?;
-    let (opcode, next) = read_opcode(prefixes, bytes, next)?;
-    let (address, next) = read_address(opcode.operands, bytes, next)?;
-    let (immediate, size) = read_immediate(opcode, address.modrm, bytes, next)?;
-    Ok(Parts {
-        opcode,
-        address,
-        immediate,
-        size,
-    })
 }
 
 /// Returns the bytes from an offset on, as many as an instruction can have.
@@ -497,17 +510,4 @@ fn longest_at(code: &[u8], at: usize) -> Option<&[u8]>
     }
     let rest = &code[at..];
     Some(&rest[..rest.len().min(LONGEST)])
-}
-
-/// Returns the instruction at an offset of code, or `None` where the bytes end or none is recognised.
-#[tactic(auto, unfolding(crate::specs::X86_64::Instruction::instruction_at))]
-pub fn read_instruction(code: &[u8], at: usize) -> Option<Effect>
-    ensures exact { result ≡ instruction_at code.now at }
-    ensures machine { IsAsMachine code.now at result }
-    ensures sized { IfSome result (λ effect. (0 < effect.size) × (at + effect.size ≤ length code.now)) }
-{
-    match read_parts(longest_at(code, at)?) {
-        Ok(parts) => Some(effect_of(parts)),
-        Err(_) => None,
-    }
 }

@@ -439,16 +439,6 @@ static XOP_10: [Opcodes; 2] = [
     Opcodes(0x12, 0x12, ModRmThen(Near), Keep),
 ];
 
-/// Returns the first row that has an opcode.
-#[tactic(auto, unfolding(crate::specs::X86_64::Opcodes::row_of))]
-fn row_of(rows: &[Opcodes], opcode: u8) -> Option<Opcodes>
-    ensures { result ≡ row_of rows.now opcode }
-{
-    rows.iter()
-        .copied()
-        .find(|row| row.0 <= opcode && opcode <= row.1)
-}
-
 /// Returns the row of an opcode of one byte, or `None` where 64-bit mode has none.
 #[tactic(auto, unfolding(crate::specs::X86_64::Opcodes::one_byte))]
 pub fn one_byte(opcode: u8) -> Option<Opcodes>
@@ -508,4 +498,14 @@ pub fn vector(map: u8, opcode: u8) -> Option<Opcodes>
         10 => row_of(&XOP_10, opcode),
         _ => None,
     }
+}
+
+/// Returns the first row that has an opcode.
+#[tactic(auto, unfolding(crate::specs::X86_64::Opcodes::row_of))]
+fn row_of(rows: &[Opcodes], opcode: u8) -> Option<Opcodes>
+    ensures { result ≡ row_of rows.now opcode }
+{
+    rows.iter()
+        .copied()
+        .find(|row| row.0 <= opcode && opcode <= row.1)
 }
