@@ -21,6 +21,7 @@ use Rattle.framehop_dump_stacks.specs.Dump.{has_address, ThreadView, MappedCodeV
 use Rattle.framehop_dump_stacks.specs.Image.{head_at, segments_in, build_id_in}
 use Rattle.framehop_dump_stacks.specs.declared.dump.Cause.{Cause}
 use Rattle.framehop_dump_stacks.specs.declared.dump.Cause.TheVariants.{Signal}
+use Rattle.framehop_dump_stacks.specs.declared.dump.Kind.TheVariants.{CoreFile}
 
 -- the signal of a thread; 0 is none
 abbrev pub cause_of_signal : ℕ → Option Cause
@@ -120,6 +121,7 @@ core_dump_of file = do
   files ← mapped_files_of notes
   process ← process_of notes
   Ok (record {
+    kind = CoreFile;
     memory = dumped_memory file (loaded_segments_of core.1);
     segments = loaded_segments_of core.1;
     machine = core.0;

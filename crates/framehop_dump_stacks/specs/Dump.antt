@@ -8,6 +8,7 @@ use Rattle.framehop_memory.specs.Memory.{MemoryView, memory_view, word_of}
 use Rattle.framehop_memory.specs.declared.segment.Segment.{Segment}
 use Rattle.framehop_dump_stacks.specs.declared.dump.Cause.{Cause}
 use Rattle.framehop_dump_stacks.specs.declared.dump.Dump.{Dump}
+use Rattle.framehop_dump_stacks.specs.declared.dump.Kind.{Kind}
 use Rattle.framehop_dump_stacks.specs.declared.dump.MappedCode.{MappedCode}
 use Rattle.framehop_dump_stacks.specs.declared.dump.Registers.{Registers}
 use Rattle.framehop_dump_stacks.specs.declared.dump.Registers.TheVariants.{Kernel, Context}
@@ -56,6 +57,7 @@ mapped_code_view code = record {
 
 -- what is known of a process, by its values
 pub record DumpView : Type 0 where
+  pub kind : Kind
   pub memory : MemoryView
   pub segments : List Segment
   pub machine : Machine
@@ -66,6 +68,7 @@ pub record DumpView : Type 0 where
 
 abbrev pub dump_view : Dump → DumpView
 dump_view dump = record {
+  kind = dump.kind;
   memory = memory_view dump.memory;
   segments = dump.segments.items;
   machine = dump.machine;

@@ -7,6 +7,9 @@ pub mod Image
 pub mod CoreDump
 pub mod Minidump
 pub mod Modules
+pub mod Ended
+pub mod Problems
 pub mod Thread
+pub mod Noted
 pub mod Text
 pub mod Printed

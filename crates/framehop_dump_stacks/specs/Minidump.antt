@@ -12,6 +12,7 @@ use Rattle.framehop_minidump.specs.CodeView.{CodeViewView, of_pdb, of_elf, codev
 use Rattle.framehop_minidump.specs.Exception.{exception_of, context_of}
 use Rattle.framehop_minidump.specs.Location.{located}
 use Rattle.framehop_minidump.specs.Memory.{ranges_of}
+use Rattle.framehop_minidump.specs.LinuxMaps.{maps_of}
 use Rattle.framehop_minidump.specs.MemoryInfo.{regions_of}
 use Rattle.framehop_minidump.specs.MiscInfo.{process_id_of}
 use Rattle.framehop_minidump.specs.Module.{modules_of}
@@ -36,6 +37,7 @@ use Rattle.framehop_dump_stacks.specs.Dump.{ThreadView, MappedCodeView, DumpView
 use Rattle.framehop_dump_stacks.specs.Image.{head_at, segments_in, build_id_in}
 use Rattle.framehop_dump_stacks.specs.declared.dump.Cause.{Cause as WhyEnded}
 use Rattle.framehop_dump_stacks.specs.declared.dump.Cause.TheVariants as cause
+use Rattle.framehop_dump_stacks.specs.declared.dump.Kind.TheVariants as kind
 use Rattle.framehop_dump_stacks.specs.declared.minidump.LoadedModule.{LoadedModule}
 
 -- PlatformId (MD_OS_WIN32_NT, MD_OS_LINUX, MD_OS_ANDROID), and the code of a minidump that was asked for without a
@@ -141,6 +143,13 @@ abbrev pub program_name : ℕ → List LoadedView → Option (List ℕ)
 program_name platform [] = None
 program_name platform (m ∷ others) = Some (file_name (separator platform) m.name)
 
+-- which memory could be executed: as Windows says it, and as Linux does
+unfoldable pub all_regions_of : List ℕ → List Stream → Result (List Segment) MinidumpError
+all_regions_of file streams = do
+  regions ← regions_of file streams
+  maps ← maps_of file streams
+  Ok (regions ++ maps)
+
 -- what else a minidump says, but for where its code was mapped, by its modules
 unfoldable pub dump_in : List ℕ → List Stream → List LoadedView → Result DumpView MinidumpError
 dump_in file streams modules = do
@@ -149,9 +158,10 @@ dump_in file streams modules = do
   noted ← threads_of file streams
   threads ← each (thread_in file system.platform (mask_up_to (last_address modules)) exception) noted
   ranges ← ranges_of file streams
-  regions ← regions_of file streams
+  regions ← all_regions_of file streams
   pid ← process_id_of file streams
   Ok (record {
+    kind = kind.Minidump;
     memory = record { file = file; ranges = ranges };
     segments = regions;
     machine = machine_of system.machine;

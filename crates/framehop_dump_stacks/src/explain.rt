@@ -1,10 +1,12 @@
 //! Notes under the lines of the text of threads: where each frame's caller comes from, and why walks ended.
-ghost use Rattle.std.specs.Prelude.{◌≡◌, ◌+◌, length, sum_by, IfOk, OnOk};
+ghost use Rattle.std.specs.Prelude.{◌≡◌, ◌+◌, ℕ, List, ◌++◌, length, sum_by, IfOk, OnOk};
 ghost use Rattle.framehop.specs.Modules.{UnwinderView};
 ghost use Rattle.framehop.specs.Soundness.{AreApart};
-ghost use Rattle.framehop_dump_stacks.specs.Dump.{thread_view, dump_view};
+ghost use Rattle.framehop_dump_stacks.specs.Dump.{thread_view, dump_view, memory_in};
+ghost use Rattle.framehop_dump_stacks.specs.Noted.{noted_thread, AreThreadNotes};
 ghost use Rattle.framehop_dump_stacks.specs.Thread.{thread_stack};
-ghost use Rattle.framehop_frames.specs.Explained.{IsExplained};
+ghost use Rattle.framehop_explain.specs.Annotated.{annotated};
+ghost use Rattle.framehop_frames.specs.Notes.{AreStackNotes};
 ghost use Rattle.framehop_frames.specs.Stack.{line_count};
 
 use crate::dump::{Dump, Thread};
@@ -12,7 +14,7 @@ use crate::machine::Dumped;
 use crate::stack::walk_thread;
 use framehop_cfi::context::UnwindContext;
 use framehop_cfi::storage::StoreOnHeap;
-use framehop_explain::{Note, annotated};
+use framehop_explain::{Note, annotated as text_with};
 use framehop_frames::explain::note_stack;
 use framehop_processes::Process;
 use framehop_symbols::files::Files;
@@ -29,10 +31,12 @@ pub fn explained_text<U: Dumped>(
 ) -> Result<Vec<u8>, AllocError>
 where
     U::Cache: Drop,
-    ensures { IfOk result (λ explained. IsExplained text.now explained.items) }
+    ensures { IfOk result (λ explained. (notes : List (List ℕ)) × AreThreadNotes U.walker U.begins limit U.is_note files.now process.now.mappings
+        process.now.unwinder.modules (dump_view dump.now) (dump_view dump.now).threads notes
+        × (explained.items ≡ annotated text.now notes)) }
 {
     let notes = threads_notes(alloc, dump, files, process, limit)?;
-    Ok(annotated(alloc, text, notes.as_slice())?)
+    Ok(text_with(alloc, text, notes.as_slice())?)
 }
 
 /// Returns a note for each line of the text of all threads.
@@ -45,8 +49,10 @@ fn threads_notes<U: Dumped>(
 ) -> Result<Vec<Note>, AllocError>
 where
     U::Cache: Drop,
-    ensures { IfOk result (λ notes. length notes.items ≡ sum_by (λ thread. line_count
+    ensures noted { IfOk result (λ notes. length notes.items ≡ sum_by (λ thread. line_count
         (thread_stack U.walker U.begins limit files.now process.now.mappings process.now.unwinder.modules (dump_view dump.now) (thread_view thread))) dump.now.threads.items) }
+    ensures notes { IfOk result (λ notes. AreThreadNotes U.walker U.begins limit U.is_note files.now process.now.mappings
+        process.now.unwinder.modules (dump_view dump.now) (dump_view dump.now).threads notes.items) }
 {
     let mut unwind_context = UnwindContext::new_in(alloc)?;
     let mut cache = U::new_cache(alloc)?;
@@ -83,6 +89,10 @@ fn note_thread<U: Dumped>(
         → U.is_sound other cache.old → U.is_sound other cache.new }
     ensures noted { U.is_sound process.now.unwinder cache.old → OnOk result (length notes.new.items ≡ length notes.old.items
         + line_count (thread_stack U.walker U.begins limit files.now process.now.mappings process.now.unwinder.modules (dump_view dump.now) (thread_view thread.entry))) }
+    ensures notes { U.is_sound process.now.unwinder cache.old → OnOk result ((added : List (List ℕ))
+        × AreStackNotes (U.is_note process.now.unwinder.modules (memory_in (dump_view dump.now)))
+        (noted_thread U.walker U.begins limit files.now process.now.mappings process.now.unwinder.modules (dump_view dump.now) (thread_view thread.entry)) added
+        × (notes.new.items ≡ notes.old.items ++ added)) }
 {
     let walked = walk_thread(
         alloc,

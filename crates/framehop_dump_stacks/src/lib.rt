@@ -10,6 +10,7 @@ pub mod image;
 pub mod machine;
 pub mod minidump;
 pub mod modules;
+mod problems;
 pub mod program;
 pub mod stack;
 pub mod text;

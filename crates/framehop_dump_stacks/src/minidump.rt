@@ -8,7 +8,7 @@ ghost use Rattle.std.specs.List.{flat_map};
 ghost use Rattle.framehop_dump_stacks.specs.Dump.{MappedCodeView, thread_view, mapped_code_view, dump_view};
 ghost use Rattle.framehop_memory.specs.Memory.{memory_view};
 ghost use Rattle.framehop_dump_stacks.specs.Image.{segments_in};
-ghost use Rattle.framehop_dump_stacks.specs.Minidump.{each, machine_of, signal_of, cause_by, cause_of, last_address, mask_up_to, thread_in, loaded_view, build_id_by, loaded_in, streams_and_modules_of, separator, file_name, program_name, dump_in, headers_given, or_else, base_by_name, whole, segment_code, code_with, code_by, code_of, IsGivenIf, IsCodeOf, AreCodeOf};
+ghost use Rattle.framehop_dump_stacks.specs.Minidump.{each, machine_of, signal_of, cause_by, cause_of, last_address, mask_up_to, thread_in, loaded_view, build_id_by, loaded_in, streams_and_modules_of, separator, file_name, program_name, dump_in, headers_given, or_else, base_by_name, whole, all_regions_of, segment_code, code_with, code_by, code_of, IsGivenIf, IsCodeOf, AreCodeOf};
 ghost use Rattle.framehop_elf.specs.UnwindSections.{bytes_in};
 ghost use Rattle.framehop_minidump.specs.CodeView.{codeview_view};
 ghost use Rattle.framehop_minidump.specs.declared.error.MinidumpError.{MinidumpError};
@@ -24,6 +24,7 @@ use framehop_memory::segment::{Segment, base_from};
 use framehop_minidump::codeview::{CodeView, read_codeview};
 use framehop_minidump::error::MinidumpError;
 use framehop_minidump::exception::{Exception, context_of, read_exception};
+use framehop_minidump::linux_maps::read_linux_maps;
 use framehop_minidump::location::read_located;
 use framehop_minidump::memory::read_memory;
 use framehop_minidump::memory_info::read_memory_info;
@@ -177,6 +178,27 @@ pub fn dump_in<'a>(
         name: program_name(system.platform, modules),
         pid,
     })
+}
+
+/// Reads which memory could be executed: as Windows says it, and as Linux does.
+///
+/// # Errors
+///
+/// The first refusal of the list of regions, and of the text of Linux; `OutOfMemory`.
+#[tactic(auto, unfolding(crate::specs::Minidump::all_regions_of))]
+fn all_regions(
+    alloc: Global,
+    file: &[u8],
+    streams: &[Stream],
+) -> Result<Vec<Segment>, MinidumpError>
+    ensures { MatchResult result
+        (λ regions. all_regions_of file.now streams.now ≡ Ok regions.items)
+        (λ error. (error ≡ MinidumpError.OutOfMemory) ⊎ (all_regions_of file.now streams.now ≡ Err error)) }
+{
+    let mut regions = read_memory_info(alloc, file, streams)?;
+    let maps = read_linux_maps(alloc, file, streams)?;
+    regions.extend_from_slice(maps.as_slice())?;
+    Ok(regions)
 }
 
 /// Returns a mask of all bits up to the highest one of an address: all bits, for the address 0.

@@ -1,10 +1,11 @@
 //! The files whose code a process had mapped, and the modules of their mappings.
-ghost use Rattle.std.specs.Prelude.{◌≡◌, IfOk, slice_get};
+ghost use Rattle.std.specs.Prelude.{◌≡◌, IfOk, IfErr, slice_get};
 ghost use Rattle.framehop_elf.specs.Segment.{loaded_segments_of};
 ghost use Rattle.framehop_elf.specs.UnwindSections.{sections_view};
 ghost use Rattle.framehop_processes.specs.Process.{HasModules};
 ghost use Rattle.framehop_symbols.specs.Files.{placed_at};
 ghost use Rattle.framehop_dump_stacks.specs.Dump.{mapped_code_view, dump_view};
+ghost use Rattle.framehop_dump_stacks.specs.Ended.{drawn_in, MayEnd};
 ghost use Rattle.framehop_dump_stacks.specs.Image.{segments_in};
 ghost use Rattle.framehop_dump_stacks.specs.Modules.{AreFilesOf, base_by, base_in, mapping_based, mapping_in, mappings_in, module_with, sections_by, module_at};
 
@@ -127,6 +128,7 @@ where
     U::Module: Drop,
     ensures served { IfOk result (λ process. HasModules (M.module_of maker.now) process) }
     ensures mapped { IfOk result (λ process. process.mappings ≡ mappings_in (dump_view dump.now) files.now) }
+    ensures refused { IfErr result (MayEnd (drawn_in (dump_view dump.now) files.now)) }
 {
     let mut generations = Generations::new();
     let mut process: Process<U> = Process::new(alloc, &mut generations)?;

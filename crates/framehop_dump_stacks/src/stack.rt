@@ -4,8 +4,10 @@ ghost use Rattle.framehop.specs.Memory.{reply};
 ghost use Rattle.framehop.specs.Modules.{UnwinderView};
 ghost use Rattle.framehop.specs.Soundness.{AreApart};
 ghost use Rattle.framehop_memory.specs.Memory.{memory_view, word_of};
+ghost use Rattle.framehop_frames.specs.Notes.{option_noted};
 ghost use Rattle.framehop_frames.specs.Stack.{option_stack_view};
 ghost use Rattle.framehop_dump_stacks.specs.Dump.{thread_view, dump_view};
+ghost use Rattle.framehop_dump_stacks.specs.Noted.{noted_thread};
 ghost use Rattle.framehop_dump_stacks.specs.Thread.{thread_stack};
 
 use crate::dump::{Dump, Thread, is_code_at};
@@ -39,6 +41,8 @@ pub fn walk_thread<U: Dumped>(
         → U.is_sound other cache.old → U.is_sound other cache.new }
     ensures walked { U.is_sound process.now.unwinder cache.old → IfOk result (λ walked. option_stack_view walked
         ≡ thread_stack U.walker U.begins limit files.now process.now.mappings process.now.unwinder.modules (dump_view dump.now) (thread_view thread.entry)) }
+    ensures noted { U.is_sound process.now.unwinder cache.old → IfOk result (λ walked. option_noted walked
+        ≡ noted_thread U.walker U.begins limit files.now process.now.mappings process.now.unwinder.modules (dump_view dump.now) (thread_view thread.entry)) }
 {
     let Some(start) = U::begin(thread.registers) else {
         return Ok(None);

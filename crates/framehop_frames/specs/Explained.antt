@@ -13,3 +13,13 @@ IsExplained text explained =
 abbrev pub IsShown : Bool → List ℕ → List ℕ → Type 0
 IsShown true text shown = IsExplained text shown
 IsShown false text shown = shown ≡ text
+
+-- the same with these notes
+abbrev pub shown_with : Bool → List (List ℕ) → List ℕ → List ℕ
+shown_with true notes text = annotated text notes
+shown_with false notes text = text
+
+-- and by what the notes are
+abbrev pub IsShownBy : Bool → (List (List ℕ) → Type 0) → List ℕ → List ℕ → Type 0
+IsShownBy true are_notes text shown = (notes : List (List ℕ)) × are_notes notes × (shown ≡ annotated text notes)
+IsShownBy false are_notes text shown = shown ≡ text

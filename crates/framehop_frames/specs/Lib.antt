@@ -7,3 +7,5 @@ pub mod Code
 pub mod Walker
 pub mod Rows
 pub mod Taken
+pub mod TakenText
+pub mod Notes

@@ -1,6 +1,7 @@
 //! Notes under the lines of a stack's block: where each frame's caller comes from, and why its walk ended.
-ghost use Rattle.std.specs.Prelude.{◌≡◌, ◌+◌, ◌++◌, length, IfOk, OnOk};
-ghost use Rattle.framehop_frames.specs.Explained.{IsShown};
+ghost use Rattle.std.specs.Prelude.{◌≡◌, ◌+◌, ℕ, List, [], ◌∷◌, ◌++◌, length, map, IfOk, OnOk};
+ghost use Rattle.framehop_frames.specs.Explained.{IsShown, shown_with};
+ghost use Rattle.framehop_frames.specs.Notes.{noted_frame, option_noted, caller_of, end_note, IsFrameNote, AreFrameNotes, AreStackNotes};
 ghost use Rattle.framehop_frames.specs.Stack.{line_count, option_stack_view};
 
 use crate::machine::Steps;
@@ -19,21 +20,35 @@ pub fn note_stack<U: Steps, M: Words>(
     walked: &Option<Stack<U::UnwindRegs>>,
     notes: &mut Vec<Note>,
 ) -> Result<(), AllocError>
-    ensures { OnOk result (length notes.new.items ≡ length notes.old.items + line_count (option_stack_view walked.now)) }
+    ensures noted { OnOk result (length notes.new.items ≡ length notes.old.items + line_count (option_stack_view walked.now)) }
+    ensures notes { OnOk result ((added : List (List ℕ)) × AreStackNotes (U.is_note (U.unwinder_view unwinder.now).modules (M.memory words.now))
+        (option_noted walked.now) added × (notes.new.items ≡ notes.old.items ++ added)) }
 {
     notes.push(Note::new(alloc))?;
-    if let Some(stack) = walked {
-        note_frames(
-            alloc,
-            unwinder,
-            words,
-            stack.frames.as_slice(),
-            stack.end,
-            notes,
-        )?;
+    match walked {
+        Some(stack) => note_walked(alloc, unwinder, words, stack, notes)?,
+        None => notes.push(Note::new(alloc))?,
     }
-    notes.push(end_note(alloc, walked)?)?;
     notes.push(Note::new(alloc))?;
+    Ok(())
+}
+
+/// Notes where the caller of each frame comes from, and why the walk was refused, if it was.
+fn note_walked<U: Steps, M: Words>(
+    alloc: Global,
+    unwinder: &U,
+    words: &M,
+    stack: &Stack<U::UnwindRegs>,
+    notes: &mut Vec<Note>,
+) -> Result<(), AllocError>
+    ensures noted { OnOk result (length notes.new.items ≡ length notes.old.items + length stack.now.frames.items + 1) }
+    ensures notes { OnOk result ((added : List (List ℕ)) × AreFrameNotes (U.is_note (U.unwinder_view unwinder.now).modules (M.memory words.now))
+        stack.now.end (map noted_frame stack.now.frames.items) added
+        × (notes.new.items ≡ notes.old.items ++ (added ++ end_note stack.now.end ∷ []))) }
+{
+    let end = stack.end;
+    note_frames(alloc, unwinder, words, stack.frames.as_slice(), end, notes)?;
+    notes.push(end_note(alloc, end)?)?;
     Ok(())
 }
 
@@ -46,16 +61,28 @@ fn note_frames<U: Steps, M: Words>(
     end: BacktraceEnd,
     notes: &mut Vec<Note>,
 ) -> Result<(), AllocError>
-    ensures { OnOk result (length notes.new.items ≡ length notes.old.items + length frames.now) }
+    ensures noted { OnOk result (length notes.new.items ≡ length notes.old.items + length frames.now) }
+    ensures notes { OnOk result ((added : List (List ℕ)) × AreFrameNotes (U.is_note (U.unwinder_view unwinder.now).modules (M.memory words.now))
+        end (map noted_frame frames.now) added × (notes.new.items ≡ notes.old.items ++ added)) }
 {
     for (at, frame) in frames.iter().enumerate() {
-        let caller = match frames.get(at + 1) {
-            Some(caller) => Ok(caller.found),
-            None => Err(end),
-        };
+        let caller = caller_of(&frames[at + 1..], end);
         notes.push(frame_note(alloc, unwinder, words, frame, caller)?)?;
     }
     Ok(())
+}
+
+/// Returns how the caller of a frame was found, by the frames after it, or how the walk ended there.
+fn caller_of<R: Copy>(
+    later: &[StackFrame<R>],
+    end: BacktraceEnd,
+) -> Result<FoundBy, BacktraceEnd>
+    ensures { result ≡ caller_of end (map noted_frame later.now) }
+{
+    match later.first() {
+        Some(caller) => Ok(caller.found),
+        None => Err(end),
+    }
 }
 
 /// Returns the note of a frame, by how its caller was found, or how the walk ended there.
@@ -65,23 +92,23 @@ fn frame_note<U: Steps, M: Words>(
     words: &M,
     frame: &StackFrame<U::UnwindRegs>,
     caller: Result<FoundBy, BacktraceEnd>,
-) -> Result<Note, AllocError> {
+) -> Result<Note, AllocError>
+    ensures { IfOk result (λ note. IsFrameNote (U.is_note (U.unwinder_view unwinder.now).modules (M.memory words.now))
+        (noted_frame frame.now) caller note) }
+{
     if frame.is_trampoline {
         return Note::new(alloc).with_line("a signal frame: the registers of the interrupted code");
     }
     unwinder.frame_note(alloc, frame.address, frame.regs, caller, words)
 }
 
-/// Returns the note of the end of a stack's walk: why it was refused, if it was.
-fn end_note<R: Copy>(alloc: Global, walked: &Option<Stack<R>>) -> Result<Note, AllocError> {
+/// Returns the note of the end of a walk: why it was refused, if it was.
+fn end_note(alloc: Global, end: BacktraceEnd) -> Result<Note, AllocError>
+    ensures { IfOk result (λ note. note ≡ end_note end) }
+{
     let note = Note::new(alloc);
-    match walked {
-        Some(
-            Stack {
-                end: BacktraceEnd::Refused(error),
-                ..
-            },
-        ) => {
+    match end {
+        BacktraceEnd::Refused(error) => {
             let line = format!(in alloc; "{error}")?;
             note.with_line(line.as_str())
         }
@@ -97,7 +124,8 @@ pub fn shown_block(
     explain: bool,
     notes: &[Note],
 ) -> Result<Vec<u8>, AllocError>
-    ensures { IfOk result (λ shown. IsShown explain (head.now ++ block.now) shown.items) }
+    ensures with_notes { IfOk result (λ shown. shown.items ≡ shown_with explain notes.now (head.now ++ block.now)) }
+    ensures shown { IfOk result (λ shown. IsShown explain (head.now ++ block.now) shown.items) }
 {
     let mut text = Vec::from_slice(alloc, head)?;
     text.extend_from_slice(block)?;

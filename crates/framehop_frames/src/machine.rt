@@ -1,7 +1,11 @@
 //! What differs by the machine on which a process ran.
-ghost use Rattle.std.specs.Prelude.{◌≡◌, IfOk, IfErr, None};
-ghost use Rattle.framehop.specs.Modules.{UnwinderView};
+ghost use Rattle.std.specs.Prelude.{◌≡◌, ℕ, List, IfOk, IfErr, None, Result};
+ghost use Rattle.framehop_core.specs.CodeAddress.{FrameLocation, location_of};
+ghost use Rattle.framehop_core.specs.Memory.{Memory};
+ghost use Rattle.framehop.specs.Modules.{ModuleView, UnwinderView};
 ghost use Rattle.framehop_backtrace.specs.Rows.{finding_of};
+ghost use Rattle.framehop_backtrace.specs.declared.frame.BacktraceEnd.{BacktraceEnd};
+ghost use Rattle.framehop_backtrace.specs.declared.frame.FoundBy.{FoundBy};
 ghost use Rattle.framehop_frames.specs.Walker.{Walker};
 
 use crate::note::frame_note;
@@ -40,6 +44,10 @@ pub trait Steps: ProcessUnwinder + BacktraceUnwinder + Rows {
     // how stacks are walked by the bytes of modules, read afresh
     ghost walker: { Walker Self.UnwindRegs };
 
+    // whether a note is that of a frame at a location, among modules and over a memory, from registers, by how its caller was
+    // found or how the walk ended there
+    ghost is_note: { List ModuleView → Memory → FrameLocation → Self.UnwindRegs → Result FoundBy BacktraceEnd → List ℕ → Type 0 };
+
     /// Returns an empty cache, which changes no answer of any unwinder.
     fn new_cache(alloc: Global) -> Result<Self::Cache, AllocError>
         ensures { IfOk result (λ cache. (view : UnwinderView) → Self.is_sound view cache) };
@@ -75,7 +83,8 @@ pub trait Steps: ProcessUnwinder + BacktraceUnwinder + Rows {
         regs: Self::UnwindRegs,
         caller: Result<FoundBy, BacktraceEnd>,
         words: &M,
-    ) -> Result<Note, AllocError>;
+    ) -> Result<Note, AllocError>
+        ensures { IfOk result (λ note. is_note (Self.unwinder_view self.now).modules (M.memory words.now) (location_of address) regs caller note) };
 
     // an unwinder is of the machine, and what it finds is by the bytes of its modules
     ghost is_of_machine: { Self.machine ≡ walker.machine };
@@ -89,9 +98,12 @@ pub trait Steps: ProcessUnwinder + BacktraceUnwinder + Rows {
 
 impl<D: SectionBytes + Drop> Steps for UnwinderX86_64<D, MayAllocateDuringUnwind> {
     ghost use Rattle.std.specs.Prelude.{refl};
+    ghost use Rattle.framehop_frames.specs.TakenText.{IsNoteX86_64};
     ghost use Rattle.framehop_frames.specs.Walker.{x86_64_walker};
 
     ghost walker = { x86_64_walker };
+
+    ghost is_note = { IsNoteX86_64 };
 
     ghost is_of_machine = { refl };
 
@@ -131,9 +143,12 @@ impl<D: SectionBytes + Drop> Steps for UnwinderX86_64<D, MayAllocateDuringUnwind
 
 impl<D: SectionBytes + Drop> Steps for UnwinderAarch64<D, MayAllocateDuringUnwind> {
     ghost use Rattle.std.specs.Prelude.{refl};
+    ghost use Rattle.framehop_frames.specs.TakenText.{IsNoteAarch64};
     ghost use Rattle.framehop_frames.specs.Walker.{aarch64_walker};
 
     ghost walker = { aarch64_walker };
+
+    ghost is_note = { IsNoteAarch64 };
 
     ghost is_of_machine = { refl };
 

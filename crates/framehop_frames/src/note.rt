@@ -1,6 +1,9 @@
 //! The note of a frame: what its caller was found by.
-ghost use Rattle.std.specs.Prelude.{◌≡◌};
+ghost use Rattle.std.specs.Prelude.{◌≡◌, option_map, string_bytes, IfOk};
+ghost use Rattle.framehop_core.specs.CodeAddress.{location_of, address_of};
+ghost use Rattle.framehop_explain.specs.Found.{explaining_by, finding_of};
 ghost use Rattle.framehop_frames.specs.Taken.{is_by_row, is_by_frame_pointer, data_of, taken_by, taken_outside};
+ghost use Rattle.framehop_frames.specs.TakenText.{taken_text, outside_text, IsNoteOf};
 
 use framehop::unwinder::UnwinderInternal;
 use framehop::walk::Words;
@@ -61,6 +64,11 @@ pub(crate) fn frame_note<D: SectionBytes + Drop, A: Sources, P: AllocationPolicy
 ) -> Result<Note, AllocError>
 where
     A::UnwindRule: DescribeRule,
+    ensures { IfOk result (λ note. IsNoteOf
+        (record { text = A.UnwindRule.rule_text; fallback = A.UnwindRule.fallback; start = A.UnwindRule.function_start_rule })
+        (explaining_by A.readers A.pe_source
+        (record { by_code = A.by_code; prologue = A.prologue_rule; epilogue = A.epilogue_rule })
+        A.UnwindRule.rule_text A.UnwindRule.fallback P.policy) unwinder.now.modules (M.memory words.now) (location_of address) regs caller note) }
 {
     let explanation = explain_over(alloc, unwinder, address, regs, words)?;
     let line = match &explanation.finding {
@@ -79,7 +87,10 @@ fn taken_text<D: SectionBytes, R: DescribeRule>(
     alloc: Global,
     finding: &Finding<'_, D, R>,
     caller: Result<FoundBy, BacktraceEnd>,
-) -> Result<Option<String>, AllocError> {
+) -> Result<Option<String>, AllocError>
+    ensures { IfOk result (λ text. option_map string_bytes text ≡ taken_text (R.rule_text R.fallback) (finding_of finding.now)
+        (taken_by (data_of finding.now.source finding.now.told) caller)) }
+{
     let address = finding.relative_address;
     let source = finding.source;
     let text = match taken_by(data_of(source, finding.told), caller) {
@@ -101,7 +112,10 @@ fn taken_outside_text<R: DescribeRule>(
     alloc: Global,
     address: FrameAddress,
     caller: Result<FoundBy, BacktraceEnd>,
-) -> Result<Option<String>, AllocError> {
+) -> Result<Option<String>, AllocError>
+    ensures { IfOk result (λ text. option_map string_bytes text ≡ outside_text (R.rule_text R.function_start_rule)
+        (address_of (location_of address)) (taken_outside caller)) }
+{
     match taken_outside(caller) {
         Taken::Call => {
             let address = address.address();

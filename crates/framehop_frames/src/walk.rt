@@ -3,6 +3,7 @@ ghost use Rattle.std.specs.Prelude.{◌≡◌, IfOk, None, map};
 ghost use Rattle.framehop.specs.Modules.{UnwinderView};
 ghost use Rattle.framehop.specs.Soundness.{AreApart};
 ghost use Rattle.framehop_backtrace.specs.Backtrace.{frame_view};
+ghost use Rattle.framehop_frames.specs.Notes.{noted_frame, noted_of, noted_stack, noted_from};
 ghost use Rattle.framehop_frames.specs.Stack.{shown_frame, shown_of, stack_view, stack_from};
 
 use crate::machine::{Start, Steps};
@@ -32,6 +33,8 @@ pub fn walk_stack<U: Steps, W: Rows, M: CodeMemory>(
         → U.is_sound other cache.old → U.is_sound other cache.new }
     ensures walked { U.is_sound (U.unwinder_view unwinder.now) cache.old → IfOk result (λ stack. stack_view stack
         ≡ stack_from U.walker limit (U.unwinder_view unwinder.now).modules (W.rows rows.now None) (M.memory memory.now) (M.code memory.now) start) }
+    ensures noted { U.is_sound (U.unwinder_view unwinder.now) cache.old → IfOk result (λ stack. noted_stack stack
+        ≡ noted_from U.walker limit (U.unwinder_view unwinder.now).modules (W.rows rows.now None) (M.memory memory.now) (M.code memory.now) start) }
 {
     let first = Frame::first(start.pc, U::first_columns(&start), start.regs);
     let found = backtrace(
@@ -56,7 +59,8 @@ fn stack_frames<M: CodeMemory, R: Copy>(
     memory: &M,
     found: &[Frame<R>],
 ) -> Result<Vec<StackFrame<R>>, AllocError>
-    ensures { IfOk result (λ frames. map shown_frame frames.items ≡ map (shown_of (M.code memory.now)) (map frame_view found.now)) }
+    ensures shown { IfOk result (λ frames. map shown_frame frames.items ≡ map (shown_of (M.code memory.now)) (map frame_view found.now)) }
+    ensures noted { IfOk result (λ frames. map noted_frame frames.items ≡ map (noted_of (M.code memory.now)) (map frame_view found.now)) }
 {
     let mut frames = Vec::new(alloc);
     for frame in found {
@@ -67,7 +71,8 @@ fn stack_frames<M: CodeMemory, R: Copy>(
 
 /// Returns the frame of a stack, by one of a backtrace.
 fn stack_frame<M: CodeMemory, R: Copy>(memory: &M, frame: &Frame<R>) -> StackFrame<R>
-    ensures { shown_frame result ≡ shown_of (M.code memory.now) (frame_view frame.now) }
+    ensures shown { shown_frame result ≡ shown_of (M.code memory.now) (frame_view frame.now) }
+    ensures noted { noted_frame result ≡ noted_of (M.code memory.now) (frame_view frame.now) }
 {
     StackFrame {
         address: frame.address,

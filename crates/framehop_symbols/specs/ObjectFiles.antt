@@ -1,7 +1,7 @@
 -- What is kept of the files that processes map, ELF files and PE files, by their bytes.
 -- What a PE file is: Microsoft, "PE Format", by the readers of `framehop_pe_file`.
-use Rattle.std.specs.Prelude.{◌≡◌, ◌⊎◌, ℕ, nat_eq, bit_and, ◌==◌, List, [], ◌∷◌, ◌++◌, map, take, drop, codes, Bool, false, not, if◌then◌else◌, Option, Some, None, option_to_list, unwrap_or, Result, Ok, Err}
-use Rattle.std.specs.List.{starts_with}
+use Rattle.std.specs.Prelude.{◌≡◌, ◌⊎◌, ℕ, nat_eq, bit_and, ◌==◌, List, [], ◌∷◌, ◌++◌, map, take, drop, codes, Bool, false, not, ◌||◌, if◌then◌else◌, Option, Some, None, option_to_list, unwrap_or, Result, Ok, Err}
+use Rattle.std.specs.List.{starts_with, filter, list_any}
 use Rattle.std.specs.Cmp.Lexicographic.{pointwise}
 use Rattle.std.specs.List.Sorted.{IsPermutation, IsStableByKey}
 use Rattle.std.specs.Ordering.{nat_cmp}
@@ -15,6 +15,7 @@ use Rattle.framehop_elf.specs.ProgramHeader.{program_headers_of}
 use Rattle.framehop_elf.specs.Segment.{loaded_segments_of}
 use Rattle.framehop_elf.specs.Section.{section_called, section_names_of}
 use Rattle.framehop_elf.specs.SectionHeader.{section_headers_of}
+use Rattle.framehop_bytes.specs.String.{before_nul}
 use Rattle.framehop_elf.specs.Symbol.{start_of, function_symbols_of, symbol_names_of}
 use Rattle.framehop_elf.specs.UnwindSections.{unwind_sections_of, debug_frame_of}
 use Rattle.framehop_elf.specs.declared.error.ElfError.{ElfError}
@@ -101,10 +102,32 @@ debug_tables_by build_id file (Ok headers) =
 abbrev pub debug_tables_of : List ℕ → List ℕ → List Listed
 debug_tables_of build_id file = debug_tables_by build_id file (headers_of file)
 
--- A table as it is kept: its functions in the order of their starts, those of one start in that of the table.
+-- how many bytes of a symbol's name are looked at to choose among those of one function
+abbrev pub LOOKED_AT : ℕ
+LOOKED_AT = 256
+
+-- How plain a name is, by its first bytes: least with a version (`free@@GLIBC_2.2.5`) or where it begins with `__GI_`, as
+-- the C library's names for itself do; more where it begins with `_`; most elsewhere.
+abbrev pub plainness_of : List ℕ → ℕ
+plainness_of name =
+    if starts_with nat_eq name (codes "__GI_") || list_any (λ byte. byte == 64) name then 0
+    else (if starts_with nat_eq name (codes "_") then 1 else 2)
+
+-- the name of a symbol is so plain
+abbrev pub is_so_plain : List ℕ → ℕ → Symbol → Bool
+is_so_plain names plainness symbol =
+    plainness_of (before_nul (take LOOKED_AT (drop symbol.st_name names))) == plainness
+
+-- functions with the plainest names last, else in their order
+abbrev pub by_plainness : Listed → List Symbol
+by_plainness listed = filter (is_so_plain listed.1 0) listed.0
+    ++ (filter (is_so_plain listed.1 1) listed.0 ++ filter (is_so_plain listed.1 2) listed.0)
+
+-- A table as it is kept: its functions in the order of their starts, of those of one start the plainest name last, else in
+-- the order of the table.
 pub record IsTable (listed : Listed) (symbols : Symbols) : Type 0 where
-  pub all : IsPermutation listed.0 symbols.table
-  pub order : IsStableByKey start_of nat_cmp listed.0 symbols.table
+  pub all : IsPermutation (by_plainness listed) symbols.table
+  pub order : IsStableByKey start_of nat_cmp (by_plainness listed) symbols.table
   pub names : symbols.names.items ≡ listed.1
 
 -- the same of all tables

@@ -109,7 +109,9 @@ impl Files {
     }
 
     /// Returns all of them, in the order of their numbers.
-    pub fn list(&self) -> &[NamedFile] {
+    pub fn list(&self) -> &[NamedFile]
+        ensures { result.now ≡ self.now.list.items }
+    {
         self.list.as_slice()
     }
 

@@ -3,11 +3,12 @@
 //! The sections and the code are copied and the file's bytes are let go, since a run has many files. The module lies at
 //! no address: the modules of all mappings of the file share its unwind data.
 ghost use Rattle.std.specs.Prelude.{◌≡◌, ◌⊎◌, ◌↔◌, IsTrue, ℕ, List, [], ◌++◌, Some, None, Ok, Err, IfOk, IfErr, OnOk, MatchResult, option_map, option_to_list};
+ghost use Rattle.std.specs.List.{filter};
 ghost use Rattle.framehop_elf.specs.Symbol.{symbol_for};
 ghost use Rattle.framehop_elf.specs.UnwindSections.{sections_view};
 ghost use Rattle.framehop_elf.specs.declared.error.ElfError.{ElfError};
 ghost use Rattle.framehop_memory.specs.Segment.{base_of};
-ghost use Rattle.framehop_symbols.specs.ObjectFiles.{Contents, Listed, headers_view, headers_of, build_id_in, is_another, problem_by, problem_of, symbols_in, symbols_called, tables_of, debug_tables_of, IsTable, AreTables, module_of, module_in, debug_frame_in, bare_module, elf_contents_of, pe_contents_of, IsOutOfMemory, IsKeptBy, IsKeptOf};
+ghost use Rattle.framehop_symbols.specs.ObjectFiles.{Contents, Listed, headers_view, headers_of, build_id_in, is_another, problem_by, problem_of, symbols_in, symbols_called, tables_of, debug_tables_of, plainness_of, is_so_plain, by_plainness, IsTable, AreTables, module_of, module_in, debug_frame_in, bare_module, elf_contents_of, pe_contents_of, IsOutOfMemory, IsKeptBy, IsKeptOf};
 ghost use Rattle.framehop_symbols.specs.Code.{code_of_object};
 ghost use Rattle.framehop_symbols.specs.Place.{option_named, function_at};
 ghost use Rattle.framehop_symbols.specs.declared.object_file.FileProblem.{FileProblem};
@@ -16,7 +17,8 @@ use crate::code::{SegmentCode, code_from, code_of};
 use crate::pe_file;
 use framehop::Module;
 use framehop::section::ExplicitModuleSectionInfo;
-use framehop_bytes::string::string_at;
+use framehop_bytes::bytes::{back, front};
+use framehop_bytes::string::{before_nul, string_at};
 use framehop_elf::build_id::read_build_id;
 use framehop_elf::error::ElfError;
 use framehop_elf::header::read_file_header;
@@ -30,6 +32,9 @@ use framehop_memory::segment::{Segment, base_avma};
 use framehop_pe_file::error::PeError;
 use std::alloc::{AllocError, Global};
 use thiserror::Error;
+
+/// How many bytes of a symbol's name are looked at to choose among those of one function.
+const LOOKED_AT: usize = 256;
 
 /// The functions of a symbol table, and the string table that has their names.
 #[derive(Drop)]
@@ -449,7 +454,62 @@ fn kept_symbols(alloc: Global, functions: Vec<Symbol>, names: &[u8]) -> Result<S
     ensures kept { IfOk result (λ symbols. IsTable (functions.items, names.now) symbols) }
     ensures refused { IfErr result (λ error. error ≡ ElfError.OutOfMemory) }
 {
-    let table = SymbolTable::new(functions)?;
+    let ordered = by_plainness(alloc, functions.as_slice(), names)?;
+    let table = SymbolTable::new(ordered)?;
     let names = Vec::from_slice(alloc, names)?;
     Ok(Symbols { table, names })
+}
+
+/// Returns functions with the plainest names last: of functions that begin at one address the last is found.
+fn by_plainness(
+    alloc: Global,
+    functions: &[Symbol],
+    names: &[u8],
+) -> Result<Vec<Symbol>, AllocError>
+    ensures { IfOk result (λ ordered. ordered.items ≡ by_plainness (functions.now, names.now)) }
+{
+    let mut ordered = Vec::new(alloc);
+    push_so_plain(&mut ordered, functions, names, 0)?;
+    push_so_plain(&mut ordered, functions, names, 1)?;
+    push_so_plain(&mut ordered, functions, names, 2)?;
+    Ok(ordered)
+}
+
+/// Appends the functions whose names are so plain.
+fn push_so_plain(
+    ordered: &mut Vec<Symbol>,
+    functions: &[Symbol],
+    names: &[u8],
+    plainness: u8,
+) -> Result<(), AllocError>
+    ensures { OnOk result (ordered.new.items ≡ ordered.old.items ++ filter (is_so_plain names.now plainness) functions.now) }
+{
+    for function in functions {
+        if is_so_plain(names, plainness, *function) {
+            ordered.push(*function)?;
+        }
+    }
+    Ok(())
+}
+
+/// Returns whether the name of a function is so plain.
+fn is_so_plain(names: &[u8], plainness: u8, function: Symbol) -> bool
+    ensures { result ≡ is_so_plain names.now plainness function }
+{
+    let name = front(back(names, u64::from(function.st_name)), LOOKED_AT);
+    plainness_of(before_nul(name)) == plainness
+}
+
+/// Returns how plain a name is: 0 with a version (`free@@GLIBC_2.2.5`) or where it begins with `__GI_`, as the C library's
+/// names for itself do, 1 where it begins with `_`, else 2.
+fn plainness_of(name: &[u8]) -> u8
+    ensures { result ≡ plainness_of name.now }
+{
+    if name.starts_with(b"__GI_") || name.iter().any(|byte| *byte == b'@') {
+        0
+    } else if name.starts_with(b"_") {
+        1
+    } else {
+        2
+    }
 }

@@ -1,0 +1,40 @@
+-- Why the stacks of a core file or a minidump are not written.
+use Rattle.std.specs.Prelude.{◌≡◌, ◌⊎◌, ◌<◌, ◌+◌, ◌-◌, ◌^◌, ℕ, ⊤, List, [], ◌∷◌, Option, Some, None}
+use Rattle.framehop_processes.specs.Mappings.{changed_modules}
+use Rattle.framehop_processes.specs.declared.mapping.Mapping.{Mapping}
+use Rattle.framehop_symbols.specs.Source.{SourceView}
+use Rattle.framehop_symbols.specs.declared.files.Files.{Files}
+use Rattle.framehop_dump_stacks.specs.Dump.{MappedCodeView, DumpView}
+use Rattle.framehop_dump_stacks.specs.Modules.{AreFilesOf, mapping_in, mapped_by}
+use Rattle.framehop_dump_stacks.specs.declared.error.DumpStacksError.{DumpStacksError}
+use Rattle.framehop_dump_stacks.specs.declared.error.DumpStacksError.TheVariants.{Core, Minidump, OutOfMemory, GenerationsExhausted, EmptyMapping, CannotWrite}
+
+-- how many generations a mapping draws: one for each module that it adds or removes
+abbrev pub drawn_by : Option Mapping → List Mapping → ℕ
+drawn_by (Some mapping) mappings = changed_modules mapping mappings
+drawn_by None mappings = 0
+
+-- the same of mapped code, one after another
+abbrev pub drawn_over : Files → List MappedCodeView → List Mapping → ℕ
+drawn_over files [] mappings = 0
+drawn_over files (code ∷ others) mappings =
+    drawn_by (mapping_in files code) mappings + drawn_over files others (mapped_by (mapping_in files code) mappings)
+
+-- those of a process: one for itself, and those of its code
+abbrev pub drawn_in : DumpView → Files → ℕ
+drawn_in dump files = 1 + drawn_over files dump.code []
+
+-- What an error says, where so many generations are drawn. Memory may always run out, and a write may always fail; the
+-- counter of generations ends where it can't give all that are drawn. Nothing is refused.
+abbrev pub MayEnd : ℕ → DumpStacksError → Type 0
+MayEnd drawn OutOfMemory = ⊤
+MayEnd drawn CannotWrite = ⊤
+MayEnd drawn GenerationsExhausted = 2 ^ 64 - 1 < drawn
+MayEnd drawn EmptyMapping = ⊥
+MayEnd drawn (Core refusal) = ⊥
+MayEnd drawn (Minidump refusal) = ⊥
+
+-- the same of a dump, by its files
+abbrev pub MayEndWith : SourceView → DumpView → DumpStacksError → Type 0
+MayEndWith source dump error = (error ≡ OutOfMemory)
+    ⊎ ((files : Files) × AreFilesOf source dump files × MayEnd (drawn_in dump files) error)
