@@ -8,6 +8,7 @@ pub mod error;
 pub mod explain;
 pub mod machine;
 pub mod names;
+pub mod problems;
 pub mod processes;
 pub mod program;
 pub mod recording;
