@@ -7,6 +7,7 @@ The kinds:
     maps_down   the same, one below the other
     split       mappings into the middle of one that covers them all
     over        a mapping over all that came before, after every 100 of them
+    over_all    mappings, and one over them all
     forks       a process with COUNT mappings, and as many processes that begin as its copies
     forks_map   the same, of which each maps a file then
     samples     samples of a process on aarch64 with COUNT mappings, as many
@@ -92,6 +93,10 @@ def over(count):
     return made
 
 
+def over_all(count):
+    return maps(count) + [mapping(1, FIRST, 2 * PAGE * count + PAGE, "/srv/b")]
+
+
 def forks(count):
     return maps(count) + [fork(2 + at, 1) for at in range(count)]
 
@@ -145,7 +150,7 @@ def recording(body, registers, events, features):
 def main():
     kind, count = sys.argv[1], int(sys.argv[2])
     made = {
-        f.__name__: f for f in (maps, maps_down, split, over, forks, forks_map, samples, build_ids, names, ids)
+        f.__name__: f for f in (maps, maps_down, split, over, over_all, forks, forks_map, samples, build_ids, names, ids)
     }[kind](count)
     events = count if kind == "ids" else 1
     features = b"".join(build_id_record(f"/srv/{at:06}", at) for at in range(count)) if kind == "build_ids" else b""
