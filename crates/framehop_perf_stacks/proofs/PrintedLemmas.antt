@@ -9,7 +9,7 @@ use Rattle.framehop_symbols.specs.declared.files.Files.{Files}
 use Rattle.framehop_perf_stacks.specs.Ended.{before_refusal}
 use Rattle.framehop_perf_stacks.specs.Printed.{IsToldIn, IsSaid, IsMadeOf, IsWhole, IsMadeUntil, MayEndAt}
 use Rattle.framehop_perf_stacks.specs.Recording.{are_of_aarch64, records_in}
-use Rattle.framehop_perf_stacks.specs.Samples.{beginning, samples_from, Told, Each, texts_of, IsMade}
+use Rattle.framehop_perf_stacks.specs.Samples.{beginning, samples_from, Told, Each, IsMade}
 use Rattle.framehop_perf_stacks.specs.declared.error.StacksError.{StacksError}
 use Rattle.framehop_perf_stacks.specs.declared.error.StacksError.TheVariants.{Recording as Refused, OutOfMemory, GenerationsExhausted, EmptyMapping, TooManySamples, CannotWrite}
 use Rattle.framehop_perf_stacks.specs.declared.program.Unwound.{Unwound}
@@ -20,8 +20,8 @@ module _ (recording : Recording) (files : Files) (frames sure explain : Bool) (l
   abbrev pub IsMadeBy : Bool → List RecordView → Folded → Type 0
   IsMadeBy of_aarch64 records folded =
       (samples : List Told)
-      × Each (IsToldIn of_aarch64 frames sure limit files (map attribute_view recording.events.attributes.items)) (samples_from files beginning records) samples
-      × IsMade frames explain (texts_of samples) folded before after × IsSaid samples records unsaid said
+      × Each (IsToldIn of_aarch64 frames sure explain limit files (map attribute_view recording.events.attributes.items)) (samples_from files beginning records) samples
+      × IsMade frames samples folded before after × IsSaid samples records unsaid said
 
   abbrev pub IsWholeBy : Bool → Unwound → Type 0
   IsWholeBy of_aarch64 unwound =

@@ -28,7 +28,7 @@ use Rattle.framehop_perf_stacks.proofs.TakenLemmas.{Each-more, AreTaken-more, Ar
 
 -- Of all records from a state on some are left. The state there agrees with the names and the processes, and the samples
 -- before it have their texts, which were taken. None of the records before it is refused, and so many generations were drawn.
-pub record IsSoFar (files : Files) (IsText : RecordView × State → Told → Type 0) (frames explain : Bool) (all : List RecordView)
+pub record IsSoFar (files : Files) (IsText : RecordView × State → Told → Type 0) (frames : Bool) (all : List RecordView)
     (first : State) (old : Counts) (before : Option (List ℕ)) (undrawn : ℕ) (rest : List RecordView) (names : Names)
     (processes : BTreeMap ℕ ProcessView) (new : Counts) (after : Option (List ℕ)) (drawn : ℕ) : Type 0 where
   pub state : State
@@ -42,18 +42,18 @@ pub record IsSoFar (files : Files) (IsText : RecordView × State → Told → Ty
   pub draws : drawn + drawn_over files rest state ≤ undrawn + drawn_over files all first
   pub loses : lost_over (before_refusal rest) new.lost ≡ lost_over (before_refusal all) old.lost
   pub each : Each IsText told texts
-  pub taken : AreTaken frames explain texts old new before after
+  pub taken : AreTaken frames texts old new before after
 
 module _ (files : Files) (IsText : RecordView × State → Told → Type 0)
     (same_text : (r : RecordView) (state other : State) → ((tid : ℕ) → state.named tid ≡ other.named tid)
     → ((pid : ℕ) → state.mapped pid ≡ other.mapped pid) → (text : Told) → IsText (r, state) text → IsText (r, other) text)
-    (frames explain : Bool) (all : List RecordView) (first : State) (old : Counts) (before : Option (List ℕ)) (undrawn : ℕ)
+    (frames : Bool) (all : List RecordView) (first : State) (old : Counts) (before : Option (List ℕ)) (undrawn : ℕ)
     (r : RecordView) (rest : List RecordView) (names names' : Names) (processes processes' : BTreeMap ℕ ProcessView)
     (new new' : Counts) (after after' : Option (List ℕ)) (drawn drawn' : ℕ)
-    (so : IsSoFar files IsText frames explain all first old before undrawn (r ∷ rest) names processes new after drawn)
+    (so : IsSoFar files IsText frames all first old before undrawn (r ∷ rest) names processes new after drawn)
     (none_refused : refusal_in r ≡ None) (draws : drawn' ≤ drawn + drawn_in (change_in files r) (mapped_in processes))
     (agrees : Agrees names' processes' (state_after files r (state_in names processes)))
-    (sample : r.kind ≡ PERF_RECORD_SAMPLE → (text : Told) × IsText (r, state_in names processes) text × IsTaken frames explain text new new' after after')
+    (sample : r.kind ≡ PERF_RECORD_SAMPLE → (text : Told) × IsText (r, state_in names processes) text × IsTaken frames text new new' after after')
     (other : r.kind ≢ PERF_RECORD_SAMPLE → HasSameSamples new new' × (after' ≡ after))
     (lost : new'.lost ≡ lost_after r new.lost) where
   agrees-on : Agrees names' processes' (state_after files r so.state)
@@ -76,7 +76,7 @@ module _ (files : Files) (IsText : RecordView × State → Told → Type 0)
       ap (lost_over (before_refusal rest)) lost
       ∙ ap (λ records. lost_over records new.lost) (sym (taken-first r rest none_refused)) ∙ so.loses
 
-  step-by : (b : Bool) → (r.kind == PERF_RECORD_SAMPLE) ≡ b → IsSoFar files IsText frames explain all first old before undrawn rest names' processes' new' after' drawn'
+  step-by : (b : Bool) → (r.kind == PERF_RECORD_SAMPLE) ≡ b → IsSoFar files IsText frames all first old before undrawn rest names' processes' new' after' drawn'
   step-by true is =
       let one = sample (eqb-true r.kind PERF_RECORD_SAMPLE is) in
       let next = samples_from files (state_after files r so.state) rest in
@@ -98,7 +98,7 @@ module _ (files : Files) (IsText : RecordView × State → Told → Type 0)
         loses = loses-on;
         each = Each-more IsText so.told so.texts (r, so.state) one.0 so.each
             (same_text r (state_in names processes) so.state so.agrees.named so.agrees.mapped one.0 one.1);
-        taken = AreTaken-more frames explain so.texts one.0 old new new' before after after' so.taken one.2;
+        taken = AreTaken-more frames so.texts one.0 old new new' before after after' so.taken one.2;
       }
   step-by false is =
       let none = other (eqb-false r.kind PERF_RECORD_SAMPLE is) in
@@ -116,17 +116,17 @@ module _ (files : Files) (IsText : RecordView × State → Told → Type 0)
         draws = draws-on;
         loses = loses-on;
         each = so.each;
-        taken = AreTaken-same frames explain so.texts old new new' before after after' so.taken none.0 none.1;
+        taken = AreTaken-same frames so.texts old new new' before after after' so.taken none.0 none.1;
       }
 
-  pub step : IsSoFar files IsText frames explain all first old before undrawn rest names' processes' new' after' drawn'
+  pub step : IsSoFar files IsText frames all first old before undrawn rest names' processes' new' after' drawn'
   step = step-by (r.kind == PERF_RECORD_SAMPLE) refl
 
 -- where the next record is refused, what was told is of the samples before it
-module _ (files : Files) (IsText : RecordView × State → Told → Type 0) (frames explain : Bool) (all : List RecordView)
+module _ (files : Files) (IsText : RecordView × State → Told → Type 0) (frames : Bool) (all : List RecordView)
     (first : State) (old : Counts) (before : Option (List ℕ)) (undrawn : ℕ) (r : RecordView) (rest : List RecordView) (names : Names)
     (processes : BTreeMap ℕ ProcessView) (new : Counts) (after : Option (List ℕ)) (drawn : ℕ)
-    (so : IsSoFar files IsText frames explain all first old before undrawn (r ∷ rest) names processes new after drawn) where
+    (so : IsSoFar files IsText frames all first old before undrawn (r ∷ rest) names processes new after drawn) where
   pub told-before : (refusal : RecordingError) → refusal_in r ≡ Some refusal → so.told ≡ samples_from files first (before_refusal all)
   told-before refusal is =
       sym (append-nil so.told) ∙ ap (λ records. so.told ++ samples_from files so.state records) (sym (none-before r rest refusal is))

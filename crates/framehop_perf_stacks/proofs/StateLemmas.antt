@@ -88,21 +88,25 @@ module _ (mapped other : Mapped) (same : (pid : ℕ) → mapped pid ≡ other pi
   mapped-same files r pid = by-change (change_in files r) pid
 
 module _ {Regs : Type 0} (module_of : Mapping → ModuleView) (walker : Walker Regs)
-    (starts : List ModuleView → ℕ → List ℕ → Option (Start Regs) → Type 0) (frames sure : Bool) (limit : ℕ) (files : Files)
+    (is_note : List ModuleView → Memory → FrameLocation → Regs → Result FoundBy BacktraceEnd → List ℕ → Type 0)
+    (starts : List ModuleView → ℕ → List ℕ → Option (Start Regs) → Type 0) (frames sure explain : Bool) (limit : ℕ) (files : Files)
     (state other : State) (named : (tid : ℕ) → state.named tid ≡ other.named tid)
     (mapped : (pid : ℕ) → state.mapped pid ≡ other.mapped pid) where
   pub text-same : (sample : Result (SampleView × ℕ) RecordingError) (text : Told)
-      → IsToldAt module_of walker starts frames sure limit files state sample text
-      → IsToldAt module_of walker starts frames sure limit files other sample text
+      → IsToldAt module_of walker is_note starts frames sure explain limit files state sample text
+      → IsToldAt module_of walker is_note starts frames sure explain limit files other sample text
   text-same (Ok sample) text told =
       let pid = sample.0.pid in
       let tid = sample.0.tid in
-      let P : List Mapping → Type 0 = λ mappings. IsUserStack walker starts limit files mappings (map module_of mappings) sample.1 sample.0.user told.0 in (
-        told.0,
-        subst P (mapped pid) told.1,
-        told.2
-            ∙ ap (λ name. stack_told frames sure files name (head_of name pid tid sample.0.time) (state.mapped pid) told.0) (named tid)
-            ∙ ap (λ mappings. stack_told frames sure files (other.named tid) (head_of (other.named tid) pid tid sample.0.time) mappings told.0) (mapped pid),
+      let stack = told.0 in
+      let notes = told.1.0 in
+      let P : List Mapping → Type 0 = λ mappings. IsUserStack walker is_note starts (frames && explain) limit files mappings (map module_of mappings) sample.1 sample.0.user stack notes in (
+        stack,
+        notes,
+        subst P (mapped pid) told.1.1,
+        told.1.2
+            ∙ ap (λ name. stack_told frames sure explain files name (head_of name pid tid sample.0.time) (state.mapped pid) stack notes) (named tid)
+            ∙ ap (λ mappings. stack_told frames sure explain files (other.named tid) (head_of (other.named tid) pid tid sample.0.time) mappings stack notes) (mapped pid),
       )
   text-same (Err refusal) text told = told
 

@@ -13,8 +13,7 @@ use Rattle.framehop_folded.specs.declared.folded.Folded.{Folded}
 use Rattle.framehop_perf_stacks.specs.Counts.{CountsOneMore, HasSameSamples}
 use Rattle.framehop_perf_stacks.specs.declared.counts.Counts.{Counts}
 use Rattle.framehop_recording.specs.Records.{RecordView}
-use Rattle.framehop_frames.specs.Explained.{IsShown}
-use Rattle.framehop_perf_stacks.specs.Samples.{Told, Each, occurrences, more, IsTextTaken, AreTextsTaken, IsTaken, AreTaken, HasSamplesMore, AreSummed, texts_of, ends_of, unsure_among, lost_over, IsMade}
+use Rattle.framehop_perf_stacks.specs.Samples.{Told, Each, occurrences, more, IsTextTaken, AreTextsTaken, IsTaken, AreTaken, HasSamplesMore, AreSummed, texts_of, shown_of, ends_of, unsure_among, lost_over, IsMade}
 
 -- one more of each list
 pub Each-more : {A B : Type 0} (R : A → B → Type 0) (xs : List A) (ys : List B) (a : A) (b : B) → Each R xs ys → R a b
@@ -55,29 +54,26 @@ module _ (texts : List (List ℕ)) (text : List ℕ) (old mid new : Folded)
       counted-by line (pointwise nat_eq line text) refl
       ∙ ap (more (entry_of old line)) (sym (occurrences-more line texts text (pointwise nat_eq line text) refl))
 
--- a text that is taken after others
-texts-more : (frames explain : Bool) (texts : List (List ℕ)) (text : List ℕ) (old mid new : Folded) (first before after : Option (List ℕ))
-    → AreTextsTaken frames explain texts old mid first before → IsTextTaken frames explain text mid new before after
-    → AreTextsTaken frames explain (texts ++ text ∷ []) old new first after
-texts-more true explain texts text old mid new first before after taken one =
-    let shown = taken.1.0 in
-    let last = one.1.0 in (
-      one.0 ∙ taken.0,
-      (
-        shown ++ last ∷ [],
-        Each-more (IsShown explain) texts shown text last taken.1.1 one.1.1,
-        subst (λ bytes. Appends first after bytes) (flat_map_more (λ t. t) [] shown last)
-            (Appends-trans first before after (flat_map (λ t. t) shown) last taken.1.2 one.1.2),
-      ),
-    )
-texts-more false explain texts text old mid new first before after taken one =
-    (counted-more texts text old mid new taken.0 one.0, one.1 ∙ taken.1)
+-- a sample whose text is taken after others
+texts-more : (frames : Bool) (samples : List Told) (told : Told) (old mid new : Folded) (first before after : Option (List ℕ))
+    → AreTextsTaken frames samples old mid first before → IsTextTaken frames told mid new before after
+    → AreTextsTaken frames (samples ++ told ∷ []) old new first after
+texts-more true samples told old mid new first before after taken one = (
+  one.0 ∙ taken.0,
+  subst (λ bytes. Appends first after bytes) (flat_map_more (λ (t : Told). t.shown) [] samples told)
+      (Appends-trans first before after (shown_of samples) told.shown taken.1 one.1),
+)
+texts-more false samples told old mid new first before after taken one = (
+  λ line. counted-more (texts_of samples) told.text old mid new taken.0 one.0 line
+      ∙ ap (λ texts. more (entry_of old line) (occurrences line texts)) (sym (map_push (λ (t : Told). t.text) samples told)),
+  one.1 ∙ taken.1,
+)
 
 -- nothing that is taken
-texts-none : (frames explain : Bool) (folded : Folded) (bytes : Option (List ℕ)) → AreTextsTaken frames explain [] folded folded bytes bytes
-texts-none true explain folded None = (refl, ([], tt, tt))
-texts-none true explain folded (Some bytes) = (refl, ([], tt, sym (append-nil bytes)))
-texts-none false explain folded bytes = (λ line. refl, refl)
+texts-none : (frames : Bool) (folded : Folded) (bytes : Option (List ℕ)) → AreTextsTaken frames [] folded folded bytes bytes
+texts-none true folded None = (refl, tt)
+texts-none true folded (Some bytes) = (refl, sym (append-nil bytes))
+texts-none false folded bytes = (λ line. refl, refl)
 
 -- ---- samples
 
@@ -86,10 +82,10 @@ not-sure true = refl
 not-sure false = refl
 
 -- a sample that is taken after others
-pub AreTaken-more : (frames explain : Bool) (samples : List Told) (told : Told) (old mid new : Counts) (first before after : Option (List ℕ))
-    → AreTaken frames explain samples old mid first before → IsTaken frames explain told mid new before after
-    → AreTaken frames explain (samples ++ told ∷ []) old new first after
-AreTaken-more frames explain samples told old mid new first before after taken one =
+pub AreTaken-more : (frames : Bool) (samples : List Told) (told : Told) (old mid new : Counts) (first before after : Option (List ℕ))
+    → AreTaken frames samples old mid first before → IsTaken frames told mid new before after
+    → AreTaken frames (samples ++ told ∷ []) old new first after
+AreTaken-more frames samples told old mid new first before after taken one =
     let unsure : unsure_among (samples ++ told ∷ []) ≡ unsure_among samples + cond (not told.is_sure) 1 0 =
     sum_by_push (λ (t : Told). cond (not t.is_sure) 1 0) samples told in
     let size : length (samples ++ told ∷ []) ≡ length samples + 1 = length-append samples (told ∷ []) in (
@@ -99,27 +95,26 @@ AreTaken-more frames explain samples told old mid new first before after taken o
         ends = λ end. counted-more (ends_of samples) told.end old.ends mid.ends new.ends taken.0.ends one.0.ends end
             ∙ ap (λ ends. more (entry_of old.ends end) (occurrences end ends)) (sym (map_push (λ (t : Told). t.end) samples told));
       },
-      subst (λ texts. AreTextsTaken frames explain texts old.stacks new.stacks first after) (sym (map_push (λ (t : Told). t.text) samples told))
-          (texts-more frames explain (texts_of samples) told.text old.stacks mid.stacks new.stacks first before after taken.1 one.1),
+      texts-more frames samples told old.stacks mid.stacks new.stacks first before after taken.1 one.1,
     )
 
 -- nothing that is taken
-pub AreTaken-none : (frames explain : Bool) (counts : Counts) (bytes : Option (List ℕ)) → AreTaken frames explain [] counts counts bytes bytes
-AreTaken-none frames explain counts bytes =
-    (record { count = omega arith; unsure = omega arith; ends = λ end. refl }, texts-none frames explain counts.stacks bytes)
+pub AreTaken-none : (frames : Bool) (counts : Counts) (bytes : Option (List ℕ)) → AreTaken frames [] counts counts bytes bytes
+AreTaken-none frames counts bytes =
+    (record { count = omega arith; unsure = omega arith; ends = λ end. refl }, texts-none frames counts.stacks bytes)
 
 -- what is taken where another record is passed over
-pub AreTaken-same : (frames explain : Bool) (samples : List Told) (old mid new : Counts) (first before after : Option (List ℕ))
-    → AreTaken frames explain samples old mid first before → HasSameSamples mid new → after ≡ before
-    → AreTaken frames explain samples old new first after
-AreTaken-same frames explain samples old mid new first before after taken same kept = (
+pub AreTaken-same : (frames : Bool) (samples : List Told) (old mid new : Counts) (first before after : Option (List ℕ))
+    → AreTaken frames samples old mid first before → HasSameSamples mid new → after ≡ before
+    → AreTaken frames samples old new first after
+AreTaken-same frames samples old mid new first before after taken same kept = (
   record {
     count = same.samples ∙ taken.0.count;
     unsure = same.unsure ∙ taken.0.unsure;
     ends = λ end. ap (λ folded. entry_of folded end) same.ends ∙ taken.0.ends end;
   },
-  subst (λ folded. AreTextsTaken frames explain (texts_of samples) old.stacks folded first after) (sym same.stacks)
-      (subst (λ bytes. AreTextsTaken frames explain (texts_of samples) old.stacks mid.stacks first bytes) (sym kept) taken.1),
+  subst (λ folded. AreTextsTaken frames samples old.stacks folded first after) (sym same.stacks)
+      (subst (λ bytes. AreTextsTaken frames samples old.stacks mid.stacks first bytes) (sym kept) taken.1),
 )
 
 -- the counts of all samples, from none on
@@ -134,12 +129,12 @@ summed samples records old new more-of none sure endless lost ordered = record {
   ordered = ordered;
 }
 
--- what is made of all texts
-pub made : (frames explain : Bool) (texts : List (List ℕ)) (old new : Folded) (before after : Option (List ℕ))
-    → AreTextsTaken frames explain texts old new before after → ((line : List ℕ) → entry_of old line ≡ None) → IsMade frames explain texts new before after
-made true explain texts old new before after taken none = (λ line. ap (λ folded. entry_of folded line) taken.0 ∙ none line, taken.1)
-made false explain texts old new before after taken none =
-    (λ line. taken.0 line ∙ ap (λ entry. more entry (occurrences line texts)) (none line), taken.1)
+-- what is made of all samples
+pub made : (frames : Bool) (samples : List Told) (old new : Folded) (before after : Option (List ℕ))
+    → AreTextsTaken frames samples old new before after → ((line : List ℕ) → entry_of old line ≡ None) → IsMade frames samples new before after
+made true samples old new before after taken none = (λ line. ap (λ folded. entry_of folded line) taken.0 ∙ none line, taken.1)
+made false samples old new before after taken none =
+    (λ line. taken.0 line ∙ ap (λ entry. more entry (occurrences line (texts_of samples))) (none line), taken.1)
 
 -- what holds where the second of two results is `Ok`, holds where both are
 pub both_ok : {T U E : Type 0} {A : Type 0} (first : Result T E) (second : Result U E) (value : U) → result_and first second ≡ Ok value → OnOk second A → A

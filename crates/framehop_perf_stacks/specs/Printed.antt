@@ -4,6 +4,7 @@ use Rattle.std.specs.Io.KnownBytes.{Appends}
 use Rattle.framehop_folded.specs.declared.folded.Folded.{Folded}
 use Rattle.framehop_recording.specs.Attributes.{AttributeView, attribute_view}
 use Rattle.framehop_recording.specs.Records.{RecordView}
+use Rattle.framehop_frames.specs.TakenText.{IsNoteX86_64, IsNoteAarch64}
 use Rattle.framehop_frames.specs.Walker.{x86_64_walker, aarch64_walker}
 use Rattle.framehop_symbols.specs.Files.{module_at}
 use Rattle.framehop_recording.specs.declared.error.RecordingError.{RecordingError}
@@ -11,7 +12,7 @@ use Rattle.framehop_perf_stacks.specs.Ended.{first_refusal, before_refusal, MayE
 use Rattle.framehop_perf_stacks.specs.Problems.{AreProblems}
 use Rattle.framehop_perf_stacks.specs.Recording.{are_of_aarch64, records_in}
 use Rattle.framehop_perf_stacks.specs.Run.{is_sample}
-use Rattle.framehop_perf_stacks.specs.Samples.{State, beginning, drawn_over, samples_from, Told, Each, IsToldOf, texts_of, IsMade, AreSummed}
+use Rattle.framehop_perf_stacks.specs.Samples.{State, beginning, drawn_over, samples_from, Told, Each, IsToldOf, IsMade, AreSummed}
 use Rattle.framehop_perf_stacks.specs.Start.{StartsX86_64, StartsAarch64}
 use Rattle.framehop_symbols.specs.declared.files.Files.{Files}
 use Rattle.framehop_perf_stacks.specs.Counts.{summary_text}
@@ -21,16 +22,17 @@ use Rattle.framehop_perf_stacks.specs.declared.error.StacksError.TheVariants.{Re
 use Rattle.framehop_perf_stacks.specs.declared.recording.Recording.{Recording}
 
 -- this is told of a sample of one of the two architectures, by the modules of the files
-abbrev pub IsToldIn : Bool → Bool → Bool → ℕ → Files → List AttributeView → RecordView × State → Told → Type 0
-IsToldIn true frames sure limit files attributes =
-    IsToldOf (module_at files) aarch64_walker StartsAarch64 frames sure limit files attributes
-IsToldIn false frames sure limit files attributes =
-    IsToldOf (module_at files) x86_64_walker StartsX86_64 frames sure limit files attributes
+abbrev pub IsToldIn : Bool → Bool → Bool → Bool → ℕ → Files → List AttributeView → RecordView × State → Told → Type 0
+IsToldIn true frames sure explain limit files attributes =
+    IsToldOf (module_at files) aarch64_walker IsNoteAarch64 StartsAarch64 frames sure explain limit files attributes
+IsToldIn false frames sure explain limit files attributes =
+    IsToldOf (module_at files) x86_64_walker IsNoteX86_64 StartsX86_64 frames sure explain limit files attributes
 
 -- what is told of the samples of records, of each by the state that the records before it lead to
-abbrev pub AreToldOf : List AttributeView → List RecordView → Files → Bool → Bool → ℕ → List Told → Type 0
-AreToldOf attributes records files frames sure limit samples =
-    Each (IsToldIn (are_of_aarch64 attributes) frames sure limit files attributes) (samples_from files beginning records) samples
+abbrev pub AreToldOf : List AttributeView → List RecordView → Files → Bool → Bool → Bool → ℕ → List Told → Type 0
+AreToldOf attributes records files frames sure explain limit samples =
+    Each (IsToldIn (are_of_aarch64 attributes) frames sure explain limit files attributes)
+    (samples_from files beginning records) samples
 
 -- what is said of files of which nothing was read
 abbrev pub AreTold : Files → Option (List ℕ) → Option (List ℕ) → Type 0
@@ -45,8 +47,8 @@ IsSaid samples records before after =
 abbrev pub IsMadeFrom : List AttributeView → List RecordView → Files → Bool → Bool → Bool → ℕ → Folded → Option (List ℕ) → Option (List ℕ)
     → Option (List ℕ) → Option (List ℕ) → Type 0
 IsMadeFrom attributes records files frames sure explain limit folded before after unsaid said =
-    (samples : List Told) × AreToldOf attributes records files frames sure limit samples
-    × IsMade frames explain (texts_of samples) folded before after × IsSaid samples records unsaid said
+    (samples : List Told) × AreToldOf attributes records files frames sure explain limit samples
+    × IsMade frames samples folded before after × IsSaid samples records unsaid said
 
 -- the same of all records of a recording
 abbrev pub IsMadeOf : Recording → Files → Bool → Bool → Bool → ℕ → Folded → Option (List ℕ) → Option (List ℕ)

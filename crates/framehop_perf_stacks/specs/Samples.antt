@@ -1,5 +1,5 @@
 -- The samples of a recording one after another, and what is told of each: a block or a folded line.
-use Rattle.std.specs.Prelude.{◌≡◌, ℕ, zero, suc, ◌+◌, ◌-◌, ◌^◌, min, length, not, unwrap_or, Bool, true, false, nat_eq, List, [], ◌∷◌, ◌++◌, codes, map, count_by, Option, Some, None, Result, Ok, Err, ◌==◌, if◌then◌else◌}
+use Rattle.std.specs.Prelude.{◌≡◌, ℕ, zero, suc, ◌+◌, ◌-◌, ◌^◌, min, length, not, unwrap_or, Bool, true, false, ◌&&◌, nat_eq, List, [], ◌∷◌, ◌++◌, codes, map, count_by, Option, Some, None, Result, Ok, Err, ◌==◌, if◌then◌else◌}
 use Rattle.std.specs.BTreeMap.{BTreeMap}
 use Rattle.std.specs.Cmp.Lexicographic.{pointwise}
 use Rattle.std.specs.Io.KnownBytes.{Appends}
@@ -23,10 +23,13 @@ use Rattle.framehop_recording.specs.declared.error.RecordingError.{RecordingErro
 use Rattle.framehop_recording.specs.declared.sample.Sample.{Sample}
 use Rattle.framehop_perf_stacks.specs.Changes.{change_in}
 use Rattle.framehop_perf_stacks.specs.Counts.{CountsOneMore, HasSampleMore}
-use Rattle.framehop_frames.specs.Explained.{IsShown}
+use Rattle.framehop_backtrace.specs.declared.frame.BacktraceEnd.{BacktraceEnd}
+use Rattle.framehop_backtrace.specs.declared.frame.FoundBy.{FoundBy}
+use Rattle.framehop_frames.specs.Explained.{shown_with}
 use Rattle.framehop_frames.specs.Line.{head_of, end_name, part_of}
 use Rattle.framehop_backtrace.specs.Code.{Code}
 use Rattle.framehop_frames.specs.Code.{bytes_after, code_of}
+use Rattle.framehop_frames.specs.Notes.{NotedStack, noted_from, AreStackNotes}
 use Rattle.framehop_frames.specs.Rows.{rows_in}
 use Rattle.framehop_frames.specs.Stack.{StackView, walked, no_stack, stack_from, stack_text}
 use Rattle.framehop_frames.specs.Walker.{Walker}
@@ -88,8 +91,7 @@ samples_from files state (r ∷ records) =
     if r.kind == PERF_RECORD_SAMPLE then (r, state) ∷ samples_from files (state_after files r state) records
     else samples_from files (state_after files r state) records
 
-module _ {Regs : Type 0} (walker : Walker Regs)
-    (starts : List ModuleView → ℕ → List ℕ → Option (Start Regs) → Type 0) (limit : ℕ) (files : Files) where
+module _ {Regs : Type 0} (walker : Walker Regs) (limit : ℕ) (files : Files) where
   -- the code of a process, whose stack from a stack pointer on has these bytes, by its mappings
   abbrev pub code_in : List Mapping → List ℕ → ℕ → Code
   code_in mappings bytes sp = code_of (bytes_after sp bytes) (λ address. false) files mappings
@@ -97,30 +99,61 @@ module _ {Regs : Type 0} (walker : Walker Regs)
   -- the stack over the bytes of a copy by the bytes of modules, from the registers with which it begins
   abbrev pub sampled_from : List Mapping → List ModuleView → List ℕ → Option (Start Regs) → StackView
   sampled_from mappings modules bytes (Some start) =
-      stack_from walker limit modules (rows_in walker files mappings modules) (memory_of_bytes start.sp bytes) (code_in mappings bytes start.sp) start
+      stack_from walker limit modules (rows_in walker files mappings modules) (memory_of_bytes start.sp bytes)
+      (code_in mappings bytes start.sp) start
   sampled_from mappings modules bytes None = no_stack (codes "no-registers")
 
-  -- the same of the user's side of a sample, if it can be read
-  abbrev pub IsUserStack : List Mapping → List ModuleView → ℕ → Result UserView RecordingError → StackView → Type 0
-  IsUserStack mappings modules mask (Ok user) stack =
+  -- what is noted of it
+  abbrev pub noted_sample : List Mapping → List ModuleView → List ℕ → Option (Start Regs) → Option (NotedStack Regs)
+  noted_sample mappings modules bytes (Some start) =
+      Some (noted_from walker limit modules (rows_in walker files mappings modules) (memory_of_bytes start.sp bytes)
+      (code_in mappings bytes start.sp) start)
+  noted_sample mappings modules bytes None = None
+
+-- the words of a copy of a stack, which begins at the stack pointer
+abbrev pub copied_memory : {Regs : Type 0} → List ℕ → Option (Start Regs) → Memory
+copied_memory bytes (Some start) = memory_of_bytes start.sp bytes
+copied_memory bytes None = memory_of_bytes 0 bytes
+
+-- notes are these where a stack is to be explained, and else none
+abbrev pub NotedIf : Bool → (List (List ℕ) → Type 0) → List (List ℕ) → Type 0
+NotedIf true are_notes notes = are_notes notes
+NotedIf false are_notes notes = notes ≡ []
+
+-- `is_note`: a note is that of a frame, among modules and over a memory
+module _ {Regs : Type 0} (walker : Walker Regs)
+    (is_note : List ModuleView → Memory → FrameLocation → Regs → Result FoundBy BacktraceEnd → List ℕ → Type 0)
+    (starts : List ModuleView → ℕ → List ℕ → Option (Start Regs) → Type 0) (explained : Bool) (limit : ℕ) (files : Files) where
+  -- notes are those of the stack from the registers with which it begins
+  abbrev pub AreSampleNotes : List Mapping → List ModuleView → List ℕ → Option (Start Regs) → List (List ℕ) → Type 0
+  AreSampleNotes mappings modules bytes start notes =
+      AreStackNotes (is_note modules (copied_memory bytes start)) (noted_sample walker limit files mappings modules bytes start) notes
+
+  -- the stack and the notes of the user's side of a sample, if it can be read
+  abbrev pub IsUserStack : List Mapping → List ModuleView → ℕ → Result UserView RecordingError → StackView → List (List ℕ) → Type 0
+  IsUserStack mappings modules mask (Ok user) stack notes =
       (start : Option (Start Regs)) × starts modules mask user.registers start
-      × (stack ≡ sampled_from mappings modules user.stack start)
-  IsUserStack mappings modules mask (Err refusal) stack = stack ≡ no_stack (sample_refusal refusal)
+      × (stack ≡ sampled_from walker limit files mappings modules user.stack start)
+      × NotedIf explained (AreSampleNotes mappings modules user.stack start) notes
+  IsUserStack mappings modules mask (Err refusal) stack notes = (stack ≡ no_stack (sample_refusal refusal)) × (notes ≡ [])
 
   -- the same of a sample with the mask of its registers: its modules are those of its process's mappings
-  abbrev pub IsSampleStack : (Mapping → ModuleView) → Mapped → Result (SampleView × ℕ) RecordingError → StackView → Type 0
-  IsSampleStack module_of mapped (Ok sample) stack =
-      IsUserStack (mapped sample.0.pid) (map module_of (mapped sample.0.pid)) sample.1 sample.0.user stack
-  IsSampleStack module_of mapped (Err refusal) stack = stack ≡ no_stack (sample_refusal refusal)
+  abbrev pub IsSampleStack : (Mapping → ModuleView) → Mapped → Result (SampleView × ℕ) RecordingError → StackView
+      → List (List ℕ) → Type 0
+  IsSampleStack module_of mapped (Ok sample) stack notes =
+      IsUserStack (mapped sample.0.pid) (map module_of (mapped sample.0.pid)) sample.1 sample.0.user stack notes
+  IsSampleStack module_of mapped (Err refusal) stack notes = (stack ≡ no_stack (sample_refusal refusal)) × (notes ≡ [])
 
 -- the head of a sample's block, by the name of its thread; the thread of a sample that can't be read is not known
 abbrev pub head_text : List ℕ → Option Sample → List ℕ
 head_text name (Some sample) = head_of name sample.pid sample.tid sample.time
 head_text name None = codes "[unknown]:\n"
 
--- what is told of a sample: its text, how its walk ended or why there is none, and whether unwind data tells all its frames
+-- what is told of a sample: its text, the same as it is shown, with notes where it is to be explained, how its walk ended or
+-- why there is none, and whether unwind data tells all its frames
 pub record Told : Type 0 where
   pub text : List ℕ
+  pub shown : List ℕ
   pub end : List ℕ
   pub is_sure : Bool
 
@@ -134,27 +167,34 @@ abbrev pub is_sure_stack : StackView → Bool
 is_sure_stack (walked frames end) = length (part_of true frames) == length frames
 is_sure_stack (no_stack why) = true
 
--- what is told of a stack, by the name of its thread, the head of its block and the mappings of its process
-abbrev pub stack_told : Bool → Bool → Files → List ℕ → List ℕ → List Mapping → StackView → Told
-stack_told frames sure files name head mappings stack =
-    record { text = stack_text frames sure files name head mappings stack; end = end_of stack; is_sure = is_sure_stack stack }
+-- what is told of a stack with notes, by the name of its thread, the head of its block and the mappings of its process
+abbrev pub stack_told : Bool → Bool → Bool → Files → List ℕ → List ℕ → List Mapping → StackView → List (List ℕ) → Told
+stack_told frames sure explain files name head mappings stack notes = record {
+  text = stack_text frames sure files name head mappings stack;
+  shown = shown_with explain notes (stack_text frames sure files name head mappings stack);
+  end = end_of stack;
+  is_sure = is_sure_stack stack;
+}
 
 -- the same by the name of its thread and the mappings of its process
-abbrev pub sample_told : Bool → Bool → Files → State → Result (SampleView × ℕ) RecordingError → StackView → Told
-sample_told frames sure files state (Ok sample) stack =
+abbrev pub sample_told : Bool → Bool → Bool → Files → State → Result (SampleView × ℕ) RecordingError → StackView
+    → List (List ℕ) → Told
+sample_told frames sure explain files state (Ok sample) stack notes =
     let name = state.named sample.0.tid in
-    stack_told frames sure files name (head_of name sample.0.pid sample.0.tid sample.0.time) (state.mapped sample.0.pid) stack
-sample_told frames sure files state (Err refusal) stack =
-    stack_told frames sure files (codes "[unknown]") (codes "[unknown]:\n") [] stack
+    stack_told frames sure explain files name (head_of name sample.0.pid sample.0.tid sample.0.time)
+    (state.mapped sample.0.pid) stack notes
+sample_told frames sure explain files state (Err refusal) stack notes =
+    stack_told frames sure explain files (codes "[unknown]") (codes "[unknown]:\n") [] stack notes
 
 module _ {Regs : Type 0} (module_of : Mapping → ModuleView) (walker : Walker Regs)
-    (starts : List ModuleView → ℕ → List ℕ → Option (Start Regs) → Type 0) (frames sure : Bool) (limit : ℕ)
+    (is_note : List ModuleView → Memory → FrameLocation → Regs → Result FoundBy BacktraceEnd → List ℕ → Type 0)
+    (starts : List ModuleView → ℕ → List ℕ → Option (Start Regs) → Type 0) (frames sure explain : Bool) (limit : ℕ)
     (files : Files) where
   -- this is told of a sample at a state: of its stack, by the modules of its process
   abbrev pub IsToldAt : State → Result (SampleView × ℕ) RecordingError → Told → Type 0
-  IsToldAt state sample told =
-      (stack : StackView) × IsSampleStack walker starts limit files module_of state.mapped sample stack
-      × (told ≡ sample_told frames sure files state sample stack)
+  IsToldAt state sample told = (stack : StackView) × ((notes : List (List ℕ))
+      × IsSampleStack walker is_note starts (frames && explain) limit files module_of state.mapped sample stack notes
+      × (told ≡ sample_told frames sure explain files state sample stack notes))
 
   -- the same of a record of a recording with these events
   abbrev pub IsToldOf : List AttributeView → RecordView × State → Told → Type 0
@@ -176,31 +216,29 @@ abbrev pub more : Option ℕ → ℕ → Option ℕ
 more entry zero = entry
 more entry (suc n) = Some (unwrap_or entry 0 + suc n)
 
--- a text is shown, if it is a block, with notes where it is to be explained, or else counted
-abbrev pub IsTextTaken : Bool → Bool → List ℕ → Folded → Folded → Option (List ℕ) → Option (List ℕ) → Type 0
-IsTextTaken true explain text old new before after =
-    (new ≡ old) × ((shown : List ℕ) × IsShown explain text shown × Appends before after shown)
-IsTextTaken false explain text old new before after = CountsOneMore old new text × (after ≡ before)
+-- what is told of a sample is shown, if it is a block, or else counted
+abbrev pub IsTextTaken : Bool → Told → Folded → Folded → Option (List ℕ) → Option (List ℕ) → Type 0
+IsTextTaken true told old new before after = (new ≡ old) × Appends before after told.shown
+IsTextTaken false told old new before after = CountsOneMore old new told.text × (after ≡ before)
 
 -- a sample is counted, and its text is taken
-abbrev pub IsTaken : Bool → Bool → Told → Counts → Counts → Option (List ℕ) → Option (List ℕ) → Type 0
-IsTaken frames explain told old new before after =
-    HasSampleMore old new told.end told.is_sure × IsTextTaken frames explain told.text old.stacks new.stacks before after
-
--- several blocks are shown, one after another
-abbrev pub AreShown : Bool → List (List ℕ) → Option (List ℕ) → Option (List ℕ) → Type 0
-AreShown explain texts before after =
-    (shown : List (List ℕ)) × Each (IsShown explain) texts shown × Appends before after (flat_map (λ text. text) shown)
-
--- the same of several texts
-abbrev pub AreTextsTaken : Bool → Bool → List (List ℕ) → Folded → Folded → Option (List ℕ) → Option (List ℕ) → Type 0
-AreTextsTaken true explain texts old new before after = (new ≡ old) × AreShown explain texts before after
-AreTextsTaken false explain texts old new before after =
-    ((line : List ℕ) → entry_of new line ≡ more (entry_of old line) (occurrences line texts)) × (after ≡ before)
+abbrev pub IsTaken : Bool → Told → Counts → Counts → Option (List ℕ) → Option (List ℕ) → Type 0
+IsTaken frames told old new before after =
+    HasSampleMore old new told.end told.is_sure × IsTextTaken frames told old.stacks new.stacks before after
 
 -- the texts of samples
 abbrev pub texts_of : List Told → List (List ℕ)
 texts_of samples = map (λ told. told.text) samples
+
+-- what is shown of them, one after another
+abbrev pub shown_of : List Told → List ℕ
+shown_of samples = flat_map (λ told. told.shown) samples
+
+-- several samples are shown, or counted
+abbrev pub AreTextsTaken : Bool → List Told → Folded → Folded → Option (List ℕ) → Option (List ℕ) → Type 0
+AreTextsTaken true samples old new before after = (new ≡ old) × Appends before after (shown_of samples)
+AreTextsTaken false samples old new before after =
+    ((line : List ℕ) → entry_of new line ≡ more (entry_of old line) (occurrences line (texts_of samples))) × (after ≡ before)
 
 -- the ends of their walks
 abbrev pub ends_of : List Told → List (List ℕ)
@@ -217,18 +255,18 @@ pub record HasSamplesMore (samples : List Told) (old new : Counts) : Type 0 wher
   pub ends : (end : List ℕ) → entry_of new.ends end ≡ more (entry_of old.ends end) (occurrences end (ends_of samples))
 
 -- several samples are counted, and their texts are taken
-abbrev pub AreTaken : Bool → Bool → List Told → Counts → Counts → Option (List ℕ) → Option (List ℕ) → Type 0
-AreTaken frames explain samples old new before after =
-    HasSamplesMore samples old new × AreTextsTaken frames explain (texts_of samples) old.stacks new.stacks before after
+abbrev pub AreTaken : Bool → List Told → Counts → Counts → Option (List ℕ) → Option (List ℕ) → Type 0
+AreTaken frames samples old new before after =
+    HasSamplesMore samples old new × AreTextsTaken frames samples old.stacks new.stacks before after
 
 -- each line among texts is there with how often it occurs, and no other is
 abbrev pub AreFolded : List (List ℕ) → Folded → Type 0
 AreFolded texts folded = (line : List ℕ) → entry_of folded line ≡ more None (occurrences line texts)
 
--- what is made of texts: blocks that are shown, one after another, or folded stacks
-abbrev pub IsMade : Bool → Bool → List (List ℕ) → Folded → Option (List ℕ) → Option (List ℕ) → Type 0
-IsMade true explain texts folded before after = AreFolded [] folded × AreShown explain texts before after
-IsMade false explain texts folded before after = AreFolded texts folded × (after ≡ before)
+-- what is made of samples: blocks that are shown, one after another, or folded stacks
+abbrev pub IsMade : Bool → List Told → Folded → Option (List ℕ) → Option (List ℕ) → Type 0
+IsMade true samples folded before after = AreFolded [] folded × Appends before after (shown_of samples)
+IsMade false samples folded before after = AreFolded (texts_of samples) folded × (after ≡ before)
 
 -- how many records the kernel has lost after a record that says so: at most 2^64 - 1 are counted
 abbrev pub lost_after : RecordView → ℕ → ℕ

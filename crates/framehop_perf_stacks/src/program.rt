@@ -11,7 +11,7 @@ ghost use Rattle.framehop_perf_stacks.specs.Ended.{before_refusal, MayEnd};
 ghost use Rattle.framehop_perf_stacks.specs.Files.{AreFilesOf};
 ghost use Rattle.framehop_perf_stacks.specs.Printed.{AreTold, IsMadeOf, IsSaid, IsWhole, IsMadeUntil, MayEndAt};
 ghost use Rattle.framehop_perf_stacks.specs.Recording.{records_in, events_in, IsReadOf};
-ghost use Rattle.framehop_perf_stacks.specs.Samples.{beginning, samples_from, Each, IsToldOf, Told, texts_of, IsMade};
+ghost use Rattle.framehop_perf_stacks.specs.Samples.{beginning, samples_from, Each, IsToldOf, Told, IsMade};
 ghost use Rattle.framehop_symbols.specs.declared.files.Files.{Files};
 ghost use Rattle.framehop_perf_stacks.specs.declared.error.StacksError.TheVariants.{OutOfMemory, CannotWrite, Recording as Refused};
 ghost use Rattle.framehop_perf_stacks.specs.declared.recording.Recording.{Recording};
@@ -75,15 +75,15 @@ where
     U::Cache: Drop,
     U::Module: Drop,
     ensures made { IfOk result (λ unwound. IfOk unwound.ended (λ refusal. IsWhole recording.now refusal × ((samples : List Told)
-        × Each (IsToldOf (M.module_of maker.now) U.walker U.starts options.frames options.sure options.limit files.now (map attribute_view recording.now.events.attributes.items))
+        × Each (IsToldOf (M.module_of maker.now) U.walker U.is_note U.starts options.frames options.sure options.explain options.limit files.now (map attribute_view recording.now.events.attributes.items))
         (samples_from files.now beginning (records_in recording.now.records.items)) samples
-        × IsMade options.frames options.explain (texts_of samples) unwound.folded (W.contents out.old) (W.contents out.new)
+        × IsMade options.frames samples unwound.folded (W.contents out.old) (W.contents out.new)
         × IsSaid samples (records_in recording.now.records.items) (E.contents err.old) (E.contents err.new)))) }
     ensures ended { IfOk result (λ unwound. IfErr unwound.ended (MayEndAt recording.now files.now)) }
     ensures before { IfOk result (λ unwound. (refusal : RecordingError) → unwound.ended ≡ Err (Refused refusal) → (samples : List Told)
-        × Each (IsToldOf (M.module_of maker.now) U.walker U.starts options.frames options.sure options.limit files.now (map attribute_view recording.now.events.attributes.items))
+        × Each (IsToldOf (M.module_of maker.now) U.walker U.is_note U.starts options.frames options.sure options.explain options.limit files.now (map attribute_view recording.now.events.attributes.items))
         (samples_from files.now beginning (before_refusal (records_in recording.now.records.items))) samples
-        × IsMade options.frames options.explain (texts_of samples) unwound.folded (W.contents out.old) (W.contents out.new)
+        × IsMade options.frames samples unwound.folded (W.contents out.old) (W.contents out.new)
         × IsSaid samples (before_refusal (records_in recording.now.records.items)) (E.contents err.old) (E.contents err.new)) }
     ensures refused { IfErr result (λ error. error ≡ OutOfMemory) }
     ensures unwritten { OnErr result (out.new ≡ out.old) }

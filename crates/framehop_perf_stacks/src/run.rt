@@ -2,7 +2,7 @@
 //!
 //! The files that a recording maps are read before, so what makes modules stays as it is while processes change.
 //! All processes share one cache, since generations tell their lists of modules apart.
-ghost use Rattle.std.specs.Prelude.{ℕ, ◌≡◌, ◌≢◌, ◌≤◌, ◌+◌, ◌-◌, ◌^◌, min, length, ◌&&◌, if◌then◌else◌, [], Some, None, IfOk, IfErr, OnOk, OnErr, Ok, Err, IsSome, Bool, false, List, map, count_by};
+ghost use Rattle.std.specs.Prelude.{ℕ, ◌≡◌, ◌≢◌, ◌≤◌, ◌+◌, ◌-◌, ◌^◌, min, ◌&&◌, [], Some, None, IfOk, IfErr, OnOk, OnErr, Ok, Err, IsSome, Bool, false, List, map, count_by};
 ghost use Rattle.std.specs.BTreeMap.{get};
 ghost use Rattle.std.specs.Ordering.{nat_cmp};
 ghost use Rattle.std.specs.Result.{result_err, result_unwrap_or};
@@ -23,9 +23,10 @@ ghost use Rattle.framehop_perf_stacks.specs.Names.{named_in};
 ghost use Rattle.framehop_perf_stacks.specs.Processes.{mapped_in, IsServed};
 ghost use Rattle.framehop_perf_stacks.specs.Recording.{sample_in, records_in};
 ghost use Rattle.framehop_perf_stacks.specs.Run.{AreCounted, CountsMore, is_sample, samples_in_kind, sample_refusal};
-ghost use Rattle.framehop_perf_stacks.specs.Samples.{State, beginning, state_in, state_after, state_over, drawn_over, Agrees, samples_from, head_text, IsUserStack, IsToldAt, IsToldOf, Told, stack_told, lost_after, lost_over, Each, IsTaken, AreTaken};
+ghost use Rattle.framehop_perf_stacks.specs.Samples.{State, beginning, state_in, state_after, state_over, drawn_over, Agrees, samples_from, head_text, copied_memory, NotedIf, IsUserStack, IsToldAt, IsToldOf, Told, stack_told, lost_after, lost_over, Each, IsTaken, AreTaken};
 ghost use Rattle.framehop_frames.specs.Line.{end_name};
-ghost use Rattle.framehop_frames.specs.Stack.{line_count, StackView, no_stack, stack_view, option_stack_view};
+ghost use Rattle.framehop_frames.specs.Notes.{option_noted, AreStackNotes};
+ghost use Rattle.framehop_frames.specs.Stack.{StackView, no_stack, stack_view, option_stack_view};
 ghost use Rattle.framehop_perf_stacks.specs.declared.error.StacksError.TheVariants.{OutOfMemory, Recording as RecordingRefused};
 ghost use Rattle.framehop_symbols.specs.declared.files.Files.{Files};
 
@@ -44,8 +45,9 @@ use framehop_explain::Note;
 use framehop_frames::line::{
     block_head, end_name, folded_line, frames_block, refused_block, refused_line, sure_part,
 };
+use framehop_frames::machine::Start;
 use framehop_frames::stack::Stack;
-use framehop_processes::{Mapping, ModuleMaker, Process};
+use framehop_processes::{Mapping, ModuleMaker};
 use framehop_recording::error::RecordingError;
 use framehop_recording::events::Events;
 use framehop_recording::kind::{LOST, SAMPLE};
@@ -124,8 +126,8 @@ fn take_stack<R: Copy, W: Write>(
 ) -> Result<(), StacksError>
     requires { IsInOrder 0 mappings.now }
     ensures counted { OnOk result (CountsMore options.frames 1 counts.old counts.new) }
-    ensures taken { OnOk result (IsTaken options.frames options.explain
-        (stack_told options.frames options.sure files.now name.now (head_text name.now (Some sample.entry)) mappings.now (stack_view stack.now))
+    ensures taken { OnOk result (IsTaken options.frames
+        (stack_told options.frames options.sure options.explain files.now name.now (head_text name.now (Some sample.entry)) mappings.now (stack_view stack.now) notes.now)
         counts.old counts.new (W.contents out.old) (W.contents out.new)) }
     ensures refused { (samples : ℕ) → AreCounted options.frames samples counts.old
         → IfErr result (MayEnd options.frames None 0 (samples + 1)) }
@@ -159,12 +161,13 @@ fn take_refused<W: Write>(
     name: &[u8],
     sample: Option<Sample<'_>>,
     why: &str,
+    notes: &[Note],
     options: Options,
     out: &mut W,
 ) -> Result<(), StacksError>
     ensures counted { OnOk result (CountsMore options.frames 1 counts.old counts.new) }
-    ensures taken { OnOk result ((files : Files) (mappings : List Mapping) → IsTaken options.frames options.explain
-        (stack_told options.frames options.sure files name.now (head_text name.now sample.entry) mappings (no_stack why.now))
+    ensures taken { OnOk result ((files : Files) (mappings : List Mapping) → IsTaken options.frames
+        (stack_told options.frames options.sure options.explain files name.now (head_text name.now sample.entry) mappings (no_stack why.now) notes.now)
         counts.old counts.new (W.contents out.old) (W.contents out.new)) }
     ensures refused { (samples : ℕ) → AreCounted options.frames samples counts.old
         → IfErr result (MayEnd options.frames None 0 (samples + 1)) }
@@ -179,7 +182,7 @@ fn take_refused<W: Write>(
             head.as_slice(),
             block.as_slice(),
             options.explain,
-            &[],
+            notes,
             out,
         )?;
     } else {
@@ -191,17 +194,17 @@ fn take_refused<W: Write>(
 /// Returns a note for each line of the block of a sample, where it is to be explained, and else none.
 fn notes_of<U: Sampled>(
     alloc: Global,
-    process: &Process<U>,
-    mask: u64,
-    user: UserStack<'_>,
+    unwinder: &U,
+    start: Option<Start<U::UnwindRegs>>,
+    copied: &[u8],
     walked: &Option<Stack<U::UnwindRegs>>,
     options: Options,
 ) -> Result<Vec<Note>, AllocError>
-    ensures { IfOk result (λ notes. length notes.items
-        ≡ (if options.frames && options.explain then line_count (option_stack_view walked.now) else 0)) }
+    ensures { IfOk result (λ notes. NotedIf (options.frames && options.explain)
+        (AreStackNotes (U.is_note (U.unwinder_view unwinder.now).modules (copied_memory copied.now start)) (option_noted walked.now)) notes.items) }
 {
     if options.frames && options.explain {
-        return sample_notes(alloc, process, mask, user, walked);
+        return sample_notes(alloc, unwinder, start, copied, walked);
     }
     Ok(Vec::new(alloc))
 }
@@ -248,8 +251,8 @@ where
         ensures processes { self.new.processes ≡ self.old.processes }
         ensures names { self.new.names ≡ self.old.names }
         ensures cache { self.new.cache ≡ self.old.cache }
-        ensures taken { OnOk result (IsTaken options.frames options.explain
-            (stack_told options.frames options.sure files.now (named_in self.old.names sample.entry.tid) (head_text (named_in self.old.names sample.entry.tid) (Some sample.entry)) (mapped_in self.old.processes.by_pid sample.entry.pid) (option_stack_view walked.now))
+        ensures taken { OnOk result (IsTaken options.frames
+            (stack_told options.frames options.sure options.explain files.now (named_in self.old.names sample.entry.tid) (head_text (named_in self.old.names sample.entry.tid) (Some sample.entry)) (mapped_in self.old.processes.by_pid sample.entry.pid) (option_stack_view walked.now) notes.now)
             self.old.counts self.new.counts (W.contents out.old) (W.contents out.new)) }
         ensures refused { (samples : ℕ) → AreCounted options.frames samples self.old.counts
             → IfErr result (MayEnd options.frames None 0 (samples + 1)) }
@@ -277,6 +280,7 @@ where
                 name,
                 Some(sample),
                 "no-registers",
+                notes,
                 options,
                 out,
             )?,
@@ -304,24 +308,32 @@ where
         ensures names { self.new.names ≡ self.old.names }
         ensures told { OnOk result ((module_of : Mapping → ModuleView)
             → IsServed module_of (λ view. U.is_sound view self.old.cache) self.old.processes.by_pid self.old.processes.generations
-            → (stack : StackView) × IsUserStack U.walker U.starts options.limit files.now (mapped_in self.old.processes.by_pid sample.entry.pid) (map module_of (mapped_in self.old.processes.by_pid sample.entry.pid)) mask (Ok (user_view user.entry)) stack
-            × IsTaken options.frames options.explain (stack_told options.frames options.sure files.now (named_in self.old.names sample.entry.tid) (head_text (named_in self.old.names sample.entry.tid) (Some sample.entry)) (mapped_in self.old.processes.by_pid sample.entry.pid) stack)
-            self.old.counts self.new.counts (W.contents out.old) (W.contents out.new)) }
+            → (stack : StackView) × ((notes : List (List ℕ)) × IsUserStack U.walker U.is_note U.starts (options.frames && options.explain) options.limit files.now (mapped_in self.old.processes.by_pid sample.entry.pid) (map module_of (mapped_in self.old.processes.by_pid sample.entry.pid)) mask (Ok (user_view user.entry)) stack notes
+            × IsTaken options.frames (stack_told options.frames options.sure options.explain files.now (named_in self.old.names sample.entry.tid) (head_text (named_in self.old.names sample.entry.tid) (Some sample.entry)) (mapped_in self.old.processes.by_pid sample.entry.pid) stack notes)
+            self.old.counts self.new.counts (W.contents out.old) (W.contents out.new))) }
         ensures refused { (samples : ℕ) → AreCounted options.frames samples self.old.counts
             → IfErr result (MayEnd options.frames None 0 (samples + 1)) }
     {
         let process = self.processes.known(sample.pid);
+        let start = U::start(process.greatest_end(), mask, user.registers);
         let walked = walk_sample(
             alloc,
             files,
             process,
             &mut self.unwind_context,
             &mut self.cache,
-            mask,
-            user,
+            start,
+            user.stack,
             options.limit,
         )?;
-        let notes = notes_of(alloc, process, mask, user, &walked, options)?;
+        let notes = notes_of(
+            alloc,
+            process.unwinder(),
+            start,
+            user.stack,
+            &walked,
+            options,
+        )?;
         self.take_walked(
             alloc,
             files,
@@ -352,8 +364,8 @@ where
         ensures mapped { OnOk result ((pid : ℕ) → mapped_in self.new.processes.by_pid pid ≡ mapped_in self.old.processes.by_pid pid) }
         ensures told { OnOk result ((module_of : Mapping → ModuleView)
             → IsServed module_of (λ view. U.is_sound view self.old.cache) self.old.processes.by_pid self.old.processes.generations
-            → (told : Told) × IsToldAt module_of U.walker U.starts options.frames options.sure options.limit files.now (state_in self.old.names self.old.processes.by_pid) (Ok (sample_view sample.entry, mask)) told
-            × IsTaken options.frames options.explain told self.old.counts self.new.counts (W.contents out.old) (W.contents out.new)) }
+            → (told : Told) × IsToldAt module_of U.walker U.is_note U.starts options.frames options.sure options.explain options.limit files.now (state_in self.old.names self.old.processes.by_pid) (Ok (sample_view sample.entry, mask)) told
+            × IsTaken options.frames told self.old.counts self.new.counts (W.contents out.old) (W.contents out.new)) }
         ensures drawn { self.new.processes.generations ≤ self.old.processes.generations + 1 }
         ensures refused { (samples : ℕ) → AreCounted options.frames samples self.old.counts
             → IfErr result (MayEnd options.frames None (self.old.processes.generations + 1) (samples + 1)) }
@@ -367,6 +379,7 @@ where
                     self.names.get(sample.tid),
                     Some(sample),
                     refusal_name(error),
+                    &[],
                     options,
                     out,
                 )?;
@@ -396,8 +409,8 @@ where
         ensures mapped { OnOk result ((pid : ℕ) → mapped_in self.new.processes.by_pid pid ≡ mapped_in self.old.processes.by_pid pid) }
         ensures told { OnOk result ((module_of : Mapping → ModuleView)
             → IsServed module_of (λ view. U.is_sound view self.old.cache) self.old.processes.by_pid self.old.processes.generations
-            → (told : Told) × IsToldAt module_of U.walker U.starts options.frames options.sure options.limit files.now (state_in self.old.names self.old.processes.by_pid) (sample_in (map attribute_view events.now.attributes.items) (record_view «record».entry)) told
-            × IsTaken options.frames options.explain told self.old.counts self.new.counts (W.contents out.old) (W.contents out.new)) }
+            → (told : Told) × IsToldAt module_of U.walker U.is_note U.starts options.frames options.sure options.explain options.limit files.now (state_in self.old.names self.old.processes.by_pid) (sample_in (map attribute_view events.now.attributes.items) (record_view «record».entry)) told
+            × IsTaken options.frames told self.old.counts self.new.counts (W.contents out.old) (W.contents out.new)) }
         ensures drawn { self.new.processes.generations ≤ self.old.processes.generations + 1 }
         ensures refused { (samples : ℕ) → AreCounted options.frames samples self.old.counts
             → IfErr result (MayEnd options.frames None (self.old.processes.generations + 1) (samples + 1)) }
@@ -411,6 +424,7 @@ where
                     b"[unknown]",
                     None,
                     refusal_name(error),
+                    &[],
                     options,
                     out,
                 )?;
@@ -459,9 +473,9 @@ where
         ensures state { OnOk result (Agrees self.new.names self.new.processes.by_pid
             (state_after files.now (record_view «record».entry) (state_in self.old.names self.old.processes.by_pid))) }
         ensures sample { «record».entry.kind ≡ PERF_RECORD_SAMPLE → OnOk result ((told : Told)
-            × IsToldOf (M.module_of maker.now) U.walker U.starts options.frames options.sure options.limit files.now (map attribute_view events.now.attributes.items)
+            × IsToldOf (M.module_of maker.now) U.walker U.is_note U.starts options.frames options.sure options.explain options.limit files.now (map attribute_view events.now.attributes.items)
             (record_view «record».entry, state_in self.old.names self.old.processes.by_pid) told
-            × IsTaken options.frames options.explain told self.old.counts self.new.counts (W.contents out.old) (W.contents out.new)) }
+            × IsTaken options.frames told self.old.counts self.new.counts (W.contents out.old) (W.contents out.new)) }
         ensures other { «record».entry.kind ≢ PERF_RECORD_SAMPLE → HasSameSamples self.old.counts self.new.counts × (out.new ≡ out.old) }
         ensures lost { OnOk result (self.new.counts.lost ≡ lost_after (record_view «record».entry) self.old.counts.lost) }
         ensures lost_before { (refusal : RecordingError) → refusal_in (record_view «record».entry) ≡ Some refusal → self.new.counts.lost ≡ self.old.counts.lost }
@@ -505,9 +519,9 @@ where
         ensures state { (state : State) → Agrees self.old.names self.old.processes.by_pid state → OnOk result
             (Agrees self.new.names self.new.processes.by_pid (state_over files.now (records_in recording.now.records.items) state)) }
         ensures told { (state : State) → Agrees self.old.names self.old.processes.by_pid state → OnOk result ((samples : List Told)
-            × Each (IsToldOf (M.module_of maker.now) U.walker U.starts options.frames options.sure options.limit files.now (map attribute_view recording.now.events.attributes.items))
+            × Each (IsToldOf (M.module_of maker.now) U.walker U.is_note U.starts options.frames options.sure options.explain options.limit files.now (map attribute_view recording.now.events.attributes.items))
             (samples_from files.now state (records_in recording.now.records.items)) samples
-            × AreTaken options.frames options.explain samples self.old.counts self.new.counts (W.contents out.old) (W.contents out.new)) }
+            × AreTaken options.frames samples self.old.counts self.new.counts (W.contents out.old) (W.contents out.new)) }
         ensures read { OnOk result (first_refusal (records_in recording.now.records.items) ≡ None) }
         ensures refused { (state : State) → Agrees self.old.names self.old.processes.by_pid state → IfErr result (MayEnd options.frames
             (first_refusal (records_in recording.now.records.items))
@@ -518,9 +532,9 @@ where
             → self.new.counts.lost ≡ lost_over (before_refusal (records_in recording.now.records.items)) self.old.counts.lost }
         ensures before { (state : State) → Agrees self.old.names self.old.processes.by_pid state
             → (refusal : RecordingError) → result ≡ Err (RecordingRefused refusal) → (samples : List Told)
-            × Each (IsToldOf (M.module_of maker.now) U.walker U.starts options.frames options.sure options.limit files.now (map attribute_view recording.now.events.attributes.items))
+            × Each (IsToldOf (M.module_of maker.now) U.walker U.is_note U.starts options.frames options.sure options.explain options.limit files.now (map attribute_view recording.now.events.attributes.items))
             (samples_from files.now state (before_refusal (records_in recording.now.records.items))) samples
-            × AreTaken options.frames options.explain samples self.old.counts self.new.counts (W.contents out.old) (W.contents out.new) }
+            × AreTaken options.frames samples self.old.counts self.new.counts (W.contents out.old) (W.contents out.new) }
     {
         for timed in &recording.records {
             self.take_record(

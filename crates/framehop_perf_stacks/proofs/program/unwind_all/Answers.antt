@@ -29,7 +29,7 @@ returns-clause-made g c = elim c.match-and.branch [
         (
           told.0,
           told.1,
-          made c.args.options.frames c.args.options.explain (texts_of told.0) c.in_ok-run.run'.counts.stacks
+          made c.args.options.frames told.0 c.in_ok-run.run'.counts.stacks
               c.take_records-taken.new.self.counts.stacks (g.W.Write.contents c.args.out.now)
               (g.W.Write.contents c.take_records-taken.new.out) told.2.1 c.in_ok-run.ensures.uncounted,
           (
@@ -70,7 +70,7 @@ returns-clause-before g c = elim c.match-and.branch [
       let told = c.take_records-taken.ensures.before beginning c.in_ok-run.ensures.begun refusal taken in (
         told.0,
         told.1,
-        made c.args.options.frames c.args.options.explain (texts_of told.0) c.in_ok-run.run'.counts.stacks
+        made c.args.options.frames told.0 c.in_ok-run.run'.counts.stacks
             c.take_records-taken.new.self.counts.stacks (g.W.Write.contents c.args.out.now)
             (g.W.Write.contents c.take_records-taken.new.out) told.2.1 c.in_ok-run.ensures.uncounted,
         (

@@ -32,7 +32,7 @@ loop-timed-init g c = (
     draws = omega arith;
     loses = refl;
     each = tt;
-    taken = AreTaken-none c.args.options.frames c.args.options.explain c.args.self.now.counts (g.W.Write.contents c.args.out.now);
+    taken = AreTaken-none c.args.options.frames c.args.self.now.counts (g.W.Write.contents c.args.out.now);
   },
 )
 
@@ -42,7 +42,7 @@ loop-timed-preserved g c =
     let records = c.args.recording.now.records.items in
     let attributes = map attribute_view c.args.recording.now.events.attributes.items in
     let module_of = g.M.ModuleMaker.module_of c.args.maker.now in
-    let text = text-same module_of g.U.Steps.walker g.U.Sampled.starts c.args.options.frames c.args.options.sure c.args.options.limit c.args.files.now in
+    let text = text-same module_of g.U.Steps.walker g.U.Steps.is_note g.U.Sampled.starts c.args.options.frames c.args.options.sure c.args.options.explain c.args.options.limit c.args.files.now in
     let after = c.in_ok-take_record.ensures in
     let items = c.deref-timed-items.result.now in
     let same = c.deref-timed-items.ensures.value in
@@ -55,17 +55,17 @@ loop-timed-preserved g c =
           let so = l.invariant.2 first agrees in
           let left = records-left items records same l.timed-index _ within in
           step c.args.files.now
-          (IsToldOf module_of g.U.Steps.walker g.U.Sampled.starts c.args.options.frames c.args.options.sure c.args.options.limit c.args.files.now attributes)
+          (IsToldOf module_of g.U.Steps.walker g.U.Steps.is_note g.U.Sampled.starts c.args.options.frames c.args.options.sure c.args.options.explain c.args.options.limit c.args.files.now attributes)
           (λ r state other named mapped. text state other named mapped (sample_in attributes r))
-          c.args.options.frames c.args.options.explain (records_in records) first c.args.self.now.counts (g.W.Write.contents c.args.out.now)
+          c.args.options.frames (records_in records) first c.args.self.now.counts (g.W.Write.contents c.args.out.now)
           c.args.self.now.processes.generations
           _ (records_in (drop (l.timed-index + 1) records)) l.self.names c.take_record.new.self.names
           l.self.processes.by_pid c.take_record.new.self.processes.by_pid l.self.counts c.take_record.new.self.counts
           (g.W.Write.contents l.out) (g.W.Write.contents c.take_record.new.out)
           l.self.processes.generations c.take_record.new.self.processes.generations
           (subst (λ rest. IsSoFar c.args.files.now
-          (IsToldOf module_of g.U.Steps.walker g.U.Sampled.starts c.args.options.frames c.args.options.sure c.args.options.limit c.args.files.now attributes)
-          c.args.options.frames c.args.options.explain (records_in records) first c.args.self.now.counts (g.W.Write.contents c.args.out.now)
+          (IsToldOf module_of g.U.Steps.walker g.U.Steps.is_note g.U.Sampled.starts c.args.options.frames c.args.options.sure c.args.options.explain c.args.options.limit c.args.files.now attributes)
+          c.args.options.frames (records_in records) first c.args.self.now.counts (g.W.Write.contents c.args.out.now)
           c.args.self.now.processes.generations rest
           l.self.names l.self.processes.by_pid l.self.counts (g.W.Write.contents l.out) l.self.processes.generations) left so)
           after.read after.drawn after.state after.sample
@@ -92,8 +92,8 @@ returns-clause-told g c = λ first agrees.
     let all : so.told ≡ samples_from files first (records_in records) =
     sym (append-nil so.told) ∙ ap (λ rest. so.told ++ rest) (sym none) ∙ so.samples in (
       so.texts,
-      subst (λ told. Each (IsToldOf (g.M.ModuleMaker.module_of c.args.maker.now) g.U.Steps.walker g.U.Sampled.starts
-          c.args.options.frames c.args.options.sure c.args.options.limit files (map attribute_view c.args.recording.now.events.attributes.items)) told so.texts) all so.each,
+      subst (λ told. Each (IsToldOf (g.M.ModuleMaker.module_of c.args.maker.now) g.U.Steps.walker g.U.Steps.is_note g.U.Sampled.starts
+          c.args.options.frames c.args.options.sure c.args.options.explain c.args.options.limit files (map attribute_view c.args.recording.now.events.attributes.items)) told so.texts) all so.each,
       so.taken,
     )
 
@@ -116,8 +116,8 @@ returns-in_err-take_record-clause-before g c = λ first agrees refusal is.
     let files = c.args.files.now in
     let frames = c.args.options.frames in
     let records = c.args.recording.now.records.items in
-    let IsText = IsToldOf (g.M.ModuleMaker.module_of c.args.maker.now) g.U.Steps.walker g.U.Sampled.starts
-    frames c.args.options.sure c.args.options.limit files (map attribute_view c.args.recording.now.events.attributes.items) in
+    let IsText = IsToldOf (g.M.ModuleMaker.module_of c.args.maker.now) g.U.Steps.walker g.U.Steps.is_note g.U.Sampled.starts
+    frames c.args.options.sure c.args.options.explain c.args.options.limit files (map attribute_view c.args.recording.now.events.attributes.items) in
     let items = c.deref-timed-items.result.now in
     let same = c.deref-timed-items.ensures.value in
     let within : l.timed-index < length items = omega arith in
@@ -127,15 +127,15 @@ returns-in_err-take_record-clause-before g c = λ first agrees refusal is.
     let ends = c.in_err-take_record.ensures.refused (count_by is_sample (take l.timed-index records)) l.invariant.1 in
     let here = subst (MayEnd frames _ _ _) ended ends in
     let kept = c.in_err-take_record.ensures.other (λ kind. true≢false (sym (ap is_some here) ∙ ap is_some (sample-unrefused _ kind))) in
-    let so = subst (λ rest. IsSoFar files IsText frames c.args.options.explain (records_in records) first c.args.self.now.counts
+    let so = subst (λ rest. IsSoFar files IsText frames (records_in records) first c.args.self.now.counts
     (g.W.Write.contents c.args.out.now) c.args.self.now.processes.generations rest l.self.names l.self.processes.by_pid l.self.counts
     (g.W.Write.contents l.out) l.self.processes.generations) left (l.invariant.2 first agrees) in
-    let told = told-before files IsText frames c.args.options.explain (records_in records) first c.args.self.now.counts
+    let told = told-before files IsText frames (records_in records) first c.args.self.now.counts
     (g.W.Write.contents c.args.out.now) c.args.self.now.processes.generations _ rest l.self.names l.self.processes.by_pid l.self.counts
     (g.W.Write.contents l.out) l.self.processes.generations so refusal here in (
       so.texts,
       subst (λ told. Each IsText told so.texts) told so.each,
-      AreTaken-same frames c.args.options.explain so.texts c.args.self.now.counts l.self.counts c.take_record.new.self.counts
+      AreTaken-same frames so.texts c.args.self.now.counts l.self.counts c.take_record.new.self.counts
           (g.W.Write.contents c.args.out.now) (g.W.Write.contents l.out) (g.W.Write.contents c.take_record.new.out) so.taken
           kept.0 (ap (λ out. g.W.Write.contents out) kept.1),
     )
@@ -157,8 +157,8 @@ returns-in_err-take_record-clause-lost_before g c = λ refusal is.
     let frames = c.args.options.frames in
     let records = c.args.recording.now.records.items in
     let begun = state_in c.args.self.now.names c.args.self.now.processes.by_pid in
-    let IsText = IsToldOf (g.M.ModuleMaker.module_of c.args.maker.now) g.U.Steps.walker g.U.Sampled.starts
-    frames c.args.options.sure c.args.options.limit files (map attribute_view c.args.recording.now.events.attributes.items) in
+    let IsText = IsToldOf (g.M.ModuleMaker.module_of c.args.maker.now) g.U.Steps.walker g.U.Steps.is_note g.U.Sampled.starts
+    frames c.args.options.sure c.args.options.explain c.args.options.limit files (map attribute_view c.args.recording.now.events.attributes.items) in
     let items = c.deref-timed-items.result.now in
     let within : l.timed-index < length items = omega arith in
     let left = records-left items records c.deref-timed-items.ensures.value l.timed-index _ within in
@@ -166,11 +166,11 @@ returns-in_err-take_record-clause-lost_before g c = λ refusal is.
     let ended = same-refusal c.from_residual.result c.in_err-take_record.field-0.0 refusal c.from_residual.ensures.1 is in
     let ends = c.in_err-take_record.ensures.refused (count_by is_sample (take l.timed-index records)) l.invariant.1 in
     let here = subst (MayEnd frames _ _ _) ended ends in
-    let so = subst (λ rest. IsSoFar files IsText frames c.args.options.explain (records_in records) begun c.args.self.now.counts
+    let so = subst (λ rest. IsSoFar files IsText frames (records_in records) begun c.args.self.now.counts
     (g.W.Write.contents c.args.out.now) c.args.self.now.processes.generations rest l.self.names l.self.processes.by_pid l.self.counts
     (g.W.Write.contents l.out) l.self.processes.generations) left (l.invariant.2 begun (record { named = λ tid. refl; mapped = λ pid. refl })) in
     c.in_err-take_record.ensures.lost_before refusal here
-    ∙ loses-before files IsText frames c.args.options.explain (records_in records) begun c.args.self.now.counts
+    ∙ loses-before files IsText frames (records_in records) begun c.args.self.now.counts
     (g.W.Write.contents c.args.out.now) c.args.self.now.processes.generations _ rest l.self.names l.self.processes.by_pid l.self.counts
     (g.W.Write.contents l.out) l.self.processes.generations so refusal here
 
@@ -180,23 +180,23 @@ returns-in_err-take_record-clause-refused g c = λ first agrees.
     let files = c.args.files.now in
     let frames = c.args.options.frames in
     let records = c.args.recording.now.records.items in
-    let IsText = IsToldOf (g.M.ModuleMaker.module_of c.args.maker.now) g.U.Steps.walker g.U.Sampled.starts
-    frames c.args.options.sure c.args.options.limit files (map attribute_view c.args.recording.now.events.attributes.items) in
+    let IsText = IsToldOf (g.M.ModuleMaker.module_of c.args.maker.now) g.U.Steps.walker g.U.Steps.is_note g.U.Sampled.starts
+    frames c.args.options.sure c.args.options.explain c.args.options.limit files (map attribute_view c.args.recording.now.events.attributes.items) in
     let items = c.deref-timed-items.result.now in
     let same = c.deref-timed-items.ensures.value in
     let within : l.timed-index < length items = omega arith in
     let left = records-left items records same l.timed-index _ within in
     let rest = records_in (drop (l.timed-index + 1) records) in
     let ends = c.in_err-take_record.ensures.refused (count_by is_sample (take l.timed-index records)) l.invariant.1 in
-    let so = subst (λ rest. IsSoFar files IsText frames c.args.options.explain (records_in records) first c.args.self.now.counts
+    let so = subst (λ rest. IsSoFar files IsText frames (records_in records) first c.args.self.now.counts
     (g.W.Write.contents c.args.out.now) c.args.self.now.processes.generations rest l.self.names l.self.processes.by_pid l.self.counts
     (g.W.Write.contents l.out) l.self.processes.generations) left (l.invariant.2 first agrees) in
     failed_as c.from_residual.result c.in_err-take_record.field-0.0 _ c.from_residual.ensures.1
     (ends_more frames frames _ _ _ _ _ _ c.in_err-take_record.field-0.0 (λ writes. writes)
-    (λ refusal is. refused-here files IsText frames c.args.options.explain (records_in records) first c.args.self.now.counts
+    (λ refusal is. refused-here files IsText frames (records_in records) first c.args.self.now.counts
     (g.W.Write.contents c.args.out.now) c.args.self.now.processes.generations _ rest l.self.names l.self.processes.by_pid l.self.counts
     (g.W.Write.contents l.out) l.self.processes.generations so refusal is)
-    (draws-here files IsText frames c.args.options.explain (records_in records) first c.args.self.now.counts
+    (draws-here files IsText frames (records_in records) first c.args.self.now.counts
     (g.W.Write.contents c.args.out.now) c.args.self.now.processes.generations _ rest l.self.names l.self.processes.by_pid l.self.counts
     (g.W.Write.contents l.out) l.self.processes.generations so)
     (samples-within items records same l.timed-index _ within) ends)
