@@ -50,7 +50,7 @@ said() {
 # The recordings that no machine made, and what is printed of the large ones.
 made=$work/made
 mkdir "$made" || exit 1
-for case in cut short_comm short_fork lost files lines long; do
+for case in cut short_comm short_fork lost files lines long build_ids; do
     python3 "$checks/stacks/made_up_recording.py" "$made/$case.data" "$case" || exit 1
 done
 python3 - "$work" <<'END' || exit 1
@@ -68,6 +68,8 @@ name = "x" * 60000
 cut = name[:2048] + "..."
 work.joinpath("long.folded").write_text(f"app;[frame-pointer-0];{cut}+0x1203;{cut}+0x1124 1\n")
 work.joinpath("long.errors").write_text(f"/srv/{name[:2043]}...: can't be read\n" + counted.format(1, 1))
+work.joinpath("build_ids.folded").write_text("app;[frame-pointer-0];app+0x1203;app+0x1124 1\n")
+work.joinpath("build_ids.errors").write_text("/srv/app: can't be read\n" + counted.format(1, 1))
 work.joinpath("lines.errors").write_text("/srv/app: can't be read\n" + counted.format(70000, 0))
 END
 python3 "$checks/stacks/summary.py" "$checks/stacks/tiny.frames" >"$work/tiny.summary" || exit 1
@@ -107,7 +109,8 @@ for program in "$@"; do
     try 1 "$work/nothing" any srv/tiny
     try 1 "$work/nothing" "$(said "$work/short: not a recording of perf: offset 0")" "$work/short"
     try 1 "$checks/stacks/tiny.limit" any --root . --limit 3 missing.data tiny.data
-    # what no machine recorded: a record that is cut off or ends early, lost records, more files and lines than a round number
+    # what no machine recorded: a record that is cut off or ends early, lost records, more files and lines than a round number,
+    # build ids that can't be read
     try_in "$made" 1 "$checks/stacks/cut.folded" "$checks/stacks/cut.errors" --root . cut.data
     try_in "$made" 1 "$checks/stacks/short.folded" "$checks/stacks/short_comm.errors" --root . short_comm.data
     try_in "$made" 1 "$checks/stacks/short.folded" "$checks/stacks/short_fork.errors" --root . short_fork.data
@@ -115,6 +118,7 @@ for program in "$@"; do
     try_in "$made" 0 "$work/files.folded" "$work/files.errors" --root . files.data
     try_in "$made" 0 "$work/lines.folded" "$work/lines.errors" --root . lines.data
     try_in "$made" 0 "$work/long.folded" "$work/long.errors" --root . long.data
+    try_in "$made" 0 "$work/build_ids.folded" "$work/build_ids.errors" --root . build_ids.data
 done
 [ "$failed" = 0 ] || exit 1
 echo "the runs of framehop-stacks with arguments are as they should be"

@@ -12,6 +12,7 @@ order of their times. The cases, whose output `checks/try_stacks.sh` has:
     files       a mapping of each of 1,100 files, and a sample in the last
     lines       70,000 samples, each with a stack of its own
     long        a file with a name of 60,000 letters, which is twice in the stack of a sample
+    build_ids   a section of build ids in which a record ends before it begins, so that none can be read
 
 Layout: Linux, include/uapi/linux/perf_event.h, and tools/perf/Documentation/perf.data-file-format.txt.
 """
@@ -24,6 +25,7 @@ IN_USER_SPACE, EXEC = 2, 0x2000
 IP_TID_TIME_REGS_STACK, TIME = 0x3007, 4
 AARCH64_REGISTERS = 0x1_FFFF_FFFF
 SAMPLE_ID_ALL = 1 << 18
+BUILD_IDS = 1 << 2
 STACK = 0x7000_0000
 
 
@@ -146,10 +148,14 @@ def long():
     return [comm(100, "app", 1), mapping(100, 0x10000, 0x3000, 0x1000, "/srv/" + "x" * 60000, 2), sample(100, 10, 0x10124, whole)]
 
 
-CASES = {"short_comm": short_comm, "short_fork": short_fork, "lost": lost_twice, "files": files, "lines": lines, "long": long}
+def unread_build_ids():
+    return app() + [sample(100, 10, 0x10124, [(STACK + 16, 0x10204), (0, 0x10300)])]
 
 
-def recording(body, is_timed=True):
+CASES = {"short_comm": short_comm, "short_fork": short_fork, "lost": lost_twice, "files": files, "lines": lines, "long": long, "build_ids": unread_build_ids}
+
+
+def recording(body, is_timed=True, has_build_ids=False):
     attributes_at = 104
     fields = IP_TID_TIME_REGS_STACK if is_timed else IP_TID_TIME_REGS_STACK & ~TIME
     attribute = struct.pack("<IIQQQQQ", 1, 128, 0, 1000, fields, 0, SAMPLE_ID_ALL if is_timed else 0)
@@ -157,14 +163,17 @@ def recording(body, is_timed=True):
     assert len(attribute) == 128
     records_at = attributes_at + len(attribute) + 16
     header = b"PERFILE2" + struct.pack("<QQ", 104, 144)
-    header += struct.pack("<QQQQQQ", attributes_at, 144, records_at, len(body), 0, 0) + bytes(32)
-    return header + attribute + struct.pack("<QQ", records_at, 0) + body
+    header += struct.pack("<QQQQQQ", attributes_at, 144, records_at, len(body), 0, 0)
+    header += struct.pack("<Q", BUILD_IDS if has_build_ids else 0) + bytes(24)
+    whole = header + attribute + struct.pack("<QQ", records_at, 0) + body
+    # the section of build ids is one record, whose size says that it has no header
+    return whole + struct.pack("<QQIHH", len(whole) + 16, 8, 0, 0, 0) if has_build_ids else whole
 
 
 def main():
     case = sys.argv[2] if len(sys.argv) > 2 else ""
     made = CASES.get(case, records)()
-    whole = recording(b"".join(made), is_timed=case != "short_comm")
+    whole = recording(b"".join(made), is_timed=case != "short_comm", has_build_ids=case == "build_ids")
     with open(sys.argv[1], "wb") as file:
         file.write(whole[: -len(made[-1]) // 2] if case == "cut" else whole)
 

@@ -1,5 +1,5 @@
 -- What a walk keeps of the processes.
-use Rattle.std.proofs.Common.{◌≡◌, ℕ, ◌<◌, ◌≤◌, Option, Some, None, IfSome, arith, [], map, ap, sym, ◌∙◌}
+use Rattle.std.proofs.Common.{◌≡◌, ◌⊎◌, inl, inr, ℕ, ◌<◌, ◌≤◌, Bool, true, false, cond, Option, Some, None, IfSome, arith, [], map, ap, sym, ◌∙◌}
 use Rattle.std.specs.Prelude.{unwrap_or, option_map}
 use Rattle.std.specs.BTreeMap.{BTreeMap, get}
 use Rattle.std.specs.Ordering.{nat_cmp}
@@ -58,3 +58,39 @@ module _ (module_of : Mapping → ModuleView) (old new : UnwinderView → Type 0
   pub served-after : (pid : ℕ) → get nat_cmp processes pid ≡ Some process → IsServed module_of old processes next
       → IsServed module_of new processes next
   served-after pid here served = after-walk (rw here at (served.each pid)) served
+
+-- ---- where a process is taken out
+
+if-fewer : (P : ProcessView → Type 0) (found other : Option ProcessView) → (other ≡ None) ⊎ (other ≡ found) → IfSome found P → IfSome other P
+if-fewer P found other (inl none) holds = rw none tt
+if-fewer P found other (inr same) holds = rw same holds
+
+weaker-some : (P Q : ProcessView → Type 0) → ((process : ProcessView) → P process → Q process) → (found : Option ProcessView)
+    → IfSome found P → IfSome found Q
+weaker-some P Q weaker (Some process) holds = weaker process holds
+weaker-some P Q weaker None holds = holds
+
+-- each is there as it was, or not any more
+abbrev pub AreFewer : BTreeMap ℕ ProcessView → BTreeMap ℕ ProcessView → Type 0
+AreFewer old new = (pid : ℕ) → (get nat_cmp new pid ≡ None) ⊎ (get nat_cmp new pid ≡ get nat_cmp old pid)
+
+pub without-one : (test : Bool) (found other : Option ProcessView) → other ≡ cond test None found → (other ≡ None) ⊎ (other ≡ found)
+without-one true found other is = inl is
+without-one false found other is = inr is
+
+module _ (module_of : Mapping → ModuleView) (is_sound : UnwinderView → Type 0) (old new : BTreeMap ℕ ProcessView) (next : ℕ)
+    (fewer : AreFewer old new) where
+  pub fit-fewer : (process : ProcessView) → IsFit module_of is_sound old next process → IsFit module_of is_sound new next process
+  fit-fewer process fit = record {
+    modules = fit.modules;
+    drawn = fit.drawn;
+    sound = fit.sound;
+    apart = λ pid. if-fewer (λ other. AreApart process.unwinder other.unwinder) (get nat_cmp old pid) (get nat_cmp new pid) (fewer pid) (fit.apart pid);
+  }
+
+  pub served-fewer : IsServed module_of is_sound old next → IsServed module_of is_sound new next
+  served-fewer served = record {
+    each = λ pid. weaker-some (IsFit module_of is_sound old next) (IsFit module_of is_sound new next) fit-fewer (get nat_cmp new pid)
+        (if-fewer (IsFit module_of is_sound old next) (get nat_cmp old pid) (get nat_cmp new pid) (fewer pid) (served.each pid));
+    later = served.later;
+  }

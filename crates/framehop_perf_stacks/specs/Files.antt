@@ -1,6 +1,9 @@
 -- The files of a recording.
 use Rattle.std.specs.Prelude.{◌≡◌, ℕ, nat_eq, unwrap_or, option_map, List, [], ◌∷◌, Option, Some, None}
-use Rattle.std.specs.Cmp.Lexicographic.{pointwise}
+use Rattle.std.specs.BTreeMap.{BTreeMap, get_by}
+use Rattle.std.specs.Cmp.Lexicographic.{pointwise, slice_cmp}
+use Rattle.std.specs.Ordering.{nat_cmp}
+use denote.Ref.{Bor}
 use Rattle.std.specs.List.{find}
 use Rattle.framehop_recording.specs.BuildIds.{FileBuildIdView}
 use Rattle.framehop_recording.specs.Mapping.{MappingView}
@@ -14,6 +17,15 @@ use Rattle.framehop_perf_stacks.specs.Changes.{code_mapping_in}
 abbrev pub build_id_for : List FileBuildIdView → List ℕ → List ℕ
 build_id_for build_ids name =
     unwrap_or (option_map (λ b. b.build_id) (find (λ b. pointwise nat_eq b.name name) build_ids)) []
+
+-- the build id that a map has by the name of a file, or no bytes
+abbrev pub build_id_in : BTreeMap (Bor (List ℕ)) (Bor (List ℕ)) → List ℕ → List ℕ
+build_id_in by_name name =
+    unwrap_or (option_map (λ b. b.now) (get_by (λ key. slice_cmp nat_cmp name key.now) by_name)) []
+
+-- it has of each name what the recording has
+abbrev pub HasBuildIds : List FileBuildIdView → BTreeMap (Bor (List ℕ)) (Bor (List ℕ)) → Type 0
+HasBuildIds build_ids by_name = (name : List ℕ) → build_id_in by_name name ≡ build_id_for build_ids name
 
 -- the build id that the file of a mapping must have: its own, or else the recording's
 abbrev pub wanted_by : List FileBuildIdView → List ℕ → List ℕ → List ℕ

@@ -10,4 +10,5 @@ pub mod Counts
 pub mod Run
 pub mod Recording
 pub mod Samples
+pub mod Problems
 pub mod Printed

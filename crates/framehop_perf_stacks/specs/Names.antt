@@ -16,7 +16,7 @@ abbrev pub Named : Type 0
 Named = ℕ → List ℕ
 
 abbrev pub named_in : Names → Named
-named_in names tid = option_map_or (λ name. name.items) (get nat_cmp names.by_tid tid) (codes "[unknown]")
+named_in names tid = option_map_or (λ name. name.value.items) (get nat_cmp names.by_tid tid) (codes "[unknown]")
 
 -- that of one thread is another
 abbrev pub with_name : ℕ → List ℕ → Named → Named

@@ -8,6 +8,7 @@ use Rattle.framehop_frames.specs.Walker.{x86_64_walker, aarch64_walker}
 use Rattle.framehop_symbols.specs.Files.{module_at}
 use Rattle.framehop_recording.specs.declared.error.RecordingError.{RecordingError}
 use Rattle.framehop_perf_stacks.specs.Ended.{first_refusal, before_refusal, MayEnd}
+use Rattle.framehop_perf_stacks.specs.Problems.{AreProblems}
 use Rattle.framehop_perf_stacks.specs.Recording.{are_of_aarch64, records_in}
 use Rattle.framehop_perf_stacks.specs.Run.{is_sample}
 use Rattle.framehop_perf_stacks.specs.Samples.{State, beginning, drawn_over, samples_from, Told, Each, IsToldOf, texts_of, IsMade, AreSummed}
@@ -30,6 +31,10 @@ IsToldIn false frames sure limit files attributes =
 abbrev pub AreToldOf : List AttributeView → List RecordView → Files → Bool → Bool → ℕ → List Told → Type 0
 AreToldOf attributes records files frames sure limit samples =
     Each (IsToldIn (are_of_aarch64 attributes) frames sure limit files attributes) (samples_from files beginning records) samples
+
+-- what is said of files of which nothing was read
+abbrev pub AreTold : Files → Option (List ℕ) → Option (List ℕ) → Type 0
+AreTold files before after = (problems : List ℕ) × AreProblems files problems × Appends before after problems
 
 -- what is said of samples is their summary
 abbrev pub IsSaid : List Told → List RecordView → Option (List ℕ) → Option (List ℕ) → Type 0

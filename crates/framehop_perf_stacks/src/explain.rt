@@ -11,6 +11,7 @@ use framehop::walk::StackBytes;
 use framehop_explain::Note;
 use framehop_frames::explain::{note_stack, shown_block};
 use framehop_frames::stack::Stack;
+use framehop_processes::Process;
 use framehop_recording::sample::UserStack;
 use std::alloc::{AllocError, Global};
 use std::io::Write;
@@ -19,7 +20,7 @@ use std::io::Write;
 /// why the walk ended, and nothing of the blank line.
 pub fn sample_notes<U: Sampled>(
     alloc: Global,
-    unwinder: &U,
+    process: &Process<U>,
     mask: u64,
     user: UserStack<'_>,
     walked: &Option<Stack<U::UnwindRegs>>,
@@ -27,7 +28,7 @@ pub fn sample_notes<U: Sampled>(
     ensures { IfOk result (λ notes. length notes.items ≡ line_count (option_stack_view walked.now)) }
 {
     let mut notes = Vec::new(alloc);
-    let base = match unwinder.start(mask, user.registers) {
+    let base = match U::start(process.greatest_end(), mask, user.registers) {
         Some(start) => start.sp,
         None => 0,
     };
@@ -35,7 +36,7 @@ pub fn sample_notes<U: Sampled>(
         base,
         bytes: user.stack,
     };
-    note_stack(alloc, unwinder, &words, walked, &mut notes)?;
+    note_stack(alloc, process.unwinder(), &words, walked, &mut notes)?;
     Ok(notes)
 }
 

@@ -1,9 +1,8 @@
 //! What differs by the architecture of a recording.
-ghost use Rattle.std.specs.Prelude.{ℕ, List, Option};
-ghost use Rattle.framehop.specs.Modules.{ModuleView};
+ghost use Rattle.std.specs.Prelude.{◌≡◌, ℕ, List, Option};
+ghost use Rattle.framehop.specs.Modules.{ModuleView, greatest_end as greatest_end_of};
 ghost use Rattle.framehop_frames.specs.declared.machine.Start.{Start};
 
-use framehop::Unwinder;
 use framehop::aarch64::{UnwindRegsAarch64, UnwinderAarch64};
 use framehop::cache::MayAllocateDuringUnwind;
 use framehop::section::SectionBytes;
@@ -17,9 +16,10 @@ pub trait Sampled: Steps {
     // the registers of a sample, by the modules of its process
     ghost starts: { List ModuleView → ℕ → List ℕ → Option (Start Self.UnwindRegs) → Type 0 };
 
-    /// Returns the registers of a sample, from the mask of those that were recorded and their values.
-    fn start(&self, mask: u64, values: &[u8]) -> Option<Start<Self::UnwindRegs>>
-        ensures { starts (Self.unwinder_view self.now).modules mask values.now result };
+    /// Returns the registers of a sample, by the greatest end of a module of its process (AVMA), from the mask of those
+    /// that were recorded and their values.
+    fn start(greatest_end: u64, mask: u64, values: &[u8]) -> Option<Start<Self::UnwindRegs>>
+        ensures { (modules : List ModuleView) → greatest_end_of modules ≡ greatest_end → starts modules mask values.now result };
 }
 
 impl<D: SectionBytes + Drop> Sampled for UnwinderX86_64<D, MayAllocateDuringUnwind> {
@@ -27,7 +27,7 @@ impl<D: SectionBytes + Drop> Sampled for UnwinderX86_64<D, MayAllocateDuringUnwi
 
     ghost starts = { StartsX86_64 };
 
-    fn start(&self, mask: u64, values: &[u8]) -> Option<Start<UnwindRegsX86_64>> {
+    fn start(_greatest_end: u64, mask: u64, values: &[u8]) -> Option<Start<UnwindRegsX86_64>> {
         let regs = x86_64_registers(mask, values)?;
         Some(Start {
             pc: regs.ip(),
@@ -42,8 +42,8 @@ impl<D: SectionBytes + Drop> Sampled for UnwinderAarch64<D, MayAllocateDuringUnw
 
     ghost starts = { StartsAarch64 };
 
-    fn start(&self, mask: u64, values: &[u8]) -> Option<Start<UnwindRegsAarch64>> {
-        let known = PtrAuthMask::from_max_known_address(self.max_known_code_address());
+    fn start(greatest_end: u64, mask: u64, values: &[u8]) -> Option<Start<UnwindRegsAarch64>> {
+        let known = PtrAuthMask::from_max_known_address(greatest_end);
         let (pc, regs) = aarch64_registers(known, mask, values)?;
         Some(Start {
             pc,

@@ -11,11 +11,13 @@ use framehop_recording::records::Record;
 use framehop_recording::tasks::{read_command, read_task};
 use std::alloc::Global;
 use std::collections::BTreeMap;
+use std::rc::Rc;
 
 /// The names of threads at a time.
 #[derive(Drop)]
 pub struct Names {
-    by_tid: BTreeMap<u32, Vec<u8>>,
+    // a thread shares its name with those that it begins
+    by_tid: BTreeMap<u32, Rc<Vec<u8>>>,
 }
 
 impl Names {
@@ -43,19 +45,26 @@ impl Names {
         ensures named { OnOk result ((thread : ℕ) → named_in self.new thread ≡ with_name tid name.now (named_in self.old) thread) }
         ensures refused { IfErr result (λ error. error ≡ OutOfMemory) }
     {
-        let name = Vec::from_slice(alloc, name)?;
+        let name = Rc::new(alloc, Vec::from_slice(alloc, name)?)?;
         self.by_tid.insert(tid, name)?;
         Ok(())
     }
 
     /// Gives a thread the name of another.
-    fn copy(&mut self, alloc: Global, tid: u32, parent: u32) -> Result<(), StacksError>
+    fn copy(&mut self, tid: u32, parent: u32) -> Result<(), StacksError>
         ensures named { OnOk result ((thread : ℕ) → named_in self.new thread
             ≡ with_name tid (named_in self.old parent) (named_in self.old) thread) }
         ensures refused { IfErr result (λ error. error ≡ OutOfMemory) }
     {
-        let name = Vec::from_slice(alloc, self.get(parent))?;
-        self.by_tid.insert(tid, name)?;
+        match self.by_tid.get(&parent) {
+            Some(name) => {
+                let name = name.clone()?;
+                self.by_tid.insert(tid, name)?;
+            }
+            None => {
+                self.by_tid.remove(&tid);
+            }
+        }
         Ok(())
     }
 
@@ -77,7 +86,7 @@ impl Names {
             }
             FORK => {
                 let task = read_task(record)?;
-                self.copy(alloc, task.tid, task.parent_tid)?;
+                self.copy(task.tid, task.parent_tid)?;
             }
             _ => {}
         }

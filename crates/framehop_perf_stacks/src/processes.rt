@@ -1,5 +1,5 @@
 //! The processes of a recording at a time.
-ghost use Rattle.std.specs.Prelude.{◌≡◌, ◌≤◌, ◌+◌, ◌⊎◌, ℕ, IfOk, IfErr, ◌==◌, if◌then◌else◌, [], Some, None, IsSome, IfSome, OnOk, option_map, option_copied, false};
+ghost use Rattle.std.specs.Prelude.{◌≡◌, ◌≢◌, ◌≤◌, ◌+◌, ◌⊎◌, ℕ, IfOk, IfErr, ◌==◌, if◌then◌else◌, [], Some, None, IsSome, IfSome, OnOk, option_map, option_copied, false};
 ghost use Rattle.std.specs.BTreeMap.{get};
 ghost use Rattle.std.specs.Ordering.{nat_cmp};
 ghost use Rattle.framehop.specs.Modules.{ModuleView, UnwinderView};
@@ -12,6 +12,7 @@ ghost use Rattle.framehop_perf_stacks.specs.declared.error.StacksError.TheVarian
 
 use crate::changes::Change;
 use crate::error::StacksError;
+use crate::shared::SharedProcess;
 use framehop::generations::Generations;
 use framehop_processes::{Mapping, ModuleMaker, Process, ProcessUnwinder};
 use std::alloc::Global;
@@ -20,7 +21,7 @@ use std::collections::BTreeMap;
 /// The processes at a time.
 #[derive(Drop)]
 pub struct Processes<U: ProcessUnwinder> {
-    by_pid: BTreeMap<u32, Process<U>>,
+    by_pid: BTreeMap<u32, SharedProcess<U>>,
     generations: Generations,
 }
 
@@ -52,7 +53,10 @@ impl<U: ProcessUnwinder> Processes<U> {
     pub fn get(&self, pid: u32) -> Option<&Process<U>>
         ensures { option_copied result ≡ get nat_cmp self.now.by_pid pid }
     {
-        self.by_pid.get(&pid)
+        match self.by_pid.get(&pid) {
+            Some(shared) => Some(shared.process()),
+            None => None,
+        }
     }
 
     /// Returns the process of a number that is known.
@@ -61,13 +65,13 @@ impl<U: ProcessUnwinder> Processes<U> {
         ensures { get nat_cmp self.now.by_pid pid ≡ Some result.now }
     {
         match self.by_pid.get(&pid) {
-            Some(process) => process,
+            Some(shared) => shared.process(),
             None => unreachable!(),
         }
     }
 
     /// Stores a process, in the place of the one that has its number.
-    fn put(&mut self, pid: u32, process: Process<U>) -> Result<(), StacksError>
+    fn put(&mut self, pid: u32, process: SharedProcess<U>) -> Result<(), StacksError>
         ensures known { OnOk result (IsSome (get nat_cmp self.new.by_pid pid)) }
         ensures mapped { OnOk result ((number : ℕ) → mapped_in self.new.by_pid number ≡ with_process pid process.mappings (mapped_in self.old.by_pid) number) }
         ensures served { OnOk result ((module_of : Mapping → ModuleView) (cache : U.Cache)
@@ -81,8 +85,8 @@ impl<U: ProcessUnwinder> Processes<U> {
         Ok(())
     }
 
-    /// Returns a copy of a process, or one without mappings where it is not known.
-    fn copy_of(&mut self, alloc: Global, pid: u32) -> Result<Process<U>, StacksError>
+    /// Returns a process that is shared with another number, or one without mappings where it is not known.
+    fn copy_of(&mut self, alloc: Global, pid: u32) -> Result<SharedProcess<U>, StacksError>
         ensures copied { IfOk result (λ process. process.mappings ≡ mapped_in self.old.by_pid pid) }
         ensures kept { self.new.by_pid ≡ self.old.by_pid }
         ensures served { OnOk result ((module_of : Mapping → ModuleView) (cache : U.Cache)
@@ -100,8 +104,27 @@ impl<U: ProcessUnwinder> Processes<U> {
         }
     }
 
+    /// Takes a process out of those that are known, or begins one without mappings where it is not.
+    fn take(&mut self, alloc: Global, pid: u32) -> Result<SharedProcess<U>, StacksError>
+        ensures taken { IfOk result (λ process. process.mappings ≡ mapped_in self.old.by_pid pid) }
+        ensures others { OnOk result ((number : ℕ) → number ≢ pid → get nat_cmp self.new.by_pid number ≡ get nat_cmp self.old.by_pid number) }
+        ensures served { OnOk result ((module_of : Mapping → ModuleView) (cache : U.Cache)
+            → IsServed module_of (λ view. U.is_sound view cache) self.old.by_pid self.old.generations
+            → IsServed module_of (λ view. U.is_sound view cache) self.new.by_pid self.new.generations) }
+        ensures fits { IfOk result (λ process. (module_of : Mapping → ModuleView) (cache : U.Cache)
+            → IsServed module_of (λ view. U.is_sound view cache) self.old.by_pid self.old.generations
+            → IsFit module_of (λ view. U.is_sound view cache) self.new.by_pid self.new.generations process) }
+        ensures drawn { self.new.generations ≤ self.old.generations + 1 }
+        ensures refused { IfErr result (MayEnd false None (self.old.generations + 1) 0) }
+    {
+        match self.by_pid.remove(&pid) {
+            Some(process) => Ok(process),
+            None => self.fresh(alloc),
+        }
+    }
+
     /// Returns a process without mappings, of the next generation.
-    fn fresh(&mut self, alloc: Global) -> Result<Process<U>, StacksError>
+    fn fresh(&mut self, alloc: Global) -> Result<SharedProcess<U>, StacksError>
         ensures empty { IfOk result (λ process. process.mappings ≡ []) }
         ensures kept { self.new.by_pid ≡ self.old.by_pid }
         ensures served { OnOk result ((module_of : Mapping → ModuleView) (cache : U.Cache)
@@ -113,8 +136,8 @@ impl<U: ProcessUnwinder> Processes<U> {
         ensures drawn { self.new.generations ≤ self.old.generations + 1 }
         ensures refused { IfErr result (MayEnd false None (self.old.generations + 1) 0) }
     {
-        let process: Process<U> = Process::new(alloc, &mut self.generations)?;
-        Ok(process)
+        let process = Process::new(alloc, &mut self.generations)?;
+        Ok(SharedProcess::new(alloc, process)?)
     }
 
     /// Begins a process without mappings, in the place of the one that has its number.
@@ -163,14 +186,14 @@ impl<U: ProcessUnwinder> Processes<U> {
         Ok(())
     }
 
-    /// Maps a file into a copy of a process, which begins without mappings where it is not known.
+    /// Maps a file into a process, which is copied first where others share it.
     fn mapped<M: ModuleMaker<U>>(
         &mut self,
         alloc: Global,
         maker: &M,
-        process: Process<U>,
+        process: SharedProcess<U>,
         mapping: Mapping,
-    ) -> Result<Process<U>, StacksError>
+    ) -> Result<SharedProcess<U>, StacksError>
     where
         U::Module: Drop,
         requires { HasModules (M.module_of maker.now) process }
@@ -186,10 +209,13 @@ impl<U: ProcessUnwinder> Processes<U> {
         ensures refused { IfErr result (λ error. MayEnd false None (self.old.generations + changed_modules mapping process.mappings) 0 error
             ⊎ ((error ≡ EmptyMapping) × (mapping.end ≤ mapping.start))) }
     {
-        Ok(process.mapped(alloc, maker, mapping, &mut self.generations)?)
+        let process = process.into_process()?;
+        let mapped = process.mapped(alloc, maker, mapping, &mut self.generations)?;
+        Ok(SharedProcess::new(alloc, mapped)?)
     }
 
-    /// Maps a file into a process, which begins with it if it is not known.
+    /// Maps a file into a process, which begins with it if it is not known. After an error the process is not known any
+    /// more.
     fn map<M: ModuleMaker<U>>(
         &mut self,
         alloc: Global,
@@ -208,7 +234,7 @@ impl<U: ProcessUnwinder> Processes<U> {
         ensures refused { IfErr result (λ error. MayEnd false None (self.old.generations + drawn_by (Change.Map pid mapping) (mapped_in self.old.by_pid)) 0 error
             ⊎ ((error ≡ EmptyMapping) × (mapping.end ≤ mapping.start))) }
     {
-        let process = self.copy_of(alloc, pid)?;
+        let process = self.take(alloc, pid)?;
         let process = self.mapped(alloc, maker, process, mapping)?;
         self.put(pid, process)?;
         Ok(())

@@ -9,7 +9,7 @@ ghost use Rattle.framehop_perf_stacks.specs.Counts.{summary_text};
 ghost use Rattle.framehop_folded.specs.Folded.{IsInOrderOfBytes};
 ghost use Rattle.framehop_perf_stacks.specs.Ended.{before_refusal, MayEnd};
 ghost use Rattle.framehop_perf_stacks.specs.Files.{AreFilesOf};
-ghost use Rattle.framehop_perf_stacks.specs.Printed.{IsMadeOf, IsSaid, IsWhole, IsMadeUntil, MayEndAt};
+ghost use Rattle.framehop_perf_stacks.specs.Printed.{AreTold, IsMadeOf, IsSaid, IsWhole, IsMadeUntil, MayEndAt};
 ghost use Rattle.framehop_perf_stacks.specs.Recording.{records_in, events_in, IsReadOf};
 ghost use Rattle.framehop_perf_stacks.specs.Samples.{beginning, samples_from, Each, IsToldOf, Told, texts_of, IsMade};
 ghost use Rattle.framehop_symbols.specs.declared.files.Files.{Files};
@@ -19,13 +19,13 @@ ghost use Rattle.framehop_perf_stacks.specs.declared.recording.Recording.{Record
 use crate::counts::Counts;
 use crate::error::StacksError;
 use crate::machine::Sampled;
+use crate::problems::problems_text;
 use crate::recording::{Recording, is_aarch64, read_files, read_recording};
 use crate::run::{Options, Run};
 use framehop::aarch64::UnwinderAarch64;
 use framehop::cache::MayAllocateDuringUnwind;
 use framehop::x86_64::UnwinderX86_64;
 use framehop_folded::folded::Folded;
-use framehop_frames::line::printed_name;
 use framehop_processes::ModuleMaker;
 use framehop_recording::error::RecordingError;
 use framehop_symbols::files::{FileModules, FileSource, Files};
@@ -104,15 +104,11 @@ where
 
 /// Writes a line for each file of which nothing was read.
 fn write_problems<E: Write>(alloc: Global, err: &mut E, files: &Files) -> Result<(), StacksError>
+    ensures written { OnOk result (AreTold files.now (E.contents err.old) (E.contents err.new)) }
     ensures refused { IfErr result (λ error. (error ≡ OutOfMemory) ⊎ (error ≡ CannotWrite)) }
 {
-    for file in files.list() {
-        if let Some(problem) = file.problem {
-            let name = printed_name(alloc, file.name.as_slice())?;
-            err.write_all(name.as_slice())?;
-            writeln!(err, ": {problem}")?;
-        }
-    }
+    let problems = problems_text(alloc, files)?;
+    err.write_all(problems.as_slice())?;
     Ok(())
 }
 
@@ -165,7 +161,7 @@ pub fn write_stacks<S: FileSource, W: Write, E: Write>(
     ensures made { IfOk result (λ unwound. (recording : Recording) × IsReadOf file.now recording
         × ((files : Files) × AreFilesOf (S.source source.now)
         (map file_build_id_view recording.build_ids.items) (records_in recording.records.items) files
-        × ((unsaid : Option (List ℕ)) × MatchResult unwound.ended
+        × ((unsaid : Option (List ℕ)) × AreTold files (E.contents err.old) unsaid × MatchResult unwound.ended
         (λ refusal. IsWhole recording refusal × IsMadeOf recording files options.frames options.sure options.explain options.limit unwound.folded (W.contents out.old) (W.contents out.new) unsaid (E.contents err.new))
         (λ error. MayEndAt recording files error × IsMadeUntil error recording files options.frames options.sure options.explain options.limit unwound.folded (W.contents out.old) (W.contents out.new) unsaid (E.contents err.new))))) }
     ensures refused { IfErr result (MayEnd true (result_err (events_in file.now)) 0 0) }

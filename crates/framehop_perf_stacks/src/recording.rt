@@ -1,8 +1,8 @@
 //! What is read of a recording before its samples are unwound.
-ghost use Rattle.std.specs.Prelude.{◌≡◌, ◌^◌, ◌⊎◌, Ok, Err, IfOk, IfErr, OnOk, MatchResult, map};
+ghost use Rattle.std.specs.Prelude.{◌≡◌, ◌^◌, ◌⊎◌, Ok, Err, IfOk, IfErr, OnOk, MatchResult, List, map};
 ghost use Rattle.std.specs.List.{list_any};
 ghost use Rattle.framehop_recording.specs.Attributes.{attribute_view};
-ghost use Rattle.framehop_recording.specs.BuildIds.{file_build_id_view};
+ghost use Rattle.framehop_recording.specs.BuildIds.{FileBuildIdView, file_build_id_view};
 ghost use Rattle.framehop_recording.specs.Bytes.{has_bit};
 ghost use Rattle.framehop_recording.specs.Mapping.{mapping_view};
 ghost use Rattle.framehop_recording.specs.Numbers.{PERF_REG_ARM64_PC};
@@ -10,7 +10,7 @@ ghost use Rattle.framehop_recording.specs.Records.{record_view};
 ghost use Rattle.framehop_recording.specs.Sample.{sample_view};
 ghost use Rattle.framehop_recording.specs.declared.error.RecordingError.{RecordingError};
 ghost use Rattle.framehop_perf_stacks.specs.Changes.{code_mapping_in};
-ghost use Rattle.framehop_perf_stacks.specs.Files.{build_id_for, wanted_for, IsAddedFor, AreFilesOf};
+ghost use Rattle.framehop_perf_stacks.specs.Files.{build_id_in, HasBuildIds, wanted_for, IsAddedFor, AreFilesOf};
 ghost use Rattle.framehop_perf_stacks.specs.Recording.{sample_in, are_of_aarch64, records_in, events_in, IsReadOf};
 ghost use Rattle.framehop_perf_stacks.specs.Refusal.{of_recording};
 ghost use Rattle.framehop_perf_stacks.specs.declared.error.StacksError.{StacksError};
@@ -27,7 +27,8 @@ use framehop_recording::order::{TimedRecord, in_order_of_time};
 use framehop_recording::records::{Record, read_records};
 use framehop_recording::sample::{Sample, read_sample};
 use framehop_symbols::files::{FileSource, Files};
-use std::alloc::Global;
+use std::alloc::{AllocError, Global};
+use std::collections::BTreeMap;
 
 /// The bit of the program counter among the user registers of aarch64. Those of x86_64 have none there.
 ///
@@ -45,6 +46,12 @@ pub struct Recording<'a> {
     pub build_ids: Vec<FileBuildId<'a>>,
     /// Why no more records could be read.
     pub refusal: Option<RecordingError>,
+}
+
+/// The build ids of a recording's files by their names.
+#[derive(Drop)]
+struct BuildIdsByName<'a> {
+    by_name: BTreeMap<&'a [u8], &'a [u8]>,
 }
 
 /// Reads a recording. Build ids that can't be read count as absent.
@@ -75,46 +82,64 @@ pub fn read_recording<'a>(alloc: Global, file: &'a [u8]) -> Result<Recording<'a>
     })
 }
 
-/// Returns the build id that a recording has of a file, or no bytes.
-fn build_id_of<'a>(build_ids: &[FileBuildId<'a>], name: &[u8]) -> &'a [u8]
-    ensures { result.now ≡ build_id_for (map file_build_id_view build_ids.now) name.now }
+/// Returns the build ids of files by their names, of each name the first.
+fn build_ids_by_name<'a>(
+    alloc: Global,
+    build_ids: &[FileBuildId<'a>],
+) -> Result<BuildIdsByName<'a>, AllocError>
+    ensures { IfOk result (λ by_name. HasBuildIds (map file_build_id_view build_ids.now) by_name.by_name) }
 {
-    for build_id in build_ids {
-        if build_id.name == name {
-            return build_id.build_id;
-        }
+    let mut by_name = BTreeMap::new(alloc);
+    let mut left = build_ids.len();
+    while left > 0 {
+        left -= 1;
+        let build_id = build_ids[left];
+        by_name.insert(build_id.name, build_id.build_id)?;
     }
-    &[]
+    Ok(BuildIdsByName { by_name })
 }
 
-/// Returns the build id that is wanted of the file of a mapping: the mapping's, or else the one that the
-/// recording has of its name.
-fn wanted_build_id<'a>(build_ids: &[FileBuildId<'a>], mapping: &Mapping<'a>) -> &'a [u8]
-    ensures { result.now ≡ wanted_for (map file_build_id_view build_ids.now) (mapping_view mapping.now) }
-{
-    if mapping.build_id.is_empty() {
-        build_id_of(build_ids, mapping.name)
-    } else {
-        mapping.build_id
+impl<'a> BuildIdsByName<'a> {
+    /// Returns the build id of the file of a name, or no bytes.
+    fn get(&self, name: &[u8]) -> &'a [u8]
+        ensures { result.now ≡ build_id_in self.now.by_name name.now }
+    {
+        match self.by_name.get(name) {
+            Some(build_id) => *build_id,
+            None => &[],
+        }
+    }
+
+    /// Returns the build id that is wanted of the file of a mapping: the mapping's, or else the one that the
+    /// recording has of its name.
+    fn wanted(&self, mapping: &Mapping<'a>) -> &'a [u8]
+        ensures { (build_ids : List FileBuildIdView) → HasBuildIds build_ids self.now.by_name
+            → result.now ≡ wanted_for build_ids (mapping_view mapping.now) }
+    {
+        if mapping.build_id.is_empty() {
+            self.get(mapping.name)
+        } else {
+            mapping.build_id
+        }
     }
 }
 
 /// Reads the file of a record's mapping, if it is one of code.
-fn add_file<S: FileSource>(
+fn add_file<'a, S: FileSource>(
     alloc: Global,
-    recording: &Recording<'_>,
+    build_ids: &BuildIdsByName<'a>,
     source: &S,
     files: &mut Files,
-    record: Record<'_>,
+    record: Record<'a>,
 ) -> Result<(), StacksError>
-    ensures added { OnOk result (IsAddedFor (S.source source.now) (map file_build_id_view recording.now.build_ids.items)
-        (code_mapping_in (record_view «record».entry)) files.old files.new) }
+    ensures added { (recorded : List FileBuildIdView) → HasBuildIds recorded build_ids.now.by_name
+        → OnOk result (IsAddedFor (S.source source.now) recorded (code_mapping_in (record_view «record».entry)) files.old files.new) }
     ensures refused { IfErr result (λ error. error ≡ StacksError.OutOfMemory) }
 {
     let Some(mapping) = code_mapping(record) else {
         return Ok(());
     };
-    let build_id = wanted_build_id(recording.build_ids.as_slice(), &mapping);
+    let build_id = build_ids.wanted(&mapping);
     files.add(alloc, source, mapping.name, build_id)?;
     Ok(())
 }
@@ -129,9 +154,10 @@ pub fn read_files<S: FileSource>(
         (map file_build_id_view recording.now.build_ids.items) (records_in recording.now.records.items) files) }
     ensures refused { IfErr result (λ error. error ≡ StacksError.OutOfMemory) }
 {
+    let build_ids = build_ids_by_name(alloc, recording.build_ids.as_slice())?;
     let mut files = Files::new(alloc)?;
     for timed in &recording.records {
-        add_file(alloc, recording, source, &mut files, timed.record)?;
+        add_file(alloc, &build_ids, source, &mut files, timed.record)?;
     }
     Ok(files)
 }

@@ -45,7 +45,7 @@ use framehop_frames::line::{
     block_head, end_name, folded_line, frames_block, refused_block, refused_line, sure_part,
 };
 use framehop_frames::stack::Stack;
-use framehop_processes::{Mapping, ModuleMaker};
+use framehop_processes::{Mapping, ModuleMaker, Process};
 use framehop_recording::error::RecordingError;
 use framehop_recording::events::Events;
 use framehop_recording::kind::{LOST, SAMPLE};
@@ -191,7 +191,7 @@ fn take_refused<W: Write>(
 /// Returns a note for each line of the block of a sample, where it is to be explained, and else none.
 fn notes_of<U: Sampled>(
     alloc: Global,
-    unwinder: &U,
+    process: &Process<U>,
     mask: u64,
     user: UserStack<'_>,
     walked: &Option<Stack<U::UnwindRegs>>,
@@ -201,7 +201,7 @@ fn notes_of<U: Sampled>(
         ≡ (if options.frames && options.explain then line_count (option_stack_view walked.now) else 0)) }
 {
     if options.frames && options.explain {
-        return sample_notes(alloc, unwinder, mask, user, walked);
+        return sample_notes(alloc, process, mask, user, walked);
     }
     Ok(Vec::new(alloc))
 }
@@ -321,7 +321,7 @@ where
             user,
             options.limit,
         )?;
-        let notes = notes_of(alloc, process.unwinder(), mask, user, &walked, options)?;
+        let notes = notes_of(alloc, process, mask, user, &walked, options)?;
         self.take_walked(
             alloc,
             files,

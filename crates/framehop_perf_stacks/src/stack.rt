@@ -38,7 +38,7 @@ pub fn walk_sample<U: Sampled>(
         IsUserStack U.walker U.starts limit files.now process.now.mappings process.now.unwinder.modules mask (Ok (user_view user.entry)) (option_stack_view walked)) }
 {
     let unwinder = process.unwinder();
-    let Some(start) = unwinder.start(mask, user.registers) else {
+    let Some(start) = U::start(process.greatest_end(), mask, user.registers) else {
         return Ok(None);
     };
     let known = StackBytes {

@@ -5,6 +5,7 @@ use Rattle.std.proofs.Common.{
   zero,
   suc,
   ◌+◌,
+  ◌-◌,
   ◌<◌,
   ◌≤◌,
   Bool,
@@ -25,7 +26,9 @@ use Rattle.std.proofs.Common.{
   drop,
   filter,
   map,
+  slice_get,
   slice_index_or,
+  Some,
   get_or,
   refl,
   ap,
@@ -36,14 +39,14 @@ use Rattle.std.proofs.Common.{
 }
 use Rattle.std.proofs.Math.Seq.{drop-cons}
 use Rattle.std.proofs.lemmas.Bool.{leb-true, leb-false, ltb-true, ltb-false, le-leb, lt-leb, eq-eqb, ne_eqb, or_right, cond_both}
-use Rattle.std.proofs.lemmas.List.{length-append, map-append, take-append-drop, take_more}
+use Rattle.std.proofs.lemmas.List.{length-append, length-take, map-append, take-append-drop, take_more}
 use Rattle.std.proofs.lemmas.List.Elements.{filter-append}
 use Rattle.std.specs.List.Sorted.{IsNonDecreasingBy, IsPartitionPoint}
-use Rattle.framehop.specs.Modules.{ModuleView, with_module, has_start, without_module, starts_by, starting_by, starting_above}
+use Rattle.framehop.specs.Modules.{ModuleView, with_module, has_start, without_module, starts_by, starting_by, starting_above, greatest_end}
 use Rattle.framehop.proofs.ModuleLemmas.{filter-divided, filter-behind}
 use Rattle.framehop_processes.specs.declared.mapping.Mapping.{Mapping}
-use Rattle.framehop_processes.specs.Mappings.{IsInOrder, part_below, part_above, below, above, with_mapping, ending_by, starting_from, overlapped}
-use Rattle.framehop_processes.specs.Process.{StartsAt}
+use Rattle.framehop_processes.specs.Mappings.{IsInOrder, part_below, part_above, below, above, with_mapping, ending_by, starting_from, overlapped, greatest_end_of}
+use Rattle.framehop_processes.specs.Process.{StartsAt, EndsAt}
 
 -- ---- starts and ends rise
 
@@ -439,22 +442,25 @@ order-removed-all from [] middle after order = order-back from middle after orde
 order-removed-all from (x ∷ before) middle after order =
     (order.0, order.1, order-removed-all x.end before middle after order.2)
 
--- the next mapping of a part is removed
-pub next-removed : (module_of : Mapping → ModuleView) → StartsAt module_of
+-- the last mapping of a part is removed
+pub last-removed : (module_of : Mapping → ModuleView) → StartsAt module_of
     → (removed : List Mapping) (i : ℕ) (d m : Mapping) (before after : List Mapping) → i < length removed
-    → m ≡ get_or removed i d → IsInOrder 0 (before ++ (drop i removed ++ after))
-    → IsInOrder 0 (before ++ (drop (i + 1) removed ++ after))
-    × (has_start m.start (map module_of (before ++ (drop i removed ++ after))) ≡ true)
-    × (without_module m.start (map module_of (before ++ (drop i removed ++ after))) ≡ map module_of
-    (before ++ (drop (i + 1) removed ++ after)))
-next-removed module_of starts removed i d m before after within is order =
-    let one : i + 1 ≡ suc i = omega arith in
-    let head : drop i removed ≡ m ∷ drop (suc i) removed = drop-cons removed i d within ∙ ap (λ x. x ∷ drop (suc i) removed) (sym is) in
-    let later = subst (λ (left : List Mapping). IsInOrder 0 (before ++ (left ++ after))) head order in
-    let parts = module-removed module_of starts 0 m before (drop (suc i) removed ++ after) later in (
-      rw one (order-removed 0 m before (drop (suc i) removed ++ after) later),
-      rw head parts.0,
-      rw (one, head) parts.1,
+    → m ≡ get_or removed i d → IsInOrder 0 (before ++ (take (i + 1) removed ++ after))
+    → IsInOrder 0 (before ++ (take i removed ++ after))
+    × (has_start m.start (map module_of (before ++ (take (i + 1) removed ++ after))) ≡ true)
+    × (without_module m.start (map module_of (before ++ (take (i + 1) removed ++ after))) ≡ map module_of
+    (before ++ (take i removed ++ after)))
+last-removed module_of starts removed i d m before after within is order =
+    let front = take i removed in
+    let next : take (i + 1) removed ≡ front ++ m ∷ [] = take_more removed i d within ∙ ap (λ one. front ++ one ∷ []) (sym is) in
+    let parted : before ++ (take (i + 1) removed ++ after) ≡ (before ++ front) ++ m ∷ after =
+    ap (λ all. before ++ (all ++ after)) next ∙ ap (λ rest. before ++ rest) (append-parts front (m ∷ []) after) ∙ sym (append-parts before front (m ∷ after)) in
+    let left : (before ++ front) ++ after ≡ before ++ (front ++ after) = append-parts before front after in
+    let later = subst (λ (all : List Mapping). IsInOrder 0 all) parted order in
+    let parts = module-removed module_of starts 0 m (before ++ front) after later in (
+      subst (λ (all : List Mapping). IsInOrder 0 all) left (order-removed 0 m (before ++ front) after later),
+      rw parted parts.0,
+      rw (parted, ← left) parts.1,
     )
 
 -- the next mapping of a part is added
@@ -480,6 +486,49 @@ next-added module_of starts added i d m before after within is order =
     ∙ ap (map module_of) (append-parts before front (m ∷ after)
     ∙ ap (λ (rest : List Mapping). before ++ rest) (sym (ap (λ (taken : List Mapping). taken ++ after) next ∙ append-parts front (m ∷ []) after)))
 
+-- ---- a part of a list in the place of another
+
+-- what is before a part of a list, and after it
+pub taken-before : {A : Type 0} (before rest : List A) → take (length before) (before ++ rest) ≡ before
+taken-before [] rest = refl
+taken-before (x ∷ before) rest = ap (λ others. x ∷ others) (taken-before before rest)
+
+dropped-front : {A : Type 0} (front rest : List A) → drop (length front) (front ++ rest) ≡ rest
+dropped-front [] rest = refl
+dropped-front (x ∷ front) rest = dropped-front front rest
+
+-- others in the place of the middle
+pub replaced-middle : (ms before middle after changed : List Mapping) (from to : ℕ) → ms ≡ before ++ (middle ++ after)
+    → from ≡ length before → to ≡ length before + length middle
+    → take from ms ++ (changed ++ drop to ms) ≡ before ++ (changed ++ after)
+replaced-middle ms before middle after changed from to whole is next =
+    let parted : ms ≡ (before ++ middle) ++ after = whole ∙ sym (append-parts before middle after) in
+    let size : to ≡ length (before ++ middle) = next ∙ sym (length-append before middle) in
+    let front : take from ms ≡ before = ap (λ n. take n ms) is ∙ ap (take (length before)) whole ∙ taken-before before (middle ++ after) in
+    let back : drop to ms ≡ after = ap (λ n. drop n ms) size ∙ ap (drop (length (before ++ middle))) parted ∙ dropped-front (before ++ middle) after in
+    rw (front, back) refl
+
+-- one more is inserted after some that were
+pub inserted-next : (old changed list : List Mapping) (from to i at : ℕ) (x d : Mapping)
+    → list ≡ take from old ++ (take i changed ++ drop to old) → from ≤ length old → i < length changed
+    → at ≡ from + i → x ≡ get_or changed i d
+    → take at list ++ x ∷ drop at list ≡ take from old ++ (take (i + 1) changed ++ drop to old)
+inserted-next old changed list from to i at x d is fits within place read =
+    let front = take from old ++ take i changed in
+    let back = drop to old in
+    let parted : list ≡ front ++ back = is ∙ sym (append-parts (take from old) (take i changed) back) in
+    let size : at ≡ length front =
+    let count = length-append (take from old) (take i changed) in
+    let first = length-take from old in
+    let second = length-take i changed in
+    omega (arith, place, count, first, second, fits, within) in
+    let before : take at list ≡ front = ap (λ n. take n list) size ∙ ap (take (length front)) parted ∙ taken-before front back in
+    let after : drop at list ≡ back = ap (λ n. drop n list) size ∙ ap (drop (length front)) parted ∙ dropped-front front back in
+    let next : take (i + 1) changed ≡ take i changed ++ x ∷ [] = take_more changed i d within ∙ ap (λ one. take i changed ++ one ∷ []) (sym read) in
+    rw (before, after, next)
+    (append-parts (take from old) (take i changed) (x ∷ back)
+    ∙ ap (λ rest. take from old ++ rest) (sym (append-parts (take i changed) (x ∷ []) back)))
+
 -- ---- the mappings that are before a new one, overlapped, and after it
 
 module _ (new : Mapping) (some : new.start < new.end) (ms before rest middle after : List Mapping)
@@ -502,6 +551,24 @@ module _ (new : Mapping) (some : new.start < new.end) (ms before rest middle aft
       parts-joined new some before middle after (subst (λ (l : List Mapping). IsInOrder 0 l) whole-parts order) ends starts
       ∙ ap (with_mapping new) (sym whole-parts)
 
+  -- the part that is put in the place of the overlapped ones lies in the list
+  pub part-fits : (list : List Mapping) → ms ≡ list → length before + length middle ≤ length list
+  part-fits list same =
+      let size : length list ≡ length (before ++ (middle ++ after)) = ap length (sym same ∙ whole-parts) in
+      let count = length-append before (middle ++ after) in
+      let others = length-append middle after in
+      omega (arith, size, count, others)
+
+  -- and the list then has the new one
+  pub replaced-is : (list changed new_list : List Mapping) → ms ≡ list → changed ≡ with_mapping new middle
+      → new_list ≡ take (length before) list ++ (changed ++ drop (length before + length middle) list)
+      → new_list ≡ with_mapping new ms
+  replaced-is list changed new_list same are is =
+      is
+      ∙ replaced-middle list before middle after changed (length before) (length before + length middle) (sym same ∙ whole-parts) refl refl
+      ∙ ap (λ (l : List Mapping). before ++ (l ++ after)) are
+      ∙ mapped-parts
+
   pub overlapped-middle : overlapped new ms ≡ middle
   overlapped-middle =
       let test : Mapping → Bool = λ m. nat_lt m.start new.end && nat_lt new.start m.end in
@@ -515,3 +582,30 @@ module _ (new : Mapping) (some : new.start < new.end) (ms before rest middle aft
       ∙ ap (λ kept. filter test middle ++ kept) (overlapped-none-after new new.end after starts (omega arith))
       ∙ append-empty (filter test middle)
       ∙ overlapped-all new middle not_by not_from
+
+-- ---- the greatest end
+
+-- that of the modules of mappings
+pub greatest-mapped : (module_of : Mapping → ModuleView) → EndsAt module_of → (ms : List Mapping)
+    → greatest_end (map module_of ms) ≡ greatest_end_of ms
+greatest-mapped module_of ends [] = refl
+greatest-mapped module_of ends (m ∷ ms) = rw (ends m, greatest-mapped module_of ends ms) refl
+
+-- that of the last, since they are in order
+last-end : (from : ℕ) (m : Mapping) (ms : List Mapping) (k : ℕ) (last : Mapping) → IsInOrder from (m ∷ ms) → k ≡ length ms
+    → Some last ≡ slice_get (m ∷ ms) k → greatest_end_of (m ∷ ms) ≡ last.end
+last-end from m [] zero last order is found = let same : last ≡ m = cc in rw same (omega arith)
+last-end from m [] (suc k) last order is found = absurd (omega (arith, is))
+last-end from m (n ∷ ms) zero last order is found = absurd (omega (arith, is))
+last-end from m (n ∷ ms) (suc k) last order is found =
+    let rest = last-end m.end n ms k last order.2 (omega (arith, is)) found in
+    let first = order.2.0 in
+    let own = order.2.1 in
+    omega (arith, rest, first, own)
+
+pub greatest-last : (ms : List Mapping) (last : Mapping) → IsInOrder 0 ms → Some last ≡ slice_get ms (length ms - 1)
+    → greatest_end_of ms ≡ last.end
+greatest-last [] last order found = cc
+greatest-last (m ∷ ms) last order found =
+    let place : length (m ∷ ms) - 1 ≡ length ms = omega arith in
+    last-end 0 m ms (length ms) last order refl (found ∙ ap (slice_get (m ∷ ms)) place)

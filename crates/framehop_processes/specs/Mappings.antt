@@ -27,6 +27,11 @@ above address mappings = map (part_above address) (filter (λ m. nat_lt address 
 abbrev pub with_mapping : Mapping → List Mapping → List Mapping
 with_mapping new mappings = below new.start mappings ++ new ∷ above new.end mappings
 
+-- the greatest end, or 0 where there is no mapping
+abbrev pub greatest_end_of : List Mapping → ℕ
+greatest_end_of [] = 0
+greatest_end_of (m ∷ mappings) = max m.end (greatest_end_of mappings)
+
 -- a mapping has an address
 abbrev pub covers : ℕ → Mapping → Bool
 covers address m = nat_le m.start address && nat_lt address m.end

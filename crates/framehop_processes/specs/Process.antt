@@ -16,6 +16,10 @@ HasModules module_of process = process.unwinder.modules ≡ map module_of proces
 abbrev pub StartsAt : (Mapping → ModuleView) → Type 0
 StartsAt module_of = (mapping : Mapping) → (module_of mapping).start ≡ mapping.start
 
+-- each module ends where its mapping does
+abbrev pub EndsAt : (Mapping → ModuleView) → Type 0
+EndsAt module_of = (mapping : Mapping) → (module_of mapping).end ≡ mapping.end
+
 -- a generation that was drawn between two states of the counter
 abbrev pub IsDrawn : ℕ → ℕ → ℕ → Type 0
 IsDrawn old generation new = (old ≤ generation) × (generation < new)

@@ -1,5 +1,5 @@
 //! The mappings around a new one.
-ghost use Rattle.std.specs.Prelude.{◌≡◌, ◌++◌, IfOk};
+ghost use Rattle.std.specs.Prelude.{◌≡◌, ◌≤◌, ◌++◌, length, take, drop, IfOk, OnOk};
 ghost use Rattle.framehop_processes.specs.Mappings.{IsInOrder, ending_by, starting_from, part_below, part_above, below, above, with_mapping};
 
 use crate::mapping::Mapping;
@@ -85,17 +85,31 @@ fn part_above(address: u64, mapping: Mapping) -> Mapping
     Mapping { start, ..mapping }
 }
 
-/// Joins three lists.
-pub(crate) fn joined(
-    alloc: Global,
-    before: &[Mapping],
-    middle: &[Mapping],
-    after: &[Mapping],
-) -> Result<Vec<Mapping>, AllocError>
-    ensures { IfOk result (λ joined. joined.items ≡ before.now ++ (middle.now ++ after.now)) }
+/// Takes the mappings from one index of a list up to another out of it. It takes no memory.
+fn cut(list: &mut Vec<Mapping>, from: usize, to: usize)
+    requires rising { from ≤ to }
+    requires within { to ≤ length list.old.items }
+    ensures { list.new.items ≡ take from list.old.items ++ drop to list.old.items }
 {
-    let mut mappings = Vec::from_slice(alloc, before)?;
-    mappings.extend_from_slice(middle)?;
-    mappings.extend_from_slice(after)?;
-    Ok(mappings)
+    drop(list.drain(from..to));
+}
+
+/// Puts mappings in the place of those from one index of a list up to another. The list is not copied.
+pub(crate) fn replace(
+    list: &mut Vec<Mapping>,
+    from: usize,
+    to: usize,
+    changed: &[Mapping],
+) -> Result<(), AllocError>
+    requires rising { from ≤ to }
+    requires within { to ≤ length list.old.items }
+    ensures { OnOk result (list.new.items ≡ take from list.old.items ++ (changed.now ++ drop to list.old.items)) }
+{
+    cut(list, from, to);
+    let mut at = from;
+    for mapping in changed {
+        list.insert(at, *mapping)?;
+        at += 1;
+    }
+    Ok(())
 }

@@ -80,8 +80,11 @@ pub(crate) fn remove_modules<U: ProcessUnwinder>(
         → 2 ^ 64 - 1 < generations.old + length removed.now)) }
     ensures never_back { generations.old ≤ generations.new }
 {
-    for mapping in removed {
-        unwinder.remove_module(mapping.start, generations)?;
+    // From the last on, so that those that go are not moved first.
+    let mut left = removed.len();
+    while left > 0 {
+        left -= 1;
+        unwinder.remove_module(removed[left].start, generations)?;
     }
     Ok(())
 }

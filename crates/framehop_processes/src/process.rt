@@ -1,9 +1,10 @@
 //! A process: its mappings, and the unwinder that has their modules.
 ghost use Rattle.std.specs.Prelude.{ℕ, ◌≡◌, ◌+◌, ◌-◌, ◌^◌, ◌<◌, ◌≤◌, [], Some, IfOk, IfErr, OnOk, OnErr, Err, if◌then◌else◌};
+ghost use Rattle.framehop.specs.Modules.{greatest_end};
 ghost use Rattle.framehop_processes.specs.Mappings.{IsInOrder, with_mapping, covers, content, mapped_at, changed_modules};
 ghost use Rattle.framehop_processes.specs.Process.{HasModules, IsDrawn};
 
-use crate::around::{joined, split_ending_by, split_starting_below, with_mapping};
+use crate::around::{replace, split_ending_by, split_starting_below, with_mapping};
 use crate::error::ProcessesError;
 use crate::maker::ModuleMaker;
 use crate::mapping::Mapping;
@@ -21,14 +22,17 @@ pub struct Process<U: ProcessUnwinder> {
 }
 
 impl<U: ProcessUnwinder> Model for Process<U> {
+    ghost use Rattle.std.specs.Prelude.{◌≡◌};
+    ghost use Rattle.framehop.specs.Modules.{greatest_end};
     ghost use Rattle.framehop_processes.specs.Process.{ProcessView};
-    ghost use Rattle.framehop_processes.specs.Mappings.{IsInOrder};
+    ghost use Rattle.framehop_processes.specs.Mappings.{IsInOrder, greatest_end_of};
 
     ghost Value = { ProcessView };
 
     ghost view = { λ p. record { mappings = p.mappings.items; unwinder = U.unwinder_view p.unwinder } };
 
-    ghost invariant = { λ p. IsInOrder 0 p.mappings.items };
+    ghost invariant = { λ p. IsInOrder 0 p.mappings.items
+        × (greatest_end (U.unwinder_view p.unwinder).modules ≡ greatest_end_of p.mappings.items) };
 }
 
 impl<U: ProcessUnwinder> Clone for Process<U> {
@@ -137,15 +141,17 @@ impl<U: ProcessUnwinder> Process<U> {
             return Err(ProcessesError::EmptyMapping);
         }
         let Process {
-            mappings: old,
+            mut mappings,
             mut unwinder,
         } = self;
-        let (before, rest) = split_ending_by(old.as_slice(), mapping.start);
-        let (overlapped, after) = split_starting_below(rest, mapping.end);
+        let (before, rest) = split_ending_by(mappings.as_slice(), mapping.start);
+        let (overlapped, _) = split_starting_below(rest, mapping.end);
+        let from = before.len();
+        let to = from + overlapped.len();
         let changed = with_mapping(alloc, overlapped, mapping)?;
-        let mappings = joined(alloc, before, changed.as_slice(), after)?;
         remove_modules(&mut unwinder, overlapped, generations)?;
         add_modules(alloc, &mut unwinder, maker, changed.as_slice(), generations)?;
+        replace(&mut mappings, from, to, changed.as_slice())?;
         Ok(Process { mappings, unwinder })
     }
 
@@ -155,6 +161,16 @@ impl<U: ProcessUnwinder> Process<U> {
         ensures ordered { IsInOrder 0 self.now.mappings }
     {
         self.mappings.as_slice()
+    }
+
+    /// Returns the greatest end of a mapping (AVMA), which is that of a module of the unwinder, or 0 without mappings.
+    pub fn greatest_end(&self) -> u64
+        ensures { result ≡ greatest_end self.now.unwinder.modules }
+    {
+        match self.mappings.as_slice().last() {
+            Some(mapping) => mapping.end,
+            None => 0,
+        }
     }
 
     /// Returns the unwinder, which has the modules of the mappings.
