@@ -17,13 +17,14 @@ abbrev pub kind_name : Kind → List ℕ
 kind_name CoreFile = codes "core file"
 kind_name Minidump = codes "minidump"
 
--- why nothing was read of a file, after its name: the reason of its reader as that prints it
+-- why nothing was read of a file, after its name: it is not there, it is another one, or its reader's reason, which is
+-- printed
 abbrev pub IsReason : List ℕ → Type 0
 IsReason text = (reason : List ℕ) × (text ≡ codes ": " ++ reason)
 
 abbrev pub IsProblemText : Kind → FileProblem → List ℕ → Type 0
 IsProblemText kind OtherBuildId text = text ≡ codes ": its build id is not the " ++ kind_name kind ++ codes "'s"
-IsProblemText kind NotRead text = IsReason text
+IsProblemText kind NotRead text = text ≡ codes ": can't be read"
 IsProblemText kind (Elf error) text = IsReason text
 IsProblemText kind (Pe error) text = IsReason text
 

@@ -2,7 +2,7 @@
 ghost use Rattle.std.specs.Prelude.{◌≡◌, find, string_bytes, IfOk};
 ghost use Rattle.framehop_symbols.specs.Files.{number_in};
 ghost use Rattle.framehop_dump_stacks.specs.Dump.{dump_view};
-ghost use Rattle.framehop_dump_stacks.specs.Problems.{kind_name, IsProblemText, is_of_file, has_frames, is_in_memory, in_memory_text, IsLineOf, AreProblems};
+ghost use Rattle.framehop_dump_stacks.specs.Problems.{kind_name, IsReason, IsProblemText, is_of_file, has_frames, is_in_memory, in_memory_text, IsLineOf, AreProblems};
 
 use crate::dump::{Dump, Kind, head_of};
 use crate::image::sections_in;
@@ -59,12 +59,22 @@ fn problem_line(
 fn problem_text(alloc: Global, kind: Kind, problem: FileProblem) -> Result<String, AllocError>
     ensures { IfOk result (λ text. IsProblemText kind problem (string_bytes text)) }
 {
-    if problem == FileProblem::OtherBuildId {
-        let kind = kind_name(kind);
-        return Ok(format!(in alloc; ": its build id is not the {kind}'s")?);
+    match problem {
+        FileProblem::NotRead => String::from_str(alloc, ": can't be read"),
+        FileProblem::OtherBuildId => {
+            let kind = kind_name(kind);
+            format!(in alloc; ": its build id is not the {kind}'s")
+        }
+        FileProblem::Elf(error) => reason_text(alloc, format!(in alloc; "{error}")?),
+        FileProblem::Pe(error) => reason_text(alloc, format!(in alloc; "{error}")?),
     }
+}
+
+/// Returns a reader's reason, as it comes after a name.
+fn reason_text(alloc: Global, reason: String) -> Result<String, AllocError>
+    ensures { IfOk result (λ text. IsReason (string_bytes text)) }
+{
     let mut text = String::from_str(alloc, ": ")?;
-    let reason = format!(in alloc; "{problem}")?;
     text.push_str(reason.as_str())?;
     Ok(text)
 }

@@ -1,4 +1,5 @@
 mod ServedLemmas
+mod BuildIdLemmas
 mod StateLemmas
 mod TakenLemmas
 mod EventLemmas

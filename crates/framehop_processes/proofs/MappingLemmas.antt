@@ -5,6 +5,7 @@ use Rattle.std.proofs.Common.{
   zero,
   suc,
   ◌+◌,
+  ◌-◌,
   ◌<◌,
   ◌≤◌,
   Bool,
@@ -25,7 +26,9 @@ use Rattle.std.proofs.Common.{
   drop,
   filter,
   map,
+  slice_get,
   slice_index_or,
+  Some,
   get_or,
   refl,
   ap,
@@ -483,42 +486,6 @@ next-added module_of starts added i d m before after within is order =
     ∙ ap (map module_of) (append-parts before front (m ∷ after)
     ∙ ap (λ (rest : List Mapping). before ++ rest) (sym (ap (λ (taken : List Mapping). taken ++ after) next ∙ append-parts front (m ∷ []) after)))
 
--- ---- the mappings that are before a new one, overlapped, and after it
-
-module _ (new : Mapping) (some : new.start < new.end) (ms before rest middle after : List Mapping)
-    (whole : ms ≡ before ++ rest) (first : before ≡ ending_by new.start ms) (parted : rest ≡ middle ++ after)
-    (last : after ≡ starting_from new.end rest) (order : IsInOrder 0 ms) where
-  pub whole-parts : ms ≡ before ++ (middle ++ after)
-  whole-parts = whole ∙ ap (λ others. before ++ others) parted
-
-  ends : EndBy new.start before
-  ends = subst (λ (l : List Mapping). EndBy new.start l) (sym first) (ending_by-ends new.start ms)
-
-  order-rest : IsInOrder 0 rest
-  order-rest = order-back 0 before rest (subst (λ (l : List Mapping). IsInOrder 0 l) whole order)
-
-  starts : IsInOrder new.end after
-  starts = subst (λ (l : List Mapping). IsInOrder new.end l) (sym last) (starting_from-starts new.end 0 rest order-rest)
-
-  pub mapped-parts : before ++ (with_mapping new middle ++ after) ≡ with_mapping new ms
-  mapped-parts =
-      parts-joined new some before middle after (subst (λ (l : List Mapping). IsInOrder 0 l) whole-parts order) ends starts
-      ∙ ap (with_mapping new) (sym whole-parts)
-
-  pub overlapped-middle : overlapped new ms ≡ middle
-  overlapped-middle =
-      let test : Mapping → Bool = λ m. nat_lt m.start new.end && nat_lt new.start m.end in
-      let behind = none-behind (λ m. nat_le m.end new.start) ms before rest whole first in
-      let not_by = nothing-front (λ m. nat_le m.end new.start) middle after (ap (ending_by new.start) (sym parted) ∙ behind) in
-      let not_from = none-before (λ m. nat_le new.end m.start) rest middle after parted last in
-      ap (overlapped new) whole-parts
-      ∙ filter-append test before (middle ++ after)
-      ∙ ap (λ kept. kept ++ filter test (middle ++ after)) (overlapped-none-before new before ends)
-      ∙ filter-append test middle after
-      ∙ ap (λ kept. filter test middle ++ kept) (overlapped-none-after new new.end after starts (omega arith))
-      ∙ append-empty (filter test middle)
-      ∙ overlapped-all new middle not_by not_from
-
 -- ---- a part of a list in the place of another
 
 -- what is before a part of a list, and after it
@@ -562,6 +529,60 @@ inserted-next old changed list from to i at x d is fits within place read =
     (append-parts (take from old) (take i changed) (x ∷ back)
     ∙ ap (λ rest. take from old ++ rest) (sym (append-parts (take i changed) (x ∷ []) back)))
 
+-- ---- the mappings that are before a new one, overlapped, and after it
+
+module _ (new : Mapping) (some : new.start < new.end) (ms before rest middle after : List Mapping)
+    (whole : ms ≡ before ++ rest) (first : before ≡ ending_by new.start ms) (parted : rest ≡ middle ++ after)
+    (last : after ≡ starting_from new.end rest) (order : IsInOrder 0 ms) where
+  pub whole-parts : ms ≡ before ++ (middle ++ after)
+  whole-parts = whole ∙ ap (λ others. before ++ others) parted
+
+  ends : EndBy new.start before
+  ends = subst (λ (l : List Mapping). EndBy new.start l) (sym first) (ending_by-ends new.start ms)
+
+  order-rest : IsInOrder 0 rest
+  order-rest = order-back 0 before rest (subst (λ (l : List Mapping). IsInOrder 0 l) whole order)
+
+  starts : IsInOrder new.end after
+  starts = subst (λ (l : List Mapping). IsInOrder new.end l) (sym last) (starting_from-starts new.end 0 rest order-rest)
+
+  pub mapped-parts : before ++ (with_mapping new middle ++ after) ≡ with_mapping new ms
+  mapped-parts =
+      parts-joined new some before middle after (subst (λ (l : List Mapping). IsInOrder 0 l) whole-parts order) ends starts
+      ∙ ap (with_mapping new) (sym whole-parts)
+
+  -- the part that is put in the place of the overlapped ones lies in the list
+  pub part-fits : (list : List Mapping) → ms ≡ list → length before + length middle ≤ length list
+  part-fits list same =
+      let size : length list ≡ length (before ++ (middle ++ after)) = ap length (sym same ∙ whole-parts) in
+      let count = length-append before (middle ++ after) in
+      let others = length-append middle after in
+      omega (arith, size, count, others)
+
+  -- and the list then has the new one
+  pub replaced-is : (list changed new_list : List Mapping) → ms ≡ list → changed ≡ with_mapping new middle
+      → new_list ≡ take (length before) list ++ (changed ++ drop (length before + length middle) list)
+      → new_list ≡ with_mapping new ms
+  replaced-is list changed new_list same are is =
+      is
+      ∙ replaced-middle list before middle after changed (length before) (length before + length middle) (sym same ∙ whole-parts) refl refl
+      ∙ ap (λ (l : List Mapping). before ++ (l ++ after)) are
+      ∙ mapped-parts
+
+  pub overlapped-middle : overlapped new ms ≡ middle
+  overlapped-middle =
+      let test : Mapping → Bool = λ m. nat_lt m.start new.end && nat_lt new.start m.end in
+      let behind = none-behind (λ m. nat_le m.end new.start) ms before rest whole first in
+      let not_by = nothing-front (λ m. nat_le m.end new.start) middle after (ap (ending_by new.start) (sym parted) ∙ behind) in
+      let not_from = none-before (λ m. nat_le new.end m.start) rest middle after parted last in
+      ap (overlapped new) whole-parts
+      ∙ filter-append test before (middle ++ after)
+      ∙ ap (λ kept. kept ++ filter test (middle ++ after)) (overlapped-none-before new before ends)
+      ∙ filter-append test middle after
+      ∙ ap (λ kept. filter test middle ++ kept) (overlapped-none-after new new.end after starts (omega arith))
+      ∙ append-empty (filter test middle)
+      ∙ overlapped-all new middle not_by not_from
+
 -- ---- the greatest end
 
 -- that of the modules of mappings
@@ -571,12 +592,20 @@ greatest-mapped module_of ends [] = refl
 greatest-mapped module_of ends (m ∷ ms) = rw (ends m, greatest-mapped module_of ends ms) refl
 
 -- that of the last, since they are in order
-greatest-last : (from : ℕ) (m : Mapping) (ms : List Mapping) → IsInOrder from (m ∷ ms)
-    → (k : ℕ) (d : Mapping) → k ≡ length ms → greatest_end_of (m ∷ ms) ≡ (slice_index_or (m ∷ ms) k d).end
-greatest-last from m [] order k d is = rw is (omega arith)
-greatest-last from m (n ∷ ms) order zero d is = absurd (omega (arith, is))
-greatest-last from m (n ∷ ms) order (suc k) d is =
-    let rest = greatest-last m.end n ms order.2 k d (omega (arith, is)) in
-    let later = not-empty m.end (n ∷ ms) order.2 k d (omega (arith, is)) in
-    let start = starts-from m.end (n ∷ ms) order.2 k d (omega (arith, is)) in
-    rw rest (omega (arith, later, start))
+last-end : (from : ℕ) (m : Mapping) (ms : List Mapping) (k : ℕ) (last : Mapping) → IsInOrder from (m ∷ ms) → k ≡ length ms
+    → Some last ≡ slice_get (m ∷ ms) k → greatest_end_of (m ∷ ms) ≡ last.end
+last-end from m [] zero last order is found = let same : last ≡ m = cc in rw same (omega arith)
+last-end from m [] (suc k) last order is found = absurd (omega (arith, is))
+last-end from m (n ∷ ms) zero last order is found = absurd (omega (arith, is))
+last-end from m (n ∷ ms) (suc k) last order is found =
+    let rest = last-end m.end n ms k last order.2 (omega (arith, is)) found in
+    let first = order.2.0 in
+    let own = order.2.1 in
+    omega (arith, rest, first, own)
+
+pub greatest-last : (ms : List Mapping) (last : Mapping) → IsInOrder 0 ms → Some last ≡ slice_get ms (length ms - 1)
+    → greatest_end_of ms ≡ last.end
+greatest-last [] last order found = cc
+greatest-last (m ∷ ms) last order found =
+    let place : length (m ∷ ms) - 1 ≡ length ms = omega arith in
+    last-end 0 m ms (length ms) last order refl (found ∙ ap (slice_get (m ∷ ms)) place)

@@ -106,12 +106,20 @@ debug_tables_of build_id file = debug_tables_by build_id file (headers_of file)
 abbrev pub LOOKED_AT : ℕ
 LOOKED_AT = 256
 
--- How plain a name is, by its first bytes: least with a version (`free@@GLIBC_2.2.5`) or where it begins with `__GI_`, as
--- the C library's names for itself do; more where it begins with `_`; most elsewhere.
+-- a name is one of the C library's for itself, has a version (`free@@GLIBC_2.2.5`), or begins with an underscore
+abbrev pub is_internal : List ℕ → Bool
+is_internal name = starts_with nat_eq name (codes "__GI_")
+
+abbrev pub has_version : List ℕ → Bool
+has_version name = list_any (λ byte. byte == 64) name
+
+abbrev pub is_underscored : List ℕ → Bool
+is_underscored name = starts_with nat_eq name (codes "_")
+
+-- how plain a name is: least with a version or where it is the C library's for itself, more where it begins with an
+-- underscore, most elsewhere
 abbrev pub plainness_of : List ℕ → ℕ
-plainness_of name =
-    if starts_with nat_eq name (codes "__GI_") || list_any (λ byte. byte == 64) name then 0
-    else (if starts_with nat_eq name (codes "_") then 1 else 2)
+plainness_of name = if is_internal name || has_version name then 0 else (if is_underscored name then 1 else 2)
 
 -- the name of a symbol is so plain
 abbrev pub is_so_plain : List ℕ → ℕ → Symbol → Bool

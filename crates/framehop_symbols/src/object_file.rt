@@ -8,7 +8,7 @@ ghost use Rattle.framehop_elf.specs.Symbol.{symbol_for};
 ghost use Rattle.framehop_elf.specs.UnwindSections.{sections_view};
 ghost use Rattle.framehop_elf.specs.declared.error.ElfError.{ElfError};
 ghost use Rattle.framehop_memory.specs.Segment.{base_of};
-ghost use Rattle.framehop_symbols.specs.ObjectFiles.{Contents, Listed, headers_view, headers_of, build_id_in, is_another, problem_by, problem_of, symbols_in, symbols_called, tables_of, debug_tables_of, plainness_of, is_so_plain, by_plainness, IsTable, AreTables, module_of, module_in, debug_frame_in, bare_module, elf_contents_of, pe_contents_of, IsOutOfMemory, IsKeptBy, IsKeptOf};
+ghost use Rattle.framehop_symbols.specs.ObjectFiles.{Contents, Listed, headers_view, headers_of, build_id_in, is_another, problem_by, problem_of, symbols_in, symbols_called, tables_of, debug_tables_of, is_internal, has_version, is_underscored, plainness_of, is_so_plain, by_plainness, IsTable, AreTables, module_of, module_in, debug_frame_in, bare_module, elf_contents_of, pe_contents_of, IsOutOfMemory, IsKeptBy, IsKeptOf};
 ghost use Rattle.framehop_symbols.specs.Code.{code_of_object};
 ghost use Rattle.framehop_symbols.specs.Place.{option_named, function_at};
 ghost use Rattle.framehop_symbols.specs.declared.object_file.FileProblem.{FileProblem};
@@ -505,11 +505,32 @@ fn is_so_plain(names: &[u8], plainness: u8, function: Symbol) -> bool
 fn plainness_of(name: &[u8]) -> u8
     ensures { result ≡ plainness_of name.now }
 {
-    if name.starts_with(b"__GI_") || name.iter().any(|byte| *byte == b'@') {
+    if is_internal(name) || has_version(name) {
         0
-    } else if name.starts_with(b"_") {
+    } else if is_underscored(name) {
         1
     } else {
         2
     }
+}
+
+/// Returns whether a name is one of the C library's for itself.
+fn is_internal(name: &[u8]) -> bool
+    ensures { result ≡ is_internal name.now }
+{
+    name.starts_with(b"__GI_")
+}
+
+/// Returns whether a name has a version.
+fn has_version(name: &[u8]) -> bool
+    ensures { result ≡ has_version name.now }
+{
+    name.iter().any(|byte| *byte == b'@')
+}
+
+/// Returns whether a name begins with an underscore.
+fn is_underscored(name: &[u8]) -> bool
+    ensures { result ≡ is_underscored name.now }
+{
+    name.starts_with(b"_")
 }

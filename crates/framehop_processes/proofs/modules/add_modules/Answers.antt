@@ -1,4 +1,4 @@
-use Rattle.std.proofs.Common.{true, arith, ap, refl, ◌∙◌}
+use Rattle.std.proofs.Common.{arith, ap, refl, ◌∙◌}
 use Rattle.framehop.specs.Modules.{ModuleView, with_module}
 use Rattle.framehop_processes.specs.declared.mapping.Mapping.{Mapping}
 use Rattle.framehop_processes.specs.Process.{StartsAt}
