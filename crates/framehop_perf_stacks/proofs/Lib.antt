@@ -6,3 +6,4 @@ mod EventLemmas
 mod EndedLemmas
 mod SoFarLemmas
 mod PrintedLemmas
+mod ProblemLemmas
