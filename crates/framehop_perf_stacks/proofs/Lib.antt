@@ -1,5 +1,6 @@
 mod ServedLemmas
 mod BuildIdLemmas
+mod ProblemLemmas
 mod StateLemmas
 mod TakenLemmas
 mod EventLemmas

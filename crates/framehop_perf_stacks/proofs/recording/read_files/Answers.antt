@@ -2,7 +2,7 @@ use Rattle.std.proofs.Common.{◌≡◌, ◌<◌, List, [], map, drop, length, r
 use Rattle.std.proofs.lemmas.List.{at_drop_all}
 use Rattle.framehop_recording.specs.BuildIds.{file_build_id_view}
 use Rattle.framehop_recording.specs.Records.{RecordView}
-use Rattle.framehop_perf_stacks.specs.Files.{AreAdded}
+use Rattle.framehop_perf_stacks.specs.Files.{HasBuildIds, AreAdded}
 use Rattle.framehop_perf_stacks.specs.Recording.{records_in}
 use Rattle.framehop_perf_stacks.proofs.SoFarLemmas.{records-left}
 use Rattle.framehop_perf_stacks.proofs.recording.read_files.Goals as goal
@@ -18,11 +18,14 @@ loop-timed-preserved g c =
     let records = c.args.recording.now.records.items in
     let items = c.deref-timed-items.result.now in
     let within : l.timed-index < length items = omega arith in
-    let left = records-left items records c.deref-timed-items.ensures.value l.timed-index _ within in (
+    let left = records-left items records c.deref-timed-items.ensures.value l.timed-index _ within in
+    let has : HasBuildIds build_ids c.in_ok-build_ids.build_ids.by_name =
+    subst (λ ids. HasBuildIds (map file_build_id_view ids) c.in_ok-build_ids.build_ids.by_name) c.as_slice.ensures.value
+    c.in_ok-build_ids.ensures in (
       l.invariant.0,
       l.invariant.1,
       λ last rest. l.invariant.2 last
-          (subst (λ records. AreAdded source build_ids records l.files last) (sym left) (c.add_file.new.files, c.in_ok-add_file.ensures.added, rest)),
+          (subst (λ records. AreAdded source build_ids records l.files last) (sym left) (c.add_file.new.files, c.in_ok-add_file.ensures.added build_ids has, rest)),
     )
 
 pub returns-clause-read : goal.returns-clause-read
