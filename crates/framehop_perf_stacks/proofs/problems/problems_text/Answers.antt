@@ -1,4 +1,4 @@
-use Rattle.std.proofs.Common.{◌≡◌, ◌+◌, ◌<◌, ◌≤◌, ◌++◌, length, get_or, ap, sym, ◌∙◌, subst}
+use Rattle.std.proofs.Common.{◌+◌, ◌≤◌, ◌++◌, length, ap, sym, ◌∙◌, subst}
 use Rattle.std.proofs.lemmas.List.{drop_all}
 use Rattle.framehop_perf_stacks.proofs.ProblemLemmas.{AreLinesSoFar, one-line-more, all-lines}
 use Rattle.framehop_perf_stacks.proofs.problems.problems_text.Goals as goal
@@ -11,10 +11,8 @@ loop-file-preserved c =
     let same = c.list-file-items.ensures in
     let text = c.in_ok-extend_from_slice.ensures.items ∙ ap (λ line. l.text.items ++ line) c.as_slice.ensures.value in
     subst (λ all. AreLinesSoFar files (l.file-index + 1) all) (sym text)
-    (one-line-more files l.file-index _ c.file-item.result c.in_ok-line.line.items l.text.items
-    (subst (λ list. l.file-index < length list) same test)
-    (c.file-item.is ∙ ap (λ list. get_or list l.file-index _) same)
-    c.in_ok-line.ensures l.invariant)
+    (one-line-more c.list-file-items.result.now files l.file-index _ c.file-item.result c.in_ok-line.line.items l.text.items same test
+    c.file-item.is c.in_ok-line.ensures l.invariant)
 
 pub returns : goal.returns
 returns c =
