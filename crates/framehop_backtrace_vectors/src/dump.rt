@@ -73,7 +73,7 @@ pub(crate) fn dump_of(
         offset: code_size,
     })?;
     Ok(Dump {
-        memory: ProcessMemory { file, ranges },
+        memory: ProcessMemory::new(alloc, file, ranges)?,
         code_start: code,
         code_end: code.saturating_add(code_size),
     })

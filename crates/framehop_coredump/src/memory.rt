@@ -20,7 +20,7 @@ pub fn memory_of<'a>(
         ≡ record { file = file.entry.now; ranges = map range_of segments.now }) }
 {
     let ranges = ranges_of(alloc, segments)?;
-    Ok(ProcessMemory { file, ranges })
+    ProcessMemory::new(alloc, file, ranges)
 }
 
 /// Returns the ranges of memory that were dumped of these segments.

@@ -2,3 +2,4 @@
 pub mod NoteLemmas
 pub mod SectionLemmas
 pub mod SymbolLemmas
+pub mod StringLemmas

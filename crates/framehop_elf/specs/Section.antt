@@ -1,7 +1,7 @@
 -- What sections hold, and what they are called (gABI, chapter 4, "Sections" and "String Table").
 -- Which section has the names: "ELF Header", e_shstrndx.
-use Rattle.std.specs.Prelude.{ℕ, List, [], drop, Option, Some, None, bit_and, not, nat_eq, Result, Ok, Err, ◌==◌, if◌then◌else◌}
-use Rattle.std.specs.List.{before_first, find, slice_get}
+use Rattle.std.specs.Prelude.{ℕ, List, [], Option, Some, None, bit_and, not, nat_eq, Result, Ok, Err, ◌==◌, if◌then◌else◌}
+use Rattle.std.specs.List.{find, slice_get}
 use Rattle.std.specs.Cmp.Lexicographic.{pointwise}
 use Rattle.framehop_bytes.specs.Bytes.{◌>>=◌}
 use Rattle.framehop_bytes.specs.String.{string_of}

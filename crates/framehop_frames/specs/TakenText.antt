@@ -16,22 +16,32 @@ use Rattle.framehop_explain.specs.FrameText.{frame_text}
 use Rattle.framehop_explain.specs.Note.{note_line}
 use Rattle.framehop_explain.specs.Pieces.{text_of}
 use Rattle.framehop_explain.specs.SourceText.{hexadecimal, source_text}
+use Rattle.framehop_explain.specs.declared.source.Source.{Source}
 use Rattle.framehop_frames.specs.Taken.{data_of, taken_by, taken_outside}
 use Rattle.framehop_frames.specs.declared.note.Taken.{Taken}
 use Rattle.framehop_frames.specs.declared.note.Taken.TheVariants.{Step, Row, DebugFrame, Call, FramePointer}
 
--- what a walk took for the caller of a frame in a module, where it did not take the library's step, with the text of the
--- fallback rule: where the frame is in the module, where that has what unwinds it, and what was taken
+-- where a frame is in its module, where that has what unwinds it, and what was taken: a row over all registers, a row of
+-- `.debug_frame`, or, after a guess, the frame pointer, with the text of the fallback rule
+abbrev pub row_text : ℕ → Source → List ℕ
+row_text address source =
+    text_of (codes "0x" ∷ hexadecimal address ∷ codes ": " ∷ source_text source ∷ codes ": over all registers" ∷ [])
+
+abbrev pub debug_frame_text : ℕ → Source → List ℕ
+debug_frame_text address source = text_of (
+    codes "0x" ∷ hexadecimal address ∷ codes ": " ∷ source_text source
+    ∷ codes "; row of .debug_frame: over all registers" ∷ [])
+
+abbrev pub fallback_text : ℕ → Source → List ℕ → List ℕ
+fallback_text address source fallback = text_of (
+    codes "0x" ∷ hexadecimal address ∷ codes ": " ∷ source_text source ∷ codes ": no call leads there: fallback: "
+    ∷ fallback ∷ [])
+
+-- what a walk took for the caller of a frame in a module, where it did not take the library's step
 abbrev pub taken_text : {Rule : Type 0} → List ℕ → FrameFinding Rule → Taken → Option (List ℕ)
-taken_text fallback found Row = Some (text_of (
-    codes "0x" ∷ hexadecimal found.relative_address ∷ codes ": " ∷ source_text found.source
-    ∷ codes ": over all registers" ∷ []))
-taken_text fallback found DebugFrame = Some (text_of (
-    codes "0x" ∷ hexadecimal found.relative_address ∷ codes ": " ∷ source_text found.source
-    ∷ codes "; row of .debug_frame: over all registers" ∷ []))
-taken_text fallback found FramePointer = Some (text_of (
-    codes "0x" ∷ hexadecimal found.relative_address ∷ codes ": " ∷ source_text found.source
-    ∷ codes ": no call leads there: fallback: " ∷ fallback ∷ []))
+taken_text fallback found Row = Some (row_text found.relative_address found.source)
+taken_text fallback found DebugFrame = Some (debug_frame_text found.relative_address found.source)
+taken_text fallback found FramePointer = Some (fallback_text found.relative_address found.source fallback)
 taken_text fallback found Step = None
 taken_text fallback found Call = None
 

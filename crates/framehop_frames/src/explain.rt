@@ -1,11 +1,14 @@
 //! Notes under the lines of a stack's block: where each frame's caller comes from, and why its walk ended.
 ghost use Rattle.std.specs.Prelude.{◌≡◌, ◌+◌, ℕ, List, [], ◌∷◌, ◌++◌, length, map, IfOk, OnOk};
+ghost use Rattle.framehop_core.specs.ErrorText.{error_text};
+ghost use Rattle.framehop_explain.specs.Note.{note_line};
 ghost use Rattle.framehop_frames.specs.Explained.{IsShown, shown_with};
 ghost use Rattle.framehop_frames.specs.Notes.{noted_frame, option_noted, caller_of, end_note, IsFrameNote, AreFrameNotes, AreStackNotes};
 ghost use Rattle.framehop_frames.specs.Stack.{line_count, option_stack_view};
 
 use crate::machine::Steps;
 use crate::stack::{Stack, StackFrame};
+use framehop::Error;
 use framehop::walk::Words;
 use framehop_backtrace::{BacktraceEnd, FoundBy};
 use framehop_explain::{Note, annotated};
@@ -73,10 +76,7 @@ fn note_frames<U: Steps, M: Words>(
 }
 
 /// Returns how the caller of a frame was found, by the frames after it, or how the walk ended there.
-fn caller_of<R: Copy>(
-    later: &[StackFrame<R>],
-    end: BacktraceEnd,
-) -> Result<FoundBy, BacktraceEnd>
+fn caller_of<R: Copy>(later: &[StackFrame<R>], end: BacktraceEnd) -> Result<FoundBy, BacktraceEnd>
     ensures { result ≡ caller_of end (map noted_frame later.now) }
 {
     match later.first() {
@@ -106,14 +106,18 @@ fn frame_note<U: Steps, M: Words>(
 fn end_note(alloc: Global, end: BacktraceEnd) -> Result<Note, AllocError>
     ensures { IfOk result (λ note. note ≡ end_note end) }
 {
-    let note = Note::new(alloc);
     match end {
-        BacktraceEnd::Refused(error) => {
-            let line = format!(in alloc; "{error}")?;
-            note.with_line(line.as_str())
-        }
-        _ => Ok(note),
+        BacktraceEnd::Refused(error) => refusal_note(alloc, error),
+        _ => Ok(Note::new(alloc)),
     }
+}
+
+/// Returns the note of a refusal.
+fn refusal_note(alloc: Global, error: Error) -> Result<Note, AllocError>
+    ensures { IfOk result (λ note. note ≡ note_line (error_text error)) }
+{
+    let line = format!(in alloc; "{error}")?;
+    Note::new(alloc).with_line(line.as_str())
 }
 
 /// Returns the block of a stack after its head, with notes under its lines where it is to be explained.

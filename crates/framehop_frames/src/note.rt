@@ -3,11 +3,11 @@ ghost use Rattle.std.specs.Prelude.{◌≡◌, option_map, string_bytes, IfOk};
 ghost use Rattle.framehop_core.specs.CodeAddress.{location_of, address_of};
 ghost use Rattle.framehop_explain.specs.Found.{explaining_by, finding_of};
 ghost use Rattle.framehop_frames.specs.Taken.{is_by_row, is_by_frame_pointer, data_of, taken_by, taken_outside};
-ghost use Rattle.framehop_frames.specs.TakenText.{taken_text, outside_text, IsNoteOf};
+ghost use Rattle.framehop_frames.specs.TakenText.{row_text, debug_frame_text, fallback_text, taken_text, outside_text, taken_for, line_for, IsNoteOf};
 
 use framehop::unwinder::UnwinderInternal;
 use framehop::walk::Words;
-use framehop::{AllocationPolicy, FrameAddress};
+use framehop::{AllocationPolicy, FrameAddress, Module};
 use framehop_backtrace::{BacktraceEnd, FoundBy};
 use framehop_bytes::section::SectionBytes;
 use framehop_core::unwind_rule::UnwindRule;
@@ -71,15 +71,47 @@ where
         A.UnwindRule.rule_text A.UnwindRule.fallback P.policy) unwinder.now.modules (M.memory words.now) (location_of address) regs caller note) }
 {
     let explanation = explain_over(alloc, unwinder, address, regs, words)?;
-    let line = match &explanation.finding {
-        Some(finding) => taken_text::<D, A::UnwindRule>(alloc, finding, caller)?,
-        None => taken_outside_text::<A::UnwindRule>(alloc, address, caller)?,
-    };
-    let line = match line {
-        Some(line) => line,
-        None => frame_text::<D, A>(alloc, unwinder.modules(), address, &explanation)?,
-    };
+    let line = line_for::<D, A>(alloc, unwinder.modules(), address, &explanation, caller)?;
     Note::new(alloc).with_line(line.as_str())
+}
+
+/// Returns the line of a frame: what the walk took for its caller, or else what the library's step has for it.
+fn line_for<D: SectionBytes + Drop, A: Sources>(
+    alloc: Global,
+    modules: &[Module<D>],
+    address: FrameAddress,
+    explanation: &Explanation<'_, D, A>,
+    caller: Result<FoundBy, BacktraceEnd>,
+) -> Result<String, AllocError>
+where
+    A::UnwindRule: DescribeRule,
+    ensures { IfOk result (λ line. string_bytes line ≡ line_for
+        (record { text = A.UnwindRule.rule_text; fallback = A.UnwindRule.fallback; start = A.UnwindRule.function_start_rule })
+        modules.now (location_of address) caller (option_map finding_of explanation.now.finding)) }
+{
+    match taken_for::<D, A>(alloc, address, explanation, caller)? {
+        Some(line) => Ok(line),
+        None => frame_text::<D, A>(alloc, modules, address, explanation),
+    }
+}
+
+/// Returns what a walk took for the caller of a frame, or `None` for the library's step.
+fn taken_for<D: SectionBytes, A: Sources>(
+    alloc: Global,
+    address: FrameAddress,
+    explanation: &Explanation<'_, D, A>,
+    caller: Result<FoundBy, BacktraceEnd>,
+) -> Result<Option<String>, AllocError>
+where
+    A::UnwindRule: DescribeRule,
+    ensures { IfOk result (λ text. option_map string_bytes text ≡ taken_for
+        (record { text = A.UnwindRule.rule_text; fallback = A.UnwindRule.fallback; start = A.UnwindRule.function_start_rule })
+        (location_of address) caller (option_map finding_of explanation.now.finding)) }
+{
+    match &explanation.finding {
+        Some(finding) => taken_text::<D, A::UnwindRule>(alloc, finding, caller),
+        None => taken_outside_text::<A::UnwindRule>(alloc, address, caller),
+    }
 }
 
 /// Returns what a walk took for the caller of a frame in a module, or `None` for the library's step.
@@ -93,18 +125,38 @@ fn taken_text<D: SectionBytes, R: DescribeRule>(
 {
     let address = finding.relative_address;
     let source = finding.source;
-    let text = match taken_by(data_of(source, finding.told), caller) {
-        Taken::Row => format!(in alloc; "0x{address:x}: {source}: over all registers")?,
-        Taken::DebugFrame => {
-            format!(in alloc; "0x{address:x}: {source}; row of .debug_frame: over all registers")?
-        }
-        Taken::FramePointer => {
-            let rule = Described(R::fallback_rule());
-            format!(in alloc; "0x{address:x}: {source}: no call leads there: fallback: {rule}")?
-        }
-        Taken::Step | Taken::Call => return Ok(None),
-    };
-    Ok(Some(text))
+    match taken_by(data_of(source, finding.told), caller) {
+        Taken::Row => Ok(Some(row_text(alloc, address, source)?)),
+        Taken::DebugFrame => Ok(Some(debug_frame_text(alloc, address, source)?)),
+        Taken::FramePointer => Ok(Some(fallback_text::<R>(alloc, address, source)?)),
+        Taken::Step | Taken::Call => Ok(None),
+    }
+}
+
+/// Returns the text of a row over all registers.
+fn row_text(alloc: Global, address: u32, source: Source) -> Result<String, AllocError>
+    ensures { IfOk result (λ text. string_bytes text ≡ row_text address source) }
+{
+    Ok(format!(in alloc; "0x{address:x}: {source}: over all registers")?)
+}
+
+/// Returns the text of a row of `.debug_frame`.
+fn debug_frame_text(alloc: Global, address: u32, source: Source) -> Result<String, AllocError>
+    ensures { IfOk result (λ text. string_bytes text ≡ debug_frame_text address source) }
+{
+    Ok(format!(in alloc; "0x{address:x}: {source}; row of .debug_frame: over all registers")?)
+}
+
+/// Returns the text of a frame pointer that is followed after a guess.
+fn fallback_text<R: DescribeRule>(
+    alloc: Global,
+    address: u32,
+    source: Source,
+) -> Result<String, AllocError>
+    ensures { IfOk result (λ text. string_bytes text ≡ fallback_text address source (R.rule_text R.fallback)) }
+{
+    let rule = Described(R::fallback_rule());
+    Ok(format!(in alloc; "0x{address:x}: {source}: no call leads there: fallback: {rule}")?)
 }
 
 /// Returns what a walk took for the caller of a frame in no module, or `None` for the library's step.

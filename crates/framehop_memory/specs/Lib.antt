@@ -1,5 +1,6 @@
 -- What the contracts of this crate cite: ranges of memory, and segments of files.
 --
 -- The source is the System V gABI, chapter 5.
+pub mod Range
 pub mod Memory
 pub mod Segment

@@ -1,8 +1,9 @@
 -- The memory of a process, as far as a file has it: ranges, each of which begins at an address and at an offset of the
 -- file.
-use Rattle.std.specs.Prelude.{ℕ, ◌+◌, ◌-◌, List, length, take, drop, Bool, Option, option_map, ◌&&◌, nat_le}
+use Rattle.std.specs.Prelude.{ℕ, ◌-◌, List, take, drop, Option, option_map}
 use Rattle.std.specs.List.{find}
 use Rattle.framehop_bytes.specs.Bytes.{le8}
+use Rattle.framehop_memory.specs.Range.{dumped, has}
 use Rattle.framehop_memory.specs.declared.memory.MemoryRange.{MemoryRange}
 use Rattle.framehop_memory.specs.declared.memory.ProcessMemory.{ProcessMemory}
 
@@ -12,16 +13,7 @@ pub record MemoryView : Type 0 where
   pub ranges : List MemoryRange
 
 abbrev pub memory_view : ProcessMemory → MemoryView
-memory_view memory = record { file = memory.file.now; ranges = memory.ranges.items }
-
--- the bytes of a range that the file has: fewer where the file is cut off
-abbrev pub dumped : List ℕ → MemoryRange → List ℕ
-dumped file range = take range.size (drop range.offset file)
-
--- a range has so many bytes from an address on
-abbrev pub has : List ℕ → ℕ → ℕ → MemoryRange → Bool
-has file address size range =
-    nat_le range.start address && nat_le (address + size) (range.start + length (dumped file range))
+memory_view memory = record { file = memory.file.now; ranges = memory.ranges.listed.items }
 
 -- so many bytes of a range, from an address on
 abbrev pub bytes_in : List ℕ → ℕ → ℕ → MemoryRange → List ℕ

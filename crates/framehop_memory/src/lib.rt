@@ -3,4 +3,5 @@
 #![tactic(auto)]
 
 pub mod memory;
+mod ranges;
 pub mod segment;

@@ -1,8 +1,10 @@
 //! The memory of a process that is gone, as far as a file has it.
-ghost use Rattle.std.specs.Prelude.{◌≡◌, IfSome, true, find, option_map, length};
-ghost use Rattle.framehop_memory.specs.Memory.{memory_view, dumped, has, bytes_of, bytes_after, word_of};
+ghost use Rattle.std.specs.Prelude.{◌≡◌, IfOk, IfSome, option_map, length};
+ghost use Rattle.framehop_memory.specs.Memory.{memory_view, bytes_of, bytes_after, word_of};
 
+use crate::ranges::{MemoryRanges, dumped};
 use framehop_bytes::bytes::{back, front, u64_at};
+use std::alloc::{AllocError, Global};
 
 /// A range of memory, and where a file has its bytes.
 #[derive(Clone, Copy, Debug, PartialEq, Eq)]
@@ -20,17 +22,33 @@ pub struct MemoryRange {
 pub struct ProcessMemory<'a> {
     /// The bytes of the file.
     pub file: &'a [u8],
-    /// Which of them are where. Where ranges overlap, the first has the bytes.
-    pub ranges: Vec<MemoryRange>,
+    /// Which of them are where.
+    ranges: MemoryRanges,
 }
 
 impl<'a> ProcessMemory<'a> {
+    /// Returns the memory of which a file has these ranges. Where they overlap, the first has the bytes. Memory is looked
+    /// for by halving where none overlap, as in the files that systems write, and else range by range.
+    pub fn new(alloc: Global, file: &'a [u8], ranges: Vec<MemoryRange>) -> Result<Self, AllocError>
+        ensures { IfOk result (λ memory. memory_view memory ≡ record { file = file.entry.now; ranges = ranges.items }) }
+    {
+        let ranges = MemoryRanges::new(alloc, ranges)?;
+        Ok(ProcessMemory { file, ranges })
+    }
+
+    /// Returns which ranges of memory the file has, in its order.
+    pub fn ranges(&self) -> &[MemoryRange]
+        ensures { result.now ≡ (memory_view self.now).ranges }
+    {
+        self.ranges.listed.as_slice()
+    }
+
     /// Returns the bytes of memory from an address (AVMA) on, as far as the range has them, if the file has the one
     /// there: those of the first range that has it.
     pub fn bytes_from(&self, address: u64) -> Option<&'a [u8]>
         ensures { option_map (λ bytes. bytes.now) result ≡ bytes_after (memory_view self.now) address }
     {
-        let range = self.range_with(address, 1)?;
+        let range = self.ranges.first_with(self.file, address, 1)?;
         Some(back(dumped(self.file, range), address - range.start))
     }
 
@@ -49,34 +67,8 @@ impl<'a> ProcessMemory<'a> {
         ensures exact { option_map (λ bytes. bytes.now) result ≡ bytes_of (memory_view self.now) address size }
         ensures whole { IfSome result (λ bytes. length bytes.now ≡ size) }
     {
-        let range = self.range_with(address, size)?;
+        let range = self.ranges.first_with(self.file, address, size)?;
         let bytes = back(dumped(self.file, range), address - range.start);
         Some(front(bytes, size as usize))
     }
-
-    /// Returns the first range that has so many bytes from an address on.
-    fn range_with(&self, address: u64, size: u64) -> Option<MemoryRange>
-        ensures first { result ≡ find (has (memory_view self.now).file address size) (memory_view self.now).ranges }
-        ensures found { IfSome result (λ range. has (memory_view self.now).file address size range ≡ true) }
-    {
-        self.ranges
-            .iter()
-            .find(|range| has(self.file, **range, address, size))
-            .copied()
-    }
-}
-
-/// Returns whether a range has so many bytes from an address on.
-fn has(file: &[u8], range: MemoryRange, address: u64, size: u64) -> bool
-    ensures { result ≡ has file.now address size range }
-{
-    let available = dumped(file, range).len() as u64;
-    range.start <= address && size <= available && address - range.start <= available - size
-}
-
-/// Returns the bytes of a range that the file has.
-fn dumped(file: &[u8], range: MemoryRange) -> &[u8]
-    ensures { result.now ≡ dumped file.entry.now range }
-{
-    front(back(file, range.offset), range.size as usize)
 }

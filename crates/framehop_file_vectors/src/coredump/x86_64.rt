@@ -269,10 +269,9 @@ fn reads_memory(rt: HostRuntime) -> Result<(), Fail> {
     assert_eq!(rt; page.map(|page| page.len()), Some(0x1000));
     assert_eq!(rt; memory.bytes_at(0x400000, 0x1001), None);
     // where the file is cut off in the stack, as much is there as comes before
-    let cut = ProcessMemory {
-        file: front(file.as_slice(), 0xe328),
-        ranges: memory.ranges,
-    };
+    let front = front(file.as_slice(), 0xe328);
+    let ranges = Vec::from_slice(alloc, memory.ranges())?;
+    let cut = ProcessMemory::new(alloc, front, ranges)?;
     assert_eq!(rt; cut.word_at(0x7fffb27b2318), Some(0x40106a));
     assert_eq!(rt; cut.word_at(0x7fffb27b2321), None);
     Ok(())

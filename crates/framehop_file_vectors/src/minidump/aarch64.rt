@@ -210,10 +210,7 @@ fn stack_of_the_second(threads: &[Thread]) -> Option<MemoryRange> {
 
 /// Whether a thread's stack has its word, which is in no list of memory.
 fn has_word_of_stack(alloc: Global, file: &[u8], stack: MemoryRange) -> Result<bool, Fail> {
-    let memory = ProcessMemory {
-        file,
-        ranges: vec![in alloc; stack]?,
-    };
+    let memory = ProcessMemory::new(alloc, file, vec![in alloc; stack]?)?;
     Ok(has_words(&memory, &[(0xfffff0000878, Some(0x6000000f))]))
 }
 
@@ -247,7 +244,7 @@ const WORDS: [(u64, Option<u64>); 9] = [
 fn has_all_words(alloc: Global) -> Result<bool, Fail> {
     let file = dump(alloc)?;
     let memory = memory(alloc, file.as_slice())?;
-    Ok(memory.ranges.len() == 3 && has_words(&memory, &WORDS))
+    Ok(memory.ranges().len() == 3 && has_words(&memory, &WORDS))
 }
 
 #[test]

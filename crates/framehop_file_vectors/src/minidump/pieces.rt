@@ -81,5 +81,5 @@ pub(crate) fn memory<'a>(
 ) -> Result<ProcessMemory<'a>, MinidumpError> {
     let streams = read_streams(alloc, file)?;
     let ranges = read_memory(alloc, file, streams.as_slice())?;
-    Ok(ProcessMemory { file, ranges })
+    Ok(ProcessMemory::new(alloc, file, ranges)?)
 }

@@ -28,7 +28,7 @@ fn registers_of_thread(alloc: Global, file: &[u8], index: usize) -> Result<Unwin
 fn memory(alloc: Global, file: &[u8]) -> Result<ProcessMemory<'_>, Fail> {
     let streams = read_streams(alloc, file)?;
     let ranges = read_memory(alloc, file, streams.as_slice())?;
-    Ok(ProcessMemory { file, ranges })
+    Ok(ProcessMemory::new(alloc, file, ranges)?)
 }
 
 /// The frames of the thread's stack, the innermost first, as many as fit, and how many there are.

@@ -340,7 +340,7 @@ fn has_name(memory: &ProcessMemory<'_>) -> bool {
 
 /// Whether there are these two ranges of memory.
 fn has_memory(memory: &ProcessMemory<'_>) -> bool {
-    memory.ranges.len() == 2 && has_words(memory, &WORDS) && has_stack(memory) && has_name(memory)
+    memory.ranges().len() == 2 && has_words(memory, &WORDS) && has_stack(memory) && has_name(memory)
 }
 
 /// Whether there are fewer bytes where the file is cut off.
@@ -353,10 +353,9 @@ fn has_both_ranges(alloc: Global) -> Result<bool, Fail> {
     let file = dump(alloc)?;
     let whole = memory(alloc, file.as_slice())?;
     let is_whole = has_memory(&whole);
-    let cut = ProcessMemory {
-        file: front(file.as_slice(), 0x2a47 + 0x88),
-        ranges: whole.ranges,
-    };
+    let front = front(file.as_slice(), 0x2a47 + 0x88);
+    let ranges = Vec::from_slice(alloc, whole.ranges())?;
+    let cut = ProcessMemory::new(alloc, front, ranges)?;
     Ok(is_whole && has_cut_memory(&cut))
 }
 

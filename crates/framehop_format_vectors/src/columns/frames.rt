@@ -41,10 +41,7 @@ pub(crate) fn memory_of(
         size: bytes.len() as u64,
         offset: 0,
     })?;
-    Ok(ProcessMemory {
-        file: bytes,
-        ranges,
-    })
+    ProcessMemory::new(alloc, bytes, ranges)
 }
 
 /// Returns registers by their columns from 0 on, of which one has another value.

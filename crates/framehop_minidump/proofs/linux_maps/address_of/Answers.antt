@@ -27,8 +27,7 @@ loop-digit-preserved c =
     let i = c.loop-digit.digit-index in
     let within = c.loop-digit-test.true in
     let value : c.in_ok-value.value ≡ digit_value (get_or digits i 0) = search rules in
-    let passes : is_digit (get_or digits i 0) 16 ≡ true = grind (arith, nat_tests) in
-    (
+    let passes : is_digit (get_or digits i 0) 16 ≡ true = grind (arith, nat_tests) in (
       rw (list_all_more (λ digit. is_digit digit 16) digits i 0 within, c.loop-digit.invariant.0) passes,
       rw (digits_value_more 16 digits i within) (omega (arith, c.loop-digit.invariant.1, value, c.from-in-loop-digit.ensures)),
       rw (times-16 i) (omega (arith, c.loop-digit.invariant.2, c.in_ok-value.ensures.value, c.from-in-loop-digit.ensures)),

@@ -1,0 +1,164 @@
+"""Core files and minidumps of x86_64 with many items of one kind, each made to cost a square where a reader is careless.
+
+Each function of KINDS returns the files of a number of items, by their names: `dump` is what the program is given, and what is below
+`root` is given by `--root`.
+"""
+import struct
+
+PAGE = 0x1000
+PT_LOAD, PT_NOTE = 1, 4
+NT_PRSTATUS, NT_FILE, NT_GNU_BUILD_ID = 1, 0x46494C45, 3
+STACKS = 0x7F0000000000
+
+
+def note(owner, kind, descriptor):
+    name = owner + b"\0"
+    pad = lambda data: data + bytes(-len(data) % 4)
+    return struct.pack("<III", len(name), len(descriptor), kind) + pad(name) + pad(descriptor)
+
+
+def thread_note(tid, stack):
+    """struct elf_prstatus: the number of the thread at 32, the registers of the kernel from 112 on."""
+    registers = [0] * 27
+    registers[4], registers[16], registers[19] = stack, 0x401000, stack
+    return note(b"CORE", NT_PRSTATUS, struct.pack("<32xI76x27Q8x", tid, *registers))
+
+
+def elf(kind, segments, sections=(), names=b"", names_index=0):
+    """A file of these program headers (type, flags, address, bytes) and section headers. Bytes that are alike are stored once."""
+    more = len(segments) >= 0xFFFF
+    table = 64
+    end = table + 56 * len(segments)
+    stored, body, headers = {}, b"", []
+    blocks = []
+    for p_type, flags, address, data in segments:
+        if data not in stored:
+            stored[data] = end
+            blocks.append(data)
+            end += len(data)
+        headers.append(struct.pack("<IIQQQQQQ", p_type, flags, stored[data], address, 0, len(data), len(data), 1))
+    names_at = end
+    blocks.append(names)
+    section_table = names_at + len(names)
+    rows = []
+    for name, s_type in sections:
+        rows.append(struct.pack("<IIQQQQIIQQ", name, s_type, 0, 0, names_at, len(names), 0, 0, 1, 0))
+    assert not more and len(rows) < 0xFF00
+    head = b"\x7fELF\2\1\1" + bytes(9) + struct.pack(
+        "<HHIQQQIHHHHHH", kind, 62, 1, 0, table, section_table if rows else 0, 0, 64, 56, len(headers), 64, len(rows), names_index)
+    return head + b"".join(headers) + b"".join(blocks) + b"".join(rows)
+
+
+def core(notes, loads):
+    return elf(4, [(PT_NOTE, 0, 0, b"".join(notes))] + [(PT_LOAD, 6, address, data) for address, data in loads])
+
+
+def stack_at(address):
+    """A frame that points at the next stack by its frame pointer, and a return address."""
+    return struct.pack("<QQ6Q", 0, 0x402000, *range(6))
+
+
+def mapped(files):
+    """NT_FILE of files: first address, address after the last, path."""
+    entries = b"".join(struct.pack("<QQQ", start, end, 0) for start, end, _ in files)
+    return note(b"CORE", NT_FILE, struct.pack("<QQ", len(files), PAGE) + entries + b"".join(path + b"\0" for _, _, path in files))
+
+
+def threads(count):
+    """As many threads as segments of memory, each stack in its own."""
+    stacks = [STACKS + PAGE * at for at in range(count)]
+    return {"dump": core([thread_note(at + 1, stack) for at, stack in enumerate(stacks)], [(stack, stack_at(stack)) for stack in stacks])}
+
+
+def threads_backwards(count):
+    """The same, the segments from the last address to the first."""
+    stacks = [STACKS + PAGE * at for at in reversed(range(count))]
+    return {"dump": core([thread_note(at + 1, stack) for at, stack in enumerate(stacks)], [(stack, stack_at(stack)) for stack in stacks])}
+
+
+def masks(count):
+    """Threads without a note of masks, and as many other notes after the last."""
+    others = [note(b"LINUX", 0x202, b"") for _ in range(count)]
+    notes = [thread_note(at + 1, STACKS) for at in range(count)] + others
+    return {"dump": core(notes, [(STACKS, stack_at(STACKS))])}
+
+
+def paths(count):
+    """Mapped files, each with a path of its own."""
+    files = [(0x10000000 + PAGE * at, 0x10000000 + PAGE * (at + 1), b"/lib/%08d.so" % at) for at in range(count)]
+    return {"dump": core([thread_note(1, STACKS), mapped(files)], [(STACKS, stack_at(STACKS))])}
+
+
+def section_names(count):
+    """A mapped file whose sections have names of one table without a 0, of as many bytes as sections."""
+    table = b"." * (8 * count)
+    code = elf(3, [(PT_LOAD, 5, 0, bytes(64))], [(at, 3) for at in range(min(count, 0xFE00))], table, 1)
+    files = [(0x10000000, 0x10001000, b"/lib/code.so")]
+    notes = [thread_note(1, STACKS), mapped(files)]
+    return {"dump": core(notes, [(STACKS, struct.pack("<QQ6Q", 0, 0x10000010, *range(6)))]), "root/lib/code.so": code}
+
+
+def notes_of_one_place(count):
+    """A mapped file whose segments of notes all have the same notes, none of which is a build id."""
+    notes = note(b"GNU", 5, b"") * count
+    code = elf(3, [(PT_LOAD, 5, 0, bytes(64))] + [(PT_NOTE, 4, 0, notes)] * min(count, 0xFE00), [])
+    files = [(0x10000000, 0x10001000, b"/lib/code.so")]
+    listed = [thread_note(1, STACKS), mapped(files)]
+    return {"dump": core(listed, [(STACKS, struct.pack("<QQ6Q", 0, 0x10000010, *range(6)))]), "root/lib/code.so": code}
+
+
+def minidump(streams, tail):
+    """Streams by their types, each a function from its offset to its bytes, and bytes after them, whose place is given."""
+    directory, at, blocks = [], 32 + 12 * len(streams), []
+    place = at + sum(len(make(0)) for _, make in streams)
+    for kind, make in streams:
+        data = make(place)
+        directory.append(struct.pack("<III", kind, len(data), at))
+        blocks.append(data)
+        at += len(data)
+    head = struct.pack("<IIIIIIQ", 0x504D444D, 0xA793, len(streams), 32, 0, 0, 0)
+    return head + b"".join(directory) + b"".join(blocks) + tail
+
+
+SYSTEM = (7, lambda place: struct.pack("<HHHBBIIIIIHH24x", 9, 0, 0, 4, 1, 6, 1, 0, 0x8201, 0, 0, 0))
+
+
+def context(stack):
+    """winnt.h, CONTEXT of x64: flags at 48, rax from 120 on, rip at 248."""
+    registers = [0, 0, 0, 0, stack, stack] + [0] * 10 + [0x401000]
+    return struct.pack("<48xI68x17Q", 0x100003, *registers) + bytes(1232 - 256)
+
+
+def thread_list(stacks, place, tail):
+    """A thread for each stack; the context and the stack's bytes are after the streams."""
+    rows = [struct.pack("<IIIIQQIIII", at + 1, 0, 0, 0, 0, stack, 64, place + tail, 1232, place + tail + 64) for at, stack in enumerate(stacks)]
+    return struct.pack("<I", len(stacks)) + b"".join(rows)
+
+
+def minidump_threads(count):
+    """As many threads as ranges of memory, from the last address to the first, as threads' stacks are mapped."""
+    stacks = [STACKS + PAGE * at for at in reversed(range(count))]
+    ranges = lambda place: struct.pack("<I", count) + b"".join(struct.pack("<QII", stack, 64, place) for stack in stacks)
+    streams = [SYSTEM, (3, lambda place: thread_list(stacks, place, 0)), (5, ranges)]
+    return {"dump": minidump(streams, stack_at(0) + context(stacks[-1]))}
+
+
+def minidump_modules(count):
+    """Modules that share one name, of as many bytes as modules."""
+    name = ("/lib/" + "a" * count).encode("utf-16-le")
+    tail = stack_at(0) + context(STACKS)
+    listed = lambda place: struct.pack("<I", count) + b"".join(
+        struct.pack("<QIIII", 0x10000000 + PAGE * at, PAGE, 0, 0, place + len(tail)) + bytes(84) for at in range(count))
+    streams = [SYSTEM, (3, lambda place: thread_list([STACKS], place, 0)), (4, listed)]
+    return {"dump": minidump(streams, tail + struct.pack("<I", len(name)) + name + b"\0\0")}
+
+
+def minidump_maps(count):
+    """A text of /proc/PID/maps of many lines, and one that is as long and has no line."""
+    lines = "".join("%x-%x r-xp 00000000 00:00 0\n" % (PAGE * at, PAGE * (at + 1)) for at in range(count)) + "f" * (30 * count)
+    streams = [SYSTEM, (3, lambda place: thread_list([STACKS] * 64, place, 0)), (0x47670009, lambda place: lines.encode())]
+    return {"dump": minidump(streams, stack_at(0) + context(STACKS))}
+
+
+KINDS = {function.__name__.replace("_", "-"): function for function in (
+    threads, threads_backwards, masks, paths, section_names, notes_of_one_place, minidump_threads, minidump_modules, minidump_maps)}
