@@ -1,9 +1,9 @@
 mod ServedLemmas
 mod BuildIdLemmas
+mod ProblemLemmas
 mod StateLemmas
 mod TakenLemmas
 mod EventLemmas
 mod EndedLemmas
 mod SoFarLemmas
 mod PrintedLemmas
-mod ProblemLemmas

@@ -17,11 +17,14 @@ lines-next files i d file line later within is told rest =
 abbrev pub AreLinesSoFar : List NamedFile → ℕ → List ℕ → Type 0
 AreLinesSoFar files i text = (later : List ℕ) → AreLinesOf (drop i files) later → AreLinesOf files (text ++ later)
 
-pub one-line-more : (files : List NamedFile) (i : ℕ) (d file : NamedFile) (line text : List ℕ) → i < length files → file ≡ get_or files i d
-    → IsLineOf file.name.items file.problem line → AreLinesSoFar files i text → AreLinesSoFar files (i + 1) (text ++ line)
-one-line-more files i d file line text within is told so_far later rest =
+pub one-line-more : (items files : List NamedFile) (i : ℕ) (d file : NamedFile) (line text : List ℕ) → items ≡ files → i < length items
+    → file ≡ get_or items i d → IsLineOf file.name.items file.problem line → AreLinesSoFar files i text
+    → AreLinesSoFar files (i + 1) (text ++ line)
+one-line-more items files i d file line text same within is told so_far later rest =
+    let inside = subst (λ list. i < length list) same within in
+    let read : file ≡ get_or files i d = is ∙ ap (λ list. get_or list i d) same in
     subst (λ all. AreLinesOf files all) (sym (append_assoc text line later))
-    (so_far (line ++ later) (lines-next files i d file line later within is told rest))
+    (so_far (line ++ later) (lines-next files i d file line later inside read told rest))
 
 append-none : (xs : List ℕ) → xs ++ [] ≡ xs
 append-none [] = refl

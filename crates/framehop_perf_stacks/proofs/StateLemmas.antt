@@ -1,11 +1,15 @@
 -- States that agree lead to states that agree, and a sample has the same text at both.
 use Rattle.std.proofs.Common.{◌≡◌, ℕ, ◌<◌, ◌+◌, IfOk, Bool, true, false, cond, List, map, Option, Some, None, Result, Ok, Err, refl, ap, sym, ◌∙◌, subst, true≢false, arith}
-use Rattle.std.specs.Prelude.{◌==◌, ◌||◌, ⊤, nat_le, is_some, option_and_then}
+use Rattle.std.specs.Prelude.{◌==◌, ◌&&◌, ◌||◌, ⊤, nat_le, is_some, option_and_then}
 use Rattle.std.proofs.lemmas.Bool.Decides.{nat_tests}
 use Rattle.std.specs.Result.{result_err}
 use Rattle.std.proofs.lemmas.Grind.{common_steps}
 use Rattle.framehop_bytes.specs.Bytes.{◌>>=◌}
+use Rattle.framehop_core.specs.CodeAddress.{FrameLocation}
+use Rattle.framehop_core.specs.Memory.{Memory}
 use Rattle.framehop.specs.Modules.{ModuleView}
+use Rattle.framehop_backtrace.specs.declared.frame.BacktraceEnd.{BacktraceEnd}
+use Rattle.framehop_backtrace.specs.declared.frame.FoundBy.{FoundBy}
 use Rattle.framehop_processes.specs.Mappings.{with_mapping, changed_modules}
 use Rattle.framehop_processes.specs.declared.mapping.Mapping.{Mapping}
 use Rattle.framehop_recording.specs.Mapping.{MappingView, mapping_at}
@@ -99,12 +103,12 @@ module _ {Regs : Type 0} (module_of : Mapping → ModuleView) (walker : Walker R
       let pid = sample.0.pid in
       let tid = sample.0.tid in
       let stack = told.0 in
-      let notes = told.1.0 in
+      let notes = told.1 in
       let P : List Mapping → Type 0 = λ mappings. IsUserStack walker is_note starts (frames && explain) limit files mappings (map module_of mappings) sample.1 sample.0.user stack notes in (
         stack,
         notes,
-        subst P (mapped pid) told.1.1,
-        told.1.2
+        subst P (mapped pid) told.2,
+        told.3
             ∙ ap (λ name. stack_told frames sure explain files name (head_of name pid tid sample.0.time) (state.mapped pid) stack notes) (named tid)
             ∙ ap (λ mappings. stack_told frames sure explain files (other.named tid) (head_of (other.named tid) pid tid sample.0.time) mappings stack notes) (mapped pid),
       )

@@ -6,7 +6,7 @@ use Rattle.framehop_perf_stacks.proofs.TakenLemmas.{made, summed, both_ok, at_ok
 use Rattle.framehop_perf_stacks.specs.Ended.{before_refusal}
 use Rattle.framehop_perf_stacks.specs.Recording.{records_in}
 use Rattle.framehop_perf_stacks.specs.Printed.{MayEndAt}
-use Rattle.framehop_perf_stacks.specs.Samples.{beginning, texts_of, lost_over}
+use Rattle.framehop_perf_stacks.specs.Samples.{beginning, lost_over}
 use Rattle.framehop_perf_stacks.specs.declared.error.StacksError.TheVariants.{Recording as Refused}
 use Rattle.framehop_perf_stacks.proofs.program.unwind_all.Goals as goal
 use Rattle.framehop_perf_stacks.proofs.program.unwind_all.Goals.{in-Ok, in-Err}

@@ -11,12 +11,12 @@ returns-in_ok-take_sample-in-Ok-clause-told g c = λ module_of served.
 pub returns-in_ok-take_refused-in-Err-clause-told : goal.returns-in_ok-take_refused-in-Err-clause-told
 returns-in_ok-take_refused-in-Err-clause-told g c = λ module_of served.
     let stack = no_stack (sample_refusal c.in-Err.error) in
-    let P : List ℕ → Type 0 = λ why. IsTaken c.args.options.frames c.args.options.explain
-    (stack_told c.args.options.frames c.args.options.sure c.args.files.now (codes "[unknown]") (codes "[unknown]:\n") [] (no_stack why))
+    let P : List ℕ → Type 0 = λ why. IsTaken c.args.options.frames
+    (stack_told c.args.options.frames c.args.options.sure c.args.options.explain c.args.files.now (codes "[unknown]") (codes "[unknown]:\n") [] (no_stack why) [])
     c.args.self.now.counts c.take_refused.new.counts (g.W.Write.contents c.args.out.now) (g.W.Write.contents c.take_refused.new.out) in
     let taken = subst P c.refusal_name.ensures (c.in_ok-take_refused-in-Err.ensures.taken c.args.files.now []) in
     rw c.in-Err.ensures.exact (
-      stack_told c.args.options.frames c.args.options.sure c.args.files.now (codes "[unknown]") (codes "[unknown]:\n") [] stack,
-      (stack, refl, refl),
+      stack_told c.args.options.frames c.args.options.sure c.args.options.explain c.args.files.now (codes "[unknown]") (codes "[unknown]:\n") [] stack [],
+      (stack, [], (refl, refl), refl),
       taken,
     )

@@ -1,11 +1,12 @@
 use Rattle.std.proofs.Common.{◌≡◌, List, [], map, Ok, ap, sym, subst}
-use Rattle.std.specs.Prelude.{option_map, unwrap_or}
-use Rattle.framehop.specs.Modules.{ModuleView}
+use Rattle.std.specs.Prelude.{◌&&◌, option_map, unwrap_or, Option}
+use Rattle.framehop.specs.Modules.{ModuleView, UnwinderView}
+use Rattle.framehop_frames.specs.Notes.{NotedStack, option_noted, AreStackNotes}
+use Rattle.framehop_frames.specs.Stack.{option_stack_view}
 use Rattle.framehop_processes.specs.declared.mapping.Mapping.{Mapping}
 use Rattle.framehop_recording.specs.Sample.{user_view}
 use Rattle.framehop_perf_stacks.specs.Processes.{mapped_in}
-use Rattle.framehop_perf_stacks.specs.Samples.{IsUserStack}
-use Rattle.framehop_frames.specs.Stack.{option_stack_view}
+use Rattle.framehop_perf_stacks.specs.Samples.{copied_memory, NotedIf, IsUserStack}
 use Rattle.framehop_perf_stacks.proofs.ServedLemmas.{served-after, fit-known, modules-known}
 use Rattle.framehop_perf_stacks.proofs.run.Run.take_user.Goals as goal
 
@@ -24,11 +25,21 @@ returns-clause-told g c = λ module_of served.
     let modules = modules-known module_of _ _ _ pid process c.known-process.ensures served in
     let mapped : process.mappings ≡ mapped_in c.args.self.now.processes.by_pid pid =
     sym (ap (λ found. unwrap_or (option_map (λ known. known.mappings) found) []) c.known-process.ensures) in
+    let explained = c.args.options.frames && c.args.options.explain in
+    let start = c.start-start.result in
     let stack = option_stack_view c.in_ok-walked.walked in
+    let notes = c.in_ok-notes.notes.items in
+    let memory = copied_memory c.args.user.stack.now start in
+    let by-view = subst (λ (view : UnwinderView). NotedIf explained (AreStackNotes (g.U.Steps.is_note view.modules memory) (option_noted c.in_ok-walked.walked)) notes)
+    c.unwinder.ensures c.in_ok-notes.ensures in
+    let noted = subst (λ (of : Option (NotedStack g.row.U-UnwindRegs.Denot)). NotedIf explained (AreStackNotes (g.U.Steps.is_note process.unwinder.modules memory) of) notes)
+    (c.in_ok-walked.ensures.noted fit.sound) by-view in
     let Told : List Mapping → List ModuleView → Type 0 = λ mappings list.
-    IsUserStack g.U.Steps.walker g.U.Sampled.starts c.args.options.limit c.args.files.now mappings list c.args.mask (Ok (user_view c.args.user)) stack in (
+    IsUserStack g.U.Steps.walker g.U.Steps.is_note g.U.Sampled.starts explained c.args.options.limit c.args.files.now mappings list c.args.mask (Ok (user_view c.args.user)) stack notes in (
       stack,
+      notes,
       subst (λ mappings. Told mappings (map module_of (mapped_in c.args.self.now.processes.by_pid pid))) mapped
-          (subst (Told process.mappings) modules (c.in_ok-walked.ensures.walked fit.sound)),
+          (subst (Told process.mappings) modules
+          (start, c.start-start.ensures process.unwinder.modules (sym c.greatest_end.ensures), c.in_ok-walked.ensures.walked fit.sound, noted)),
       c.in_ok-take_walked.ensures.taken,
     )
