@@ -103,14 +103,16 @@ module _ {Regs : Type 0} (module_of : Mapping → ModuleView) (walker : Walker R
       let pid = sample.0.pid in
       let tid = sample.0.tid in
       let stack = told.0 in
-      let notes = told.1 in
+      let notes = told.1.0 in
       let P : List Mapping → Type 0 = λ mappings. IsUserStack walker is_note starts (frames && explain) limit files mappings (map module_of mappings) sample.1 sample.0.user stack notes in (
         stack,
-        notes,
-        subst P (mapped pid) told.2,
-        told.3
-            ∙ ap (λ name. stack_told frames sure explain files name (head_of name pid tid sample.0.time) (state.mapped pid) stack notes) (named tid)
-            ∙ ap (λ mappings. stack_told frames sure explain files (other.named tid) (head_of (other.named tid) pid tid sample.0.time) mappings stack notes) (mapped pid),
+        (
+          notes,
+          subst P (mapped pid) told.1.1,
+          told.1.2
+              ∙ ap (λ name. stack_told frames sure explain files name (head_of name pid tid sample.0.time) (state.mapped pid) stack notes) (named tid)
+              ∙ ap (λ mappings. stack_told frames sure explain files (other.named tid) (head_of (other.named tid) pid tid sample.0.time) mappings stack notes) (mapped pid),
+        ),
       )
   text-same (Err refusal) text told = told
 

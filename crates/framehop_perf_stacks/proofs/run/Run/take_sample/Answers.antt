@@ -22,7 +22,7 @@ returns-in-Err-clause-told g c = λ module_of served.
     let stack = no_stack (sample_refusal c.in-Err.error) in
     let taken = c.in_ok-take_refused-in-Err.ensures.taken c.args.files.now mappings in (
       stack_told c.args.options.frames c.args.options.sure c.args.options.explain c.args.files.now name head mappings stack [],
-      (stack, [], rw c.in-Err.is (refl, refl), refl),
+      (stack, ([], rw c.in-Err.is (refl, refl), refl)),
       search (rules, taken),
     )
 
@@ -35,10 +35,10 @@ returns-clause-told g c = λ module_of served.
     let told = c.in_ok-take_user.ensures.told module_of (c.in_ok-meet.ensures.served module_of c.args.self.now.cache served) in
     let met = c.in_ok-meet.ensures.kept pid in
     let P : List Mapping → Type 0 = λ list.
-    IsUserStack g.U.Steps.walker g.U.Steps.is_note g.U.Sampled.starts (c.args.options.frames && c.args.options.explain) c.args.options.limit c.args.files.now list (map module_of list) c.args.mask (Ok (user_view c.in-Ok.user)) told.0 told.1 in
-    let user = subst P met told.2 in
-    let taken = told.3 in (
-      stack_told c.args.options.frames c.args.options.sure c.args.options.explain c.args.files.now name head mappings told.0 told.1,
-      (told.0, told.1, rw c.in-Ok.is user, refl),
+    IsUserStack g.U.Steps.walker g.U.Steps.is_note g.U.Sampled.starts (c.args.options.frames && c.args.options.explain) c.args.options.limit c.args.files.now list (map module_of list) c.args.mask (Ok (user_view c.in-Ok.user)) told.0 told.1.0 in
+    let user = subst P met told.1.1 in
+    let taken = told.1.2 in (
+      stack_told c.args.options.frames c.args.options.sure c.args.options.explain c.args.files.now name head mappings told.0 told.1.0,
+      (told.0, (told.1.0, rw c.in-Ok.is user, refl)),
       search (rules, taken, met),
     )

@@ -17,6 +17,6 @@ returns-in_ok-take_refused-in-Err-clause-told g c = λ module_of served.
     let taken = subst P c.refusal_name.ensures (c.in_ok-take_refused-in-Err.ensures.taken c.args.files.now []) in
     rw c.in-Err.ensures.exact (
       stack_told c.args.options.frames c.args.options.sure c.args.options.explain c.args.files.now (codes "[unknown]") (codes "[unknown]:\n") [] stack [],
-      (stack, [], (refl, refl), refl),
+      (stack, ([], (refl, refl), refl)),
       taken,
     )

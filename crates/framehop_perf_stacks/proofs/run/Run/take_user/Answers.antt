@@ -1,4 +1,4 @@
-use Rattle.std.proofs.Common.{◌≡◌, List, [], map, Ok, ap, sym, subst}
+use Rattle.std.proofs.Common.{◌≡◌, ℕ, List, [], map, Ok, ap, sym, subst}
 use Rattle.std.specs.Prelude.{◌&&◌, option_map, unwrap_or, Option}
 use Rattle.framehop.specs.Modules.{ModuleView, UnwinderView}
 use Rattle.framehop_frames.specs.Notes.{NotedStack, option_noted, AreStackNotes}
@@ -28,18 +28,21 @@ returns-clause-told g c = λ module_of served.
     let explained = c.args.options.frames && c.args.options.explain in
     let start = c.start-start.result in
     let stack = option_stack_view c.in_ok-walked.walked in
-    let notes = c.in_ok-notes.notes.items in
+    let notes = c.as_slice.result.now in
     let memory = copied_memory c.args.user.stack.now start in
     let by-view = subst (λ (view : UnwinderView). NotedIf explained (AreStackNotes (g.U.Steps.is_note view.modules memory) (option_noted c.in_ok-walked.walked)) notes)
-    c.unwinder.ensures c.in_ok-notes.ensures in
+    c.unwinder.ensures (subst (λ (list : List (List ℕ)). NotedIf explained (AreStackNotes (g.U.Steps.is_note (g.U.Unwinder.unwinder_view c.unwinder.result.now).modules memory) (option_noted c.in_ok-walked.walked)) list)
+    (sym c.as_slice.ensures.value) c.in_ok-notes.ensures) in
     let noted = subst (λ (of : Option (NotedStack g.row.U-UnwindRegs.Denot)). NotedIf explained (AreStackNotes (g.U.Steps.is_note process.unwinder.modules memory) of) notes)
     (c.in_ok-walked.ensures.noted fit.sound) by-view in
     let Told : List Mapping → List ModuleView → Type 0 = λ mappings list.
     IsUserStack g.U.Steps.walker g.U.Steps.is_note g.U.Sampled.starts explained c.args.options.limit c.args.files.now mappings list c.args.mask (Ok (user_view c.args.user)) stack notes in (
       stack,
-      notes,
-      subst (λ mappings. Told mappings (map module_of (mapped_in c.args.self.now.processes.by_pid pid))) mapped
-          (subst (Told process.mappings) modules
-          (start, c.start-start.ensures process.unwinder.modules (sym c.greatest_end.ensures), c.in_ok-walked.ensures.walked fit.sound, noted)),
-      c.in_ok-take_walked.ensures.taken,
+      (
+        notes,
+        subst (λ mappings. Told mappings (map module_of (mapped_in c.args.self.now.processes.by_pid pid))) mapped
+            (subst (Told process.mappings) modules
+            (start, c.start-start.ensures process.unwinder.modules (sym c.greatest_end.ensures), c.in_ok-walked.ensures.walked fit.sound, noted)),
+        c.in_ok-take_walked.ensures.taken,
+      ),
     )
