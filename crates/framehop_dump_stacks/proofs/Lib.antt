@@ -1,3 +1,6 @@
 mod DumpLemmas
 mod EachLemmas
 mod MinidumpLemmas
+mod NotedLemmas
+mod ProblemLemmas
+mod EndLemmas

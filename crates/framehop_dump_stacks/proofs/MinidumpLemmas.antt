@@ -1,7 +1,7 @@
 -- The names of files, and minidumps that are read.
-use Rattle.std.proofs.Common.{◌≡◌, ◌≢◌, ℕ, Bool, cond, List, [], ◌∷◌, map, length, ◌-◌, ◌<◌, ◌≤◌, drop, take, ◌+◌, ◌^◌, min, max, get_or, Option, Some, None, option_map, Ok, Err, true, false, refl, ap, sym, subst, Result, ◌∙◌, arith}
+use Rattle.std.proofs.Common.{◌≡◌, ◌≢◌, ℕ, List, [], ◌∷◌, map, length, ◌-◌, ◌<◌, ◌≤◌, drop, take, ◌+◌, ◌^◌, min, max, get_or, Ok, Err, true, false, ap, sym, subst, Result, ◌∙◌, arith}
 use Rattle.std.specs.Prelude.{not, ◌==◌}
-use Rattle.std.specs.List.{find, suffix_len}
+use Rattle.std.specs.List.{suffix_len}
 use Rattle.std.proofs.lemmas.Grind.{common_steps}
 use Rattle.std.proofs.lemmas.List.{map-append, take_more}
 use Rattle.std.proofs.lemmas.List.Sums.{fold-append, suffix_len_is}

@@ -1,6 +1,6 @@
 -- What a core file says of a process (gABI, chapter 5, "Program Loading"; `core(5)`).
 -- Which code may be executed: gABI, chapter 5, "Program Header", p_flags.
-use Rattle.std.specs.Prelude.{ℕ, ◌+◌, ◌-◌, ◌^◌, min, List, [], ◌∷◌, ◌++◌, codes, map, Bool, nat_le, nat_lt, nat_eq, ◌&&◌, ◌==◌, if◌then◌else◌, Option, Some, None, option_map, Result, Ok}
+use Rattle.std.specs.Prelude.{ℕ, ◌+◌, ◌-◌, ◌^◌, min, List, [], ◌∷◌, ◌++◌, codes, map, Bool, nat_eq, ◌&&◌, ◌==◌, if◌then◌else◌, Option, Some, None, option_map, Result, Ok}
 use Rattle.std.specs.Cmp.Lexicographic.{pointwise}
 use Rattle.std.specs.List.{find, flat_map}
 use Rattle.std.specs.Option.{is_some}

@@ -1,6 +1,6 @@
 -- What a minidump says of a process (Microsoft's minidumpapiset.h; Breakpad's minidump_format.h, MD).
 -- The code of a file: gABI, chapter 5, "Program Header".
-use Rattle.std.specs.Prelude.{◌≡◌, ℕ, ◌+◌, ◌-◌, ◌^◌, max, min, List, [], ◌∷◌, ◌++◌, map, Bool, true, false, ◌||◌, ◌==◌, if◌then◌else◌, Option, Some, None, Result, Ok}
+use Rattle.std.specs.Prelude.{◌≡◌, ℕ, ◌+◌, ◌-◌, ◌^◌, max, min, List, [], ◌∷◌, ◌++◌, Bool, true, false, ◌||◌, ◌==◌, if◌then◌else◌, Option, Some, None, Result, Ok}
 use Rattle.std.specs.Int.Count.{count_leading_zeros}
 use Rattle.std.specs.List.{after_last, flat_map, fold}
 use Rattle.framehop_bytes.specs.Bytes.{◌>>=◌}

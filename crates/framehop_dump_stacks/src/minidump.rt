@@ -166,7 +166,7 @@ pub fn dump_in<'a>(
     let threads = threads_in(alloc, file, of_all, listed.as_slice())?;
     let ranges = read_memory(alloc, file, streams)?;
     let memory = ProcessMemory::new(alloc, file, ranges)?;
-    let segments = read_memory_info(alloc, file, streams)?;
+    let segments = all_regions(alloc, file, streams)?;
     let pid = read_process_id(file, streams)?;
     Ok(Dump {
         kind: Kind::Minidump,

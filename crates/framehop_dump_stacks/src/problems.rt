@@ -89,17 +89,24 @@ fn is_in_memory(
 ) -> Result<bool, AllocError>
     ensures { IfOk result (λ has. has ≡ is_in_memory (dump_view dump.now) files.now mappings.now name.now) }
 {
-    has_frames(alloc, dump, name, first_mapping(mappings, files.number_of(name)))
+    has_frames(
+        alloc,
+        dump,
+        name,
+        first_mapping(mappings, files.number_of(name)),
+    )
 }
 
 /// Returns the first mapping of a file that has its unwind data.
 fn first_mapping(mappings: &[Mapping], number: Option<u32>) -> Option<Mapping>
     ensures { result ≡ find (is_of_file number) mappings.now }
 {
-    mappings
-        .iter()
-        .find(|mapping| is_of_file(number, **mapping))
-        .copied()
+    for mapping in mappings {
+        if is_of_file(number, *mapping) {
+            return Some(*mapping);
+        }
+    }
+    None
 }
 
 /// Returns whether a mapping is of a file and has its unwind data.
