@@ -1,5 +1,7 @@
-//! Memory of many ranges, in any order, and of ranges that overlap. The words are those of the file at the ranges' offsets.
+//! Memory and code of many ranges, in any order, and of ranges that overlap. The words are those of the file at the ranges' offsets.
+use framehop_memory::code::CodeSegments;
 use framehop_memory::memory::{MemoryRange, ProcessMemory};
+use framehop_memory::segment::Segment;
 use std::alloc::{AllocError, Global};
 use std::test::Fail;
 
@@ -84,5 +86,57 @@ fn takes_the_first_that_overlaps(rt: HostRuntime) -> Result<(), Fail> {
     assert_eq!(rt; memory.word_at(0x1018), Some(5));
     assert_eq!(rt; memory.bytes_at(0x1008, 24), file.get(24..48));
     assert_eq!(rt; memory.bytes_from(0x1010), file.get(8..16));
+    Ok(())
+}
+
+/// Returns a segment of memory.
+fn segment(address: u64, size: u64, is_code: bool) -> Segment {
+    Segment {
+        address,
+        size,
+        offset: 0,
+        file_size: 0,
+        is_code,
+    }
+}
+
+/// Returns segments of 16 bytes, the last address first, of which each second may be executed.
+fn segments_backwards(alloc: Global, count: u64) -> Result<Vec<Segment>, AllocError> {
+    let mut segments = Vec::new(alloc);
+    for index in (0..count).rev() {
+        segments.push(segment(start_of(index), 16, index % 2 == 1))?;
+    }
+    Ok(segments)
+}
+
+#[test]
+fn finds_code_among_many(rt: HostRuntime) -> Result<(), Fail> {
+    let segments = segments_backwards(rt.alloc(), MANY)?;
+    let code = CodeSegments::new(rt.alloc(), segments)?;
+    let all = (0..MANY).all(|index| {
+        let start = start_of(index);
+        let is_code = index % 2 == 1;
+        code.is_code_at(start) == is_code
+            && code.is_code_at(start.wrapping_add(15)) == is_code
+            && !code.is_code_at(start.wrapping_add(16))
+    });
+    assert!(rt; all);
+    assert_eq!(rt; code.segments().len() as u64, MANY);
+    Ok(())
+}
+
+#[test]
+fn finds_code_that_overlaps(rt: HostRuntime) -> Result<(), Fail> {
+    let mut segments = Vec::new(rt.alloc());
+    segments.push(segment(0x2000, 0x1000, false))?;
+    segments.push(segment(0x1000, 0x3000, true))?;
+    segments.push(segment(0x1800, 0x10, true))?;
+    segments.push(segment(u64::MAX, 1, true))?;
+    let code = CodeSegments::new(rt.alloc(), segments)?;
+    assert!(rt; code.is_code_at(0x2000));
+    assert!(rt; code.is_code_at(0x3fff));
+    assert!(rt; !code.is_code_at(0x4000));
+    assert!(rt; !code.is_code_at(0xfff));
+    assert!(rt; code.is_code_at(u64::MAX));
     Ok(())
 }

@@ -9,7 +9,7 @@ use Rattle.std.proofs.lemmas.List.{get_or_default, length-map, length-take}
 use Rattle.framehop_bytes.specs.Place.{IsPlace}
 use Rattle.std.proofs.lemmas.Bool.Decides.{nat_tests}
 use Rattle.framehop_memory.specs.declared.memory.MemoryRange.{MemoryRange}
-use Rattle.framehop_memory.specs.Range.{dumped, has, start_of, AreApart, AreReordered}
+use Rattle.framehop_memory.specs.Range.{dumped, has, covers, start_of, AreApart, AreReordered}
 
 -- a number of a range that passes a test, and 0 of another
 abbrev pub passing : (MemoryRange → Bool) → (MemoryRange → ℕ) → MemoryRange → ℕ
@@ -100,43 +100,15 @@ find-reordered p ranges others same few =
           a.1 ∙ ap (λ r. Some r) (range-same a.0 b.0 (equal (λ r. r.start)) (equal (λ r. r.size)) (equal (λ r. r.offset))) ∙ sym b.1
     ]
 
--- which ranges have no such bytes
-module _ (file : List ℕ) (address size : ℕ) (range : MemoryRange) where
-  dumped-few : length (dumped file range) ≤ range.size
-  dumped-few = let all = length-take range.size (drop range.offset file) in omega (arith, all)
+-- the bytes that a range has are within it
+dumped-few : (file : List ℕ) (range : MemoryRange) → length (dumped file range) ≤ range.size
+dumped-few file range = let all = length-take range.size (drop range.offset file) in omega (arith, all)
 
-  pub has-ends : has file address size range ≡ true → address + size ≤ range.start + range.size
-  has-ends passes = let few = dumped-few in grind (arith, nat_tests)
+pub has-within : (file : List ℕ) (address size : ℕ) (range : MemoryRange) → has file address size range ≡ true → (range.start ≤ address) × (address + size ≤ range.start + range.size)
+has-within file address size range passes = let few = dumped-few file range in (grind (arith, nat_tests), grind (arith, nat_tests))
 
-  pub has-below : 0 < size → range.start + range.size ≤ address → has file address size range ≡ false
-  has-below some ends = let few = dumped-few in grind (arith, nat_tests)
-
-  pub has-above : address < range.start → has file address size range ≡ false
-  has-above begins = grind (arith, nat_tests)
-
--- of ranges that are apart at most one has some bytes
-pub count-apart : (file : List ℕ) (address size : ℕ) (ranges : List MemoryRange) → 0 < size → AreApart ranges → count (has file address size) ranges ≤ 1
-count-apart file address size [] some apart = omega arith
-count-apart file address size (r ∷ ranges) some apart =
-    let later : AreApart ranges = λ i j d h within. apart (suc i) (suc j) d (omega (arith, h)) (omega (arith, within)) in
-    elim (cases_Bool (has file address size r)) [
-      | inl passes ↦
-          let ends = has-ends file address size r passes in
-          let none = sum-none (has file address size) (λ range. 1) ranges (λ k d h.
-          let after = apart 0 (suc k) d (omega arith) (omega (arith, h)) in
-          has-above file address size (slice_index_or ranges k d) (omega (arith, after, ends, some))) in
-          let all = sum-more (has file address size) (λ range. 1) r ranges passes in
-          omega (arith, none, all)
-      | inr fails ↦
-          let rest = count-apart file address size ranges some later in
-          let all = sum-later (has file address size) (λ range. 1) r ranges fails in
-          omega (arith, rest, all)
-    ]
-
--- the first range that has some bytes, of ranges that are apart, in another order
-pub find-apart : (file : List ℕ) (address size : ℕ) (ranges others : List MemoryRange) → 0 < size → AreReordered ranges others → AreApart others → find (has file address size) ranges ≡ find (has file address size) others
-find-apart file address size ranges others some same apart =
-    find-reordered (has file address size) ranges others same (count-apart file address size others some apart)
+pub covers-within : (address : ℕ) (range : MemoryRange) → covers address range ≡ true → (range.start ≤ address) × (address + 1 ≤ range.start + range.size)
+covers-within address range passes = (grind (arith, nat_tests), grind (arith, nat_tests))
 
 -- where a range begins, in the list of starts
 start-at : (ranges : List MemoryRange) (i : ℕ) (d : MemoryRange) → i < length ranges → slice_index (map start_of ranges) i ≡ (slice_index_or ranges i d).start
@@ -152,39 +124,76 @@ starts-rise ranges i j d apart below within =
       | inr (inr over) ↦ absurd (omega (arith, over, below))
     ]
 
--- the range that halving reaches is the only one that can have some bytes
-pub elsewhere : (file : List ℕ) (address size : ℕ) (ranges : List MemoryRange) (place : ℕ) → 0 < size → AreApart ranges → IsPlace (map start_of ranges) address place → (k : ℕ) (d : MemoryRange) → k < length ranges → k ≢ place → has file address size (slice_index_or ranges k d) ≡ false
-elsewhere file address size ranges place some apart is k d within other =
-    let all = length-map ranges start_of in
-    elim (cases_order k place) [
-      | inl same ↦ absurd (other same)
-      | inr (inl under) ↦
-          let ends = apart k place d under (omega (arith, all, is.within)) in
-          let below = is.below (omega (arith, under)) in
-          let start = start-at ranges place d (omega (arith, all, is.within)) in
-          has-below file address size (slice_index_or ranges k d) some (omega (arith, ends, below, start))
-      | inr (inr over) ↦
-          let next : place + 1 < length ranges = omega (arith, over, within) in
-          let above = is.above (omega (arith, all, next)) in
-          let start = start-at ranges (place + 1) d next in
-          let rises = starts-rise ranges (place + 1) k d apart (omega (arith, over)) within in
-          has-above file address size (slice_index_or ranges k d) (omega (arith, above, start, rises))
-    ]
+-- a test that only ranges pass in which so many addresses are from one on
+module _ (p : MemoryRange → Bool) (address size : ℕ) (some : 0 < size) (within : (range : MemoryRange) → p range ≡ true → (range.start ≤ address) × (address + size ≤ range.start + range.size)) where
+  ends-below : (range : MemoryRange) → range.start + range.size ≤ address → p range ≡ false
+  ends-below range ends = elim (cases_Bool (p range)) [
+    | inl passes ↦ absurd (let h = (within range passes).1 in omega (arith, h, ends, some))
+    | inr fails ↦ fails
+  ]
 
--- so it is the first that has them, if it has them, and else none has
-pub place-has : (file : List ℕ) (address size : ℕ) (ranges : List MemoryRange) (place : ℕ) (e : MemoryRange) → 0 < size → AreApart ranges → IsPlace (map start_of ranges) address place → has file address size (slice_index_or ranges place e) ≡ true → find (has file address size) ranges ≡ Some (slice_index_or ranges place e)
-place-has file address size ranges place e some apart is passes =
-    find-only (has file address size) ranges place e (let all = length-map ranges start_of in omega (arith, all, is.within)) passes
-    (λ k d within below. elsewhere file address size ranges place some apart is k d within (λ same. omega (arith, same, below)))
+  begins-above : (range : MemoryRange) → address < range.start → p range ≡ false
+  begins-above range begins = elim (cases_Bool (p range)) [
+    | inl passes ↦ absurd (let h = (within range passes).0 in omega (arith, h, begins))
+    | inr fails ↦ fails
+  ]
 
-pub place-lacks : (file : List ℕ) (address size : ℕ) (ranges : List MemoryRange) (place : ℕ) (e : MemoryRange) → 0 < size → AreApart ranges → IsPlace (map start_of ranges) address place → has file address size (slice_index_or ranges place e) ≡ false → find (has file address size) ranges ≡ None
-place-lacks file address size ranges place e some apart is fails =
-    let all = length-map ranges start_of in
-    find-none (has file address size) ranges (λ k d within. elim (cases_order k place) [
-      | inl same ↦ rw same (rw (get_or_default ranges place d e (omega (arith, all, is.within))) fails)
-      | inr (inl under) ↦ elsewhere file address size ranges place some apart is k d within (λ same. omega (arith, same, under))
-      | inr (inr over) ↦ elsewhere file address size ranges place some apart is k d within (λ same. omega (arith, same, over))
-    ])
+  -- of ranges that are apart at most one passes
+  count-apart : (ranges : List MemoryRange) → AreApart ranges → count p ranges ≤ 1
+  count-apart [] apart = omega arith
+  count-apart (r ∷ ranges) apart =
+      let later : AreApart ranges = λ i j d h inside. apart (suc i) (suc j) d (omega (arith, h)) (omega (arith, inside)) in
+      elim (cases_Bool (p r)) [
+        | inl passes ↦
+            let ends = (within r passes).1 in
+            let none = sum-none p (λ range. 1) ranges (λ k d h.
+            let after = apart 0 (suc k) d (omega arith) (omega (arith, h)) in
+            begins-above (slice_index_or ranges k d) (omega (arith, after, ends, some))) in
+            let all = sum-more p (λ range. 1) r ranges passes in
+            omega (arith, none, all)
+        | inr fails ↦
+            let rest = count-apart ranges later in
+            let all = sum-later p (λ range. 1) r ranges fails in
+            omega (arith, rest, all)
+      ]
+
+  -- so the first that passes is the same in another order
+  pub find-apart : (ranges others : List MemoryRange) → AreReordered ranges others → AreApart others → find p ranges ≡ find p others
+  find-apart ranges others same apart = find-reordered p ranges others same (count-apart others apart)
+
+  -- the range that halving reaches is the only one that can pass
+  elsewhere : (ranges : List MemoryRange) (place : ℕ) → AreApart ranges → IsPlace (map start_of ranges) address place → (k : ℕ) (d : MemoryRange) → k < length ranges → k ≢ place → p (slice_index_or ranges k d) ≡ false
+  elsewhere ranges place apart is k d inside other =
+      let all = length-map ranges start_of in
+      elim (cases_order k place) [
+        | inl same ↦ absurd (other same)
+        | inr (inl under) ↦
+            let ends = apart k place d under (omega (arith, all, is.within)) in
+            let below = is.below (omega (arith, under)) in
+            let start = start-at ranges place d (omega (arith, all, is.within)) in
+            ends-below (slice_index_or ranges k d) (omega (arith, ends, below, start))
+        | inr (inr over) ↦
+            let next : place + 1 < length ranges = omega (arith, over, inside) in
+            let above = is.above (omega (arith, all, next)) in
+            let start = start-at ranges (place + 1) d next in
+            let rises = starts-rise ranges (place + 1) k d apart (omega (arith, over)) inside in
+            begins-above (slice_index_or ranges k d) (omega (arith, above, start, rises))
+      ]
+
+  -- so it is the first that passes, if it passes, and else none does
+  pub place-passes : (ranges : List MemoryRange) (place : ℕ) (e : MemoryRange) → AreApart ranges → IsPlace (map start_of ranges) address place → p (slice_index_or ranges place e) ≡ true → find p ranges ≡ Some (slice_index_or ranges place e)
+  place-passes ranges place e apart is passes =
+      find-only p ranges place e (let all = length-map ranges start_of in omega (arith, all, is.within)) passes
+      (λ k d inside below. elsewhere ranges place apart is k d inside (λ same. omega (arith, same, below)))
+
+  pub place-fails : (ranges : List MemoryRange) (place : ℕ) (e : MemoryRange) → AreApart ranges → IsPlace (map start_of ranges) address place → p (slice_index_or ranges place e) ≡ false → find p ranges ≡ None
+  place-fails ranges place e apart is fails =
+      let all = length-map ranges start_of in
+      find-none p ranges (λ k d inside. elim (cases_order k place) [
+        | inl same ↦ rw same (rw (get_or_default ranges place d e (omega (arith, all, is.within))) fails)
+        | inr (inl under) ↦ elsewhere ranges place apart is k d inside (λ same. omega (arith, same, under))
+        | inr (inr over) ↦ elsewhere ranges place apart is k d inside (λ same. omega (arith, same, over))
+      ])
 
 -- one more range is apart from those before it
 pub apart-more : (ranges : List MemoryRange) (index i j : ℕ) (d : MemoryRange) → 1 ≤ index

@@ -4,3 +4,4 @@
 pub mod Range
 pub mod Memory
 pub mod Segment
+pub mod Code

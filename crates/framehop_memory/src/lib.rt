@@ -2,6 +2,7 @@
 //! loaded into memory, whatever format they are of.
 #![tactic(auto)]
 
+pub mod code;
 pub mod memory;
 mod ranges;
 pub mod segment;

@@ -1,6 +1,6 @@
 //! Ranges of memory, of which the first that has an address is found by halving.
 ghost use Rattle.std.specs.Prelude.{◌≡◌, ◌<◌, ◌↔◌, true, IfOk, IfSome, find, length, map};
-ghost use Rattle.framehop_memory.specs.Range.{dumped, has, start_of, AreApart, AreReordered};
+ghost use Rattle.framehop_memory.specs.Range.{dumped, has, covers, start_of, AreApart, AreReordered};
 
 use crate::memory::MemoryRange;
 use framehop_bytes::bytes::{back, front};
@@ -64,6 +64,17 @@ impl MemoryRanges {
         }
         nearest_with(ranges, file, address, size)
     }
+
+    /// Returns the first range that an address is in, whether or not the file has the bytes.
+    pub(crate) fn first_at(&self, address: u64) -> Option<MemoryRange>
+        ensures { result ≡ find (covers address) self.now.listed.items }
+    {
+        let ranges = self.by_start.as_slice();
+        if !self.are_apart || ranges.is_empty() {
+            return first_covering(self.listed.as_slice(), address);
+        }
+        nearest_covering(ranges, address)
+    }
 }
 
 /// Returns whether each range ends before the next one begins.
@@ -105,6 +116,37 @@ fn nearest_with(ranges: &[MemoryRange], file: &[u8], address: u64, size: u64) ->
     } else {
         None
     }
+}
+
+/// Returns the first of the ranges that an address is in.
+fn first_covering(ranges: &[MemoryRange], address: u64) -> Option<MemoryRange>
+    ensures { result ≡ find (covers address) ranges.now }
+{
+    ranges
+        .iter()
+        .find(|range| covers(**range, address))
+        .copied()
+}
+
+/// Returns the range, of those that are apart, that an address is in.
+fn nearest_covering(ranges: &[MemoryRange], address: u64) -> Option<MemoryRange>
+    requires some { 0 < length ranges.now }
+    requires apart { AreApart ranges.now }
+    ensures { result ≡ find (covers address) ranges.now }
+{
+    let range = ranges[place(&RangeStarts { ranges }, address)];
+    if covers(range, address) {
+        Some(range)
+    } else {
+        None
+    }
+}
+
+/// Returns whether an address is in a range.
+fn covers(range: MemoryRange, address: u64) -> bool
+    ensures { result ≡ covers address range }
+{
+    range.start <= address && address - range.start < range.size
 }
 
 /// Returns whether a range has so many bytes from an address on.
