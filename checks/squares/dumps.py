@@ -89,6 +89,34 @@ def paths(count):
     return {"dump": core([thread_note(1, STACKS), mapped(files)], [(STACKS, stack_at(STACKS))])}
 
 
+def image(headers):
+    """The first bytes of a file: a segment of code that is the first page, and so many more segments."""
+    code = struct.pack("<IIQQQQQQ", PT_LOAD, 5, 0, 0, 0, PAGE, PAGE, PAGE)
+    more = struct.pack("<IIQQQQQQ", PT_LOAD, 4, PAGE, PAGE, 0, PAGE, PAGE, PAGE) * headers
+    head = b"\x7fELF\2\1\1" + bytes(9) + struct.pack("<HHIQQQIHHHHHH", 3, 62, 1, 0, 64, 0, 0, 64, 56, 1 + headers, 64, 0, 0)
+    return head + code + more
+
+
+def core_of_code(files, loads):
+    """A core file of one thread, of these mapped files, whose segments are all code."""
+    notes = b"".join([thread_note(1, STACKS), mapped(files)])
+    return elf(4, [(PT_NOTE, 0, 0, notes)] + [(PT_LOAD, 5, address, data) for address, data in loads] + [(PT_LOAD, 6, STACKS, stack_at(STACKS))])
+
+
+def code_in_memory(count):
+    """Mapped files that are not given, each with a path and a segment of its own, which has its first bytes."""
+    starts = [0x10000000 + PAGE * at for at in range(count)]
+    files = [(start, start + PAGE, b"/lib/%08d.so" % at) for at, start in enumerate(starts)]
+    return {"dump": core_of_code(files, [(start, image(0)) for start in starts])}
+
+
+def mappings_of_one_file(count):
+    """Mappings of one file that is not given, each with a segment of its own; as many program headers are in its first bytes."""
+    starts = [0x10000000 + PAGE * at for at in range(count)]
+    files = [(start, start + PAGE, b"/lib/code.so") for start in starts]
+    return {"dump": core_of_code(files, [(starts[0], image(min(count, 0xFE00)))] + [(start, bytes(16)) for start in starts[1:]])}
+
+
 def section_names(count):
     """A mapped file whose sections have names of one table without a 0, of as many bytes as sections."""
     table = b"." * (8 * count)
@@ -161,4 +189,4 @@ def minidump_maps(count):
 
 
 KINDS = {function.__name__.replace("_", "-"): function for function in (
-    threads, threads_backwards, masks, paths, section_names, notes_of_one_place, minidump_threads, minidump_modules, minidump_maps)}
+    threads, threads_backwards, masks, paths, code_in_memory, mappings_of_one_file, section_names, notes_of_one_place, minidump_threads, minidump_modules, minidump_maps)}
