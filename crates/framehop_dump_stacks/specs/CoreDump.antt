@@ -14,10 +14,11 @@ use Rattle.framehop_coredump.specs.Thread.{ThreadView as NotedView, threads_of}
 use Rattle.framehop_coredump.specs.declared.error.CoreFileError.{CoreFileError}
 use Rattle.framehop_coredump.specs.Memory.{range_of}
 use Rattle.framehop_elf.specs.Segment.{loaded_segments_of}
+use Rattle.framehop_memory.specs.Code.{has_address}
 use Rattle.framehop_memory.specs.Memory.{MemoryView}
 use Rattle.framehop_memory.specs.Segment.{base_of}
 use Rattle.framehop_memory.specs.declared.segment.Segment.{Segment}
-use Rattle.framehop_dump_stacks.specs.Dump.{has_address, ThreadView, MappedCodeView, DumpView, of_kernel}
+use Rattle.framehop_dump_stacks.specs.Dump.{ThreadView, MappedCodeView, DumpView, of_kernel}
 use Rattle.framehop_dump_stacks.specs.Image.{head_at, segments_in, build_id_in}
 use Rattle.framehop_dump_stacks.specs.declared.dump.Cause.{Cause}
 use Rattle.framehop_dump_stacks.specs.declared.dump.Cause.TheVariants.{Signal}

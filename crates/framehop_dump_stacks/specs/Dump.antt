@@ -1,9 +1,10 @@
 -- What is known of a process that is gone, by a core file or a minidump.
-use Rattle.std.specs.Prelude.{nat_eq, nat_le, nat_lt, ℕ, ◌+◌, List, [], map, Bool, ◌&&◌, Option, is_some, option_map, unwrap_or}
+use Rattle.std.specs.Prelude.{nat_eq, ℕ, List, [], map, Bool, Option, option_map, unwrap_or}
 use Rattle.std.specs.Cmp.Lexicographic.{pointwise}
 use Rattle.std.specs.List.{find}
 use Rattle.framehop_core.specs.Memory.{Memory}
 use Rattle.framehop_coredump.specs.declared.core_file.Machine.{Machine}
+use Rattle.framehop_memory.specs.Code.{is_code_in}
 use Rattle.framehop_memory.specs.Memory.{MemoryView, memory_view, word_of}
 use Rattle.framehop_memory.specs.declared.segment.Segment.{Segment}
 use Rattle.framehop_dump_stacks.specs.declared.dump.Cause.{Cause}
@@ -70,7 +71,7 @@ abbrev pub dump_view : Dump → DumpView
 dump_view dump = record {
   kind = dump.kind;
   memory = memory_view dump.memory;
-  segments = dump.segments.items;
+  segments = dump.segments.segments.items;
   machine = dump.machine;
   threads = map thread_view dump.threads.items;
   code = map mapped_code_view dump.code.items;
@@ -93,14 +94,6 @@ is_of_path path code = pointwise nat_eq code.path path
 abbrev pub head_of : DumpView → List ℕ → List ℕ
 head_of dump path = unwrap_or (option_map (λ code. code.head) (find (is_of_path path) dump.code)) []
 
--- a segment of memory has an address
-abbrev pub has_address : ℕ → Segment → Bool
-has_address address segment = nat_le segment.address address && nat_lt address (segment.address + segment.size)
-
--- and may be executed
-abbrev pub has_code : ℕ → Segment → Bool
-has_code address segment = segment.is_code && has_address address segment
-
 -- an address is in a segment that may be executed
 abbrev pub is_code_at : DumpView → ℕ → Bool
-is_code_at dump address = is_some (find (has_code address) dump.segments)
+is_code_at dump address = is_code_in dump.segments address

@@ -4,11 +4,12 @@ ghost use Rattle.framehop_coredump.specs.declared.error.CoreFileError.{CoreFileE
 ghost use Rattle.framehop_coredump.specs.MappedFile.{mapped_file_view};
 ghost use Rattle.framehop_coredump.specs.Process.{process_view};
 ghost use Rattle.framehop_coredump.specs.Thread.{thread_view as noted_view};
-ghost use Rattle.framehop_dump_stacks.specs.Dump.{has_address, thread_view, mapped_code_view, dump_view};
+ghost use Rattle.framehop_dump_stacks.specs.Dump.{thread_view, mapped_code_view, dump_view};
+ghost use Rattle.framehop_memory.specs.Code.{has_address};
 ghost use Rattle.framehop_memory.specs.Memory.{memory_view};
 ghost use Rattle.framehop_dump_stacks.specs.CoreDump.{cause_of_signal, thread_of, name_of, pid_of, is_beginning, head_in, base_in_memory, is_mapped_code, code_if, code_of, vdso_code, core_dump_of};
 
-use crate::dump::{Cause, Dump, Kind, MappedCode, Registers, Thread, has_address};
+use crate::dump::{Cause, Dump, Kind, MappedCode, Registers, Thread};
 use crate::image::{build_id_in, head_at, segments_in};
 use framehop_coredump::auxiliary_vector::vdso_of;
 use framehop_coredump::core_file::read_core_file;
@@ -19,6 +20,7 @@ use framehop_coredump::note::read_notes;
 use framehop_coredump::process::{Process, read_process};
 use framehop_coredump::thread::{Thread as NotedThread, read_threads};
 use framehop_elf::segment::loaded_segments;
+use framehop_memory::code::CodeSegments;
 use framehop_memory::memory::ProcessMemory;
 use framehop_memory::segment::{Segment, base_avma};
 use std::alloc::{AllocError, Global};
@@ -58,10 +60,13 @@ pub fn read_core_dump<'a>(alloc: Global, file: &'a [u8]) -> Result<Dump<'a>, Cor
     ) else {
         return Err(CoreFileError::OutOfMemory);
     };
+    let Ok(segments) = CodeSegments::new(alloc, dumped) else {
+        return Err(CoreFileError::OutOfMemory);
+    };
     Ok(Dump {
         kind: Kind::CoreFile,
         memory,
-        segments: dumped,
+        segments,
         machine: core.machine,
         threads,
         code,
@@ -263,6 +268,13 @@ fn segment_at(dumped: &[Segment], address: u64) -> Option<Segment>
         }
     }
     None
+}
+
+/// Returns whether a segment of memory has an address (AVMA).
+fn has_address(segment: Segment, address: u64) -> bool
+    ensures { result ≡ has_address address segment }
+{
+    segment.address <= address && address - segment.address < segment.size
 }
 
 /// Returns the name of the program of a process.

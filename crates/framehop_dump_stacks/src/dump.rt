@@ -1,11 +1,11 @@
 //! What is known of a process that is gone, by a core file or a minidump: its memory, its threads, and the code
 //! that it had mapped.
 ghost use Rattle.std.specs.Prelude.{◌≡◌, find, is_some, option_map};
-ghost use Rattle.framehop_dump_stacks.specs.Dump.{dump_view, mapped_code_view, is_of_path, head_of, has_address, has_code, is_code_at};
+ghost use Rattle.framehop_dump_stacks.specs.Dump.{dump_view, mapped_code_view, is_of_path, head_of, is_code_at};
 
 use framehop_coredump::core_file::Machine;
+use framehop_memory::code::CodeSegments;
 use framehop_memory::memory::ProcessMemory;
-use framehop_memory::segment::Segment;
 
 /// Which kind of file tells of a process.
 #[derive(Clone, Copy, Debug, PartialEq, Eq)]
@@ -82,7 +82,7 @@ pub struct Dump<'a> {
     /// Its memory.
     pub memory: ProcessMemory<'a>,
     /// The segments of its memory, if the file tells them.
-    pub segments: Vec<Segment>,
+    pub segments: CodeSegments,
     /// The machine on which it ran.
     pub machine: Machine,
     /// Its threads.
@@ -99,26 +99,7 @@ pub struct Dump<'a> {
 pub(crate) fn is_code_at(dump: &Dump<'_>, address: u64) -> bool
     ensures { result ≡ is_code_at (dump_view dump.now) address }
 {
-    for segment in &dump.segments {
-        if has_code(*segment, address) {
-            return true;
-        }
-    }
-    false
-}
-
-/// Returns whether a segment of memory that may be executed has an address (AVMA).
-fn has_code(segment: Segment, address: u64) -> bool
-    ensures { result ≡ has_code address segment }
-{
-    segment.is_code && has_address(segment, address)
-}
-
-/// Returns whether a segment of memory has an address (AVMA).
-pub(crate) fn has_address(segment: Segment, address: u64) -> bool
-    ensures { result ≡ has_address address segment }
-{
-    segment.address <= address && address - segment.address < segment.size
+    dump.segments.is_code_at(address)
 }
 
 /// Returns the first bytes of a file whose code was mapped, as far as memory has them.

@@ -19,6 +19,7 @@ use crate::image::{build_id_in, head_at, segments_in};
 use framehop_coredump::core_file::Machine;
 use framehop_elf::program_header::ProgramHeader;
 use framehop_elf::segment::loaded_segments;
+use framehop_memory::code::CodeSegments;
 use framehop_memory::memory::ProcessMemory;
 use framehop_memory::segment::{Segment, base_from};
 use framehop_minidump::codeview::{CodeView, read_codeview};
@@ -166,7 +167,8 @@ pub fn dump_in<'a>(
     let threads = threads_in(alloc, file, of_all, listed.as_slice())?;
     let ranges = read_memory(alloc, file, streams)?;
     let memory = ProcessMemory::new(alloc, file, ranges)?;
-    let segments = all_regions(alloc, file, streams)?;
+    let regions = all_regions(alloc, file, streams)?;
+    let segments = CodeSegments::new(alloc, regions)?;
     let pid = read_process_id(file, streams)?;
     Ok(Dump {
         kind: Kind::Minidump,

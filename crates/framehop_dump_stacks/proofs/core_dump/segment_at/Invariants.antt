@@ -1,6 +1,6 @@
 use Rattle.std.proofs.Common.{◌≡◌, drop}
 use Rattle.std.specs.List.{find}
-use Rattle.framehop_dump_stacks.specs.Dump.{has_address}
+use Rattle.framehop_memory.specs.Code.{has_address}
 use Rattle.framehop_dump_stacks.proofs.core_dump.segment_at.Given as goal
 
 abbrev pub invariant-loop-segment : goal.invariant-loop-segment
