@@ -4,3 +4,5 @@ mod MinidumpLemmas
 mod NotedLemmas
 mod ProblemLemmas
 mod EndLemmas
+mod SegmentLemmas
+mod HeadLemmas

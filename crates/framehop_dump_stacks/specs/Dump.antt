@@ -91,8 +91,11 @@ abbrev pub is_of_path : List ℕ → MappedCodeView → Bool
 is_of_path path code = pointwise nat_eq code.path path
 
 -- those bytes, by the path of the file
+abbrev pub head_among : List MappedCodeView → List ℕ → List ℕ
+head_among code path = unwrap_or (option_map (λ code. code.head) (find (is_of_path path) code)) []
+
 abbrev pub head_of : DumpView → List ℕ → List ℕ
-head_of dump path = unwrap_or (option_map (λ code. code.head) (find (is_of_path path) dump.code)) []
+head_of dump path = head_among dump.code path
 
 -- an address is in a segment that may be executed
 abbrev pub is_code_at : DumpView → ℕ → Bool

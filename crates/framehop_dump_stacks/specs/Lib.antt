@@ -5,6 +5,7 @@ pub mod Refusal
 pub mod Dump
 pub mod Image
 pub mod CoreDump
+pub mod Heads
 pub mod Minidump
 pub mod Modules
 pub mod Ended

@@ -1,16 +1,20 @@
 //! What a core file says of a process.
-ghost use Rattle.std.specs.Prelude.{◌≡◌, ◌⊎◌, ◌++◌, ◌∷◌, [], Ok, Err, MatchResult, IfOk, OnOk, find, map, option_map};
+ghost use Rattle.std.specs.Prelude.{◌≡◌, ◌⊎◌, ◌++◌, ◌∷◌, [], Ok, Err, MatchResult, IfOk, OnOk, ℕ, List, is_some, map, option_map};
 ghost use Rattle.framehop_coredump.specs.declared.error.CoreFileError.{CoreFileError};
 ghost use Rattle.framehop_coredump.specs.MappedFile.{mapped_file_view};
 ghost use Rattle.framehop_coredump.specs.Process.{process_view};
 ghost use Rattle.framehop_coredump.specs.Thread.{thread_view as noted_view};
 ghost use Rattle.framehop_dump_stacks.specs.Dump.{thread_view, mapped_code_view, dump_view};
-ghost use Rattle.framehop_memory.specs.Code.{has_address};
 ghost use Rattle.framehop_memory.specs.Memory.{memory_view};
-ghost use Rattle.framehop_dump_stacks.specs.CoreDump.{cause_of_signal, thread_of, name_of, pid_of, is_beginning, head_in, base_in_memory, is_mapped_code, code_if, code_of, vdso_code, core_dump_of};
+ghost use Rattle.framehop_dump_stacks.specs.CoreDump.{cause_of_signal, thread_of, name_of, pid_of, base_in_memory, is_mapped_code, code_by, code_of, vdso_code, core_dump_of};
+ghost use Rattle.framehop_dump_stacks.specs.Heads.{file_head_view, file_head_of};
+ghost use Rattle.framehop_dump_stacks.specs.Image.{segments_in};
+ghost use Rattle.framehop_elf.specs.Segment.{loaded_segments_of};
 
 use crate::dump::{Cause, Dump, Kind, MappedCode, Registers, Thread};
-use crate::image::{build_id_in, head_at, segments_in};
+use crate::dumped_segments::DumpedSegments;
+use crate::heads::{FileHead, HeadsByPath};
+use crate::image::{head_at, segments_in};
 use framehop_coredump::auxiliary_vector::vdso_of;
 use framehop_coredump::core_file::read_core_file;
 use framehop_coredump::error::CoreFileError;
@@ -131,8 +135,9 @@ fn all_code<'a>(
         ≡ code_of (memory_view memory.now) dumped.now (map mapped_file_view files.now)
         ++ vdso_code (memory_view memory.now) dumped.now vdso) }
 {
-    let mut code = code_of(alloc, memory, dumped, files)?;
-    push_vdso(memory, dumped, vdso, &mut code)?;
+    let segments = DumpedSegments::new(dumped);
+    let mut code = code_of(alloc, memory, &segments, files)?;
+    push_vdso(memory, &segments, vdso, &mut code)?;
     Ok(code)
 }
 
@@ -140,86 +145,70 @@ fn all_code<'a>(
 fn code_of<'a>(
     alloc: Global,
     memory: &ProcessMemory<'a>,
-    dumped: &[Segment],
+    dumped: &DumpedSegments<'_>,
     files: &[MappedFile<'a>],
 ) -> Result<Vec<MappedCode<'a>>, AllocError>
     ensures { IfOk result (λ code. map mapped_code_view code.items
-        ≡ code_of (memory_view memory.now) dumped.now (map mapped_file_view files.now)) }
+        ≡ code_of (memory_view memory.now) dumped.now.segments.now (map mapped_file_view files.now)) }
 {
+    let heads = HeadsByPath::of_files(alloc, memory, files)?;
     let mut code = Vec::new(alloc);
     for mapped in files {
-        push_code(alloc, memory, dumped, files, &mut code, *mapped)?;
+        let file = heads.file_at(alloc, mapped.path)?;
+        push_code(alloc, dumped, file, &mut code, *mapped)?;
     }
     Ok(code)
 }
 
-/// Appends a mapped file, if it is one of code.
+/// Appends a mapped file, of which memory has this much, if it is one of code.
 fn push_code<'a>(
     alloc: Global,
-    memory: &ProcessMemory<'a>,
-    dumped: &[Segment],
-    files: &[MappedFile<'a>],
+    dumped: &DumpedSegments<'_>,
+    file: FileHead<'a>,
     code: &mut Vec<MappedCode<'a>>,
     mapped: MappedFile<'a>,
 ) -> Result<(), AllocError>
-    ensures { OnOk result (map mapped_code_view code.new.items ≡ map mapped_code_view code.old.items
-        ++ code_if (memory_view memory.now) dumped.now (map mapped_file_view files.now) (mapped_file_view mapped.entry)) }
+    ensures { OnOk result ((head : List ℕ) → file_head_view file.entry ≡ file_head_of head
+        → map mapped_code_view code.new.items ≡ map mapped_code_view code.old.items
+        ++ code_by dumped.now.segments.now head (mapped_file_view mapped.entry)) }
 {
-    let head = head_in(memory, files, mapped.path);
-    let headers = segments_in(alloc, head)?;
-    let segments = loaded_segments(alloc, headers.as_slice())?;
-    if is_code(dumped, segments.as_slice(), mapped) {
+    if is_code(alloc, dumped, file.head, mapped)? {
         code.push(MappedCode {
             start: mapped.start,
             end: mapped.end,
             offset: mapped.offset,
             path: mapped.path,
-            head,
-            build_id: build_id_in(head, headers.as_slice()),
+            head: file.head,
+            build_id: file.build_id,
             base: None,
         })?;
     }
     Ok(())
 }
 
-/// Returns the first bytes of a mapped file, as far as memory has them.
-fn head_in<'a>(memory: &ProcessMemory<'a>, files: &[MappedFile<'a>], path: &[u8]) -> &'a [u8]
-    ensures { result.now ≡ head_in (memory_view memory.now) (map mapped_file_view files.now) path.now }
-{
-    match beginning(files, path) {
-        Some(mapped) => head_at(memory, mapped.start),
-        None => &[],
-    }
-}
-
-/// Returns the first mapping of a file that has its first byte.
-fn beginning<'a>(files: &[MappedFile<'a>], path: &[u8]) -> Option<MappedFile<'a>>
-    ensures { option_map mapped_file_view result ≡ find (is_beginning path.now) (map mapped_file_view files.now) }
-{
-    for mapped in files {
-        if is_beginning(*mapped, path) {
-            return Some(*mapped);
-        }
-    }
-    None
-}
-
-/// Returns whether a file of this path is mapped from its first byte on.
-fn is_beginning(mapped: MappedFile<'_>, path: &[u8]) -> bool
-    ensures { result ≡ is_beginning path.now (mapped_file_view mapped.entry) }
-{
-    mapped.offset == 0 && mapped.path == path
-}
-
 /// Returns whether a file is mapped to be executed: as the dumped segment says that has the first address, or else as
-/// the segments say that the file's first bytes tell.
-fn is_code(dumped: &[Segment], segments: &[Segment], mapped: MappedFile<'_>) -> bool
-    ensures { result ≡ is_mapped_code dumped.now segments.now (mapped_file_view mapped.entry) }
+/// the program headers say that are in the file's first bytes.
+fn is_code(
+    alloc: Global,
+    dumped: &DumpedSegments<'_>,
+    head: &[u8],
+    mapped: MappedFile<'_>,
+) -> Result<bool, AllocError>
+    ensures { IfOk result (λ is. is ≡ is_mapped_code dumped.now.segments.now (loaded_segments_of (segments_in head.now)) (mapped_file_view mapped.entry)) }
 {
-    match segment_at(dumped, mapped.start) {
-        Some(segment) => segment.is_code,
-        None => base_in_memory(segments, mapped).is_some(),
+    match dumped.at(mapped.start) {
+        Some(segment) => Ok(segment.is_code),
+        None => is_code_by_head(alloc, head, mapped),
     }
+}
+
+/// Returns whether the program headers in the first bytes of a file say that it is mapped to be executed.
+fn is_code_by_head(alloc: Global, head: &[u8], mapped: MappedFile<'_>) -> Result<bool, AllocError>
+    ensures { IfOk result (λ is. is ≡ is_some (base_in_memory (loaded_segments_of (segments_in head.now)) (mapped_file_view mapped.entry))) }
+{
+    let headers = segments_in(alloc, head)?;
+    let segments = loaded_segments(alloc, headers.as_slice())?;
+    Ok(base_in_memory(segments.as_slice(), mapped).is_some())
 }
 
 /// Returns where the stated address 0 of a mapped file is (AVMA), by the segments that its first bytes tell.
@@ -233,17 +222,17 @@ fn base_in_memory(segments: &[Segment], mapped: MappedFile<'_>) -> Option<u64>
 /// Appends the vdso, which no file has: from its first address (AVMA) on, as far as the segment of memory has it.
 fn push_vdso<'a>(
     memory: &ProcessMemory<'a>,
-    dumped: &[Segment],
+    dumped: &DumpedSegments<'_>,
     vdso: Option<u64>,
     code: &mut Vec<MappedCode<'a>>,
 ) -> Result<(), AllocError>
     ensures { OnOk result (map mapped_code_view code.new.items ≡ map mapped_code_view code.old.items
-        ++ vdso_code (memory_view memory.now) dumped.now vdso) }
+        ++ vdso_code (memory_view memory.now) dumped.now.segments.now vdso) }
 {
     let Some(start) = vdso else {
         return Ok(());
     };
-    let Some(segment) = segment_at(dumped, start) else {
+    let Some(segment) = dumped.at(start) else {
         return Ok(());
     };
     code.push(MappedCode {
@@ -256,25 +245,6 @@ fn push_vdso<'a>(
         base: None,
     })?;
     Ok(())
-}
-
-/// Returns the first segment of memory that has an address (AVMA).
-fn segment_at(dumped: &[Segment], address: u64) -> Option<Segment>
-    ensures { result ≡ find (has_address address) dumped.now }
-{
-    for segment in dumped {
-        if has_address(*segment, address) {
-            return Some(*segment);
-        }
-    }
-    None
-}
-
-/// Returns whether a segment of memory has an address (AVMA).
-fn has_address(segment: Segment, address: u64) -> bool
-    ensures { result ≡ has_address address segment }
-{
-    segment.address <= address && address - segment.address < segment.size
 }
 
 /// Returns the name of the program of a process.

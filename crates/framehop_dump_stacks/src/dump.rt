@@ -1,7 +1,7 @@
 //! What is known of a process that is gone, by a core file or a minidump: its memory, its threads, and the code
 //! that it had mapped.
-ghost use Rattle.std.specs.Prelude.{◌≡◌, find, is_some, option_map};
-ghost use Rattle.framehop_dump_stacks.specs.Dump.{dump_view, mapped_code_view, is_of_path, head_of, is_code_at};
+ghost use Rattle.std.specs.Prelude.{◌≡◌};
+ghost use Rattle.framehop_dump_stacks.specs.Dump.{dump_view, is_code_at};
 
 use framehop_coredump::core_file::Machine;
 use framehop_memory::code::CodeSegments;
@@ -100,33 +100,4 @@ pub(crate) fn is_code_at(dump: &Dump<'_>, address: u64) -> bool
     ensures { result ≡ is_code_at (dump_view dump.now) address }
 {
     dump.segments.is_code_at(address)
-}
-
-/// Returns the first bytes of a file whose code was mapped, as far as memory has them.
-pub fn head_of<'a>(dump: &Dump<'a>, path: &[u8]) -> &'a [u8]
-    ensures { result.now ≡ head_of (dump_view dump.now) path.now }
-{
-    match code_of_path(dump, path) {
-        Some(code) => code.head,
-        None => &[],
-    }
-}
-
-/// Returns the first mapping of code of the file of a path.
-fn code_of_path<'a>(dump: &Dump<'a>, path: &[u8]) -> Option<MappedCode<'a>>
-    ensures { option_map mapped_code_view result ≡ find (is_of_path path.now) (dump_view dump.now).code }
-{
-    for code in &dump.code {
-        if is_of_path(*code, path) {
-            return Some(*code);
-        }
-    }
-    None
-}
-
-/// Returns whether code is of the file of a path.
-fn is_of_path(code: MappedCode<'_>, path: &[u8]) -> bool
-    ensures { result ≡ is_of_path path.now (mapped_code_view code.entry) }
-{
-    code.path == path
 }

@@ -4,8 +4,10 @@
 
 pub mod core_dump;
 pub mod dump;
+mod dumped_segments;
 pub mod error;
 pub mod explain;
+pub mod heads;
 pub mod image;
 pub mod machine;
 pub mod minidump;

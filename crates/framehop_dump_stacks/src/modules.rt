@@ -4,13 +4,15 @@ ghost use Rattle.framehop_elf.specs.Segment.{loaded_segments_of};
 ghost use Rattle.framehop_elf.specs.UnwindSections.{sections_view};
 ghost use Rattle.framehop_processes.specs.Process.{HasModules};
 ghost use Rattle.framehop_symbols.specs.Files.{placed_at};
-ghost use Rattle.framehop_dump_stacks.specs.Dump.{mapped_code_view, dump_view};
+ghost use Rattle.framehop_dump_stacks.specs.Dump.{mapped_code_view, dump_view, head_of};
+ghost use Rattle.framehop_dump_stacks.specs.Heads.{HasHeadsOf};
 ghost use Rattle.framehop_dump_stacks.specs.Ended.{drawn_in, MayEnd};
 ghost use Rattle.framehop_dump_stacks.specs.Image.{segments_in};
 ghost use Rattle.framehop_dump_stacks.specs.Modules.{AreFilesOf, base_by, base_in, mapping_based, mapping_in, mappings_in, module_with, sections_by, module_at};
 
-use crate::dump::{Dump, MappedCode, head_of};
+use crate::dump::{Dump, MappedCode};
 use crate::error::DumpStacksError;
+use crate::heads::HeadsByPath;
 use crate::image::{sections_in, segments_in};
 use framehop::Module;
 use framehop::generations::Generations;
@@ -38,13 +40,23 @@ pub fn read_files<S: FileSource>(
 }
 
 /// Makes the modules of mappings, by the files of a dump and by its memory.
-#[derive(Clone, Copy, Drop)]
-pub struct DumpModules<'a> {
+#[derive(Drop)]
+pub struct DumpModules<'a, 'b> {
     pub dump: &'a Dump<'a>,
-    pub files: &'a Files,
+    pub files: &'b Files,
+    /// The first bytes of the files whose code the dump has.
+    pub heads: HeadsByPath<'a>,
+    ghost known: { HasHeadsOf (dump_view dump.now).code heads.by_path },
 }
 
-impl DumpModules<'_> {
+impl<'a> DumpModules<'a, '_> {
+    /// Returns the first bytes of a file whose code was mapped, as far as memory has them.
+    pub fn head_of(&self, path: &[u8]) -> &'a [u8]
+        ensures { result.now ≡ head_of (dump_view self.now.dump.now) path.now }
+    {
+        self.heads.head_at(path)
+    }
+
     /// Returns the unwind sections of a mapping's file, as memory has them.
     fn sections(
         &self,
@@ -55,7 +67,7 @@ impl DumpModules<'_> {
     {
         match self.files.get(mapping.file) {
             Some(file) => {
-                let head = head_of(self.dump, file.name.as_slice());
+                let head = self.head_of(file.name.as_slice());
                 sections_in(alloc, &self.dump.memory, head, mapping.base_avma)
             }
             None => Ok(ExplicitModuleSectionInfo::default()),
@@ -103,7 +115,7 @@ fn module_with(
     }
 }
 
-impl<U: FileUnwinder> ModuleMaker<U> for DumpModules<'_> {
+impl<U: FileUnwinder> ModuleMaker<U> for DumpModules<'_, '_> {
     ghost use Rattle.std.specs.Prelude.{refl};
 
     ghost module_of = { λ maker mapping. module_at (dump_view maker.dump.now) maker.files.now mapping };

@@ -4,8 +4,10 @@ ghost use Rattle.framehop_symbols.specs.Files.{number_in};
 ghost use Rattle.framehop_dump_stacks.specs.Dump.{dump_view};
 ghost use Rattle.framehop_dump_stacks.specs.Problems.{kind_name, IsReason, IsProblemText, is_of_file, has_frames, is_in_memory, in_memory_text, IsLineOf, AreProblems};
 
-use crate::dump::{Dump, Kind, head_of};
+use crate::dump::{Dump, Kind};
+use crate::heads::heads_of;
 use crate::image::sections_in;
+use crate::modules::DumpModules;
 use framehop_frames::line::push_name;
 use framehop_processes::Mapping;
 use framehop_symbols::files::{Files, NamedFile};
@@ -22,9 +24,15 @@ pub fn problems_text(
 ) -> Result<Vec<u8>, AllocError>
     ensures { IfOk result (λ text. AreProblems (dump_view dump.now) files.now mappings.now text.items) }
 {
+    let heads = heads_of(alloc, dump)?;
+    let modules = DumpModules {
+        dump,
+        files,
+        heads,
+    };
     let mut text = Vec::new(alloc);
     for file in files.list() {
-        let line = problem_line(alloc, dump, files, mappings, file)?;
+        let line = problem_line(alloc, &modules, mappings, file)?;
         text.extend_from_slice(line.as_slice())?;
     }
     Ok(text)
@@ -33,12 +41,11 @@ pub fn problems_text(
 /// Returns the line of a file: none where it was read.
 fn problem_line(
     alloc: Global,
-    dump: &Dump<'_>,
-    files: &Files,
+    modules: &DumpModules<'_, '_>,
     mappings: &[Mapping],
     file: &NamedFile,
 ) -> Result<Vec<u8>, AllocError>
-    ensures { IfOk result (λ line. IsLineOf (dump_view dump.now) files.now mappings.now file.now.name.items file.now.problem line.items) }
+    ensures { IfOk result (λ line. IsLineOf (dump_view modules.now.dump.now) modules.now.files.now mappings.now file.now.name.items file.now.problem line.items) }
 {
     let mut line = Vec::new(alloc);
     let Some(problem) = file.problem else {
@@ -46,10 +53,10 @@ fn problem_line(
     };
     let name = file.name.as_slice();
     push_name(&mut line, name)?;
-    let why = problem_text(alloc, dump.kind, problem)?;
+    let why = problem_text(alloc, modules.dump.kind, problem)?;
     line.extend_from_slice(why.as_bytes())?;
-    let in_memory = is_in_memory(alloc, dump, files, mappings, name)?;
-    let note = in_memory_text(alloc, dump.kind, in_memory)?;
+    let in_memory = is_in_memory(alloc, modules, mappings, name)?;
+    let note = in_memory_text(alloc, modules.dump.kind, in_memory)?;
     line.extend_from_slice(note.as_bytes())?;
     line.push(b'\n')?;
     Ok(line)
@@ -82,18 +89,17 @@ fn reason_text(alloc: Global, reason: String) -> Result<String, AllocError>
 /// Returns whether memory has the unwind data of a file.
 fn is_in_memory(
     alloc: Global,
-    dump: &Dump<'_>,
-    files: &Files,
+    modules: &DumpModules<'_, '_>,
     mappings: &[Mapping],
     name: &[u8],
 ) -> Result<bool, AllocError>
-    ensures { IfOk result (λ has. has ≡ is_in_memory (dump_view dump.now) files.now mappings.now name.now) }
+    ensures { IfOk result (λ has. has ≡ is_in_memory (dump_view modules.now.dump.now) modules.now.files.now mappings.now name.now) }
 {
     has_frames(
         alloc,
-        dump,
+        modules,
         name,
-        first_mapping(mappings, files.number_of(name)),
+        first_mapping(mappings, modules.files.number_of(name)),
     )
 }
 
@@ -122,16 +128,21 @@ fn is_of_file(number: Option<u32>, mapping: Mapping) -> bool
 /// Returns whether memory has the unwind data of a file where it is mapped.
 fn has_frames(
     alloc: Global,
-    dump: &Dump<'_>,
+    modules: &DumpModules<'_, '_>,
     name: &[u8],
     mapping: Option<Mapping>,
 ) -> Result<bool, AllocError>
-    ensures { IfOk result (λ has. has ≡ has_frames (dump_view dump.now) name.now mapping) }
+    ensures { IfOk result (λ has. has ≡ has_frames (dump_view modules.now.dump.now) name.now mapping) }
 {
     let Some(mapping) = mapping else {
         return Ok(false);
     };
-    let info = sections_in(alloc, &dump.memory, head_of(dump, name), mapping.base_avma)?;
+    let info = sections_in(
+        alloc,
+        &modules.dump.memory,
+        modules.head_of(name),
+        mapping.base_avma,
+    )?;
     Ok(info.eh_frame.is_some())
 }
 

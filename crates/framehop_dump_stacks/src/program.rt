@@ -21,6 +21,7 @@ use crate::error::DumpStacksError;
 use crate::explain::explained_text;
 use crate::machine::Dumped;
 use crate::minidump::{code_of, dump_in, read_streams_and_modules};
+use crate::heads::heads_of;
 use crate::modules::{DumpModules, map_files, read_files};
 use crate::problems::problems_text;
 use crate::text::threads_text;
@@ -118,17 +119,22 @@ fn write_dump<W: Write, E: Write>(
         × Appends (E.contents err.old) (E.contents err.new) problems) }
     ensures refused { IfErr result (MayEnd (drawn_in (dump_view dump.now) files.now)) }
 {
-    let maker = DumpModules { dump, files };
+    let heads = heads_of(alloc, dump)?;
+    let maker = DumpModules {
+        dump,
+        files,
+        heads,
+    };
     match dump.machine {
         Machine::X86_64 => write_threads::<
             UnwinderX86_64<Vec<u8>, MayAllocateDuringUnwind>,
-            DumpModules<'_>,
+            DumpModules<'_, '_>,
             W,
             E,
         >(alloc, &maker, dump, files, limit, explain, out, err),
         Machine::Aarch64 => write_threads::<
             UnwinderAarch64<Vec<u8>, MayAllocateDuringUnwind>,
-            DumpModules<'_>,
+            DumpModules<'_, '_>,
             W,
             E,
         >(alloc, &maker, dump, files, limit, explain, out, err),

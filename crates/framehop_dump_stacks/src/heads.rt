@@ -1,0 +1,140 @@
+//! What memory has of mapped files, looked up by their paths.
+ghost use Rattle.std.specs.Prelude.{◌≡◌, ◌∷◌, [], List, ℕ, Some, IfOk, OnOk, cond, is_some, option_map, unwrap_or, nat_eq, map};
+ghost use Rattle.std.specs.Cmp.Lexicographic.{pointwise};
+ghost use Rattle.std.specs.Option.{option_or};
+ghost use Rattle.framehop_coredump.specs.MappedFile.{mapped_file_view};
+ghost use Rattle.framehop_memory.specs.Memory.{memory_view};
+ghost use Rattle.framehop_dump_stacks.specs.Dump.{dump_view, mapped_code_view};
+ghost use Rattle.framehop_dump_stacks.specs.Heads.{file_head_view, file_head_of, kept_at, beginning_head, HasBeginnings, HasHeadsOf};
+
+use crate::dump::{Dump, MappedCode};
+use crate::image::{build_id_in, head_at, segments_in};
+use framehop_coredump::mapped_file::MappedFile;
+use framehop_memory::memory::ProcessMemory;
+use std::alloc::{AllocError, Global};
+use std::collections::BTreeMap;
+
+/// What memory has of a file.
+#[derive(Clone, Copy, Drop)]
+pub(crate) struct FileHead<'a> {
+    /// Its first bytes.
+    pub(crate) head: &'a [u8],
+    /// The build id in them, or no bytes.
+    pub(crate) build_id: &'a [u8],
+}
+
+/// What memory has of files, by their paths.
+#[derive(Drop)]
+pub struct HeadsByPath<'a> {
+    by_path: BTreeMap<&'a [u8], FileHead<'a>>,
+}
+
+impl<'a> HeadsByPath<'a> {
+    /// Returns what memory has of mapped files: of each path at its first mapping that has the first byte of the
+    /// file, which is read once.
+    pub(crate) fn of_files(
+        alloc: Global,
+        memory: &ProcessMemory<'a>,
+        files: &[MappedFile<'a>],
+    ) -> Result<Self, AllocError>
+        ensures { IfOk result (λ heads. HasBeginnings (memory_view memory.now) (map mapped_file_view files.now) heads.by_path) }
+    {
+        let mut heads = HeadsByPath {
+            by_path: BTreeMap::new(alloc),
+        };
+        for mapped in files {
+            heads.keep_beginning(alloc, memory, *mapped)?;
+        }
+        Ok(heads)
+    }
+
+    /// Returns the first bytes of the files whose code was mapped, as their first mappings have them.
+    fn of_code(alloc: Global, code: &[MappedCode<'a>]) -> Result<Self, AllocError>
+        ensures { IfOk result (λ heads. HasHeadsOf (map mapped_code_view code.now) heads.by_path) }
+    {
+        let mut heads = HeadsByPath {
+            by_path: BTreeMap::new(alloc),
+        };
+        let mut left = code.len();
+        while left > 0 {
+            left -= 1;
+            let mapped = code[left];
+            heads.insert(
+                mapped.path,
+                FileHead {
+                    head: mapped.head,
+                    build_id: mapped.build_id,
+                },
+            )?;
+        }
+        Ok(heads)
+    }
+
+    /// Returns what memory has of the file of a path.
+    pub(crate) fn file_at(&self, alloc: Global, path: &[u8]) -> Result<FileHead<'a>, AllocError>
+        ensures { IfOk result (λ file. file_head_view file ≡ unwrap_or (kept_at self.now.by_path path.now) (file_head_of [])) }
+    {
+        match self.by_path.get(path) {
+            Some(file) => Ok(*file),
+            None => file_head(alloc, &[]),
+        }
+    }
+
+    /// Returns the first bytes of the file of a path, or none.
+    pub(crate) fn head_at(&self, path: &[u8]) -> &'a [u8]
+        ensures { result.now ≡ unwrap_or (option_map (λ file. file.head) (kept_at self.now.by_path path.now)) [] }
+    {
+        match self.by_path.get(path) {
+            Some(file) => file.head,
+            None => &[],
+        }
+    }
+
+    /// Keeps what memory has of a file, if the mapping has its first byte and nothing is kept for its path.
+    fn keep_beginning(
+        &mut self,
+        alloc: Global,
+        memory: &ProcessMemory<'a>,
+        mapped: MappedFile<'a>,
+    ) -> Result<(), AllocError>
+        ensures { OnOk result ((path : List ℕ) → kept_at self.new.by_path path
+            ≡ option_or (kept_at self.old.by_path path) (beginning_head (memory_view memory.now) (mapped_file_view mapped.entry ∷ []) path)) }
+    {
+        if mapped.offset != 0 {
+            return Ok(());
+        }
+        if self.by_path.contains_key(mapped.path) {
+            return Ok(());
+        }
+        let file = file_head(alloc, head_at(memory, mapped.start))?;
+        self.insert(mapped.path, file)?;
+        Ok(())
+    }
+
+    /// Keeps what memory has of the file of a path, in the place of what was kept.
+    fn insert(&mut self, path: &'a [u8], file: FileHead<'a>) -> Result<(), AllocError>
+        ensures { OnOk result ((other : List ℕ) → kept_at self.new.by_path other
+            ≡ cond (pointwise nat_eq path.entry.now other) (Some (file_head_view file.entry)) (kept_at self.old.by_path other)) }
+    {
+        self.by_path.insert(path, file)?;
+        Ok(())
+    }
+}
+
+/// Returns what memory has of a file with these first bytes.
+fn file_head<'a>(alloc: Global, head: &'a [u8]) -> Result<FileHead<'a>, AllocError>
+    ensures { IfOk result (λ file. file_head_view file ≡ file_head_of head.entry.now) }
+{
+    let headers = segments_in(alloc, head)?;
+    Ok(FileHead {
+        head,
+        build_id: build_id_in(head, headers.as_slice()),
+    })
+}
+
+/// Returns the first bytes of the files whose code was mapped, by their paths.
+pub(crate) fn heads_of<'a>(alloc: Global, dump: &'a Dump<'a>) -> Result<HeadsByPath<'a>, AllocError>
+    ensures { IfOk result (λ heads. HasHeadsOf (dump_view dump.entry.now).code heads.by_path) }
+{
+    HeadsByPath::of_code(alloc, dump.code.as_slice())
+}
