@@ -25,6 +25,7 @@ struct SegmentStarts<'a> {
 
 impl<'a> Starts for SegmentStarts<'a> {
     ghost use Rattle.std.specs.Prelude.{map};
+
     ghost starts = { λ table. map (λ segment. segment.address) table.segments.now };
 
     fn count(&self) -> usize {

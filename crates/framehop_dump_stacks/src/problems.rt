@@ -25,11 +25,7 @@ pub fn problems_text(
     ensures { IfOk result (λ text. AreProblems (dump_view dump.now) files.now mappings.now text.items) }
 {
     let heads = heads_of(alloc, dump)?;
-    let modules = DumpModules {
-        dump,
-        files,
-        heads,
-    };
+    let modules = DumpModules { dump, files, heads };
     let mut text = Vec::new(alloc);
     for file in files.list() {
         let line = problem_line(alloc, &modules, mappings, file)?;

@@ -19,9 +19,9 @@ use crate::core_dump::read_core_dump;
 use crate::dump::Dump;
 use crate::error::DumpStacksError;
 use crate::explain::explained_text;
+use crate::heads::heads_of;
 use crate::machine::Dumped;
 use crate::minidump::{code_of, dump_in, read_streams_and_modules};
-use crate::heads::heads_of;
 use crate::modules::{DumpModules, map_files, read_files};
 use crate::problems::problems_text;
 use crate::text::threads_text;
@@ -120,11 +120,7 @@ fn write_dump<W: Write, E: Write>(
     ensures refused { IfErr result (MayEnd (drawn_in (dump_view dump.now) files.now)) }
 {
     let heads = heads_of(alloc, dump)?;
-    let maker = DumpModules {
-        dump,
-        files,
-        heads,
-    };
+    let maker = DumpModules { dump, files, heads };
     match dump.machine {
         Machine::X86_64 => write_threads::<
             UnwinderX86_64<Vec<u8>, MayAllocateDuringUnwind>,
