@@ -1,7 +1,7 @@
 //! Places and widths, in hundredths of a pixel.
 ghost use Rattle.std.specs.Prelude.{◌≡◌, ◌<◌, ◌≤◌, ◌+◌, ◌++◌, OnOk};
 ghost use Rattle.framehop_flame_graph.specs.Boxes.{boxed};
-ghost use Rattle.framehop_flame_graph.specs.Numbers.{share, edge, width_of, is_shown, hundredths};
+ghost use Rattle.framehop_flame_graph.specs.Numbers.{share, nearest_share, edge, width_of, is_shown, hundredths};
 ghost use Rattle.std.specs.String.{string_bytes};
 
 use crate::boxes::FrameBox;
@@ -21,6 +21,16 @@ pub fn share(part: u64, whole: u64, total: u64) -> u64
     ensures fits { result ≤ whole }
 {
     (u128::from(part) * u128::from(whole) / u128::from(total)) as u64
+}
+
+/// Returns the part of a whole that `part` is of `total`, rounded to the nearest, and up from the middle.
+pub fn nearest_share(part: u64, whole: u16, total: u64) -> u64
+    requires some { 0 < total }
+    requires within { part ≤ total }
+    ensures { result ≡ nearest_share part whole total }
+{
+    let twice = 2 * u128::from(part) * u128::from(whole);
+    ((twice + u128::from(total)) / (2 * u128::from(total))) as u64
 }
 
 /// Returns where a count lies in the picture, in hundredths of a pixel.

@@ -9,3 +9,5 @@ mod large;
 mod names;
 #[cfg(test)]
 mod picture;
+#[cfg(test)]
+mod script;

@@ -1,6 +1,8 @@
 //! The command line.
 use anyhow::Result;
 use clap::{Arg, ArgAction, ArgMatches, Command};
+use framehop_flame_graph::drawing::{Drawing, Layout};
+use framehop_flame_graph::script::ZOOM_AND_SEARCH;
 use framehop_perf_stacks::run::Options;
 use std::alloc::Global;
 
@@ -79,6 +81,18 @@ pub fn command<'a>(alloc: Global) -> Result<Command<'a>> {
         .long("svg")
         .help("Print a flame graph of all recordings as an SVG, in the place of folded stacks")
         .action(ArgAction::SetTrue);
+    let flame = Arg::new(alloc, "flame")
+        .long("flame")
+        .help("Draw the outermost frames at the bottom [default: at the top]")
+        .requires_arg("svg")?
+        .action(ArgAction::SetTrue);
+    let title = valued(
+        alloc,
+        "title",
+        "TEXT",
+        "The title of the flame graph [default: Flame Graph]",
+    )
+    .requires_arg("svg")?;
     let files = Arg::new(alloc, "file")
         .value_name("FILE")
         .required(true)
@@ -98,9 +112,24 @@ pub fn command<'a>(alloc: Global) -> Result<Command<'a>> {
         .arg(explain)?
         .arg(sure)?
         .arg(svg)?
+        .arg(flame)?
+        .arg(title)?
         .arg(limit)?
         .arg(files)?;
     Ok(command)
+}
+
+/// Returns how a flame graph is drawn.
+pub fn drawing<'a>(matches: &'a ArgMatches<'_>) -> Drawing<'a> {
+    Drawing {
+        title: matches.get_str("title").unwrap_or("Flame Graph").as_bytes(),
+        layout: if matches.get_flag("flame") {
+            Layout::Flame
+        } else {
+            Layout::Icicle
+        },
+        script: Some(ZOOM_AND_SEARCH),
+    }
 }
 
 /// Returns what is asked for, where the limit is a number.

@@ -6,10 +6,11 @@ mod arguments;
 mod disk;
 
 use anyhow::Result;
-use arguments::{command, options};
+use arguments::{command, drawing, options};
 use disk::{Disk, files_at};
 use framehop_dump_stacks::error::DumpStacksError;
 use framehop_dump_stacks::program::{write_core_stacks, write_minidump_stacks};
+use framehop_flame_graph::drawing::Drawing;
 use framehop_flame_graph::error::FlameGraphError;
 use framehop_flame_graph::svg::flame_graph;
 use framehop_folded::folded::Folded;
@@ -25,12 +26,12 @@ use std::{env, fs, io};
 const LARGE_RECORDING: u64 = 50_000_000;
 
 /// What is printed of the folded stacks of recordings.
-#[derive(Clone, Copy, PartialEq, Eq)]
-enum Form {
+#[derive(Clone, Copy)]
+enum Form<'a> {
     /// Their lines.
     Text,
     /// A flame graph.
-    Graph,
+    Graph(Drawing<'a>),
 }
 
 fn main(rt: HostRuntime) -> Result<ExitCode> {
@@ -67,7 +68,7 @@ fn run(rt: &HostRuntime) -> Result<u8> {
             eprintln!(rt; "framehop-stacks: a flame graph has no blocks of frames")?;
             return Ok(2);
         }
-        return print_all(rt, paths, &disk, options, Form::Graph);
+        return print_all(rt, paths, &disk, options, Form::Graph(drawing(&matches)));
     }
     print_all(rt, paths, &disk, options, Form::Text)
 }
@@ -83,7 +84,7 @@ fn print_all(
     paths: &[&str],
     disk: &Disk<'_>,
     options: Options,
-    form: Form,
+    form: Form<'_>,
 ) -> Result<u8> {
     let mut folded = Folded::new(rt.alloc());
     let mut status = 0;
@@ -111,10 +112,10 @@ fn print_all(
 }
 
 /// Prints the folded stacks of all recordings, or draws them, and returns the status.
-fn print_folded(rt: &HostRuntime, folded: &Folded, form: Form) -> Result<u8> {
+fn print_folded(rt: &HostRuntime, folded: &Folded, form: Form<'_>) -> Result<u8> {
     let written = match form {
         Form::Text => write_lines(rt, folded),
-        Form::Graph => match flame_graph(rt.alloc(), folded) {
+        Form::Graph(drawing) => match flame_graph(rt.alloc(), folded, drawing) {
             Ok(graph) => write_graph(rt, graph.as_str()),
             Err(FlameGraphError::OutOfMemory) => Err(StacksError::OutOfMemory),
             Err(error) => {
@@ -182,7 +183,7 @@ fn print_stacks(
     path: &str,
     disk: &Disk<'_>,
     options: Options,
-    form: Form,
+    form: Form<'_>,
     folded: &mut Folded,
 ) -> Result<u8> {
     let metadata = match fs::metadata(rt, path) {
@@ -198,7 +199,7 @@ fn print_stacks(
     }
     announce(rt, path, metadata.len())?;
     match fs::read(rt, path) {
-        Ok(bytes) if form == Form::Graph && is_dump(bytes.as_slice()) => {
+        Ok(bytes) if matches!(form, Form::Graph(_)) && is_dump(bytes.as_slice()) => {
             eprintln!(rt; "framehop-stacks: {path}: only recordings are drawn")?;
             Ok(2)
         }
