@@ -1,9 +1,9 @@
 //! Folded stacks as text, as `framehop-stacks` prints them and `flamegraph.pl` of Brendan Gregg's FlameGraph
 //! reads them: a line for each stack, which is its frames from the outermost on, joined by `;`, a blank and a
 //! decimal count.
-ghost use Rattle.std.specs.Prelude.{◌≡◌, ◌≤◌, ◌⊎◌, ◌==◌, length, drop, map, MatchOption, MatchResult, false};
+ghost use Rattle.std.specs.Prelude.{◌≡◌, ◌≤◌, ◌⊎◌, ◌==◌, length, drop, take, map, MatchOption, MatchResult, false};
 ghost use Rattle.std.specs.List.{list_any, position_or_len};
-ghost use Rattle.framehop_folded.specs.Text.{counted, count_of, IsLastBlank, read_line, read_text};
+ghost use Rattle.framehop_folded.specs.Text.{counted, count_of, IsLastBlank, is_text, is_text_byte, line_number, read_line, read_text};
 ghost use Rattle.framehop_folded.specs.declared.error.TextError.TheVariants.{OutOfMemory};
 
 use crate::error::TextError;
@@ -16,6 +16,45 @@ pub struct FoldedLine {
     pub stack: Vec<u8>,
     /// How often the stack was counted.
     pub count: u64,
+}
+
+/// Returns whether text has a byte: one that is no control character, but for tabs, line feeds and carriage returns.
+fn is_text_byte(byte: u8) -> bool
+    ensures { result ≡ is_text_byte byte }
+{
+    byte >= b' ' || byte == b'\t' || byte == b'\n' || byte == b'\r'
+}
+
+/// Returns the first bytes of a text, so many or all.
+fn first_bytes(text: &[u8], count: usize) -> &[u8]
+    ensures { result.now ≡ take count text.entry.now }
+{
+    text.get(..count).unwrap_or(text)
+}
+
+/// Returns whether bytes may be text, by the first 4,096 of them.
+pub fn is_text(bytes: &[u8]) -> bool
+    ensures { result ≡ is_text bytes.now }
+{
+    for byte in first_bytes(bytes, 4096) {
+        if !is_text_byte(*byte) {
+            return false;
+        }
+    }
+    true
+}
+
+/// Returns the number of the line at an offset of a text, in bytes. The first line is line 1.
+pub fn line_number(text: &[u8], offset: usize) -> usize
+    ensures { result ≡ line_number text.now offset }
+{
+    let mut number = 1;
+    for byte in first_bytes(text, offset) {
+        if *byte == b'\n' {
+            number += 1;
+        }
+    }
+    number
 }
 
 /// Returns the value of decimal digits, where there is one below 2^64.

@@ -79,7 +79,15 @@ pub fn command<'a>(alloc: Global) -> Result<Command<'a>> {
         .action(ArgAction::SetTrue);
     let svg = Arg::new(alloc, "svg")
         .long("svg")
-        .help("Print a flame graph of all recordings as an SVG, in the place of folded stacks")
+        .help(
+            "Print a flame graph of all recordings and folded stacks as an SVG, in the place of folded stacks",
+        )
+        .action(ArgAction::SetTrue);
+    let demangle = Arg::new(alloc, "demangle")
+        .long("demangle")
+        .help(
+            "Print the names of C++ and Rust as in the source, by c++filt; this is done by the script framehop-stacks, and needs c++filt [default: as the symbol tables have them]",
+        )
         .action(ArgAction::SetTrue);
     let flame = Arg::new(alloc, "flame")
         .long("flame")
@@ -98,7 +106,7 @@ pub fn command<'a>(alloc: Global) -> Result<Command<'a>> {
         .required(true)
         .num_args(1..)
         .help(
-            "Recordings, whose folded stacks are printed together, or folders of recordings with names in .data; core files and minidumps, whose stacks are printed one after another",
+            "Recordings and folded stacks, whose stacks are printed together, or folders of recordings with names in .data; core files and minidumps, whose stacks are printed one after another; - for standard input",
         )
         .action(ArgAction::Append);
     let command = Command::new(alloc, "framehop-stacks")
@@ -111,6 +119,7 @@ pub fn command<'a>(alloc: Global) -> Result<Command<'a>> {
         .arg(frames)?
         .arg(explain)?
         .arg(sure)?
+        .arg(demangle)?
         .arg(svg)?
         .arg(flame)?
         .arg(title)?

@@ -1,9 +1,10 @@
-//! The program `framehop-stacks`: reads recordings of perf, and prints folded stacks; reads core files and
-//! minidumps, and prints the stacks of their threads.
+//! The program `framehop-stacks`: reads recordings of perf and folded stacks, and prints folded stacks or a flame graph;
+//! reads core files and minidumps, and prints the stacks of their threads.
 #![tactic(auto)]
 
 mod arguments;
 mod disk;
+mod input;
 
 use anyhow::Result;
 use arguments::{command, drawing, options};
@@ -13,17 +14,17 @@ use framehop_dump_stacks::program::{write_core_stacks, write_minidump_stacks};
 use framehop_flame_graph::drawing::Drawing;
 use framehop_flame_graph::error::FlameGraphError;
 use framehop_flame_graph::svg::flame_graph;
+use framehop_folded::error::{FoldedError, TextError};
 use framehop_folded::folded::Folded;
+use framehop_folded::text::{line_number, read_folded};
 use framehop_perf_stacks::error::StacksError;
 use framehop_perf_stacks::program::write_stacks;
 use framehop_perf_stacks::run::Options;
+use input::{Kind, kind_of, name_of, read_input};
 use std::io::{BufWriter, Write};
 use std::path::PathBuf;
 use std::process::ExitCode;
-use std::{env, fs, io};
-
-/// The size from which on a recording is told of before it is read, in bytes: 50 MB.
-const LARGE_RECORDING: u64 = 50_000_000;
+use std::{env, io};
 
 /// What is printed of the folded stacks of recordings.
 #[derive(Clone, Copy)]
@@ -50,6 +51,12 @@ fn run(rt: &HostRuntime) -> Result<u8> {
         eprintln!(rt; "framehop-stacks: the limit is no number")?;
         return Ok(2);
     };
+    if matches.get_flag("demangle") {
+        eprintln!(rt;
+            "framehop-stacks: names are demangled by c++filt: framehop-stacks FILE.. | c++filt, and for a picture | framehop-stacks --svg -"
+        )?;
+        return Ok(2);
+    }
     if options.sure && options.frames {
         eprintln!(rt; "framehop-stacks: only folded stacks are cut at frames that are not sure")?;
         return Ok(2);
@@ -156,28 +163,7 @@ fn usage(rt: &HostRuntime, error: &clap::Error) -> Result<u8> {
     if error.use_stderr() { Ok(2) } else { Ok(0) }
 }
 
-/// Returns whether standard error is a terminal, by where its descriptor leads.
-fn is_terminal(rt: &HostRuntime) -> bool {
-    match fs::read_link(rt, "/proc/self/fd/2") {
-        Ok(path) => {
-            let device = path.into_string();
-            device.starts_with("/dev/pts/") || device.starts_with("/dev/tty")
-        }
-        Err(_) => false,
-    }
-}
-
-/// Says of a large recording that it is read, where someone sees it.
-fn announce(rt: &HostRuntime, path: &str, size: u64) -> Result<()> {
-    if size > LARGE_RECORDING && is_terminal(rt) {
-        let megabytes = size / 1_000_000;
-        eprintln!(rt; "framehop-stacks: {path}: reading {megabytes} MB")?;
-    }
-    Ok(())
-}
-
-/// Prints the stacks of a core file or of a minidump, and of a recording where they are not folded; adds the folded
-/// stacks of a recording to those so far. It must be a regular file.
+/// Prints the stacks of a file or of standard input, or adds them to the folded stacks so far. What it is, its bytes tell.
 fn print_stacks(
     rt: &HostRuntime,
     path: &str,
@@ -186,44 +172,75 @@ fn print_stacks(
     form: Form<'_>,
     folded: &mut Folded,
 ) -> Result<u8> {
-    let metadata = match fs::metadata(rt, path) {
-        Ok(metadata) => metadata,
-        Err(error) => {
-            eprintln!(rt; "framehop-stacks: {path}: {error}")?;
-            return Ok(1);
-        }
-    };
-    if !metadata.is_file() {
-        eprintln!(rt; "framehop-stacks: {path}: not a regular file")?;
+    let Some(bytes) = read_input(rt, path)? else {
         return Ok(1);
+    };
+    let (path, bytes) = (name_of(path), bytes.as_slice());
+    let kind = kind_of(bytes);
+    if let Some(misuse) = misuse_of(kind, options, form) {
+        eprintln!(rt; "framehop-stacks: {path}: {misuse}")?;
+        return Ok(2);
     }
-    announce(rt, path, metadata.len())?;
-    match fs::read(rt, path) {
-        Ok(bytes) if matches!(form, Form::Graph(_)) && is_dump(bytes.as_slice()) => {
-            eprintln!(rt; "framehop-stacks: {path}: only recordings are drawn")?;
-            Ok(2)
-        }
-        Ok(bytes) if options.sure && is_dump(bytes.as_slice()) => {
-            eprintln!(rt; "framehop-stacks: {path}: only recordings are folded")?;
-            Ok(2)
-        }
-        Ok(bytes) if bytes.starts_with(b"\x7fELF") => {
-            print_core(rt, path, bytes.as_slice(), disk, options)
-        }
-        Ok(bytes) if bytes.starts_with(b"MDMP") => {
-            print_minidump(rt, path, bytes.as_slice(), disk, options)
-        }
-        Ok(bytes) => print_recording(rt, path, bytes.as_slice(), disk, options, folded),
-        Err(error) => {
-            eprintln!(rt; "framehop-stacks: {path}: {error}")?;
-            Ok(1)
-        }
+    match kind {
+        Kind::Core => print_core(rt, path, bytes, disk, options),
+        Kind::Minidump => print_minidump(rt, path, bytes, disk, options),
+        Kind::Folded => add_folded(rt, path, bytes, folded),
+        Kind::Recording => print_recording(rt, path, bytes, disk, options, folded),
     }
 }
 
-/// Returns whether bytes are those of a core file or of a minidump.
-fn is_dump(bytes: &[u8]) -> bool {
-    bytes.starts_with(b"\x7fELF") || bytes.starts_with(b"MDMP")
+/// Returns why a file of a kind is not printed as it is asked for, if so.
+fn misuse_of(kind: Kind, options: Options, form: Form<'_>) -> Option<&'static str> {
+    let is_drawn = matches!(form, Form::Graph(_));
+    match kind {
+        Kind::Core | Kind::Minidump if is_drawn => {
+            Some("only recordings and folded stacks are drawn")
+        }
+        Kind::Core | Kind::Minidump if options.sure => Some("only recordings are folded"),
+        Kind::Folded if options.frames => Some("folded stacks have no blocks of frames"),
+        Kind::Folded if options.sure => Some("folded stacks don't say what is sure"),
+        _ => None,
+    }
+}
+
+/// Adds the folded stacks of a text to those so far, if all of its lines can be read.
+fn add_folded(rt: &HostRuntime, path: &str, text: &[u8], folded: &mut Folded) -> Result<u8> {
+    if text.is_empty() {
+        eprintln!(rt; "framehop-stacks: {path}: empty")?;
+        return Ok(1);
+    }
+    let lines = match read_folded(rt.alloc(), text) {
+        Ok(lines) => lines,
+        Err(error) => return refuse_line(rt, path, text, error),
+    };
+    for line in lines {
+        if let Err(error) = folded.add(line.stack, line.count) {
+            eprintln!(rt; "framehop-stacks: {path}: {error}")?;
+            return Ok(match error {
+                FoldedError::OutOfMemory => 2,
+                FoldedError::CountTooLarge => 1,
+            });
+        }
+    }
+    Ok(0)
+}
+
+/// Prints which line of a text is no folded stack, and why.
+fn refuse_line(rt: &HostRuntime, path: &str, text: &[u8], error: TextError) -> Result<u8> {
+    let (offset, cause) = match error {
+        TextError::NoCount(offset) => (offset, "it has no blank before a count"),
+        TextError::BadCount(offset) => (
+            offset,
+            "after its last blank there is no decimal count below 2^64",
+        ),
+        TextError::OutOfMemory => {
+            eprintln!(rt; "framehop-stacks: {path}: {error}")?;
+            return Ok(2);
+        }
+    };
+    let line = line_number(text, offset);
+    eprintln!(rt; "framehop-stacks: {path}: line {line} is no folded stack: {cause}")?;
+    Ok(1)
 }
 
 /// Prints a block for each sample of a recording, by its bytes, or adds its folded stacks to those so far.
