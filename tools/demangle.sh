@@ -1,8 +1,10 @@
 #!/usr/bin/env bash
 # Runs framehop-stacks with c++filt over the names of its stacks: demangle.sh PROGRAM ARGUMENT..
 #
-# A picture is drawn of the demangled stacks, since its names are cut and escaped. In a folded stack a blank after a semicolon, as in the
-# array type `[u8; 4]` of Rust, would begin another frame, so a colon is written for that semicolon. The status is the greatest of both runs.
+# The program reads the demangled stacks once more: a picture is drawn of them, since its names are cut and escaped; and folded stacks are
+# added up and sorted again, since two names may be demangled to one. Blocks of frames are printed as c++filt writes them. In a folded
+# stack a blank after a semicolon, as in the array type `[u8; 4]` of Rust, would begin another frame, so a colon is written for that
+# semicolon. The status is the greatest of both runs.
 set -u
 say() { echo "framehop-stacks: $*" >&2; }
 [ $# -ge 1 ] || { sed -n 2p "$0" >&2; exit 2; }
@@ -23,17 +25,17 @@ while [ $# -gt 0 ]; do
     shift
 done
 
-work=$(mktemp) || exit 1
-trap 'rm -f "$work"' EXIT
-"$program" ${stacks+"${stacks[@]}"} >"$work"
+work=$(mktemp -d) || exit 1
+trap 'rm -rf "$work"' EXIT
+"$program" ${stacks+"${stacks[@]}"} >"$work/stacks"
 status=$?
-[ -s "$work" ] || exit "$status"
-demangled() { c++filt <"$work" | sed '/^[^ ].* [0-9][0-9]*$/s/; /: /g'; }
+[ -s "$work/stacks" ] || exit "$status"
+c++filt <"$work/stacks" | sed '/^[^ ].* [0-9][0-9]*$/s/; /: /g' >"$work/demangled"
 if [ ${#picture[@]} = 0 ]; then
-    demangled
-else
-    demangled | "$program" "${picture[@]}" -
-    drawn=${PIPESTATUS[1]}
-    [ "$status" -ge "$drawn" ] || status=$drawn
+    "$program" - <"$work/demangled" 2>"$work/errors" || cat "$work/demangled"
+    exit "$status"
 fi
+"$program" "${picture[@]}" - <"$work/demangled"
+drawn=$?
+[ "$status" -ge "$drawn" ] || status=$drawn
 exit "$status"
