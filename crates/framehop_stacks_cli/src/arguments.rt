@@ -83,6 +83,13 @@ pub fn command<'a>(alloc: Global) -> Result<Command<'a>> {
             "Print a flame graph of all recordings and folded stacks as an SVG, in the place of folded stacks",
         )
         .action(ArgAction::SetTrue);
+    let diff = Arg::new(alloc, "diff")
+        .long("diff")
+        .help(
+            "Compare two recordings, folded stacks or folders, OLD and NEW: print each stack of either with its two counts",
+        )
+        .conflicts_with("svg")?
+        .action(ArgAction::SetTrue);
     let demangle = Arg::new(alloc, "demangle")
         .long("demangle")
         .help(
@@ -119,6 +126,7 @@ pub fn command<'a>(alloc: Global) -> Result<Command<'a>> {
         .arg(frames)?
         .arg(explain)?
         .arg(sure)?
+        .arg(diff)?
         .arg(demangle)?
         .arg(svg)?
         .arg(flame)?

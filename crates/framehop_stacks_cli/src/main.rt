@@ -8,12 +8,14 @@ mod input;
 
 use anyhow::Result;
 use arguments::{command, drawing, options};
+use clap::ArgMatches;
 use disk::{Disk, files_at};
 use framehop_dump_stacks::error::DumpStacksError;
 use framehop_dump_stacks::program::{write_core_stacks, write_minidump_stacks};
 use framehop_flame_graph::drawing::Drawing;
 use framehop_flame_graph::error::FlameGraphError;
 use framehop_flame_graph::svg::flame_graph;
+use framehop_folded::changes::Changes;
 use framehop_folded::error::{FoldedError, TextError};
 use framehop_folded::folded::Folded;
 use framehop_folded::text::{line_number, read_folded};
@@ -33,6 +35,8 @@ enum Form<'a> {
     Text,
     /// A flame graph.
     Graph(Drawing<'a>),
+    /// Their lines beside those of others.
+    Changes,
 }
 
 fn main(rt: HostRuntime) -> Result<ExitCode> {
@@ -51,14 +55,8 @@ fn run(rt: &HostRuntime) -> Result<u8> {
         eprintln!(rt; "framehop-stacks: the limit is no number")?;
         return Ok(2);
     };
-    if matches.get_flag("demangle") {
-        eprintln!(rt;
-            "framehop-stacks: names are demangled by c++filt: framehop-stacks FILE.. | c++filt, and for a picture | framehop-stacks --svg -"
-        )?;
-        return Ok(2);
-    }
-    if options.sure && options.frames {
-        eprintln!(rt; "framehop-stacks: only folded stacks are cut at frames that are not sure")?;
+    if let Some(misuse) = misuse_of_options(&matches, options) {
+        eprintln!(rt; "framehop-stacks: {misuse}")?;
         return Ok(2);
     }
     let disk = Disk {
@@ -70,14 +68,32 @@ fn run(rt: &HostRuntime) -> Result<u8> {
         vdso: matches.get_str("vdso"),
     };
     let paths = matches.get_strs("file").unwrap_or(&[]);
-    if matches.get_flag("svg") {
-        if options.frames {
-            eprintln!(rt; "framehop-stacks: a flame graph has no blocks of frames")?;
-            return Ok(2);
-        }
-        return print_all(rt, paths, &disk, options, Form::Graph(drawing(&matches)));
+    if matches.get_flag("diff") {
+        return print_changes(rt, paths, &disk, options);
     }
-    print_all(rt, paths, &disk, options, Form::Text)
+    let form = if matches.get_flag("svg") {
+        Form::Graph(drawing(&matches))
+    } else {
+        Form::Text
+    };
+    print_all(rt, paths, &disk, options, form)
+}
+
+/// Returns which options do not go together, if some do not.
+fn misuse_of_options(matches: &ArgMatches<'_>, options: Options) -> Option<&'static str> {
+    if matches.get_flag("demangle") {
+        Some(
+            "names are demangled by c++filt: framehop-stacks FILE.. | c++filt, and for a picture | framehop-stacks --svg -",
+        )
+    } else if options.sure && options.frames {
+        Some("only folded stacks are cut at frames that are not sure")
+    } else if matches.get_flag("svg") && options.frames {
+        Some("a flame graph has no blocks of frames")
+    } else if matches.get_flag("diff") && options.frames {
+        Some("only folded stacks are compared, and no blocks of frames")
+    } else {
+        None
+    }
 }
 
 /// Returns the home folder, if it is known.
@@ -96,21 +112,7 @@ fn print_all(
     let mut folded = Folded::new(rt.alloc());
     let mut status = 0;
     for path in paths {
-        let files = match files_at(rt, path) {
-            Ok(files) => files,
-            Err(error) => {
-                eprintln!(rt; "framehop-stacks: {path}: {error}")?;
-                status = status.max(1);
-                continue;
-            }
-        };
-        if files.is_empty() {
-            eprintln!(rt; "framehop-stacks: {path}: no file in it has a name in .data")?;
-            status = status.max(1);
-        }
-        for file in &files {
-            status = status.max(print_stacks(rt, file, disk, options, form, &mut folded)?);
-        }
+        status = status.max(print_path(rt, path, disk, options, form, &mut folded)?);
     }
     if options.frames {
         return Ok(status);
@@ -118,10 +120,61 @@ fn print_all(
     Ok(status.max(print_folded(rt, &folded, form)?))
 }
 
+/// Prints the stacks of a file or of a folder's recordings, or adds them to the folded stacks so far. Returns the greatest
+/// status.
+fn print_path(
+    rt: &HostRuntime,
+    path: &str,
+    disk: &Disk<'_>,
+    options: Options,
+    form: Form<'_>,
+    folded: &mut Folded,
+) -> Result<u8> {
+    let files = match files_at(rt, path) {
+        Ok(files) => files,
+        Err(error) => {
+            eprintln!(rt; "framehop-stacks: {path}: {error}")?;
+            return Ok(1);
+        }
+    };
+    if files.is_empty() {
+        eprintln!(rt; "framehop-stacks: {path}: no file in it has a name in .data")?;
+        return Ok(1);
+    }
+    let mut status = 0;
+    for file in &files {
+        status = status.max(print_stacks(rt, file, disk, options, form, folded)?);
+    }
+    Ok(status)
+}
+
+/// Prints the folded stacks of two files or folders beside one another, if both can be read to their ends.
+fn print_changes(
+    rt: &HostRuntime,
+    paths: &[&str],
+    disk: &Disk<'_>,
+    options: Options,
+) -> Result<u8> {
+    let alloc = rt.alloc();
+    let [old_path, new_path] = paths else {
+        eprintln!(rt; "framehop-stacks: --diff compares two files or folders, OLD and NEW")?;
+        return Ok(2);
+    };
+    let (mut old, mut new) = (Folded::new(alloc), Folded::new(alloc));
+    let old_status = print_path(rt, old_path, disk, options, Form::Changes, &mut old)?;
+    let new_status = print_path(rt, new_path, disk, options, Form::Changes, &mut new)?;
+    let status = old_status.max(new_status);
+    if status > 0 {
+        return Ok(status);
+    }
+    let changes = Changes::between(alloc, old, new)?;
+    status_of_output(rt, write_changes(rt, &changes))
+}
+
 /// Prints the folded stacks of all recordings, or draws them, and returns the status.
 fn print_folded(rt: &HostRuntime, folded: &Folded, form: Form<'_>) -> Result<u8> {
     let written = match form {
-        Form::Text => write_lines(rt, folded),
+        Form::Text | Form::Changes => write_lines(rt, folded),
         Form::Graph(drawing) => match flame_graph(rt.alloc(), folded, drawing) {
             Ok(graph) => write_graph(rt, graph.as_str()),
             Err(FlameGraphError::OutOfMemory) => Err(StacksError::OutOfMemory),
@@ -131,6 +184,11 @@ fn print_folded(rt: &HostRuntime, folded: &Folded, form: Form<'_>) -> Result<u8>
             }
         },
     };
+    status_of_output(rt, written)
+}
+
+/// Returns the status for what was written, and prints why it was not, if so.
+fn status_of_output(rt: &HostRuntime, written: Result<(), StacksError>) -> Result<u8> {
     match written {
         Ok(()) => Ok(0),
         Err(error) => {
@@ -141,6 +199,14 @@ fn print_folded(rt: &HostRuntime, folded: &Folded, form: Form<'_>) -> Result<u8>
             }
         }
     }
+}
+
+/// Writes the lines of folded stacks beside one another.
+fn write_changes(rt: &HostRuntime, changes: &Changes) -> Result<(), StacksError> {
+    let mut out = BufWriter::new(rt.alloc(), io::writer(rt))?;
+    changes.write(&mut out)?;
+    io::Write::flush(&mut out)?;
+    Ok(())
 }
 
 /// Writes the lines of folded stacks.
@@ -191,14 +257,18 @@ fn print_stacks(
 
 /// Returns why a file of a kind is not printed as it is asked for, if so.
 fn misuse_of(kind: Kind, options: Options, form: Form<'_>) -> Option<&'static str> {
-    let is_drawn = matches!(form, Form::Graph(_));
-    match kind {
-        Kind::Core | Kind::Minidump if is_drawn => {
+    match (kind, form) {
+        (Kind::Core | Kind::Minidump, Form::Graph(_)) => {
             Some("only recordings and folded stacks are drawn")
         }
-        Kind::Core | Kind::Minidump if options.sure => Some("only recordings are folded"),
-        Kind::Folded if options.frames => Some("folded stacks have no blocks of frames"),
-        Kind::Folded if options.sure => Some("folded stacks don't say what is sure"),
+        (Kind::Core | Kind::Minidump, Form::Changes) => {
+            Some("only recordings and folded stacks are compared")
+        }
+        (Kind::Core | Kind::Minidump, Form::Text) if options.sure => {
+            Some("only recordings are folded")
+        }
+        (Kind::Folded, _) if options.frames => Some("folded stacks have no blocks of frames"),
+        (Kind::Folded, _) if options.sure => Some("folded stacks don't say what is sure"),
         _ => None,
     }
 }
