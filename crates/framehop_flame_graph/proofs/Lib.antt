@@ -3,3 +3,4 @@ mod StackLemmas
 mod OrderLemmas
 mod SweepLemmas
 mod BoxLemmas
+mod ChangeLemmas

@@ -2,6 +2,7 @@
 #![tactic(auto)]
 
 mod boxes;
+mod changes;
 pub mod drawing;
 pub mod error;
 mod names;

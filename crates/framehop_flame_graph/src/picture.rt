@@ -25,7 +25,7 @@ fn deepest(boxes: &[FrameBox<'_>]) -> usize
 }
 
 /// Returns how far below the top edge a box of a depth is, in pixels, in a picture of so many rows below the root.
-fn top_of(layout: Layout, rows: usize, depth: usize) -> u128
+pub fn top_of(layout: Layout, rows: usize, depth: usize) -> u128
     requires { depth ≤ rows }
     ensures top { result ≡ top_of layout rows depth }
     ensures fits { result < 2 ^ 100 }
@@ -38,7 +38,7 @@ fn top_of(layout: Layout, rows: usize, depth: usize) -> u128
 }
 
 /// Appends a count with its unit.
-fn push_samples(alloc: Global, out: &mut String, count: u64) -> Result<(), AllocError>
+pub fn push_samples(alloc: Global, out: &mut String, count: u64) -> Result<(), AllocError>
     ensures { OnOk result (string_bytes out.new ≡ string_bytes out.old ++ samples count) }
 {
     if count == 1 {
@@ -77,7 +77,7 @@ fn push_title(
 
 /// Appends where a box begins and how wide it is.
 #[tactic(auto, unfolding(crate::specs::Picture::span_of))]
-fn push_span(
+pub fn push_span(
     alloc: Global,
     out: &mut String,
     total: u64,
@@ -119,7 +119,7 @@ fn push_rectangle(
 
 /// Appends the name in a box, if three characters fit.
 #[tactic(auto, unfolding(crate::specs::Picture::label_of))]
-fn push_label(
+pub fn push_label(
     alloc: Global,
     out: &mut String,
     total: u64,
@@ -238,7 +238,7 @@ fn push_note(alloc: Global, out: &mut String, left_out: usize) -> Result<(), All
 }
 
 /// Appends what comes before the boxes, in a picture of so many rows beside that of the root.
-fn push_head(
+pub fn push_head(
     alloc: Global,
     out: &mut String,
     title: &[u8],
@@ -268,7 +268,7 @@ fn push_script_element(out: &mut String, script: &str) -> Result<(), AllocError>
 }
 
 /// Appends a script, if there is one.
-fn push_script(out: &mut String, script: Option<&str>) -> Result<(), AllocError>
+pub fn push_script(out: &mut String, script: Option<&str>) -> Result<(), AllocError>
     ensures { OnOk result (string_bytes out.new ≡ string_bytes out.old ++ script_of script.entry) }
 {
     match script {

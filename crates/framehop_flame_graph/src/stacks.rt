@@ -3,7 +3,7 @@ ghost use Rattle.std.specs.Prelude.{◌≡◌, ◌<◌, [], IfOk, map, length, s
 ghost use Rattle.std.specs.List.{common_prefix_len};
 ghost use Rattle.std.specs.List.Sorted.{IsPermutation};
 ghost use Rattle.std.specs.Str.{bytes_eq};
-ghost use Rattle.framehop_flame_graph.specs.Stacks.{Stacked, frames_of, viewed, stacks_of};
+ghost use Rattle.framehop_flame_graph.specs.Stacks.{Stacked, frames_of, viewed, viewed_before, stacks_of, stacks_before};
 ghost use Rattle.framehop_flame_graph.specs.Sweep.{Rises, shared_frames, frames_before, neighbours_of};
 
 use framehop_folded::folded::Folded;
@@ -14,6 +14,8 @@ use std::alloc::{AllocError, Global};
 pub struct Stack<'a> {
     pub frames: Vec<&'a [u8]>,
     pub count: u64,
+    /// How often it was counted in the run with which it is compared.
+    pub before: u64,
 }
 
 /// A stack beside the one before it in order.
@@ -32,9 +34,15 @@ fn frames_of(alloc: Global, stack: &[u8]) -> Result<Vec<&[u8]>, AllocError>
     stack.split(|byte| *byte == b';').collect(alloc)
 }
 
-/// Returns folded stacks in order of their frames.
-pub fn stacks_in_order(alloc: Global, folded: &Folded) -> Result<Vec<Stack<'_>>, AllocError>
+/// Returns folded stacks in order of their frames, with how often each was counted in a run before.
+pub fn stacks_in_order<'a>(
+    alloc: Global,
+    folded: &'a Folded,
+    before: &Folded,
+) -> Result<Vec<Stack<'a>>, AllocError>
     ensures same { IfOk result (λ stacks. IsPermutation (stacks_of folded.entry.now) (map viewed stacks.items)) }
+    ensures before { IfOk result (λ stacks. IsPermutation (stacks_before folded.entry.now before.now)
+        (map viewed_before stacks.items)) }
     ensures ordered { IfOk result (λ stacks. Rises [] (map viewed stacks.items)) }
 {
     let mut stacks = Vec::new(alloc);
@@ -42,10 +50,20 @@ pub fn stacks_in_order(alloc: Global, folded: &Folded) -> Result<Vec<Stack<'_>>,
         stacks.push(Stack {
             frames: frames_of(alloc, stack.as_slice())?,
             count: *count,
+            before: before.count_of(stack.as_slice()),
         })?;
     }
     stacks.sort()?;
     Ok(stacks)
+}
+
+/// Gives each stack the count that it had before.
+pub fn take_before(stacks: &mut [Stack<'_>])
+    ensures { map viewed stacks.new ≡ map viewed_before stacks.old }
+{
+    for stack in stacks.iter_mut() {
+        stack.count = stack.before;
+    }
 }
 
 /// Returns how many frames two stacks begin with alike.

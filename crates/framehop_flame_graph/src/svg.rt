@@ -79,7 +79,7 @@ pub fn flame_graph(
     if total == 0 {
         return Err(FlameGraphError::NothingCounted);
     }
-    let stacks = stacks_in_order(alloc, folded)?;
+    let stacks = stacks_in_order(alloc, folded, &Folded::new(alloc))?;
     let boxes = boxes_of(alloc, stacks.as_slice(), total)?;
     let shown = shown_of(alloc, total, boxes.as_slice())?;
     let left_out = boxes.len() - shown.len();
