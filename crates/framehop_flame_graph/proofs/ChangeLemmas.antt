@@ -88,7 +88,7 @@ joined-length [] befores e = refl
 joined-length (frame ∷ frames) [] e = absurd (omega (arith, e))
 joined-length (frame ∷ frames) (before ∷ befores) e = ap suc (joined-length frames befores (omega (arith, e)))
 
-joined-at : (frames befores : List FrameBox) (i : ℕ) (d : FrameBox) (c : ChangedBox) → i < length frames → i < length befores
+pub joined-at : (frames befores : List FrameBox) (i : ℕ) (d : FrameBox) (c : ChangedBox) → i < length frames → i < length befores
     → get_or (joined frames befores) i c ≡ record { frame = get_or frames i d; before = (get_or befores i d).count }
 joined-at [] befores i d c below within = absurd (omega arith)
 joined-at (frame ∷ frames) [] i d c below within = absurd (omega arith)

@@ -4,3 +4,4 @@ mod OrderLemmas
 mod SweepLemmas
 mod BoxLemmas
 mod ChangeLemmas
+mod GraphLemmas

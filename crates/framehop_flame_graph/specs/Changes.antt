@@ -1,6 +1,6 @@
 -- A flame graph of two runs: its boxes are those of the second run, and their colours say how their parts of all differ
 -- from those in the first (Brendan Gregg, "Differential Flame Graphs").
-use Rattle.std.specs.Prelude.{ℕ, Bool, ◌≡◌, ◌==◌, ◌^◌, Option, Some, None, List, [], ◌∷◌, ◌++◌, ◌-◌, codes, length, map, max, min, nat_lt, nat_le, if◌then◌else◌}
+use Rattle.std.specs.Prelude.{ℕ, Bool, ◌≡◌, ◌==◌, ◌||◌, ◌^◌, Option, Some, None, List, [], ◌∷◌, ◌++◌, ◌-◌, codes, length, map, max, min, nat_lt, nat_le, if◌then◌else◌}
 use Rattle.std.specs.Fmt.{decimal}
 use Rattle.std.specs.List.{filter, flat_map, fold}
 use Rattle.framehop_flame_graph.specs.declared.boxes.FrameBox.{FrameBox}
@@ -8,6 +8,8 @@ use Rattle.framehop_flame_graph.specs.declared.changes.ChangedBox.{ChangedBox}
 use Rattle.framehop_flame_graph.specs.declared.changes.Totals.{Totals}
 use Rattle.framehop_flame_graph.specs.declared.drawing.Drawing.{Drawing}
 use Rattle.framehop_flame_graph.specs.declared.drawing.Layout.{Layout}
+use Rattle.framehop_flame_graph.specs.declared.error.FlameGraphError.{FlameGraphError}
+use Rattle.framehop_flame_graph.specs.declared.error.FlameGraphError.TheVariants.{NothingCounted, TotalTooLarge}
 use Rattle.framehop_flame_graph.specs.Boxes.{Box, ArePrefixes, boxed, box_of, root_of}
 use Rattle.framehop_flame_graph.specs.Names.{characters_of, escaped}
 use Rattle.framehop_flame_graph.specs.Numbers.{share, nearest_share, is_shown, hundredths}
@@ -87,6 +89,13 @@ change_picture_of drawing totals changes left_out = let rows = deepest_of change
 abbrev pub shown_changes_of : Drawing → Totals → List Change → List ℕ
 shown_changes_of drawing totals changes = let shown = filter (is_drawn totals) changes in
     change_picture_of drawing totals shown (length changes - length shown)
+
+-- why there is no flame graph of stacks that are counted in both runs, if there is none
+abbrev pub refusal_of_both : List Stacked → List Stacked → Option FlameGraphError
+refusal_of_both stacks before =
+    if nat_le (2 ^ 64) (total_of stacks) || nat_le (2 ^ 64) (total_of before) then Some TotalTooLarge
+    else if total_of stacks == 0 || total_of before == 0 then Some NothingCounted
+    else None
 
 -- The text is the flame graph of stacks, which are counted in the second run and in the first.
 abbrev pub IsChangeGraph : Drawing → List Stacked → List Stacked → List ℕ → Type 0

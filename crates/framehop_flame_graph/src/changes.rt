@@ -205,7 +205,14 @@ fn push_change(
     out.push_str("<g>")?;
     push_change_title(alloc, out, totals, change, characters.as_slice())?;
     push_change_rectangle(alloc, out, totals, top, change)?;
-    push_label(alloc, out, totals.now, top, change.frame, characters.as_slice())?;
+    push_label(
+        alloc,
+        out,
+        totals.now,
+        top,
+        change.frame,
+        characters.as_slice(),
+    )?;
     out.push_str("</g>\n")?;
     Ok(())
 }

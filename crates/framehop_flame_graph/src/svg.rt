@@ -5,15 +5,18 @@ ghost use Rattle.std.specs.String.{string_bytes};
 ghost use Rattle.framehop_flame_graph.specs.Boxes.{boxed};
 ghost use Rattle.framehop_flame_graph.specs.Numbers.{is_shown};
 ghost use Rattle.framehop_flame_graph.specs.Picture.{IsFlameGraph, refusal_of};
-ghost use Rattle.framehop_flame_graph.specs.Stacks.{stacks_of, total_of};
+ghost use Rattle.framehop_flame_graph.specs.Changes.{IsChangeGraph, refusal_of_both};
+ghost use Rattle.framehop_flame_graph.specs.Stacks.{stacks_of, stacks_before, total_of};
 ghost use Rattle.framehop_flame_graph.specs.declared.error.FlameGraphError.TheVariants.{OutOfMemory};
 
 use crate::boxes::{FrameBox, boxes_of};
+use crate::changes::{Totals, draw_changes, join, shown_changes};
 use crate::drawing::Drawing;
 use crate::error::FlameGraphError;
 use crate::numbers::is_shown;
 use crate::picture::draw;
-use crate::stacks::stacks_in_order;
+use crate::stacks::{stacks_in_order, take_before};
+use framehop_folded::changes::Changes;
 use framehop_folded::folded::Folded;
 use std::alloc::{AllocError, Global};
 
@@ -84,4 +87,56 @@ pub fn flame_graph(
     let shown = shown_of(alloc, total, boxes.as_slice())?;
     let left_out = boxes.len() - shown.len();
     Ok(draw(alloc, drawing, total, shown.as_slice(), left_out)?)
+}
+
+/// Returns how often the stacks of a run were counted in a run before, together.
+fn total_before(folded: &Folded, before: &Folded) -> Option<u64>
+    ensures { MatchOption result (2 ^ 64 ≤ total_of (stacks_before folded.now before.now))
+        (λ total. total ≡ total_of (stacks_before folded.now before.now)) }
+{
+    let mut total: u64 = 0;
+    for (stack, _) in folded.iter() {
+        total = total.checked_add(before.count_of(stack.as_slice()))?;
+    }
+    Some(total)
+}
+
+/// Returns the flame graph of the second of two runs, whose colours compare it with the first: an SVG of the form of
+/// [`flame_graph`].
+///
+/// The boxes are those of the second run, as wide as there. A box is red where its part of all is larger than in the
+/// first run, and blue where it is smaller, the darker the more; it tells its counts and parts in both.
+///
+/// # Errors
+///
+/// Those of [`flame_graph`], where the counts of either run add up so.
+pub fn change_graph(
+    alloc: Global,
+    changes: &Changes,
+    drawing: Drawing<'_>,
+) -> Result<String, FlameGraphError>
+    ensures drawn { IfOk result (λ svg. IsChangeGraph drawing.entry (stacks_of changes.now.new)
+        (stacks_before changes.now.new changes.now.old) (string_bytes svg)) }
+    ensures refused { MatchOption (refusal_of_both (stacks_of changes.now.new) (stacks_before changes.now.new changes.now.old))
+        (IfErr result (λ refusal. refusal ≡ OutOfMemory)) (λ refusal. result ≡ Err refusal) }
+{
+    let (folded, old) = (changes.new(), changes.old());
+    let Some(now) = total_of(folded) else {
+        return Err(FlameGraphError::TotalTooLarge);
+    };
+    let Some(before) = total_before(folded, old) else {
+        return Err(FlameGraphError::TotalTooLarge);
+    };
+    if now == 0 || before == 0 {
+        return Err(FlameGraphError::NothingCounted);
+    }
+    let mut stacks = stacks_in_order(alloc, folded, old)?;
+    let boxes = boxes_of(alloc, stacks.as_slice(), now)?;
+    take_before(stacks.as_mut_slice());
+    let boxes_before = boxes_of(alloc, stacks.as_slice(), before)?;
+    let joined = join(alloc, boxes.as_slice(), boxes_before.as_slice())?;
+    let totals = Totals { before, now };
+    let shown = shown_changes(alloc, totals, joined.as_slice())?;
+    let left_out = joined.len() - shown.len();
+    Ok(draw_changes(alloc, drawing, totals, shown.as_slice(), left_out)?)
 }

@@ -21,7 +21,7 @@ returns c =
     let before : c.share-before.result ≡ share change.before 1000000000 totals.before = c.share-before.ensures.share in
     let now : c.share-now.result ≡ share change.frame.count 1000000000 totals.now = c.share-now.ensures.share in
     let colour : string_bytes c.push_change_colour.new.out ≡ string_bytes c.push_str-2.new.self
-        ++ change_colour (share change.before 1000000000 totals.before) (share change.frame.count 1000000000 totals.now) =
+    ++ change_colour (share change.before 1000000000 totals.before) (share change.frame.count 1000000000 totals.now) =
     c.in_ok-push_change_colour.ensures
     ∙ ap (λ part. string_bytes c.push_str-2.new.self ++ change_colour part c.share-now.result) before
     ∙ ap (λ part. string_bytes c.push_str-2.new.self ++ change_colour (share change.before 1000000000 totals.before) part) now in
