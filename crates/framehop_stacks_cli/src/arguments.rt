@@ -86,9 +86,8 @@ pub fn command<'a>(alloc: Global) -> Result<Command<'a>> {
     let diff = Arg::new(alloc, "diff")
         .long("diff")
         .help(
-            "Compare two recordings, folded stacks or folders, OLD and NEW: print each stack of either with its two counts",
+            "Compare two recordings, folded stacks or folders, OLD and NEW: print each stack of either with its two counts; with --svg draw NEW, red where a part of all grew, and blue where it shrank",
         )
-        .conflicts_with("svg")?
         .action(ArgAction::SetTrue);
     let demangle = Arg::new(alloc, "demangle")
         .long("demangle")

@@ -14,7 +14,7 @@ use framehop_dump_stacks::error::DumpStacksError;
 use framehop_dump_stacks::program::{write_core_stacks, write_minidump_stacks};
 use framehop_flame_graph::drawing::Drawing;
 use framehop_flame_graph::error::FlameGraphError;
-use framehop_flame_graph::svg::flame_graph;
+use framehop_flame_graph::svg::{change_graph, flame_graph};
 use framehop_folded::changes::Changes;
 use framehop_folded::error::{FoldedError, TextError};
 use framehop_folded::folded::Folded;
@@ -68,14 +68,14 @@ fn run(rt: &HostRuntime) -> Result<u8> {
         vdso: matches.get_str("vdso"),
     };
     let paths = matches.get_strs("file").unwrap_or(&[]);
-    if matches.get_flag("diff") {
-        return print_changes(rt, paths, &disk, options);
-    }
     let form = if matches.get_flag("svg") {
         Form::Graph(drawing(&matches))
     } else {
         Form::Text
     };
+    if matches.get_flag("diff") {
+        return print_changes(rt, paths, &disk, options, form);
+    }
     print_all(rt, paths, &disk, options, form)
 }
 
@@ -148,12 +148,13 @@ fn print_path(
     Ok(status)
 }
 
-/// Prints the folded stacks of two files or folders beside one another, if both can be read to their ends.
+/// Prints the folded stacks of two files or folders beside one another, or draws them, if both can be read to their ends.
 fn print_changes(
     rt: &HostRuntime,
     paths: &[&str],
     disk: &Disk<'_>,
     options: Options,
+    form: Form<'_>,
 ) -> Result<u8> {
     let alloc = rt.alloc();
     let [old_path, new_path] = paths else {
@@ -168,23 +169,32 @@ fn print_changes(
         return Ok(status);
     }
     let changes = Changes::between(alloc, old, new)?;
-    status_of_output(rt, write_changes(rt, &changes))
+    match form {
+        Form::Graph(drawing) => print_graph(rt, change_graph(alloc, &changes, drawing)),
+        Form::Text | Form::Changes => status_of_output(rt, write_changes(rt, &changes)),
+    }
 }
 
 /// Prints the folded stacks of all recordings, or draws them, and returns the status.
 fn print_folded(rt: &HostRuntime, folded: &Folded, form: Form<'_>) -> Result<u8> {
-    let written = match form {
-        Form::Text | Form::Changes => write_lines(rt, folded),
-        Form::Graph(drawing) => match flame_graph(rt.alloc(), folded, drawing) {
-            Ok(graph) => write_graph(rt, graph.as_str()),
-            Err(FlameGraphError::OutOfMemory) => Err(StacksError::OutOfMemory),
-            Err(error) => {
-                eprintln!(rt; "framehop-stacks: {error}")?;
-                return Ok(1);
+    match form {
+        Form::Graph(drawing) => print_graph(rt, flame_graph(rt.alloc(), folded, drawing)),
+        Form::Text | Form::Changes => status_of_output(rt, write_lines(rt, folded)),
+    }
+}
+
+/// Prints a flame graph, or why there is none, and returns the status.
+fn print_graph(rt: &HostRuntime, graph: Result<String, FlameGraphError>) -> Result<u8> {
+    match graph {
+        Ok(graph) => status_of_output(rt, write_graph(rt, graph.as_str())),
+        Err(error) => {
+            eprintln!(rt; "framehop-stacks: {error}")?;
+            match error {
+                FlameGraphError::OutOfMemory => Ok(2),
+                _ => Ok(1),
             }
-        },
-    };
-    status_of_output(rt, written)
+        }
+    }
 }
 
 /// Returns the status for what was written, and prints why it was not, if so.
