@@ -107,6 +107,25 @@ printf 'app;main;_ZN3foo3barEi 3\napp;main;_RNvXCs1_7mycrateAhj4_NtB2_5Trait3foo
 printf 'app;main;%s 2\napp;main;foo::bar(int) 3\n' "$(c++filt _RNvXCs1_7mycrateAhj4_NtB2_5Trait3foo | tr ';' :)" >"$work/unsorted"
 LC_ALL=C sort "$work/unsorted" >"$work/demangled"
 
+# Two runs: `a` has three of five samples and then five of six, which is 0.28 of the larger part more; `b` is new.
+printf 'main;a 3\nmain;old 2\n' >"$work/old"
+printf 'main;a 5\nmain;b 1\n' >"$work/new"
+printf 'main;a 3 5\nmain;b 0 1\nmain;old 2 0\n' >"$work/compared"
+sed 's/ \([0-9]*\)$/ \1 \1/' "$checks/stacks/both.folded" >"$work/same"
+sed 's/ \([0-9]*\)$/ \1 \1/' "$work/demangled" >"$work/twice"
+cat >"$work/drawn" <<'END'
+<title>Flame Graph
+fill="#ffffff"
+<title>all (6 samples, 100.00%; before 5 samples, 100.00%)
+fill="rgb(230,230,230)"
+<title>main (6 samples, 100.00%; before 5 samples, 100.00%)
+fill="rgb(230,230,230)"
+<title>a (5 samples, 83.33%; before 3 samples, 60.00%)
+fill="rgb(230,191,191)"
+<title>b (1 sample, 16.67%; before 0 samples, 0.00%)
+fill="rgb(230,90,90)"
+END
+
 for program in "$@"; do
     [ -x "$program" ] || continue
     program=$(realpath -- "$program")
@@ -149,10 +168,21 @@ for program in "$@"; do
     try 1 "$work/nothing" "$(said "standard input: empty")" - <"$work/nothing"
     try 2 "$work/nothing" "$(said "$checks/stacks/both.folded: folded stacks have no blocks of frames")" --frames "$checks/stacks/both.folded"
     try 2 "$work/nothing" "$(said "$checks/stacks/both.folded: folded stacks don't say what is sure")" --sure "$checks/stacks/both.folded"
+    # two beside one another: as text with two counts, and drawn
+    try 0 "$work/compared" "$work/nothing" --diff "$work/old" "$work/new"
+    try 0 "$work/compared" "$work/nothing" --diff "$work/old" - <"$work/new"
+    try 0 "$work/same" "$work/both.summary" --root . --diff "$checks/stacks/both.folded" .
+    try 2 "$work/nothing" "$(said "--diff compares two files or folders, OLD and NEW")" --diff "$work/old"
+    try 2 "$work/nothing" "$(said "only folded stacks are compared, and no blocks of frames")" --diff --frames "$work/old" "$work/new"
+    try 2 "$work/nothing" "$(said "crash.core: only recordings and folded stacks are compared")" --diff "$work/old" crash.core
+    try 1 "$work/nothing" "$(said "missing: No such file or directory (os error 2)")" --diff missing "$work/new"
+    "$program" --diff --svg "$work/old" "$work/new" >"$work/out"
+    grep -o '<title>[^<]*\|fill="[^"]*"' "$work/out" | cmp - "$work/drawn" || failed=1
     # names by c++filt
     demangled 0 "$work/demangled" --demangle "$work/mangled"
     demangled 0 "$work/demangled.svg" --demangle --svg --flame --title "a b" "$work/mangled"
     demangled 1 "$work/nothing" --demangle --svg "$work/no_count"
+    demangled 0 "$work/twice" --demangle --diff "$work/mangled" "$work/mangled"
     try 2 "$work/nothing" any --demangle tiny.data
     try 1 "$work/nothing" any srv/tiny
     try 1 "$work/nothing" "$(said "$work/short: line 1 is no folded stack: it has no blank before a count")" "$work/short"
