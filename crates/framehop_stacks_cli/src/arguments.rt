@@ -27,8 +27,16 @@ fn valued<'a>(
         .action(ArgAction::Set)
 }
 
-/// Returns the command line.
-pub fn command<'a>(alloc: Global) -> Result<Command<'a>> {
+/// Returns an argument that has no value.
+fn flag<'a>(alloc: Global, name: &'static str, help: &'static str) -> Arg<'a> {
+    Arg::new(alloc, name)
+        .long(name)
+        .help(help)
+        .action(ArgAction::SetTrue)
+}
+
+/// Returns the command with the arguments that say where files are.
+fn with_places<'a>(alloc: Global, command: Command<'a>) -> Result<Command<'a>> {
     let root = valued(
         alloc,
         "root",
@@ -53,60 +61,78 @@ pub fn command<'a>(alloc: Global) -> Result<Command<'a>> {
         "FILE",
         "The vdso of the kernel that ran, of a recording without a copy of it",
     );
+    let command = command.arg(root)?.arg(debug_dir)?;
+    Ok(command.arg(buildid_dir)?.arg(vdso)?)
+}
+
+/// Returns the command with the arguments that say which frames are printed.
+fn with_frames<'a>(alloc: Global, command: Command<'a>) -> Result<Command<'a>> {
+    let frames = flag(
+        alloc,
+        "frames",
+        "Print a block for each sample of a recording, with a line for each frame, as for each thread of a core file",
+    );
+    let explain = flag(
+        alloc,
+        "explain",
+        "Print a note under each frame: the unwind data or the rule by which its caller was found. Of a recording, print blocks as by --frames",
+    );
+    let sure = flag(
+        alloc,
+        "sure",
+        "Leave out of folded stacks what is not sure: they are cut at the first frame that no unwind data tells",
+    );
     let limit = valued(
         alloc,
         "limit",
         "N",
         "The most frames of a stack [default: 512]",
     );
-    let frames = Arg::new(alloc, "frames")
-        .long("frames")
-        .help(
-            "Print a block for each sample of a recording, with a line for each frame, as for each thread of a core file",
-        )
-        .action(ArgAction::SetTrue);
-    let explain = Arg::new(alloc, "explain")
-        .long("explain")
-        .help(
-            "Print a note under each frame: the unwind data or the rule by which its caller was found. Of a recording, print blocks as by --frames",
-        )
-        .action(ArgAction::SetTrue);
-    let sure = Arg::new(alloc, "sure")
-        .long("sure")
-        .help(
-            "Leave out of folded stacks what is not sure: they are cut at the first frame that no unwind data tells",
-        )
-        .action(ArgAction::SetTrue);
-    let svg = Arg::new(alloc, "svg")
-        .long("svg")
-        .help(
-            "Print a flame graph of all recordings and folded stacks as an SVG, in the place of folded stacks",
-        )
-        .action(ArgAction::SetTrue);
-    let diff = Arg::new(alloc, "diff")
-        .long("diff")
-        .help(
-            "Compare two recordings, folded stacks or folders, OLD and NEW: print each stack of either with its two counts; with --svg draw NEW, red where a part of all grew, and blue where it shrank",
-        )
-        .action(ArgAction::SetTrue);
-    let demangle = Arg::new(alloc, "demangle")
-        .long("demangle")
-        .help(
-            "Print the names of C++ and Rust as in the source, by c++filt; this is done by the script framehop-stacks, and needs c++filt [default: as the symbol tables have them]",
-        )
-        .action(ArgAction::SetTrue);
-    let flame = Arg::new(alloc, "flame")
-        .long("flame")
-        .help("Draw the outermost frames at the bottom [default: at the top]")
-        .requires_arg("svg")?
-        .action(ArgAction::SetTrue);
+    let command = command.arg(frames)?.arg(explain)?;
+    Ok(command.arg(sure)?.arg(limit)?)
+}
+
+/// Returns the command with the arguments that say what is made of folded stacks.
+fn with_folded<'a>(alloc: Global, command: Command<'a>) -> Result<Command<'a>> {
+    let diff = flag(
+        alloc,
+        "diff",
+        "Compare two recordings, folded stacks or folders, OLD and NEW: print each stack of either with its two counts; with --svg draw NEW, red where a part of all grew, and blue where it shrank",
+    );
+    let demangle = flag(
+        alloc,
+        "demangle",
+        "Print the names of C++ and Rust as in the source, by c++filt; this is done by the script framehop-stacks, and needs c++filt [default: as the symbol tables have them]",
+    );
+    let command = command.arg(diff)?.arg(demangle)?;
+    with_picture(alloc, command)
+}
+
+/// Returns the command with the arguments of a picture.
+fn with_picture<'a>(alloc: Global, command: Command<'a>) -> Result<Command<'a>> {
+    let svg = flag(
+        alloc,
+        "svg",
+        "Print a flame graph of all recordings and folded stacks as an SVG, in the place of folded stacks",
+    );
+    let flame = flag(
+        alloc,
+        "flame",
+        "Draw the outermost frames at the bottom [default: at the top]",
+    );
+    let flame = flame.requires_arg("svg")?;
     let title = valued(
         alloc,
         "title",
         "TEXT",
         "The title of the flame graph [default: Flame Graph]",
-    )
-    .requires_arg("svg")?;
+    );
+    let title = title.requires_arg("svg")?;
+    Ok(command.arg(svg)?.arg(flame)?.arg(title)?)
+}
+
+/// Returns the command line.
+pub fn command<'a>(alloc: Global) -> Result<Command<'a>> {
     let files = Arg::new(alloc, "file")
         .value_name("FILE")
         .required(true)
@@ -117,33 +143,24 @@ pub fn command<'a>(alloc: Global) -> Result<Command<'a>> {
         .action(ArgAction::Append);
     let command = Command::new(alloc, "framehop-stacks")
         .version("0.1.0")
-        .about(ABOUT)
-        .arg(root)?
-        .arg(debug_dir)?
-        .arg(buildid_dir)?
-        .arg(vdso)?
-        .arg(frames)?
-        .arg(explain)?
-        .arg(sure)?
-        .arg(diff)?
-        .arg(demangle)?
-        .arg(svg)?
-        .arg(flame)?
-        .arg(title)?
-        .arg(limit)?
-        .arg(files)?;
-    Ok(command)
+        .about(ABOUT);
+    let command = with_places(alloc, command)?;
+    let command = with_frames(alloc, command)?;
+    let command = with_folded(alloc, command)?;
+    Ok(command.arg(files)?)
 }
 
 /// Returns how a flame graph is drawn.
-pub fn drawing<'a>(matches: &'a ArgMatches<'_>) -> Drawing<'a> {
+pub fn drawing<'a>(matches: &ArgMatches<'a>) -> Drawing<'a> {
+    let title = matches.get_str("title").unwrap_or("Flame Graph");
+    let layout = if matches.get_flag("flame") {
+        Layout::Flame
+    } else {
+        Layout::Icicle
+    };
     Drawing {
-        title: matches.get_str("title").unwrap_or("Flame Graph").as_bytes(),
-        layout: if matches.get_flag("flame") {
-            Layout::Flame
-        } else {
-            Layout::Icicle
-        },
+        title: title.as_bytes(),
+        layout,
         script: Some(ZOOM_AND_SEARCH),
     }
 }
