@@ -1,5 +1,5 @@
 -- Two runs beside one another.
-use Rattle.std.proofs.Common.{◌≡◌, ◌<◌, ◌≤◌, ◌++◌, ◌∷◌, ◌+◌, [], ℕ, List, arith, ap, sym, ◌∙◌, refl, drop, take, get_or, length, map, set, suc, zero}
+use Rattle.std.proofs.Common.{◌≡◌, ◌<◌, ◌++◌, ◌∷◌, ◌+◌, [], ℕ, List, arith, ap, sym, ◌∙◌, refl, drop, take, get_or, length, map, set, suc, zero}
 use Rattle.std.specs.Prelude.{max}
 use Rattle.std.specs.List.{fold}
 use Rattle.std.proofs.lemmas.List.{get_or-drop, map-append, take_more, take_more_set, drop-set-lt}

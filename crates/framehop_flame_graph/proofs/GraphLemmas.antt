@@ -48,8 +48,15 @@ module _ (new old : Folded) (stacks first second : List Stack)
   pub lengths : length befores ≡ length frames
   lengths =
       let all = prefixes_along [] (map viewed stacks) in
-      omega (arith, ap length new_boxes, ap length old_boxes, length-map frames boxed, length-map befores boxed,
-          length-map all (box_of (stacks_of new)), length-map all (box_of (stacks_before new old)))
+      omega (
+        arith,
+        ap length new_boxes,
+        ap length old_boxes,
+        length-map frames boxed,
+        length-map befores boxed,
+        length-map all (box_of (stacks_of new)),
+        length-map all (box_of (stacks_before new old)),
+      )
 
   pub prefixes-are : ArePrefixes (stacks_of new) (prefixes_along [] (map viewed stacks))
   prefixes-are = found-prefixes (stacks_of new) (map viewed stacks) same rises

@@ -70,6 +70,32 @@ pub fn shown_changes<'a>(
     Ok(shown)
 }
 
+/// Returns boxes of two runs as an SVG that says how many were left out.
+pub fn draw_changes(
+    alloc: Global,
+    drawing: Drawing<'_>,
+    totals: Totals,
+    changes: &[ChangedBox<'_>],
+    left_out: usize,
+) -> Result<String, AllocError>
+    requires some { 0 < totals.now }
+    requires some_before { 0 < totals.before }
+    requires within { All (λ change. change.frame.left + change.frame.count ≤ totals.now) changes.now }
+    requires before { All (λ change. change.before ≤ totals.before) changes.now }
+    ensures { IfOk result (λ svg. string_bytes svg
+        ≡ change_picture_of drawing.entry totals (map viewed_change changes.now) left_out) }
+{
+    let rows = deepest(changes);
+    let mut out = String::new(alloc);
+    push_head(alloc, &mut out, drawing.title, rows, left_out)?;
+    for change in changes {
+        push_change(alloc, &mut out, drawing.layout, totals, rows, *change)?;
+    }
+    push_script(&mut out, drawing.script)?;
+    out.push_str("</svg>\n")?;
+    Ok(out)
+}
+
 /// Returns how many rows boxes take beside that of the root.
 fn deepest(changes: &[ChangedBox<'_>]) -> usize
     ensures rows { result ≡ deepest_of (map viewed_change changes.now) }
@@ -80,106 +106,6 @@ fn deepest(changes: &[ChangedBox<'_>]) -> usize
         rows = change.frame.depth.max(rows);
     }
     rows
-}
-
-/// Returns how pale a box is whose part of all changed from one to the other: from 90, where it is new or gone, to 230,
-/// where it is the same.
-fn pale(before: u64, now: u64) -> u64
-    ensures { result ≡ pale before now }
-{
-    let most = before.max(now);
-    if most == 0 {
-        return 230;
-    }
-    230 - share(most - before.min(now), 140, most)
-}
-
-/// Appends the colour of a box whose part of all changed from one to the other: red where it grew, blue where it shrank.
-#[tactic(auto, unfolding(crate::specs::Changes::change_colour))]
-fn push_change_colour(
-    alloc: Global,
-    out: &mut String,
-    before: u64,
-    now: u64,
-) -> Result<(), AllocError>
-    ensures { OnOk result (string_bytes out.new ≡ string_bytes out.old ++ change_colour before now) }
-{
-    let pale = pale(before, now);
-    if before < now {
-        let text = format!(in alloc; "rgb(230,{pale},{pale})")?;
-        out.push_str(text.as_str())?;
-        return Ok(());
-    }
-    let text = format!(in alloc; "rgb({pale},{pale},230)")?;
-    out.push_str(text.as_str())?;
-    Ok(())
-}
-
-/// Appends a count and its part of all.
-#[tactic(auto, unfolding(crate::specs::Changes::told))]
-fn push_told(alloc: Global, out: &mut String, count: u64, total: u64) -> Result<(), AllocError>
-    requires some { 0 < total }
-    requires within { count ≤ total }
-    ensures { OnOk result (string_bytes out.new ≡ string_bytes out.old ++ told count total) }
-{
-    push_samples(alloc, out, count)?;
-    out.push_str(", ")?;
-    push_hundredths(alloc, out, nearest_share(count, 10_000, total))?;
-    out.push_str("%")?;
-    Ok(())
-}
-
-/// Appends what is shown where the pointer is over a box.
-#[tactic(auto, unfolding(crate::specs::Changes::change_title_of))]
-fn push_change_title(
-    alloc: Global,
-    out: &mut String,
-    totals: Totals,
-    change: ChangedBox<'_>,
-    characters: &[char],
-) -> Result<(), AllocError>
-    requires some { 0 < totals.now }
-    requires some_before { 0 < totals.before }
-    requires within { change.frame.left + change.frame.count ≤ totals.now }
-    requires before { change.before ≤ totals.before }
-    requires name { characters.now ≡ characters_of change.frame.name.now }
-    ensures { OnOk result (string_bytes out.new ≡ string_bytes out.old ++ change_title_of totals (viewed_change change.entry)) }
-{
-    out.push_str("<title>")?;
-    push_escaped(out, characters)?;
-    out.push_str(" (")?;
-    push_told(alloc, out, change.frame.count, totals.now)?;
-    out.push_str("; before ")?;
-    push_told(alloc, out, change.before, totals.before)?;
-    out.push_str(")</title>")?;
-    Ok(())
-}
-
-/// Appends the rectangle of a box, of which the top is given in pixels.
-#[tactic(auto, unfolding(crate::specs::Changes::change_rectangle_of))]
-fn push_change_rectangle(
-    alloc: Global,
-    out: &mut String,
-    totals: Totals,
-    top: u128,
-    change: ChangedBox<'_>,
-) -> Result<(), AllocError>
-    requires some { 0 < totals.now }
-    requires some_before { 0 < totals.before }
-    requires within { change.frame.left + change.frame.count ≤ totals.now }
-    requires before { change.before ≤ totals.before }
-    ensures { OnOk result (string_bytes out.new ≡ string_bytes out.old
-        ++ change_rectangle_of totals top (viewed_change change.entry)) }
-{
-    out.push_str("<rect")?;
-    push_span(alloc, out, totals.now, change.frame)?;
-    let text = format!(in alloc; " y=\"{top}\" height=\"15\" fill=\"")?;
-    out.push_str(text.as_str())?;
-    let before = share(change.before, 1_000_000_000, totals.before);
-    let now = share(change.frame.count, 1_000_000_000, totals.now);
-    push_change_colour(alloc, out, before, now)?;
-    out.push_str("\"/>")?;
-    Ok(())
 }
 
 /// Appends a box in a picture of so many rows beside that of the root.
@@ -217,28 +143,102 @@ fn push_change(
     Ok(())
 }
 
-/// Returns boxes of two runs as an SVG that says how many were left out.
-pub fn draw_changes(
+/// Appends what is shown where the pointer is over a box.
+#[tactic(auto, unfolding(crate::specs::Changes::change_title_of))]
+fn push_change_title(
     alloc: Global,
-    drawing: Drawing<'_>,
+    out: &mut String,
     totals: Totals,
-    changes: &[ChangedBox<'_>],
-    left_out: usize,
-) -> Result<String, AllocError>
+    change: ChangedBox<'_>,
+    characters: &[char],
+) -> Result<(), AllocError>
     requires some { 0 < totals.now }
     requires some_before { 0 < totals.before }
-    requires within { All (λ change. change.frame.left + change.frame.count ≤ totals.now) changes.now }
-    requires before { All (λ change. change.before ≤ totals.before) changes.now }
-    ensures { IfOk result (λ svg. string_bytes svg
-        ≡ change_picture_of drawing.entry totals (map viewed_change changes.now) left_out) }
+    requires within { change.frame.left + change.frame.count ≤ totals.now }
+    requires before { change.before ≤ totals.before }
+    requires name { characters.now ≡ characters_of change.frame.name.now }
+    ensures { OnOk result (string_bytes out.new ≡ string_bytes out.old ++ change_title_of totals (viewed_change change.entry)) }
 {
-    let rows = deepest(changes);
-    let mut out = String::new(alloc);
-    push_head(alloc, &mut out, drawing.title, rows, left_out)?;
-    for change in changes {
-        push_change(alloc, &mut out, drawing.layout, totals, rows, *change)?;
+    out.push_str("<title>")?;
+    push_escaped(out, characters)?;
+    out.push_str(" (")?;
+    push_told(alloc, out, change.frame.count, totals.now)?;
+    out.push_str("; before ")?;
+    push_told(alloc, out, change.before, totals.before)?;
+    out.push_str(")</title>")?;
+    Ok(())
+}
+
+/// Appends a count and its part of all.
+#[tactic(auto, unfolding(crate::specs::Changes::told))]
+fn push_told(alloc: Global, out: &mut String, count: u64, total: u64) -> Result<(), AllocError>
+    requires some { 0 < total }
+    requires within { count ≤ total }
+    ensures { OnOk result (string_bytes out.new ≡ string_bytes out.old ++ told count total) }
+{
+    push_samples(alloc, out, count)?;
+    out.push_str(", ")?;
+    push_hundredths(alloc, out, nearest_share(count, 10_000, total))?;
+    out.push_str("%")?;
+    Ok(())
+}
+
+/// Appends the rectangle of a box, of which the top is given in pixels.
+#[tactic(auto, unfolding(crate::specs::Changes::change_rectangle_of))]
+fn push_change_rectangle(
+    alloc: Global,
+    out: &mut String,
+    totals: Totals,
+    top: u128,
+    change: ChangedBox<'_>,
+) -> Result<(), AllocError>
+    requires some { 0 < totals.now }
+    requires some_before { 0 < totals.before }
+    requires within { change.frame.left + change.frame.count ≤ totals.now }
+    requires before { change.before ≤ totals.before }
+    ensures { OnOk result (string_bytes out.new ≡ string_bytes out.old
+        ++ change_rectangle_of totals top (viewed_change change.entry)) }
+{
+    out.push_str("<rect")?;
+    push_span(alloc, out, totals.now, change.frame)?;
+    let text = format!(in alloc; " y=\"{top}\" height=\"15\" fill=\"")?;
+    out.push_str(text.as_str())?;
+    let before = share(change.before, 1_000_000_000, totals.before);
+    let now = share(change.frame.count, 1_000_000_000, totals.now);
+    push_change_colour(alloc, out, before, now)?;
+    out.push_str("\"/>")?;
+    Ok(())
+}
+
+/// Appends the colour of a box whose part of all changed from one to the other: red where it grew, blue where it shrank.
+#[tactic(auto, unfolding(crate::specs::Changes::change_colour))]
+fn push_change_colour(
+    alloc: Global,
+    out: &mut String,
+    before: u64,
+    now: u64,
+) -> Result<(), AllocError>
+    ensures { OnOk result (string_bytes out.new ≡ string_bytes out.old ++ change_colour before now) }
+{
+    let pale = pale(before, now);
+    if before < now {
+        let text = format!(in alloc; "rgb(230,{pale},{pale})")?;
+        out.push_str(text.as_str())?;
+        return Ok(());
     }
-    push_script(&mut out, drawing.script)?;
-    out.push_str("</svg>\n")?;
-    Ok(out)
+    let text = format!(in alloc; "rgb({pale},{pale},230)")?;
+    out.push_str(text.as_str())?;
+    Ok(())
+}
+
+/// Returns how pale a box is whose part of all changed from one to the other: from 90, where it is new or gone, to 230,
+/// where it is the same.
+fn pale(before: u64, now: u64) -> u64
+    ensures { result ≡ pale before now }
+{
+    let most = before.max(now);
+    if most == 0 {
+        return 230;
+    }
+    230 - share(most - before.min(now), 140, most)
 }

@@ -27,13 +27,6 @@ pub struct Neighbour {
     pub count: u64,
 }
 
-/// Returns the frames of a stack's text.
-fn frames_of(alloc: Global, stack: &[u8]) -> Result<Vec<&[u8]>, AllocError>
-    ensures { IfOk result (λ frames. map (λ frame. frame.now) frames.items ≡ frames_of stack.entry.now) }
-{
-    stack.split(|byte| *byte == b';').collect(alloc)
-}
-
 /// Returns folded stacks in order of their frames, with how often each was counted in a run before.
 pub fn stacks_in_order<'a>(
     alloc: Global,
@@ -57,6 +50,13 @@ pub fn stacks_in_order<'a>(
     Ok(stacks)
 }
 
+/// Returns the frames of a stack's text.
+fn frames_of(alloc: Global, stack: &[u8]) -> Result<Vec<&[u8]>, AllocError>
+    ensures { IfOk result (λ frames. map (λ frame. frame.now) frames.items ≡ frames_of stack.entry.now) }
+{
+    stack.split(|byte| *byte == b';').collect(alloc)
+}
+
 /// Gives each stack the count that it had before.
 pub fn take_before(stacks: &mut [Stack<'_>])
     ensures { map viewed stacks.new ≡ map viewed_before stacks.old }
@@ -66,17 +66,19 @@ pub fn take_before(stacks: &mut [Stack<'_>])
     }
 }
 
-/// Returns how many frames two stacks begin with alike.
-fn shared_frames(before: &[&[u8]], frames: &[&[u8]]) -> usize
-    ensures { result ≡ common_prefix_len (λ x y. bytes_eq x.now y.now) before.now frames.now }
+/// Returns each stack beside the one before it.
+pub fn neighbours(alloc: Global, stacks: &[Stack<'_>]) -> Result<Vec<Neighbour>, AllocError>
+    ensures neighbours { IfOk result (λ neighbours. neighbours.items ≡ neighbours_of [] (map viewed stacks.now)) }
+    ensures len { IfOk result (λ neighbours. vec_len neighbours ≡ length stacks.now) }
 {
-    let most = before.len().min(frames.len());
-    for at in 0..most {
-        if before[at] != frames[at] {
-            return at;
-        }
+    let mut neighbours = Vec::new(alloc);
+    for (at, stack) in stacks.iter().enumerate() {
+        neighbours.push(Neighbour {
+            shared: shared_at(stacks, at),
+            count: stack.count,
+        })?;
     }
-    most
+    Ok(neighbours)
 }
 
 /// Returns how many frames the stack at an index begins with like the one before it. The first has none before
@@ -95,17 +97,15 @@ fn shared_at(stacks: &[Stack<'_>], at: usize) -> usize
     )
 }
 
-/// Returns each stack beside the one before it.
-pub fn neighbours(alloc: Global, stacks: &[Stack<'_>]) -> Result<Vec<Neighbour>, AllocError>
-    ensures neighbours { IfOk result (λ neighbours. neighbours.items ≡ neighbours_of [] (map viewed stacks.now)) }
-    ensures len { IfOk result (λ neighbours. vec_len neighbours ≡ length stacks.now) }
+/// Returns how many frames two stacks begin with alike.
+fn shared_frames(before: &[&[u8]], frames: &[&[u8]]) -> usize
+    ensures { result ≡ common_prefix_len (λ x y. bytes_eq x.now y.now) before.now frames.now }
 {
-    let mut neighbours = Vec::new(alloc);
-    for (at, stack) in stacks.iter().enumerate() {
-        neighbours.push(Neighbour {
-            shared: shared_at(stacks, at),
-            count: stack.count,
-        })?;
+    let most = before.len().min(frames.len());
+    for at in 0..most {
+        if before[at] != frames[at] {
+            return at;
+        }
     }
-    Ok(neighbours)
+    most
 }

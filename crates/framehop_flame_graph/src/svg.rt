@@ -20,39 +20,6 @@ use framehop_folded::changes::Changes;
 use framehop_folded::folded::Folded;
 use std::alloc::{AllocError, Global};
 
-/// Returns the counts of all stacks, together.
-fn total_of(folded: &Folded) -> Option<u64>
-    ensures { MatchOption result (2 ^ 64 ≤ total_of (stacks_of folded.now))
-        (λ total. total ≡ total_of (stacks_of folded.now)) }
-{
-    let mut total: u64 = 0;
-    for (_, count) in folded.iter() {
-        total = total.checked_add(*count)?;
-    }
-    Some(total)
-}
-
-/// Returns the boxes that are wide enough to be drawn.
-fn shown_of<'a>(
-    alloc: Global,
-    total: u64,
-    boxes: &[FrameBox<'a>],
-) -> Result<Vec<FrameBox<'a>>, AllocError>
-    requires some { 0 < total }
-    requires within { All (λ frame. frame.left + frame.count ≤ total) boxes.now }
-    ensures shown { IfOk result (λ shown. map boxed shown.items ≡ filter (is_shown total) (map boxed boxes.now)) }
-    ensures fewer { IfOk result (λ shown. vec_len shown ≤ length boxes.now) }
-    ensures within { IfOk result (λ shown. All (λ frame. frame.left + frame.count ≤ total) shown.items) }
-{
-    let mut shown = Vec::new(alloc);
-    for frame in boxes {
-        if is_shown(total, *frame) {
-            shown.push(*frame)?;
-        }
-    }
-    Ok(shown)
-}
-
 /// Returns the flame graph of folded stacks: an SVG of 1,220 pixels' width.
 ///
 /// There is a box for each list of frames with which a stack begins, in a row of 16 pixels for each frame, and a root
@@ -89,16 +56,25 @@ pub fn flame_graph(
     Ok(draw(alloc, drawing, total, shown.as_slice(), left_out)?)
 }
 
-/// Returns how often the stacks of a run were counted in a run before, together.
-fn total_before(folded: &Folded, before: &Folded) -> Option<u64>
-    ensures { MatchOption result (2 ^ 64 ≤ total_of (stacks_before folded.now before.now))
-        (λ total. total ≡ total_of (stacks_before folded.now before.now)) }
+/// Returns the boxes that are wide enough to be drawn.
+fn shown_of<'a>(
+    alloc: Global,
+    total: u64,
+    boxes: &[FrameBox<'a>],
+) -> Result<Vec<FrameBox<'a>>, AllocError>
+    requires some { 0 < total }
+    requires within { All (λ frame. frame.left + frame.count ≤ total) boxes.now }
+    ensures shown { IfOk result (λ shown. map boxed shown.items ≡ filter (is_shown total) (map boxed boxes.now)) }
+    ensures fewer { IfOk result (λ shown. vec_len shown ≤ length boxes.now) }
+    ensures within { IfOk result (λ shown. All (λ frame. frame.left + frame.count ≤ total) shown.items) }
 {
-    let mut total: u64 = 0;
-    for (stack, _) in folded.iter() {
-        total = total.checked_add(before.count_of(stack.as_slice()))?;
+    let mut shown = Vec::new(alloc);
+    for frame in boxes {
+        if is_shown(total, *frame) {
+            shown.push(*frame)?;
+        }
     }
-    Some(total)
+    Ok(shown)
 }
 
 /// Returns the flame graph of the second of two runs, whose colours compare it with the first: an SVG of the form of
@@ -139,4 +115,28 @@ pub fn change_graph(
     let shown = shown_changes(alloc, totals, joined.as_slice())?;
     let left_out = joined.len() - shown.len();
     Ok(draw_changes(alloc, drawing, totals, shown.as_slice(), left_out)?)
+}
+
+/// Returns the counts of all stacks, together.
+fn total_of(folded: &Folded) -> Option<u64>
+    ensures { MatchOption result (2 ^ 64 ≤ total_of (stacks_of folded.now))
+        (λ total. total ≡ total_of (stacks_of folded.now)) }
+{
+    let mut total: u64 = 0;
+    for (_, count) in folded.iter() {
+        total = total.checked_add(*count)?;
+    }
+    Some(total)
+}
+
+/// Returns how often the stacks of a run were counted in a run before, together.
+fn total_before(folded: &Folded, before: &Folded) -> Option<u64>
+    ensures { MatchOption result (2 ^ 64 ≤ total_of (stacks_before folded.now before.now))
+        (λ total. total ≡ total_of (stacks_before folded.now before.now)) }
+{
+    let mut total: u64 = 0;
+    for (stack, _) in folded.iter() {
+        total = total.checked_add(before.count_of(stack.as_slice()))?;
+    }
+    Some(total)
 }

@@ -8,15 +8,12 @@ use std::test::Fail;
 
 /// `a` was counted 3 times of 5 and then 5 times of 6; `old` is gone, and `b` is new.
 const OLD: &[u8] = b"main;a 3\nmain;old 2\n";
+
 const NEW: &[u8] = b"main;a 5\nmain;b 1\n";
 
 /// Returns the folded stacks of two texts beside one another.
 fn between(alloc: Global, old: &[u8], new: &[u8]) -> Result<Changes, Fail> {
-    Ok(Changes::between(
-        alloc,
-        folded_of(alloc, old)?,
-        folded_of(alloc, new)?,
-    )?)
+    Ok(Changes::between(alloc, folded_of(alloc, old)?, folded_of(alloc, new)?)?)
 }
 
 #[test]
@@ -25,7 +22,10 @@ fn compares_stacks(rt: HostRuntime) -> Result<(), Fail> {
     let changes = between(alloc, OLD, NEW)?;
     let mut out = Vec::new(alloc);
     changes.write(&mut out)?;
-    assert_eq!(rt; out.as_slice(), b"main;a 3 5\nmain;b 0 1\nmain;old 2 0\n".as_slice());
+    assert_eq!(rt;
+        out.as_slice(),
+        b"main;a 3 5\nmain;b 0 1\nmain;old 2 0\n".as_slice()
+    );
     assert_eq!(rt; changes.old().count_of(b"main;b"), 0);
     assert_eq!(rt; changes.new().count_of(b"main;a"), 5);
     assert_eq!(rt; changes.new().count_of(b"main"), 0);

@@ -13,26 +13,23 @@ const LIMIT: u32 = 512;
 const ABOUT: &str =
     "Unwinds the user stacks of recordings of `perf record --call-graph dwarf`, and prints folded stacks, as flame graph tools read them. Frames of the kernel are not printed. Of a core file or a minidump, prints the stack of each thread.";
 
-/// Returns an argument that has a value.
-fn valued<'a>(
-    alloc: Global,
-    name: &'static str,
-    value: &'static str,
-    help: &'static str,
-) -> Arg<'a> {
-    Arg::new(alloc, name)
-        .long(name)
-        .value_name(value)
-        .help(help)
-        .action(ArgAction::Set)
-}
-
-/// Returns an argument that has no value.
-fn flag<'a>(alloc: Global, name: &'static str, help: &'static str) -> Arg<'a> {
-    Arg::new(alloc, name)
-        .long(name)
-        .help(help)
-        .action(ArgAction::SetTrue)
+/// Returns the command line.
+pub fn command<'a>(alloc: Global) -> Result<Command<'a>> {
+    let files = Arg::new(alloc, "file")
+        .value_name("FILE")
+        .required(true)
+        .num_args(1..)
+        .help(
+            "Recordings and folded stacks, whose stacks are printed together, or folders of recordings with names in .data; core files and minidumps, whose stacks are printed one after another; - for standard input",
+        )
+        .action(ArgAction::Append);
+    let command = Command::new(alloc, "framehop-stacks")
+        .version("0.1.0")
+        .about(ABOUT);
+    let command = with_places(alloc, command)?;
+    let command = with_frames(alloc, command)?;
+    let command = with_folded(alloc, command)?;
+    Ok(command.arg(files)?)
 }
 
 /// Returns the command with the arguments that say where files are.
@@ -131,23 +128,26 @@ fn with_picture<'a>(alloc: Global, command: Command<'a>) -> Result<Command<'a>> 
     Ok(command.arg(svg)?.arg(flame)?.arg(title)?)
 }
 
-/// Returns the command line.
-pub fn command<'a>(alloc: Global) -> Result<Command<'a>> {
-    let files = Arg::new(alloc, "file")
-        .value_name("FILE")
-        .required(true)
-        .num_args(1..)
-        .help(
-            "Recordings and folded stacks, whose stacks are printed together, or folders of recordings with names in .data; core files and minidumps, whose stacks are printed one after another; - for standard input",
-        )
-        .action(ArgAction::Append);
-    let command = Command::new(alloc, "framehop-stacks")
-        .version("0.1.0")
-        .about(ABOUT);
-    let command = with_places(alloc, command)?;
-    let command = with_frames(alloc, command)?;
-    let command = with_folded(alloc, command)?;
-    Ok(command.arg(files)?)
+/// Returns an argument that has no value.
+fn flag<'a>(alloc: Global, name: &'static str, help: &'static str) -> Arg<'a> {
+    Arg::new(alloc, name)
+        .long(name)
+        .help(help)
+        .action(ArgAction::SetTrue)
+}
+
+/// Returns an argument that has a value.
+fn valued<'a>(
+    alloc: Global,
+    name: &'static str,
+    value: &'static str,
+    help: &'static str,
+) -> Arg<'a> {
+    Arg::new(alloc, name)
+        .long(name)
+        .value_name(value)
+        .help(help)
+        .action(ArgAction::Set)
 }
 
 /// Returns how a flame graph is drawn.

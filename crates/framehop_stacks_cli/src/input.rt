@@ -30,38 +30,6 @@ pub fn kind_of(bytes: &[u8]) -> Kind {
     }
 }
 
-/// Returns the name of what is read by a path.
-pub fn name_of(path: &str) -> &str {
-    if path == "-" { "standard input" } else { path }
-}
-
-/// Returns whether standard error is a terminal, by where its descriptor leads.
-fn is_terminal(rt: &HostRuntime) -> bool {
-    match fs::read_link(rt, "/proc/self/fd/2") {
-        Ok(path) => {
-            let device = path.into_string();
-            device.starts_with("/dev/pts/") || device.starts_with("/dev/tty")
-        }
-        Err(_) => false,
-    }
-}
-
-/// Says of a large recording that it is read, where someone sees it.
-fn announce(rt: &HostRuntime, path: &str, size: u64) -> Result<()> {
-    if size > LARGE_RECORDING && is_terminal(rt) {
-        let megabytes = size / 1_000_000;
-        eprintln!(rt; "framehop-stacks: {path}: reading {megabytes} MB")?;
-    }
-    Ok(())
-}
-
-/// Reads standard input to its end.
-fn read_standard_input(rt: &HostRuntime) -> io::Result<Vec<u8>> {
-    let mut bytes = Vec::new(rt.alloc());
-    rt.stdin().read_to_end(&mut bytes)?;
-    Ok(bytes)
-}
-
 /// Reads a regular file, or standard input for `-`. Where it can't be read, says why.
 pub fn read_input(rt: &HostRuntime, path: &str) -> Result<Option<Vec<u8>>> {
     let bytes = if path == "-" {
@@ -89,4 +57,36 @@ pub fn read_input(rt: &HostRuntime, path: &str) -> Result<Option<Vec<u8>>> {
             Ok(None)
         }
     }
+}
+
+/// Reads standard input to its end.
+fn read_standard_input(rt: &HostRuntime) -> io::Result<Vec<u8>> {
+    let mut bytes = Vec::new(rt.alloc());
+    rt.stdin().read_to_end(&mut bytes)?;
+    Ok(bytes)
+}
+
+/// Says of a large recording that it is read, where someone sees it.
+fn announce(rt: &HostRuntime, path: &str, size: u64) -> Result<()> {
+    if size > LARGE_RECORDING && is_terminal(rt) {
+        let megabytes = size / 1_000_000;
+        eprintln!(rt; "framehop-stacks: {path}: reading {megabytes} MB")?;
+    }
+    Ok(())
+}
+
+/// Returns whether standard error is a terminal, by where its descriptor leads.
+fn is_terminal(rt: &HostRuntime) -> bool {
+    match fs::read_link(rt, "/proc/self/fd/2") {
+        Ok(path) => {
+            let device = path.into_string();
+            device.starts_with("/dev/pts/") || device.starts_with("/dev/tty")
+        }
+        Err(_) => false,
+    }
+}
+
+/// Returns the name of what is read by a path.
+pub fn name_of(path: &str) -> &str {
+    if path == "-" { "standard input" } else { path }
 }

@@ -79,6 +79,12 @@ fn run(rt: &HostRuntime) -> Result<u8> {
     print_all(rt, paths, &disk, options, form)
 }
 
+/// Prints the help, the version or the error of a command line.
+fn usage(rt: &HostRuntime, error: &clap::Error) -> Result<u8> {
+    error.print(rt)?;
+    if error.use_stderr() { Ok(2) } else { Ok(0) }
+}
+
 /// Returns which options do not go together, if some do not.
 fn misuse_of_options(matches: &ArgMatches<'_>, options: Options) -> Option<&'static str> {
     if matches.get_flag("demangle") {
@@ -99,6 +105,41 @@ fn misuse_of_options(matches: &ArgMatches<'_>, options: Options) -> Option<&'sta
 /// Returns the home folder, if it is known.
 fn home(rt: &HostRuntime) -> Option<PathBuf> {
     env::home_dir(rt).ok()?
+}
+
+/// Prints the folded stacks of two files or folders beside one another, or draws them, if both can be read to their ends.
+fn print_changes(
+    rt: &HostRuntime,
+    paths: &[&str],
+    disk: &Disk<'_>,
+    options: Options,
+    form: Form<'_>,
+) -> Result<u8> {
+    let alloc = rt.alloc();
+    let [old_path, new_path] = paths else {
+        eprintln!(rt; "framehop-stacks: --diff compares two files or folders, OLD and NEW")?;
+        return Ok(2);
+    };
+    let (mut old, mut new) = (Folded::new(alloc), Folded::new(alloc));
+    let old_status = print_path(rt, old_path, disk, options, Form::Changes, &mut old)?;
+    let new_status = print_path(rt, new_path, disk, options, Form::Changes, &mut new)?;
+    let status = old_status.max(new_status);
+    if status > 0 {
+        return Ok(status);
+    }
+    let changes = Changes::between(alloc, old, new)?;
+    match form {
+        Form::Graph(drawing) => print_graph(rt, change_graph(alloc, &changes, drawing)),
+        Form::Text | Form::Changes => status_of_output(rt, write_changes(rt, &changes)),
+    }
+}
+
+/// Writes the lines of folded stacks beside one another.
+fn write_changes(rt: &HostRuntime, changes: &Changes) -> Result<(), StacksError> {
+    let mut out = BufWriter::new(rt.alloc(), io::writer(rt))?;
+    changes.write(&mut out)?;
+    io::Write::flush(&mut out)?;
+    Ok(())
 }
 
 /// Prints the stacks of all files, those of recordings last, where they are folded. Returns the greatest status.
@@ -148,97 +189,6 @@ fn print_path(
     Ok(status)
 }
 
-/// Prints the folded stacks of two files or folders beside one another, or draws them, if both can be read to their ends.
-fn print_changes(
-    rt: &HostRuntime,
-    paths: &[&str],
-    disk: &Disk<'_>,
-    options: Options,
-    form: Form<'_>,
-) -> Result<u8> {
-    let alloc = rt.alloc();
-    let [old_path, new_path] = paths else {
-        eprintln!(rt; "framehop-stacks: --diff compares two files or folders, OLD and NEW")?;
-        return Ok(2);
-    };
-    let (mut old, mut new) = (Folded::new(alloc), Folded::new(alloc));
-    let old_status = print_path(rt, old_path, disk, options, Form::Changes, &mut old)?;
-    let new_status = print_path(rt, new_path, disk, options, Form::Changes, &mut new)?;
-    let status = old_status.max(new_status);
-    if status > 0 {
-        return Ok(status);
-    }
-    let changes = Changes::between(alloc, old, new)?;
-    match form {
-        Form::Graph(drawing) => print_graph(rt, change_graph(alloc, &changes, drawing)),
-        Form::Text | Form::Changes => status_of_output(rt, write_changes(rt, &changes)),
-    }
-}
-
-/// Prints the folded stacks of all recordings, or draws them, and returns the status.
-fn print_folded(rt: &HostRuntime, folded: &Folded, form: Form<'_>) -> Result<u8> {
-    match form {
-        Form::Graph(drawing) => print_graph(rt, flame_graph(rt.alloc(), folded, drawing)),
-        Form::Text | Form::Changes => status_of_output(rt, write_lines(rt, folded)),
-    }
-}
-
-/// Prints a flame graph, or why there is none, and returns the status.
-fn print_graph(rt: &HostRuntime, graph: Result<String, FlameGraphError>) -> Result<u8> {
-    match graph {
-        Ok(graph) => status_of_output(rt, write_graph(rt, graph.as_str())),
-        Err(error) => {
-            eprintln!(rt; "framehop-stacks: {error}")?;
-            match error {
-                FlameGraphError::OutOfMemory => Ok(2),
-                _ => Ok(1),
-            }
-        }
-    }
-}
-
-/// Returns the status for what was written, and prints why it was not, if so.
-fn status_of_output(rt: &HostRuntime, written: Result<(), StacksError>) -> Result<u8> {
-    match written {
-        Ok(()) => Ok(0),
-        Err(error) => {
-            eprintln!(rt; "framehop-stacks: {error}")?;
-            match error {
-                StacksError::OutOfMemory => Ok(2),
-                _ => Ok(1),
-            }
-        }
-    }
-}
-
-/// Writes the lines of folded stacks beside one another.
-fn write_changes(rt: &HostRuntime, changes: &Changes) -> Result<(), StacksError> {
-    let mut out = BufWriter::new(rt.alloc(), io::writer(rt))?;
-    changes.write(&mut out)?;
-    io::Write::flush(&mut out)?;
-    Ok(())
-}
-
-/// Writes the lines of folded stacks.
-fn write_lines(rt: &HostRuntime, folded: &Folded) -> Result<(), StacksError> {
-    let mut out = BufWriter::new(rt.alloc(), io::writer(rt))?;
-    folded.write(&mut out)?;
-    io::Write::flush(&mut out)?;
-    Ok(())
-}
-
-/// Writes a flame graph.
-fn write_graph(rt: &HostRuntime, graph: &str) -> Result<(), StacksError> {
-    io::writer(rt).write_all(graph.as_bytes())?;
-    Ok(())
-}
-
-/// Prints the help, the version or the error of a command line.
-fn usage(rt: &HostRuntime, error: &clap::Error) -> Result<u8> {
-    error.print(rt)?;
-    if error.use_stderr() { Ok(2) } else { Ok(0) }
-}
-
 /// Prints the stacks of a file or of standard input, or adds them to the folded stacks so far. What it is, its bytes tell.
 fn print_stacks(
     rt: &HostRuntime,
@@ -280,74 +230,6 @@ fn misuse_of(kind: Kind, options: Options, form: Form<'_>) -> Option<&'static st
         (Kind::Folded, _) if options.frames => Some("folded stacks have no blocks of frames"),
         (Kind::Folded, _) if options.sure => Some("folded stacks don't say what is sure"),
         _ => None,
-    }
-}
-
-/// Adds the folded stacks of a text to those so far, if all of its lines can be read.
-fn add_folded(rt: &HostRuntime, path: &str, text: &[u8], folded: &mut Folded) -> Result<u8> {
-    if text.is_empty() {
-        eprintln!(rt; "framehop-stacks: {path}: empty")?;
-        return Ok(1);
-    }
-    let lines = match read_folded(rt.alloc(), text) {
-        Ok(lines) => lines,
-        Err(error) => return refuse_line(rt, path, text, error),
-    };
-    for line in lines {
-        if let Err(error) = folded.add(line.stack, line.count) {
-            eprintln!(rt; "framehop-stacks: {path}: {error}")?;
-            return Ok(match error {
-                FoldedError::OutOfMemory => 2,
-                FoldedError::CountTooLarge => 1,
-            });
-        }
-    }
-    Ok(0)
-}
-
-/// Prints which line of a text is no folded stack, and why.
-fn refuse_line(rt: &HostRuntime, path: &str, text: &[u8], error: TextError) -> Result<u8> {
-    let (offset, cause) = match error {
-        TextError::NoCount(offset) => (offset, "it has no blank before a count"),
-        TextError::BadCount(offset) => (
-            offset,
-            "after its last blank there is no decimal count below 2^64",
-        ),
-        TextError::OutOfMemory => {
-            eprintln!(rt; "framehop-stacks: {path}: {error}")?;
-            return Ok(2);
-        }
-    };
-    let line = line_number(text, offset);
-    eprintln!(rt; "framehop-stacks: {path}: line {line} is no folded stack: {cause}")?;
-    Ok(1)
-}
-
-/// Prints a block for each sample of a recording, by its bytes, or adds its folded stacks to those so far.
-fn print_recording(
-    rt: &HostRuntime,
-    path: &str,
-    bytes: &[u8],
-    disk: &Disk<'_>,
-    options: Options,
-    folded: &mut Folded,
-) -> Result<u8> {
-    let alloc = rt.alloc();
-    let mut out = BufWriter::new(alloc, io::writer(rt))?;
-    let mut err = rt.stderr();
-    let unwound = write_stacks(alloc, bytes, disk, options, &mut out, &mut err);
-    io::Write::flush(&mut out)?;
-    let ended = match unwound {
-        Ok(unwound) => {
-            folded.merge(unwound.folded)?;
-            unwound.ended
-        }
-        Err(error) => Err(error),
-    };
-    match ended {
-        Ok(None) => Ok(0),
-        Ok(Some(refusal)) => refuse(rt, path, StacksError::Recording(refusal)),
-        Err(error) => refuse(rt, path, error),
     }
 }
 
@@ -411,6 +293,83 @@ fn status_of(rt: &HostRuntime, path: &str, written: Result<(), DumpStacksError>)
     }
 }
 
+/// Adds the folded stacks of a text to those so far, if all of its lines can be read.
+fn add_folded(rt: &HostRuntime, path: &str, text: &[u8], folded: &mut Folded) -> Result<u8> {
+    if text.is_empty() {
+        eprintln!(rt; "framehop-stacks: {path}: empty")?;
+        return Ok(1);
+    }
+    let lines = match read_folded(rt.alloc(), text) {
+        Ok(lines) => lines,
+        Err(error) => return refuse_line(rt, path, text, error),
+    };
+    let mut added = Folded::new(rt.alloc());
+    for line in lines {
+        if let Err(error) = added.add(line.stack, line.count) {
+            return refuse_count(rt, path, error);
+        }
+    }
+    match folded.merge(added) {
+        Ok(()) => Ok(0),
+        Err(error) => refuse_count(rt, path, error),
+    }
+}
+
+/// Prints why the counts of folded stacks can't be added.
+fn refuse_count(rt: &HostRuntime, path: &str, error: FoldedError) -> Result<u8> {
+    eprintln!(rt; "framehop-stacks: {path}: {error}")?;
+    Ok(match error {
+        FoldedError::OutOfMemory => 2,
+        FoldedError::CountTooLarge => 1,
+    })
+}
+
+/// Prints which line of a text is no folded stack, and why.
+fn refuse_line(rt: &HostRuntime, path: &str, text: &[u8], error: TextError) -> Result<u8> {
+    let (offset, cause) = match error {
+        TextError::NoCount(offset) => (offset, "it has no blank before a count"),
+        TextError::BadCount(offset) => (
+            offset,
+            "after its last blank there is no decimal count below 2^64",
+        ),
+        TextError::OutOfMemory => {
+            eprintln!(rt; "framehop-stacks: {path}: {error}")?;
+            return Ok(2);
+        }
+    };
+    let line = line_number(text, offset);
+    eprintln!(rt; "framehop-stacks: {path}: line {line} is no folded stack: {cause}")?;
+    Ok(1)
+}
+
+/// Prints a block for each sample of a recording, by its bytes, or adds its folded stacks to those so far.
+fn print_recording(
+    rt: &HostRuntime,
+    path: &str,
+    bytes: &[u8],
+    disk: &Disk<'_>,
+    options: Options,
+    folded: &mut Folded,
+) -> Result<u8> {
+    let alloc = rt.alloc();
+    let mut out = BufWriter::new(alloc, io::writer(rt))?;
+    let mut err = rt.stderr();
+    let unwound = write_stacks(alloc, bytes, disk, options, &mut out, &mut err);
+    io::Write::flush(&mut out)?;
+    let ended = match unwound {
+        Ok(unwound) => {
+            folded.merge(unwound.folded)?;
+            unwound.ended
+        }
+        Err(error) => Err(error),
+    };
+    match ended {
+        Ok(None) => Ok(0),
+        Ok(Some(refusal)) => refuse(rt, path, StacksError::Recording(refusal)),
+        Err(error) => refuse(rt, path, error),
+    }
+}
+
 /// Prints why a recording gives no stacks, or no more of them.
 fn refuse(rt: &HostRuntime, path: &str, error: StacksError) -> Result<u8> {
     eprintln!(rt; "framehop-stacks: {path}: {error}")?;
@@ -418,4 +377,54 @@ fn refuse(rt: &HostRuntime, path: &str, error: StacksError) -> Result<u8> {
         StacksError::OutOfMemory | StacksError::GenerationsExhausted => Ok(2),
         _ => Ok(1),
     }
+}
+
+/// Prints the folded stacks of all recordings, or draws them, and returns the status.
+fn print_folded(rt: &HostRuntime, folded: &Folded, form: Form<'_>) -> Result<u8> {
+    match form {
+        Form::Graph(drawing) => print_graph(rt, flame_graph(rt.alloc(), folded, drawing)),
+        Form::Text | Form::Changes => status_of_output(rt, write_lines(rt, folded)),
+    }
+}
+
+/// Prints a flame graph, or why there is none, and returns the status.
+fn print_graph(rt: &HostRuntime, graph: Result<String, FlameGraphError>) -> Result<u8> {
+    match graph {
+        Ok(graph) => status_of_output(rt, write_graph(rt, graph.as_str())),
+        Err(error) => {
+            eprintln!(rt; "framehop-stacks: {error}")?;
+            match error {
+                FlameGraphError::OutOfMemory => Ok(2),
+                _ => Ok(1),
+            }
+        }
+    }
+}
+
+/// Returns the status for what was written, and prints why it was not, if so.
+fn status_of_output(rt: &HostRuntime, written: Result<(), StacksError>) -> Result<u8> {
+    match written {
+        Ok(()) => Ok(0),
+        Err(error) => {
+            eprintln!(rt; "framehop-stacks: {error}")?;
+            match error {
+                StacksError::OutOfMemory => Ok(2),
+                _ => Ok(1),
+            }
+        }
+    }
+}
+
+/// Writes a flame graph.
+fn write_graph(rt: &HostRuntime, graph: &str) -> Result<(), StacksError> {
+    io::writer(rt).write_all(graph.as_bytes())?;
+    Ok(())
+}
+
+/// Writes the lines of folded stacks.
+fn write_lines(rt: &HostRuntime, folded: &Folded) -> Result<(), StacksError> {
+    let mut out = BufWriter::new(rt.alloc(), io::writer(rt))?;
+    folded.write(&mut out)?;
+    io::Write::flush(&mut out)?;
+    Ok(())
 }

@@ -1,4 +1,4 @@
-use Rattle.std.proofs.Common.{◌≡◌, ◌++◌, ◌∷◌, ◌∙◌, [], arith, ap, sym, get_or}
+use Rattle.std.proofs.Common.{◌++◌, ◌∷◌, ◌∙◌, [], arith, ap, sym, get_or}
 use Rattle.std.proofs.lemmas.List.{take_all}
 use Rattle.framehop_flame_graph.specs.declared.changes.ChangedBox.{ChangedBox}
 use Rattle.framehop_flame_graph.specs.Changes.{joined}

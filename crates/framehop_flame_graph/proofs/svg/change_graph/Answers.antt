@@ -1,4 +1,4 @@
-use Rattle.std.proofs.Common.{◌≡◌, ◌≤◌, ◌<◌, ◌+◌, ◌-◌, ◌++◌, ◌∙◌, ◌∷◌, [], List, ℕ, append-nil, arith, ap, sym, subst, drop, take, get_or, length, map}
+use Rattle.std.proofs.Common.{◌≡◌, ◌≤◌, ◌<◌, ◌+◌, ◌-◌, ◌++◌, ◌∙◌, [], List, ℕ, append-nil, arith, ap, sym, subst, drop, take, get_or, length, map}
 use Rattle.std.specs.List.{filter}
 use Rattle.std.specs.String.{string_bytes}
 use Rattle.std.proofs.lemmas.List.{drop_all, take_all, length-map}
@@ -100,13 +100,22 @@ returns-clause-drawn c =
     let shown : map viewed_change c.as_slice-6.result.now ≡ filter (is_drawn totals) (changes_of (stacks_of new) (stacks_before new old) prefixes) =
     ap (map viewed_change) c.as_slice-6.ensures.value ∙ c.in_ok-shown.ensures.shown ∙ ap (filter (is_drawn totals)) all in
     let left_out : c.len.result - c.len-2.result
-        ≡ length (changes_of (stacks_of new) (stacks_before new old) prefixes) - length (filter (is_drawn totals) (changes_of (stacks_of new) (stacks_before new old) prefixes)) =
-    omega (arith, c.len.ensures, c.len-2.ensures, ap length all, ap length shown, ap length c.as_slice-5.ensures.value, ap length c.as_slice-6.ensures.value,
-        length-map c.as_slice-5.result.now viewed_change, length-map c.as_slice-6.result.now viewed_change) in
+    ≡ length (changes_of (stacks_of new) (stacks_before new old) prefixes) - length (filter (is_drawn totals) (changes_of (stacks_of new) (stacks_before new old) prefixes)) =
+    omega (
+      arith,
+      c.len.ensures,
+      c.len-2.ensures,
+      ap length all,
+      ap length shown,
+      ap length c.as_slice-5.ensures.value,
+      ap length c.as_slice-6.ensures.value,
+      length-map c.as_slice-5.result.now viewed_change,
+      length-map c.as_slice-6.result.now viewed_change,
+    ) in
     let drawn = c.in_ok-draw_changes.ensures
-        ∙ ap (λ changes. change_picture_of drawing totals changes (c.len.result - c.len-2.result)) shown
-        ∙ ap (change_picture_of drawing totals (filter (is_drawn totals) (changes_of (stacks_of new) (stacks_before new old) prefixes))) left_out
-        ∙ ap (λ n. shown_changes_of drawing (record { before = n; now = c.in-Some.now }) (changes_of (stacks_of new) (stacks_before new old) prefixes)) c.in-Some-total_before.ensures
-        ∙ ap (λ n. shown_changes_of drawing (record { before = total_of (stacks_before new old); now = n }) (changes_of (stacks_of new) (stacks_before new old) prefixes)) c.in-Some.ensures in
+    ∙ ap (λ changes. change_picture_of drawing totals changes (c.len.result - c.len-2.result)) shown
+    ∙ ap (change_picture_of drawing totals (filter (is_drawn totals) (changes_of (stacks_of new) (stacks_before new old) prefixes))) left_out
+    ∙ ap (λ n. shown_changes_of drawing (record { before = n; now = c.in-Some.now }) (changes_of (stacks_of new) (stacks_before new old) prefixes)) c.in-Some-total_before.ensures
+    ∙ ap (λ n. shown_changes_of drawing (record { before = total_of (stacks_before new old); now = n }) (changes_of (stacks_of new) (stacks_before new old) prefixes)) c.in-Some.ensures in
     let P : Folded → Folded → Type 0 = λ n o. IsChangeGraph drawing (stacks_of n) (stacks_before n o) (string_bytes c.in_ok-draw_changes.field-0) in
     subst (λ n. P n c.args.changes.now.old) c.new-folded.ensures (subst (P new) c.old-old.ensures (prefixes, are, drawn))
