@@ -22,6 +22,9 @@ echo '[ShortFile]' >"$work/short"
 head -c 1000 "$data/crash.core" >"$work/short.core"
 head -c 5000 "$data/crash.dmp" >"$work/short.dmp"
 mkdir -p "$work/other/usr/local/bin" && cp "$data/srv/tiny" "$work/other/usr/local/bin/crash"
+# a folder from which a link leads to the file, and one into which it does
+mkdir -p "$work/leads-out/usr/local/bin" && ln -s "$(realpath -- "$data/usr/local/bin/crash")" "$work/leads-out/usr/local/bin/crash"
+mkdir -p "$work/leads-in/usr/local/bin" && cp "$data/usr/local/bin/crash" "$work/leads-in/kept" && ln -s ../../../kept "$work/leads-in/usr/local/bin/crash"
 failed=0
 
 # Runs a program in a folder, and compares its status, its output and what it writes to standard error:
@@ -136,6 +139,11 @@ for program in "$@"; do
     try 0 "$checks/stacks/crash.stacks" any --root . crash.core
     try 0 "$checks/stacks/crash.missing" any --root srv crash.core
     try 0 "$checks/stacks/crash.missing" any --root "$work/other" crash.core
+    try 0 "$checks/stacks/crash.missing" any --root "$work/leads-out" crash.core
+    try 0 "$checks/stacks/crash.stacks" any --root "$work/leads-in" crash.core
+    # where standard error can't be written, the output is whole
+    (cd "$data" && "$program" --root . tiny.data >"$work/whole" 2>"$work/err" && "$program" --root . tiny.data >"$work/out" 2>/dev/full) &&
+        cmp -s "$work/out" "$work/whole" || { echo "$program: another output where standard error is full" >&2; failed=1; }
     try 0 "$checks/stacks/crash.limit" any --root . --limit 1 crash.core
     try 0 "$checks/stacks/crash.explained" any --root . --explain crash.core
     try 0 "$checks/stacks/crash.fallback" any --root srv --explain crash.core

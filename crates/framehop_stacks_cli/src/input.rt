@@ -1,7 +1,8 @@
 //! The bytes of files and of standard input, and what they are.
+use crate::messages::Messages;
 use anyhow::Result;
 use framehop_folded::text::is_text;
-use std::io::Read;
+use std::io::{Read, Write};
 use std::{fs, io};
 
 /// The size from which on a recording is told of before it is read, in bytes: 50 MB.
@@ -41,7 +42,8 @@ pub fn read_input(rt: &HostRuntime, path: &str) -> Result<Option<Vec<u8>>> {
                 fs::read(rt, path)
             }
             Ok(_) => {
-                eprintln!(rt;
+                writeln!(
+                    Messages { rt },
                     "framehop-stacks: {path}: not a regular file; for standard input write -"
                 )?;
                 return Ok(None);
@@ -53,7 +55,7 @@ pub fn read_input(rt: &HostRuntime, path: &str) -> Result<Option<Vec<u8>>> {
         Ok(bytes) => Ok(Some(bytes)),
         Err(error) => {
             let name = name_of(path);
-            eprintln!(rt; "framehop-stacks: {name}: {error}")?;
+            writeln!(Messages { rt }, "framehop-stacks: {name}: {error}")?;
             Ok(None)
         }
     }
@@ -70,7 +72,10 @@ fn read_standard_input(rt: &HostRuntime) -> io::Result<Vec<u8>> {
 fn announce(rt: &HostRuntime, path: &str, size: u64) -> Result<()> {
     if size > LARGE_RECORDING && is_terminal(rt) {
         let megabytes = size / 1_000_000;
-        eprintln!(rt; "framehop-stacks: {path}: reading {megabytes} MB")?;
+        writeln!(
+            Messages { rt },
+            "framehop-stacks: {path}: reading {megabytes} MB"
+        )?;
     }
     Ok(())
 }

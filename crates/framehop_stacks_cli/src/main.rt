@@ -5,6 +5,7 @@
 mod arguments;
 mod disk;
 mod input;
+mod messages;
 
 use anyhow::Result;
 use arguments::{command, drawing, options};
@@ -23,6 +24,7 @@ use framehop_perf_stacks::error::StacksError;
 use framehop_perf_stacks::program::write_stacks;
 use framehop_perf_stacks::run::Options;
 use input::{Kind, kind_of, name_of, read_input};
+use messages::Messages;
 use std::io::{BufWriter, Write};
 use std::path::PathBuf;
 use std::process::ExitCode;
@@ -52,11 +54,11 @@ fn run(rt: &HostRuntime) -> Result<u8> {
         Err(error) => return usage(rt, &error),
     };
     let Some(options) = options(&matches) else {
-        eprintln!(rt; "framehop-stacks: the limit is no number")?;
+        writeln!(Messages { rt }, "framehop-stacks: the limit is no number")?;
         return Ok(2);
     };
     if let Some(misuse) = misuse_of_options(&matches, options) {
-        eprintln!(rt; "framehop-stacks: {misuse}")?;
+        writeln!(Messages { rt }, "framehop-stacks: {misuse}")?;
         return Ok(2);
     }
     let disk = Disk {
@@ -117,7 +119,10 @@ fn print_changes(
 ) -> Result<u8> {
     let alloc = rt.alloc();
     let [old_path, new_path] = paths else {
-        eprintln!(rt; "framehop-stacks: --diff compares two files or folders, OLD and NEW")?;
+        writeln!(
+            Messages { rt },
+            "framehop-stacks: --diff compares two files or folders, OLD and NEW"
+        )?;
         return Ok(2);
     };
     let (mut old, mut new) = (Folded::new(alloc), Folded::new(alloc));
@@ -174,12 +179,15 @@ fn print_path(
     let files = match files_at(rt, path) {
         Ok(files) => files,
         Err(error) => {
-            eprintln!(rt; "framehop-stacks: {path}: {error}")?;
+            writeln!(Messages { rt }, "framehop-stacks: {path}: {error}")?;
             return Ok(1);
         }
     };
     if files.is_empty() {
-        eprintln!(rt; "framehop-stacks: {path}: no file in it has a name in .data")?;
+        writeln!(
+            Messages { rt },
+            "framehop-stacks: {path}: no file in it has a name in .data"
+        )?;
         return Ok(1);
     }
     let mut status = 0;
@@ -204,7 +212,7 @@ fn print_stacks(
     let (path, bytes) = (name_of(path), bytes.as_slice());
     let kind = kind_of(bytes);
     if let Some(misuse) = misuse_of(kind, options, form) {
-        eprintln!(rt; "framehop-stacks: {path}: {misuse}")?;
+        writeln!(Messages { rt }, "framehop-stacks: {path}: {misuse}")?;
         return Ok(2);
     }
     match kind {
@@ -242,7 +250,7 @@ fn print_core(
     options: Options,
 ) -> Result<u8> {
     let mut out = BufWriter::new(rt.alloc(), io::writer(rt))?;
-    let mut err = rt.stderr();
+    let mut err = Messages { rt };
     let written = write_core_stacks(
         rt.alloc(),
         bytes,
@@ -265,7 +273,7 @@ fn print_minidump(
     options: Options,
 ) -> Result<u8> {
     let mut out = BufWriter::new(rt.alloc(), io::writer(rt))?;
-    let mut err = rt.stderr();
+    let mut err = Messages { rt };
     let written = write_minidump_stacks(
         rt.alloc(),
         bytes,
@@ -284,7 +292,7 @@ fn status_of(rt: &HostRuntime, path: &str, written: Result<(), DumpStacksError>)
     match written {
         Ok(()) => Ok(0),
         Err(error) => {
-            eprintln!(rt; "framehop-stacks: {path}: {error}")?;
+            writeln!(Messages { rt }, "framehop-stacks: {path}: {error}")?;
             match error {
                 DumpStacksError::OutOfMemory | DumpStacksError::GenerationsExhausted => Ok(2),
                 _ => Ok(1),
@@ -296,7 +304,7 @@ fn status_of(rt: &HostRuntime, path: &str, written: Result<(), DumpStacksError>)
 /// Adds the folded stacks of a text to those so far, if all of its lines can be read.
 fn add_folded(rt: &HostRuntime, path: &str, text: &[u8], folded: &mut Folded) -> Result<u8> {
     if text.is_empty() {
-        eprintln!(rt; "framehop-stacks: {path}: empty")?;
+        writeln!(Messages { rt }, "framehop-stacks: {path}: empty")?;
         return Ok(1);
     }
     let lines = match read_folded(rt.alloc(), text) {
@@ -317,7 +325,7 @@ fn add_folded(rt: &HostRuntime, path: &str, text: &[u8], folded: &mut Folded) ->
 
 /// Prints why the counts of folded stacks can't be added.
 fn refuse_count(rt: &HostRuntime, path: &str, error: FoldedError) -> Result<u8> {
-    eprintln!(rt; "framehop-stacks: {path}: {error}")?;
+    writeln!(Messages { rt }, "framehop-stacks: {path}: {error}")?;
     Ok(match error {
         FoldedError::OutOfMemory => 2,
         FoldedError::CountTooLarge => 1,
@@ -333,12 +341,15 @@ fn refuse_line(rt: &HostRuntime, path: &str, text: &[u8], error: TextError) -> R
             "after its last blank there is no decimal count below 2^64",
         ),
         TextError::OutOfMemory => {
-            eprintln!(rt; "framehop-stacks: {path}: {error}")?;
+            writeln!(Messages { rt }, "framehop-stacks: {path}: {error}")?;
             return Ok(2);
         }
     };
     let line = line_number(text, offset);
-    eprintln!(rt; "framehop-stacks: {path}: line {line} is no folded stack: {cause}")?;
+    writeln!(
+        Messages { rt },
+        "framehop-stacks: {path}: line {line} is no folded stack: {cause}"
+    )?;
     Ok(1)
 }
 
@@ -353,7 +364,7 @@ fn print_recording(
 ) -> Result<u8> {
     let alloc = rt.alloc();
     let mut out = BufWriter::new(alloc, io::writer(rt))?;
-    let mut err = rt.stderr();
+    let mut err = Messages { rt };
     let unwound = write_stacks(alloc, bytes, disk, options, &mut out, &mut err);
     io::Write::flush(&mut out)?;
     let ended = match unwound {
@@ -372,7 +383,7 @@ fn print_recording(
 
 /// Prints why a recording gives no stacks, or no more of them.
 fn refuse(rt: &HostRuntime, path: &str, error: StacksError) -> Result<u8> {
-    eprintln!(rt; "framehop-stacks: {path}: {error}")?;
+    writeln!(Messages { rt }, "framehop-stacks: {path}: {error}")?;
     match error {
         StacksError::OutOfMemory | StacksError::GenerationsExhausted => Ok(2),
         _ => Ok(1),
@@ -392,7 +403,7 @@ fn print_graph(rt: &HostRuntime, graph: Result<String, FlameGraphError>) -> Resu
     match graph {
         Ok(graph) => status_of_output(rt, write_graph(rt, graph.as_str())),
         Err(error) => {
-            eprintln!(rt; "framehop-stacks: {error}")?;
+            writeln!(Messages { rt }, "framehop-stacks: {error}")?;
             match error {
                 FlameGraphError::OutOfMemory => Ok(2),
                 _ => Ok(1),
@@ -406,7 +417,7 @@ fn status_of_output(rt: &HostRuntime, written: Result<(), StacksError>) -> Resul
     match written {
         Ok(()) => Ok(0),
         Err(error) => {
-            eprintln!(rt; "framehop-stacks: {error}")?;
+            writeln!(Messages { rt }, "framehop-stacks: {error}")?;
             match error {
                 StacksError::OutOfMemory => Ok(2),
                 _ => Ok(1),
