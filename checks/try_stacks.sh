@@ -39,6 +39,17 @@ try_in() {
     failed=1
 }
 
+# Counts the threads of a dump that checks/squares/dumps.py makes: count "KIND ITEMS" THREADS
+count() {
+    local found
+    rm -rf "$work/made"
+    python3 "$checks/squares/dumps.py" $1 "$work/made" || { failed=1; return; }
+    found=$("$program" --root "$work/made/root" "$work/made/dump" 2>"$work/err" | grep -c ':$')
+    [ "$found" = "$2" ] && return
+    echo "$program: $found threads and not $2 of $1: $(cat "$work/err")" >&2
+    failed=1
+}
+
 # The same in the folder of the stored files.
 try() {
     try_in "$data" "$@"
@@ -141,6 +152,11 @@ for program in "$@"; do
     try 0 "$checks/stacks/crash.missing" any --root "$work/other" crash.core
     try 0 "$checks/stacks/crash.missing" any --root "$work/leads-out" crash.core
     try 0 "$checks/stacks/crash.stacks" any --root "$work/leads-in" crash.core
+    # more threads, streams and sections than a table of few would have
+    count "threads 130" 130
+    count "minidump-threads 130" 130
+    count "minidump-streams 70" 1
+    count "section-names 130" 1
     # where standard error can't be written, the output is whole
     (cd "$data" && "$program" --root . tiny.data >"$work/whole" 2>"$work/err" && "$program" --root . tiny.data >"$work/out" 2>/dev/full) &&
         cmp -s "$work/out" "$work/whole" || { echo "$program: another output where standard error is full" >&2; failed=1; }
