@@ -42,9 +42,9 @@ try_in() {
 # Counts the threads of a dump that checks/squares/dumps.py makes: count "KIND ITEMS" THREADS
 count() {
     local found
-    rm -rf "$work/made"
-    python3 "$checks/squares/dumps.py" $1 "$work/made" || { failed=1; return; }
-    found=$("$program" --root "$work/made/root" "$work/made/dump" 2>"$work/err" | grep -c ':$')
+    rm -rf "$work/counted"
+    python3 "$checks/squares/dumps.py" $1 "$work/counted" || { failed=1; return; }
+    found=$("$program" --root "$work/counted/root" "$work/counted/dump" 2>"$work/err" | grep -c ':$')
     [ "$found" = "$2" ] && return
     echo "$program: $found threads and not $2 of $1: $(cat "$work/err")" >&2
     failed=1
