@@ -61,9 +61,17 @@ interpret() {
     return 0
 }
 
+# Whether arguments say that standard input is read: none do, or one that is -.
+reads_standard_input() {
+    local argument
+    [ $# -gt 0 ] || return 0
+    for argument in "$@"; do [ "$argument" != - ] || return 0; done
+    return 1
+}
+
 # Prints the output of the interpreted program, where there is one.
 reply_first() {
-    if [ $# = 0 ]; then
+    if reads_standard_input "$@"; then
         say "standard input is read by the built program only"
         return 1
     fi

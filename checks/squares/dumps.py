@@ -1,9 +1,12 @@
-"""Core files and minidumps of x86_64 with many items of one kind, each made to cost a square where a reader is careless.
+"""dumps.py KIND ITEMS FOLDER: a core file or a minidump of x86_64 with many items of one kind, each made to cost a square where a reader
+is careless.
 
 Each function of KINDS returns the files of a number of items, by their names: `dump` is what the program is given, and what is below
 `root` is given by `--root`.
 """
+import os
 import struct
+import sys
 
 PAGE = 0x1000
 PT_LOAD, PT_NOTE = 1, 4
@@ -188,5 +191,28 @@ def minidump_maps(count):
     return {"dump": minidump(streams, stack_at(0) + context(STACKS))}
 
 
+def minidump_streams(count):
+    """Streams of types that are not known, before the thread."""
+    others = [(0x10000 + at, lambda place: b"") for at in range(count)]
+    streams = [SYSTEM, *others, (3, lambda place: thread_list([STACKS], place, 0))]
+    return {"dump": minidump(streams, stack_at(0) + context(STACKS))}
+
+
+def write(folder, files):
+    """Writes files into a folder, and returns how many bytes they have together."""
+    for name, data in files.items():
+        path = os.path.join(folder, name)
+        os.makedirs(os.path.dirname(path), exist_ok=True)
+        with open(path, "wb") as file:
+            file.write(data)
+    return sum(len(data) for data in files.values())
+
+
 KINDS = {function.__name__.replace("_", "-"): function for function in (
-    threads, threads_backwards, masks, paths, code_in_memory, mappings_of_one_file, section_names, notes_of_one_place, minidump_threads, minidump_modules, minidump_maps)}
+    threads, threads_backwards, masks, paths, code_in_memory, mappings_of_one_file, section_names, notes_of_one_place, minidump_threads,
+    minidump_modules, minidump_maps, minidump_streams)}
+
+if __name__ == "__main__":
+    if len(sys.argv) != 4:
+        sys.exit(__doc__.splitlines()[0])
+    write(sys.argv[3], KINDS[sys.argv[1]](int(sys.argv[2])))

@@ -12,7 +12,7 @@ import sys
 import tempfile
 import time
 
-from dumps import KINDS
+from dumps import KINDS, write
 
 SIZES = (4000, 8000, 16000)
 
@@ -30,15 +30,6 @@ def run(command):
             if time.monotonic() > limit:
                 process.kill()
             time.sleep(0.005)
-
-
-def write(folder, files):
-    for name, data in files.items():
-        path = os.path.join(folder, name)
-        os.makedirs(os.path.dirname(path), exist_ok=True)
-        with open(path, "wb") as it:
-            it.write(data)
-    return sum(len(data) for data in files.values())
 
 
 def main():

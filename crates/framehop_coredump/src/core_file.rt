@@ -35,20 +35,6 @@ pub struct CoreFile {
     pub segments: Vec<ProgramHeader>,
 }
 
-/// Returns the machine of a core file.
-fn machine_of(header: FileHeader) -> Result<Machine, CoreFileError>
-    ensures { result ≡ machine_of header }
-{
-    if header.e_type != ET_CORE {
-        return Err(CoreFileError::NotACore { offset: 16 });
-    }
-    match header.e_machine {
-        EM_X86_64 => Ok(Machine::X86_64),
-        EM_AARCH64 => Ok(Machine::Aarch64),
-        _ => Err(CoreFileError::UnknownMachine { offset: 18 }),
-    }
-}
-
 /// Reads the headers of a core file.
 ///
 /// # Errors
@@ -71,4 +57,18 @@ pub fn read_core_file(alloc: Global, file: &[u8]) -> Result<CoreFile, CoreFileEr
     let machine = machine_of(header)?;
     let segments = read_program_headers(alloc, file, header)?;
     Ok(CoreFile { machine, segments })
+}
+
+/// Returns the machine of a core file.
+fn machine_of(header: FileHeader) -> Result<Machine, CoreFileError>
+    ensures { result ≡ machine_of header }
+{
+    if header.e_type != ET_CORE {
+        return Err(CoreFileError::NotACore { offset: 16 });
+    }
+    match header.e_machine {
+        EM_X86_64 => Ok(Machine::X86_64),
+        EM_AARCH64 => Ok(Machine::Aarch64),
+        _ => Err(CoreFileError::UnknownMachine { offset: 18 }),
+    }
 }

@@ -12,6 +12,19 @@ const USER_REGS_SIZE: usize = 216;
 /// The size of `struct user_pt_regs`, in bytes.
 const USER_PT_REGS_SIZE: usize = 272;
 
+/// Returns the registers of a thread on x86_64, or `None` where these are fewer bytes than its
+/// registers have.
+///
+/// Source: Linux, `arch/x86/include/asm/user_64.h`, `struct user_regs_struct`.
+pub fn x86_64_registers(values: &[u8]) -> Option<UnwindRegsX86_64>
+    ensures { result ≡ x86_64_registers values.now }
+{
+    if values.len() < USER_REGS_SIZE {
+        return None;
+    }
+    Some(general(values))
+}
+
 /// Returns the registers of x86_64 that have these bytes.
 #[tactic(auto, unfolding(crate::specs::Registers::general_of))]
 fn general(values: &[u8]) -> UnwindRegsX86_64
@@ -37,19 +50,6 @@ fn general(values: &[u8]) -> UnwindRegsX86_64
     regs.set(Reg::RSI, u64_at(values, 104));
     regs.set(Reg::RDI, u64_at(values, 112));
     regs
-}
-
-/// Returns the registers of a thread on x86_64, or `None` where these are fewer bytes than its
-/// registers have.
-///
-/// Source: Linux, `arch/x86/include/asm/user_64.h`, `struct user_regs_struct`.
-pub fn x86_64_registers(values: &[u8]) -> Option<UnwindRegsX86_64>
-    ensures { result ≡ x86_64_registers values.now }
-{
-    if values.len() < USER_REGS_SIZE {
-        return None;
-    }
-    Some(general(values))
 }
 
 /// Returns the program counter and the registers of a thread on aarch64, with the mask of lr, or `None`

@@ -40,97 +40,6 @@ pub struct Thread<'a> {
     pub pac_mask: Option<u64>,
 }
 
-/// Returns the size of the registers of a machine, in bytes.
-fn registers_size(machine: Machine) -> usize
-    ensures { result ≡ registers_size machine }
-{
-    match machine {
-        Machine::X86_64 => 216,
-        Machine::Aarch64 => 272,
-    }
-}
-
-/// Returns the size of `struct elf_prstatus` on a machine, in bytes.
-fn prstatus_size(machine: Machine) -> usize
-    ensures { result ≡ prstatus_size machine }
-{
-    match machine {
-        Machine::X86_64 => 336,
-        Machine::Aarch64 => 392,
-    }
-}
-
-/// Returns whether a note is a thread's first.
-fn is_thread<'a>(placed: PlacedNote<'a>) -> bool
-    ensures { result ≡ is_thread (placed_view placed.entry) }
-{
-    is_of(placed, b"CORE\0", NT_PRSTATUS)
-}
-
-/// Returns whether a note has the masks of pointer authentication.
-fn is_pac_mask<'a>(placed: PlacedNote<'a>) -> bool
-    ensures { result ≡ is_pac_mask (placed_view placed.entry) }
-{
-    is_of(placed, b"LINUX\0", NT_ARM_PAC_MASK)
-}
-
-/// Returns the first note of masks that comes before the next thread's first note.
-fn pac_mask_note<'a>(later: &[PlacedNote<'a>]) -> Option<PlacedNote<'a>>
-    ensures { option_map placed_view result ≡ find is_pac_mask (before_first is_thread (map placed_view later.entry.now)) }
-{
-    for index in 0..later.len() {
-        if is_thread(later[index]) {
-            return None;
-        }
-        if is_pac_mask(later[index]) {
-            return Some(later[index]);
-        }
-    }
-    None
-}
-
-/// Returns the mask of code of a note, if there is one.
-fn pac_mask<'a>(placed: Option<PlacedNote<'a>>) -> Result<Option<u64>, CoreFileError>
-    ensures { result ≡ pac_mask_of (option_map placed_view placed.entry) }
-{
-    let Some(placed) = placed else {
-        return Ok(None);
-    };
-    let descriptor = placed.note.descriptor;
-    if descriptor.len() != PAC_MASK_SIZE {
-        return Err(CoreFileError::BadNoteSize {
-            offset: placed.offset,
-        });
-    }
-    Ok(Some(u64_at(descriptor, 8)))
-}
-
-/// Returns the thread of a note, which these notes come after.
-#[tactic(auto, unfolding(crate::specs::Thread::thread_of))]
-fn read_thread<'a>(
-    machine: Machine,
-    placed: PlacedNote<'a>,
-    later: &[PlacedNote<'a>],
-) -> Result<Thread<'a>, CoreFileError>
-    ensures exact { MatchResult result
-        (λ thread. thread_of machine (placed_view placed.entry) (map placed_view later.entry.now) ≡ Ok (thread_view thread))
-        (λ error. thread_of machine (placed_view placed.entry) (map placed_view later.entry.now) ≡ Err error) }
-{
-    let offset = placed.offset;
-    let descriptor = placed.note.descriptor;
-    if descriptor.len() != prstatus_size(machine) {
-        return Err(CoreFileError::BadNoteSize { offset });
-    }
-    let pac_mask = pac_mask(pac_mask_note(later))?;
-    Ok(Thread {
-        offset,
-        tid: u32_at(descriptor, 32),
-        signal: u16_at(descriptor, 12),
-        registers: front(back(descriptor, PR_REG), registers_size(machine)),
-        pac_mask,
-    })
-}
-
 /// Reads the threads of a process from its notes, in their order. Linux writes the thread first that got
 /// the signal.
 ///
@@ -160,5 +69,96 @@ pub fn read_threads<'a>(
     match threads {
         Some(threads) => Ok(threads),
         None => Err(CoreFileError::OutOfMemory),
+    }
+}
+
+/// Returns the thread of a note, which these notes come after.
+#[tactic(auto, unfolding(crate::specs::Thread::thread_of))]
+fn read_thread<'a>(
+    machine: Machine,
+    placed: PlacedNote<'a>,
+    later: &[PlacedNote<'a>],
+) -> Result<Thread<'a>, CoreFileError>
+    ensures exact { MatchResult result
+        (λ thread. thread_of machine (placed_view placed.entry) (map placed_view later.entry.now) ≡ Ok (thread_view thread))
+        (λ error. thread_of machine (placed_view placed.entry) (map placed_view later.entry.now) ≡ Err error) }
+{
+    let offset = placed.offset;
+    let descriptor = placed.note.descriptor;
+    if descriptor.len() != prstatus_size(machine) {
+        return Err(CoreFileError::BadNoteSize { offset });
+    }
+    let pac_mask = pac_mask(pac_mask_note(later))?;
+    Ok(Thread {
+        offset,
+        tid: u32_at(descriptor, 32),
+        signal: u16_at(descriptor, 12),
+        registers: front(back(descriptor, PR_REG), registers_size(machine)),
+        pac_mask,
+    })
+}
+
+/// Returns the size of `struct elf_prstatus` on a machine, in bytes.
+fn prstatus_size(machine: Machine) -> usize
+    ensures { result ≡ prstatus_size machine }
+{
+    match machine {
+        Machine::X86_64 => 336,
+        Machine::Aarch64 => 392,
+    }
+}
+
+/// Returns the mask of code of a note, if there is one.
+fn pac_mask<'a>(placed: Option<PlacedNote<'a>>) -> Result<Option<u64>, CoreFileError>
+    ensures { result ≡ pac_mask_of (option_map placed_view placed.entry) }
+{
+    let Some(placed) = placed else {
+        return Ok(None);
+    };
+    let descriptor = placed.note.descriptor;
+    if descriptor.len() != PAC_MASK_SIZE {
+        return Err(CoreFileError::BadNoteSize {
+            offset: placed.offset,
+        });
+    }
+    Ok(Some(u64_at(descriptor, 8)))
+}
+
+/// Returns the first note of masks that comes before the next thread's first note.
+fn pac_mask_note<'a>(later: &[PlacedNote<'a>]) -> Option<PlacedNote<'a>>
+    ensures { option_map placed_view result ≡ find is_pac_mask (before_first is_thread (map placed_view later.entry.now)) }
+{
+    for index in 0..later.len() {
+        if is_thread(later[index]) {
+            return None;
+        }
+        if is_pac_mask(later[index]) {
+            return Some(later[index]);
+        }
+    }
+    None
+}
+
+/// Returns whether a note is a thread's first.
+fn is_thread<'a>(placed: PlacedNote<'a>) -> bool
+    ensures { result ≡ is_thread (placed_view placed.entry) }
+{
+    is_of(placed, b"CORE\0", NT_PRSTATUS)
+}
+
+/// Returns whether a note has the masks of pointer authentication.
+fn is_pac_mask<'a>(placed: PlacedNote<'a>) -> bool
+    ensures { result ≡ is_pac_mask (placed_view placed.entry) }
+{
+    is_of(placed, b"LINUX\0", NT_ARM_PAC_MASK)
+}
+
+/// Returns the size of the registers of a machine, in bytes.
+fn registers_size(machine: Machine) -> usize
+    ensures { result ≡ registers_size machine }
+{
+    match machine {
+        Machine::X86_64 => 216,
+        Machine::Aarch64 => 272,
     }
 }

@@ -13,7 +13,7 @@ ghost use Rattle.framehop_dump_stacks.specs.Noted.{AreThreadNotes, AreNotesBy, A
 ghost use Rattle.framehop_dump_stacks.specs.Printed.{blocks_of, text_by, text_of};
 ghost use Rattle.framehop_dump_stacks.specs.Problems.{AreProblems};
 ghost use Rattle.framehop_dump_stacks.specs.Refusal.{of_core_file, of_minidump};
-ghost use Rattle.framehop_frames.specs.Explained.{IsShownBy};
+ghost use Rattle.framehop_frames.specs.Explained.{IsShown};
 
 use crate::core_dump::read_core_dump;
 use crate::dump::Dump;
@@ -51,7 +51,7 @@ pub fn write_core_stacks<S: FileSource, W: Write, E: Write>(
 ) -> Result<(), DumpStacksError>
     ensures printed { OnOk result ((dump : DumpView) × (core_dump_of file.now ≡ Ok dump)
         × ((files : Files) × AreFilesOf (S.source source.now) dump files
-        × ((shown : List ℕ) × IsShownBy explain (AreNotesOf limit dump files) (text_of limit dump files) shown
+        × ((shown : List ℕ) × IsShown explain (AreNotesOf limit dump files) (text_of limit dump files) shown
         × Appends (W.contents out.old) (W.contents out.new) shown)
         × ((problems : List ℕ) × AreProblems dump files (mappings_in dump files) problems
         × Appends (E.contents err.old) (E.contents err.new) problems))) }
@@ -83,7 +83,7 @@ pub fn write_minidump_stacks<S: FileSource, W: Write, E: Write>(
     ensures printed { OnOk result ((minidump : DumpView × List LoadedView) × (minidump_of file.now ≡ Ok minidump)
         × ((dump : DumpView) × IsDumpOf (S.source source.now) minidump dump
         × ((files : Files) × AreFilesOf (S.source source.now) dump files
-        × ((shown : List ℕ) × IsShownBy explain (AreNotesOf limit dump files) (text_of limit dump files) shown
+        × ((shown : List ℕ) × IsShown explain (AreNotesOf limit dump files) (text_of limit dump files) shown
         × Appends (W.contents out.old) (W.contents out.new) shown)
         × ((problems : List ℕ) × AreProblems dump files (mappings_in dump files) problems
         × Appends (E.contents err.old) (E.contents err.new) problems)))) }
@@ -111,7 +111,7 @@ fn write_dump<W: Write, E: Write>(
     out: &mut W,
     err: &mut E,
 ) -> Result<(), DumpStacksError>
-    ensures printed { OnOk result ((shown : List ℕ) × IsShownBy explain (AreNotesOf limit (dump_view dump.now) files.now)
+    ensures printed { OnOk result ((shown : List ℕ) × IsShown explain (AreNotesOf limit (dump_view dump.now) files.now)
         (text_of limit (dump_view dump.now) files.now) shown
         × Appends (W.contents out.old) (W.contents out.new) shown) }
     ensures said { OnOk result ((problems : List ℕ)
@@ -152,7 +152,7 @@ where
     U::Cache: Drop,
     U::Module: Drop,
     ensures printed { OnOk result ((shown : List ℕ)
-        × IsShownBy explain (AreNotesBy U.walker U.begins limit U.is_note (M.module_of maker.now) (dump_view dump.now) files.now)
+        × IsShown explain (AreNotesBy U.walker U.begins limit U.is_note (M.module_of maker.now) (dump_view dump.now) files.now)
         (text_by U.walker U.begins limit (M.module_of maker.now) (dump_view dump.now) files.now) shown
         × Appends (W.contents out.old) (W.contents out.new) shown) }
     ensures said { OnOk result ((problems : List ℕ)
@@ -179,7 +179,7 @@ fn shown_text<U: Dumped>(
 ) -> Result<Vec<u8>, AllocError>
 where
     U::Cache: Drop,
-    ensures { IfOk result (λ shown. IsShownBy explain
+    ensures { IfOk result (λ shown. IsShown explain
         (AreThreadNotes U.walker U.begins limit U.is_note files.now process.now.mappings process.now.unwinder.modules (dump_view dump.now) (dump_view dump.now).threads)
         (blocks_of U.walker U.begins limit process.now.unwinder.modules (dump_view dump.now) files.now process.now.mappings) shown.items) }
 {

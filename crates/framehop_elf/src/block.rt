@@ -5,21 +5,6 @@ ghost use Rattle.framehop_elf.specs.Block.{block_at};
 use crate::error::ElfError;
 use framehop_bytes::block;
 
-/// Returns so many bytes from an offset of the file on.
-///
-/// # Errors
-///
-/// `Eof` where the file ends before them.
-#[inline]
-pub(crate) fn read_block(file: &[u8], offset: u64, size: u64) -> Result<&[u8], ElfError>
-    ensures exact { MatchResult result
-        (λ block. block_at file.entry.now offset size ≡ Ok block.now)
-        (λ error. block_at file.entry.now offset size ≡ Err error) }
-    ensures whole { IfOk result (λ block. length block.now ≡ size) }
-{
-    block::read_block(file, offset, size).ok_or(ElfError::Eof { offset })
-}
-
 /// Returns the bytes of a table of so many entries of a size.
 ///
 /// # Errors
@@ -40,4 +25,19 @@ pub(crate) fn read_table_block(
         return Err(ElfError::Eof { offset });
     };
     read_block(file, offset, size)
+}
+
+/// Returns so many bytes from an offset of the file on.
+///
+/// # Errors
+///
+/// `Eof` where the file ends before them.
+#[inline]
+pub(crate) fn read_block(file: &[u8], offset: u64, size: u64) -> Result<&[u8], ElfError>
+    ensures exact { MatchResult result
+        (λ block. block_at file.entry.now offset size ≡ Ok block.now)
+        (λ error. block_at file.entry.now offset size ≡ Err error) }
+    ensures whole { IfOk result (λ block. length block.now ≡ size) }
+{
+    block::read_block(file, offset, size).ok_or(ElfError::Eof { offset })
 }

@@ -46,23 +46,20 @@ pub struct FileHeader {
     pub e_shstrndx: u16,
 }
 
-/// Returns the fields after `e_ident`.
-fn fields(entry: &[u8]) -> FileHeader
-    requires { 64 ≤ length entry.now }
-    ensures { result ≡ fields_of entry.now }
+/// Reads the ELF header of a file.
+///
+/// # Errors
+///
+/// `Eof` where the file is shorter than the header, else `NotElf`, `NotClass64`, `NotLittleEndian` or
+/// `UnknownVersion` by the first of the bytes of `e_ident` that is another.
+///
+/// Source: System V gABI, chapter 4, "ELF Header" and "ELF Identification".
+#[tactic(auto, unfolding(crate::specs::Header::file_header_of))]
+pub fn read_file_header(file: &[u8]) -> Result<FileHeader, ElfError>
+    ensures { result ≡ file_header_of file.now }
 {
-    FileHeader {
-        e_type: u16_at(entry, 16),
-        e_machine: u16_at(entry, 18),
-        e_entry: u64_at(entry, 24),
-        e_phoff: u64_at(entry, 32),
-        e_shoff: u64_at(entry, 40),
-        e_phentsize: u16_at(entry, 54),
-        e_phnum: u16_at(entry, 56),
-        e_shentsize: u16_at(entry, 58),
-        e_shnum: u16_at(entry, 60),
-        e_shstrndx: u16_at(entry, 62),
-    }
+    let entry = read_block(file, 0, HEADER_SIZE)?;
+    identify(entry)
 }
 
 /// Returns the header, if it is of a kind that is read.
@@ -85,18 +82,21 @@ fn identify(entry: &[u8]) -> Result<FileHeader, ElfError>
     Ok(fields(entry))
 }
 
-/// Reads the ELF header of a file.
-///
-/// # Errors
-///
-/// `Eof` where the file is shorter than the header, else `NotElf`, `NotClass64`, `NotLittleEndian` or
-/// `UnknownVersion` by the first of the bytes of `e_ident` that is another.
-///
-/// Source: System V gABI, chapter 4, "ELF Header" and "ELF Identification".
-#[tactic(auto, unfolding(crate::specs::Header::file_header_of))]
-pub fn read_file_header(file: &[u8]) -> Result<FileHeader, ElfError>
-    ensures { result ≡ file_header_of file.now }
+/// Returns the fields after `e_ident`.
+fn fields(entry: &[u8]) -> FileHeader
+    requires { 64 ≤ length entry.now }
+    ensures { result ≡ fields_of entry.now }
 {
-    let entry = read_block(file, 0, HEADER_SIZE)?;
-    identify(entry)
+    FileHeader {
+        e_type: u16_at(entry, 16),
+        e_machine: u16_at(entry, 18),
+        e_entry: u64_at(entry, 24),
+        e_phoff: u64_at(entry, 32),
+        e_shoff: u64_at(entry, 40),
+        e_phentsize: u16_at(entry, 54),
+        e_phnum: u16_at(entry, 56),
+        e_shentsize: u16_at(entry, 58),
+        e_shnum: u16_at(entry, 60),
+        e_shstrndx: u16_at(entry, 62),
+    }
 }

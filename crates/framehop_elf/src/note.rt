@@ -22,12 +22,22 @@ pub struct ElfNote<'a> {
     pub descriptor: &'a [u8],
 }
 
-/// Returns the next multiple of four.
-fn padded(size: u64) -> u64
-    requires { size + 3 < 2 ^ 64 }
-    ensures { result ≡ padded size }
+/// Returns the build id in notes, which are those of a section of type `SHT_NOTE` or a segment of type
+/// `PT_NOTE`: the descriptor of the first note of the owner "GNU" and the type `NT_GNU_BUILD_ID`. Notes
+/// after one that the bytes don't hold whole are not read.
+///
+/// Source: System V gABI, chapter 5, "Note Section"; the linker's option `--build-id`.
+pub fn build_id_in(notes: &[u8]) -> Option<&[u8]>
+    ensures { option_map (λ found. found.now) result ≡ build_id_of notes.entry.now }
 {
-    (size + 3) / 4 * 4
+    let mut rest = notes;
+    while let Some((note, size)) = read_note(rest) {
+        if is_build_id(note) {
+            return Some(note.descriptor);
+        }
+        rest = back(rest, size);
+    }
+    None
 }
 
 /// Returns the note at the front of the bytes, and how many bytes it takes with the padding after it, if
@@ -62,27 +72,17 @@ pub fn read_note<'a>(bytes: &'a [u8]) -> Option<(ElfNote<'a>, u64)>
     Some((note, padded(end)))
 }
 
+/// Returns the next multiple of four.
+fn padded(size: u64) -> u64
+    requires { size + 3 < 2 ^ 64 }
+    ensures { result ≡ padded size }
+{
+    (size + 3) / 4 * 4
+}
+
 /// Returns whether a note is a build id.
 fn is_build_id<'a>(note: ElfNote<'a>) -> bool
     ensures { result ≡ is_build_id (note_view note.entry) }
 {
     note.n_type == NT_GNU_BUILD_ID && note.name == b"GNU\0".as_slice()
-}
-
-/// Returns the build id in notes, which are those of a section of type `SHT_NOTE` or a segment of type
-/// `PT_NOTE`: the descriptor of the first note of the owner "GNU" and the type `NT_GNU_BUILD_ID`. Notes
-/// after one that the bytes don't hold whole are not read.
-///
-/// Source: System V gABI, chapter 5, "Note Section"; the linker's option `--build-id`.
-pub fn build_id_in(notes: &[u8]) -> Option<&[u8]>
-    ensures { option_map (λ found. found.now) result ≡ build_id_of notes.entry.now }
-{
-    let mut rest = notes;
-    while let Some((note, size)) = read_note(rest) {
-        if is_build_id(note) {
-            return Some(note.descriptor);
-        }
-        rest = back(rest, size);
-    }
-    None
 }

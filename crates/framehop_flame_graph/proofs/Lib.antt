@@ -3,3 +3,5 @@ mod StackLemmas
 mod OrderLemmas
 mod SweepLemmas
 mod BoxLemmas
+mod ChangeLemmas
+mod GraphLemmas

@@ -8,3 +8,4 @@ pub mod Sweep
 pub mod Numbers
 pub mod Names
 pub mod Picture
+pub mod Changes

@@ -1,4 +1,4 @@
--- Places and widths. They are in hundredths of a pixel, rounded down.
+-- Places and widths, in hundredths of a pixel, rounded down; and parts that are told, rounded to the nearest.
 use Rattle.std.specs.Prelude.{ℕ, Bool, List, ◌++◌, ◌+◌, ◌-◌, ◌*◌, ◌/◌, ◌%◌, codes, nat_le}
 use Rattle.std.specs.Fmt.{decimal}
 use Rattle.framehop_flame_graph.specs.Boxes.{Box}
@@ -6,6 +6,10 @@ use Rattle.framehop_flame_graph.specs.Boxes.{Box}
 -- the part of a whole that `part` is of `total`
 abbrev pub share : ℕ → ℕ → ℕ → ℕ
 share part whole total = part * whole / total
+
+-- the same, rounded to the nearest, and up from the middle
+abbrev pub nearest_share : ℕ → ℕ → ℕ → ℕ
+nearest_share part whole total = (2 * part * whole + total) / (2 * total)
 
 -- Where a count lies in a picture of 1,200 pixels.
 abbrev pub edge : ℕ → ℕ → ℕ

@@ -7,7 +7,7 @@ use Rattle.std.specs.Ordering.{nat_cmp, is_lt}
 use Rattle.std.specs.Str.{bytes_eq}
 use Rattle.std.specs.declared.cmp.Ordering.{Ordering}
 use Rattle.std.specs.declared.vec.Vec.{Vec}
-use Rattle.framehop_folded.specs.Folded.{entries_of}
+use Rattle.framehop_folded.specs.Folded.{entries_of, count_in}
 use Rattle.framehop_folded.specs.declared.folded.Folded.{Folded}
 use Rattle.framehop_flame_graph.specs.declared.stacks.Stack.{Stack}
 
@@ -30,6 +30,17 @@ stacked entry = record { frames = frames_of entry.0.items; count = entry.1 }
 
 abbrev pub stacks_of : Folded → List Stacked
 stacks_of folded = map stacked (entries_of folded)
+
+-- a stack whose frames were found, with how often it was counted before
+abbrev pub viewed_before : Stack → Stacked
+viewed_before stack = record { frames = map (λ frame. frame.now) stack.frames.items; count = stack.before }
+
+-- a folded stack with its count in another run
+abbrev pub stacked_before : Folded → Vec ℕ Global × ℕ → Stacked
+stacked_before before entry = record { frames = frames_of entry.0.items; count = count_in before entry.0.items }
+
+abbrev pub stacks_before : Folded → Folded → List Stacked
+stacks_before folded before = map (stacked_before before) (entries_of folded)
 
 -- frames in the order of their bytes
 abbrev pub compare_frames : List ℕ → List ℕ → Ordering

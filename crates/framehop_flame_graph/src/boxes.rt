@@ -20,45 +20,6 @@ pub struct FrameBox<'a> {
     pub count: u64,
 }
 
-/// Returns the counts of the stacks, from the first on, that share more frames than `depth` with the one before.
-fn count_along(later: &[Neighbour], depth: usize) -> u64
-    requires { sum_by (λ stack. stack.count) later.now < 2 ^ 64 }
-    ensures along { result ≡ count_along depth later.now }
-    ensures within { result ≤ sum_by (λ stack. stack.count) later.now }
-{
-    let mut count = 0;
-    for stack in later {
-        if stack.shared <= depth {
-            return count;
-        }
-        count += stack.count;
-    }
-    count
-}
-
-/// Appends the boxes that begin at a stack: those of its frames that it does not share with the one before it.
-fn push_boxes<'a>(
-    boxes: &mut Vec<FrameBox<'a>>,
-    frames: &[&'a [u8]],
-    left: u64,
-    here: Neighbour,
-    later: &[Neighbour],
-) -> Result<(), AllocError>
-    requires { here.count + sum_by (λ stack. stack.count) later.now < 2 ^ 64 }
-    ensures { OnOk result (map boxed boxes.new.items
-        ≡ map boxed boxes.old.items ++ boxes_at left (map (λ frame. frame.now) frames.now) here later.now) }
-{
-    for depth in here.shared..frames.len() {
-        boxes.push(FrameBox {
-            name: frames[depth],
-            depth: depth + 1,
-            left,
-            count: here.count + count_along(later, depth),
-        })?;
-    }
-    Ok(())
-}
-
 /// Returns the boxes of stacks in order, the root first.
 pub fn boxes_of<'a>(
     alloc: Global,
@@ -90,4 +51,43 @@ pub fn boxes_of<'a>(
         left += stack.count;
     }
     Ok(boxes)
+}
+
+/// Appends the boxes that begin at a stack: those of its frames that it does not share with the one before it.
+fn push_boxes<'a>(
+    boxes: &mut Vec<FrameBox<'a>>,
+    frames: &[&'a [u8]],
+    left: u64,
+    here: Neighbour,
+    later: &[Neighbour],
+) -> Result<(), AllocError>
+    requires { here.count + sum_by (λ stack. stack.count) later.now < 2 ^ 64 }
+    ensures { OnOk result (map boxed boxes.new.items
+        ≡ map boxed boxes.old.items ++ boxes_at left (map (λ frame. frame.now) frames.now) here later.now) }
+{
+    for depth in here.shared..frames.len() {
+        boxes.push(FrameBox {
+            name: frames[depth],
+            depth: depth + 1,
+            left,
+            count: here.count + count_along(later, depth),
+        })?;
+    }
+    Ok(())
+}
+
+/// Returns the counts of the stacks, from the first on, that share more frames than `depth` with the one before.
+fn count_along(later: &[Neighbour], depth: usize) -> u64
+    requires { sum_by (λ stack. stack.count) later.now < 2 ^ 64 }
+    ensures along { result ≡ count_along depth later.now }
+    ensures within { result ≤ sum_by (λ stack. stack.count) later.now }
+{
+    let mut count = 0;
+    for stack in later {
+        if stack.shared <= depth {
+            return count;
+        }
+        count += stack.count;
+    }
+    count
 }

@@ -13,38 +13,6 @@ pub fn characters_of(alloc: Global, name: &[u8]) -> Result<Vec<char>, AllocError
     text.as_str().chars().collect(alloc)
 }
 
-/// Returns whether a character is a control character, or not allowed in XML 1.0.
-fn is_unprintable(character: char) -> bool
-    ensures { result ≡ is_unprintable character }
-{
-    character < ' ' || character == '\u{fffe}' || character == '\u{ffff}'
-}
-
-/// Appends a character, escaped.
-fn push_escaped_character(out: &mut String, character: char) -> Result<(), AllocError>
-    ensures { OnOk result (string_bytes out.new ≡ string_bytes out.old ++ escaped_character character) }
-{
-    match character {
-        '&' => out.push_str("&amp;")?,
-        '<' => out.push_str("&lt;")?,
-        '>' => out.push_str("&gt;")?,
-        '"' => out.push_str("&quot;")?,
-        other if is_unprintable(other) => out.push('\u{fffd}')?,
-        other => out.push(other)?,
-    }
-    Ok(())
-}
-
-/// Appends characters, escaped.
-pub fn push_escaped(out: &mut String, characters: &[char]) -> Result<(), AllocError>
-    ensures { OnOk result (string_bytes out.new ≡ string_bytes out.old ++ escaped characters.now) }
-{
-    for character in characters {
-        push_escaped_character(out, *character)?;
-    }
-    Ok(())
-}
-
 /// Returns how many characters fit into a box of a width in hundredths of a pixel: each takes 7.25 pixels, and 3
 /// are left free at either side.
 pub fn fitting(width: u64) -> u64
@@ -67,15 +35,36 @@ pub fn push_cut(out: &mut String, characters: &[char], fit: usize) -> Result<(),
     }
 }
 
-/// Returns the FNV-1a hash of a name, at 32 bits.
-fn hash_of(name: &[u8]) -> u32
-    ensures { result ≡ hash_of name.now }
+/// Appends characters, escaped.
+pub fn push_escaped(out: &mut String, characters: &[char]) -> Result<(), AllocError>
+    ensures { OnOk result (string_bytes out.new ≡ string_bytes out.old ++ escaped characters.now) }
 {
-    let mut hash: u32 = 2_166_136_261;
-    for byte in name {
-        hash = (hash ^ u32::from(*byte)).wrapping_mul(16_777_619);
+    for character in characters {
+        push_escaped_character(out, *character)?;
     }
-    hash
+    Ok(())
+}
+
+/// Appends a character, escaped.
+fn push_escaped_character(out: &mut String, character: char) -> Result<(), AllocError>
+    ensures { OnOk result (string_bytes out.new ≡ string_bytes out.old ++ escaped_character character) }
+{
+    match character {
+        '&' => out.push_str("&amp;")?,
+        '<' => out.push_str("&lt;")?,
+        '>' => out.push_str("&gt;")?,
+        '"' => out.push_str("&quot;")?,
+        other if is_unprintable(other) => out.push('\u{fffd}')?,
+        other => out.push(other)?,
+    }
+    Ok(())
+}
+
+/// Returns whether a character is a control character, or not allowed in XML 1.0.
+fn is_unprintable(character: char) -> bool
+    ensures { result ≡ is_unprintable character }
+{
+    character < ' ' || character == '\u{fffe}' || character == '\u{ffff}'
 }
 
 /// Appends the colour of a frame by its name.
@@ -88,4 +77,15 @@ pub fn push_colour(alloc: Global, out: &mut String, name: &[u8]) -> Result<(), A
     let text = format!(in alloc; "rgb({red},{green},{blue})")?;
     out.push_str(text.as_str())?;
     Ok(())
+}
+
+/// Returns the FNV-1a hash of a name, at 32 bits.
+fn hash_of(name: &[u8]) -> u32
+    ensures { result ≡ hash_of name.now }
+{
+    let mut hash: u32 = 2_166_136_261;
+    for byte in name {
+        hash = (hash ^ u32::from(*byte)).wrapping_mul(16_777_619);
+    }
+    hash
 }

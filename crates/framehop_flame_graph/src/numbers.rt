@@ -1,7 +1,7 @@
 //! Places and widths, in hundredths of a pixel.
 ghost use Rattle.std.specs.Prelude.{◌≡◌, ◌<◌, ◌≤◌, ◌+◌, ◌++◌, OnOk};
 ghost use Rattle.framehop_flame_graph.specs.Boxes.{boxed};
-ghost use Rattle.framehop_flame_graph.specs.Numbers.{share, edge, width_of, is_shown, hundredths};
+ghost use Rattle.framehop_flame_graph.specs.Numbers.{share, nearest_share, edge, width_of, is_shown, hundredths};
 ghost use Rattle.std.specs.String.{string_bytes};
 
 use crate::boxes::FrameBox;
@@ -13,14 +13,32 @@ const WIDTH: u64 = 120_000;
 /// The width below which a box is left out, in hundredths of a pixel.
 const LEAST_WIDTH: u64 = 10;
 
-/// Returns the part of a whole that `part` is of `total`, rounded down.
-pub fn share(part: u64, whole: u64, total: u64) -> u64
+/// Returns the part of a whole that `part` is of `total`, rounded to the nearest, and up from the middle.
+pub fn nearest_share(part: u64, whole: u16, total: u64) -> u64
     requires some { 0 < total }
     requires within { part ≤ total }
-    ensures share { result ≡ share part whole total }
-    ensures fits { result ≤ whole }
+    ensures { result ≡ nearest_share part whole total }
 {
-    (u128::from(part) * u128::from(whole) / u128::from(total)) as u64
+    let twice = 2 * u128::from(part) * u128::from(whole);
+    ((twice + u128::from(total)) / (2 * u128::from(total))) as u64
+}
+
+/// Returns whether a box is wide enough to be drawn.
+pub fn is_shown(total: u64, frame: FrameBox<'_>) -> bool
+    requires some { 0 < total }
+    requires within { frame.left + frame.count ≤ total }
+    ensures { result ≡ is_shown total (boxed frame.entry) }
+{
+    LEAST_WIDTH <= width_of(total, frame)
+}
+
+/// Returns how wide a box is, in hundredths of a pixel.
+pub fn width_of(total: u64, frame: FrameBox<'_>) -> u64
+    requires some { 0 < total }
+    requires within { frame.left + frame.count ≤ total }
+    ensures { result ≡ width_of total (boxed frame.entry) }
+{
+    edge(total, frame.left + frame.count) - edge(total, frame.left)
 }
 
 /// Returns where a count lies in the picture, in hundredths of a pixel.
@@ -33,22 +51,14 @@ pub fn edge(total: u64, count: u64) -> u64
     share(count, WIDTH, total)
 }
 
-/// Returns how wide a box is, in hundredths of a pixel.
-pub fn width_of(total: u64, frame: FrameBox<'_>) -> u64
+/// Returns the part of a whole that `part` is of `total`, rounded down.
+pub fn share(part: u64, whole: u64, total: u64) -> u64
     requires some { 0 < total }
-    requires within { frame.left + frame.count ≤ total }
-    ensures { result ≡ width_of total (boxed frame.entry) }
+    requires within { part ≤ total }
+    ensures share { result ≡ share part whole total }
+    ensures fits { result ≤ whole }
 {
-    edge(total, frame.left + frame.count) - edge(total, frame.left)
-}
-
-/// Returns whether a box is wide enough to be drawn.
-pub fn is_shown(total: u64, frame: FrameBox<'_>) -> bool
-    requires some { 0 < total }
-    requires within { frame.left + frame.count ≤ total }
-    ensures { result ≡ is_shown total (boxed frame.entry) }
-{
-    LEAST_WIDTH <= width_of(total, frame)
+    (u128::from(part) * u128::from(whole) / u128::from(total)) as u64
 }
 
 /// Appends hundredths as a decimal number.

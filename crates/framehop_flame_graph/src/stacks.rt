@@ -3,7 +3,7 @@ ghost use Rattle.std.specs.Prelude.{◌≡◌, ◌<◌, [], IfOk, map, length, s
 ghost use Rattle.std.specs.List.{common_prefix_len};
 ghost use Rattle.std.specs.List.Sorted.{IsPermutation};
 ghost use Rattle.std.specs.Str.{bytes_eq};
-ghost use Rattle.framehop_flame_graph.specs.Stacks.{Stacked, frames_of, viewed, stacks_of};
+ghost use Rattle.framehop_flame_graph.specs.Stacks.{Stacked, frames_of, viewed, viewed_before, stacks_of, stacks_before};
 ghost use Rattle.framehop_flame_graph.specs.Sweep.{Rises, shared_frames, frames_before, neighbours_of};
 
 use framehop_folded::folded::Folded;
@@ -14,6 +14,8 @@ use std::alloc::{AllocError, Global};
 pub struct Stack<'a> {
     pub frames: Vec<&'a [u8]>,
     pub count: u64,
+    /// How often it was counted in the run with which it is compared.
+    pub before: u64,
 }
 
 /// A stack beside the one before it in order.
@@ -25,16 +27,15 @@ pub struct Neighbour {
     pub count: u64,
 }
 
-/// Returns the frames of a stack's text.
-fn frames_of(alloc: Global, stack: &[u8]) -> Result<Vec<&[u8]>, AllocError>
-    ensures { IfOk result (λ frames. map (λ frame. frame.now) frames.items ≡ frames_of stack.entry.now) }
-{
-    stack.split(|byte| *byte == b';').collect(alloc)
-}
-
-/// Returns folded stacks in order of their frames.
-pub fn stacks_in_order(alloc: Global, folded: &Folded) -> Result<Vec<Stack<'_>>, AllocError>
+/// Returns folded stacks in order of their frames, with how often each was counted in a run before.
+pub fn stacks_in_order<'a>(
+    alloc: Global,
+    folded: &'a Folded,
+    before: &Folded,
+) -> Result<Vec<Stack<'a>>, AllocError>
     ensures same { IfOk result (λ stacks. IsPermutation (stacks_of folded.entry.now) (map viewed stacks.items)) }
+    ensures before { IfOk result (λ stacks. IsPermutation (stacks_before folded.entry.now before.now)
+        (map viewed_before stacks.items)) }
     ensures ordered { IfOk result (λ stacks. Rises [] (map viewed stacks.items)) }
 {
     let mut stacks = Vec::new(alloc);
@@ -42,23 +43,42 @@ pub fn stacks_in_order(alloc: Global, folded: &Folded) -> Result<Vec<Stack<'_>>,
         stacks.push(Stack {
             frames: frames_of(alloc, stack.as_slice())?,
             count: *count,
+            before: before.count_of(stack.as_slice()),
         })?;
     }
     stacks.sort()?;
     Ok(stacks)
 }
 
-/// Returns how many frames two stacks begin with alike.
-fn shared_frames(before: &[&[u8]], frames: &[&[u8]]) -> usize
-    ensures { result ≡ common_prefix_len (λ x y. bytes_eq x.now y.now) before.now frames.now }
+/// Returns the frames of a stack's text.
+fn frames_of(alloc: Global, stack: &[u8]) -> Result<Vec<&[u8]>, AllocError>
+    ensures { IfOk result (λ frames. map (λ frame. frame.now) frames.items ≡ frames_of stack.entry.now) }
 {
-    let most = before.len().min(frames.len());
-    for at in 0..most {
-        if before[at] != frames[at] {
-            return at;
-        }
+    stack.split(|byte| *byte == b';').collect(alloc)
+}
+
+/// Gives each stack the count that it had before.
+pub fn take_before(stacks: &mut [Stack<'_>])
+    ensures { map viewed stacks.new ≡ map viewed_before stacks.old }
+{
+    for stack in stacks.iter_mut() {
+        stack.count = stack.before;
     }
-    most
+}
+
+/// Returns each stack beside the one before it.
+pub fn neighbours(alloc: Global, stacks: &[Stack<'_>]) -> Result<Vec<Neighbour>, AllocError>
+    ensures neighbours { IfOk result (λ neighbours. neighbours.items ≡ neighbours_of [] (map viewed stacks.now)) }
+    ensures len { IfOk result (λ neighbours. vec_len neighbours ≡ length stacks.now) }
+{
+    let mut neighbours = Vec::new(alloc);
+    for (at, stack) in stacks.iter().enumerate() {
+        neighbours.push(Neighbour {
+            shared: shared_at(stacks, at),
+            count: stack.count,
+        })?;
+    }
+    Ok(neighbours)
 }
 
 /// Returns how many frames the stack at an index begins with like the one before it. The first has none before
@@ -77,17 +97,15 @@ fn shared_at(stacks: &[Stack<'_>], at: usize) -> usize
     )
 }
 
-/// Returns each stack beside the one before it.
-pub fn neighbours(alloc: Global, stacks: &[Stack<'_>]) -> Result<Vec<Neighbour>, AllocError>
-    ensures neighbours { IfOk result (λ neighbours. neighbours.items ≡ neighbours_of [] (map viewed stacks.now)) }
-    ensures len { IfOk result (λ neighbours. vec_len neighbours ≡ length stacks.now) }
+/// Returns how many frames two stacks begin with alike.
+fn shared_frames(before: &[&[u8]], frames: &[&[u8]]) -> usize
+    ensures { result ≡ common_prefix_len (λ x y. bytes_eq x.now y.now) before.now frames.now }
 {
-    let mut neighbours = Vec::new(alloc);
-    for (at, stack) in stacks.iter().enumerate() {
-        neighbours.push(Neighbour {
-            shared: shared_at(stacks, at),
-            count: stack.count,
-        })?;
+    let most = before.len().min(frames.len());
+    for at in 0..most {
+        if before[at] != frames[at] {
+            return at;
+        }
     }
-    Ok(neighbours)
+    most
 }

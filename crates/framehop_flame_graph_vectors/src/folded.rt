@@ -1,7 +1,7 @@
 //! Folded stacks that are read, added up and merged, and those that are refused.
 use framehop_folded::error::{FoldedError, TextError};
 use framehop_folded::folded::Folded;
-use framehop_folded::text::read_folded;
+use framehop_folded::text::{is_text, line_number, read_folded};
 use std::alloc::Global;
 use std::test::Fail;
 
@@ -82,6 +82,48 @@ fn refuses_lines(rt: HostRuntime) -> Result<(), Fail> {
             None => panic!(rt; "not refused: {wanted}"),
         }
     }
+    Ok(())
+}
+
+/// Offsets are those that are refused; a line feed belongs to the line that it ends.
+#[test]
+fn numbers_lines(rt: HostRuntime) -> Result<(), Fail> {
+    let text = b"a 1\n\nb 2\nc";
+    for (offset, wanted) in [
+        (0usize, 1usize),
+        (3, 1),
+        (4, 2),
+        (5, 3),
+        (9, 4),
+        (10, 4),
+        (99, 4),
+    ] {
+        assert_eq!(rt; line_number(text, offset), wanted);
+    }
+    Ok(())
+}
+
+#[test]
+fn knows_text(rt: HostRuntime) -> Result<(), Fail> {
+    for text in [b"".as_slice(), b"a;b 1\n\ta\r\n", b"\xc3\xa4;\xff\x7f 1"] {
+        assert!(rt; is_text(text));
+    }
+    for bytes in [
+        b"\x7fELF\x02".as_slice(),
+        b"a\0",
+        b"\x1f\x8b\x08",
+        b"a\x1b[0m",
+    ] {
+        assert!(rt; !is_text(bytes));
+    }
+    // by the first 4,096 bytes
+    let mut bytes = Vec::new(rt.alloc());
+    for _ in 0..4096 {
+        bytes.push(b'a')?;
+    }
+    bytes.push(0)?;
+    assert!(rt; is_text(bytes.as_slice()));
+    assert!(rt; !is_text(&bytes[1..]));
     Ok(())
 }
 

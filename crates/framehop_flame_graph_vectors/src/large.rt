@@ -1,5 +1,6 @@
 //! A deep stack, and many stacks.
 use crate::folded::folded_of;
+use crate::picture::PLAIN;
 use framehop_flame_graph::svg::flame_graph;
 use framehop_folded::folded::Folded;
 use std::test::Fail;
@@ -17,22 +18,22 @@ fn draws_a_stack_of_500_frames(rt: HostRuntime) -> Result<(), Fail> {
         text.extend_from_slice(b"frame;")?;
     }
     text.extend_from_slice(b"last 3\n")?;
-    let svg = flame_graph(alloc, &folded_of(alloc, text.as_slice())?)?;
+    let svg = flame_graph(alloc, &folded_of(alloc, text.as_slice())?, PLAIN)?;
     assert_eq!(rt; boxes_in(svg.as_str()), 501);
-    // 16 pixels for each of 501 rows, and 50 for the heading and the margin
+    // 16 pixels for each of 501 rows, and 66 for the heading and the margin
     assert!(rt;
         svg.as_str().lines().any(|line| line.starts_with(
-            "<rect x=\"-10\" y=\"0\" width=\"1220\" height=\"8066\" "
+            "<rect x=\"-10\" y=\"0\" width=\"1220\" height=\"8082\" "
         ))
     );
     assert!(rt;
         svg.as_str().lines().any(|line| line.starts_with(
-            "<g><title>last (3 samples, 100.00%)</title><rect x=\"0.00\" width=\"1200.00\" y=\"40\" "
+            "<g><title>last (3 samples, 100.00%)</title><rect x=\"0.00\" width=\"1200.00\" y=\"8056\" "
         ))
     );
     assert!(rt;
         svg.as_str().lines().any(|line| line.starts_with(
-            "<g><title>all (3 samples, 100.00%)</title><rect x=\"0.00\" width=\"1200.00\" y=\"8040\" "
+            "<g><title>all (3 samples, 100.00%)</title><rect x=\"0.00\" width=\"1200.00\" y=\"56\" "
         ))
     );
     Ok(())
@@ -48,7 +49,7 @@ fn draws_ten_thousand_stacks(rt: HostRuntime) -> Result<(), Fail> {
             folded.add(Vec::from_slice(alloc, stack.as_bytes())?, 1)?;
         }
     }
-    let svg = flame_graph(alloc, &folded)?;
+    let svg = flame_graph(alloc, &folded, PLAIN)?;
     // the root, `main`, 100 of each of the next eight frames, and 10,000 at the top, of 0.12 pixels each
     assert_eq!(rt; boxes_in(svg.as_str()), 10_802);
     Ok(())

@@ -2,6 +2,8 @@
 #![tactic(auto)]
 
 #[cfg(test)]
+mod changes;
+#[cfg(test)]
 mod folded;
 #[cfg(test)]
 mod large;
@@ -9,3 +11,5 @@ mod large;
 mod names;
 #[cfg(test)]
 mod picture;
+#[cfg(test)]
+mod script;

@@ -7,7 +7,7 @@ use std::test::Fail;
 fn escapes_names(rt: HostRuntime) -> Result<(), Fail> {
     let svg = drawn(rt.alloc(), b"a&b<c>\"d\t\xff\xef\xbf\xbe 1\n")?;
     let wanted =
-        "<g><title>a&amp;b&lt;c&gt;&quot;d\u{fffd}\u{fffd}\u{fffd} (1 samples, 100.00%)</title><rect x=\"0.00\" width=\"1200.00\" y=\"40\" ";
+        "<g><title>a&amp;b&lt;c&gt;&quot;d\u{fffd}\u{fffd}\u{fffd} (1 sample, 100.00%)</title><rect x=\"0.00\" width=\"1200.00\" y=\"72\" ";
     assert!(rt; svg.as_str().lines().any(|line| line.starts_with(wanted)));
     let label = ">a&amp;b&lt;c&gt;&quot;d\u{fffd}\u{fffd}\u{fffd}</text></g>";
     assert!(rt; svg.as_str().lines().any(|line| line.ends_with(label)));
@@ -19,17 +19,17 @@ fn escapes_names(rt: HostRuntime) -> Result<(), Fail> {
 fn cuts_names(rt: HostRuntime) -> Result<(), Fail> {
     let alloc = rt.alloc();
     for (text, label) in [
-        (b"abcde 1\nz 27\n".as_slice(), " y=\"52\">abcde</text></g>"),
-        (b"abcdef 1\nz 27\n", " y=\"52\">abc..</text></g>"),
+        (b"abcde 1\nz 27\n".as_slice(), " y=\"84\">abcde</text></g>"),
+        (b"abcdef 1\nz 27\n", " y=\"84\">abc..</text></g>"),
         (
             b"\xc3\xa4\xc3\xb6\xc3\xbc\xc3\x9f\xc3\xa9 1\nz 27\n",
-            " y=\"52\">\u{e4}\u{f6}\u{fc}\u{df}\u{e9}</text></g>",
+            " y=\"84\">\u{e4}\u{f6}\u{fc}\u{df}\u{e9}</text></g>",
         ),
         (
             b"\xc3\xa4\xc3\xb6\xc3\xbc\xc3\x9f\xc3\xa9\xc3\xa8 1\nz 27\n",
-            " y=\"52\">\u{e4}\u{f6}\u{fc}..</text></g>",
+            " y=\"84\">\u{e4}\u{f6}\u{fc}..</text></g>",
         ),
-        (b"a&<>cde 1\nz 27\n", " y=\"52\">a&amp;&lt;..</text></g>"),
+        (b"a&<>cde 1\nz 27\n", " y=\"84\">a&amp;&lt;..</text></g>"),
     ] {
         let svg = drawn(alloc, text)?;
         assert!(rt;
@@ -49,11 +49,11 @@ fn leaves_out_names(rt: HostRuntime) -> Result<(), Fail> {
         three
             .as_str()
             .lines()
-            .any(|line| line.ends_with(" y=\"52\">a..</text></g>"))
+            .any(|line| line.ends_with(" y=\"84\">a..</text></g>"))
     );
     let two = drawn(alloc, b"ab 1\nz 43\n")?;
     let wanted =
-        "<g><title>ab (1 samples, 2.27%)</title><rect x=\"0.00\" width=\"27.27\" y=\"40\" height=\"15\" ";
+        "<g><title>ab (1 sample, 2.27%)</title><rect x=\"0.00\" width=\"27.27\" y=\"72\" height=\"15\" ";
     assert!(rt;
         two.as_str().lines().any(|line| line.starts_with(wanted) && line.ends_with("\"/></g>"))
     );
@@ -69,7 +69,7 @@ fn colours_by_name(rt: HostRuntime) -> Result<(), Fail> {
     let green = 80 + 0xbf9c_f968_u32 / 50 % 150;
     let blue = 0xbf9c_f968_u32 / 7500 % 55;
     let wanted = format!(in alloc;
-        "<g><title>foobar (1 samples, 100.00%)</title><rect x=\"0.00\" width=\"1200.00\" y=\"40\" height=\"15\" fill=\"rgb({red},{green},{blue})\"/>"
+        "<g><title>foobar (1 sample, 100.00%)</title><rect x=\"0.00\" width=\"1200.00\" y=\"72\" height=\"15\" fill=\"rgb({red},{green},{blue})\"/>"
     )?;
     assert!(rt;
         svg.as_str()

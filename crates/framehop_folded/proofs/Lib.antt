@@ -1,3 +1,4 @@
 mod FoldedLemmas
 mod MergeLemmas
 mod TextLemmas
+mod AddedLemmas

@@ -34,7 +34,7 @@ together-sum (Some count) (Some other) = refl
 -- ---- the first of the stacks that are left
 
 -- a key is not among those after it
-none_after : (k : Vec ℕ Global) (es : List (Vec ℕ Global × ℕ)) → AllByRecursion (λ y. by_items k y ≡ Less) (keys_of es)
+pub none_after : (k : Vec ℕ Global) (es : List (Vec ℕ Global × ℕ)) → AllByRecursion (λ y. by_items k y ≡ Less) (keys_of es)
     → lookup (is_line k.items) es ≡ None
 none_after k [] above = refl
 none_after k (e ∷ es) above =

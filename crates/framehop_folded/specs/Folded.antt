@@ -38,6 +38,12 @@ together None other = other
 together (Some count) None = Some count
 together (Some count) (Some other) = Some (count + other)
 
+-- the count of a stack, or 0 where only others have it
+abbrev pub with_stack : Option ℕ → Option ℕ → Option ℕ
+with_stack (Some count) other = Some count
+with_stack None None = None
+with_stack None (Some other) = Some 0
+
 -- a stack of the second has counts that add up to 2^64 or more
 abbrev pub IsTooLarge : Folded → Folded → List ℕ → Type 0
 IsTooLarge folded other stack = IsSome (entry_of other stack) × (2 ^ 64 ≤ count_in folded stack + count_in other stack)

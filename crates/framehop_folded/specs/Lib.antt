@@ -4,4 +4,5 @@
 -- counted.
 pub mod Text
 pub mod Folded
+pub mod Changes
 pub mod Laws

@@ -1,7 +1,7 @@
 -- Folded stacks as text: a line for each stack, which is its frames from the outermost on, joined by `;`, a blank and
 -- a count (Brendan Gregg's FlameGraph, `flamegraph.pl`).
-use Rattle.std.specs.Prelude.{ℕ, List, [], ◌∷◌, length, Option, Some, None, Result, Ok, Err, ◌==◌, ◌+◌, ◌&&◌, ◌^◌, ◌≡◌, ◌≢◌, ◌<◌, slice_index, nat_lt, if◌then◌else◌}
-use Rattle.std.specs.List.{slice_split, before_last, after_last, list_any}
+use Rattle.std.specs.Prelude.{ℕ, Bool, List, [], ◌∷◌, length, Option, Some, None, Result, Ok, Err, ◌==◌, ◌+◌, ◌&&◌, ◌||◌, ◌^◌, ◌≡◌, ◌≢◌, ◌<◌, slice_index, take, nat_le, nat_lt, if◌then◌else◌}
+use Rattle.std.specs.List.{slice_split, before_last, after_last, count_by, list_all, list_any}
 use Rattle.std.specs.Str.{all_ascii_digits}
 use Rattle.std.specs.Str.Parse.{digits_value}
 use Rattle.framehop_folded.specs.declared.error.TextError.{TextError}
@@ -15,6 +15,18 @@ pub record Counted : Type 0 where
 
 abbrev pub counted : FoldedLine → Counted
 counted line = record { stack = line.stack.items; count = line.count }
+
+-- text has no control characters but tabs, line feeds and carriage returns
+abbrev pub is_text_byte : ℕ → Bool
+is_text_byte byte = nat_le 32 byte || byte == 9 || byte == 10 || byte == 13
+
+-- bytes are taken for text by the first 4,096 of them
+abbrev pub is_text : List ℕ → Bool
+is_text bytes = list_all is_text_byte (take 4096 bytes)
+
+-- the number of the line at an offset, from 1 on
+abbrev pub line_number : List ℕ → ℕ → ℕ
+line_number text offset = 1 + count_by (λ byte. byte == 10) (take offset text)
 
 -- A decimal number below 2^64: one digit or more, and nothing else.
 abbrev pub count_of : List ℕ → Option ℕ

@@ -1,11 +1,11 @@
 //! Stacks, each once, with how often they were counted.
 ghost use Rattle.std.specs.Prelude.{◌≡◌, ◌≢◌, ◌+◌, ◌≤◌, ◌^◌, ℕ, List, [], Some, None, OnOk, OnErr, IfErr, IsErr, ◌⊎◌};
 ghost use Rattle.std.specs.Io.KnownBytes.{Appends};
-ghost use Rattle.framehop_folded.specs.Folded.{entries_of, entry_of, count_in, total_of, together, folded_line, text_of, IsInOrderOfBytes, IsUnchanged, IsTooLarge};
+ghost use Rattle.framehop_folded.specs.Folded.{entries_of, entry_of, count_in, total_of, together, with_stack, folded_line, text_of, IsInOrderOfBytes, IsUnchanged, IsTooLarge};
 ghost use Rattle.framehop_folded.specs.declared.error.FoldedError.TheVariants.{OutOfMemory, CountTooLarge};
 
 use crate::error::FoldedError;
-use std::alloc::Global;
+use std::alloc::{AllocError, Global};
 use std::collections::BTreeMap;
 use std::collections::btree_map::Iter;
 use std::io;
@@ -71,6 +71,37 @@ impl Folded {
     {
         for (stack, count) in other.counts {
             self.add(stack, count)?;
+        }
+        Ok(())
+    }
+
+    /// Returns how often a stack was counted, which is 0 where it is not there.
+    pub fn count_of(&self, stack: &[u8]) -> u64
+        ensures { result ≡ count_in self.now stack.now }
+    {
+        self.counts.get(stack).copied().unwrap_or(0)
+    }
+
+    /// Adds a stack that was counted 0 times, if it is not there.
+    fn add_stack(&mut self, alloc: Global, stack: &[u8]) -> Result<(), AllocError>
+        ensures counted { OnOk result (entry_of self.new stack.now ≡ Some (count_in self.old stack.now)) }
+        ensures others { OnOk result ((other : List ℕ) → other ≢ stack.now
+            → entry_of self.new other ≡ entry_of self.old other) }
+    {
+        if !self.counts.contains_key(stack) {
+            let stack = Vec::from_slice(alloc, stack)?;
+            self.counts.insert(stack, 0)?;
+        }
+        Ok(())
+    }
+
+    /// Adds the stacks of others that are not there, each counted 0 times.
+    pub fn add_stacks(&mut self, alloc: Global, other: &Folded) -> Result<(), AllocError>
+        ensures { OnOk result ((stack : List ℕ) → entry_of self.new stack
+            ≡ with_stack (entry_of self.old stack) (entry_of other.now stack)) }
+    {
+        for (stack, _) in other.counts.iter() {
+            self.add_stack(alloc, stack.as_slice())?;
         }
         Ok(())
     }

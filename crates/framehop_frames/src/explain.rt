@@ -2,7 +2,7 @@
 ghost use Rattle.std.specs.Prelude.{◌≡◌, ◌+◌, ℕ, List, [], ◌∷◌, ◌++◌, length, map, IfOk, OnOk};
 ghost use Rattle.framehop_core.specs.ErrorText.{error_text};
 ghost use Rattle.framehop_explain.specs.Note.{note_line};
-ghost use Rattle.framehop_frames.specs.Explained.{IsShown, shown_with};
+ghost use Rattle.framehop_frames.specs.Explained.{shown_with};
 ghost use Rattle.framehop_frames.specs.Notes.{noted_frame, option_noted, caller_of, end_note, IsFrameNote, AreFrameNotes, AreStackNotes};
 ghost use Rattle.framehop_frames.specs.Stack.{line_count, option_stack_view};
 
@@ -128,8 +128,7 @@ pub fn shown_block(
     explain: bool,
     notes: &[Note],
 ) -> Result<Vec<u8>, AllocError>
-    ensures with_notes { IfOk result (λ shown. shown.items ≡ shown_with explain notes.now (head.now ++ block.now)) }
-    ensures shown { IfOk result (λ shown. IsShown explain (head.now ++ block.now) shown.items) }
+    ensures { IfOk result (λ shown. shown.items ≡ shown_with explain notes.now (head.now ++ block.now)) }
 {
     let mut text = Vec::from_slice(alloc, head)?;
     text.extend_from_slice(block)?;

@@ -37,6 +37,30 @@ pub enum CodeView<'a> {
     },
 }
 
+/// Reads which file a module is of, from the location of its CodeView record, or `None` where it has none,
+/// or one of another kind.
+///
+/// # Errors
+///
+/// `Eof` where the file ends before the record does, and `ShortCodeView` where it ends before its fields do.
+///
+/// Source: Breakpad, `minidump_format.h`, `MDCVInfoPDB70` and `MDCVInfoELF`.
+#[tactic(auto, unfolding(crate::specs::CodeView::codeview_of))]
+pub fn read_codeview<'a>(
+    file: &'a [u8],
+    location: Location,
+) -> Result<Option<CodeView<'a>>, MinidumpError>
+    ensures { MatchResult result
+        (λ found. codeview_of file.entry.now location ≡ Ok (option_map codeview_view found))
+        (λ error. codeview_of file.entry.now location ≡ Err error) }
+{
+    if location.size == 0 {
+        return Ok(None);
+    }
+    let bytes = read_located(file, location)?;
+    codeview_in(u64::from(location.offset), bytes)
+}
+
 /// Returns the file that the bytes of a record name, which are at an offset of the file.
 #[tactic(auto, unfolding(crate::specs::CodeView::codeview_in))]
 fn codeview_in<'a>(offset: u64, bytes: &'a [u8]) -> Result<Option<CodeView<'a>>, MinidumpError>
@@ -60,28 +84,4 @@ fn codeview_in<'a>(offset: u64, bytes: &'a [u8]) -> Result<Option<CodeView<'a>>,
         })),
         _ => Ok(None),
     }
-}
-
-/// Reads which file a module is of, from the location of its CodeView record, or `None` where it has none,
-/// or one of another kind.
-///
-/// # Errors
-///
-/// `Eof` where the file ends before the record does, and `ShortCodeView` where it ends before its fields do.
-///
-/// Source: Breakpad, `minidump_format.h`, `MDCVInfoPDB70` and `MDCVInfoELF`.
-#[tactic(auto, unfolding(crate::specs::CodeView::codeview_of))]
-pub fn read_codeview<'a>(
-    file: &'a [u8],
-    location: Location,
-) -> Result<Option<CodeView<'a>>, MinidumpError>
-    ensures { MatchResult result
-        (λ found. codeview_of file.entry.now location ≡ Ok (option_map codeview_view found))
-        (λ error. codeview_of file.entry.now location ≡ Err error) }
-{
-    if location.size == 0 {
-        return Ok(None);
-    }
-    let bytes = read_located(file, location)?;
-    codeview_in(u64::from(location.offset), bytes)
 }

@@ -28,19 +28,6 @@ pub struct Exception {
     pub context: Location,
 }
 
-/// Returns the exception of a stream.
-fn exception_in(fields: &[u8]) -> Exception
-    requires { 168 ≤ length fields.now }
-    ensures { result ≡ exception_in fields.now }
-{
-    Exception {
-        tid: u32_at(fields, 0),
-        code: u32_at(fields, 8),
-        address: u64_at(fields, 24),
-        context: location_at(fields, 160),
-    }
-}
-
 /// Reads why the minidump was made, from the first stream of type `ExceptionStream`, or `None` where there
 /// is no such stream.
 ///
@@ -63,6 +50,19 @@ pub fn read_exception(file: &[u8], streams: &[Stream]) -> Result<Option<Exceptio
         });
     }
     Ok(Some(exception_in(fields)))
+}
+
+/// Returns the exception of a stream.
+fn exception_in(fields: &[u8]) -> Exception
+    requires { 168 ≤ length fields.now }
+    ensures { result ≡ exception_in fields.now }
+{
+    Exception {
+        tid: u32_at(fields, 0),
+        code: u32_at(fields, 8),
+        address: u64_at(fields, 24),
+        context: location_at(fields, 160),
+    }
 }
 
 /// Returns where the registers of a thread are: those of the exception, if it is of this thread and has some,

@@ -7,28 +7,6 @@ use crate::location::read_located;
 use crate::stream::{Stream, first_stream};
 use framehop_bytes::bytes::{back, u32_at};
 
-/// Returns the bytes of the entries, of a size, of a list that is at an offset of the file.
-#[tactic(auto, unfolding(crate::specs::List::list_in))]
-fn list_in(offset: u64, size: u64, list: &[u8]) -> Result<&[u8], MinidumpError>
-    requires { size < 2 ^ 16 }
-    ensures { MatchResult result
-        (λ entries. list_in offset size list.entry.now ≡ Ok entries.now)
-        (λ error. list_in offset size list.entry.now ≡ Err error) }
-{
-    let length = list.len() as u64;
-    if length < 4 {
-        return Err(MinidumpError::ShortStream { offset });
-    }
-    let entries = size * u64::from(u32_at(list, 0));
-    if length == 4 + entries {
-        return Ok(back(list, 4));
-    }
-    if length == 8 + entries {
-        return Ok(back(list, 8));
-    }
-    Err(MinidumpError::BadListSize { offset })
-}
-
 /// Returns the bytes of the entries, of a size, of the list in the first stream of a type: none where there
 /// is no such stream.
 ///
@@ -53,4 +31,26 @@ pub(crate) fn read_list<'a>(
     };
     let list = read_located(file, stream.location)?;
     list_in(u64::from(stream.location.offset), size, list)
+}
+
+/// Returns the bytes of the entries, of a size, of a list that is at an offset of the file.
+#[tactic(auto, unfolding(crate::specs::List::list_in))]
+fn list_in(offset: u64, size: u64, list: &[u8]) -> Result<&[u8], MinidumpError>
+    requires { size < 2 ^ 16 }
+    ensures { MatchResult result
+        (λ entries. list_in offset size list.entry.now ≡ Ok entries.now)
+        (λ error. list_in offset size list.entry.now ≡ Err error) }
+{
+    let length = list.len() as u64;
+    if length < 4 {
+        return Err(MinidumpError::ShortStream { offset });
+    }
+    let entries = size * u64::from(u32_at(list, 0));
+    if length == 4 + entries {
+        return Ok(back(list, 4));
+    }
+    if length == 8 + entries {
+        return Ok(back(list, 8));
+    }
+    Err(MinidumpError::BadListSize { offset })
 }

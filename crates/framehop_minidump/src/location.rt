@@ -26,20 +26,6 @@ pub(crate) fn location_at(entry: &[u8], at: usize) -> Location
     }
 }
 
-/// Returns so many bytes from an offset of the file on.
-///
-/// # Errors
-///
-/// `Eof` where the file ends before them.
-pub(crate) fn read_block(file: &[u8], offset: u64, size: u64) -> Result<&[u8], MinidumpError>
-    ensures exact { MatchResult result
-        (λ block. block_at file.entry.now offset size ≡ Ok block.now)
-        (λ error. block_at file.entry.now offset size ≡ Err error) }
-    ensures whole { IfOk result (λ block. length block.now ≡ size) }
-{
-    block::read_block(file, offset, size).ok_or(MinidumpError::Eof { offset })
-}
-
 /// Returns the bytes of a location.
 ///
 /// # Errors
@@ -54,4 +40,18 @@ pub fn read_located(file: &[u8], location: Location) -> Result<&[u8], MinidumpEr
     ensures whole { IfOk result (λ bytes. length bytes.now ≡ location.size) }
 {
     read_block(file, u64::from(location.offset), u64::from(location.size))
+}
+
+/// Returns so many bytes from an offset of the file on.
+///
+/// # Errors
+///
+/// `Eof` where the file ends before them.
+pub(crate) fn read_block(file: &[u8], offset: u64, size: u64) -> Result<&[u8], MinidumpError>
+    ensures exact { MatchResult result
+        (λ block. block_at file.entry.now offset size ≡ Ok block.now)
+        (λ error. block_at file.entry.now offset size ≡ Err error) }
+    ensures whole { IfOk result (λ block. length block.now ≡ size) }
+{
+    block::read_block(file, offset, size).ok_or(MinidumpError::Eof { offset })
 }

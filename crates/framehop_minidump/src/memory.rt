@@ -26,24 +26,38 @@ const ENTRY_SIZE: usize = 16;
 /// The size of what is before the entries of the second: their number, and where the bytes begin.
 const LONG_HEADER_SIZE: u64 = 16;
 
-/// Returns the range of a descriptor at an offset of an entry: `MINIDUMP_MEMORY_DESCRIPTOR` (`StartOfMemoryRange`,
-/// `DataSize`, `Rva`).
-pub(crate) fn descriptor_at(entry: &[u8], at: usize) -> MemoryRange
-    requires { at + 16 ≤ length entry.now }
-    ensures { result ≡ descriptor_at entry.now at }
+/// Reads which memory of the process the minidump has: the ranges of the first stream of type
+/// `MemoryListStream`, and after them those of the first of type `Memory64ListStream`.
+///
+/// # Errors
+///
+/// The first of these, of the first stream and then of the second:
+///
+/// - `Eof` where the file ends before the stream does;
+/// - `ShortStream` where it ends before its entries begin;
+/// - `BadListSize` where its size is not that of so many entries; in the first, four bytes of padding may
+///   come after their number;
+/// - `OffsetTooBig` where a range of the second ends at an offset of the file that does not fit 64 bits.
+///
+/// Else `OutOfMemory`.
+///
+/// Source: `minidumpapiset.h`, `MINIDUMP_MEMORY_LIST` and `MINIDUMP_MEMORY64_LIST`.
+#[tactic(auto, unfolding(crate::specs::Memory::ranges_of))]
+pub fn read_memory(
+    alloc: Global,
+    file: &[u8],
+    streams: &[Stream],
+) -> Result<Vec<MemoryRange>, MinidumpError>
+    ensures { MatchResult result
+        (λ ranges. ranges_of file.now streams.now ≡ Ok ranges.items)
+        (λ error. IsErrorOf (ranges_of file.now streams.now) error) }
 {
-    MemoryRange {
-        start: u64_at(entry, at),
-        size: u64::from(u32_at(entry, at + 8)),
-        offset: u64::from(u32_at(entry, at + 12)),
+    let short = short_entries(file, streams)?;
+    let (base, long) = long_list(file, streams)?;
+    match with_long_ranges(short_ranges(alloc, short), base, long)? {
+        Some(ranges) => Ok(ranges),
+        None => Err(MinidumpError::OutOfMemory),
     }
-}
-
-/// Returns the range of an entry of the list of type `MemoryListStream`.
-fn range_at(entry: &[u8; ENTRY_SIZE]) -> MemoryRange
-    ensures { result ≡ range_at entry.now }
-{
-    descriptor_at(entry, 0)
 }
 
 /// Returns the entries of the list of type `MemoryListStream`.
@@ -59,6 +73,24 @@ fn short_entries<'a>(
     let list = read_list(file, streams, MEMORY_LIST_STREAM, ENTRY_SIZE as u64)?;
     let (entries, _) = list.as_chunks::<ENTRY_SIZE>();
     Ok(entries)
+}
+
+/// Returns where the bytes of the first range begin, and the entries, of the list of type
+/// `Memory64ListStream`: none where there is no such stream.
+#[tactic(auto, unfolding(crate::specs::Memory::long_list_of))]
+fn long_list<'a>(
+    file: &'a [u8],
+    streams: &[Stream],
+) -> Result<(u64, &'a [[u8; ENTRY_SIZE]]), MinidumpError>
+    ensures { MatchResult result
+        (λ read. long_list_of file.entry.now streams.now ≡ Ok (read.0, read.1.now))
+        (λ error. long_list_of file.entry.now streams.now ≡ Err error) }
+{
+    let Some(stream) = first_stream(streams, MEMORY64_LIST_STREAM) else {
+        return Ok((0, &[]));
+    };
+    let list = read_located(file, stream.location)?;
+    long_list_in(u64::from(stream.location.offset), list)
 }
 
 /// Returns where the bytes of the first range begin, and the entries, of a list of type
@@ -80,39 +112,6 @@ fn long_list_in(offset: u64, list: &[u8]) -> Result<(u64, &[[u8; ENTRY_SIZE]]), 
     }
     let (entries, _) = back(list, LONG_HEADER_SIZE).as_chunks::<ENTRY_SIZE>();
     Ok((u64_at(list, 8), entries))
-}
-
-/// Returns where the bytes of the first range begin, and the entries, of the list of type
-/// `Memory64ListStream`: none where there is no such stream.
-#[tactic(auto, unfolding(crate::specs::Memory::long_list_of))]
-fn long_list<'a>(
-    file: &'a [u8],
-    streams: &[Stream],
-) -> Result<(u64, &'a [[u8; ENTRY_SIZE]]), MinidumpError>
-    ensures { MatchResult result
-        (λ read. long_list_of file.entry.now streams.now ≡ Ok (read.0, read.1.now))
-        (λ error. long_list_of file.entry.now streams.now ≡ Err error) }
-{
-    let Some(stream) = first_stream(streams, MEMORY64_LIST_STREAM) else {
-        return Ok((0, &[]));
-    };
-    let list = read_located(file, stream.location)?;
-    long_list_in(u64::from(stream.location.offset), list)
-}
-
-/// Returns the ranges of these entries of the list of type `MemoryListStream`, or `None` where an
-/// allocation fails.
-fn short_ranges(alloc: Global, entries: &[[u8; ENTRY_SIZE]]) -> Option<Vec<MemoryRange>>
-    ensures { IsGathered (map range_at entries.now) result }
-{
-    let ranges: Result<Vec<MemoryRange>, AllocError> = entries
-        .iter()
-        .map(|entry| range_at(entry))
-        .collect(alloc);
-    match ranges {
-        Ok(ranges) => Some(ranges),
-        Err(_) => None,
-    }
 }
 
 /// Returns the ranges with those of these entries of the list of type `Memory64ListStream`, whose bytes lie
@@ -147,36 +146,37 @@ fn with_long_ranges(
     Ok(ranges)
 }
 
-/// Reads which memory of the process the minidump has: the ranges of the first stream of type
-/// `MemoryListStream`, and after them those of the first of type `Memory64ListStream`.
-///
-/// # Errors
-///
-/// The first of these, of the first stream and then of the second:
-///
-/// - `Eof` where the file ends before the stream does;
-/// - `ShortStream` where it ends before its entries begin;
-/// - `BadListSize` where its size is not that of so many entries; in the first, four bytes of padding may
-///   come after their number;
-/// - `OffsetTooBig` where a range of the second ends at an offset of the file that does not fit 64 bits.
-///
-/// Else `OutOfMemory`.
-///
-/// Source: `minidumpapiset.h`, `MINIDUMP_MEMORY_LIST` and `MINIDUMP_MEMORY64_LIST`.
-#[tactic(auto, unfolding(crate::specs::Memory::ranges_of))]
-pub fn read_memory(
-    alloc: Global,
-    file: &[u8],
-    streams: &[Stream],
-) -> Result<Vec<MemoryRange>, MinidumpError>
-    ensures { MatchResult result
-        (λ ranges. ranges_of file.now streams.now ≡ Ok ranges.items)
-        (λ error. IsErrorOf (ranges_of file.now streams.now) error) }
+/// Returns the ranges of these entries of the list of type `MemoryListStream`, or `None` where an
+/// allocation fails.
+fn short_ranges(alloc: Global, entries: &[[u8; ENTRY_SIZE]]) -> Option<Vec<MemoryRange>>
+    ensures { IsGathered (map range_at entries.now) result }
 {
-    let short = short_entries(file, streams)?;
-    let (base, long) = long_list(file, streams)?;
-    match with_long_ranges(short_ranges(alloc, short), base, long)? {
-        Some(ranges) => Ok(ranges),
-        None => Err(MinidumpError::OutOfMemory),
+    let ranges: Result<Vec<MemoryRange>, AllocError> = entries
+        .iter()
+        .map(|entry| range_at(entry))
+        .collect(alloc);
+    match ranges {
+        Ok(ranges) => Some(ranges),
+        Err(_) => None,
+    }
+}
+
+/// Returns the range of an entry of the list of type `MemoryListStream`.
+fn range_at(entry: &[u8; ENTRY_SIZE]) -> MemoryRange
+    ensures { result ≡ range_at entry.now }
+{
+    descriptor_at(entry, 0)
+}
+
+/// Returns the range of a descriptor at an offset of an entry: `MINIDUMP_MEMORY_DESCRIPTOR` (`StartOfMemoryRange`,
+/// `DataSize`, `Rva`).
+pub(crate) fn descriptor_at(entry: &[u8], at: usize) -> MemoryRange
+    requires { at + 16 ≤ length entry.now }
+    ensures { result ≡ descriptor_at entry.now at }
+{
+    MemoryRange {
+        start: u64_at(entry, at),
+        size: u64::from(u32_at(entry, at + 8)),
+        offset: u64::from(u32_at(entry, at + 12)),
     }
 }

@@ -21,6 +21,26 @@ const ARM64_FLAGS: u32 = 0x400001;
 /// `MD_CONTEXT_ARM64_INTEGER_OLD`, of Breakpad.
 const ARM64_OLD_FLAGS: u32 = 0x80000002;
 
+/// Returns the registers of a thread on x86_64 from the bytes of its context, or `None` where they are fewer,
+/// or its flags lack `CONTEXT_CONTROL` or `CONTEXT_INTEGER` of that machine.
+///
+/// Source: `winnt.h`, `CONTEXT` of x64.
+pub fn x86_64_registers(context: &[u8]) -> Option<UnwindRegsX86_64>
+    ensures { result ≡ x86_64_registers context.now }
+{
+    if !has_x86_64(context) {
+        return None;
+    }
+    Some(general(context))
+}
+
+/// Returns whether a context is of x86_64, and has its instruction pointer and its general registers.
+fn has_x86_64(context: &[u8]) -> bool
+    ensures { result ≡ has_x86_64 context.now }
+{
+    context.len() >= AMD64_SIZE && u32_at(context, 0x30) & AMD64_FLAGS == AMD64_FLAGS
+}
+
 /// Returns the registers of x86_64 that a context has.
 #[tactic(auto, unfolding(crate::specs::Registers::general_of))]
 fn general(context: &[u8]) -> UnwindRegsX86_64
@@ -48,37 +68,6 @@ fn general(context: &[u8]) -> UnwindRegsX86_64
     regs
 }
 
-/// Returns whether a context is of x86_64, and has its instruction pointer and its general registers.
-fn has_x86_64(context: &[u8]) -> bool
-    ensures { result ≡ has_x86_64 context.now }
-{
-    context.len() >= AMD64_SIZE && u32_at(context, 0x30) & AMD64_FLAGS == AMD64_FLAGS
-}
-
-/// Returns whether a context is of aarch64, and has pc, lr, sp and x29.
-fn has_aarch64(context: &[u8]) -> bool
-    ensures { result ≡ has_aarch64 context.now }
-{
-    if context.len() < ARM64_SIZE {
-        return false;
-    }
-    let flags = u32_at(context, 0);
-    flags & ARM64_FLAGS == ARM64_FLAGS || flags & ARM64_OLD_FLAGS == ARM64_OLD_FLAGS
-}
-
-/// Returns the registers of a thread on x86_64 from the bytes of its context, or `None` where they are fewer,
-/// or its flags lack `CONTEXT_CONTROL` or `CONTEXT_INTEGER` of that machine.
-///
-/// Source: `winnt.h`, `CONTEXT` of x64.
-pub fn x86_64_registers(context: &[u8]) -> Option<UnwindRegsX86_64>
-    ensures { result ≡ x86_64_registers context.now }
-{
-    if !has_x86_64(context) {
-        return None;
-    }
-    Some(general(context))
-}
-
 /// Returns the program counter and the registers of a thread on aarch64 from the bytes of its context, with
 /// the mask of lr, or `None` where they are fewer, or its flags lack `CONTEXT_ARM64_CONTROL` and, in the
 /// older form of Breakpad, `MD_CONTEXT_ARM64_INTEGER_OLD`.
@@ -100,4 +89,15 @@ pub fn aarch64_registers(
     let pc = u64_at(context, 0x108);
     let regs = UnwindRegsAarch64::new_with_ptr_auth_mask(code_ptr_auth_mask, lr, sp, fp);
     Some((pc, regs))
+}
+
+/// Returns whether a context is of aarch64, and has pc, lr, sp and x29.
+fn has_aarch64(context: &[u8]) -> bool
+    ensures { result ≡ has_aarch64 context.now }
+{
+    if context.len() < ARM64_SIZE {
+        return false;
+    }
+    let flags = u32_at(context, 0);
+    flags & ARM64_FLAGS == ARM64_FLAGS || flags & ARM64_OLD_FLAGS == ARM64_OLD_FLAGS
 }

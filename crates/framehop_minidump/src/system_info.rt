@@ -41,18 +41,6 @@ pub struct SystemInfo {
     pub platform: u32,
 }
 
-/// Returns the machine of a number, in the system information at an offset of the file.
-fn machine_of(offset: u64, architecture: u16) -> Result<Machine, MinidumpError>
-    ensures { result ≡ machine_of offset architecture }
-{
-    match architecture {
-        AMD64 => Ok(Machine::X86_64),
-        ARM64 => Ok(Machine::Aarch64),
-        ARM64_OLD => Ok(Machine::Aarch64),
-        _ => Err(MinidumpError::UnknownMachine { offset }),
-    }
-}
-
 /// Reads on what the process ran, from the first stream of type `SystemInfoStream`.
 ///
 /// # Errors
@@ -79,4 +67,16 @@ pub fn read_system_info(file: &[u8], streams: &[Stream]) -> Result<SystemInfo, M
     let machine = machine_of(offset, u16_at(fields, 0))?;
     let platform = u32_at(fields, 20);
     Ok(SystemInfo { machine, platform })
+}
+
+/// Returns the machine of a number, in the system information at an offset of the file.
+fn machine_of(offset: u64, architecture: u16) -> Result<Machine, MinidumpError>
+    ensures { result ≡ machine_of offset architecture }
+{
+    match architecture {
+        AMD64 => Ok(Machine::X86_64),
+        ARM64 => Ok(Machine::Aarch64),
+        ARM64_OLD => Ok(Machine::Aarch64),
+        _ => Err(MinidumpError::UnknownMachine { offset }),
+    }
 }

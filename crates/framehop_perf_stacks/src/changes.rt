@@ -45,6 +45,55 @@ pub fn code_mapping<'a>(record: Record<'a>) -> Option<RecordedMapping<'a>>
     }
 }
 
+/// Returns what a record changes in the processes, if it changes anything.
+///
+/// # Errors
+///
+/// Those of [`read_mapping`], [`read_command`] and [`read_task`].
+#[tactic(auto, unfolding(crate::specs::Changes::change_in))]
+pub fn change_of(files: &Files, record: Record<'_>) -> Result<Option<Change>, RecordingError>
+    ensures exact { result ≡ change_in files.now (record_view «record».entry) }
+{
+    match record.kind {
+        MMAP | MMAP2 => {
+            let mapping = read_mapping(record)?;
+            Ok(map_change(files, mapping))
+        }
+        COMM => {
+            let command = read_command(record)?;
+            if command.is_exec {
+                Ok(Some(Change::Begin { pid: command.pid }))
+            } else {
+                Ok(None)
+            }
+        }
+        FORK => {
+            let task = read_task(record)?;
+            Ok(fork_change(task))
+        }
+        _ => Ok(None),
+    }
+}
+
+/// Returns what a mapping changes.
+fn map_change(files: &Files, mapping: RecordedMapping<'_>) -> Option<Change>
+    ensures { result ≡ maps_file files.now (mapping_view mapping.entry) }
+{
+    if !is_of_code(&mapping) {
+        return None;
+    }
+    let file = files.number_of(mapping.name)?;
+    let base = base_of(files, &mapping, file);
+    let made = mapping_of(&mapping, file, base);
+    if made.end <= made.start {
+        return None;
+    }
+    Some(Change::Map {
+        pid: mapping.pid,
+        mapping: made,
+    })
+}
+
 /// Returns whether a mapping is one of a process's code.
 fn is_of_code(mapping: &RecordedMapping<'_>) -> bool
     ensures { result ≡ is_of_code (mapping_view mapping.now) }
@@ -81,55 +130,6 @@ fn mapping_of(mapping: &RecordedMapping<'_>, file: u32, base: Option<u64>) -> Ma
             file,
             has_sections: false,
         },
-    }
-}
-
-/// Returns what a mapping changes.
-fn map_change(files: &Files, mapping: RecordedMapping<'_>) -> Option<Change>
-    ensures { result ≡ maps_file files.now (mapping_view mapping.entry) }
-{
-    if !is_of_code(&mapping) {
-        return None;
-    }
-    let file = files.number_of(mapping.name)?;
-    let base = base_of(files, &mapping, file);
-    let made = mapping_of(&mapping, file, base);
-    if made.end <= made.start {
-        return None;
-    }
-    Some(Change::Map {
-        pid: mapping.pid,
-        mapping: made,
-    })
-}
-
-/// Returns what a record changes in the processes, if it changes anything.
-///
-/// # Errors
-///
-/// Those of [`read_mapping`], [`read_command`] and [`read_task`].
-#[tactic(auto, unfolding(crate::specs::Changes::change_in))]
-pub fn change_of(files: &Files, record: Record<'_>) -> Result<Option<Change>, RecordingError>
-    ensures exact { result ≡ change_in files.now (record_view «record».entry) }
-{
-    match record.kind {
-        MMAP | MMAP2 => {
-            let mapping = read_mapping(record)?;
-            Ok(map_change(files, mapping))
-        }
-        COMM => {
-            let command = read_command(record)?;
-            if command.is_exec {
-                Ok(Some(Change::Begin { pid: command.pid }))
-            } else {
-                Ok(None)
-            }
-        }
-        FORK => {
-            let task = read_task(record)?;
-            Ok(fork_change(task))
-        }
-        _ => Ok(None),
     }
 }
 

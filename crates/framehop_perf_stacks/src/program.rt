@@ -42,23 +42,75 @@ pub struct Unwound {
     pub ended: Result<Option<RecordingError>, StacksError>,
 }
 
-/// Writes what was counted.
-fn write_counts<E: Write>(err: &mut E, counts: &Counts) -> Result<(), StacksError>
-    ensures written { OnOk result (Appends (E.contents err.old) (E.contents err.new) (summary_text counts.now)) }
-    ensures ordered { OnOk result (IsInOrderOfBytes counts.now.ends) }
-    ensures refused { IfErr result (λ error. error ≡ CannotWrite) }
+/// Folds the stacks of a recording, or writes them to `out` as blocks, and writes to `err` what was counted and which
+/// files were not read.
+///
+/// # Errors
+///
+/// `Recording` with the first refusal of the header or of the events, `OutOfMemory`, and `CannotWrite` if a file that was
+/// not read can't be told: nothing was folded or written to `out` then. What is refused later is in [`Unwound::ended`]:
+/// `Recording` with the first refusal of a record that is no sample, `OutOfMemory`, `GenerationsExhausted`,
+/// `TooManySamples` and `CannotWrite`.
+pub fn write_stacks<S: FileSource, W: Write, E: Write>(
+    alloc: Global,
+    file: &[u8],
+    source: &S,
+    options: Options,
+    out: &mut W,
+    err: &mut E,
+) -> Result<Unwound, StacksError>
+    ensures made { IfOk result (λ unwound. (recording : Recording) × IsReadOf file.now recording
+        × ((files : Files) × AreFilesOf (S.source source.now)
+        (map file_build_id_view recording.build_ids.items) (records_in recording.records.items) files
+        × ((unsaid : Option (List ℕ)) × AreTold files (E.contents err.old) unsaid × MatchResult unwound.ended
+        (λ refusal. IsWhole recording refusal × IsMadeOf recording files options.frames options.sure options.explain options.limit unwound.folded (W.contents out.old) (W.contents out.new) unsaid (E.contents err.new))
+        (λ error. MayEndAt recording files error × IsMadeUntil error recording files options.frames options.sure options.explain options.limit unwound.folded (W.contents out.old) (W.contents out.new) unsaid (E.contents err.new))))) }
+    ensures refused { IfErr result (MayEnd true (result_err (events_in file.now)) 0 0) }
+    ensures unwritten { OnErr result (out.new ≡ out.old) }
 {
-    let samples = counts.samples;
-    let unsure = counts.unsure;
-    let lost = counts.lost;
-    writeln!(err, "{samples} samples, {lost} records lost by the kernel")?;
-    writeln!(
-        err,
-        "{unsure} samples with frames that no unwind data tells"
-    )?;
-    writeln!(err, "how the stacks ended:")?;
-    counts.ends.write(err)?;
+    let recording = read_recording(alloc, file)?;
+    let files = read_files(alloc, &recording, source)?;
+    write_problems(alloc, err, &files)?;
+    unwind_recording(alloc, &recording, &files, options, out, err)
+}
+
+/// Writes a line for each file of which nothing was read.
+fn write_problems<E: Write>(alloc: Global, err: &mut E, files: &Files) -> Result<(), StacksError>
+    ensures written { OnOk result (AreTold files.now (E.contents err.old) (E.contents err.new)) }
+    ensures refused { IfErr result (λ error. (error ≡ OutOfMemory) ⊎ (error ≡ CannotWrite)) }
+{
+    let problems = problems_text(alloc, files)?;
+    err.write_all(problems.as_slice())?;
     Ok(())
+}
+
+/// Unwinds all samples of a recording by the unwinder of its architecture.
+fn unwind_recording<W: Write, E: Write>(
+    alloc: Global,
+    recording: &Recording<'_>,
+    files: &Files,
+    options: Options,
+    out: &mut W,
+    err: &mut E,
+) -> Result<Unwound, StacksError>
+    ensures made { IfOk result (λ unwound. MatchResult unwound.ended
+        (λ refusal. IsWhole recording.now refusal × IsMadeOf recording.now files.now options.frames options.sure options.explain options.limit unwound.folded (W.contents out.old) (W.contents out.new) (E.contents err.old) (E.contents err.new))
+        (λ error. MayEndAt recording.now files.now error × IsMadeUntil error recording.now files.now options.frames options.sure options.explain options.limit unwound.folded (W.contents out.old) (W.contents out.new) (E.contents err.old) (E.contents err.new))) }
+    ensures refused { IfErr result (λ error. error ≡ OutOfMemory) }
+    ensures unwritten { OnErr result (out.new ≡ out.old) }
+{
+    let maker = FileModules { files };
+    if is_aarch64(&recording.events) {
+        return unwind_all::<
+            UnwinderAarch64<Vec<u8>, MayAllocateDuringUnwind>,
+            FileModules<'_>,
+            W,
+            E,
+        >(alloc, recording, files, &maker, options, out, err);
+    }
+    unwind_all::<UnwinderX86_64<Vec<u8>, MayAllocateDuringUnwind>, FileModules<'_>, W, E>(
+        alloc, recording, files, &maker, options, out, err,
+    )
 }
 
 /// Unwinds all samples of a recording.
@@ -102,73 +154,21 @@ where
     })
 }
 
-/// Writes a line for each file of which nothing was read.
-fn write_problems<E: Write>(alloc: Global, err: &mut E, files: &Files) -> Result<(), StacksError>
-    ensures written { OnOk result (AreTold files.now (E.contents err.old) (E.contents err.new)) }
-    ensures refused { IfErr result (λ error. (error ≡ OutOfMemory) ⊎ (error ≡ CannotWrite)) }
+/// Writes what was counted.
+fn write_counts<E: Write>(err: &mut E, counts: &Counts) -> Result<(), StacksError>
+    ensures written { OnOk result (Appends (E.contents err.old) (E.contents err.new) (summary_text counts.now)) }
+    ensures ordered { OnOk result (IsInOrderOfBytes counts.now.ends) }
+    ensures refused { IfErr result (λ error. error ≡ CannotWrite) }
 {
-    let problems = problems_text(alloc, files)?;
-    err.write_all(problems.as_slice())?;
+    let samples = counts.samples;
+    let unsure = counts.unsure;
+    let lost = counts.lost;
+    writeln!(err, "{samples} samples, {lost} records lost by the kernel")?;
+    writeln!(
+        err,
+        "{unsure} samples with frames that no unwind data tells"
+    )?;
+    writeln!(err, "how the stacks ended:")?;
+    counts.ends.write(err)?;
     Ok(())
-}
-
-/// Unwinds all samples of a recording by the unwinder of its architecture.
-fn unwind_recording<W: Write, E: Write>(
-    alloc: Global,
-    recording: &Recording<'_>,
-    files: &Files,
-    options: Options,
-    out: &mut W,
-    err: &mut E,
-) -> Result<Unwound, StacksError>
-    ensures made { IfOk result (λ unwound. MatchResult unwound.ended
-        (λ refusal. IsWhole recording.now refusal × IsMadeOf recording.now files.now options.frames options.sure options.explain options.limit unwound.folded (W.contents out.old) (W.contents out.new) (E.contents err.old) (E.contents err.new))
-        (λ error. MayEndAt recording.now files.now error × IsMadeUntil error recording.now files.now options.frames options.sure options.explain options.limit unwound.folded (W.contents out.old) (W.contents out.new) (E.contents err.old) (E.contents err.new))) }
-    ensures refused { IfErr result (λ error. error ≡ OutOfMemory) }
-    ensures unwritten { OnErr result (out.new ≡ out.old) }
-{
-    let maker = FileModules { files };
-    if is_aarch64(&recording.events) {
-        return unwind_all::<
-            UnwinderAarch64<Vec<u8>, MayAllocateDuringUnwind>,
-            FileModules<'_>,
-            W,
-            E,
-        >(alloc, recording, files, &maker, options, out, err);
-    }
-    unwind_all::<UnwinderX86_64<Vec<u8>, MayAllocateDuringUnwind>, FileModules<'_>, W, E>(
-        alloc, recording, files, &maker, options, out, err,
-    )
-}
-
-/// Folds the stacks of a recording, or writes them to `out` as blocks, and writes to `err` what was counted and which
-/// files were not read.
-///
-/// # Errors
-///
-/// `Recording` with the first refusal of the header or of the events, `OutOfMemory`, and `CannotWrite` if a file that was
-/// not read can't be told: nothing was folded or written to `out` then. What is refused later is in [`Unwound::ended`]:
-/// `Recording` with the first refusal of a record that is no sample, `OutOfMemory`, `GenerationsExhausted`,
-/// `TooManySamples` and `CannotWrite`.
-pub fn write_stacks<S: FileSource, W: Write, E: Write>(
-    alloc: Global,
-    file: &[u8],
-    source: &S,
-    options: Options,
-    out: &mut W,
-    err: &mut E,
-) -> Result<Unwound, StacksError>
-    ensures made { IfOk result (λ unwound. (recording : Recording) × IsReadOf file.now recording
-        × ((files : Files) × AreFilesOf (S.source source.now)
-        (map file_build_id_view recording.build_ids.items) (records_in recording.records.items) files
-        × ((unsaid : Option (List ℕ)) × AreTold files (E.contents err.old) unsaid × MatchResult unwound.ended
-        (λ refusal. IsWhole recording refusal × IsMadeOf recording files options.frames options.sure options.explain options.limit unwound.folded (W.contents out.old) (W.contents out.new) unsaid (E.contents err.new))
-        (λ error. MayEndAt recording files error × IsMadeUntil error recording files options.frames options.sure options.explain options.limit unwound.folded (W.contents out.old) (W.contents out.new) unsaid (E.contents err.new))))) }
-    ensures refused { IfErr result (MayEnd true (result_err (events_in file.now)) 0 0) }
-    ensures unwritten { OnErr result (out.new ≡ out.old) }
-{
-    let recording = read_recording(alloc, file)?;
-    let files = read_files(alloc, &recording, source)?;
-    write_problems(alloc, err, &files)?;
-    unwind_recording(alloc, &recording, &files, options, out, err)
 }

@@ -82,23 +82,6 @@ pub fn read_recording<'a>(alloc: Global, file: &'a [u8]) -> Result<Recording<'a>
     })
 }
 
-/// Returns the build ids of files by their names, of each name the first.
-fn build_ids_by_name<'a>(
-    alloc: Global,
-    build_ids: &[FileBuildId<'a>],
-) -> Result<BuildIdsByName<'a>, AllocError>
-    ensures { IfOk result (λ by_name. HasBuildIds (map file_build_id_view build_ids.now) by_name.by_name) }
-{
-    let mut by_name = BTreeMap::new(alloc);
-    let mut left = build_ids.len();
-    while left > 0 {
-        left -= 1;
-        let build_id = build_ids[left];
-        by_name.insert(build_id.name, build_id.build_id)?;
-    }
-    Ok(BuildIdsByName { by_name })
-}
-
 impl<'a> BuildIdsByName<'a> {
     /// Returns the build id of the file of a name, or no bytes.
     fn get(&self, name: &[u8]) -> &'a [u8]
@@ -124,6 +107,41 @@ impl<'a> BuildIdsByName<'a> {
     }
 }
 
+/// Reads the files whose code is mapped, each once. Fails only where an allocation does, or from 2^32 files on.
+pub fn read_files<S: FileSource>(
+    alloc: Global,
+    recording: &Recording<'_>,
+    source: &S,
+) -> Result<Files, StacksError>
+    ensures read { IfOk result (λ files. AreFilesOf (S.source source.now)
+        (map file_build_id_view recording.now.build_ids.items) (records_in recording.now.records.items) files) }
+    ensures refused { IfErr result (λ error. error ≡ StacksError.OutOfMemory) }
+{
+    let build_ids = build_ids_by_name(alloc, recording.build_ids.as_slice())?;
+    let mut files = Files::new(alloc)?;
+    for timed in &recording.records {
+        add_file(alloc, &build_ids, source, &mut files, timed.record)?;
+    }
+    Ok(files)
+}
+
+/// Returns the build ids of files by their names, of each name the first.
+fn build_ids_by_name<'a>(
+    alloc: Global,
+    build_ids: &[FileBuildId<'a>],
+) -> Result<BuildIdsByName<'a>, AllocError>
+    ensures { IfOk result (λ by_name. HasBuildIds (map file_build_id_view build_ids.now) by_name.by_name) }
+{
+    let mut by_name = BTreeMap::new(alloc);
+    let mut left = build_ids.len();
+    while left > 0 {
+        left -= 1;
+        let build_id = build_ids[left];
+        by_name.insert(build_id.name, build_id.build_id)?;
+    }
+    Ok(BuildIdsByName { by_name })
+}
+
 /// Reads the file of a record's mapping, if it is one of code.
 fn add_file<'a, S: FileSource>(
     alloc: Global,
@@ -142,24 +160,6 @@ fn add_file<'a, S: FileSource>(
     let build_id = build_ids.wanted(&mapping);
     files.add(alloc, source, mapping.name, build_id)?;
     Ok(())
-}
-
-/// Reads the files whose code is mapped, each once. Fails only where an allocation does, or from 2^32 files on.
-pub fn read_files<S: FileSource>(
-    alloc: Global,
-    recording: &Recording<'_>,
-    source: &S,
-) -> Result<Files, StacksError>
-    ensures read { IfOk result (λ files. AreFilesOf (S.source source.now)
-        (map file_build_id_view recording.now.build_ids.items) (records_in recording.now.records.items) files) }
-    ensures refused { IfErr result (λ error. error ≡ StacksError.OutOfMemory) }
-{
-    let build_ids = build_ids_by_name(alloc, recording.build_ids.as_slice())?;
-    let mut files = Files::new(alloc)?;
-    for timed in &recording.records {
-        add_file(alloc, &build_ids, source, &mut files, timed.record)?;
-    }
-    Ok(files)
 }
 
 /// Returns the sample of a record with the mask of its registers.
@@ -189,11 +189,11 @@ pub fn sample_of<'a>(
     Ok((sample, attribute.sample_regs_user))
 }
 
-/// Returns whether the samples of an event have the program counter of aarch64.
-fn has_aarch64_pc(attribute: &Attribute<'_>) -> bool
-    ensures { result ≡ has_bit attribute.now.sample_regs_user (2 ^ PERF_REG_ARM64_PC) }
+/// Returns whether the samples are of aarch64: where an event records the program counter at its place.
+pub fn is_aarch64(events: &Events<'_>) -> bool
+    ensures { result ≡ are_of_aarch64 (map attribute_view events.now.attributes.items) }
 {
-    attribute.sample_regs_user & AARCH64_PC != 0
+    have_aarch64_pc(events.attributes.as_slice())
 }
 
 /// Returns whether the samples of one of these events have it.
@@ -203,9 +203,9 @@ fn have_aarch64_pc(attributes: &[Attribute<'_>]) -> bool
     attributes.iter().any(|attribute| has_aarch64_pc(attribute))
 }
 
-/// Returns whether the samples are of aarch64: where an event records the program counter at its place.
-pub fn is_aarch64(events: &Events<'_>) -> bool
-    ensures { result ≡ are_of_aarch64 (map attribute_view events.now.attributes.items) }
+/// Returns whether the samples of an event have the program counter of aarch64.
+fn has_aarch64_pc(attribute: &Attribute<'_>) -> bool
+    ensures { result ≡ has_bit attribute.now.sample_regs_user (2 ^ PERF_REG_ARM64_PC) }
 {
-    have_aarch64_pc(events.attributes.as_slice())
+    attribute.sample_regs_user & AARCH64_PC != 0
 }

@@ -85,130 +85,6 @@ where
     pub counts: Counts,
 }
 
-/// Returns what is said of a sample that can't be unwound.
-fn refusal_name(error: RecordingError) -> &'static str
-    ensures { result.now ≡ sample_refusal error }
-{
-    match error {
-        RecordingError::NoThread { .. } => "no-thread",
-        RecordingError::NoUserStack { .. } => "no-user-stack",
-        RecordingError::NoUserRegisters { .. } => "no-user-registers",
-        RecordingError::Process32Bit { .. } => "32-bit-process",
-        RecordingError::UnknownAbi { .. } => "unknown-abi",
-        RecordingError::UnsupportedField { .. } => "unsupported-field",
-        RecordingError::ShortRecord { .. } => "short-record",
-        _ => "unreadable",
-    }
-}
-
-/// Returns the head of a sample's block, by the name of its thread, where the sample can be read.
-fn head_of(alloc: Global, name: &[u8], sample: Option<Sample<'_>>) -> Result<Vec<u8>, AllocError>
-    ensures { IfOk result (λ head. head.items ≡ head_text name.now sample.entry) }
-{
-    match sample {
-        Some(sample) => block_head(alloc, name, sample.pid, sample.tid, sample.time),
-        None => Ok(Vec::from_slice(alloc, b"[unknown]:\n")?),
-    }
-}
-
-/// Counts or writes the stack of a sample, by the name of its thread and its process's mappings in order.
-fn take_stack<R: Copy, W: Write>(
-    alloc: Global,
-    counts: &mut Counts,
-    files: &Files,
-    mappings: &[Mapping],
-    name: &[u8],
-    sample: Sample<'_>,
-    stack: &Stack<R>,
-    notes: &[Note],
-    options: Options,
-    out: &mut W,
-) -> Result<(), StacksError>
-    requires { IsInOrder 0 mappings.now }
-    ensures counted { OnOk result (CountsMore options.frames 1 counts.old counts.new) }
-    ensures taken { OnOk result (IsTaken options.frames
-        (stack_told options.frames options.sure options.explain files.now name.now (head_text name.now (Some sample.entry)) mappings.now (stack_view stack.now) notes.now)
-        counts.old counts.new (W.contents out.old) (W.contents out.new)) }
-    ensures refused { (samples : ℕ) → AreCounted options.frames samples counts.old
-        → IfErr result (MayEnd options.frames None 0 (samples + 1)) }
-    ensures ends { OnOk result (CountsOneMore counts.old.ends counts.new.ends (end_name stack.now.end)) }
-{
-    let frames = stack.frames.as_slice();
-    let is_sure = sure_part(frames).len() == frames.len();
-    counts.add_sample(alloc, end_name(stack.end).as_bytes(), is_sure)?;
-    if options.frames {
-        let head = head_of(alloc, name, Some(sample))?;
-        let block = frames_block(alloc, files, mappings, stack)?;
-        write_block(
-            alloc,
-            head.as_slice(),
-            block.as_slice(),
-            options.explain,
-            notes,
-            out,
-        )?;
-    } else {
-        let line = folded_line(alloc, files, mappings, name, stack, options.sure)?;
-        counts.add_stack(line)?;
-    }
-    Ok(())
-}
-
-/// Counts or writes a sample that has no stack, or that can't be read.
-fn take_refused<W: Write>(
-    alloc: Global,
-    counts: &mut Counts,
-    name: &[u8],
-    sample: Option<Sample<'_>>,
-    why: &str,
-    notes: &[Note],
-    options: Options,
-    out: &mut W,
-) -> Result<(), StacksError>
-    ensures counted { OnOk result (CountsMore options.frames 1 counts.old counts.new) }
-    ensures taken { OnOk result ((files : Files) (mappings : List Mapping) → IsTaken options.frames
-        (stack_told options.frames options.sure options.explain files name.now (head_text name.now sample.entry) mappings (no_stack why.now) notes.now)
-        counts.old counts.new (W.contents out.old) (W.contents out.new)) }
-    ensures refused { (samples : ℕ) → AreCounted options.frames samples counts.old
-        → IfErr result (MayEnd options.frames None 0 (samples + 1)) }
-    ensures ends { OnOk result (CountsOneMore counts.old.ends counts.new.ends why.now) }
-{
-    counts.add_sample(alloc, why.as_bytes(), true)?;
-    if options.frames {
-        let head = head_of(alloc, name, sample)?;
-        let block = refused_block(alloc, why)?;
-        write_block(
-            alloc,
-            head.as_slice(),
-            block.as_slice(),
-            options.explain,
-            notes,
-            out,
-        )?;
-    } else {
-        counts.add_stack(refused_line(alloc, name, why)?)?;
-    }
-    Ok(())
-}
-
-/// Returns a note for each line of the block of a sample, where it is to be explained, and else none.
-fn notes_of<U: Sampled>(
-    alloc: Global,
-    unwinder: &U,
-    start: Option<Start<U::UnwindRegs>>,
-    copied: &[u8],
-    walked: &Option<Stack<U::UnwindRegs>>,
-    options: Options,
-) -> Result<Vec<Note>, AllocError>
-    ensures { IfOk result (λ notes. NotedIf (options.frames && options.explain)
-        (AreStackNotes (U.is_note (U.unwinder_view unwinder.now).modules (copied_memory copied.now start)) (option_noted walked.now)) notes.items) }
-{
-    if options.frames && options.explain {
-        return sample_notes(alloc, unwinder, start, copied, walked);
-    }
-    Ok(Vec::new(alloc))
-}
-
 impl<U: Sampled> Run<U>
 where
     U::Cache: Drop,
@@ -548,5 +424,129 @@ where
             )?;
         }
         Ok(())
+    }
+}
+
+/// Counts or writes the stack of a sample, by the name of its thread and its process's mappings in order.
+fn take_stack<R: Copy, W: Write>(
+    alloc: Global,
+    counts: &mut Counts,
+    files: &Files,
+    mappings: &[Mapping],
+    name: &[u8],
+    sample: Sample<'_>,
+    stack: &Stack<R>,
+    notes: &[Note],
+    options: Options,
+    out: &mut W,
+) -> Result<(), StacksError>
+    requires { IsInOrder 0 mappings.now }
+    ensures counted { OnOk result (CountsMore options.frames 1 counts.old counts.new) }
+    ensures taken { OnOk result (IsTaken options.frames
+        (stack_told options.frames options.sure options.explain files.now name.now (head_text name.now (Some sample.entry)) mappings.now (stack_view stack.now) notes.now)
+        counts.old counts.new (W.contents out.old) (W.contents out.new)) }
+    ensures refused { (samples : ℕ) → AreCounted options.frames samples counts.old
+        → IfErr result (MayEnd options.frames None 0 (samples + 1)) }
+    ensures ends { OnOk result (CountsOneMore counts.old.ends counts.new.ends (end_name stack.now.end)) }
+{
+    let frames = stack.frames.as_slice();
+    let is_sure = sure_part(frames).len() == frames.len();
+    counts.add_sample(alloc, end_name(stack.end).as_bytes(), is_sure)?;
+    if options.frames {
+        let head = head_of(alloc, name, Some(sample))?;
+        let block = frames_block(alloc, files, mappings, stack)?;
+        write_block(
+            alloc,
+            head.as_slice(),
+            block.as_slice(),
+            options.explain,
+            notes,
+            out,
+        )?;
+    } else {
+        let line = folded_line(alloc, files, mappings, name, stack, options.sure)?;
+        counts.add_stack(line)?;
+    }
+    Ok(())
+}
+
+/// Counts or writes a sample that has no stack, or that can't be read.
+fn take_refused<W: Write>(
+    alloc: Global,
+    counts: &mut Counts,
+    name: &[u8],
+    sample: Option<Sample<'_>>,
+    why: &str,
+    notes: &[Note],
+    options: Options,
+    out: &mut W,
+) -> Result<(), StacksError>
+    ensures counted { OnOk result (CountsMore options.frames 1 counts.old counts.new) }
+    ensures taken { OnOk result ((files : Files) (mappings : List Mapping) → IsTaken options.frames
+        (stack_told options.frames options.sure options.explain files name.now (head_text name.now sample.entry) mappings (no_stack why.now) notes.now)
+        counts.old counts.new (W.contents out.old) (W.contents out.new)) }
+    ensures refused { (samples : ℕ) → AreCounted options.frames samples counts.old
+        → IfErr result (MayEnd options.frames None 0 (samples + 1)) }
+    ensures ends { OnOk result (CountsOneMore counts.old.ends counts.new.ends why.now) }
+{
+    counts.add_sample(alloc, why.as_bytes(), true)?;
+    if options.frames {
+        let head = head_of(alloc, name, sample)?;
+        let block = refused_block(alloc, why)?;
+        write_block(
+            alloc,
+            head.as_slice(),
+            block.as_slice(),
+            options.explain,
+            notes,
+            out,
+        )?;
+    } else {
+        counts.add_stack(refused_line(alloc, name, why)?)?;
+    }
+    Ok(())
+}
+
+/// Returns the head of a sample's block, by the name of its thread, where the sample can be read.
+fn head_of(alloc: Global, name: &[u8], sample: Option<Sample<'_>>) -> Result<Vec<u8>, AllocError>
+    ensures { IfOk result (λ head. head.items ≡ head_text name.now sample.entry) }
+{
+    match sample {
+        Some(sample) => block_head(alloc, name, sample.pid, sample.tid, sample.time),
+        None => Ok(Vec::from_slice(alloc, b"[unknown]:\n")?),
+    }
+}
+
+/// Returns a note for each line of the block of a sample, where it is to be explained, and else none.
+fn notes_of<U: Sampled>(
+    alloc: Global,
+    unwinder: &U,
+    start: Option<Start<U::UnwindRegs>>,
+    copied: &[u8],
+    walked: &Option<Stack<U::UnwindRegs>>,
+    options: Options,
+) -> Result<Vec<Note>, AllocError>
+    ensures { IfOk result (λ notes. NotedIf (options.frames && options.explain)
+        (AreStackNotes (U.is_note (U.unwinder_view unwinder.now).modules (copied_memory copied.now start)) (option_noted walked.now)) notes.items) }
+{
+    if options.frames && options.explain {
+        return sample_notes(alloc, unwinder, start, copied, walked);
+    }
+    Ok(Vec::new(alloc))
+}
+
+/// Returns what is said of a sample that can't be unwound.
+fn refusal_name(error: RecordingError) -> &'static str
+    ensures { result.now ≡ sample_refusal error }
+{
+    match error {
+        RecordingError::NoThread { .. } => "no-thread",
+        RecordingError::NoUserStack { .. } => "no-user-stack",
+        RecordingError::NoUserRegisters { .. } => "no-user-registers",
+        RecordingError::Process32Bit { .. } => "32-bit-process",
+        RecordingError::UnknownAbi { .. } => "unknown-abi",
+        RecordingError::UnsupportedField { .. } => "unsupported-field",
+        RecordingError::ShortRecord { .. } => "short-record",
+        _ => "unreadable",
     }
 }

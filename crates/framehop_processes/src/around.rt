@@ -32,28 +32,6 @@ pub(crate) fn split_starting_below<'a>(
     mappings.split_at(place)
 }
 
-/// Returns what of mappings lies below an address (AVMA).
-fn below(alloc: Global, mappings: &[Mapping], address: u64) -> Result<Vec<Mapping>, AllocError>
-    ensures { IfOk result (λ list. list.items ≡ below address mappings.now) }
-{
-    mappings
-        .iter()
-        .filter(|mapping| mapping.start < address)
-        .map(|mapping| part_below(address, *mapping))
-        .collect(alloc)
-}
-
-/// Returns what of mappings lies at or above an address (AVMA).
-fn above(alloc: Global, mappings: &[Mapping], address: u64) -> Result<Vec<Mapping>, AllocError>
-    ensures { IfOk result (λ list. list.items ≡ above address mappings.now) }
-{
-    mappings
-        .iter()
-        .filter(|mapping| address < mapping.end)
-        .map(|mapping| part_above(address, *mapping))
-        .collect(alloc)
-}
-
 /// Returns these mappings with a new one in the place of what it overlaps.
 pub(crate) fn with_mapping(
     alloc: Global,
@@ -69,6 +47,17 @@ pub(crate) fn with_mapping(
     Ok(list)
 }
 
+/// Returns what of mappings lies below an address (AVMA).
+fn below(alloc: Global, mappings: &[Mapping], address: u64) -> Result<Vec<Mapping>, AllocError>
+    ensures { IfOk result (λ list. list.items ≡ below address mappings.now) }
+{
+    mappings
+        .iter()
+        .filter(|mapping| mapping.start < address)
+        .map(|mapping| part_below(address, *mapping))
+        .collect(alloc)
+}
+
 /// Returns the part of a mapping that lies below an address (AVMA).
 fn part_below(address: u64, mapping: Mapping) -> Mapping
     ensures { result ≡ part_below address mapping }
@@ -77,21 +66,23 @@ fn part_below(address: u64, mapping: Mapping) -> Mapping
     Mapping { end, ..mapping }
 }
 
+/// Returns what of mappings lies at or above an address (AVMA).
+fn above(alloc: Global, mappings: &[Mapping], address: u64) -> Result<Vec<Mapping>, AllocError>
+    ensures { IfOk result (λ list. list.items ≡ above address mappings.now) }
+{
+    mappings
+        .iter()
+        .filter(|mapping| address < mapping.end)
+        .map(|mapping| part_above(address, *mapping))
+        .collect(alloc)
+}
+
 /// Returns the part of a mapping that lies at or above an address (AVMA).
 fn part_above(address: u64, mapping: Mapping) -> Mapping
     ensures { result ≡ part_above address mapping }
 {
     let start = mapping.start.max(address);
     Mapping { start, ..mapping }
-}
-
-/// Takes the mappings from one index of a list up to another out of it. It takes no memory.
-fn cut(list: &mut Vec<Mapping>, from: usize, to: usize)
-    requires rising { from ≤ to }
-    requires within { to ≤ length list.old.items }
-    ensures { list.new.items ≡ take from list.old.items ++ drop to list.old.items }
-{
-    drop(list.drain(from..to));
 }
 
 /// Puts mappings in the place of those from one index of a list up to another. The list is not copied.
@@ -112,4 +103,13 @@ pub(crate) fn replace(
         at += 1;
     }
     Ok(())
+}
+
+/// Takes the mappings from one index of a list up to another out of it. It takes no memory.
+fn cut(list: &mut Vec<Mapping>, from: usize, to: usize)
+    requires rising { from ≤ to }
+    requires within { to ≤ length list.old.items }
+    ensures { list.new.items ≡ take from list.old.items ++ drop to list.old.items }
+{
+    drop(list.drain(from..to));
 }

@@ -12,28 +12,6 @@ use crate::unwinder::ProcessUnwinder;
 use framehop::generations::Generations;
 use std::alloc::Global;
 
-/// Adds a module, which takes the next generation. Where that is refused, nothing changes.
-pub(crate) fn add_module<U: ProcessUnwinder>(
-    unwinder: &mut U,
-    added: U::Module,
-    generations: &mut Generations,
-) -> Result<(), ProcessesError>
-where
-    U::Module: Drop,
-    ensures added { OnOk result ((U.unwinder_view unwinder.new).modules
-        ≡ with_module (U.module_view added) (U.unwinder_view unwinder.old).modules) }
-    ensures drawn { OnOk result (((U.unwinder_view unwinder.new).generation ≡ generations.old)
-        × (generations.new ≡ generations.old + 1)) }
-    ensures refused { OnErr result ((unwinder.new ≡ unwinder.old) × (generations.new ≡ generations.old)) }
-    ensures exhausted { result ≡ Err ProcessesError.GenerationsExhausted → generations.old ≡ 2 ^ 64 - 1 }
-    ensures named { IfErr result (λ error. (error ≡ ProcessesError.EmptyMapping) → ⊥) }
-{
-    match unwinder.add_module(added, generations) {
-        Ok(()) => Ok(()),
-        Err(refused) => Err(ProcessesError::from(refused.cause)),
-    }
-}
-
 /// Adds the modules of mappings, which the maker makes, among those of others. Each takes a generation.
 pub(crate) fn add_modules<U: ProcessUnwinder, M: ModuleMaker<U>>(
     alloc: Global,
@@ -59,6 +37,28 @@ where
         add_module(unwinder, made, generations)?;
     }
     Ok(())
+}
+
+/// Adds a module, which takes the next generation. Where that is refused, nothing changes.
+pub(crate) fn add_module<U: ProcessUnwinder>(
+    unwinder: &mut U,
+    added: U::Module,
+    generations: &mut Generations,
+) -> Result<(), ProcessesError>
+where
+    U::Module: Drop,
+    ensures added { OnOk result ((U.unwinder_view unwinder.new).modules
+        ≡ with_module (U.module_view added) (U.unwinder_view unwinder.old).modules) }
+    ensures drawn { OnOk result (((U.unwinder_view unwinder.new).generation ≡ generations.old)
+        × (generations.new ≡ generations.old + 1)) }
+    ensures refused { OnErr result ((unwinder.new ≡ unwinder.old) × (generations.new ≡ generations.old)) }
+    ensures exhausted { result ≡ Err ProcessesError.GenerationsExhausted → generations.old ≡ 2 ^ 64 - 1 }
+    ensures named { IfErr result (λ error. (error ≡ ProcessesError.EmptyMapping) → ⊥) }
+{
+    match unwinder.add_module(added, generations) {
+        Ok(()) => Ok(()),
+        Err(refused) => Err(ProcessesError::from(refused.cause)),
+    }
 }
 
 /// Removes the modules of mappings, which are among those of an unwinder. Each takes a generation.

@@ -44,15 +44,6 @@ pub(crate) fn read_u64(
     bytes::read_u64(bytes, at).ok_or(short)
 }
 
-/// Returns the number of eight bytes at an offset, if the bytes have it.
-#[inline]
-pub(crate) fn word(bytes: &[u8], at: usize) -> Option<u64>
-    ensures { result ≡ word_at bytes.now at }
-{
-    let (word, _) = bytes::read_u64(bytes, at)?;
-    Some(word)
-}
-
 /// Returns the number of eight bytes that is so many such numbers before the end, if the bytes have it.
 #[inline]
 pub(crate) fn word_from_end(bytes: &[u8], words: usize) -> Option<u64>
@@ -64,6 +55,15 @@ pub(crate) fn word_from_end(bytes: &[u8], words: usize) -> Option<u64>
         return None;
     }
     word(bytes, bytes.len() - size)
+}
+
+/// Returns the number of eight bytes at an offset, if the bytes have it.
+#[inline]
+pub(crate) fn word(bytes: &[u8], at: usize) -> Option<u64>
+    ensures { result ≡ word_at bytes.now at }
+{
+    let (word, _) = bytes::read_u64(bytes, at)?;
+    Some(word)
 }
 
 /// Returns so many bytes, or the refusal where the bytes end before them.

@@ -42,37 +42,27 @@ pub struct Header {
     pub features: u64,
 }
 
-/// Reads a number of the file.
-#[inline]
-fn read_number(file: &[u8], at: usize) -> Result<(u64, usize), RecordingError>
-    ensures { result ≡ number_at file.now at }
+/// Reads the header of a recording, from the bytes of its file.
+///
+/// # Errors
+///
+/// - `NotARecording` and `BigEndian` by the first eight bytes;
+/// - `Piped` where the header is that of a pipe, and `BadHeaderSize` where it has another size than that
+///   of a file, 104 bytes, or 72 in the old format, which has no features;
+/// - `Unfinished` where the size of the records is 0: it is written when the recording ends;
+/// - `Eof` where the file ends before a field.
+///
+/// Source: Linux, `tools/perf/Documentation/perf.data-file-format.txt`, `perf_header`;
+/// `tools/perf/util/header.c`, `perf_file_header__read` and `perf_session__read_header`.
+#[tactic(auto, unfolding(crate::specs::Header::header_at))]
+pub fn read_header(file: &[u8]) -> Result<Header, RecordingError>
+    ensures { result ≡ header_at file.now }
 {
-    read_u64(file, at, RecordingError::Eof { offset: at as u64 })
-}
-
-/// Reads where a section lies.
-#[tactic(auto, unfolding(crate::specs::Header::section_at))]
-pub(crate) fn read_section(file: &[u8], at: usize) -> Result<(Section, usize), RecordingError>
-    ensures { result ≡ section_at file.now at }
-{
-    let (offset, at) = read_number(file, at)?;
-    let (size, at) = read_number(file, at)?;
-    Ok((Section { offset, size }, at))
-}
-
-/// Reads which features have a section, where the header has a size.
-#[tactic(auto, unfolding(crate::specs::Header::features_at))]
-fn read_features(file: &[u8], size: u64) -> Result<u64, RecordingError>
-    ensures { result ≡ features_at file.now size }
-{
-    match size {
-        PIPE_HEADER_SIZE => Err(RecordingError::Piped { offset: 8 }),
-        OLD_HEADER_SIZE => Ok(0),
-        HEADER_SIZE => {
-            let (features, _) = read_number(file, 72)?;
-            Ok(features)
-        }
-        _ => Err(RecordingError::BadHeaderSize { offset: 8 }),
+    let (magic, _) = read_number(file, 0)?;
+    match magic {
+        MAGIC => read_fields(file),
+        SWAPPED_MAGIC => Err(RecordingError::BigEndian { offset: 0 }),
+        _ => Err(RecordingError::NotARecording { offset: 0 }),
     }
 }
 
@@ -98,26 +88,36 @@ fn read_fields(file: &[u8]) -> Result<Header, RecordingError>
     })
 }
 
-/// Reads the header of a recording, from the bytes of its file.
-///
-/// # Errors
-///
-/// - `NotARecording` and `BigEndian` by the first eight bytes;
-/// - `Piped` where the header is that of a pipe, and `BadHeaderSize` where it has another size than that
-///   of a file, 104 bytes, or 72 in the old format, which has no features;
-/// - `Unfinished` where the size of the records is 0: it is written when the recording ends;
-/// - `Eof` where the file ends before a field.
-///
-/// Source: Linux, `tools/perf/Documentation/perf.data-file-format.txt`, `perf_header`;
-/// `tools/perf/util/header.c`, `perf_file_header__read` and `perf_session__read_header`.
-#[tactic(auto, unfolding(crate::specs::Header::header_at))]
-pub fn read_header(file: &[u8]) -> Result<Header, RecordingError>
-    ensures { result ≡ header_at file.now }
+/// Reads which features have a section, where the header has a size.
+#[tactic(auto, unfolding(crate::specs::Header::features_at))]
+fn read_features(file: &[u8], size: u64) -> Result<u64, RecordingError>
+    ensures { result ≡ features_at file.now size }
 {
-    let (magic, _) = read_number(file, 0)?;
-    match magic {
-        MAGIC => read_fields(file),
-        SWAPPED_MAGIC => Err(RecordingError::BigEndian { offset: 0 }),
-        _ => Err(RecordingError::NotARecording { offset: 0 }),
+    match size {
+        PIPE_HEADER_SIZE => Err(RecordingError::Piped { offset: 8 }),
+        OLD_HEADER_SIZE => Ok(0),
+        HEADER_SIZE => {
+            let (features, _) = read_number(file, 72)?;
+            Ok(features)
+        }
+        _ => Err(RecordingError::BadHeaderSize { offset: 8 }),
     }
+}
+
+/// Reads where a section lies.
+#[tactic(auto, unfolding(crate::specs::Header::section_at))]
+pub(crate) fn read_section(file: &[u8], at: usize) -> Result<(Section, usize), RecordingError>
+    ensures { result ≡ section_at file.now at }
+{
+    let (offset, at) = read_number(file, at)?;
+    let (size, at) = read_number(file, at)?;
+    Ok((Section { offset, size }, at))
+}
+
+/// Reads a number of the file.
+#[inline]
+fn read_number(file: &[u8], at: usize) -> Result<(u64, usize), RecordingError>
+    ensures { result ≡ number_at file.now at }
+{
+    read_u64(file, at, RecordingError::Eof { offset: at as u64 })
 }

@@ -35,21 +35,29 @@ pub struct Mapping<'a> {
     pub name: &'a [u8],
 }
 
-/// Returns the build id of a PERF_RECORD_MMAP2.
-#[tactic(auto, unfolding(crate::specs::Mapping::build_id_at))]
-fn read_build_id<'a>(record: Record<'a>) -> Result<&'a [u8], RecordingError>
+/// Reads a mapping from its record.
+///
+/// # Errors
+///
+/// `OtherKind` where the record is no PERF_RECORD_MMAP and no PERF_RECORD_MMAP2, and `ShortRecord`.
+///
+/// Source: Linux, `include/uapi/linux/perf_event.h`, PERF_RECORD_MMAP and PERF_RECORD_MMAP2.
+#[tactic(auto, unfolding(crate::specs::Mapping::mapping_at))]
+pub fn read_mapping<'a>(record: Record<'a>) -> Result<Mapping<'a>, RecordingError>
     ensures exact { MatchResult result
-        (λ build_id. build_id_at (record_view «record».entry) ≡ Ok build_id.now)
-        (λ error. build_id_at (record_view «record».entry) ≡ Err error) }
+        (λ mapping. mapping_at (record_view «record».entry) ≡ Ok (mapping_view mapping))
+        (λ error. mapping_at (record_view «record».entry) ≡ Err error) }
 {
-    if record.misc & MMAP_BUILD_ID == 0 {
-        return Ok(&[]);
+    match record.kind {
+        MMAP => read_fields(record, 32, &[]),
+        MMAP2 => {
+            let build_id = read_build_id(record)?;
+            read_fields(record, 64, build_id)
+        }
+        _ => Err(RecordingError::OtherKind {
+            offset: record.offset,
+        }),
     }
-    let short = RecordingError::ShortRecord {
-        offset: record.offset,
-    };
-    let (size, _) = read_u32(record.body, 32, short)?;
-    Ok(front(front(back(record.body, 36), 20), (size % 256) as usize))
 }
 
 /// Reads the fields of a mapping whose name is at an offset of the record's body.
@@ -83,27 +91,19 @@ fn read_fields<'a>(
     })
 }
 
-/// Reads a mapping from its record.
-///
-/// # Errors
-///
-/// `OtherKind` where the record is no PERF_RECORD_MMAP and no PERF_RECORD_MMAP2, and `ShortRecord`.
-///
-/// Source: Linux, `include/uapi/linux/perf_event.h`, PERF_RECORD_MMAP and PERF_RECORD_MMAP2.
-#[tactic(auto, unfolding(crate::specs::Mapping::mapping_at))]
-pub fn read_mapping<'a>(record: Record<'a>) -> Result<Mapping<'a>, RecordingError>
+/// Returns the build id of a PERF_RECORD_MMAP2.
+#[tactic(auto, unfolding(crate::specs::Mapping::build_id_at))]
+fn read_build_id<'a>(record: Record<'a>) -> Result<&'a [u8], RecordingError>
     ensures exact { MatchResult result
-        (λ mapping. mapping_at (record_view «record».entry) ≡ Ok (mapping_view mapping))
-        (λ error. mapping_at (record_view «record».entry) ≡ Err error) }
+        (λ build_id. build_id_at (record_view «record».entry) ≡ Ok build_id.now)
+        (λ error. build_id_at (record_view «record».entry) ≡ Err error) }
 {
-    match record.kind {
-        MMAP => read_fields(record, 32, &[]),
-        MMAP2 => {
-            let build_id = read_build_id(record)?;
-            read_fields(record, 64, build_id)
-        }
-        _ => Err(RecordingError::OtherKind {
-            offset: record.offset,
-        }),
+    if record.misc & MMAP_BUILD_ID == 0 {
+        return Ok(&[]);
     }
+    let short = RecordingError::ShortRecord {
+        offset: record.offset,
+    };
+    let (size, _) = read_u32(record.body, 32, short)?;
+    Ok(front(front(back(record.body, 36), 20), (size % 256) as usize))
 }

@@ -6,24 +6,17 @@ use crate::bytes::word;
 use framehop_core::aarch64::{PtrAuthMask, UnwindRegsAarch64};
 use framehop_core::x86_64::{Reg, UnwindRegsX86_64};
 
-/// Returns the register of a bit, if it was recorded.
-fn register(mask: u64, values: &[u8], bit: u64) -> Option<u64>
-    requires { 0 < bit }
-    ensures { result ≡ register_at mask values.now bit }
+/// Returns the registers of a sample on x86_64, from its attribute's `sample_regs_user` and its
+/// values. A general register that was not recorded is 0. Without rip, rsp and rbp there are none.
+///
+/// Source: Linux, `arch/x86/include/uapi/asm/perf_regs.h`, `perf_event_x86_regs`.
+pub fn x86_64_registers(mask: u64, values: &[u8]) -> Option<UnwindRegsX86_64>
+    ensures { result ≡ x86_64_registers mask values.now }
 {
-    if mask & bit == 0 {
-        return None;
-    }
-    let index = (mask & (bit - 1)).count_ones() as usize;
-    word(values, 8 * index)
-}
-
-/// Returns the register of a bit, or 0 where it was not recorded.
-fn value(mask: u64, values: &[u8], bit: u64) -> u64
-    requires { 0 < bit }
-    ensures { result ≡ unwrap_or (register_at mask values.now bit) 0 }
-{
-    register(mask, values, bit).unwrap_or(0)
+    let ip = register(mask, values, 0x100)?;
+    let sp = register(mask, values, 0x80)?;
+    let bp = register(mask, values, 0x40)?;
+    Some(general(mask, values, ip, sp, bp))
 }
 
 /// Returns the registers of x86_64 with these three, and the others that were recorded.
@@ -49,17 +42,12 @@ fn general(mask: u64, values: &[u8], ip: u64, sp: u64, bp: u64) -> UnwindRegsX86
     regs
 }
 
-/// Returns the registers of a sample on x86_64, from its attribute's `sample_regs_user` and its
-/// values. A general register that was not recorded is 0. Without rip, rsp and rbp there are none.
-///
-/// Source: Linux, `arch/x86/include/uapi/asm/perf_regs.h`, `perf_event_x86_regs`.
-pub fn x86_64_registers(mask: u64, values: &[u8]) -> Option<UnwindRegsX86_64>
-    ensures { result ≡ x86_64_registers mask values.now }
+/// Returns the register of a bit, or 0 where it was not recorded.
+fn value(mask: u64, values: &[u8], bit: u64) -> u64
+    requires { 0 < bit }
+    ensures { result ≡ unwrap_or (register_at mask values.now bit) 0 }
 {
-    let ip = register(mask, values, 0x100)?;
-    let sp = register(mask, values, 0x80)?;
-    let bp = register(mask, values, 0x40)?;
-    Some(general(mask, values, ip, sp, bp))
+    register(mask, values, bit).unwrap_or(0)
 }
 
 /// Returns the program counter and the registers of a sample on aarch64, from its attribute's
@@ -79,4 +67,16 @@ pub fn aarch64_registers(
     let fp = register(mask, values, 0x20000000)?;
     let regs = UnwindRegsAarch64::new_with_ptr_auth_mask(code_ptr_auth_mask, lr, sp, fp);
     Some((pc, regs))
+}
+
+/// Returns the register of a bit, if it was recorded.
+fn register(mask: u64, values: &[u8], bit: u64) -> Option<u64>
+    requires { 0 < bit }
+    ensures { result ≡ register_at mask values.now bit }
+{
+    if mask & bit == 0 {
+        return None;
+    }
+    let index = (mask & (bit - 1)).count_ones() as usize;
+    word(values, 8 * index)
 }

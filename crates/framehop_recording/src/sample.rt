@@ -47,21 +47,67 @@ pub struct Sample<'a> {
     pub user: Result<UserStack<'a>, RecordingError>,
 }
 
-/// Reads a number that is there or not.
-#[inline]
-fn read_optional(
-    present: bool,
-    bytes: &[u8],
-    at: usize,
-    short: RecordingError,
-) -> Result<(u64, usize), RecordingError>
-    ensures { result ≡ optional_at present bytes.now at short }
+/// Reads a sample of an event from its record. Where the registers or the stack can't be read, the sample
+/// says why, and still has its thread and its time.
+///
+/// # Errors
+///
+/// `OtherKind` where the record is no PERF_RECORD_SAMPLE, `NoThread` where the samples of the event have no
+/// instruction pointer or no thread, and `ShortRecord` where the record ends before these and the time do.
+///
+/// Those of the field `user` are:
+///
+/// - of the event: `NoUserStack` and `UnsupportedField`;
+/// - of the sample: `NoUserRegisters`, `Process32Bit`, `UnknownAbi` and `ShortRecord`.
+///
+/// Source: Linux, `include/uapi/linux/perf_event.h`, PERF_RECORD_SAMPLE.
+pub fn read_sample<'a>(
+    attribute: &Attribute<'_>,
+    record: Record<'a>,
+) -> Result<Sample<'a>, RecordingError>
+    ensures exact { MatchResult result
+        (λ sample. sample_at (attribute_view attribute.now) (record_view «record».entry) ≡ Ok (sample_view sample))
+        (λ error. sample_at (attribute_view attribute.now) (record_view «record».entry) ≡ Err error) }
+    ensures timed { IfOk result (λ sample. sample.time ≡ time_field (attribute_view attribute.now) (record_view «record».entry)) }
 {
-    if present {
-        read_u64(bytes, at, short)
-    } else {
-        Ok((0, at))
+    let sample = read_fields(attribute, record)?;
+    Ok(sample)
+}
+
+/// Reads the fields of a sample of an event from its record.
+#[tactic(auto, unfolding(crate::specs::Sample::sample_at))]
+fn read_fields<'a>(
+    attribute: &Attribute<'_>,
+    record: Record<'a>,
+) -> Result<Sample<'a>, RecordingError>
+    ensures exact { MatchResult result
+        (λ sample. sample_at (attribute_view attribute.now) (record_view «record».entry) ≡ Ok (sample_view sample))
+        (λ error. sample_at (attribute_view attribute.now) (record_view «record».entry) ≡ Err error) }
+{
+    let offset = record.offset;
+    if record.kind != SAMPLE {
+        return Err(RecordingError::OtherKind { offset });
     }
+    let kind = attribute.sample_type;
+    if kind & IP == 0 || kind & TID == 0 {
+        return Err(RecordingError::NoThread { offset });
+    }
+    let short = RecordingError::ShortRecord { offset };
+    let bytes = record.body;
+    let (_, at) = read_optional(kind & IDENTIFIER != 0, bytes, 0, short)?;
+    let (ip, at) = read_u64(bytes, at, short)?;
+    let (pid, at) = read_u32(bytes, at, short)?;
+    let (tid, at) = read_u32(bytes, at, short)?;
+    let (time, at) = read_optional(kind & TIME != 0, bytes, at, short)?;
+    let time = optional_time(kind & TIME != 0, time);
+    let user = read_user_side(attribute, record, at);
+    Ok(Sample {
+        ip,
+        pid,
+        tid,
+        time,
+        user,
+    })
 }
 
 /// Returns a time that is there or not, unless it says that there is none.
@@ -69,6 +115,36 @@ fn optional_time(present: bool, time: u64) -> Option<u64>
     ensures { result ≡ (if present then known_time time else None) }
 {
     if present { known_time(time) } else { None }
+}
+
+/// Reads the registers and the stack of a sample, from the offset after its time on.
+#[tactic(auto, unfolding(crate::specs::Sample::user_side))]
+fn read_user_side<'a>(
+    attribute: &Attribute<'_>,
+    record: Record<'a>,
+    at: usize,
+) -> Result<UserStack<'a>, RecordingError>
+    ensures exact { MatchResult result
+        (λ user. user_side (attribute_view attribute.now) (record_view «record».entry) at ≡ Ok (user_view user))
+        (λ error. user_side (attribute_view attribute.now) (record_view «record».entry) at ≡ Err error) }
+{
+    let offset = record.offset;
+    let kind = attribute.sample_type;
+    if kind & REGS_USER == 0 || kind & STACK_USER == 0 {
+        return Err(RecordingError::NoUserStack { offset });
+    }
+    if kind & READ != 0 || kind & RAW != 0 || kind & BRANCH_STACK != 0 {
+        return Err(RecordingError::UnsupportedField { offset });
+    }
+    let short = RecordingError::ShortRecord { offset };
+    let bytes = record.body;
+    let (_, at) = read_optional(kind & ADDR != 0, bytes, at, short)?;
+    let (_, at) = read_optional(kind & ID != 0, bytes, at, short)?;
+    let (_, at) = read_optional(kind & STREAM_ID != 0, bytes, at, short)?;
+    let (_, at) = read_optional(kind & CPU != 0, bytes, at, short)?;
+    let (_, at) = read_optional(kind & PERIOD != 0, bytes, at, short)?;
+    let at = skip_chain(kind & CALLCHAIN != 0, bytes, at, short)?;
+    read_user(offset, attribute.sample_regs_user, bytes, at)
 }
 
 /// Passes over a count and so many numbers, where they are there.
@@ -121,95 +197,19 @@ fn read_user<'a>(
     Ok(UserStack { registers, stack })
 }
 
-/// Reads the registers and the stack of a sample, from the offset after its time on.
-#[tactic(auto, unfolding(crate::specs::Sample::user_side))]
-fn read_user_side<'a>(
-    attribute: &Attribute<'_>,
-    record: Record<'a>,
+/// Reads a number that is there or not.
+#[inline]
+fn read_optional(
+    present: bool,
+    bytes: &[u8],
     at: usize,
-) -> Result<UserStack<'a>, RecordingError>
-    ensures exact { MatchResult result
-        (λ user. user_side (attribute_view attribute.now) (record_view «record».entry) at ≡ Ok (user_view user))
-        (λ error. user_side (attribute_view attribute.now) (record_view «record».entry) at ≡ Err error) }
+    short: RecordingError,
+) -> Result<(u64, usize), RecordingError>
+    ensures { result ≡ optional_at present bytes.now at short }
 {
-    let offset = record.offset;
-    let kind = attribute.sample_type;
-    if kind & REGS_USER == 0 || kind & STACK_USER == 0 {
-        return Err(RecordingError::NoUserStack { offset });
+    if present {
+        read_u64(bytes, at, short)
+    } else {
+        Ok((0, at))
     }
-    if kind & READ != 0 || kind & RAW != 0 || kind & BRANCH_STACK != 0 {
-        return Err(RecordingError::UnsupportedField { offset });
-    }
-    let short = RecordingError::ShortRecord { offset };
-    let bytes = record.body;
-    let (_, at) = read_optional(kind & ADDR != 0, bytes, at, short)?;
-    let (_, at) = read_optional(kind & ID != 0, bytes, at, short)?;
-    let (_, at) = read_optional(kind & STREAM_ID != 0, bytes, at, short)?;
-    let (_, at) = read_optional(kind & CPU != 0, bytes, at, short)?;
-    let (_, at) = read_optional(kind & PERIOD != 0, bytes, at, short)?;
-    let at = skip_chain(kind & CALLCHAIN != 0, bytes, at, short)?;
-    read_user(offset, attribute.sample_regs_user, bytes, at)
-}
-
-/// Reads the fields of a sample of an event from its record.
-#[tactic(auto, unfolding(crate::specs::Sample::sample_at))]
-fn read_fields<'a>(
-    attribute: &Attribute<'_>,
-    record: Record<'a>,
-) -> Result<Sample<'a>, RecordingError>
-    ensures exact { MatchResult result
-        (λ sample. sample_at (attribute_view attribute.now) (record_view «record».entry) ≡ Ok (sample_view sample))
-        (λ error. sample_at (attribute_view attribute.now) (record_view «record».entry) ≡ Err error) }
-{
-    let offset = record.offset;
-    if record.kind != SAMPLE {
-        return Err(RecordingError::OtherKind { offset });
-    }
-    let kind = attribute.sample_type;
-    if kind & IP == 0 || kind & TID == 0 {
-        return Err(RecordingError::NoThread { offset });
-    }
-    let short = RecordingError::ShortRecord { offset };
-    let bytes = record.body;
-    let (_, at) = read_optional(kind & IDENTIFIER != 0, bytes, 0, short)?;
-    let (ip, at) = read_u64(bytes, at, short)?;
-    let (pid, at) = read_u32(bytes, at, short)?;
-    let (tid, at) = read_u32(bytes, at, short)?;
-    let (time, at) = read_optional(kind & TIME != 0, bytes, at, short)?;
-    let time = optional_time(kind & TIME != 0, time);
-    let user = read_user_side(attribute, record, at);
-    Ok(Sample {
-        ip,
-        pid,
-        tid,
-        time,
-        user,
-    })
-}
-
-/// Reads a sample of an event from its record. Where the registers or the stack can't be read, the sample
-/// says why, and still has its thread and its time.
-///
-/// # Errors
-///
-/// `OtherKind` where the record is no PERF_RECORD_SAMPLE, `NoThread` where the samples of the event have no
-/// instruction pointer or no thread, and `ShortRecord` where the record ends before these and the time do.
-///
-/// Those of the field `user` are:
-///
-/// - of the event: `NoUserStack` and `UnsupportedField`;
-/// - of the sample: `NoUserRegisters`, `Process32Bit`, `UnknownAbi` and `ShortRecord`.
-///
-/// Source: Linux, `include/uapi/linux/perf_event.h`, PERF_RECORD_SAMPLE.
-pub fn read_sample<'a>(
-    attribute: &Attribute<'_>,
-    record: Record<'a>,
-) -> Result<Sample<'a>, RecordingError>
-    ensures exact { MatchResult result
-        (λ sample. sample_at (attribute_view attribute.now) (record_view «record».entry) ≡ Ok (sample_view sample))
-        (λ error. sample_at (attribute_view attribute.now) (record_view «record».entry) ≡ Err error) }
-    ensures timed { IfOk result (λ sample. sample.time ≡ time_field (attribute_view attribute.now) (record_view «record».entry)) }
-{
-    let sample = read_fields(attribute, record)?;
-    Ok(sample)
 }

@@ -5,6 +5,9 @@ use std::alloc::{AllocError, Global};
 use std::fs;
 use std::path::PathBuf;
 
+/// The folders of files that the kernel makes up: to read one may block, end nowhere, or change something.
+const MADE_UP: [&str; 3] = ["/proc", "/sys", "/dev"];
+
 /// The size of the largest file that is read for its unwind data and names, in bytes: 4 GiB.
 const LARGEST_FILE: u64 = 0x1_0000_0000;
 
@@ -24,13 +27,22 @@ pub struct Disk<'a> {
     pub vdso: Option<&'a str>,
 }
 
-/// Reads a regular file of at most 4 GiB: a recording may name a device or a pipe, whose bytes don't end.
+/// Reads a regular file of at most 4 GiB: a recording may name a device or a pipe, whose bytes don't end. A file whose size
+/// is told as 0, as those that a kernel makes up when they are read, is not read.
 fn read_regular(rt: &HostRuntime, path: &str) -> Option<Vec<u8>> {
     let metadata = fs::metadata(rt, path).ok()?;
-    if !metadata.is_file() || metadata.len() > LARGEST_FILE {
+    if !metadata.is_file() || metadata.len() == 0 || metadata.len() > LARGEST_FILE {
         return None;
     }
     fs::read(rt, path).ok()
+}
+
+/// Returns whether a path is that of a folder, or lies below it.
+fn is_below(path: &str, folder: &str) -> bool {
+    match path.strip_prefix(folder) {
+        Some(rest) => rest.is_empty() || rest.starts_with('/') || folder.ends_with('/'),
+        None => false,
+    }
 }
 
 /// Returns the path of a build id below a folder: `.build-id/xx/yyyy`.
@@ -46,6 +58,28 @@ fn build_id_path(alloc: Global, folder: &str, build_id: &[u8]) -> Result<String,
 }
 
 impl Disk<'_> {
+    /// Reads a file that was mapped, by the path to which links and `..` lead: below the root, if one is named, and else in
+    /// none of the folders of files that the kernel makes up.
+    fn read_mapped(&self, path: &str) -> Option<Vec<u8>> {
+        let real = fs::canonicalize(self.rt, path).ok()?;
+        if self.is_allowed(real.as_str()) {
+            read_regular(self.rt, real.as_str())
+        } else {
+            None
+        }
+    }
+
+    /// Returns whether the file of a path without links may be read.
+    fn is_allowed(&self, path: &str) -> bool {
+        if self.root.is_empty() {
+            return !MADE_UP.iter().any(|folder| is_below(path, folder));
+        }
+        match fs::canonicalize(self.rt, self.root) {
+            Ok(root) => is_below(path, root.as_str()),
+            Err(_) => false,
+        }
+    }
+
     /// Returns where the file of a path of Windows is, by the path after its drive.
     fn path_below_root(&self, name: &str) -> Result<String, AllocError> {
         let mut path = String::from_str(self.rt.alloc(), self.root)?;
@@ -68,11 +102,11 @@ impl Disk<'_> {
     /// Reads the file of a path of Windows: by the path after its drive below the root, or else by its name in the root.
     fn read_windows_file(&self, name: &str) -> Option<Vec<u8>> {
         let path = self.path_below_root(name).ok()?;
-        if let Some(bytes) = read_regular(self.rt, path.as_str()) {
+        if let Some(bytes) = self.read_mapped(path.as_str()) {
             return Some(bytes);
         }
         let path = self.path_in_root(name).ok()?;
-        read_regular(self.rt, path.as_str())
+        self.read_mapped(path.as_str())
     }
 }
 
@@ -95,7 +129,7 @@ impl FileSource for Disk<'_> {
         }
         let root = self.root;
         let path = format!(in self.rt.alloc(); "{root}{name}").ok()?;
-        read_regular(self.rt, path.as_str())
+        self.read_mapped(path.as_str())
     }
 
     fn read_copied_file(&self, build_id: &[u8]) -> Option<Vec<u8>> {

@@ -126,7 +126,9 @@ type ProcessX86_64 = Process<UnwinderX86_64<Vec<u8>>>;
 
 /// Whether a process has these mappings and this greatest code address.
 fn has(process: &ProcessX86_64, expected: &[(u64, u64, u64)], greatest: u64) -> bool {
-    are(process.mappings(), expected) && process.unwinder().max_known_code_address() == greatest
+    are(process.mappings(), expected)
+        && process.unwinder().max_known_code_address() == greatest
+        && process.greatest_end() == greatest
 }
 
 /// Maps these addresses: whether the process then has these mappings and this greatest code address.

@@ -7,5 +7,5 @@ use Rattle.framehop_flame_graph.proofs.picture.draw.Goals as goal
 
 pub returns : goal.returns
 returns c =
-    let boxes = flat_map-map (drawn c.args.total c.deepest-rows.result) boxed c.args.boxes.now in
+    let boxes = flat_map-map (drawn c.args.drawing.layout c.args.total c.deepest-rows.result) boxed c.args.boxes.now in
     grind (arith, common_steps, boxes)

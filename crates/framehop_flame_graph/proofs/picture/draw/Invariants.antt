@@ -6,4 +6,4 @@ use Rattle.framehop_flame_graph.specs.Picture.{drawn, head_of}
 use Rattle.framehop_flame_graph.proofs.picture.draw.Given as goal
 
 abbrev pub invariant-loop-frame : goal.invariant-loop-frame
-invariant-loop-frame l = string_bytes l.out ≡ head_of l.rows ++ flat_map (λ frame. drawn l.total l.rows (boxed frame)) (take l.frame-index l.boxes)
+invariant-loop-frame l = string_bytes l.out ≡ head_of l.drawing.title.now l.rows l.left_out ++ flat_map (λ frame. drawn l.drawing.layout l.total l.rows (boxed frame)) (take l.frame-index l.boxes)

@@ -1,4 +1,4 @@
-use Rattle.std.proofs.Common.{◌≡◌, ◌≤◌, ◌+◌, ◌<◌, [], ◌∷◌, List, ℕ, ap, sym, subst, ◌∙◌, arith, get_or, length, map}
+use Rattle.std.proofs.Common.{◌≡◌, ◌≤◌, ◌+◌, ◌-◌, ◌<◌, [], ◌∷◌, List, ℕ, ap, sym, subst, ◌∙◌, arith, get_or, length, map}
 use Rattle.std.specs.List.{All, filter}
 use Rattle.std.specs.List.Sorted.{IsPermutation}
 use Rattle.std.proofs.lemmas.List.{get_or-map, length-map}
@@ -6,7 +6,7 @@ use Rattle.framehop_flame_graph.specs.declared.boxes.FrameBox.{FrameBox}
 use Rattle.framehop_flame_graph.specs.declared.stacks.Stack.{Stack}
 use Rattle.framehop_flame_graph.specs.Boxes.{Box, boxed, boxes_of, root_of}
 use Rattle.framehop_flame_graph.specs.Numbers.{is_shown}
-use Rattle.framehop_flame_graph.specs.Picture.{picture_of}
+use Rattle.framehop_flame_graph.specs.Picture.{picture_of, shown_of}
 use Rattle.framehop_flame_graph.specs.Stacks.{Stacked, viewed, stacks_of, total_of}
 use Rattle.framehop_flame_graph.specs.Sweep.{Rises, boxes_along}
 use Rattle.framehop_flame_graph.proofs.SweepLemmas.{prefixes_along, found, found-prefixes, boxes-within}
@@ -44,9 +44,24 @@ returns-clause-drawn c =
     let prefixes = prefixes_along [] stacks in
     let boxes = are lines c.in_ok-stacks.stacks.items c.as_slice.result.now c.as_slice-2.result.now c.in_ok-boxes.boxes.items
     c.as_slice.ensures.value c.as_slice-2.ensures.value c.in_ok-stacks.ensures.same c.in_ok-stacks.ensures.ordered c.in_ok-boxes.ensures in
-    let shown = ap (map boxed) c.as_slice-3.ensures.value ∙ c.in_ok-shown.ensures.shown ∙ ap (filter (is_shown c.in-Some.total)) boxes in (
+    let shown = ap (map boxed) c.as_slice-3.ensures.value ∙ c.in_ok-shown.ensures.shown ∙ ap (filter (is_shown c.in-Some.total)) boxes in
+    let drawing = c.args.drawing in
+    let total = c.in-Some.total in
+    let left_out : c.len.result - c.len-2.result ≡ length (boxes_of lines prefixes) - length (filter (is_shown total) (boxes_of lines prefixes)) =
+    omega (
+      arith,
+      c.len.ensures,
+      c.len-2.ensures,
+      ap length boxes,
+      ap length shown,
+      ap length c.as_slice-2.ensures.value,
+      ap length c.as_slice-3.ensures.value,
+      length-map c.as_slice-2.result.now boxed,
+      length-map c.as_slice-3.result.now boxed,
+    ) in (
       prefixes,
       found-prefixes lines stacks c.in_ok-stacks.ensures.same c.in_ok-stacks.ensures.ordered,
-      c.in_ok-draw.ensures ∙ ap (picture_of c.in-Some.total) shown
-          ∙ ap (λ total. picture_of total (filter (is_shown total) (boxes_of lines prefixes))) c.in-Some.ensures,
+      c.in_ok-draw.ensures ∙ ap (λ frames. picture_of drawing total frames (c.len.result - c.len-2.result)) shown
+          ∙ ap (picture_of drawing total (filter (is_shown total) (boxes_of lines prefixes))) left_out
+          ∙ ap (λ all. shown_of drawing all (boxes_of lines prefixes)) c.in-Some.ensures,
     )

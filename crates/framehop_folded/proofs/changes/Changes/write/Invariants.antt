@@ -1,0 +1,8 @@
+use Rattle.std.proofs.Common.{◌≡◌, ◌++◌, List, ℕ}
+use Rattle.std.specs.Io.KnownBytes.{Appends}
+use Rattle.framehop_folded.specs.Changes.{change_lines}
+use Rattle.framehop_folded.proofs.changes.Changes.write.Given as goal
+
+abbrev pub invariant-loop-stack : goal.invariant-loop-stack
+invariant-loop-stack g l = (written : List ℕ) × (written ++ change_lines l.self.old l.stack-iterator ≡ change_lines l.self.old l.self.new.counts.entries)
+    × Appends (g.W.Write.contents l.initial.out) (g.W.Write.contents l.out) written

@@ -1,0 +1,97 @@
+//! The bytes of files and of standard input, and what they are.
+use crate::messages::Messages;
+use anyhow::Result;
+use framehop_folded::text::is_text;
+use std::io::{Read, Write};
+use std::{fs, io};
+
+/// The size from which on a recording is told of before it is read, in bytes: 50 MB.
+const LARGE_RECORDING: u64 = 50_000_000;
+
+/// What a file is.
+#[derive(Clone, Copy)]
+pub enum Kind {
+    Recording,
+    Core,
+    Minidump,
+    /// Folded stacks as text.
+    Folded,
+}
+
+/// Returns what a file is, by its first bytes.
+pub fn kind_of(bytes: &[u8]) -> Kind {
+    if bytes.starts_with(b"\x7fELF") {
+        Kind::Core
+    } else if bytes.starts_with(b"MDMP") {
+        Kind::Minidump
+    } else if is_text(bytes) && !bytes.starts_with(b"PERFILE2") {
+        Kind::Folded
+    } else {
+        Kind::Recording
+    }
+}
+
+/// Reads a regular file, or standard input for `-`. Where it can't be read, says why.
+pub fn read_input(rt: &HostRuntime, path: &str) -> Result<Option<Vec<u8>>> {
+    let bytes = if path == "-" {
+        read_standard_input(rt)
+    } else {
+        match fs::metadata(rt, path) {
+            Ok(metadata) if metadata.is_file() => {
+                announce(rt, path, metadata.len())?;
+                fs::read(rt, path)
+            }
+            Ok(_) => {
+                writeln!(
+                    Messages { rt },
+                    "framehop-stacks: {path}: not a regular file; for standard input write -"
+                )?;
+                return Ok(None);
+            }
+            Err(error) => Err(error),
+        }
+    };
+    match bytes {
+        Ok(bytes) => Ok(Some(bytes)),
+        Err(error) => {
+            let name = name_of(path);
+            writeln!(Messages { rt }, "framehop-stacks: {name}: {error}")?;
+            Ok(None)
+        }
+    }
+}
+
+/// Reads standard input to its end.
+fn read_standard_input(rt: &HostRuntime) -> io::Result<Vec<u8>> {
+    let mut bytes = Vec::new(rt.alloc());
+    rt.stdin().read_to_end(&mut bytes)?;
+    Ok(bytes)
+}
+
+/// Says of a large recording that it is read, where someone sees it.
+fn announce(rt: &HostRuntime, path: &str, size: u64) -> Result<()> {
+    if size > LARGE_RECORDING && is_terminal(rt) {
+        let megabytes = size / 1_000_000;
+        writeln!(
+            Messages { rt },
+            "framehop-stacks: {path}: reading {megabytes} MB"
+        )?;
+    }
+    Ok(())
+}
+
+/// Returns whether standard error is a terminal, by where its descriptor leads.
+fn is_terminal(rt: &HostRuntime) -> bool {
+    match fs::read_link(rt, "/proc/self/fd/2") {
+        Ok(path) => {
+            let device = path.into_string();
+            device.starts_with("/dev/pts/") || device.starts_with("/dev/tty")
+        }
+        Err(_) => false,
+    }
+}
+
+/// Returns the name of what is read by a path.
+pub fn name_of(path: &str) -> &str {
+    if path == "-" { "standard input" } else { path }
+}
