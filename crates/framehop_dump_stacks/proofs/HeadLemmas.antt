@@ -24,12 +24,12 @@ or-none None = refl
 or-none (Some x) = refl
 
 some-first : {X : Type 0} (x y : Option X) → is_some x ≡ true → x ≡ option_or x y
-some-first None y is = absurd is
+some-first None y is = cc
 some-first (Some a) y is = refl
 
 none-first : {X : Type 0} (x y : Option X) → is_some x ≡ false → y ≡ option_or x y
 none-first None y is = refl
-none-first (Some a) y is = absurd is
+none-first (Some a) y is = cc
 
 map-or : {X Y : Type 0} (f : X → Y) (a b : Option X) → option_or (option_map f a) (option_map f b) ≡ option_map f (option_or a b)
 map-or f None b = refl
@@ -44,21 +44,32 @@ map-cond f true x y = refl
 map-cond f false x y = refl
 
 none-begins : {X : Type 0} (a b : Bool) (x : X) → b ≡ false → cond (a && b) (Some x) None ≡ None
-none-begins true b x no = rw no refl
-none-begins false b x no = refl
+none-begins true b x other = rw other refl
+none-begins false b x other = refl
 
 -- what is found among one more mapping
-pub head-more : (memory : MemoryView) (files : List MappedFileView) (m : MappedFileView) (path : List ℕ)
+head-more : (memory : MemoryView) (files : List MappedFileView) (m : MappedFileView) (path : List ℕ)
     → option_or (beginning_head memory files path) (beginning_head memory (m ∷ []) path) ≡ beginning_head memory (files ++ m ∷ []) path
 head-more memory files m path =
     map-or (λ mapped. file_head_of (head_at memory mapped.start)) (find (is_beginning path) files) (find (is_beginning path) (m ∷ []))
     ∙ ap (option_map (λ mapped. file_head_of (head_at memory mapped.start))) (sym (find-append (is_beginning path) files (m ∷ [])))
 
-pub files-more : (files : List MappedFile) (i : ℕ) (d : MappedFile) → i < length files
+files-more : (files : List MappedFile) (i : ℕ) (d : MappedFile) → i < length files
     → map mapped_file_view (take i files) ++ mapped_file_view (get_or files i d) ∷ [] ≡ map mapped_file_view (take (i + 1) files)
 files-more files i d within =
     sym (map-append mapped_file_view (take i files) (get_or files i d ∷ []))
     ∙ ap (map mapped_file_view) (sym (take_more files i d within))
+
+-- what is kept after one more mapping
+pub one-more-kept : (memory : MemoryView) (files : List MappedFile) (i : ℕ) (d : MappedFile) (path : List ℕ) (old new : Option FileHeadView) → i < length files
+    → new ≡ option_or old (beginning_head memory (mapped_file_view (get_or files i d) ∷ []) path)
+    → old ≡ beginning_head memory (map mapped_file_view (take i files)) path
+    → new ≡ beginning_head memory (map mapped_file_view (take (i + 1) files)) path
+one-more-kept memory files i d path old new within put is =
+    put
+    ∙ ap (λ kept. option_or kept (beginning_head memory (mapped_file_view (get_or files i d) ∷ []) path)) is
+    ∙ head-more memory (map mapped_file_view (take i files)) (mapped_file_view (get_or files i d)) path
+    ∙ ap (λ some. beginning_head memory some path) (files-more files i d within)
 
 -- what memory has of a file by what is kept for its path
 pub file-kept : (memory : MemoryView) (files : List MappedFileView) (path : List ℕ) (kept : Option FileHeadView)
@@ -72,7 +83,7 @@ file-kept memory files path kept is = rw is (by (find (is_beginning path) files)
 module _ (by_path : BTreeMap (Bor (List ℕ)) FileHead) (memory : MemoryView) (m : MappedFileView) (path : List ℕ) where
   -- a mapping that has not the first byte
   pub passed-over : nat_eq m.offset 0 ≡ false → kept_at by_path path ≡ option_or (kept_at by_path path) (beginning_head memory (m ∷ []) path)
-  passed-over no = rw no (or-none (kept_at by_path path))
+  passed-over later = rw later (or-none (kept_at by_path path))
 
   other-path : pointwise nat_eq m.path path ≡ false → beginning_head memory (m ∷ []) path ≡ None
   other-path other =

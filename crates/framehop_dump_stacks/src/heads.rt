@@ -43,7 +43,7 @@ impl<'a> HeadsByPath<'a> {
             by_path: BTreeMap::new(alloc),
         };
         for mapped in files {
-            heads.keep_beginning(alloc, memory, *mapped)?;
+            heads.keep_beginning(alloc, memory, mapped)?;
         }
         Ok(heads)
     }
@@ -95,10 +95,10 @@ impl<'a> HeadsByPath<'a> {
         &mut self,
         alloc: Global,
         memory: &ProcessMemory<'a>,
-        mapped: MappedFile<'a>,
+        mapped: &MappedFile<'a>,
     ) -> Result<(), AllocError>
         ensures { OnOk result ((path : List ℕ) → kept_at self.new.by_path path
-            ≡ option_or (kept_at self.old.by_path path) (beginning_head (memory_view memory.now) (mapped_file_view mapped.entry ∷ []) path)) }
+            ≡ option_or (kept_at self.old.by_path path) (beginning_head (memory_view memory.now) (mapped_file_view mapped.now ∷ []) path)) }
     {
         if mapped.offset != 0 {
             return Ok(());

@@ -1,22 +1,17 @@
-use Rattle.std.proofs.Common.{◌<◌, length, map, ◌∷◌, [], ap, ◌∙◌, arith}
-use Rattle.std.specs.Option.{option_or}
+use Rattle.std.proofs.Common.{◌<◌, length, map, ap, ◌∙◌, arith}
 use Rattle.std.proofs.lemmas.List.{take_all}
 use Rattle.framehop_coredump.specs.MappedFile.{mapped_file_view}
 use Rattle.framehop_memory.specs.Memory.{memory_view}
 use Rattle.framehop_dump_stacks.specs.Heads.{beginning_head}
-use Rattle.framehop_dump_stacks.proofs.HeadLemmas.{head-more, files-more}
+use Rattle.framehop_dump_stacks.proofs.HeadLemmas.{one-more-kept}
 use Rattle.framehop_dump_stacks.proofs.heads.HeadsByPath.of_files.Goals as goal
 
 pub loop-mapped-preserved : goal.loop-mapped-preserved
 loop-mapped-preserved c = λ path.
     let l = c.loop-mapped in
     let files = c.args.files.now in
-    let memory = memory_view c.args.memory.now in
     let within : l.mapped-index < length files = omega arith in
-    c.in_ok-keep_beginning.ensures path
-    ∙ ap (λ kept. option_or kept (beginning_head memory (mapped_file_view _ ∷ []) path)) (l.invariant path)
-    ∙ head-more memory _ _ path
-    ∙ ap (λ some. beginning_head memory some path) (files-more files l.mapped-index _ within)
+    one-more-kept (memory_view c.args.memory.now) files l.mapped-index _ path _ _ within (c.in_ok-keep_beginning.ensures path) (l.invariant path)
 
 pub returns : goal.returns
 returns c = λ path.
