@@ -1,10 +1,10 @@
 #!/bin/sh
 # The C interface and the Rust crate, tried: run.sh, anywhere in a clone.
 #
-# Debian packages: clang g++ valgrind python3 binutils, and libunwind-dev for the profiler's frames: LIBUNWIND has the options by which
-# it is found elsewhere. For the Rust crate cargo 1.85 or newer: Debian 12 has an older one, so take
-# it from https://rustup.rs, or from Debian 13. The kit's `rt` builds the archive; FRAMEHOP_LIB names the folders of one
-# that is built (libframehop_c.a, and the kit's liblibc_c.a), with a colon between.
+# Debian packages: clang g++ valgrind python3 binutils; elfutils and gdb for a core file of this machine; libunwind-dev for
+# the profiler's frames (LIBUNWIND has the options by which it is found elsewhere). For the Rust crate cargo 1.85 or newer:
+# Debian 12 has an older one, so take it from https://rustup.rs, or from Debian 13. The kit's `rt` builds the archive;
+# FRAMEHOP_LIB names the folders of one that is built (libframehop_c.a, and the kit's liblibc_c.a), with a colon between.
 set -eu
 top=$(cd "$(dirname "$0")/../.." && pwd)
 here="$top/bindings/test"
@@ -104,14 +104,44 @@ for language in c c++; do
 done
 echo "framehop.h: no warning"
 
-# a shared object, which Python loads
+# a shared object, whose symbols have a version, and which Python loads
 set -- $archives
 first=$1
 shift
-clang -shared -o "$work/libframehop.so" -Wl,--whole-archive "$first" -Wl,--no-whole-archive "$@"
-python3 "$here/walk.py" "$work/libframehop.so" "$top/examples/libm-walk.json" > "$work/frames"
+clang -shared -o "$work/libframehop.so.0" -Wl,-soname,libframehop.so.0 -Wl,-z,defs \
+    "-Wl,--version-script=$top/bindings/framehop.map" -Wl,--whole-archive "$first" -Wl,--no-whole-archive "$@"
+exported=$(nm -D --defined-only "$work/libframehop.so.0" | sed -n 's/.* T \(.*\)@@FRAMEHOP_0.16$/\1/p' | sort)
+declared=$(grep -oE '^(int32_t|void) framehop_\w+' "$top/bindings/include/framehop.h" | sed 's/.* //' | sort)
+[ "$exported" = "$declared" ] || { echo "libframehop.so.0 exports $exported"; exit 1; }
+[ "$(nm -D --defined-only "$work/libframehop.so.0" | grep -vc ' A ')" = "$(echo "$exported" | wc -l)" ]
+python3 "$here/walk.py" "$work/libframehop.so.0" "$top/examples/libm-walk.json" > "$work/frames"
 diff "$work/frames" "$work/expected"
 echo "walk.py: $(grep -c . "$work/frames") lines as expected"
+
+# the Python module over it: a core file of this repository as framehop-stacks has it, and one of this machine as eu-stack has it
+export FRAMEHOP_SO="$work/libframehop.so.0"
+python3 "$here/framehop_py.py" 2> "$work/errors" || { cat "$work/errors"; exit 1; }
+core() { python3 "$here/walk_core.py" "$@" > "$work/stacks"; }
+data=$top/crates/framehop_stacks_cli/data
+core --root "$data" "$data/crash.core"
+sed -n 's/^#[0-9]* 0x0*//p' "$work/stacks" > "$work/frames"
+sed -nE 's/^([0-9a-f]+) .*/\1/p' "$top/checks/stacks/crash.stacks" | diff - "$work/frames"
+echo "framehop.py: $(grep -c . "$work/frames") frames of a core file as framehop-stacks has them"
+if command -v gcore > /dev/null && command -v eu-stack > /dev/null; then
+    "$work/profiler" 1000000 > /dev/null &
+    profiled=$!
+    sleep 1
+    if gcore -o "$work/core" $profiled > "$work/gcore" 2>&1; then
+        core "$work/core.$profiled"
+        grep -v '^# ' "$work/stacks" > "$work/frames"
+        eu-stack --core="$work/core.$profiled" -e "$work/profiler" 2> /dev/null \
+            | sed -nE 's/^(TID [0-9]+:|#[0-9]+ +0x[0-9a-f]+).*/\1/p' | tr -s ' ' | diff - "$work/frames"
+        echo "framehop.py: $(grep -c '^#' "$work/frames") frames of $(grep -c '^TID' "$work/frames") threads as eu-stack has them"
+    fi
+    kill $profiled
+    wait $profiled 2> /dev/null || true
+    rm -f "$work/core.$profiled"
+fi
 
 if command -v cargo > /dev/null; then
     export CARGO_TARGET_DIR="${CARGO_TARGET_DIR:-$work/target}"
