@@ -2,6 +2,7 @@
 """Tests bindings/python/framehop.py: framehop_py.py, with the shared library in FRAMEHOP_SO. What needs a core file is in
 walk_core.py."""
 
+import gc
 import random
 import struct
 import subprocess
@@ -12,10 +13,12 @@ import unittest
 from pathlib import Path
 
 TOP = Path(__file__).resolve().parent.parent.parent
-sys.path.insert(0, str(TOP / "bindings/python"))
+sys.path[:0] = [str(TOP / "bindings/python"), str(TOP / "bindings/test")]
 import framehop
+import walk_core
 
-TINY = TOP / "crates/framehop_stacks_cli/data/srv/tiny"
+DATA = TOP / "crates/framehop_stacks_cli/data"
+TINY = DATA / "srv/tiny"
 # the stack of the example of framehop's README, from address 0 on, and its registers
 BASE = 0x1003FC000
 WORDS = [1, 2, 3, 4, 0x40, BASE + 0x100DC4, 5, 6, 0x70, BASE + 0x12CA28, 7, 8, 9, 10, 0, 0]
@@ -104,6 +107,17 @@ class Files(unittest.TestCase):
             sections = [framehop.ElfFile(Path(it).read_bytes()).section(b".debug_frame") for it in (plain, packed)]
             self.assertEqual(sections[0][2], sections[1][2])
             self.assertGreater(len(sections[0][2]), 1000)
+
+    def test_the_bytes_of_a_module_are_kept(self):
+        core = framehop.ElfFile((DATA / "crash.core").read_bytes())
+        with framehop.Unwinder() as unwinder:
+            walk_core.add_modules(unwinder, core, str(DATA))
+            # what can be freed is, and has other bytes now
+            gc.collect()
+            other = [bytes([255]) * size for size in range(1, 2000) for _ in range(20)]
+            _, registers, stack = next(walk_core.threads(core))
+            self.assertEqual(unwinder.walk(registers, stack).frames, [0x40104E, 0x40106A, 0x401110, 0x401060])
+            del other
 
     def test_damaged_files(self):
         data, chance = TINY.read_bytes(), random.Random(7)

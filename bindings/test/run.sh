@@ -122,11 +122,7 @@ echo "walk.py: $(grep -c . "$work/frames") lines as expected"
 export FRAMEHOP_SO="$work/libframehop.so.0"
 python3 "$here/framehop_py.py" 2> "$work/errors" || { cat "$work/errors"; exit 1; }
 core() { python3 "$here/walk_core.py" "$@" > "$work/stacks"; }
-data=$top/crates/framehop_stacks_cli/data
-core --root "$data" "$data/crash.core"
-sed -n 's/^#[0-9]* 0x0*//p' "$work/stacks" > "$work/frames"
-sed -nE 's/^([0-9a-f]+) .*/\1/p' "$top/checks/stacks/crash.stacks" | diff - "$work/frames"
-echo "framehop.py: $(grep -c . "$work/frames") frames of a core file as framehop-stacks has them"
+"$here/compare_core.sh"
 if command -v gcore > /dev/null && command -v eu-stack > /dev/null; then
     "$work/profiler" 1000000 > /dev/null &
     profiled=$!

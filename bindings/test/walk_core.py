@@ -56,6 +56,16 @@ def add_modules(unwinder, core, root):
                 pass  # a mapping without code, or a file that is not there
 
 
+def threads(core):
+    """The number of each thread, its registers and its stack from the stack pointer on."""
+    for kind, note in notes(core):
+        if kind == NT_PRSTATUS:
+            values = struct.unpack_from(f"<{len(REGISTERS)}Q", note, REGISTERS_OFFSET)
+            registers = {name: it for name, it in zip(REGISTERS, values) if name not in ("orig_rax", "cs", "eflags")}
+            stack = memory(core, registers["sp"] // 8 * 8, 1 << 20)
+            yield struct.unpack_from("<I", note, THREAD_OFFSET)[0], registers, stack
+
+
 def main():
     parser = argparse.ArgumentParser()
     parser.add_argument("--root", default="")
@@ -64,16 +74,13 @@ def main():
     core = framehop.ElfFile(arguments.core.read_bytes())
     with framehop.Unwinder() as unwinder:
         add_modules(unwinder, core, arguments.root)
-        for kind, note in notes(core):
-            if kind != NT_PRSTATUS:
-                continue
-            values = struct.unpack_from(f"<{len(REGISTERS)}Q", note, REGISTERS_OFFSET)
-            registers = {name: it for name, it in zip(REGISTERS, values) if name not in ("orig_rax", "cs", "eflags")}
-            print(f"TID {struct.unpack_from('<I', note, THREAD_OFFSET)[0]}:")
-            frames, end = unwinder.walk(registers, memory(core, registers["sp"] // 8 * 8, 1 << 20))
+        for number, registers, stack in threads(core):
+            print(f"TID {number}:")
+            frames, end = unwinder.walk(registers, stack)
             for number, address in enumerate(frames):
                 print(f"#{number} 0x{address:016x}")
             print(f"# {end}")
 
 
-main()
+if __name__ == "__main__":
+    main()
