@@ -50,7 +50,7 @@ FOREIGN = set("Err None Some Ok Option Result Vec u8 u16 u32 u64 usize for true 
 
 
 def documents():
-    readmes = [TOP / "README.md", TOP / "bindings/README.md", TOP / "checks/cases/README.md", TOP / "checks/edits/README.md"]
+    readmes = [TOP / "README.md", TOP / "CHANGELOG.md", TOP / "bindings/README.md", TOP / "checks/cases/README.md", TOP / "checks/edits/README.md"]
     return [*readmes, *sorted(TOP.glob("docs/*.md")), *(page for folder in MADE for page in sorted(TOP.glob(f"docs/{folder}/*.md")))]
 
 

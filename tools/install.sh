@@ -1,10 +1,11 @@
 #!/usr/bin/env bash
 # Installs what is built: install.sh PREFIX; install.sh --uninstall PREFIX.
 #
-# Into PREFIX go the programs (bin), the archive for C with the kit's shims of malloc in it (lib/libframehop.a), its header, its file for
-# pkg-config, and the licences. Nothing is written outside of PREFIX; with DESTDIR, as packagers have it, all goes below that folder
-# first. What was installed is listed in PREFIX/share/doc/framehop/files, by which it is removed again. Nothing is proved or built here:
-# what is not built yet is named, with the command that builds it, and the status is 1.
+# Into PREFIX go the programs (bin) and their manual pages (share/man/man1), the archive for C with the kit's shims of malloc in it
+# (lib/libframehop.a), its header, its file for pkg-config, the same as a shared library (lib/libframehop.so.0, by cc), the Python module
+# over that (lib/python3/dist-packages), and the licences. Nothing is written outside of PREFIX; with DESTDIR, as packagers have it, all
+# goes below that folder first. What was installed is listed in PREFIX/share/doc/framehop/files, by which it is removed again. Nothing is
+# proved or built here: what is not built yet is named, with the command that builds it, and the status is 1.
 set -eu -o pipefail
 top=$(cd "$(dirname "$(realpath -- "${BASH_SOURCE[0]}")")/.." && pwd)
 
@@ -33,11 +34,20 @@ put() {
     echo "$3" >>"$work/files"
 }
 
-# One archive of the library's and of the kit's shims of malloc.
-make_archive() {
+# The manual page of a program, which its --help says.
+put_manual() {
+    python3 "$top/tools/man.py" "$top/out/$1" | gzip -9n >"$work/$1.1.gz"
+    put 644 "$work/$1.1.gz" "share/man/man1/$1.1.gz"
+}
+
+# One archive of the library's and of the kit's shims of malloc, and a shared library of it. No file libframehop.so is installed: so
+# -lframehop is the archive, and a program that is linked by it runs anywhere.
+make_libraries() {
     local kit
     kit=$(dirname "$(dirname "$(readlink -f "$(command -v rt)")")")/c/liblibc_c.a
     (cd "$work" && printf 'create libframehop.a\naddlib %s\naddlib %s\nsave\nend\n' "$1" "$kit" | ar -M)
+    "${CC:-cc}" -shared -o "$work/libframehop.so.0" -Wl,-soname,libframehop.so.0 -Wl,-z,defs \
+        "-Wl,--version-script=$top/bindings/framehop.map" -Wl,--whole-archive "$work/libframehop.a" -Wl,--no-whole-archive
 }
 
 pkg_config() {
@@ -53,6 +63,7 @@ status=0
 for name in walk explain stacks check; do
     if [ -x "$top/out/framehop-$name" ]; then
         put 755 "$top/out/framehop-$name" "bin/framehop-$name"
+        put_manual "framehop-$name"
     else
         say "framehop-$name is not built: FRAMEHOP_BUILD=1 ./framehop-$name --help"
         status=1
@@ -60,9 +71,11 @@ for name in walk explain stacks check; do
 done
 archive=$top/crates/framehop_c/out/libframehop_c.a
 if [ -f "$archive" ] && command -v rt >/dev/null; then
-    make_archive "$archive"
+    make_libraries "$archive"
     pkg_config >"$work/framehop.pc"
     put 644 "$work/libframehop.a" lib/libframehop.a
+    put 644 "$work/libframehop.so.0" lib/libframehop.so.0
+    put 644 "$top/bindings/python/framehop.py" lib/python3/dist-packages/framehop.py
     put 644 "$top/bindings/include/framehop.h" include/framehop.h
     put 644 "$work/framehop.pc" lib/pkgconfig/framehop.pc
 else

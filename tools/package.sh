@@ -16,11 +16,12 @@ Version: $version
 Architecture: $(dpkg --print-architecture)
 Maintainer: Sevoluman maintainers <maintainers@users.noreply.sevoluman.example>
 Depends: libc6
+Suggests: python3
 Section: devel
 Priority: optional
 Description: A stack frame unwinder for profilers and crash readers
  Folded stacks and flame graphs of recordings by perf, the stacks of core files
  and minidumps, where each frame came from, and unwind data checked against
- code; with an archive for C.
+ code; with an archive for C and a module for Python.
 CONTROL
 dpkg-deb --root-owner-group --build "$work" "$folder/framehop_${version}_$(dpkg --print-architecture).deb"

@@ -22,6 +22,12 @@
 #include <stddef.h>
 #include <stdint.h>
 
+/* The version of this header, of the archive and of the shared library that it goes with. */
+#define FRAMEHOP_VERSION "0.16.0"
+#define FRAMEHOP_VERSION_MAJOR 0
+#define FRAMEHOP_VERSION_MINOR 16
+#define FRAMEHOP_VERSION_PATCH 0
+
 #ifdef __cplusplus
 extern "C" {
 #endif

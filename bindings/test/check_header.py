@@ -3,8 +3,9 @@
 bindings/rust/src/raw.rs with the header.
 
 Each export must be declared with the same parameters in the same order, each struct must have the same fields, and each
-number the same value. The offsets that raw.rs asserts are asserted of the header by a C compiler. It prints what differs,
-and fails then.
+number the same value. The offsets that raw.rs asserts are asserted of the header by a C compiler. What a version promises
+(docs/VERSIONS.md) is compared with the header: all that header_0.16.txt has, which `--print` prints of the header. And all that
+has a version says the same one. It prints what differs, and fails then.
 """
 
 import re
@@ -16,6 +17,8 @@ TOP = Path(__file__).resolve().parent.parent.parent
 SOURCES = sorted((TOP / "crates/framehop_c/src").rglob("*.rt"))
 HEADER = TOP / "bindings/include/framehop.h"
 RUST = TOP / "bindings/rust/src"
+PROMISE = TOP / "bindings/test/header_0.16.txt"
+PARTS = ("MAJOR", "MINOR", "PATCH")
 
 # a type of the sources as the header writes it; a slice is two parameters
 TYPES = {
@@ -212,9 +215,52 @@ def wrong_in_rust(functions, found, values):
     return wrong
 
 
+def promised(functions, found, values):
+    """The lines that a version promises: functions, structs and numbers."""
+    calls = [f"{result} {name}({', '.join(kinds)})" for name, (kinds, result) in functions.items()]
+    kinds = [f"{name} {{ {'; '.join(f'{kind} {field}' for field, kind in it)} }}" for name, it in found.items()]
+    return calls + kinds + [f"{name} = {value}" for name, value in values.items()]
+
+
+def versions():
+    """The version of each part, by the file that says it; those of the programs are apart."""
+    def said(file, pattern):
+        match = re.search(pattern, (TOP / file).read_text(), re.M)
+        return match[1] if match else "none"
+
+    numbers = {part: said("bindings/include/framehop.h", rf"^#define FRAMEHOP_VERSION_{part} (\d+)$") for part in PARTS}
+    library = {
+        "bindings/rust/Cargo.toml": said("bindings/rust/Cargo.toml", r'^version = "(.*)"$'),
+        "bindings/include/framehop.h": said("bindings/include/framehop.h", r'^#define FRAMEHOP_VERSION "(.*)"$'),
+        "its three numbers": ".".join(numbers.values()),
+        "bindings/python/framehop.py": said("bindings/python/framehop.py", r'^__version__ = "(.*)"$'),
+        "CHANGELOG.md": said("CHANGELOG.md", r"^## ([\d.]+)"),
+        "bindings/framehop.map": said("bindings/framehop.map", r"^FRAMEHOP_(\S+) \{$") + "." + numbers["PATCH"],
+    }
+    programs = {"CHANGELOG.md": said("CHANGELOG.md", r"^Programs: ([\d.]+\d)")}
+    for source in sorted(TOP.glob("crates/*_cli/src/*.rt")):
+        name = str(source.relative_to(TOP))
+        if '.version("' in source.read_text():
+            programs[name] = said(name, r'\.version\("(.*)"\)')
+    return library, programs
+
+
+def wrong_in_versions(functions, found, values):
+    """What an earlier header of this version promised and this one has not, and versions that differ."""
+    has = set(promised(functions, found, values))
+    wrong = [f"promised by {PROMISE.name}: {line}" for line in PROMISE.read_text().splitlines() if line not in has]
+    for files in versions():
+        if len(set(files.values())) != 1:
+            wrong.append("versions differ: " + ", ".join(f"{version} in {file}" for file, version in files.items()))
+    return wrong
+
+
 def main():
     functions, found, values = header()
-    wrong = wrong_in_rust(functions, found, values)
+    if sys.argv[1:] == ["--print"]:
+        print("\n".join(promised(functions, found, values)))
+        return
+    wrong = wrong_in_rust(functions, found, values) + wrong_in_versions(functions, found, values)
     here = {name: ([tidy(kind) for kind in kinds], result) for name, (kinds, result) in exports().items()}
     for name in sorted(set(here) | set(functions)):
         if here.get(name) != functions.get(name):

@@ -1,5 +1,5 @@
 #!/usr/bin/env python3
-"""Plants wrong bodies in the header, raw.rs and the crate, one at a time in a copy, and asks that a test fails each time.
+"""Plants wrong bodies in the header, raw.rs, the crate and the Python module, one at a time in a copy, and asks that a test fails each time.
 
 It needs FRAMEHOP_LIB and cargo, as run.sh does. A plant that no test notices is printed, and the status is 1 then.
 """
@@ -13,7 +13,7 @@ import tempfile
 from pathlib import Path
 
 TOP = Path(__file__).resolve().parent.parent.parent
-HEADER, RAW, CRATE = "include/framehop.h", "rust/src/raw.rs", "rust/src/"
+HEADER, RAW, CRATE, PYTHON = "include/framehop.h", "rust/src/raw.rs", "rust/src/", "python/framehop.py"
 # what is wrong, the file, the text, and what is planted in its place (each time that it occurs)
 PLANTS = [
     ("two fields of sections exchanged in raw.rs", RAW, "    pub text: Section,\n    pub stubs: Section,",
@@ -78,6 +78,20 @@ PLANTS = [
     ("C: frames are written over", HEADER, "frames + count, frame_capacity - count", "frames + 1, frame_capacity - count"),
     ("C: a status has another text", HEADER, '"Return address is null"', '"Return address is 0"'),
     ("C: a field of a section moved", HEADER, "    uint64_t svma_start;\n    uint64_t svma_end;", "    uint64_t svma_end;\n    uint64_t svma_start;"),
+    ("registers of x86_64 exchanged in Python", PYTHON, "rsi rdi bp sp r8", "rsi rdi sp bp r8"),
+    ("registers of aarch64 exchanged in Python", PYTHON, '"lr_mask lr sp fp"', '"lr_mask lr fp sp"'),
+    ("sections exchanged in Python", PYTHON, "eh_frame eh_frame_hdr debug_frame text_segment", "eh_frame_hdr eh_frame debug_frame text_segment"),
+    ("the base without the segment's offset", PYTHON, "start - offset - svma + segment_offset", "start - offset - svma"),
+    ("code of the first segment only", PYTHON, "if it[0] == 1 and it[1] & 1]", "if it[0] == 1]"),
+    ("sections without a range", PYTHON, "len(kept[-1]), True, has_bytes", "len(kept[-1]), False, has_bytes"),
+    ("a compressed section as it is", PYTHON, "if flags & 0x800:", "if False:"),
+    ("a counted stack without its last word", PYTHON, "(c_uint64 * len(words))(*words), len(words))", "(c_uint64 * len(words))(*words), len(words) - 9)"),
+    ("an unwinder on another thread", PYTHON, "if threading.get_ident() != self._thread:", "if False:"),
+    ("a closed unwinder", PYTHON, "        if not self._handles:\n            raise", "        if False:\n            raise"),
+    ("all bits of a pointer are its address", PYTHON, '{"lr_mask": 2**64 - 1, **registers}', '{**registers, "lr_mask": 2**64 - 1}'),
+    ("the root is the limit", PYTHON, 'END: "root"', 'END: "limit"'),
+    ("bytes of sections that are not kept", PYTHON, "        kept.append((c_uint8", "        kept = [None]\n        kept.append((c_uint8"),
+    ("another version in Python", PYTHON, '__version__ = "0.16.0"', '__version__ = "0.16.1"'),
 ]
 
 
@@ -95,14 +109,18 @@ def checks(top, target):
     yield ["cargo", "build", "--offline", "--quiet", "--example", "cases"]
     for mode in ("callback", "chunks", "window"):
         yield ["python3", here / "cases.py", "rust", mode, example]
+    library, whole = target / "libframehop.so.0", ["-Wl,--whole-archive", archives[0], "-Wl,--no-whole-archive"]
+    yield ["clang", "-shared", "-o", library, *whole, *archives[1:]]
+    yield ["env", f"FRAMEHOP_SO={library}", "python3", here / "framehop_py.py"]
+    yield ["env", f"FRAMEHOP_SO={library}", "sh", here / "compare_core.sh"]
 
 
 def is_noticed(top, target, file):
     environment = {**os.environ, "CARGO_TARGET_DIR": str(target), "RUST_BACKTRACE": "0"}
     for command in checks(top, target):
         words = [str(part).split("/")[-1] for part in command]
-        is_rust = "cargo" in words or "rust" in words
-        if "check_header.py" not in words and is_rust != file.startswith("rust"):
+        language = "rust" if "cargo" in words or "rust" in words else "python" if "env" in words or "-shared" in words else "include"
+        if "check_header.py" not in words and language != file.split("/")[0]:
             continue
         # a plant may make a loop endless: then all that the check has started is ended
         running = subprocess.Popen(command, cwd=top / "bindings/rust", env=environment, stdout=subprocess.DEVNULL,
@@ -123,7 +141,7 @@ def main():
     with tempfile.TemporaryDirectory() as folder:
         top = Path(folder) / "top"
         top.mkdir()
-        for name in ("crates", "checks", "examples", "crates.txt"):
+        for name in ("crates", "checks", "examples", "crates.txt", "CHANGELOG.md"):
             (top / name).symlink_to(TOP / name)
         target = Path(folder) / "target"
         target.mkdir()
