@@ -211,8 +211,8 @@ def frames_here(program, core, root, limit):
         lines = block.strip("\n").split("\n")
         if len(lines) < 2:
             continue
-        tid = int(re.search(r"(\d+)(?: signal \d+)?:$", lines[0])[1])
-        threads[tid] = ([it.split(" ")[0] for it in lines[1:-1]], lines[-1])
+        tid = int(re.search(r"(\d+)(?: crashed by .*)?:$", lines[0])[1])
+        threads[tid] = ([it.split(" ")[1] for it in lines[1:-1]], lines[-1])
     return threads, ran
 
 

@@ -50,6 +50,21 @@ count() {
     failed=1
 }
 
+# Compares the heads of the blocks of a dump: heads DUMP HEAD..
+heads() {
+    local dump=$1
+    shift
+    printf '%s\n' "$@" >"$work/heads"
+    (cd "$data" && "$program" --root . "$dumps/$dump" 2>"$work/err") | grep ':$' | cmp -s - "$work/heads" && return
+    echo "$program: other heads of $dump than $*: $(cat "$work/err")" >&2
+    failed=1
+}
+
+# A dump that is refused: refused DUMP WHY
+refused() {
+    try_in "$data" 1 "$work/nothing" "$(said "$dumps/$1: $2")" "$dumps/$1"
+}
+
 # The same in the folder of the stored files.
 try() {
     try_in "$data" "$@"
@@ -84,10 +99,26 @@ said() {
     echo "$work/said"
 }
 
+# A file of lines: lines LINE..
+lines() {
+    printf '%s\n' "$@" >"$work/lines"
+    echo "$work/lines"
+}
+
+# Compares the JSON of a dump with its blocks: reported DUMP
+reported() {
+    (cd "$data" && "$program" --root . "$1" 2>"$work/err" >"$work/blocks" && "$program" --root . --json "$1" 2>"$work/err" >"$work/json") &&
+        python3 "$checks/stacks/blocks_of_json.py" <"$work/json" | cmp -s - "$work/blocks" && return
+    echo "$program: the JSON of $1 has other stacks than its blocks: $(cat "$work/err")" >&2
+    failed=1
+}
+
 # The recordings that no machine made, and what is printed of the large ones.
 made=$work/made
 mkdir "$made" || exit 1
-for case in cut short_comm short_fork lost files lines long build_ids; do
+dumps=$work/dumps
+mkdir "$dumps" && python3 "$checks/stacks/made_up_dumps.py" "$data" "$dumps" || exit 1
+for case in cut short_comm short_fork lost files lines long build_ids chains kernel full events; do
     python3 "$checks/stacks/made_up_recording.py" "$made/$case.data" "$case" || exit 1
 done
 python3 - "$work" <<'END' || exit 1
@@ -142,6 +173,34 @@ fill="rgb(230,191,191)"
 fill="rgb(230,90,90)"
 END
 
+awk 'BEGIN { RS = ""; ORS = "\n\n" } /^small.exe/' "$data/../stdout" >"$work/wow64.blocks"
+# Call chains, frames of the kernel by their symbols, copies of stacks that are full, and samples of two events, each 10 nanoseconds after
+# the one before it.
+printf 'ffff800000010000 T one\nffff800000020000 t two\t[module]\nffff800000020001 d data\n0000000000000000 T zero\nno symbol\n' >"$work/kallsyms"
+printf '0000000000000000 T zero\n' >"$work/hidden"
+whole='app;[frame-pointer-0];app+0x1203;app+0x1124'
+chain='app;[callchain];app+0x12ff;app+0x1203;app+0x1124'
+printf '%s\n' "$chain 2" 'app;[no-user-stack] 2' >"$work/chains.folded"
+printf '%s\n' 'app;[callchain];[not-sure];app+0x1124 2' 'app;[no-user-stack] 2' >"$work/chains.sure"
+printf '%s\n' "$chain 1" "$chain;two_[k];one_[k] 1" 'app;[no-user-stack] 1' 'app;[no-user-stack];two_[k];one_[k] 1' >"$work/chains.kernel"
+printf '%s\n' "$whole 2" >"$work/kernel.folded"
+printf '%s\n' "$whole 1" "$whole;0xffff7fffffffffff_[k];two_[k];two_[k] 1" >"$work/kernel.named"
+printf '%s\n' "$whole 1" "$whole;0xffff7fffffffffff_[k];0xffff800000020001_[k];0xffff800000020000_[k] 1" >"$work/kernel.unnamed"
+printf '%s\n' 'app 100/100 10:' 'ffff800000020000 two+0x0 ([kernel])' 'ffff800000020001 two+0x1 ([kernel])' 'ffff7fffffffffff [unknown] ([kernel])' \
+    '10124 [unknown] (/srv/app+0x1124)' '10204 [unknown] (/srv/app+0x1203) [frame-pointer]' '[frame-pointer-0]' '' >"$work/kernel.block"
+printf '%s\n' 'app 100/100 20:' '10124 [unknown] (/srv/app+0x1124)' '10204 [unknown] (/srv/app+0x1203) [frame-pointer]' '10300 [unknown] (/srv/app+0x12ff) [frame-pointer]' \
+    '[callchain]' '' >"$work/chains.block"
+printf '%s\n' "app;[could-not-read-stack];app+0x12ff;app+0x1203;app+0x1124 1" "$whole 1" >"$work/full.folded"
+printf '%s\n' "/srv/app: can't be read" '2 samples, 0 records lost by the kernel' '2 samples with frames that no unwind data tells' 'how the stacks ended:' \
+    'could-not-read-stack 1' 'frame-pointer-0 1' '1 samples end where the copy of their stack does: perf record --call-graph dwarf,65528 copies more' >"$work/full.errors"
+printf '%s\n' "$whole 1" >"$work/first"
+printf '%s\n' 'app;[frame-pointer-0];app+0x1203;app+0x1128 2' >"$work/later"
+printf '%s\n' "$whole 1" 'app;[frame-pointer-0];app+0x1203;app+0x1128 2' >"$work/all"
+printf '%s\n' 'app-200/200;[frame-pointer-0];app+0x1203;app+0x1124 1' 'other-200/200;[no-caller];[unknown] 1' >"$work/threads"
+printf '%s\n' 'other;[no-caller];[unknown] 1' >"$work/other.folded"
+printf '\037\213\010' >"$work/gzip.data"
+mkdir -p "$work/by-threads" && : >"$work/by-threads/data" && : >"$work/by-threads/data.0"
+
 for program in "$@"; do
     [ -x "$program" ] || continue
     program=$(realpath -- "$program")
@@ -149,6 +208,9 @@ for program in "$@"; do
     try 0 "$checks/stacks/tiny.limit" "$work/limit.summary" --root . --limit 3 tiny.data
     try 0 "$checks/stacks/crash.stacks" any --root . crash.core
     try 0 "$checks/stacks/crash.missing" any --root srv crash.core
+    try 0 "$checks/stacks/crash.stacks" any --root srv --root . crash.core
+    try 0 "$checks/stacks/crash.stacks" any --root srv --exec usr/local/bin/crash crash.core
+    try 0 "$checks/stacks/crash.missing" any --root srv --exec srv/tiny crash.core
     try 0 "$checks/stacks/crash.missing" any --root "$work/other" crash.core
     try 0 "$checks/stacks/crash.missing" any --root "$work/leads-out" crash.core
     try 0 "$checks/stacks/crash.stacks" any --root "$work/leads-in" crash.core
@@ -170,6 +232,41 @@ for program in "$@"; do
     try 0 "$checks/stacks/minidump.limit" any --root . --limit 1 crash.dmp
     try 0 "$checks/stacks/minidump.explained" any --root . --explain crash.dmp
     try 1 "$work/nothing" any "$work/short.dmp"
+    # what ended the process, and its threads: as gdb's $_siginfo has the stored core files, and worked out by hand of those that are
+    # changed
+    heads kill.core "crash 32706/32706 crashed by SIGSEGV (SI_USER from process 4711):" "crash 32706/32707:"
+    heads queue.core "crash 32706/32706 crashed by SIGQUIT (SI_QUEUE from process 4711):" "crash 32706/32707:"
+    heads kernel.core "crash 32706/32706 crashed by SIGSEGV (SI_KERNEL):" "crash 32706/32707:"
+    heads fault.core "crash 32706/32706 crashed by SIGBUS (BUS_ADRERR at 0x7f0000001000):" "crash 32706/32707:"
+    heads timer.core "crash 32706/32706 crashed by signal 34 (SI_TIMER):" "crash 32706/32707:"
+    heads unknown.core "crash 32706/32706 crashed by SIGSEGV (code 77 at 0x1234):" "crash 32706/32707:"
+    heads abort.dmp "crash 31455/31455 crashed by SIGABRT (SI_TKILL from process 31455):" "crash 31455/31458:"
+    heads fault.dmp "crash 31455/31455 crashed by SIGSEGV (SEGV_MAPERR at 0x10):" "crash 31455/31458:"
+    heads names.dmp 'small.exe 32/284 "writer" crashed by EXCEPTION_ACCESS_VIOLATION (write of 0x0):' 'small.exe 32/244 "UI thread":' 'small.exe 32/248 "größe\x1b[31m":' "small.exe 32/252:"
+    heads read.dmp "small.exe 32/244 crashed by EXCEPTION_IN_PAGE_ERROR (execution of 0xdead0000):" "small.exe 32/248:" "small.exe 32/252:" "small.exe 32/284:"
+    heads breakpoint.dmp "small.exe 32/244 crashed by EXCEPTION_BREAKPOINT (at 0x1400010a8):" "small.exe 32/248:" "small.exe 32/252:" "small.exe 32/284:"
+    heads other.dmp "small.exe 32/244 crashed by exception 0xe06d7363 (at 0x1400010a8):" "small.exe 32/248:" "small.exe 32/252:" "small.exe 32/284:"
+    refused freebsd.core "a core file of FreeBSD: the note at offset 120; only those of Linux are read"
+    refused netbsd.core "a core file of NetBSD: the note at offset 120; only those of Linux are read"
+    refused openbsd.core "a core file of OpenBSD: the note at offset 120; only those of Linux are read"
+    refused nothing.core "a core file without threads"
+    refused none.dmp "a minidump without threads"
+    refused shared.dmp "names that share bytes: offset 21924"
+    # what was missing, after the stacks
+    try 0 "$checks/stacks/crash.stacks" "$work/nothing" --root . crash.core
+    try 0 "$checks/stacks/crash.missing" "$(lines "/usr/local/bin/crash: can't be read")" --root srv crash.core
+    try 0 "$checks/stacks/crash.stacks" "$(lines "the core file is cut short: it has 59392 of 61440 bytes")" --root . "$dumps/cut.core"
+    try 0 "$work/wow64.blocks" "$(lines "a 32-bit process of Windows (wow64): the stacks are its 64-bit ones, on which calls of the system run" "C:\judges\small.exe: no names of functions" "C:\Windows\System32\WoW64.dll: can't be read")" --root . "$dumps/wow64.dmp"
+    # JSON: the frames of the blocks, and wrong usage
+    reported crash.core
+    reported unlinked.core
+    reported crash.dmp
+    reported made-up.dmp
+    reported small.dmp
+    reported "$dumps/names.dmp"
+    try 2 "$work/nothing" "$(said "tiny.data: only core files and minidumps are printed as JSON")" --root . --json tiny.data
+    try 2 "$work/nothing" "$(said "only folded stacks are drawn and compared, and no JSON")" --json --svg crash.core
+    try 2 "$work/nothing" "$(said "JSON has all frames, and no notes")" --json --explain crash.core
     try 2 "$work/nothing" any
     try 2 "$work/nothing" "$(said "the limit is no number")" --limit many tiny.data
     try 0 "$checks/stacks/tiny.explained" "$work/tiny.summary" --root . --explain tiny.data
@@ -223,6 +320,49 @@ for program in "$@"; do
     try_in "$made" 0 "$work/lines.folded" "$work/lines.errors" --root . lines.data
     try_in "$made" 0 "$work/long.folded" "$work/long.errors" --root . long.data
     try_in "$made" 0 "$work/build_ids.folded" "$work/build_ids.errors" --root . build_ids.data
+    try_in "$made" 0 "$work/chains.folded" any chains.data
+    try_in "$made" 0 "$work/chains.sure" any --sure chains.data
+    try_in "$made" 0 "$work/chains.kernel" any --kernel --kallsyms "$work/kallsyms" chains.data
+    try_in "$made" 0 "$work/chains.block" any --frames --time 0.00000002,0.000000029 chains.data
+    try_in "$made" 0 "$work/kernel.folded" any kernel.data
+    try_in "$made" 0 "$work/kernel.named" any --kernel --kallsyms "$work/kallsyms" kernel.data
+    try_in "$made" 0 "$work/kernel.unnamed" any --kernel kernel.data
+    try_in "$made" 0 "$work/kernel.block" any --kernel --kallsyms "$work/kallsyms" --frames --time ,0.00000001 kernel.data
+    try_in "$made" 0 "$work/full.folded" "$work/full.errors" full.data
+    # the samples of an event, of a time, of a thread
+    try_in "$made" 0 "$work/all" any events.data
+    try_in "$made" 0 "$work/first" any --event cycles events.data
+    try_in "$made" 0 "$work/later" any --event 1 events.data
+    try_in "$made" 0 "$work/all" any --event cycles --event task-clock events.data
+    try_in "$made" 1 "$work/nothing" "$(said "events.data: no event 2; the events are 0 cycles, 1 task-clock")" --event 2 events.data
+    try_in "$made" 0 "$work/first" any --time ,0.00000001 events.data
+    try_in "$made" 0 "$work/later" any --time 0.00000002, events.data
+    try_in "$made" 0 "$work/nothing" any --time 0.000000021,0.000000029 events.data
+    try_in "$made" 0 "$work/nothing" any --tid 101 events.data
+    try_in "$made" 0 "$work/all" any --pid 7 --pid 100 --tid 100 --comm app events.data
+    try_in "$made" 0 "$work/nothing" any --pid 100 --comm ap events.data
+    try 0 "$work/threads" any --by-thread --pid 200 made-up.data
+    try 0 "$work/other.folded" any --comm other made-up.data
+    try 2 "$work/nothing" "$(said "a process or a thread is no number, or the times are not FROM,TO in seconds")" --time 1.5 made-up.data
+    try 2 "$work/nothing" "$(said "a process or a thread is no number, or the times are not FROM,TO in seconds")" --pid x made-up.data
+    try 2 "$work/nothing" "$(said "each block tells its thread")" --by-thread --frames made-up.data
+    try 2 "$work/nothing" "$(said "frames of the kernel are not explained")" --kernel --explain made-up.data
+    try 2 "$work/nothing" any --kallsyms "$work/kallsyms" made-up.data
+    try 1 "$work/nothing" "$(said "$work/hidden: it has no function with an address; /proc/kallsyms tells them to root")" --kernel --kallsyms "$work/hidden" made-up.data
+    try 1 "$work/nothing" "$(said "$work/gzip.data: a compressed file; gzip -d makes one that can be read")" "$work/gzip.data"
+    try 1 "$work/nothing" "$(said "$work/by-threads: a recording of perf record --threads, which is not read; without --threads perf writes one file")" "$work/by-threads"
+    # the file of speedscope has the folded stacks
+    "$program" --speedscope --title 'a "b"' "$checks/stacks/both.folded" >"$work/out"
+    python3 - "$work/out" <<'END' | LC_ALL=C sort | cmp - "$checks/stacks/both.folded" || { echo "$program --speedscope: other stacks" >&2; failed=1; }
+import json, sys
+
+file = json.load(open(sys.argv[1]))
+names, (profile,) = [frame["name"] for frame in file["shared"]["frames"]], file["profiles"]
+assert len(set(names)) == len(names) and profile["type"] == "sampled" and profile["unit"] == "none"
+assert profile["startValue"] == 0 and profile["endValue"] == sum(profile["weights"]) and file["name"] == profile["name"] == 'a "b"'
+for stack, count in zip(profile["samples"], profile["weights"], strict=True):
+    print(";".join(names[number] for number in stack), count)
+END
 done
 [ "$failed" = 0 ] || exit 1
 echo "the runs of framehop-stacks with arguments are as they should be"

@@ -1,7 +1,7 @@
 #!/usr/bin/env bash
 # Installs what is built: install.sh PREFIX; install.sh --uninstall PREFIX.
 #
-# Into PREFIX go the programs (bin) and their manual pages (share/man/man1), the archive for C with the kit's shims of malloc in it
+# Into PREFIX go the programs (bin) and their manual pages (share/man/man1), what framehop-stacks is made of (lib/framehop), the archive for C with the kit's shims of malloc in it
 # (lib/libframehop.a), its header, its file for pkg-config, the same as a shared library (lib/libframehop.so.0, by cc), the Python module
 # over that (lib/python3/dist-packages), and the licences. Nothing is written outside of PREFIX; with DESTDIR, as packagers have it, all
 # goes below that folder first. What was installed is listed in PREFIX/share/doc/framehop/files, by which it is removed again. Nothing is
@@ -25,7 +25,7 @@ remove() {
     [ -f "$list" ] || { say "there is no $list: nothing was installed there"; exit 1; }
     while read -r file; do rm -f -- "$root/$file"; done <"$list"
     rm -f -- "$list"
-    find "$root/share/doc/framehop" -maxdepth 0 -empty -delete
+    find "$root/share/doc/framehop" "$root/lib/framehop" -maxdepth 0 -empty -delete 2>/dev/null || true
 }
 
 # Installs a file under its name in PREFIX, with these permissions.
@@ -38,6 +38,22 @@ put() {
 put_manual() {
     python3 "$top/tools/man.py" "$top/out/$1" | gzip -9n >"$work/$1.1.gz"
     put 644 "$work/$1.1.gz" "share/man/man1/$1.1.gz"
+}
+
+# framehop-stacks is a script that starts the program: with --demangle by way of c++filt, which the program can't start itself.
+put_stacks() {
+    cat >"$work/framehop-stacks" <<'SCRIPT'
+#!/bin/sh
+# Starts framehop-stacks; with --demangle c++filt reads its stacks.
+folder=$(dirname -- "$(realpath -- "$0")")/../lib/framehop
+for argument; do
+    [ "$argument" != --demangle ] || exec "$folder/demangle.sh" "$folder/framehop-stacks" "$@"
+done
+exec "$folder/framehop-stacks" "$@"
+SCRIPT
+    put 755 "$work/framehop-stacks" bin/framehop-stacks
+    put 755 "$top/out/framehop-stacks" lib/framehop/framehop-stacks
+    put 755 "$top/tools/demangle.sh" lib/framehop/demangle.sh
 }
 
 # One archive of the library's and of the kit's shims of malloc, and a shared library of it. No file libframehop.so is installed: so
@@ -62,7 +78,10 @@ trap 'rm -rf "$work"' EXIT
 status=0
 for name in walk explain stacks check; do
     if [ -x "$top/out/framehop-$name" ]; then
-        put 755 "$top/out/framehop-$name" "bin/framehop-$name"
+        case $name in
+        stacks) put_stacks ;;
+        *) put 755 "$top/out/framehop-$name" "bin/framehop-$name" ;;
+        esac
         put_manual "framehop-$name"
     else
         say "framehop-$name is not built: FRAMEHOP_BUILD=1 ./framehop-$name --help"

@@ -3,7 +3,7 @@
 #
 # A built program that is newer than all sources is started. Otherwise
 # 1. the program is interpreted by `rt try`, not yet proved, and its output is printed at once;
-# 2. each crate is proved, and the program is built;
+# 2. each crate is proved, and the program is built, with the commit in its version (tools/stamp.sh);
 # 3. the built program runs on the same input, and its output is compared with the first: status 3 where they differ.
 # Where the interpreted program refuses its input (a status that is not 0, and no output), that is all: nothing is proved for it. After an
 # interrupt, which ends all proofs that run, the next run proves what is left.
@@ -56,6 +56,8 @@ interpret() {
     ended=$(sed -n 's/^run=ended status=\([0-9]*\).*/\1/p' "$work/messages")
     [ -n "$ended" ] || return 1
     echo "$ended" >"$work/status"
+    # the commit, which the built program has
+    [ "$*" != --version ] || "$top/tools/stamp.sh" "$work/tried" || return 1
     cat "$work/tried"
     grep -vE '^(checked|run)[:=]' "$work/messages" >&2
     return 0
@@ -224,7 +226,7 @@ build() {
         failed "$program"
         return 1
     fi
-    cp "$top/crates/$program/out/$program" "$built.new" && touch -r "$work/start" "$built.new" && mv "$built.new" "$built"
+    cp "$top/crates/$program/out/$program" "$built.new" && "$top/tools/stamp.sh" "$built.new" && touch -r "$work/start" "$built.new" && mv "$built.new" "$built"
 }
 
 if is_current && [ "${FRAMEHOP_TRY:-}" != 1 ]; then exec "$built" "$@"; fi

@@ -27,6 +27,7 @@
 #define FRAMEHOP_VERSION_MAJOR 0
 #define FRAMEHOP_VERSION_MINOR 16
 #define FRAMEHOP_VERSION_PATCH 0
+#define FRAMEHOP_VERSION_NUMBER 1600 /* 10000 * major + 100 * minor + patch */
 
 #ifdef __cplusplus
 extern "C" {
@@ -46,6 +47,15 @@ enum {
     FRAMEHOP_DID_NOT_ADVANCE = -12,       /* the step would give the same frame again */
     FRAMEHOP_INTEGER_OVERFLOW = -13,      /* a stack pointer or stack address does not fit 64 bits */
     FRAMEHOP_RETURN_ADDRESS_IS_NULL = -14 /* a frame has the return address 0 */
+};
+
+/* How a lookup of the cache has ended. */
+enum {
+    FRAMEHOP_NO_LOOKUP = 0,             /* none was made, or its count is UINT64_MAX */
+    FRAMEHOP_LOOKUP_HIT = 1,            /* the frame's rule is in the cache */
+    FRAMEHOP_LOOKUP_EMPTY_SLOT = 2,     /* it is not, and there was room for it */
+    FRAMEHOP_LOOKUP_WRONG_MODULES = 3,  /* it is not, and in its place were rules of other modules */
+    FRAMEHOP_LOOKUP_WRONG_ADDRESS = 4   /* it is not, and in its place were rules of other addresses */
 };
 
 /* A status as text, for a reader. What no call returns is "Unknown status". */
@@ -154,11 +164,36 @@ typedef struct {
     bool has_missing;
 } framehop_step;
 
+/* The AVMAs of the stack words that a step will ask for first, as far as they are known before one is read: count is 0, 1
+ * or 2, and what is beyond it is 0. Where the first can't be read, the step does not ask for the second. `lookup` is how the
+ * lookup of the step's rule has ended: with FRAMEHOP_LOOKUP_HIT no rule reads a word before these, and only one that pops
+ * registers reads more than two. */
+typedef struct {
+    uint64_t first;
+    uint64_t second;
+    uint32_t count;
+    int32_t lookup;
+} framehop_ahead;
+
+/* What a call for the next frame returned: the return address (AVMA) after FRAMEHOP_OK, and then the words that the step
+ * from that frame will ask for; the AVMA of the stack word that could not be read, after FRAMEHOP_COULD_NOT_READ_STACK, or
+ * that is missing, after FRAMEHOP_MISSING_WORD; each 0 after another status; and how the lookup of the rule has ended by
+ * which the frame was found. */
+typedef struct {
+    uint64_t return_address;
+    uint64_t unreadable;
+    framehop_ahead ahead;
+    int32_t lookup;
+} framehop_next;
+
 /* How many lookups hit and missed: one lookup for each call that unwinds a frame, so a frame that is unwound again for
  * a missing word counts again. The counts stop at UINT64_MAX. */
 typedef struct {
     uint64_t hit_count, miss_empty_slot_count, miss_wrong_modules_count, miss_wrong_address_count;
 } framehop_cache_stats;
+
+/* The version of the archive, or of the shared library, as FRAMEHOP_VERSION_NUMBER has that of the header. */
+uint32_t framehop_version(void);
 
 /* Makes a counter of generations. One is enough for a thread. A cache serves the unwinders of one counter: with those of
  * another, a walk may find frames that were stored for other modules. */
@@ -196,6 +231,14 @@ void framehop_free(framehop_handle handle);
  *                   window tells: the registers are those of the last frame that is written, or as before. Add a window
  *                   that has the word, or one without words if it can't be read, and walk on from that frame.
  *
+ * ..._next_frame    the frame that called the one at an address: writes its return address, and the registers become its
+ *                   own. FRAMEHOP_MISSING_WORD and the other statuses are those of ..._walk_on, and leave the registers,
+ *                   but for FRAMEHOP_RETURN_ADDRESS_IS_NULL. It also tells the words that the step from the frame that it
+ *                   has found will ask for: who reads words by a callback reads these, in their order, and lends them to
+ *                   the next call. So a frame takes one call, but for the first one, one that is not in the cache, and
+ *                   one whose rule pops registers. The lookups of the words that are told count too: one, or two with
+ *                   FRAMEHOP_LOOKUP_HIT and a word.
+ *
  * Which address counts: pc, or address, says which module and which unwind data a frame has. registers.ip of x86_64
  * does not: it is only compared, to tell a step that gives the same frame again. Give both the same value.
  *
@@ -221,6 +264,9 @@ int32_t framehop_unwinder_x86_64_unwind_frame(framehop_handle *unwinder, frameho
 int32_t framehop_unwinder_x86_64_walk_on(framehop_handle *unwinder, framehop_handle *cache, uint64_t address,
     bool is_return_address, framehop_registers_x86_64 *registers, const framehop_window *windows, size_t window_count,
     uint64_t *frames, size_t frame_capacity, framehop_walk *walk);
+int32_t framehop_unwinder_x86_64_next_frame(framehop_handle *unwinder, framehop_handle *cache, uint64_t address,
+    bool is_return_address, framehop_registers_x86_64 *registers, const framehop_window *windows, size_t window_count,
+    framehop_next *next);
 
 int32_t framehop_cache_aarch64_new(bool may_allocate, framehop_handle *place);
 int32_t framehop_cache_aarch64_stats(framehop_handle *cache, framehop_cache_stats *stats);
@@ -240,6 +286,9 @@ int32_t framehop_unwinder_aarch64_unwind_frame(framehop_handle *unwinder, frameh
 int32_t framehop_unwinder_aarch64_walk_on(framehop_handle *unwinder, framehop_handle *cache, uint64_t address,
     bool is_return_address, framehop_registers_aarch64 *registers, const framehop_window *windows, size_t window_count,
     uint64_t *frames, size_t frame_capacity, framehop_walk *walk);
+int32_t framehop_unwinder_aarch64_next_frame(framehop_handle *unwinder, framehop_handle *cache, uint64_t address,
+    bool is_return_address, framehop_registers_aarch64 *registers, const framehop_window *windows, size_t window_count,
+    framehop_next *next);
 
 /* Reads stack words from an AVMA upwards, as many as the caller likes, and returns how many: at most capacity, which is 1
  * or more, and 0 if the first of them can't be read. */

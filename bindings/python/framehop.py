@@ -17,11 +17,11 @@ import os
 import struct
 import threading
 import zlib
-from ctypes import POINTER, Structure, byref, c_bool, c_int32, c_size_t, c_uint8, c_uint64, c_void_p
+from ctypes import POINTER, Structure, byref, c_bool, c_int32, c_size_t, c_uint8, c_uint32, c_uint64, c_void_p
 from pathlib import Path
 from typing import NamedTuple
 
-__all__ = ["ElfFile", "Unwinder", "Walk"]
+__all__ = ["ElfFile", "Unwinder", "Walk", "library_version"]
 __version__ = "0.16.0"
 
 # What the calls return: see framehop.h.
@@ -87,6 +87,7 @@ def _load(path):
     beside = Path(__file__).resolve().parent.parent.parent / "libframehop.so.0"
     library = ctypes.CDLL(str(path or os.environ.get("FRAMEHOP_SO") or (beside if beside.exists() else beside.name)))
     handle, word = POINTER(_Handle), c_uint64
+    library.framehop_version.argtypes, library.framehop_version.restype = [], c_uint32
     library.framehop_generations_new.argtypes = [handle]
     library.framehop_free.argtypes, library.framehop_free.restype = [_Handle], None
     for name, (registers, _) in _ARCHITECTURES.items():
@@ -102,6 +103,12 @@ def _load(path):
             function = getattr(library, f"framehop_{call}")
             function.argtypes, function.restype = types, c_int32
     return library
+
+
+def library_version(library=None):
+    """The version of the shared library, as "0.16.0": that of the path, or the one that an Unwinder takes."""
+    number = _load(library).framehop_version()
+    return f"{number // 10000}.{number // 100 % 100}.{number % 100}"
 
 
 class ElfFile:

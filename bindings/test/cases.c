@@ -1,6 +1,7 @@
 /* Carries out a case that cases.py writes, and prints what `framehop-walk` does: `cases window` with walks and steps that are one
  * call; `cases callback` with a callback that reads a word a call, and steps that ask for words; `cases chunks` with a
- * callback that reads as many words as it can; `cases time N` with walks by one call, which are made N times more in each
+ * callback that reads as many words as it can; `cases frames` with a call for each frame, which is lent the words that the
+ * call before told; `cases time N` with walks by one call, which are made N times more in each
  * way, and tells the nanoseconds of a frame. */
 #define _POSIX_C_SOURCE 199309L
 #include "framehop.h"
@@ -14,8 +15,8 @@
 
 static framehop_handle generations, unwinders[UNWINDERS], caches[UNWINDERS];
 static size_t unwinder_count, cache_count, modules_bytes;
-static bool by_callback, by_chunks;
-static size_t times;
+static bool by_callback, by_chunks, by_frames;
+static size_t times, frame_calls, frame_count;
 static uint8_t *kept[200000];
 
 static const char *text(void)
@@ -86,6 +87,23 @@ static size_t read_words(void *data, uint64_t at, uint64_t *words, size_t capaci
     for (i = 0; i < (by_chunks ? capacity : 1) && first + i < memory->count; i++)
         words[i] = memory->words[first + i];
     return i;
+}
+
+/* reads a word into a window of its own; false where it can't be read */
+static bool read_known(struct memory *memory, uint64_t at, framehop_window *windows, uint64_t *words, size_t *known)
+{
+    framehop_window *window = &windows[*known];
+    size_t i;
+    for (i = 0; i < *known; i++)
+        if (windows[i].base == at) {
+            fprintf(stderr, "a word is asked for twice\n");
+            exit(3);
+        }
+    window->base = at;
+    window->words = &words[*known];
+    window->word_count = read_words(memory, at, &words[*known], 1);
+    ++*known;
+    return window->word_count > 0;
 }
 
 static framehop_section *place_of(framehop_sections *sections, bool is_segment, const char *name)
@@ -261,6 +279,56 @@ static double nanoseconds(void)
         }                                                                                                             \
     }                                                                                                                 \
                                                                                                                       \
+    /* a frame a call: the words that are told are read first, and each other one that is missing */                  \
+    static int32_t next_##arch(framehop_handle *unwinder, framehop_handle *cache, uint64_t address,                   \
+        bool is_return_address, framehop_registers_##arch *registers, struct memory *memory, framehop_next *next)     \
+    {                                                                                                                 \
+        framehop_window windows[600];                                                                                 \
+        uint64_t words[600], asked[2] = {next->ahead.first, next->ahead.second};                                      \
+        const framehop_registers_##arch before = *registers;                                                          \
+        size_t known = 0, calls = 0, i;                                                                               \
+        int32_t status;                                                                                               \
+        for (i = 0; i < next->ahead.count; i++)                                                                       \
+            if (!read_known(memory, asked[i], windows, words, &known))                                                \
+                break;                                                                                                \
+        for (;;) {                                                                                                    \
+            status = framehop_unwinder_##arch##_next_frame(unwinder, cache, address, is_return_address, registers,    \
+                windows, known, next);                                                                                \
+            calls++;                                                                                                  \
+            if (status != FRAMEHOP_OK && next->ahead.count + next->ahead.lookup + next->return_address > 0)           \
+                exit(4);                                                                                              \
+            if (status != FRAMEHOP_OK && status != FRAMEHOP_RETURN_ADDRESS_IS_NULL                                    \
+                && memcmp(registers, &before, sizeof before))                                                         \
+                exit(5);                                                                                              \
+            if (status != FRAMEHOP_MISSING_WORD)                                                                      \
+                break;                                                                                                \
+            read_known(memory, next->unreadable, windows, words, &known);                                             \
+        }                                                                                                             \
+        frame_calls += calls;                                                                                         \
+        frame_count++;                                                                                                \
+        return status;                                                                                                \
+    }                                                                                                                 \
+                                                                                                                      \
+    static int32_t walk_frames_##arch(framehop_handle *unwinder, framehop_handle *cache, uint64_t pc,                 \
+        framehop_registers_##arch *registers, struct memory *memory, uint64_t *frames, size_t limit,                  \
+        framehop_walk *walk)                                                                                          \
+    {                                                                                                                 \
+        framehop_next next;                                                                                           \
+        memset(&next, 0, sizeof next);                                                                                \
+        walk->unreadable = 0;                                                                                         \
+        for (walk->frame_count = 0; walk->frame_count < limit; walk->frame_count++) {                                 \
+            size_t at = walk->frame_count;                                                                            \
+            int32_t status = FRAMEHOP_OK;                                                                             \
+            if (at > 0)                                                                                               \
+                status = next_##arch(unwinder, cache, frames[at - 1], at > 1, registers, memory, &next);              \
+            walk->unreadable = next.unreadable;                                                                       \
+            if (status != FRAMEHOP_OK)                                                                                \
+                return status;                                                                                        \
+            frames[at] = at > 0 ? next.return_address : pc;                                                           \
+        }                                                                                                             \
+        return FRAMEHOP_FRAMES_FULL;                                                                                  \
+    }                                                                                                                 \
+                                                                                                                      \
     static void step_##arch(framehop_handle *unwinder)                                                                \
     {                                                                                                                 \
         framehop_handle *cache = &caches[count()];                                                                    \
@@ -291,6 +359,8 @@ static double nanoseconds(void)
         framehop_walk *walk)                                                                                          \
     {                                                                                                                 \
         framehop_window window = {memory->base, memory->words, memory->count};                                        \
+        if (by_frames)                                                                                                \
+            return walk_frames_##arch(unwinder, cache, pc, registers, memory, frames, limit, walk);                   \
         if (by_callback)                                                                                              \
             return framehop_unwinder_##arch##_walk_with(unwinder, cache, pc, registers, read_words, memory, frames,   \
                 limit, walk);                                                                                         \
@@ -301,12 +371,13 @@ static double nanoseconds(void)
     static void time_##arch(framehop_handle *unwinder, framehop_handle *cache, uint64_t pc,                           \
         const framehop_registers_##arch *start, struct memory *memory, uint64_t *frames, size_t limit)                \
     {                                                                                                                 \
-        static const char *const ways[] = {"one call", "callback for words", "callback for a word"};                  \
+        static const char *const ways[] = {"one call", "callback for words", "callback for a word", "a frame a call"}; \
         size_t way, i;                                                                                                \
-        for (way = 0; way < 3; way++) {                                                                               \
+        for (way = 0; way < 4; way++) {                                                                               \
             size_t count = 0;                                                                                         \
             double before = nanoseconds();                                                                            \
             by_callback = way > 0;                                                                                    \
+            by_frames = way == 3;                                                                                     \
             by_chunks = way == 1;                                                                                     \
             for (i = 0; i < times; i++) {                                                                             \
                 framehop_registers_##arch registers = *start;                                                         \
@@ -316,7 +387,8 @@ static double nanoseconds(void)
             }                                                                                                         \
             fprintf(stderr, "C, %s: %.2f ns/frame\n", ways[way], (nanoseconds() - before) / (double)count);           \
         }                                                                                                             \
-        by_callback = by_chunks = false;                                                                              \
+        fprintf(stderr, "C, calls a frame: %.2f\n", (double)frame_calls / (double)frame_count);                       \
+        by_callback = by_chunks = by_frames = false;                                                                  \
     }                                                                                                                 \
                                                                                                                       \
     static void walk_##arch(framehop_handle *unwinder)                                                                \
@@ -424,6 +496,7 @@ int main(int argc, char **argv)
     bool may_allocate = strcmp(text(), "may") == 0;
     size_t i;
     by_chunks = argc > 1 && strcmp(argv[1], "chunks") == 0;
+    by_frames = argc > 1 && strcmp(argv[1], "frames") == 0;
     times = argc > 2 && strcmp(argv[1], "time") == 0 ? strtoull(argv[2], NULL, 10) : 0;
     by_callback = by_chunks || (argc > 1 && strcmp(argv[1], "callback") == 0);
     check_texts();

@@ -26,6 +26,7 @@ TYPES = {
     "u64": ["uint64_t"],
     "usize": ["size_t"],
     "i32": ["int32_t"],
+    "u32": ["uint32_t"],
     "*mut u8": ["void *"],
     "Handle": ["framehop_handle"],
     "&mut Handle": ["framehop_handle *"],
@@ -113,8 +114,8 @@ def header():
     text = HEADER.read_text().partition("typedef size_t (*framehop_read_words)")[0]
     text = re.sub(r"/\*.*?\*/", "", text, flags=re.S)
     functions = {}
-    for result, name, parameters in re.findall(r"^(int32_t|void) (framehop_\w+)\(([^)]*)\);", text, re.M):
-        functions[name] = ([typed(part)[0] for part in parameters.split(",")], result)
+    for result, name, parameters in re.findall(r"^(u?int32_t|void) (framehop_\w+)\(([^)]*)\);", text, re.M):
+        functions[name] = ([typed(part)[0] for part in parameters.split(",") if part != "void"], result)
     found = {}
     for body, name in re.findall(r"typedef struct \{(.*?)\} (\w+);", text, re.S):
         fields = []
@@ -135,7 +136,7 @@ def tidy(kind):
 
 # a type of raw.rs as the header writes it
 RAW_TYPES = {
-    "bool": "bool", "u64": "uint64_t", "usize": "size_t", "i32": "int32_t", "*mut u64": "uint64_t *",
+    "bool": "bool", "u64": "uint64_t", "usize": "size_t", "i32": "int32_t", "u32": "uint32_t", "*mut u64": "uint64_t *",
     "*mut u8": "void *", "*const u8": "const uint8_t *", "*const u64": "const uint64_t *",
 }
 
@@ -222,36 +223,45 @@ def promised(functions, found, values):
     return calls + kinds + [f"{name} = {value}" for name, value in values.items()]
 
 
+def of_number(number):
+    """The version that a number is."""
+    return f"{int(number) // 10000}.{int(number) // 100 % 100}.{int(number) % 100}"
+
+
 def versions():
-    """The version of each part, by the file that says it; those of the programs are apart."""
+    """The version of each part, by the file that says it: of the library, its bindings and the programs."""
     def said(file, pattern):
         match = re.search(pattern, (TOP / file).read_text(), re.M)
         return match[1] if match else "none"
 
     numbers = {part: said("bindings/include/framehop.h", rf"^#define FRAMEHOP_VERSION_{part} (\d+)$") for part in PARTS}
-    library = {
+    found = {
         "bindings/rust/Cargo.toml": said("bindings/rust/Cargo.toml", r'^version = "(.*)"$'),
         "bindings/include/framehop.h": said("bindings/include/framehop.h", r'^#define FRAMEHOP_VERSION "(.*)"$'),
         "its three numbers": ".".join(numbers.values()),
+        "its one number": of_number(said("bindings/include/framehop.h", r"^#define FRAMEHOP_VERSION_NUMBER (\d+)")),
+        "crates/framehop_c": of_number(said("crates/framehop_c/src/lib.rt", r"^const VERSION_NUMBER: u32 = (\d+);$")),
         "bindings/python/framehop.py": said("bindings/python/framehop.py", r'^__version__ = "(.*)"$'),
         "CHANGELOG.md": said("CHANGELOG.md", r"^## ([\d.]+)"),
         "bindings/framehop.map": said("bindings/framehop.map", r"^FRAMEHOP_(\S+) \{$") + "." + numbers["PATCH"],
     }
-    programs = {"CHANGELOG.md": said("CHANGELOG.md", r"^Programs: ([\d.]+\d)")}
-    for source in sorted(TOP.glob("crates/*_cli/src/*.rt")):
-        name = str(source.relative_to(TOP))
-        if '.version("' in source.read_text():
-            programs[name] = said(name, r'\.version\("(.*)"\)')
-    return library, programs
+    # (the place for the commit is that of tools/stamp.sh)
+    for program in ("check", "explain", "stacks", "walk"):
+        sources = sorted((TOP / f"crates/framehop_{program}_cli/src").glob("*.rt"))
+        text = "".join(source.read_text() for source in sources)
+        match = re.search(r'\.version\("(.*)"\)|VERSION: &str = "framehop-\w+ (.*)"', text)
+        version, _, commit = ((match[1] or match[2]) if match else "none").partition(" ")
+        found[f"framehop-{program}"] = version if commit == f"(commit {'.' * 12})" else "none with a place for the commit"
+    return found
 
 
 def wrong_in_versions(functions, found, values):
     """What an earlier header of this version promised and this one has not, and versions that differ."""
     has = set(promised(functions, found, values))
     wrong = [f"promised by {PROMISE.name}: {line}" for line in PROMISE.read_text().splitlines() if line not in has]
-    for files in versions():
-        if len(set(files.values())) != 1:
-            wrong.append("versions differ: " + ", ".join(f"{version} in {file}" for file, version in files.items()))
+    files = versions()
+    if len(set(files.values())) != 1:
+        wrong.append("versions differ: " + ", ".join(f"{version} in {file}" for file, version in files.items()))
     return wrong
 
 

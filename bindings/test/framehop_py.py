@@ -60,6 +60,11 @@ class Walks(unittest.TestCase):
         self.assertEqual(walk.frames[1:], [BASE + 0x100DC4, BASE + 0x12CA28])
 
 
+class Versions(unittest.TestCase):
+    def test_the_library_has_the_version_of_the_module(self):
+        self.assertEqual(framehop.library_version(), framehop.__version__)
+
+
 class Refusals(unittest.TestCase):
     def test_an_unwinder_stays_on_its_thread(self):
         unwinder = framehop.Unwinder()

@@ -23,8 +23,27 @@ for program in "$prefix"/bin/*; do
     for option in $("$program" --help 2>/dev/null | grep -oE '^ +(-[a-zA-Z], )?--[a-z-]+' | grep -oE -- '--[a-z-]+'); do
         grep -qE -- "^ +(-[a-zA-Z], )?$option\b" "$work/page"
     done
-    echo "$(basename "$program"): its manual page has all options"
+    version=$(sed -n 's/^version = "\(.*\)"/\1/p' "$top/bindings/rust/Cargo.toml")
+    "$program" --version | grep -qxE "$(basename "$program") $version \(commit ([0-9a-f]{11}[0-9a-f+]|unknown     )\)"
+    echo "$(basename "$program"): its manual page has all options, and it says the version with the commit"
 done
+
+# --demangle, where c++filt is found and where it is not, also through a symbolic link
+if [ -x "$prefix/bin/framehop-stacks" ]; then
+    ln -s "$prefix/bin/framehop-stacks" "$work/link"
+    printf 'main;_ZN4Tree4growEi 2\nmain;_ZN4Tree4growEv 1\n' >"$work/folded"
+    mkdir "$work/path"
+    for tool in bash dirname realpath; do ln -s "$(command -v $tool)" "$work/path/$tool"; done
+    status=0
+    PATH=$work/path "$work/link" --demangle "$work/folded" 2>"$work/errors" || status=$?
+    [ $status = 2 ] && grep -q 'needs c++filt' "$work/errors"
+    "$work/link" "$work/folded" | diff "$work/folded" -
+    if command -v c++filt >/dev/null; then
+        "$work/link" --demangle "$work/folded" | diff <(printf 'main;Tree::grow() 1\nmain;Tree::grow(int) 2\n') -
+    fi
+    rm -rf "$work/link" "$work/folded" "$work/path" "$work/errors"
+    echo "framehop-stacks --demangle runs c++filt, and says so where there is none"
+fi
 
 if [ -f "$prefix/lib/libframehop.a" ]; then
     export PKG_CONFIG_PATH=$prefix/lib/pkgconfig PYTHONPATH=$prefix/lib/python3/dist-packages PYTHONDONTWRITEBYTECODE=1
@@ -32,7 +51,7 @@ if [ -f "$prefix/lib/libframehop.a" ]; then
     # shellcheck disable=SC2046
     clang -I"$work" "$top/bindings/test/walk.c" $(pkg-config --cflags --libs framehop) -o "$work/walk"
     "$work/walk" | diff - <(grep -E '^(ip|ra|end)' "$top/examples/libm-walk.expected")
-    [ "$(pkg-config --modversion framehop)" = "$(python3 -c 'import framehop; framehop.Unwinder().close(); print(framehop.__version__)')" ]
+    [ "$(pkg-config --modversion framehop)" = "$(python3 -c 'import framehop; framehop.Unwinder().close(); print(framehop.library_version())')" ]
     echo "a program in C is linked by pkg-config, and Python imports the module"
 fi
 

@@ -67,6 +67,15 @@ build -g -fsanitize=address,undefined "$here/cases.c" $archives -o "$work/cases"
 python3 "$here/cases.py" c window "$work/cases"
 python3 "$here/cases.py" c callback "$work/cases"
 python3 "$here/cases.py" c chunks "$work/cases"
+python3 "$here/cases.py" c frames "$work/cases"
+
+# a frame takes one call of next_frame, but for the first ones, each of which takes one more for each of its words
+for arch in x86_64 aarch64; do
+    python3 "$top/bench/make_inputs.py" frame-pointers $arch > "$work/frames.json"
+    python3 "$here/cases.py" words "$work/frames.json" may > "$work/words"
+    "$work/cases" time 20 < "$work/words" 2>&1 > "$work/frames" | grep -qx 'C, calls a frame: 1.0[01]' || { echo "next_frame: more calls"; exit 1; }
+done
+echo "next_frame: one call a frame"
 
 # a profiler of its own threads, beside libunwind
 profiler() { clang -std=gnu11 -Wall -Wextra -Werror -O1 -gdwarf-4 -rdynamic -I"$top/bindings/include" "$top/bindings/examples/profiler.c" $archives "$@"; }
@@ -111,7 +120,7 @@ shift
 clang -shared -o "$work/libframehop.so.0" -Wl,-soname,libframehop.so.0 -Wl,-z,defs \
     "-Wl,--version-script=$top/bindings/framehop.map" -Wl,--whole-archive "$first" -Wl,--no-whole-archive "$@"
 exported=$(nm -D --defined-only "$work/libframehop.so.0" | sed -n 's/.* T \(.*\)@@FRAMEHOP_0.16$/\1/p' | sort)
-declared=$(grep -oE '^(int32_t|void) framehop_\w+' "$top/bindings/include/framehop.h" | sed 's/.* //' | sort)
+declared=$(grep -oE '^(u?int32_t|void) framehop_\w+' "$top/bindings/include/framehop.h" | sed 's/.* //' | sort)
 [ "$exported" = "$declared" ] || { echo "libframehop.so.0 exports $exported"; exit 1; }
 [ "$(nm -D --defined-only "$work/libframehop.so.0" | grep -vc ' A ')" = "$(echo "$exported" | wc -l)" ]
 python3 "$here/walk.py" "$work/libframehop.so.0" "$top/examples/libm-walk.json" > "$work/frames"

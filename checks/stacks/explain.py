@@ -56,7 +56,7 @@ def main():
     is_first = True
     for line in sys.stdin.read().splitlines():
         print(line)
-        frame = re.match(r"([0-9a-f]+) .*\)( \[cfi\])?$", line)
+        frame = re.match(r"(?:#\d+ )?([0-9a-f]+) .*\)( \[cfi\])?$", line)
         if frame:
             # a caller's frame is looked up inside the call
             print(note_of(rows, int(frame[1], 16) - (0 if is_first else 1)))

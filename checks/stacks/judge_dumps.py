@@ -54,9 +54,9 @@ def run_program(program, root, limit, dump):
     threads = {}
     for block in ran.stdout.split("\n\n"):
         lines = block.strip("\n").split("\n")
-        head = re.search(r"(\d+)(?: signal \d+| exception 0x[0-9a-f]+)?:$", lines[0])
+        head = re.search(r"(\d+)(?: \".*\")?(?: crashed by .*)?:$", lines[0])
         if head and len(lines) > 1:
-            threads[int(head[1])] = [int(line.split(" ")[0], 16) for line in lines[1:-1]], lines[-1]
+            threads[int(head[1])] = [int(line.split(" ")[1], 16) for line in lines[1:-1]], lines[-1]
     return threads, ran
 
 

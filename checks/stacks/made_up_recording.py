@@ -13,6 +13,10 @@ order of their times. The cases, whose output `checks/try_stacks.sh` has:
     lines       70,000 samples, each with a stack of its own
     long        a file with a name of 60,000 letters, which is twice in the stack of a sample
     build_ids   a section of build ids in which a record ends before it begins, so that none can be read
+    chains      samples without copies of stacks, with call chains of the kernel and of the user's side
+    kernel      samples with a copy of the stack, and a call chain of the kernel
+    full        samples of whose stacks as much was copied as was asked for, of which one goes on
+    events      samples of two events, which have names
 
 Layout: Linux, include/uapi/linux/perf_event.h, and tools/perf/Documentation/perf.data-file-format.txt.
 """
@@ -22,10 +26,12 @@ import sys
 
 PERF_RECORD_LOST, PERF_RECORD_COMM, PERF_RECORD_FORK, PERF_RECORD_SAMPLE, PERF_RECORD_MMAP2 = 2, 3, 7, 9, 10
 IN_USER_SPACE, EXEC = 2, 0x2000
-IP_TID_TIME_REGS_STACK, TIME = 0x3007, 4
+IP_TID_TIME_REGS_STACK, TIME, CALLCHAIN, IDENTIFIER = 0x3007, 4, 0x20, 0x10000
+REGS_AND_STACK = 0x3000
+CONTEXT_KERNEL, CONTEXT_USER = 2**64 - 128, 2**64 - 512
 AARCH64_REGISTERS = 0x1_FFFF_FFFF
 SAMPLE_ID_ALL = 1 << 18
-BUILD_IDS = 1 << 2
+BUILD_IDS, EVENT_DESC = 1 << 2, 1 << 12
 STACK = 0x7000_0000
 
 
@@ -66,6 +72,17 @@ def sample(pid, time, pc, links):
     registers[29], registers[31], registers[32] = STACK, STACK, pc
     body = struct.pack("<QIIQQ", pc, pid, pid, time, 2) + struct.pack("<33Q", *registers)
     return record(PERF_RECORD_SAMPLE, IN_USER_SPACE, body + struct.pack("<Q", len(stack)) + stack + struct.pack("<Q", len(stack)))
+
+
+def sample_with_chain(pid, time, pc, chain, links=None):
+    """A sample with a call chain, and with a copy of the stack where there are frame records."""
+    head = struct.pack("<QIIQQ", pc, pid, pid, time, len(chain)) + struct.pack(f"<{len(chain)}Q", *chain)
+    return record(PERF_RECORD_SAMPLE, IN_USER_SPACE, head + (sample(pid, time, pc, links)[32:] if links is not None else b""))
+
+
+def sample_of_event(identifier, *what):
+    made = sample(*what)
+    return record(PERF_RECORD_SAMPLE, IN_USER_SPACE, struct.pack("<Q", identifier) + made[8:])
 
 
 def sample_without_registers(pid, time):
@@ -152,28 +169,93 @@ def unread_build_ids():
     return app() + [sample(100, 10, 0x10124, [(STACK + 16, 0x10204), (0, 0x10300)])]
 
 
-CASES = {"short_comm": short_comm, "short_fork": short_fork, "lost": lost_twice, "files": files, "lines": lines, "long": long, "build_ids": unread_build_ids}
+def chains():
+    kernel = [CONTEXT_KERNEL, 0xFFFF800000010010, 0xFFFF800000020020]
+    user = [CONTEXT_USER, 0x10124, 0x10204, 0x10300]
+    return app() + [
+        sample_with_chain(100, 10, 0xFFFF800000010010, kernel + user),
+        sample_with_chain(100, 20, 0x10124, user),
+        sample_with_chain(100, 30, 0xFFFF800000010010, kernel),
+        sample_with_chain(100, 40, 0x10124, []),
+    ]
 
 
-def recording(body, is_timed=True, has_build_ids=False):
+def kernel():
+    in_kernel = [CONTEXT_KERNEL, 0xFFFF800000020000, 0xFFFF800000020001, 0xFFFF7FFFFFFFFFFF]
+    return app() + [
+        sample_with_chain(100, 10, 0x10124, in_kernel, [(STACK + 16, 0x10204), (0, 0x10300)]),
+        sample_with_chain(100, 20, 0x10124, [], [(STACK + 16, 0x10204), (0, 0x10300)]),
+    ]
+
+
+def full():
+    return app() + [
+        sample(100, 10, 0x10124, [(STACK + 16, 0x10204), (0, 0x10300)]),
+        sample(100, 20, 0x10124, [(STACK + 16, 0x10204), (STACK + 32, 0x10300)]),
+    ]
+
+
+def with_identifier(made):
+    """A record that is no sample, with the id 0 at its end."""
+    return made[:6] + struct.pack("<H", len(made) + 8) + made[8:] + struct.pack("<Q", 0)
+
+
+def events():
+    whole = [(STACK + 16, 0x10204), (0, 0x10300)]
+    return [with_identifier(made) for made in app()] + [
+        sample_of_event(1, 100, 10, 0x10124, whole),
+        sample_of_event(2, 100, 20, 0x10128, whole),
+        sample_of_event(2, 100, 30, 0x10128, whole),
+    ]
+
+
+CASES = {"short_comm": short_comm, "short_fork": short_fork, "lost": lost_twice, "files": files, "lines": lines, "long": long, "build_ids": unread_build_ids, "chains": chains, "kernel": kernel, "full": full, "events": events}
+
+
+def event_names(names, ids):
+    """The section of HEADER_EVENT_DESC: of each event its attribute, which is not read here, its name and its id."""
+    section = struct.pack("<II", len(names), 128)
+    for name, identifier in zip(names, ids):
+        text = padded(name)
+        section += bytes(128) + struct.pack("<II", 1, len(text)) + text + struct.pack("<Q", identifier)
+    return section
+
+
+def recording(body, fields=IP_TID_TIME_REGS_STACK, features=0, ids=()):
+    """A recording of so many events as there are ids, or of one without an id."""
     attributes_at = 104
-    fields = IP_TID_TIME_REGS_STACK if is_timed else IP_TID_TIME_REGS_STACK & ~TIME
-    attribute = struct.pack("<IIQQQQQ", 1, 128, 0, 1000, fields, 0, SAMPLE_ID_ALL if is_timed else 0)
-    attribute += bytes(32) + struct.pack("<QI", AARCH64_REGISTERS, 1024) + bytes(36)
+    count = max(len(ids), 1)
+    attribute = struct.pack("<IIQQQQQ", 1, 128, 0, 1000, fields, 0, SAMPLE_ID_ALL if fields & TIME else 0)
+    attribute += bytes(32) + struct.pack("<QI", AARCH64_REGISTERS if fields & REGS_AND_STACK else 0, 1024) + bytes(36)
     assert len(attribute) == 128
-    records_at = attributes_at + len(attribute) + 16
+    ids_at = attributes_at + 144 * count
+    records_at = ids_at + 8 * len(ids)
     header = b"PERFILE2" + struct.pack("<QQ", 104, 144)
-    header += struct.pack("<QQQQQQ", attributes_at, 144, records_at, len(body), 0, 0)
-    header += struct.pack("<Q", BUILD_IDS if has_build_ids else 0) + bytes(24)
-    whole = header + attribute + struct.pack("<QQ", records_at, 0) + body
+    header += struct.pack("<QQQQQQ", attributes_at, 144 * count, records_at, len(body), 0, 0)
+    header += struct.pack("<Q", features) + bytes(24)
+    places = [(ids_at + 8 * at, 8) for at in range(count)] if ids else [(records_at, 0)]
+    whole = header + b"".join(attribute + struct.pack("<QQ", *place) for place in places)
+    whole += struct.pack(f"<{len(ids)}Q", *ids) + body
+    if features == EVENT_DESC:
+        section = event_names(["cycles", "task-clock"], ids)
+        return whole + struct.pack("<QQ", len(whole) + 16, len(section)) + section
     # the section of build ids is one record, whose size says that it has no header
-    return whole + struct.pack("<QQIHH", len(whole) + 16, 8, 0, 0, 0) if has_build_ids else whole
+    return whole + struct.pack("<QQIHH", len(whole) + 16, 8, 0, 0, 0) if features == BUILD_IDS else whole
+
+
+FORMS = {
+    "short_comm": {"fields": IP_TID_TIME_REGS_STACK & ~TIME},
+    "build_ids": {"features": BUILD_IDS},
+    "chains": {"fields": IP_TID_TIME_REGS_STACK & ~REGS_AND_STACK | CALLCHAIN},
+    "kernel": {"fields": IP_TID_TIME_REGS_STACK | CALLCHAIN},
+    "events": {"fields": IP_TID_TIME_REGS_STACK | IDENTIFIER, "features": EVENT_DESC, "ids": (1, 2)},
+}
 
 
 def main():
     case = sys.argv[2] if len(sys.argv) > 2 else ""
     made = CASES.get(case, records)()
-    whole = recording(b"".join(made), is_timed=case != "short_comm", has_build_ids=case == "build_ids")
+    whole = recording(b"".join(made), **FORMS.get(case, {}))
     with open(sys.argv[1], "wb") as file:
         file.write(whole[: -len(made[-1]) // 2] if case == "cut" else whole)
 

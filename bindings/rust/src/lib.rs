@@ -146,6 +146,13 @@ pub type UnwindRegsNative = x86_64::UnwindRegsX86_64;
 #[cfg(target_arch = "x86_64")]
 pub type UnwinderNative<D, P> = x86_64::UnwinderX86_64<D, P>;
 
+/// Returns the version of the archive that is linked, as `[major, minor, patch]`: that of this crate.
+pub fn archive_version() -> [u32; 3] {
+    // SAFETY: it takes nothing
+    let number = unsafe { raw::framehop_version() };
+    [number / 10000, number / 100 % 100, number % 100]
+}
+
 /// A code address of a frame (AVMA): the instruction pointer or a return address.
 #[derive(Clone, Copy, Debug, PartialEq, Eq)]
 pub enum FrameAddress {

@@ -12,6 +12,12 @@ pub const DID_NOT_ADVANCE: i32 = -12;
 pub const INTEGER_OVERFLOW: i32 = -13;
 pub const RETURN_ADDRESS_IS_NULL: i32 = -14;
 
+pub const NO_LOOKUP: i32 = 0;
+pub const LOOKUP_HIT: i32 = 1;
+pub const LOOKUP_EMPTY_SLOT: i32 = 2;
+pub const LOOKUP_WRONG_MODULES: i32 = 3;
+pub const LOOKUP_WRONG_ADDRESS: i32 = 4;
+
 #[repr(C)]
 #[derive(Clone, Copy)]
 pub struct Handle {
@@ -93,6 +99,24 @@ pub struct Step {
     pub has_missing: bool,
 }
 
+#[repr(C)]
+#[derive(Clone, Copy, Default)]
+pub struct Ahead {
+    pub first: u64,
+    pub second: u64,
+    pub count: u32,
+    pub lookup: i32,
+}
+
+#[repr(C)]
+#[derive(Default)]
+pub struct Next {
+    pub return_address: u64,
+    pub unreadable: u64,
+    pub ahead: Ahead,
+    pub lookup: i32,
+}
+
 /// How many lookups of a cache hit and missed. The counts stop at the largest `u64`.
 #[repr(C)]
 #[derive(Clone, Copy, Debug, Default, PartialEq, Eq)]
@@ -124,6 +148,31 @@ impl CacheStats {
         self.miss_empty_slot_count
             .saturating_add(self.miss_wrong_modules_count)
             .saturating_add(self.miss_wrong_address_count)
+    }
+
+    /// Adds a lookup that has ended in this way.
+    pub(crate) fn add(&mut self, lookup: i32) {
+        if let Some(count) = self.of(lookup) {
+            *count = count.saturating_add(1);
+        }
+    }
+
+    /// Takes a lookup away that was added.
+    pub(crate) fn take(&mut self, lookup: i32) {
+        if let Some(count) = self.of(lookup) {
+            *count = count.saturating_sub(1);
+        }
+    }
+
+    /// The count of the lookups that end in this way.
+    fn of(&mut self, lookup: i32) -> Option<&mut u64> {
+        match lookup {
+            LOOKUP_HIT => Some(&mut self.hit_count),
+            LOOKUP_EMPTY_SLOT => Some(&mut self.miss_empty_slot_count),
+            LOOKUP_WRONG_MODULES => Some(&mut self.miss_wrong_modules_count),
+            LOOKUP_WRONG_ADDRESS => Some(&mut self.miss_wrong_address_count),
+            _ => None,
+        }
     }
 
     /// The counts of this and another.
@@ -173,19 +222,25 @@ mod layout {
     lies!(Window: 24 { base: 0, words: 8, word_count: 16 });
     lies!(Walk: 16 { frame_count: 0, unreadable: 8 });
     lies!(Step: 32 { return_address: 0, unreadable: 8, missing: 16, has_missing: 24 });
+    lies!(Ahead: 24 { first: 0, second: 8, count: 16, lookup: 20 });
+    lies!(Next: 48 {
+        return_address: 0, unreadable: 8, ahead.first: 16, ahead.second: 24, ahead.count: 32, ahead.lookup: 36, lookup: 40,
+    });
     lies!(CacheStats: 32 {
         hit_count: 0, miss_empty_slot_count: 8, miss_wrong_modules_count: 16, miss_wrong_address_count: 24,
     });
 }
 
 unsafe extern "C" {
+    pub fn framehop_version() -> u32;
     pub fn framehop_generations_new(place: *mut Handle) -> i32;
     pub fn framehop_free(handle: Handle);
 }
 
 macro_rules! declare {
     ($registers:ty, $cache_new:ident, $cache_stats:ident, $new:ident, $clone:ident, $add_module:ident,
-        $remove_module:ident, $max_known_code_address:ident, $walk:ident, $unwind_frame:ident, $walk_on:ident) => {
+        $remove_module:ident, $max_known_code_address:ident, $walk:ident, $unwind_frame:ident, $walk_on:ident,
+        $next_frame:ident) => {
         unsafe extern "C" {
             pub fn $cache_new(may_allocate: bool, place: *mut Handle) -> i32;
             pub fn $cache_stats(cache: *mut Handle, stats: *mut CacheStats) -> i32;
@@ -233,6 +288,16 @@ macro_rules! declare {
                 frame_capacity: usize,
                 walk: *mut Walk,
             ) -> i32;
+            pub fn $next_frame(
+                unwinder: *mut Handle,
+                cache: *mut Handle,
+                address: u64,
+                is_return_address: bool,
+                registers: *mut $registers,
+                windows: *const Window,
+                window_count: usize,
+                next: *mut Next,
+            ) -> i32;
         }
     };
 }
@@ -248,7 +313,8 @@ declare!(
     framehop_unwinder_x86_64_max_known_code_address,
     framehop_unwinder_x86_64_walk,
     framehop_unwinder_x86_64_unwind_frame,
-    framehop_unwinder_x86_64_walk_on
+    framehop_unwinder_x86_64_walk_on,
+    framehop_unwinder_x86_64_next_frame
 );
 
 declare!(
@@ -262,5 +328,6 @@ declare!(
     framehop_unwinder_aarch64_max_known_code_address,
     framehop_unwinder_aarch64_walk,
     framehop_unwinder_aarch64_unwind_frame,
-    framehop_unwinder_aarch64_walk_on
+    framehop_unwinder_aarch64_walk_on,
+    framehop_unwinder_aarch64_next_frame
 );

@@ -1,5 +1,5 @@
 //! What unwinders of all architectures have, and the iterator over the frames of a stack.
-use crate::words::{Chunks, Words};
+use crate::words::{Chunks, Known, Words};
 use crate::{CacheStats, Error, FrameAddress, raw};
 
 /// An unwinder for one architecture: the modules of one process, and unwinding by them.
@@ -43,6 +43,23 @@ pub trait Unwinder: Clone {
     where
         F: FnMut(u64) -> Result<u64, ()>;
 
+    /// Unwinds a single frame for an iterator, which keeps what is known ahead of the next one.
+    #[doc(hidden)]
+    fn next_frame<F>(
+        &self,
+        address: FrameAddress,
+        regs: &mut Self::UnwindRegs,
+        cache: &mut Self::Cache,
+        ahead: &mut Ahead,
+        read_stack: &mut F,
+    ) -> Result<Option<u64>, Error>
+    where
+        F: FnMut(u64) -> Result<u64, ()>,
+    {
+        *ahead = Ahead::default();
+        self.unwind_frame(address, regs, cache, read_stack)
+    }
+
     /// Returns an iterator over the frames of a stack, from an instruction pointer (AVMA) and its registers on.
     fn iter_frames<'u, 'c, 'r, F>(
         &'u self,
@@ -58,6 +75,11 @@ pub trait Unwinder: Clone {
     }
 }
 
+/// The words that the step from a frame will ask for, as the archive has told with that frame, and how its rule was looked up.
+#[doc(hidden)]
+#[derive(Clone, Copy, Default)]
+pub struct Ahead(raw::Ahead);
+
 enum State {
     Initial(u64),
     Unwinding(FrameAddress),
@@ -70,6 +92,7 @@ pub struct UnwindIterator<'u, 'c, 'r, U: Unwinder, F: FnMut(u64) -> Result<u64, 
     unwinder: &'u U,
     state: State,
     regs: U::UnwindRegs,
+    ahead: Ahead,
     cache: &'c mut U::Cache,
     read_stack: &'r mut F,
 }
@@ -77,7 +100,7 @@ pub struct UnwindIterator<'u, 'c, 'r, U: Unwinder, F: FnMut(u64) -> Result<u64, 
 impl<'u, 'c, 'r, U: Unwinder, F: FnMut(u64) -> Result<u64, ()>> UnwindIterator<'u, 'c, 'r, U, F> {
     /// Returns what [`Unwinder::iter_frames`] returns.
     pub fn new(unwinder: &'u U, pc: u64, regs: U::UnwindRegs, cache: &'c mut U::Cache, read_stack: &'r mut F) -> Self {
-        UnwindIterator { unwinder, state: State::Initial(pc), regs, cache, read_stack }
+        UnwindIterator { unwinder, state: State::Initial(pc), regs, ahead: Ahead::default(), cache, read_stack }
     }
 
     /// Returns the next frame: first the instruction pointer, then return addresses.
@@ -86,7 +109,8 @@ impl<'u, 'c, 'r, U: Unwinder, F: FnMut(u64) -> Result<u64, ()>> UnwindIterator<'
         let frame = match self.state {
             State::Initial(pc) => FrameAddress::from_instruction_pointer(pc),
             State::Unwinding(address) => {
-                match self.unwinder.unwind_frame(address, &mut self.regs, self.cache, self.read_stack)? {
+                let (regs, ahead) = (&mut self.regs, &mut self.ahead);
+                match self.unwinder.next_frame(address, regs, self.cache, ahead, self.read_stack)? {
                     Some(found) => FrameAddress::from_return_address(found).ok_or(Error::ReturnAddressIsNull)?,
                     None => {
                         self.state = State::Done;
@@ -106,9 +130,11 @@ impl<'u, 'c, 'r, U: Unwinder, F: FnMut(u64) -> Result<u64, ()>> UnwindIterator<'
     }
 }
 
-/// One try of a step by the archive, over windows; and the counts of its cache.
+/// One try of a step by the archive, over windows, and of one that tells the words ahead; and the counts of its cache.
 pub(crate) trait Step<R> {
     fn step(&mut self, regs: &mut R, windows: &[raw::Window], told: &mut raw::Step) -> i32;
+
+    fn next(&mut self, regs: &mut R, windows: &[raw::Window], told: &mut raw::Next) -> i32;
 
     fn counts(&mut self) -> CacheStats;
 }
@@ -145,6 +171,70 @@ pub(crate) fn step_with<R: Copy>(
             raw::END => Ok(None),
             _ => Err(Error::of_status(status, told.unreadable)),
         };
+    }
+}
+
+/// Steps for an iterator: the words that are known ahead are read first, and mostly there are no others. What the cache
+/// counts beside the one lookup that a step is, is added to `recounted`.
+#[inline]
+pub(crate) fn next_with<R>(
+    step: &mut impl Step<R>,
+    regs: &mut R,
+    words: &mut Words,
+    recounted: &mut CacheStats,
+    ahead: &mut Ahead,
+    read_stack: &mut impl FnMut(u64) -> Result<u64, ()>,
+) -> Result<Option<u64>, Error> {
+    let Ahead(before) = std::mem::take(ahead);
+    let known = Known::read(&before, read_stack);
+    let mut told = raw::Next::default();
+    let status = known.lend(|windows| step.next(regs, windows, &mut told));
+    if before.lookup != raw::NO_LOOKUP && before.lookup != told.lookup {
+        // the lookup that counts is the one by which the words were told
+        recounted.take(before.lookup);
+        recounted.add(told.lookup);
+    }
+    let status = match status {
+        raw::MISSING_WORD => next_over(step, regs, words, &known, recounted, &mut told, read_stack)?,
+        _ => status,
+    };
+    match status {
+        raw::OK => {
+            recounted.add(told.ahead.lookup);
+            if told.ahead.lookup == raw::LOOKUP_HIT && told.ahead.count > 0 {
+                recounted.add(raw::LOOKUP_HIT);
+            }
+            *ahead = Ahead(told.ahead);
+            Ok(Some(told.return_address))
+        }
+        raw::END => Ok(None),
+        _ => Err(Error::of_status(status, told.unreadable)),
+    }
+}
+
+/// Steps until no word is missing, with the words that are known: a rule that pops registers reads more than two, and the
+/// first step of a walk was told none.
+#[cold]
+fn next_over<R>(
+    step: &mut impl Step<R>,
+    regs: &mut R,
+    words: &mut Words,
+    known: &Known,
+    recounted: &mut CacheStats,
+    told: &mut raw::Next,
+    read_stack: &mut impl FnMut(u64) -> Result<u64, ()>,
+) -> Result<i32, Error> {
+    words.clear();
+    for (address, word) in known.words() {
+        words.push(address, word)?;
+    }
+    loop {
+        words.push(told.unreadable, read_stack(told.unreadable).ok())?;
+        let status = step.next(regs, words.windows(), told);
+        recounted.add(told.lookup);
+        if status != raw::MISSING_WORD {
+            return Ok(status);
+        }
     }
 }
 
@@ -191,7 +281,8 @@ pub(crate) fn end_of(status: i32, told: &raw::Walk) -> (usize, Result<bool, Erro
 /// The unwinder and the cache of an architecture.
 macro_rules! unwinder {
     ($unwinder:ident, $cache:ident, $regs:ident, $cache_new:ident, $cache_stats:ident, $new:ident, $clone:ident,
-        $add_module:ident, $remove_module:ident, $max_known_code_address:ident, $walk:ident, $unwind_frame:ident, $walk_on:ident) => {
+        $add_module:ident, $remove_module:ident, $max_known_code_address:ident, $walk:ident, $unwind_frame:ident, $walk_on:ident,
+        $next_frame:ident) => {
         /// A cache of unwind rules, for all unwinders of a thread that have its policy.
         pub struct $cache<P: AllocationPolicy = MayAllocateDuringUnwind> {
             cache: Owned,
@@ -264,6 +355,22 @@ macro_rules! unwinder {
                 // is not called meanwhile.
                 unsafe {
                     raw::$unwind_frame(
+                        &mut self.unwinder.handle(),
+                        &mut self.cache.handle(),
+                        self.address.address(),
+                        self.address.is_return_address(),
+                        &mut regs.0,
+                        windows.as_ptr(),
+                        windows.len(),
+                        told,
+                    )
+                }
+            }
+
+            fn next(&mut self, regs: &mut $regs, windows: &[raw::Window], told: &mut raw::Next) -> i32 {
+                // SAFETY: as above
+                unsafe {
+                    raw::$next_frame(
                         &mut self.unwinder.handle(),
                         &mut self.cache.handle(),
                         self.address.address(),
@@ -480,6 +587,19 @@ macro_rules! unwinder {
                 let $cache { cache, words, recounted, .. } = cache;
                 let mut step = StepFrom { unwinder: &self.unwinder, cache, address };
                 step_with(&mut step, regs, words, recounted, read_stack)
+            }
+
+            fn next_frame<F: FnMut(u64) -> Result<u64, ()>>(
+                &self,
+                address: FrameAddress,
+                regs: &mut $regs,
+                cache: &mut $cache<P>,
+                ahead: &mut Ahead,
+                read_stack: &mut F,
+            ) -> Result<Option<u64>, Error> {
+                let $cache { cache, words, recounted, .. } = cache;
+                let mut step = StepFrom { unwinder: &self.unwinder, cache, address };
+                next_with(&mut step, regs, words, recounted, ahead, read_stack)
             }
         }
     };

@@ -55,6 +55,74 @@ impl Words {
     }
 }
 
+/// The words that a step was known to ask for before it was made: two at most, which it takes no memory to keep. Those
+/// that lie side by side are lent by one window.
+pub(crate) struct Known {
+    /// The words in the order of the windows.
+    words: [u64; 2],
+    /// The windows by their addresses and their counts of words: a window without words is a word that can't be read.
+    windows: [(u64, usize); 2],
+    count: usize,
+}
+
+impl Known {
+    /// Reads the words that are told, the second one only where the first one can be read.
+    #[inline]
+    pub fn read(ahead: &raw::Ahead, read_stack: &mut impl FnMut(u64) -> Result<u64, ()>) -> Self {
+        let raw::Ahead { first, second, .. } = *ahead;
+        if ahead.count == 0 {
+            return Known { words: [0; 2], windows: [(0, 0); 2], count: 0 };
+        }
+        let Ok(one) = read_stack(first) else {
+            return Known { words: [0; 2], windows: [(first, 0), (0, 0)], count: 1 };
+        };
+        if ahead.count == 1 {
+            return Known { words: [one, 0], windows: [(first, 1), (0, 0)], count: 1 };
+        }
+        match read_stack(second) {
+            Ok(other) if second.checked_sub(first) == Some(8) => {
+                Known { words: [one, other], windows: [(first, 2), (0, 0)], count: 1 }
+            }
+            Ok(other) if first.checked_sub(second) == Some(8) => {
+                Known { words: [other, one], windows: [(second, 2), (0, 0)], count: 1 }
+            }
+            Ok(other) => Known { words: [one, other], windows: [(first, 1), (second, 1)], count: 2 },
+            Err(()) => Known { words: [one, 0], windows: [(first, 1), (second, 0)], count: 2 },
+        }
+    }
+
+    /// The words with their addresses; `None` is one that can't be read.
+    pub fn words(&self) -> impl Iterator<Item = (u64, Option<u64>)> {
+        let mut known = [None; 2];
+        match (self.count, self.windows) {
+            (0, _) => {}
+            (1, [(base, 2), _]) => known = [Some((base, Some(self.words[0]))), Some((base + 8, Some(self.words[1])))],
+            (count, windows) => {
+                for at in 0..count {
+                    let (base, words) = windows[at];
+                    known[at] = Some((base, (words > 0).then_some(self.words[at])));
+                }
+            }
+        }
+        known.into_iter().flatten()
+    }
+
+    /// Lends the windows to a call.
+    #[inline]
+    pub fn lend<T>(&self, call: impl FnOnce(&[raw::Window]) -> T) -> T {
+        let window = |at: usize| raw::Window {
+            base: self.windows[at].0,
+            words: self.words[at..].as_ptr(),
+            word_count: self.windows[at].1,
+        };
+        match self.count {
+            0 => call(&[]),
+            1 => call(&[window(0)]),
+            _ => call(&[window(0), window(1)]),
+        }
+    }
+}
+
 /// How often a frame may ask for words.
 const READS: usize = 64;
 

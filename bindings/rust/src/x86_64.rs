@@ -1,5 +1,5 @@
 //! Unwinding on x86_64.
-use crate::unwinder::{Step, Unwinder, end_of, step_with, unwinder, walk_with};
+use crate::unwinder::{Ahead, Step, Unwinder, end_of, next_with, step_with, unwinder, walk_with};
 use crate::words::Words;
 use crate::{
     AllocationPolicy, CacheStats, Error, FrameAddress, Generations, MayAllocateDuringUnwind, Module, ModuleListError,
@@ -103,5 +103,6 @@ unwinder!(
     framehop_unwinder_x86_64_max_known_code_address,
     framehop_unwinder_x86_64_walk,
     framehop_unwinder_x86_64_unwind_frame,
-    framehop_unwinder_x86_64_walk_on
+    framehop_unwinder_x86_64_walk_on,
+    framehop_unwinder_x86_64_next_frame
 );

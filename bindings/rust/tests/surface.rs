@@ -435,3 +435,9 @@ fn has_the_native_names() {
     assert!(iter.next().is_err());
     assert_eq!(iter.regs(), &regs);
 }
+
+#[test]
+fn has_the_version_of_its_archive() {
+    let [major, minor, patch] = framehop_rattle::archive_version();
+    assert_eq!(format!("{major}.{minor}.{patch}"), env!("CARGO_PKG_VERSION"));
+}

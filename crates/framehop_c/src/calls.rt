@@ -130,7 +130,7 @@ pub fn walk<U: Unwinder>(
 }
 
 /// Returns the frame at an address, unless it is the return address 0.
-fn frame_at(address: u64, is_return_address: bool) -> Option<FrameAddress>
+pub(crate) fn frame_at(address: u64, is_return_address: bool) -> Option<FrameAddress>
     ensures { MatchOption result (is_null_return address is_return_address ≡ true)
         (λ frame. (is_null_return address is_return_address ≡ false)
         × (location_of frame ≡ location_at address is_return_address)) }

@@ -4,6 +4,8 @@
 pub mod aarch64;
 pub mod calls;
 pub mod handle;
+pub mod lookups;
+pub mod next;
 pub mod object;
 pub mod sections;
 pub mod status;
@@ -12,11 +14,23 @@ pub mod x86_64;
 ghost use Rattle.std.specs.Prelude.{◌≡◌, ◌≢◌, ◌⊎◌, Some};
 ghost use Rattle.framehop_c.specs.Status.{ok, out_of_memory};
 ghost use Rattle.framehop_c.specs.Objects.{generations_in};
+ghost use Rattle.framehop_c.specs.Version.{version_number};
 
 use crate::handle::{Handle, HandlePlace, hand_out};
 use crate::object::Object;
 use framehop::Generations;
 use std::alloc::Global;
+
+/// The version, 0.16.0: 10000 * major + 100 * minor + patch.
+const VERSION_NUMBER: u32 = 1600;
+
+/// Returns the version of the archive: 10000 * major + 100 * minor + patch.
+#[unsafe(no_mangle)]
+pub extern "C" fn framehop_version() -> u32
+    ensures { result ≡ version_number }
+{
+    VERSION_NUMBER
+}
 
 /// Makes a counter of generations that starts at 0.
 #[unsafe(no_mangle)]

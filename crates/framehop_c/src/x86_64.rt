@@ -5,6 +5,10 @@
 //! architecture has a file like this one.
 ghost use Rattle.std.specs.Prelude.{◌≡◌, ◌≢◌, ◌≤◌, ◌<◌, ◌-◌, ◌^◌, ◌+◌, length, drop, true, false, [], None, Some, MatchOption, IfSome, ◌⊎◌, ◌↔◌};
 ghost use Rattle.framehop.specs.Memory.{Memory};
+ghost use Rattle.framehop.specs.Outcome.{Outcome};
+ghost use Rattle.framehop.specs.CodeAddress.{at_return_address};
+ghost use Rattle.framehop.specs.Iterator.{at_frame, next_of};
+ghost use Rattle.framehop_core.specs.X86_64.Registers.{Registers};
 ghost use Rattle.framehop.specs.Modules.{greatest_end};
 ghost use Rattle.framehop.specs.Fresh.{step};
 ghost use Rattle.framehop.specs.Soundness.{MayRunOut, cache_after, cache_after_lookup};
@@ -12,17 +16,21 @@ ghost use Rattle.framehop.specs.X86_64.{x86_64, IsSoundX86_64};
 ghost use Rattle.framehop_cache.specs.Cache.{empty_cache};
 ghost use Rattle.framehop_lent.specs.Window.{words_from, told_in, AgreesWith, IsReadAs};
 ghost use Rattle.framehop_lent.specs.Walk.{BeginsWalk};
-ghost use Rattle.framehop_c.specs.Status.{ok, missing_word, out_of_memory, wrong_handle, generations_exhausted, could_not_read_stack};
+ghost use Rattle.framehop_c.specs.Status.{ok, missing_word, out_of_memory, wrong_handle, generations_exhausted, could_not_read_stack, return_address_is_null};
+ghost use Rattle.framehop_c.specs.Ahead.{IsNoAhead, IsNullNext, IsToldNext, IsAsked, IsNeeded};
+ghost use Rattle.framehop_c.specs.Lookups.{lookup_between};
 ghost use Rattle.framehop_c.specs.Told.{IsToldWalk, IsToldPart, IsToldUpTo, IsToldStep, IsNullStep, IsNullWalk, IsStats, location_at, is_null_return, module_of};
 ghost use Rattle.framehop_c.specs.Objects.{generations_in, ForGenerations, policy_for, IsDrawn, IsAddition, IsRemoval};
 ghost use Rattle.framehop_c.specs.X86_64.{registers_in, unwinder_in, cache_in, IsPaired, ForPair, ForUnwinder, StaysSound, RunsOutOnly, walk_over};
 
 use crate::calls::{self, FramehopCacheStats, FramehopStep, FramehopWalk};
 use crate::handle::{Handle, HandlePlace, hand_out};
+use crate::next::{self, FramehopNext};
 use crate::object::Object;
 use crate::sections::FramehopSections;
 use crate::status::{
-    FRAMEHOP_OK, FRAMEHOP_OUT_OF_MEMORY, FRAMEHOP_WRONG_HANDLE, list_error_status,
+    FRAMEHOP_OK, FRAMEHOP_OUT_OF_MEMORY, FRAMEHOP_RETURN_ADDRESS_IS_NULL, FRAMEHOP_WRONG_HANDLE,
+    list_error_status,
 };
 use framehop::Unwinder;
 use framehop::x86_64::{CacheX86_64, Reg, UnwindRegsX86_64, UnwinderX86_64};
@@ -585,6 +593,120 @@ pub extern "C" fn framehop_unwinder_x86_64_unwind_frame(
         told,
     );
     if status == FRAMEHOP_OK {
+        registers.store(&regs);
+    }
+    status
+}
+
+/// Finds a frame's caller by an unwinder and a cache of one policy: [`next::next_frame`].
+fn next_frame_by(
+    unwinder: &Object,
+    cache: &mut Object,
+    address: u64,
+    is_return_address: bool,
+    regs: &mut UnwindRegsX86_64,
+    windows: &[Window<'_>],
+    told: &mut FramehopNext,
+) -> i32
+    ensures wrong { IsPaired unwinder.now cache.old (result ≡ wrong_handle) }
+    ensures unchanged { result ≡ wrong_handle → (cache.new ≡ cache.old) × (told.new ≡ told.old) }
+    ensures kept { result ≢ ok → result ≢ return_address_is_null → result ≢ missing_word → regs.new ≡ regs.old }
+    ensures missing { result ≡ missing_word → told_in windows.now told.new.unreadable ≡ None }
+    ensures nothing { result ≢ wrong_handle → result ≢ ok → (told.new.return_address ≡ 0) × IsNoAhead told.new.ahead }
+    ensures null { ForPair unwinder.now cache.old cache.new (λ policy unwinder old new.
+        is_null_return address is_return_address ≡ true → IsNullNext result told.new × (new ≡ old)) }
+    ensures null_kept { is_null_return address is_return_address ≡ true → regs.new ≡ regs.old }
+    ensures may_run_out { ForPair unwinder.now cache.old cache.new (λ policy unwinder old new.
+        result ≡ out_of_memory → MayRunOut (x86_64 policy) unwinder old (location_at address is_return_address)) }
+    ensures looked_up { ForPair unwinder.now cache.old cache.new (λ policy unwinder old new.
+        is_null_return address is_return_address ≡ false
+        → told.new.lookup ≡ lookup_between old.stats (cache_after (x86_64 policy) unwinder old (location_at address is_return_address)).stats) }
+    ensures stays_sound { ForPair unwinder.now cache.old cache.new StaysSound }
+    ensures answers { result ≢ out_of_memory → result ≢ missing_word → ForPair unwinder.now cache.old cache.new (λ policy unwinder old new.
+        is_null_return address is_return_address ≡ false → IsSoundX86_64 policy unwinder old
+        → (memory : Memory) → AgreesWith windows.now memory
+        → IsToldNext (next_of (λ location now. step (x86_64 policy) unwinder.modules location now memory)
+        (at_frame (location_at address is_return_address)) regs.old) result told.new regs.new) }
+    ensures ahead { result ≡ ok → ForPair unwinder.now cache.old cache.new (λ policy unwinder old new. IsSoundX86_64 policy unwinder old →
+        let asking : Memory → Outcome Registers = λ memory. step (x86_64 policy) unwinder.modules (at_return_address told.new.return_address) regs.new memory in
+        IsAsked asking told.new.ahead × IsNeeded asking told.new.ahead) }
+{
+    match unwinder {
+        Object::UnwinderX86_64(unwinder) => match cache {
+            Object::CacheX86_64(cache) => next::next_frame(
+                unwinder,
+                cache,
+                address,
+                is_return_address,
+                regs,
+                windows,
+                told,
+            ),
+            _ => FRAMEHOP_WRONG_HANDLE,
+        },
+        Object::LimitedUnwinderX86_64(unwinder) => match cache {
+            Object::LimitedCacheX86_64(cache) => next::next_frame(
+                unwinder,
+                cache,
+                address,
+                is_return_address,
+                regs,
+                windows,
+                told,
+            ),
+            _ => FRAMEHOP_WRONG_HANDLE,
+        },
+        _ => FRAMEHOP_WRONG_HANDLE,
+    }
+}
+
+/// Finds the frame that called the one at an address (AVMA), over the words of windows: writes its return address (AVMA) and its
+/// registers, and tells the words that the step from it will ask for first.
+#[unsafe(no_mangle)]
+pub extern "C" fn framehop_unwinder_x86_64_next_frame(
+    unwinder: &mut Handle,
+    cache: &mut Handle,
+    address: u64,
+    is_return_address: bool,
+    registers: &mut FramehopRegistersX86_64,
+    windows: &[Window<'_>],
+    told: &mut FramehopNext,
+) -> i32
+    ensures wrong { IsPaired unwinder.old.object cache.old.object (result ≡ wrong_handle) }
+    ensures unwinder { unwinder.new.object ≡ unwinder.old.object }
+    ensures unchanged { result ≡ wrong_handle → (cache.new.object ≡ cache.old.object) × (told.new ≡ told.old) }
+    ensures kept { result ≢ ok → result ≢ return_address_is_null → registers.new ≡ registers.old }
+    ensures missing { result ≡ missing_word → told_in windows.now told.new.unreadable ≡ None }
+    ensures nothing { result ≢ wrong_handle → result ≢ ok → (told.new.return_address ≡ 0) × IsNoAhead told.new.ahead }
+    ensures null { ForPair unwinder.old.object cache.old.object cache.new.object (λ policy unwinder old new.
+        is_null_return address is_return_address ≡ true → IsNullNext result told.new × (new ≡ old)) }
+    ensures null_kept { is_null_return address is_return_address ≡ true → registers_in registers.new ≡ registers_in registers.old }
+    ensures may_run_out { ForPair unwinder.old.object cache.old.object cache.new.object (λ policy unwinder old new.
+        result ≡ out_of_memory → MayRunOut (x86_64 policy) unwinder old (location_at address is_return_address)) }
+    ensures looked_up { ForPair unwinder.old.object cache.old.object cache.new.object (λ policy unwinder old new.
+        is_null_return address is_return_address ≡ false
+        → told.new.lookup ≡ lookup_between old.stats (cache_after (x86_64 policy) unwinder old (location_at address is_return_address)).stats) }
+    ensures stays_sound { ForPair unwinder.old.object cache.old.object cache.new.object StaysSound }
+    ensures answers { result ≢ out_of_memory → result ≢ missing_word → ForPair unwinder.old.object cache.old.object cache.new.object (λ policy unwinder old new.
+        is_null_return address is_return_address ≡ false → IsSoundX86_64 policy unwinder old
+        → (memory : Memory) → AgreesWith windows.now memory
+        → IsToldNext (next_of (λ location now. step (x86_64 policy) unwinder.modules location now memory)
+        (at_frame (location_at address is_return_address)) (registers_in registers.old)) result told.new (registers_in registers.new)) }
+    ensures ahead { result ≡ ok → ForPair unwinder.old.object cache.old.object cache.new.object (λ policy unwinder old new. IsSoundX86_64 policy unwinder old →
+        let asking : Memory → Outcome Registers = λ memory. step (x86_64 policy) unwinder.modules (at_return_address told.new.return_address) (registers_in registers.new) memory in
+        IsAsked asking told.new.ahead × IsNeeded asking told.new.ahead) }
+{
+    let mut regs = registers.load();
+    let status = next_frame_by(
+        unwinder.object_mut(),
+        cache.object_mut(),
+        address,
+        is_return_address,
+        &mut regs,
+        windows,
+        told,
+    );
+    if status == FRAMEHOP_OK || status == FRAMEHOP_RETURN_ADDRESS_IS_NULL {
         registers.store(&regs);
     }
     status

@@ -76,7 +76,7 @@ fn command<'a>(alloc: Global) -> Result<Command<'a>> {
         .help("ELF files of x86_64 or aarch64, or PE files of x86_64")
         .action(ArgAction::Append);
     let command = Command::new(alloc, "framehop-check")
-        .version("0.1.0")
+        .version("0.16.0 (commit ............)")
         .about(ABOUT)
         .arg(quiet)?
         .arg(notes)?

@@ -5,11 +5,7 @@ use Rattle.framehop_bytes.specs.Bytes.{◌>>=◌}
 use Rattle.framehop_coredump.specs.declared.core_file.Machine.{Machine}
 use Rattle.framehop_coredump.specs.declared.error.CoreFileError.{CoreFileError}
 use Rattle.framehop_coredump.specs.Note.{PlacedView}
-use Rattle.framehop_coredump.specs.Thread.{ThreadView, is_thread, is_pac_mask, thread_of, threads_of}
-
--- the first note of masks before the next thread
-abbrev pub mask_in : List PlacedView → Option PlacedView
-mask_in notes = find is_pac_mask (before_first is_thread notes)
+use Rattle.framehop_coredump.specs.Thread.{ThreadView, is_thread, note_in, thread_of, threads_of}
 
 take-more : (n : ℕ) (placed : PlacedView) (notes : List PlacedView) → take (1 + n) (placed ∷ notes) ≡ placed ∷ take n notes
 take-more n placed notes = ap (λ m. take m (placed ∷ notes)) (let more : 1 + n ≡ suc n = omega arith in more)
@@ -19,18 +15,19 @@ before-more true placed notes e = rw e refl
 before-more false placed notes e = rw e (take-more (position_or_len is_thread notes) placed notes)
 
 module _ (left notes : List PlacedView) (placed : PlacedView) (is : left ≡ placed ∷ notes) where
-  pub mask-ends : is_thread placed ≡ true → mask_in left ≡ None
-  mask-ends next = ap mask_in is ∙ ap (find is_pac_mask) (before-more true placed notes next)
+  module _ (is_kind : PlacedView → Bool) where
+    pub kind-ends : is_thread placed ≡ true → note_in is_kind left ≡ None
+    kind-ends next = ap (note_in is_kind) is ∙ ap (find is_kind) (before-more true placed notes next)
 
-  pub mask-first : is_thread placed ≡ false → is_pac_mask placed ≡ true → mask_in left ≡ Some placed
-  mask-first next mask =
-      ap mask_in is ∙ ap (find is_pac_mask) (before-more false placed notes next)
-      ∙ ap (λ (b : Bool). cond b (Some placed) (mask_in notes)) mask
+    pub kind-first : is_thread placed ≡ false → is_kind placed ≡ true → note_in is_kind left ≡ Some placed
+    kind-first next kind =
+        ap (note_in is_kind) is ∙ ap (find is_kind) (before-more false placed notes next)
+        ∙ ap (λ (b : Bool). cond b (Some placed) (note_in is_kind notes)) kind
 
-  pub mask-later : is_thread placed ≡ false → is_pac_mask placed ≡ false → mask_in left ≡ mask_in notes
-  mask-later next mask =
-      ap mask_in is ∙ ap (find is_pac_mask) (before-more false placed notes next)
-      ∙ ap (λ (b : Bool). cond b (Some placed) (mask_in notes)) mask
+    pub kind-later : is_thread placed ≡ false → is_kind placed ≡ false → note_in is_kind left ≡ note_in is_kind notes
+    kind-later next kind =
+        ap (note_in is_kind) is ∙ ap (find is_kind) (before-more false placed notes next)
+        ∙ ap (λ (b : Bool). cond b (Some placed) (note_in is_kind notes)) kind
 
   module _ (machine : Machine) where
     pub threads-more : (thread : ThreadView) (later : List PlacedView) → notes ≡ later → is_thread placed ≡ true → thread_of machine placed later ≡ Ok thread → threads_of machine left ≡ threads_of machine notes >>= (λ others. Ok ((thread ∷ []) ++ others))

@@ -6,7 +6,9 @@ pub mod Numbers
 pub mod Refusal
 pub mod CoreFile
 pub mod Note
+pub mod SignalInfo
 pub mod Thread
+pub mod OtherSystem
 pub mod Registers
 pub mod MappedFile
 pub mod Process

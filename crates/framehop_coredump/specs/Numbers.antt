@@ -1,6 +1,6 @@
 -- The numbers of the format, under the names of their sources: the System V gABI, Linux's include/uapi/linux/elf.h and
 -- elf-em.h and auxvec.h, and include/linux/elfcore.h. Sizes and places of fields are in bytes.
-use Rattle.std.specs.Prelude.{ℕ, List, [], ◌∷◌}
+use Rattle.std.specs.Prelude.{ℕ, List, [], ◌∷◌, ◌++◌, codes}
 
 -- e_type and e_machine
 abbrev pub ET_CORE : ℕ
@@ -19,6 +19,17 @@ CORE = 67 ∷ 79 ∷ 82 ∷ 69 ∷ 0 ∷ []
 abbrev pub LINUX : List ℕ
 LINUX = 76 ∷ 73 ∷ 78 ∷ 85 ∷ 88 ∷ 0 ∷ []
 
+-- those of other systems: FreeBSD's sys/elf_common.h, OpenBSD's sys/exec_elf.h, and of NetBSD's sys/exec_elf.h how they
+-- begin ("NetBSD-CORE" of the process, "NetBSD-CORE@1" of a thread)
+abbrev pub FREEBSD : List ℕ
+FREEBSD = codes "FreeBSD" ++ 0 ∷ []
+
+abbrev pub OPENBSD : List ℕ
+OPENBSD = codes "OpenBSD" ++ 0 ∷ []
+
+abbrev pub NETBSD_CORE : List ℕ
+NETBSD_CORE = codes "NetBSD-CORE"
+
 -- n_type of notes of "CORE", and the last of "LINUX"
 abbrev pub NT_PRSTATUS : ℕ
 NT_PRSTATUS = 1
@@ -28,6 +39,9 @@ NT_PRPSINFO = 3
 
 abbrev pub NT_AUXV : ℕ
 NT_AUXV = 6
+
+abbrev pub NT_SIGINFO : ℕ
+NT_SIGINFO = 0x53494749
 
 abbrev pub NT_FILE : ℕ
 NT_FILE = 0x46494c45
@@ -65,3 +79,17 @@ PAC_MASK_SIZE = 16
 
 abbrev pub INSN_MASK : ℕ
 INSN_MASK = 8
+
+-- siginfo_t (include/uapi/asm-generic/siginfo.h), its size, and where its union is, of which what comes first is
+-- `_sifields._sigfault._addr`, or `_sifields._kill._pid` and `_uid`
+abbrev pub SIGINFO_SIZE : ℕ
+SIGINFO_SIZE = 128
+
+abbrev pub SI_SIGNO : ℕ
+SI_SIGNO = 0
+
+abbrev pub SI_CODE : ℕ
+SI_CODE = 8
+
+abbrev pub SI_FIELDS : ℕ
+SI_FIELDS = 16

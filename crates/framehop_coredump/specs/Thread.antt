@@ -6,10 +6,12 @@ use Rattle.std.specs.List.{find, before_first}
 use Rattle.framehop_bytes.specs.Bytes.{◌>>=◌, le2, le4, le8}
 use Rattle.framehop_coredump.specs.Numbers.{CORE, LINUX, NT_PRSTATUS, NT_ARM_PAC_MASK, PR_CURSIG, PR_PID, PR_REG, PAC_MASK_SIZE, INSN_MASK}
 use Rattle.framehop_coredump.specs.Note.{PlacedView, is_of}
+use Rattle.framehop_coredump.specs.SignalInfo.{is_signal_info, signal_info_of}
 use Rattle.framehop_coredump.specs.declared.core_file.Machine.{Machine}
 use Rattle.framehop_coredump.specs.declared.core_file.Machine.TheVariants.{X86_64, Aarch64}
 use Rattle.framehop_coredump.specs.declared.error.CoreFileError.{CoreFileError}
 use Rattle.framehop_coredump.specs.declared.error.CoreFileError.TheVariants.{BadNoteSize}
+use Rattle.framehop_coredump.specs.declared.signal_info.SignalInfo.{SignalInfo}
 use Rattle.framehop_coredump.specs.declared.thread.Thread.{Thread}
 
 -- a thread by its values
@@ -17,6 +19,7 @@ pub record ThreadView : Type 0 where
   pub offset : ℕ
   pub tid : ℕ
   pub signal : ℕ
+  pub info : Option SignalInfo
   pub registers : List ℕ
   pub pac_mask : Option ℕ
 
@@ -25,6 +28,7 @@ thread_view t = record {
   offset = t.offset;
   tid = t.tid;
   signal = t.signal;
+  info = t.info;
   registers = t.registers.now;
   pac_mask = t.pac_mask;
 }
@@ -53,21 +57,26 @@ pac_mask_of (Some placed) =
     else Err (BadNoteSize placed.offset)
 
 -- the fields that are read of the struct
-abbrev pub fields_of : Machine → PlacedView → Option ℕ → ThreadView
-fields_of machine placed pac_mask = record {
+abbrev pub fields_of : Machine → PlacedView → Option SignalInfo → Option ℕ → ThreadView
+fields_of machine placed info pac_mask = record {
   offset = placed.offset;
   tid = le4 placed.note.descriptor PR_PID;
   signal = le2 placed.note.descriptor PR_CURSIG;
+  info = info;
   registers = take (registers_size machine) (drop PR_REG placed.note.descriptor);
   pac_mask = pac_mask;
 }
+
+-- the first note of a kind among those of a thread, which these come after: up to the next thread's
+abbrev pub note_in : (PlacedView → Bool) → List PlacedView → Option PlacedView
+note_in is_kind later = find is_kind (before_first is_thread later)
 
 -- The thread of a note, which other notes come after. Those up to the next thread's are this thread's.
 unfoldable pub thread_of : Machine → PlacedView → List PlacedView → Result ThreadView CoreFileError
 thread_of machine placed later =
     if not (length placed.note.descriptor == prstatus_size machine) then Err (BadNoteSize placed.offset) else (do
-      pac_mask ← pac_mask_of (find is_pac_mask (before_first is_thread later))
-      Ok (fields_of machine placed pac_mask))
+      pac_mask ← pac_mask_of (note_in is_pac_mask later)
+      Ok (fields_of machine placed (signal_info_of (note_in is_signal_info later)) pac_mask))
 
 -- the threads of a process, in the order of their notes
 unfoldable pub threads_of : Machine → List PlacedView → Result (List ThreadView) CoreFileError

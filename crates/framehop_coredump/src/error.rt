@@ -34,6 +34,18 @@ pub enum CoreFileError {
     /// The note at the offset has a file mapped from an offset on that does not fit 64 bits.
     #[error("a file mapped beyond the last offset: the note at offset {offset}")]
     OffsetTooBig { offset: u64 },
+    /// The note at the offset is of FreeBSD.
+    #[error("a core file of FreeBSD: the note at offset {offset}; only those of Linux are read")]
+    OfFreeBsd { offset: u64 },
+    /// The note at the offset is of NetBSD.
+    #[error("a core file of NetBSD: the note at offset {offset}; only those of Linux are read")]
+    OfNetBsd { offset: u64 },
+    /// The note at the offset is of OpenBSD.
+    #[error("a core file of OpenBSD: the note at offset {offset}; only those of Linux are read")]
+    OfOpenBsd { offset: u64 },
+    /// The core file has no note of a thread.
+    #[error("a core file without threads")]
+    NoThreads,
     /// An allocation failed.
     #[error("out of memory")]
     OutOfMemory,

@@ -8,6 +8,8 @@ pub mod error;
 pub mod mapped_file;
 pub mod memory;
 pub mod note;
+pub mod other_system;
 pub mod process;
 pub mod registers;
+pub mod signal_info;
 pub mod thread;

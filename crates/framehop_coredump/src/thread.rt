@@ -1,19 +1,22 @@
 //! The threads of a process.
 ghost use Rattle.std.specs.Prelude.{◌≡◌, Ok, Err, MatchResult, map, option_map};
-ghost use Rattle.std.specs.List.{find, before_first};
 ghost use Rattle.framehop_coredump.specs.Refusal.{IsErrorOf};
-ghost use Rattle.framehop_coredump.specs.Note.{placed_view};
-ghost use Rattle.framehop_coredump.specs.Thread.{thread_view, registers_size, prstatus_size, is_thread, is_pac_mask, pac_mask_of, thread_of, threads_of};
+ghost use Rattle.framehop_coredump.specs.Note.{placed_view, is_of};
+ghost use Rattle.framehop_coredump.specs.Thread.{thread_view, registers_size, prstatus_size, is_thread, note_in, pac_mask_of, thread_of, threads_of};
 
 use crate::core_file::Machine;
 use crate::error::CoreFileError;
 use crate::note::{PlacedNote, is_of};
+use crate::signal_info::{SignalInfo, signal_info_of};
 use framehop_bytes::bytes::{back, front, u16_at, u32_at, u64_at};
 use framehop_bytes::gathered::pushed;
 use std::alloc::Global;
 
 /// `NT_PRSTATUS` of "CORE".
 const NT_PRSTATUS: u32 = 1;
+
+/// `NT_SIGINFO` of "CORE".
+const NT_SIGINFO: u32 = 0x5349_4749;
 
 /// `NT_ARM_PAC_MASK` of "LINUX".
 const NT_ARM_PAC_MASK: u32 = 0x406;
@@ -31,8 +34,10 @@ pub struct Thread<'a> {
     pub offset: u64,
     /// The thread: `pr_pid`.
     pub tid: u32,
-    /// The signal that it got, or 0: `pr_cursig`.
+    /// The signal that it got, or 0: `pr_cursig`. Linux writes the one of the first thread in the note of each.
     pub signal: u16,
+    /// What is told of the signal, where the thread has a note of it: NT_SIGINFO.
+    pub info: Option<SignalInfo>,
     /// Its registers, eight bytes each, in the order of the kernel: `pr_reg`.
     pub registers: &'a [u8],
     /// The bits of an address of code that are its signature, where the thread has a note of them:
@@ -88,11 +93,12 @@ fn read_thread<'a>(
     if descriptor.len() != prstatus_size(machine) {
         return Err(CoreFileError::BadNoteSize { offset });
     }
-    let pac_mask = pac_mask(pac_mask_note(later))?;
+    let pac_mask = pac_mask(note_in(later, b"LINUX\0", NT_ARM_PAC_MASK))?;
     Ok(Thread {
         offset,
         tid: u32_at(descriptor, 32),
         signal: u16_at(descriptor, 12),
+        info: signal_info_of(note_in(later, b"CORE\0", NT_SIGINFO)),
         registers: front(back(descriptor, PR_REG), registers_size(machine)),
         pac_mask,
     })
@@ -124,15 +130,16 @@ fn pac_mask<'a>(placed: Option<PlacedNote<'a>>) -> Result<Option<u64>, CoreFileE
     Ok(Some(u64_at(descriptor, 8)))
 }
 
-/// Returns the first note of masks that comes before the next thread's first note.
-fn pac_mask_note<'a>(later: &[PlacedNote<'a>]) -> Option<PlacedNote<'a>>
-    ensures { option_map placed_view result ≡ find is_pac_mask (before_first is_thread (map placed_view later.entry.now)) }
+/// Returns the first note of an owner, whose name ends with a 0, and of one of its types that comes before the next thread's
+/// first note.
+fn note_in<'a>(later: &[PlacedNote<'a>], owner: &[u8], n_type: u32) -> Option<PlacedNote<'a>>
+    ensures { option_map placed_view result ≡ note_in (is_of owner.now n_type) (map placed_view later.entry.now) }
 {
     for index in 0..later.len() {
         if is_thread(later[index]) {
             return None;
         }
-        if is_pac_mask(later[index]) {
+        if is_of(later[index], owner, n_type) {
             return Some(later[index]);
         }
     }
@@ -144,13 +151,6 @@ fn is_thread<'a>(placed: PlacedNote<'a>) -> bool
     ensures { result ≡ is_thread (placed_view placed.entry) }
 {
     is_of(placed, b"CORE\0", NT_PRSTATUS)
-}
-
-/// Returns whether a note has the masks of pointer authentication.
-fn is_pac_mask<'a>(placed: PlacedNote<'a>) -> bool
-    ensures { result ≡ is_pac_mask (placed_view placed.entry) }
-{
-    is_of(placed, b"LINUX\0", NT_ARM_PAC_MASK)
 }
 
 /// Returns the size of the registers of a machine, in bytes.

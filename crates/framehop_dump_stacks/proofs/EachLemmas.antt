@@ -23,7 +23,7 @@ append-one : {A : Type 0} (before : List A) (x : A) (rest : List A) → before +
 append-one [] x rest = refl
 append-one (y ∷ before) x rest = ap (λ list. y ∷ list) (append-one before x rest)
 
-prepended-more : {B : Type 0} (before : List B) (one : B) (rest : Result (List B) MinidumpError)
+pub prepended-more : {B : Type 0} (before : List B) (one : B) (rest : Result (List B) MinidumpError)
     → prepended before (rest >>= (λ others. Ok (one ∷ others))) ≡ prepended (before ++ one ∷ []) rest
 prepended-more before one (Ok others) = ap (λ list. Ok list) (append-one before one others)
 prepended-more before one (Err error) = refl
@@ -34,7 +34,7 @@ nothing-before (Ok others) = refl
 nothing-before (Err error) = refl
 
 -- the item at an index, and those after it
-items-are : {A : Type 0} (items : List A) (i : ℕ) (default : A) → i < length items → drop i items ≡ get_or items i default ∷ drop (i + 1) items
+pub items-are : {A : Type 0} (items : List A) (i : ℕ) (default : A) → i < length items → drop i items ≡ get_or items i default ∷ drop (i + 1) items
 items-are items i default below =
     drop-cons items i default below
     ∙ ap (λ j. get_or items i default ∷ drop j items) (let more : suc i ≡ i + 1 = omega arith in more)

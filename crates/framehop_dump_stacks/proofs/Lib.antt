@@ -6,3 +6,6 @@ mod ProblemLemmas
 mod EndLemmas
 mod SegmentLemmas
 mod HeadLemmas
+mod OrderLemmas
+mod WithinLemmas
+mod ThreadNameLemmas

@@ -7,9 +7,8 @@ use Rattle.std.proofs.lemmas.List.{map-append, take_more}
 use Rattle.std.proofs.lemmas.List.Sums.{fold-append, suffix_len_is}
 use Rattle.framehop_bytes.specs.Bytes.{◌>>=◌}
 use Rattle.framehop_minidump.specs.declared.error.MinidumpError.{MinidumpError}
-use Rattle.framehop_minidump.specs.declared.stream.Stream.{Stream}
 use Rattle.framehop_dump_stacks.specs.Dump.{DumpView}
-use Rattle.framehop_dump_stacks.specs.Minidump.{file_name, LoadedView, loaded_view, last_address, streams_and_modules_of, dump_in, minidump_of}
+use Rattle.framehop_dump_stacks.specs.Minidump.{file_name, loaded_view, last_address, PartsView, parts_of, dump_in, minidump_of}
 use Rattle.framehop_dump_stacks.specs.declared.minidump.LoadedModule.{LoadedModule}
 
 no_separator : (x separator : ℕ) → x ≢ separator → not (x == separator) ≡ true
@@ -40,26 +39,26 @@ last-next modules i d within =
 
 module _ (file : List ℕ) where
   -- a minidump that is read
-  pub minidump-is : (read : List Stream × List LoadedView) (dump : DumpView) → streams_and_modules_of file ≡ Ok read
-      → dump_in file read.0 read.1 ≡ Ok dump → minidump_of file ≡ Ok (dump, read.1)
+  pub minidump-is : (parts : PartsView) (dump : DumpView) → parts_of file ≡ Ok parts
+      → dump_in file parts ≡ Ok dump → minidump_of file ≡ Ok (dump, parts.modules)
   unfolding minidump_of
-  minidump-is read dump first second =
-      ap (λ r. r >>= (λ read. dump_in file read.0 read.1 >>= (λ dump. Ok (dump, read.1)))) first
-      ∙ ap (λ d. d >>= (λ dump. Ok (dump, read.1))) second
+  minidump-is parts dump first second =
+      ap (λ r. r >>= (λ parts. dump_in file parts >>= (λ dump. Ok (dump, parts.modules)))) first
+      ∙ ap (λ d. d >>= (λ dump. Ok (dump, parts.modules))) second
 
-  -- one that is refused by its streams or its modules
-  pub refused-first : (error : MinidumpError) → streams_and_modules_of file ≡ Err error → minidump_of file ≡ Err error
+  -- one that is refused by its parts
+  pub refused-first : (error : MinidumpError) → parts_of file ≡ Err error → minidump_of file ≡ Err error
   unfolding minidump_of
   refused-first error first =
-      ap (λ r. r >>= (λ read. dump_in file read.0 read.1 >>= (λ dump. Ok (dump, read.1)))) first
+      ap (λ r. r >>= (λ parts. dump_in file parts >>= (λ dump. Ok (dump, parts.modules)))) first
 
   -- one that is refused by the rest
-  pub refused-second : (read : List Stream × List LoadedView) (error : MinidumpError) → streams_and_modules_of file ≡ Ok read
-      → dump_in file read.0 read.1 ≡ Err error → minidump_of file ≡ Err error
+  pub refused-second : (parts : PartsView) (error : MinidumpError) → parts_of file ≡ Ok parts
+      → dump_in file parts ≡ Err error → minidump_of file ≡ Err error
   unfolding minidump_of
-  refused-second read error first second =
-      ap (λ r. r >>= (λ read. dump_in file read.0 read.1 >>= (λ dump. Ok (dump, read.1)))) first
-      ∙ ap (λ d. d >>= (λ dump. Ok (dump, read.1))) second
+  refused-second parts error first second =
+      ap (λ r. r >>= (λ parts. dump_in file parts >>= (λ dump. Ok (dump, parts.modules)))) first
+      ∙ ap (λ d. d >>= (λ dump. Ok (dump, parts.modules))) second
 
 abbrev is_ok : {A E : Type 0} → Result A E → Type 0
 is_ok (Ok value) = Unit {0}

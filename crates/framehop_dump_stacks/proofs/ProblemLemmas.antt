@@ -15,7 +15,7 @@ module _ (dump : DumpView) (files : Files) (mappings : List Mapping) (list : Lis
 
   -- one more
   pub next-line : (items : List NamedFile) → items ≡ list → (at : ℕ) (d : NamedFile) → at < length items → (text line all : List ℕ)
-      → IsLineOf dump files mappings (get_or items at d).name.items (get_or items at d).problem line
+      → IsLineOf dump files mappings (get_or items at d).name.items (get_or items at d).object (get_or items at d).problem line
       → all ≡ text ++ line → AreToldUpTo at text → AreToldUpTo (at + 1) all
   next-line items same at d within text line all told is up_to = λ later are.
       let left : drop at list ≡ get_or items at d ∷ drop (at + 1) list =

@@ -1,6 +1,6 @@
 -- What a core file says of a process (gABI, chapter 5, "Program Loading"; `core(5)`).
 -- Which code may be executed: gABI, chapter 5, "Program Header", p_flags.
-use Rattle.std.specs.Prelude.{ℕ, ◌+◌, ◌-◌, ◌^◌, ◌<◌, ◌≤◌, length, slice_index_or, min, List, [], ◌∷◌, ◌++◌, codes, map, Bool, nat_eq, ◌&&◌, ◌==◌, if◌then◌else◌, Option, Some, None, option_map, Result, Ok}
+use Rattle.std.specs.Prelude.{ℕ, ◌+◌, ◌-◌, ◌^◌, ◌<◌, ◌≤◌, length, slice_index_or, min, List, [], ◌∷◌, ◌++◌, codes, map, Bool, true, false, not, nat_eq, ◌&&◌, ◌||◌, ◌==◌, if◌then◌else◌, Option, Some, None, option_map, Result, Ok, Err}
 use Rattle.std.specs.Cmp.Lexicographic.{pointwise}
 use Rattle.std.specs.List.{find, flat_map}
 use Rattle.std.specs.Option.{is_some}
@@ -8,33 +8,64 @@ use Rattle.framehop_bytes.specs.Bytes.{◌>>=◌}
 use Rattle.framehop_coredump.specs.AuxiliaryVector.{vdso_of}
 use Rattle.framehop_coredump.specs.CoreFile.{core_file_of}
 use Rattle.framehop_coredump.specs.MappedFile.{MappedFileView, mapped_files_of}
-use Rattle.framehop_coredump.specs.Note.{notes_of}
+use Rattle.framehop_coredump.specs.Note.{PlacedView, notes_of}
+use Rattle.framehop_coredump.specs.OtherSystem.{without_threads}
 use Rattle.framehop_coredump.specs.Process.{ProcessView, process_of}
 use Rattle.framehop_coredump.specs.Thread.{ThreadView as NotedView, threads_of}
+use Rattle.framehop_coredump.specs.declared.core_file.Machine.{Machine}
 use Rattle.framehop_coredump.specs.declared.error.CoreFileError.{CoreFileError}
+use Rattle.framehop_coredump.specs.declared.signal_info.SignalInfo.{SignalInfo}
 use Rattle.framehop_coredump.specs.Memory.{range_of}
 use Rattle.framehop_elf.specs.Segment.{loaded_segments_of}
 use Rattle.framehop_memory.specs.Code.{has_address}
 use Rattle.framehop_memory.specs.Memory.{MemoryView}
 use Rattle.framehop_memory.specs.Segment.{base_of}
 use Rattle.framehop_memory.specs.declared.segment.Segment.{Segment}
-use Rattle.framehop_dump_stacks.specs.Dump.{ThreadView, MappedCodeView, DumpView, of_kernel}
+use Rattle.framehop_dump_stacks.specs.Dump.{ThreadView, MappedCodeView, DumpView, of_kernel, crashed_first}
 use Rattle.framehop_dump_stacks.specs.Image.{head_at, segments_in, build_id_in}
 use Rattle.framehop_dump_stacks.specs.declared.dump.Cause.{Cause}
 use Rattle.framehop_dump_stacks.specs.declared.dump.Cause.TheVariants.{Signal}
 use Rattle.framehop_dump_stacks.specs.declared.dump.Kind.TheVariants.{CoreFile}
+use Rattle.framehop_dump_stacks.specs.declared.dump.Sent.{Sent}
 
--- the signal of a thread; 0 is none
-abbrev pub cause_of_signal : ℕ → Option Cause
-cause_of_signal signal = if signal == 0 then None else Some (Signal signal)
+-- why a signal was sent, where its note is of the signal that the thread's is of
+abbrev pub sent_of : ℕ → Option SignalInfo → Option Sent
+sent_of signal None = None
+sent_of signal (Some info) =
+    if info.signal == signal then Some (record { code = info.code; fields = info.fields }) else None
 
--- a thread by its note
-abbrev pub thread_of : NotedView → ThreadView
-thread_of thread = record {
+-- the signal of a thread, if an earlier thread (`true`) has not got it; 0 is none
+abbrev pub cause_unless : Bool → NotedView → Option Cause
+cause_unless true thread = None
+cause_unless false thread =
+    if thread.signal == 0 then None
+    else Some (Signal (record { number = thread.signal; sent = sent_of thread.signal thread.info }))
+
+-- a thread by its note. A core file has no names of threads.
+abbrev pub thread_of : Bool → NotedView → ThreadView
+thread_of told thread = record {
   tid = thread.tid;
-  cause = cause_of_signal thread.signal;
+  name = None;
+  cause = cause_unless told thread;
   registers = of_kernel thread.registers thread.pac_mask;
 }
+
+-- Threads, of which the first with a signal got it: Linux writes that one first, and the signal in the note of each
+-- (`fill_note_info` of fs/binfmt_elf.c).
+abbrev pub threads_by : Bool → List NotedView → List ThreadView
+threads_by told [] = []
+threads_by told (thread ∷ others) = thread_of told thread ∷ threads_by (told || not (thread.signal == 0)) others
+
+-- a core file without threads is refused
+abbrev pub some_threads : List PlacedView → List NotedView → Result (List NotedView) CoreFileError
+some_threads notes [] = Err (without_threads notes)
+some_threads notes (thread ∷ others) = Ok (thread ∷ others)
+
+-- the threads of notes, of which there must be one
+unfoldable pub noted_threads_of : Machine → List PlacedView → Result (List NotedView) CoreFileError
+noted_threads_of machine notes = do
+  noted ← threads_of machine notes
+  some_threads notes noted
 
 -- the name of the program and the number of the process
 abbrev pub name_of : Option ProcessView → Option (List ℕ)
@@ -83,6 +114,7 @@ mapped_code head mapped = record {
   head = head;
   build_id = build_id_in head (segments_in head);
   base = None;
+  memory_base = base_in_memory (loaded_segments_of (segments_in head)) mapped;
 }
 
 abbrev pub code_by : List Segment → List ℕ → MappedFileView → List MappedCodeView
@@ -98,17 +130,29 @@ abbrev pub code_of : MemoryView → List Segment → List MappedFileView → Lis
 code_of memory dumped files = flat_map (code_if memory dumped files) files
 
 -- the vdso, which no file has: as far as the segment has it that has its first address
-abbrev pub vdso_in : MemoryView → ℕ → Option Segment → List MappedCodeView
-vdso_in memory start None = []
-vdso_in memory start (Some segment) = record {
+abbrev pub vdso_mapped : ℕ → Segment → MappedFileView
+vdso_mapped start segment = record {
   start = start;
   end = min (segment.address + segment.size) (2 ^ 64 - 1);
   offset = 0;
   path = codes "[vdso]";
-  head = head_at memory start;
+}
+
+abbrev pub vdso_at : List ℕ → MappedFileView → MappedCodeView
+vdso_at head mapped = record {
+  start = mapped.start;
+  end = mapped.end;
+  offset = mapped.offset;
+  path = mapped.path;
+  head = head;
   build_id = [];
   base = None;
-} ∷ []
+  memory_base = base_in_memory (loaded_segments_of (segments_in head)) mapped;
+}
+
+abbrev pub vdso_in : MemoryView → ℕ → Option Segment → List MappedCodeView
+vdso_in memory start None = []
+vdso_in memory start (Some segment) = vdso_at (head_at memory start) (vdso_mapped start segment) ∷ []
 
 abbrev pub vdso_code : MemoryView → List Segment → Option ℕ → List MappedCodeView
 vdso_code memory dumped None = []
@@ -123,7 +167,7 @@ unfoldable pub core_dump_of : List ℕ → Result DumpView CoreFileError
 core_dump_of file = do
   core ← core_file_of file
   notes ← notes_of file core.1
-  threads ← threads_of core.0 notes
+  threads ← noted_threads_of core.0 notes
   files ← mapped_files_of notes
   process ← process_of notes
   Ok (record {
@@ -131,9 +175,10 @@ core_dump_of file = do
     memory = dumped_memory file (loaded_segments_of core.1);
     segments = loaded_segments_of core.1;
     machine = core.0;
-    threads = map thread_of threads;
+    threads = crashed_first (threads_by false threads);
     code = code_of (dumped_memory file (loaded_segments_of core.1)) (loaded_segments_of core.1) files
         ++ vdso_code (dumped_memory file (loaded_segments_of core.1)) (loaded_segments_of core.1) (vdso_of notes);
     name = name_of process;
     pid = pid_of process;
+    wow64 = false;
   })

@@ -1,5 +1,5 @@
 -- What is known of a process that is gone, by a core file or a minidump.
-use Rattle.std.specs.Prelude.{nat_eq, ℕ, List, [], map, Bool, Option, option_map, unwrap_or}
+use Rattle.std.specs.Prelude.{nat_eq, ℕ, List, [], ◌++◌, map, filter, Bool, true, false, not, Option, option_map, is_some, unwrap_or}
 use Rattle.std.specs.Cmp.Lexicographic.{pointwise}
 use Rattle.std.specs.List.{find}
 use Rattle.framehop_core.specs.Memory.{Memory}
@@ -28,12 +28,26 @@ registers_view (Context values code_mask) = of_context values.now code_mask
 -- a thread by its values
 pub record ThreadView : Type 0 where
   pub tid : ℕ
+  pub name : Option (List ℕ)
   pub cause : Option Cause
   pub registers : RegistersView
 
 abbrev pub thread_view : Thread → ThreadView
-thread_view thread =
-    record { tid = thread.tid; cause = thread.cause; registers = registers_view thread.registers }
+thread_view thread = record {
+  tid = thread.tid;
+  name = option_map (λ name. name.now) thread.name;
+  cause = thread.cause;
+  registers = registers_view thread.registers;
+}
+
+-- a thread ended its process (`true`), or did not
+abbrev pub is_ended_by : Bool → ThreadView → Bool
+is_ended_by true thread = is_some thread.cause
+is_ended_by false thread = not (is_some thread.cause)
+
+-- the threads that ended their process before the others
+abbrev pub crashed_first : List ThreadView → List ThreadView
+crashed_first threads = filter (is_ended_by true) threads ++ filter (is_ended_by false) threads
 
 -- mapped code by its values
 pub record MappedCodeView : Type 0 where
@@ -44,6 +58,7 @@ pub record MappedCodeView : Type 0 where
   pub head : List ℕ
   pub build_id : List ℕ
   pub base : Option ℕ
+  pub memory_base : Option ℕ
 
 abbrev pub mapped_code_view : MappedCode → MappedCodeView
 mapped_code_view code = record {
@@ -54,6 +69,7 @@ mapped_code_view code = record {
   head = code.head.now;
   build_id = code.build_id.now;
   base = code.base;
+  memory_base = code.memory_base;
 }
 
 -- what is known of a process, by its values
@@ -66,6 +82,7 @@ pub record DumpView : Type 0 where
   pub code : List MappedCodeView
   pub name : Option (List ℕ)
   pub pid : Option ℕ
+  pub wow64 : Bool
 
 abbrev pub dump_view : Dump → DumpView
 dump_view dump = record {
@@ -77,6 +94,7 @@ dump_view dump = record {
   code = map mapped_code_view dump.code.items;
   name = option_map (λ name. name.now) dump.name;
   pid = dump.pid;
+  wow64 = dump.wow64;
 }
 
 -- the words of memory, as far as it was dumped

@@ -5,6 +5,7 @@ use Rattle.framehop_processes.specs.declared.mapping.Mapping.{Mapping}
 use Rattle.framehop_symbols.specs.Source.{SourceView}
 use Rattle.framehop_symbols.specs.declared.files.Files.{Files}
 use Rattle.framehop_dump_stacks.specs.Dump.{MappedCodeView, DumpView}
+use Rattle.framehop_dump_stacks.specs.Minidump.{LoadedView, AreModuleFiles, dump_with}
 use Rattle.framehop_dump_stacks.specs.Modules.{AreFilesOf, mapping_in, mapped_by}
 use Rattle.framehop_dump_stacks.specs.declared.error.DumpStacksError.{DumpStacksError}
 use Rattle.framehop_dump_stacks.specs.declared.error.DumpStacksError.TheVariants.{Core, Minidump, OutOfMemory, GenerationsExhausted, EmptyMapping, CannotWrite}
@@ -38,3 +39,8 @@ MayEnd drawn (Minidump refusal) = ⊥
 abbrev pub MayEndWith : SourceView → DumpView → DumpStacksError → Type 0
 MayEndWith source dump error = (error ≡ OutOfMemory)
     ⊎ ((files : Files) × AreFilesOf source dump files × MayEnd (drawn_in dump files) error)
+
+-- the same of a minidump, by the files of its modules
+abbrev pub MayEndWithModules : SourceView → DumpView × List LoadedView → DumpStacksError → Type 0
+MayEndWithModules source minidump error = (error ≡ OutOfMemory)
+    ⊎ ((files : Files) × AreModuleFiles source minidump.1 files × MayEnd (drawn_in (dump_with minidump files) files) error)

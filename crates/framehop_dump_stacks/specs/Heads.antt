@@ -6,23 +6,31 @@ use Rattle.std.specs.Ordering.{nat_cmp}
 use denote.Ref.{Bor}
 use Rattle.std.specs.List.{find}
 use Rattle.framehop_coredump.specs.MappedFile.{MappedFileView}
+use Rattle.framehop_elf.specs.Segment.{loaded_segments_of}
 use Rattle.framehop_memory.specs.Memory.{MemoryView}
+use Rattle.framehop_memory.specs.declared.segment.Segment.{Segment}
 use Rattle.framehop_dump_stacks.specs.CoreDump.{is_beginning}
 use Rattle.framehop_dump_stacks.specs.Dump.{MappedCodeView, head_among}
 use Rattle.framehop_dump_stacks.specs.Image.{head_at, segments_in, build_id_in}
 use Rattle.framehop_dump_stacks.specs.declared.heads.FileHead.{FileHead}
 
--- the first bytes of a file, and the build id in them
+-- the first bytes of a file, and in them the build id and the segments
 pub record FileHeadView : Type 0 where
   pub head : List ℕ
   pub build_id : List ℕ
+  pub segments : List Segment
 
 abbrev pub file_head_view : FileHead → FileHeadView
-file_head_view file = record { head = file.head.now; build_id = file.build_id.now }
+file_head_view file =
+    record { head = file.head.now; build_id = file.build_id.now; segments = file.segments.items }
 
 -- those of a file with these first bytes
 abbrev pub file_head_of : List ℕ → FileHeadView
-file_head_of head = record { head = head; build_id = build_id_in head (segments_in head) }
+file_head_of head = record {
+  head = head;
+  build_id = build_id_in head (segments_in head);
+  segments = loaded_segments_of (segments_in head);
+}
 
 -- what is kept for a path
 abbrev pub kept_at : BTreeMap (Bor (List ℕ)) FileHead → List ℕ → Option FileHeadView

@@ -1,13 +1,13 @@
 -- What a minidump says of a process (Microsoft's minidumpapiset.h; Breakpad's minidump_format.h, MD).
 -- The code of a file: gABI, chapter 5, "Program Header".
-use Rattle.std.specs.Prelude.{◌≡◌, ℕ, ◌+◌, ◌-◌, ◌^◌, max, min, List, [], ◌∷◌, ◌++◌, Bool, true, false, ◌||◌, ◌==◌, if◌then◌else◌, Option, Some, None, Result, Ok}
+use Rattle.std.specs.Prelude.{ℕ, ◌+◌, ◌-◌, ◌^◌, nat_le, nat_lt, max, min, List, [], ◌∷◌, ◌++◌, codes, length, map, Bool, true, false, ◌&&◌, ◌||◌, ◌==◌, if◌then◌else◌, Option, Some, None, Result, Ok, Err}
 use Rattle.std.specs.Int.Count.{count_leading_zeros}
-use Rattle.std.specs.List.{after_last, flat_map, fold}
+use Rattle.std.specs.List.{after_last, flat_map, fold, list_any}
+use Rattle.std.specs.Str.{str_eq_ignore_ascii_case}
 use Rattle.framehop_bytes.specs.Bytes.{◌>>=◌}
 use Rattle.framehop_coredump.specs.declared.core_file.Machine.{Machine}
 use Rattle.framehop_coredump.specs.declared.core_file.Machine.TheVariants as dumped
 use Rattle.framehop_elf.specs.Segment.{loaded_segments_of}
-use Rattle.framehop_elf.specs.declared.program_header.ProgramHeader.{ProgramHeader}
 use Rattle.framehop_minidump.specs.CodeView.{CodeViewView, of_pdb, of_elf, codeview_of}
 use Rattle.framehop_minidump.specs.Exception.{exception_of, context_of}
 use Rattle.framehop_minidump.specs.Location.{located}
@@ -20,25 +20,35 @@ use Rattle.framehop_minidump.specs.Stream.{streams_of}
 use Rattle.framehop_minidump.specs.String.{string_of}
 use Rattle.framehop_minidump.specs.SystemInfo.{system_info_of}
 use Rattle.framehop_minidump.specs.Thread.{threads_of}
+use Rattle.framehop_minidump.specs.ThreadName.{thread_names_of}
 use Rattle.framehop_minidump.specs.declared.error.MinidumpError.{MinidumpError}
+use Rattle.framehop_minidump.specs.declared.error.MinidumpError.TheVariants.{NoThreads, SharedNames}
 use Rattle.framehop_minidump.specs.declared.exception.Exception.{Exception}
 use Rattle.framehop_memory.specs.Memory.{MemoryView}
-use Rattle.framehop_memory.specs.Segment.{base_from}
+use Rattle.framehop_memory.specs.Segment.{base_of, base_from}
 use Rattle.framehop_memory.specs.declared.segment.Segment.{Segment}
 use Rattle.framehop_minidump.specs.declared.module.Module.{Module}
 use Rattle.framehop_minidump.specs.declared.stream.Stream.{Stream}
 use Rattle.framehop_minidump.specs.declared.system_info.Machine.{Machine as SystemMachine}
 use Rattle.framehop_minidump.specs.declared.system_info.Machine.TheVariants as system
 use Rattle.framehop_minidump.specs.declared.thread.Thread.{Thread}
-use Rattle.framehop_symbols.specs.ObjectFiles.{is_another}
+use Rattle.framehop_minidump.specs.declared.thread_name.ThreadName.{ThreadName}
 use Rattle.framehop_symbols.specs.Source.{SourceView}
 use Rattle.framehop_symbols.specs.Files.{is_unix_path, is_windows_path}
-use Rattle.framehop_dump_stacks.specs.Dump.{ThreadView, MappedCodeView, DumpView, of_context}
-use Rattle.framehop_dump_stacks.specs.Image.{head_at, segments_in, build_id_in}
+use Rattle.framehop_symbols.specs.declared.files.Files.{Files}
+use Rattle.framehop_symbols.specs.declared.object_file.ObjectFile.{ObjectFile}
+use Rattle.framehop_dump_stacks.specs.Added.{AreFiles, object_called}
+use Rattle.framehop_dump_stacks.specs.Dump.{ThreadView, MappedCodeView, DumpView, of_context, crashed_first}
+use Rattle.framehop_dump_stacks.specs.Image.{head_at, segments_in}
+use Rattle.framehop_dump_stacks.specs.ThreadNames.{NamedView, named_view, name_among}
+use Rattle.framehop_dump_stacks.specs.declared.dump.Access.{Access}
 use Rattle.framehop_dump_stacks.specs.declared.dump.Cause.{Cause as WhyEnded}
 use Rattle.framehop_dump_stacks.specs.declared.dump.Cause.TheVariants as cause
+use Rattle.framehop_dump_stacks.specs.declared.dump.Exception.{Exception as EndedBy}
 use Rattle.framehop_dump_stacks.specs.declared.dump.Kind.TheVariants as kind
+use Rattle.framehop_dump_stacks.specs.declared.dump.Sent.{Sent}
 use Rattle.framehop_dump_stacks.specs.declared.minidump.LoadedModule.{LoadedModule}
+use Rattle.framehop_dump_stacks.specs.declared.minidump.Parts.{Parts}
 
 -- PlatformId (MD_OS_WIN32_NT, MD_OS_LINUX, MD_OS_ANDROID), and the code of a minidump that was asked for without a
 -- crash (MD_EXCEPTION_CODE_LIN_DUMP_REQUESTED)
@@ -62,31 +72,71 @@ each f (x ∷ xs) = do
   others ← each f xs
   Ok (first ∷ others)
 
+-- The same, where what is given may take so many bytes together, of which each takes its size. The function is given how many
+-- are left.
+unfoldable pub each_within : {A B : Type 0} → (ℕ → A → Result B MinidumpError) → (B → ℕ) → ℕ → List A → Result (List B) MinidumpError
+each_within f size left [] = Ok []
+each_within f size left (x ∷ xs) = do
+  first ← f left x
+  others ← each_within f size (left - size first) xs
+  Ok (first ∷ others)
+
+-- what is read at an offset and takes so many bytes, where so many are left
+abbrev pub limited : {B : Type 0} → ℕ → ℕ → ℕ → B → Result B MinidumpError
+limited left offset size value = if nat_lt left size then Err (SharedNames offset) else Ok value
+
+-- What names and build ids may take together: UTF-8 has at most three bytes for the two of a unit of UTF-16, so what shares no
+-- bytes of a file takes less than twice its size.
+abbrev pub names_limit : List ℕ → ℕ
+names_limit file = length file + length file
+
 -- the machine of a dump
 abbrev pub machine_of : SystemMachine → Machine
 machine_of system.X86_64 = dumped.X86_64
 machine_of system.Aarch64 = dumped.Aarch64
 
--- ExceptionCode is the signal on Linux; 0 is none
-abbrev pub signal_of : ℕ → Option WhyEnded
-signal_of code = if (code == 0) || (code == DUMP_REQUESTED) then None else Some (cause.Signal code)
+-- ExceptionCode is the signal on Linux, of which 0 is none; ExceptionFlags why it was sent, of which 0 is what writers have that
+-- don't tell it; and ExceptionAddress what comes first of siginfo_t's union
+abbrev pub sent_of : Exception → Option Sent
+sent_of exception =
+    if exception.flags == 0 then None else Some (record { code = exception.flags; fields = exception.address })
 
--- a signal on Linux and Android, and else an exception
-abbrev pub cause_by : ℕ → ℕ → Option WhyEnded
-cause_by platform code =
-    if (platform == LINUX) || (platform == ANDROID) then signal_of code else Some (cause.Exception code)
+abbrev pub signal_of : Exception → Option WhyEnded
+signal_of exception =
+    if (exception.code == 0) || (exception.code == DUMP_REQUESTED) then None
+    else Some (cause.Signal (record { number = exception.code; sent = sent_of exception }))
+
+-- The first two parameters of an exception of Windows, if they tell of an access to memory: EXCEPTION_ACCESS_VIOLATION and
+-- EXCEPTION_IN_PAGE_ERROR.
+abbrev pub access_of : Exception → Option Access
+access_of exception =
+    if ((exception.code == 0xc0000005) || (exception.code == 0xc0000006)) && nat_le 2 exception.parameter_count
+    then Some (record { kind = exception.first_parameter; address = exception.second_parameter }) else None
+
+-- an exception of Windows
+abbrev pub windows_exception : Exception → EndedBy
+windows_exception exception =
+    record { code = exception.code; address = exception.address; access = access_of exception }
+
+-- a signal on Linux and Android, an exception of Windows, and else one by its code
+abbrev pub cause_by : ℕ → Exception → Option WhyEnded
+cause_by platform exception =
+    if (platform == LINUX) || (platform == ANDROID) then signal_of exception
+    else if platform == WINDOWS then Some (cause.Exception (windows_exception exception))
+    else Some (cause.Other exception.code)
 
 -- that of a thread, if the exception is of it
 abbrev pub cause_of : ℕ → ℕ → Option Exception → Option WhyEnded
 cause_of platform tid None = None
-cause_of platform tid (Some exception) = if exception.tid == tid then cause_by platform exception.code else None
+cause_of platform tid (Some exception) = if exception.tid == tid then cause_by platform exception else None
 
--- a thread with the registers of its context
-unfoldable pub thread_in : List ℕ → ℕ → ℕ → Option Exception → Thread → Result ThreadView MinidumpError
-thread_in file platform code_mask exception thread = do
+-- a thread with its name and the registers of its context
+unfoldable pub thread_in : List ℕ → ℕ → ℕ → Option Exception → List NamedView → Thread → Result ThreadView MinidumpError
+thread_in file platform code_mask exception names thread = do
   values ← located file (context_of thread exception)
   Ok (record {
     tid = thread.tid;
+    name = name_among names thread.tid;
     cause = cause_of platform thread.tid exception;
     registers = of_context values code_mask;
   })
@@ -118,18 +168,38 @@ build_id_by name (Some (of_elf build_id)) = build_id
 build_id_by name (Some (of_pdb guid age path guid_and_age)) = if is_windows_path name then guid_and_age else []
 build_id_by name None = []
 
--- a module as it is listed, with its name and its CodeView record
-unfoldable pub loaded_in : List ℕ → Module → Result LoadedView MinidumpError
-loaded_in file m = do
+-- how many bytes the name and the build id of a module take
+abbrev pub loaded_size : LoadedView → ℕ
+loaded_size m = length m.name + length m.build_id
+
+-- those of a module where so many are left
+abbrev pub loaded_if : ℕ → ℕ → LoadedView → Result LoadedView MinidumpError
+loaded_if left offset m = limited left offset (loaded_size m) m
+
+-- a module as it is listed, with its name and its CodeView record, which may take so many bytes
+unfoldable pub loaded_in : List ℕ → ℕ → Module → Result LoadedView MinidumpError
+loaded_in file left m = do
   name ← string_of file m.name
   codeview ← codeview_of file m.codeview
-  Ok (record { base = m.base; size = m.size; name = name; build_id = build_id_by name codeview })
+  loaded_if left m.name (record { base = m.base; size = m.size; name = name; build_id = build_id_by name codeview })
+
+-- a thread as it is listed, with its name, which may take so many bytes
+unfoldable pub named_in : List ℕ → ℕ → ThreadName → Result NamedView MinidumpError
+named_in file left listed = do
+  name ← string_of file listed.name
+  limited left listed.name (length name) (record { tid = listed.tid; name = name })
+
+-- the names of threads
+unfoldable pub names_in : List ℕ → List Stream → Result (List NamedView) MinidumpError
+names_in file streams = do
+  listed ← thread_names_of file streams
+  each_within (named_in file) (λ named. length named.name) (names_limit file) listed
 
 -- the modules of a file
 unfoldable pub modules_in : List ℕ → List Stream → Result (List LoadedView) MinidumpError
 modules_in file streams = do
   modules ← modules_of file streams
-  each (loaded_in file) modules
+  each_within (loaded_in file) loaded_size (names_limit file) modules
 
 -- the name of a path without its folders, which Windows parts by `\` and others by `/`
 abbrev pub separator : ℕ → ℕ
@@ -143,6 +213,13 @@ abbrev pub program_name : ℕ → List LoadedView → Option (List ℕ)
 program_name platform [] = None
 program_name platform (m ∷ others) = Some (file_name (separator platform) m.name)
 
+-- A process of 32 bits on a Windows of 64 bits has the library that takes its calls: `wow64.dll`, in any case of letters.
+abbrev pub is_wow64 : LoadedView → Bool
+is_wow64 m = str_eq_ignore_ascii_case (file_name 92 m.name) (codes "wow64.dll")
+
+abbrev pub has_wow64 : ℕ → List LoadedView → Bool
+has_wow64 platform modules = (platform == WINDOWS) && list_any is_wow64 modules
+
 -- which memory could be executed: as Windows says it, and as Linux does
 unfoldable pub all_regions_of : List ℕ → List Stream → Result (List Segment) MinidumpError
 all_regions_of file streams = do
@@ -150,16 +227,41 @@ all_regions_of file streams = do
   maps ← maps_of file streams
   Ok (regions ++ maps)
 
--- what else a minidump says, but for where its code was mapped, by its modules
-unfoldable pub dump_in : List ℕ → List Stream → List LoadedView → Result DumpView MinidumpError
-dump_in file streams modules = do
-  system ← system_info_of file streams
-  exception ← exception_of file streams
-  noted ← threads_of file streams
-  threads ← each (thread_in file system.platform (mask_up_to (last_address modules)) exception) noted
-  ranges ← ranges_of file streams
-  regions ← all_regions_of file streams
-  pid ← process_id_of file streams
+-- the parts of a minidump that others are read by: its streams, its modules and the names of its threads
+pub record PartsView : Type 0 where
+  pub streams : List Stream
+  pub modules : List LoadedView
+  pub names : List NamedView
+
+abbrev pub parts_view : Parts → PartsView
+parts_view parts = record {
+  streams = parts.streams.items;
+  modules = map loaded_view parts.modules.items;
+  names = map named_view parts.names.items;
+}
+
+-- a minidump without threads is refused
+abbrev pub some_listed : List Thread → Result (List Thread) MinidumpError
+some_listed [] = Err NoThreads
+some_listed (thread ∷ others) = Ok (thread ∷ others)
+
+-- the threads, those first that ended the process
+unfoldable pub dumped_threads_of : List ℕ → PartsView → ℕ → Result (List ThreadView) MinidumpError
+dumped_threads_of file parts platform = do
+  exception ← exception_of file parts.streams
+  all_listed ← threads_of file parts.streams
+  listed ← some_listed all_listed
+  threads ← each (thread_in file platform (mask_up_to (last_address parts.modules)) exception parts.names) listed
+  Ok (crashed_first threads)
+
+-- what else a minidump says, but for where its code was mapped
+unfoldable pub dump_in : List ℕ → PartsView → Result DumpView MinidumpError
+dump_in file parts = do
+  system ← system_info_of file parts.streams
+  threads ← dumped_threads_of file parts system.platform
+  ranges ← ranges_of file parts.streams
+  regions ← all_regions_of file parts.streams
+  pid ← process_id_of file parts.streams
   Ok (record {
     kind = kind.Minidump;
     memory = record { file = file; ranges = ranges };
@@ -167,38 +269,45 @@ dump_in file streams modules = do
     machine = machine_of system.machine;
     threads = threads;
     code = [];
-    name = program_name system.platform modules;
+    name = program_name system.platform parts.modules;
     pid = pid;
+    wow64 = has_wow64 system.platform parts.modules;
   })
 
--- the streams and the modules of a minidump
-unfoldable pub streams_and_modules_of : List ℕ → Result (List Stream × List LoadedView) MinidumpError
-streams_and_modules_of file = do
+-- those parts of a minidump
+unfoldable pub parts_of : List ℕ → Result PartsView MinidumpError
+parts_of file = do
   streams ← streams_of file
   modules ← modules_in file streams
-  Ok (streams, modules)
+  names ← names_in file streams
+  Ok (record { streams = streams; modules = modules; names = names })
 
 -- what else it says, and its modules, or the first refusal
 unfoldable pub minidump_of : List ℕ → Result (DumpView × List LoadedView) MinidumpError
 minidump_of file = do
-  read ← streams_and_modules_of file
-  dump ← dump_in file read.0 read.1
-  Ok (dump, read.1)
+  parts ← parts_of file
+  dump ← dump_in file parts
+  Ok (dump, parts.modules)
 
--- the program headers of a file that is given and has the build id that it must have: none, else
-abbrev pub headers_given : List ℕ → Option (List ℕ) → List ProgramHeader
-headers_given wanted (Some bytes) =
-    if is_another wanted (build_id_in bytes (segments_in bytes)) then [] else segments_in bytes
-headers_given wanted None = []
+-- the segments of an ELF file that was read: of a file with a path of Unix
+abbrev pub object_segments : Bool → Option ObjectFile → List Segment
+object_segments true (Some object) = object.segments.items
+object_segments true None = []
+object_segments false object = []
 
--- the first program headers, or else the others
-abbrev pub or_else : List ProgramHeader → List ProgramHeader → List ProgramHeader
+-- the first segments, or else the others
+abbrev pub or_else : List Segment → List Segment → List Segment
 or_else [] others = others
 or_else (segment ∷ segments) others = segment ∷ segments
 
 -- the base of a PE file, which has a name of Windows, is its first address
 abbrev pub base_by_name : LoadedView → Option ℕ
 base_by_name m = if is_windows_path m.name then Some m.base else None
+
+-- by its first bytes in memory, where it is one mapping
+abbrev pub whole_base : List ℕ → LoadedView → Option ℕ
+whole_base head m =
+    base_of (loaded_segments_of (segments_in head)) 0 (min (m.base + m.size) (2 ^ 64 - 1) - m.base) m.base
 
 -- all addresses of a module, as where nothing says which have code
 abbrev pub whole : List ℕ → LoadedView → MappedCodeView
@@ -210,6 +319,7 @@ whole head m = record {
   head = head;
   build_id = m.build_id;
   base = base_by_name m;
+  memory_base = whole_base head m;
 }
 
 -- those of a segment that may be executed, by where the stated address 0 is; an address above the last is the last
@@ -222,6 +332,7 @@ segment_code head m base segment = if segment.is_code then record {
   head = head;
   build_id = m.build_id;
   base = Some base;
+  memory_base = None;
 } ∷ [] else []
 
 -- the code of a module by its segments and its base; without a base it is all its addresses
@@ -232,31 +343,23 @@ code_with head m segments None = whole head m ∷ []
 abbrev pub code_by : List ℕ → LoadedView → List Segment → List MappedCodeView
 code_by head m segments = code_with head m segments (base_from segments m.base)
 
--- the code of a module, by its file or else by its first bytes in memory
-abbrev pub code_of : MemoryView → LoadedView → Option (List ℕ) → List MappedCodeView
-code_of memory m given =
-    let head = head_at memory m.base in
-    code_by head m (loaded_segments_of (or_else (headers_given m.build_id given) (segments_in head)))
+-- The segments of a module, by what was read of its file, or else by its first bytes in memory.
+abbrev pub segments_of : Files → LoadedView → List ℕ → List Segment
+segments_of files m head =
+    or_else (object_segments (is_unix_path m.name) (object_called files m.name)) (loaded_segments_of (segments_in head))
 
-module _ (source : SourceView) where
-  -- a file is asked for only by a path of Unix
-  abbrev pub IsGivenIf : Bool → List ℕ → Option (List ℕ) → Type 0
-  IsGivenIf true name given = source.gives name given
-  IsGivenIf false name given = given ≡ None
+-- the code of a module
+abbrev pub code_in : MemoryView → Files → LoadedView → List MappedCodeView
+code_in memory files m = code_by (head_at memory m.base) m (segments_of files m (head_at memory m.base))
 
-  -- the code of a module, by what is given of its file
-  abbrev pub IsCodeOf : MemoryView → LoadedView → List MappedCodeView → Type 0
-  IsCodeOf memory m code =
-      (given : Option (List ℕ)) × IsGivenIf (is_unix_path m.name) m.name given × (code ≡ code_of memory m given)
+-- that of modules, one after another
+abbrev pub code_of : MemoryView → Files → List LoadedView → List MappedCodeView
+code_of memory files modules = flat_map (code_in memory files) modules
 
-  -- that of modules, one after another
-  abbrev pub AreCodeOf : MemoryView → List LoadedView → List MappedCodeView → Type 0
-  AreCodeOf memory [] code = code ≡ []
-  AreCodeOf memory (m ∷ others) code =
-      (first : List MappedCodeView) × IsCodeOf memory m first
-      × ((later : List MappedCodeView) × AreCodeOf memory others later × (code ≡ first ++ later))
+-- The files of modules, each once. The build id of each is to be the one that is told.
+abbrev pub AreModuleFiles : SourceView → List LoadedView → Files → Type 0
+AreModuleFiles source modules files = AreFiles source (map (λ m. (m.name, m.build_id)) modules) files
 
 -- what is known of a process by a minidump, and by the files of its modules
-abbrev pub IsDumpOf : SourceView → DumpView × List LoadedView → DumpView → Type 0
-IsDumpOf source minidump dump = (code : List MappedCodeView) × AreCodeOf source minidump.0.memory minidump.1 code
-    × (dump ≡ record minidump.0 { code = code })
+abbrev pub dump_with : DumpView × List LoadedView → Files → DumpView
+dump_with minidump files = record minidump.0 { code = code_of minidump.0.memory files minidump.1 }

@@ -1,8 +1,7 @@
 -- The files whose code a process had mapped, and the modules of their mappings.
-use Rattle.std.specs.Prelude.{◌≡◌, ℕ, ◌-◌, List, [], ◌∷◌, Bool, true, false, nat_lt, if◌then◌else◌, Option, Some, None, slice_get}
+use Rattle.std.specs.Prelude.{ℕ, ◌-◌, List, [], ◌∷◌, map, Bool, true, false, nat_lt, if◌then◌else◌, Option, Some, None, slice_get}
 use Rattle.framehop_bytes.specs.ExplicitSections.{table_of}
 use Rattle.framehop_bytes.specs.declared.section.ExplicitModuleSectionInfo.{ExplicitModuleSectionInfo}
-use Rattle.framehop_elf.specs.Segment.{loaded_segments_of}
 use Rattle.framehop_memory.specs.Segment.{base_of}
 use Rattle.framehop_memory.specs.declared.segment.Segment.{Segment}
 use Rattle.framehop.specs.ModuleData.{unwind_data_in}
@@ -10,24 +9,18 @@ use Rattle.framehop.specs.Modules.{ModuleView}
 use Rattle.framehop_processes.specs.Mappings.{with_mapping}
 use Rattle.framehop_processes.specs.declared.mapping.Mapping.{Mapping}
 use Rattle.framehop_symbols.specs.Files.{number_in, object_in}
-use Rattle.framehop_symbols.specs.Files.{placed_at, IsWithoutFiles, IsAdded}
+use Rattle.framehop_symbols.specs.Files.{placed_at}
 use Rattle.framehop_symbols.specs.Source.{SourceView}
 use Rattle.framehop_symbols.specs.declared.object_file.ObjectFile.{ObjectFile}
 use Rattle.framehop_symbols.specs.declared.files.Files.{Files}
 use Rattle.framehop_symbols.specs.declared.files.NamedFile.{NamedFile}
+use Rattle.framehop_dump_stacks.specs.Added.{AreFiles}
 use Rattle.framehop_dump_stacks.specs.Dump.{MappedCodeView, DumpView, head_of}
-use Rattle.framehop_dump_stacks.specs.Image.{segments_in, sections_of, sections_in}
+use Rattle.framehop_dump_stacks.specs.Image.{sections_of, sections_in}
 
-module _ (source : SourceView) where
-  -- The files of mapped code are added one after another. The build id of each is to be the one that is told.
-  abbrev pub AreAdded : List MappedCodeView → Files → Files → Type 0
-  AreAdded [] old new = new ≡ old
-  AreAdded (code ∷ others) old new =
-      (between : Files) × IsAdded source code.path code.build_id old between × AreAdded others between new
-
-  -- the files whose code is mapped, each once
-  abbrev pub AreFilesOf : DumpView → Files → Type 0
-  AreFilesOf dump files = (none : Files) × IsWithoutFiles none × AreAdded dump.code none files
+-- The files whose code is mapped, each once. The build id of each is to be the one that is told.
+abbrev pub AreFilesOf : SourceView → DumpView → Files → Type 0
+AreFilesOf source dump files = AreFiles source (map (λ code. (code.path, code.build_id)) dump.code) files
 
 -- where the stated address 0 of a file is, by its segments
 abbrev pub base_by : List Segment → MappedCodeView → Option ℕ
@@ -36,7 +29,7 @@ base_by segments code = base_of segments code.offset (code.end - code.start) cod
 -- by what was read of the file, or else by its first bytes in memory
 abbrev pub base_with : MappedCodeView → Option ObjectFile → Option ℕ
 base_with code (Some object) = base_by object.segments.items code
-base_with code None = base_by (loaded_segments_of (segments_in code.head)) code
+base_with code None = code.memory_base
 
 -- unless it is known
 abbrev pub base_unless : Option ℕ → Option ℕ → Option ℕ

@@ -1,9 +1,13 @@
 -- What is said of the files of which nothing was read.
-use Rattle.std.specs.Prelude.{◌≡◌, ℕ, nat_eq, ◌&&◌, Bool, true, false, List, [], ◌∷◌, ◌++◌, codes, find, is_some, Option, Some, None}
+use Rattle.std.specs.Prelude.{◌≡◌, ℕ, ◌+◌, ◌-◌, ◌^◌, nat_eq, nat_lt, max, min, ◌&&◌, Bool, true, false, if◌then◌else◌, List, [], ◌∷◌, ◌++◌, length, codes, find, fold, is_some, Option, Some, None}
+use Rattle.std.specs.Fmt.{decimal}
+use Rattle.framehop_memory.specs.declared.memory.MemoryRange.{MemoryRange}
 use Rattle.framehop_processes.specs.declared.mapping.Mapping.{Mapping}
 use Rattle.framehop_symbols.specs.Files.{number_in}
+use Rattle.framehop_symbols.specs.Found.{has_names, is_unwind_data}
 use Rattle.framehop_symbols.specs.declared.files.Files.{Files}
 use Rattle.framehop_symbols.specs.declared.files.NamedFile.{NamedFile}
+use Rattle.framehop_symbols.specs.declared.object_file.ObjectFile.{ObjectFile}
 use Rattle.framehop_symbols.specs.declared.object_file.FileProblem.{FileProblem}
 use Rattle.framehop_symbols.specs.declared.object_file.FileProblem.TheVariants.{NotRead, Elf, Pe, OtherBuildId}
 use Rattle.framehop_frames.specs.Line.{plain}
@@ -16,6 +20,46 @@ use Rattle.framehop_dump_stacks.specs.declared.dump.Kind.TheVariants.{CoreFile, 
 abbrev pub kind_name : Kind → List ℕ
 kind_name CoreFile = codes "core file"
 kind_name Minidump = codes "minidump"
+
+-- Where memory of a process ends in the file. Addresses of the upper half are the kernel's: Linux tells of the page of vsyscall
+-- there, and writes it only where it may be read.
+abbrev pub range_end : MemoryRange → ℕ
+range_end range = if nat_lt range.start (2 ^ 63) then min (range.offset + range.size) (2 ^ 64 - 1) else 0
+
+-- how many bytes the file has, to where the last of its memory ends
+abbrev pub needed_size : List MemoryRange → ℕ
+needed_size ranges = fold (λ most range. max most (range_end range)) 0 ranges
+
+-- so many of so many bytes
+abbrev pub sizes_text : ℕ → ℕ → List ℕ
+sizes_text has needed = decimal has ++ codes " of " ++ decimal needed ++ codes " bytes\n"
+
+-- that a file is cut short, which has so many of so many bytes
+abbrev pub cut_text : Kind → ℕ → ℕ → List ℕ
+cut_text kind has needed =
+    if nat_lt has needed
+    then (codes "the " ++ kind_name kind ++ codes " is cut short: it has " ++ sizes_text has needed) else []
+
+-- that a process had 32-bit code on a Windows of 64 bits
+abbrev pub wow64_text : Bool → List ℕ
+wow64_text true = codes "a 32-bit process of Windows (wow64): the stacks are its 64-bit ones, on which calls of the system run\n"
+wow64_text false = []
+
+-- what is said of the file
+abbrev pub file_text : DumpView → List ℕ
+file_text dump =
+    cut_text dump.kind (length dump.memory.file) (needed_size dump.memory.ranges) ++ wow64_text dump.wow64
+
+-- what was not found in a file that was read: its unwind data, its names
+abbrev pub lack_text : Bool → Bool → List ℕ
+lack_text true true = []
+lack_text true false = codes ": no names of functions"
+lack_text false true = codes ": no unwind data"
+lack_text false false = codes ": no unwind data and no names of functions"
+
+abbrev pub lack_line : List ℕ → List ℕ → List ℕ
+lack_line name [] = []
+lack_line name (byte ∷ bytes) = plain name ++ (byte ∷ bytes) ++ 10 ∷ []
 
 -- why nothing was read of a file, after its name: it is not there, it is another one, or its reader's reason, which is
 -- printed
@@ -46,18 +90,25 @@ in_memory_text kind true = codes "; its unwind data is the " ++ kind_name kind +
 in_memory_text kind false = []
 
 module _ (dump : DumpView) (files : Files) (mappings : List Mapping) where
-  -- the line of a file: its name, why nothing was read of it, and whether memory has its unwind data
-  abbrev pub IsLineOf : List ℕ → Option FileProblem → List ℕ → Type 0
-  IsLineOf name None line = line ≡ []
-  IsLineOf name (Some problem) line = (why : List ℕ) × IsProblemText dump.kind problem why
+  -- the line of a file: its name, why nothing was read of it, and whether memory has its unwind data; or what was not found
+  -- in it
+  abbrev pub IsLineOf : List ℕ → Option ObjectFile → Option FileProblem → List ℕ → Type 0
+  IsLineOf name object (Some problem) line = (why : List ℕ) × IsProblemText dump.kind problem why
       × (line ≡ plain name ++ why ++ in_memory_text dump.kind (is_in_memory dump files mappings name) ++ 10 ∷ [])
+  IsLineOf name (Some object) None line =
+      line ≡ lack_line name (lack_text (is_unwind_data object.«module».unwind_data) (has_names object.symbols.items))
+  IsLineOf name None None line = line ≡ []
 
   -- the lines of files, in their order
   abbrev pub AreLinesOf : List NamedFile → List ℕ → Type 0
   AreLinesOf [] text = text ≡ []
-  AreLinesOf (file ∷ others) text = (line : List ℕ) × IsLineOf file.name.items file.problem line
+  AreLinesOf (file ∷ others) text = (line : List ℕ) × IsLineOf file.name.items file.object file.problem line
       × ((later : List ℕ) × AreLinesOf others later × (text ≡ line ++ later))
 
   -- what is said of all files
   abbrev pub AreProblems : List ℕ → Type 0
   AreProblems text = AreLinesOf files.list.items text
+
+  -- all that is said
+  abbrev pub IsSaid : List ℕ → Type 0
+  IsSaid text = (problems : List ℕ) × AreProblems problems × (text ≡ file_text dump ++ problems)

@@ -1,27 +1,29 @@
 //! What a core file says of a process.
-ghost use Rattle.std.specs.Prelude.{◌≡◌, ◌⊎◌, ◌++◌, ◌∷◌, [], Ok, Err, MatchResult, IfOk, OnOk, ℕ, List, is_some, map, option_map};
+ghost use Rattle.std.specs.Prelude.{◌≡◌, ◌⊎◌, ◌++◌, ◌∷◌, [], ◌||◌, ◌==◌, not, false, Ok, Err, MatchResult, IfOk, OnOk, ℕ, List, map, option_map};
 ghost use Rattle.framehop_coredump.specs.declared.error.CoreFileError.{CoreFileError};
 ghost use Rattle.framehop_coredump.specs.MappedFile.{mapped_file_view};
+ghost use Rattle.framehop_coredump.specs.Note.{placed_view};
 ghost use Rattle.framehop_coredump.specs.Process.{process_view};
 ghost use Rattle.framehop_coredump.specs.Thread.{thread_view as noted_view};
-ghost use Rattle.framehop_dump_stacks.specs.Dump.{thread_view, mapped_code_view, dump_view};
+ghost use Rattle.framehop_dump_stacks.specs.Dump.{thread_view, mapped_code_view, dump_view, crashed_first};
 ghost use Rattle.framehop_memory.specs.Memory.{memory_view};
-ghost use Rattle.framehop_dump_stacks.specs.CoreDump.{cause_of_signal, thread_of, name_of, pid_of, base_in_memory, is_mapped_code, code_by, code_of, vdso_code, core_dump_of};
+ghost use Rattle.framehop_dump_stacks.specs.CoreDump.{sent_of, cause_unless, thread_of, threads_by, noted_threads_of, name_of, pid_of, base_in_memory, is_mapped_code, code_by, code_of, vdso_mapped, vdso_at, vdso_code, core_dump_of};
 ghost use Rattle.framehop_dump_stacks.specs.Heads.{file_head_view, file_head_of};
-ghost use Rattle.framehop_dump_stacks.specs.Image.{segments_in};
-ghost use Rattle.framehop_elf.specs.Segment.{loaded_segments_of};
 
-use crate::dump::{Cause, Dump, Kind, MappedCode, Registers, Thread};
+use crate::dump::{Cause, Dump, Kind, MappedCode, Registers, Sent, Signal, Thread};
 use crate::dumped_segments::DumpedSegments;
 use crate::heads::{FileHead, HeadsByPath};
 use crate::image::{head_at, segments_in};
+use crate::order::crashed_first;
 use framehop_coredump::auxiliary_vector::vdso_of;
-use framehop_coredump::core_file::read_core_file;
+use framehop_coredump::core_file::{Machine, read_core_file};
 use framehop_coredump::error::CoreFileError;
 use framehop_coredump::mapped_file::{MappedFile, read_mapped_files};
 use framehop_coredump::memory::memory_of;
-use framehop_coredump::note::read_notes;
+use framehop_coredump::note::{PlacedNote, read_notes};
+use framehop_coredump::other_system::without_threads;
 use framehop_coredump::process::{Process, read_process};
+use framehop_coredump::signal_info::SignalInfo;
 use framehop_coredump::thread::{Thread as NotedThread, read_threads};
 use framehop_elf::segment::loaded_segments;
 use framehop_memory::code::CodeSegments;
@@ -43,7 +45,7 @@ pub fn read_core_dump<'a>(alloc: Global, file: &'a [u8]) -> Result<Dump<'a>, Cor
 {
     let core = read_core_file(alloc, file)?;
     let notes = read_notes(alloc, file, core.segments.as_slice())?;
-    let noted = read_threads(alloc, core.machine, notes.as_slice())?;
+    let noted = noted_threads(alloc, core.machine, notes.as_slice())?;
     let files = read_mapped_files(alloc, notes.as_slice())?;
     let process = read_process(notes.as_slice())?;
     let Ok(dumped) = loaded_segments(alloc, core.segments.as_slice()) else {
@@ -52,7 +54,7 @@ pub fn read_core_dump<'a>(alloc: Global, file: &'a [u8]) -> Result<Dump<'a>, Cor
     let Ok(memory) = memory_of(alloc, file, dumped.as_slice()) else {
         return Err(CoreFileError::OutOfMemory);
     };
-    let Ok(threads) = threads_of(alloc, noted.as_slice()) else {
+    let Ok(threads) = ordered_threads(alloc, noted.as_slice()) else {
         return Err(CoreFileError::OutOfMemory);
     };
     let Ok(code) = all_code(
@@ -76,36 +78,80 @@ pub fn read_core_dump<'a>(alloc: Global, file: &'a [u8]) -> Result<Dump<'a>, Cor
         code,
         name: name_of(process),
         pid: pid_of(process),
+        wow64: false,
     })
 }
 
-/// Returns the threads of a core file.
+/// Reads the threads of notes, of which there must be one.
+#[tactic(auto, unfolding(crate::specs::CoreDump::noted_threads_of))]
+fn noted_threads<'a>(
+    alloc: Global,
+    machine: Machine,
+    notes: &[PlacedNote<'a>],
+) -> Result<Vec<NotedThread<'a>>, CoreFileError>
+    ensures { MatchResult result
+        (λ noted. noted_threads_of machine (map placed_view notes.entry.now) ≡ Ok (map noted_view noted.items))
+        (λ error. (error ≡ CoreFileError.OutOfMemory) ⊎ (noted_threads_of machine (map placed_view notes.entry.now) ≡ Err error)) }
+{
+    let noted = read_threads(alloc, machine, notes)?;
+    if noted.is_empty() {
+        return Err(without_threads(notes));
+    }
+    Ok(noted)
+}
+
+/// Returns the threads of a core file, the one first that got the signal.
+fn ordered_threads<'a>(
+    alloc: Global,
+    noted: &[NotedThread<'a>],
+) -> Result<Vec<Thread<'a>>, AllocError>
+    ensures { IfOk result (λ threads. map thread_view threads.items ≡ crashed_first (threads_by false (map noted_view noted.now))) }
+{
+    let threads = threads_of(alloc, noted)?;
+    crashed_first(alloc, threads.as_slice())
+}
+
+/// Returns the threads of a core file, of which the first with a signal got it.
 fn threads_of<'a>(alloc: Global, noted: &[NotedThread<'a>]) -> Result<Vec<Thread<'a>>, AllocError>
-    ensures { IfOk result (λ threads. map thread_view threads.items ≡ map thread_of (map noted_view noted.now)) }
+    ensures { IfOk result (λ threads. map thread_view threads.items ≡ threads_by false (map noted_view noted.now)) }
 {
     let mut threads = Vec::new(alloc);
+    let mut told = false;
     for thread in noted {
-        push_thread(&mut threads, *thread)?;
+        push_thread(&mut threads, told, *thread)?;
+        told = is_told(told, thread.signal);
     }
     Ok(threads)
 }
 
-/// Appends a thread of a core file.
-fn push_thread<'a>(threads: &mut Vec<Thread<'a>>, thread: NotedThread<'a>) -> Result<(), AllocError>
-    ensures { OnOk result (map thread_view threads.new.items
-        ≡ map thread_view threads.old.items ++ thread_of (noted_view thread.entry) ∷ []) }
+/// Returns whether a thread or an earlier one got the signal, by its own and whether an earlier one did.
+fn is_told(told: bool, signal: u16) -> bool
+    ensures { result ≡ (told || not (signal == 0)) }
 {
-    threads.push(thread_of(thread))?;
+    told || signal != 0
+}
+
+/// Appends a thread of a core file, by whether an earlier one got the signal.
+fn push_thread<'a>(
+    threads: &mut Vec<Thread<'a>>,
+    told: bool,
+    thread: NotedThread<'a>,
+) -> Result<(), AllocError>
+    ensures { OnOk result (map thread_view threads.new.items
+        ≡ map thread_view threads.old.items ++ thread_of told (noted_view thread.entry) ∷ []) }
+{
+    threads.push(thread_of(told, thread))?;
     Ok(())
 }
 
-/// Returns a thread of a core file.
-fn thread_of<'a>(thread: NotedThread<'a>) -> Thread<'a>
-    ensures { thread_view result ≡ thread_of (noted_view thread.entry) }
+/// Returns a thread of a core file, by whether an earlier one got the signal.
+fn thread_of<'a>(told: bool, thread: NotedThread<'a>) -> Thread<'a>
+    ensures { thread_view result ≡ thread_of told (noted_view thread.entry) }
 {
     Thread {
         tid: thread.tid,
-        cause: cause_of_signal(thread.signal),
+        name: None,
+        cause: cause_unless(told, thread),
         registers: Registers::Kernel {
             values: thread.registers,
             pac_mask: thread.pac_mask,
@@ -113,14 +159,31 @@ fn thread_of<'a>(thread: NotedThread<'a>) -> Thread<'a>
     }
 }
 
-/// Returns what a signal is the cause of: 0 is none.
-fn cause_of_signal(signal: u16) -> Option<Cause>
-    ensures { result ≡ cause_of_signal signal }
+/// Returns what a thread got, if an earlier one has not got it: 0 is none.
+fn cause_unless(told: bool, thread: NotedThread<'_>) -> Option<Cause>
+    ensures { result ≡ cause_unless told (noted_view thread.entry) }
 {
-    if signal == 0 {
+    if told || thread.signal == 0 {
         return None;
     }
-    Some(Cause::Signal(u32::from(signal)))
+    let number = u32::from(thread.signal);
+    Some(Cause::Signal(Signal {
+        number,
+        sent: sent_of(number, thread.info),
+    }))
+}
+
+/// Returns why a signal was sent, where its note is of the signal that the thread's is of.
+fn sent_of(signal: u32, info: Option<SignalInfo>) -> Option<Sent>
+    ensures { result ≡ sent_of signal info }
+{
+    match info {
+        Some(info) if info.signal == signal => Some(Sent {
+            code: info.code,
+            fields: info.fields,
+        }),
+        _ => None,
+    }
 }
 
 /// Returns the files that are mapped to be executed, and after them the vdso.
@@ -137,7 +200,7 @@ fn all_code<'a>(
 {
     let segments = DumpedSegments::new(dumped);
     let mut code = code_of(alloc, memory, &segments, files)?;
-    push_vdso(memory, &segments, vdso, &mut code)?;
+    push_vdso(alloc, memory, &segments, vdso, &mut code)?;
     Ok(code)
 }
 
@@ -154,25 +217,24 @@ fn code_of<'a>(
     let heads = HeadsByPath::of_files(alloc, memory, files)?;
     let mut code = Vec::new(alloc);
     for mapped in files {
-        let file = heads.file_at(alloc, mapped.path)?;
-        push_code(alloc, dumped, file, &mut code, *mapped)?;
+        push_code(dumped, heads.file_at(mapped.path), &mut code, *mapped)?;
     }
     Ok(code)
 }
 
 /// Appends a mapped file, of which memory has this much, if it is one of code.
 fn push_code<'a>(
-    alloc: Global,
     dumped: &DumpedSegments<'_>,
-    file: FileHead<'a>,
+    file: &FileHead<'a>,
     code: &mut Vec<MappedCode<'a>>,
     mapped: MappedFile<'a>,
 ) -> Result<(), AllocError>
-    ensures { OnOk result ((head : List ℕ) → file_head_view file.entry ≡ file_head_of head
+    ensures { OnOk result ((head : List ℕ) → file_head_view file.now ≡ file_head_of head
         → map mapped_code_view code.new.items ≡ map mapped_code_view code.old.items
         ++ code_by dumped.now.segments.now head (mapped_file_view mapped.entry)) }
 {
-    if is_code(alloc, dumped, file.head, mapped)? {
+    let segments = file.segments.as_slice();
+    if is_code(dumped, segments, mapped) {
         code.push(MappedCode {
             start: mapped.start,
             end: mapped.end,
@@ -181,34 +243,21 @@ fn push_code<'a>(
             head: file.head,
             build_id: file.build_id,
             base: None,
+            memory_base: base_in_memory(segments, mapped),
         })?;
     }
     Ok(())
 }
 
 /// Returns whether a file is mapped to be executed: as the dumped segment says that has the first address, or else as
-/// the program headers say that are in the file's first bytes.
-fn is_code(
-    alloc: Global,
-    dumped: &DumpedSegments<'_>,
-    head: &[u8],
-    mapped: MappedFile<'_>,
-) -> Result<bool, AllocError>
-    ensures { IfOk result (λ is. is ≡ is_mapped_code dumped.now.segments.now (loaded_segments_of (segments_in head.now)) (mapped_file_view mapped.entry)) }
+/// the segments say that are told by the file's first bytes.
+fn is_code(dumped: &DumpedSegments<'_>, segments: &[Segment], mapped: MappedFile<'_>) -> bool
+    ensures { result ≡ is_mapped_code dumped.now.segments.now segments.now (mapped_file_view mapped.entry) }
 {
     match dumped.at(mapped.start) {
-        Some(segment) => Ok(segment.is_code),
-        None => is_code_by_head(alloc, head, mapped),
+        Some(segment) => segment.is_code,
+        None => base_in_memory(segments, mapped).is_some(),
     }
-}
-
-/// Returns whether the program headers in the first bytes of a file say that it is mapped to be executed.
-fn is_code_by_head(alloc: Global, head: &[u8], mapped: MappedFile<'_>) -> Result<bool, AllocError>
-    ensures { IfOk result (λ is. is ≡ is_some (base_in_memory (loaded_segments_of (segments_in head.now)) (mapped_file_view mapped.entry))) }
-{
-    let headers = segments_in(alloc, head)?;
-    let segments = loaded_segments(alloc, headers.as_slice())?;
-    Ok(base_in_memory(segments.as_slice(), mapped).is_some())
 }
 
 /// Returns where the stated address 0 of a mapped file is (AVMA), by the segments that its first bytes tell.
@@ -221,6 +270,7 @@ fn base_in_memory(segments: &[Segment], mapped: MappedFile<'_>) -> Option<u64>
 
 /// Appends the vdso, which no file has: from its first address (AVMA) on, as far as the segment of memory has it.
 fn push_vdso<'a>(
+    alloc: Global,
     memory: &ProcessMemory<'a>,
     dumped: &DumpedSegments<'_>,
     vdso: Option<u64>,
@@ -235,16 +285,42 @@ fn push_vdso<'a>(
     let Some(segment) = dumped.at(start) else {
         return Ok(());
     };
-    code.push(MappedCode {
+    code.push(vdso_at(alloc, head_at(memory, start), vdso_mapped(start, segment))?)?;
+    Ok(())
+}
+
+/// Returns where the vdso is mapped, whose first address is in a segment of memory.
+fn vdso_mapped<'a>(start: u64, segment: Segment) -> MappedFile<'a>
+    ensures { mapped_file_view result ≡ vdso_mapped start segment }
+{
+    MappedFile {
         start,
         end: segment.address.saturating_add(segment.size),
         offset: 0,
         path: b"[vdso]",
-        head: head_at(memory, start),
+    }
+}
+
+/// Returns the vdso as mapped code, by its first bytes.
+fn vdso_at<'a>(
+    alloc: Global,
+    head: &'a [u8],
+    mapped: MappedFile<'a>,
+) -> Result<MappedCode<'a>, AllocError>
+    ensures { IfOk result (λ code. mapped_code_view code ≡ vdso_at head.entry.now (mapped_file_view mapped.entry)) }
+{
+    let headers = segments_in(alloc, head)?;
+    let segments = loaded_segments(alloc, headers.as_slice())?;
+    Ok(MappedCode {
+        start: mapped.start,
+        end: mapped.end,
+        offset: mapped.offset,
+        path: mapped.path,
+        head,
         build_id: &[],
         base: None,
-    })?;
-    Ok(())
+        memory_base: base_in_memory(segments.as_slice(), mapped),
+    })
 }
 
 /// Returns the name of the program of a process.

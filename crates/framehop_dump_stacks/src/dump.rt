@@ -38,10 +38,50 @@ pub enum Registers<'a> {
 /// Why a thread ended its process.
 #[derive(Clone, Copy, Debug, PartialEq, Eq)]
 pub enum Cause {
-    /// A signal.
-    Signal(u32),
-    /// An exception, of Windows or of macOS.
-    Exception(u32),
+    /// A signal of Linux.
+    Signal(Signal),
+    /// An exception of Windows.
+    Exception(Exception),
+    /// An exception of another system, by its code.
+    Other(u32),
+}
+
+/// A signal of Linux.
+#[derive(Clone, Copy, Debug, PartialEq, Eq)]
+pub struct Signal {
+    /// Its number.
+    pub number: u32,
+    /// Why it was sent, where that is told.
+    pub sent: Option<Sent>,
+}
+
+/// Why a signal was sent.
+#[derive(Clone, Copy, Debug, PartialEq, Eq)]
+pub struct Sent {
+    /// `si_code`, a signed number of 32 bits.
+    pub code: u32,
+    /// By signal and code the address (AVMA) of a fault, or in the lower half the process that sent the signal.
+    pub fields: u64,
+}
+
+/// An exception of Windows.
+#[derive(Clone, Copy, Debug, PartialEq, Eq)]
+pub struct Exception {
+    /// Its code.
+    pub code: u32,
+    /// The address of the instruction (AVMA).
+    pub address: u64,
+    /// The access to memory that failed, if it was one.
+    pub access: Option<Access>,
+}
+
+/// An access to memory.
+#[derive(Clone, Copy, Debug, PartialEq, Eq)]
+pub struct Access {
+    /// 0 to read, 1 to write, 8 to execute.
+    pub kind: u64,
+    /// The address (AVMA).
+    pub address: u64,
 }
 
 /// A thread, as it was when the file was made.
@@ -49,6 +89,8 @@ pub enum Cause {
 pub struct Thread<'a> {
     /// Its number.
     pub tid: u32,
+    /// Its name, if the file tells it.
+    pub name: Option<&'a [u8]>,
     /// What ended the process, if it was this thread that got it.
     pub cause: Option<Cause>,
     /// Its registers.
@@ -72,6 +114,8 @@ pub struct MappedCode<'a> {
     pub build_id: &'a [u8],
     /// Where the file's SVMA 0 is (AVMA), where that is known before the file is read.
     pub base: Option<u64>,
+    /// Where it is by the first bytes of the file, for one of which nothing is read.
+    pub memory_base: Option<u64>,
 }
 
 /// What is known of a process that is gone.
@@ -85,7 +129,7 @@ pub struct Dump<'a> {
     pub segments: CodeSegments,
     /// The machine on which it ran.
     pub machine: Machine,
-    /// Its threads.
+    /// Its threads, the one first that ended it.
     pub threads: Vec<Thread<'a>>,
     /// The code that it had mapped.
     pub code: Vec<MappedCode<'a>>,
@@ -93,6 +137,8 @@ pub struct Dump<'a> {
     pub name: Option<&'a [u8]>,
     /// Its number, if the file tells it.
     pub pid: Option<u32>,
+    /// Whether it had 32-bit code on a Windows of 64 bits.
+    pub wow64: bool,
 }
 
 /// Returns whether an address (AVMA) is in a segment of memory that may be executed.

@@ -1,5 +1,5 @@
 //! What memory has of mapped files, looked up by their paths.
-ghost use Rattle.std.specs.Prelude.{◌≡◌, ◌∷◌, [], List, ℕ, Some, IfOk, OnOk, cond, is_some, option_map, unwrap_or, nat_eq, map};
+ghost use Rattle.std.specs.Prelude.{◌≡◌, ◌∷◌, [], List, ℕ, Some, None, IfOk, OnOk, cond, is_some, option_map, unwrap_or, nat_eq, map};
 ghost use Rattle.std.specs.Cmp.Lexicographic.{pointwise};
 ghost use Rattle.std.specs.Option.{option_or};
 ghost use Rattle.framehop_coredump.specs.MappedFile.{mapped_file_view};
@@ -10,26 +10,43 @@ ghost use Rattle.framehop_dump_stacks.specs.Heads.{file_head_view, file_head_of,
 use crate::dump::{Dump, MappedCode};
 use crate::image::{build_id_in, head_at, segments_in};
 use framehop_coredump::mapped_file::MappedFile;
+use framehop_elf::segment::loaded_segments;
 use framehop_memory::memory::ProcessMemory;
+use framehop_memory::segment::Segment;
 use std::alloc::{AllocError, Global};
 use std::collections::BTreeMap;
 
 /// What memory has of a file.
-#[derive(Clone, Copy, Drop)]
+#[derive(Drop)]
 pub(crate) struct FileHead<'a> {
     /// Its first bytes.
     pub(crate) head: &'a [u8],
     /// The build id in them, or no bytes.
     pub(crate) build_id: &'a [u8],
+    /// The segments that they tell.
+    pub(crate) segments: Vec<Segment>,
 }
 
 /// What memory has of files, by their paths.
 #[derive(Drop)]
 pub struct HeadsByPath<'a> {
     by_path: BTreeMap<&'a [u8], FileHead<'a>>,
+    // for a path of which nothing is kept
+    nothing: FileHead<'a>,
+    ghost empty: { file_head_view nothing ≡ file_head_of [] },
 }
 
 impl<'a> HeadsByPath<'a> {
+    /// Returns nothing of any file.
+    fn new(alloc: Global) -> Result<Self, AllocError>
+        ensures { IfOk result (λ heads. (path : List ℕ) → kept_at heads.by_path path ≡ None) }
+    {
+        Ok(HeadsByPath {
+            by_path: BTreeMap::new(alloc),
+            nothing: file_head(alloc, &[])?,
+        })
+    }
+
     /// Returns what memory has of mapped files: of each path at its first mapping that has the first byte of the
     /// file, which is read once.
     pub(crate) fn of_files(
@@ -39,9 +56,7 @@ impl<'a> HeadsByPath<'a> {
     ) -> Result<Self, AllocError>
         ensures { IfOk result (λ heads. HasBeginnings (memory_view memory.now) (map mapped_file_view files.now) heads.by_path) }
     {
-        let mut heads = HeadsByPath {
-            by_path: BTreeMap::new(alloc),
-        };
+        let mut heads = HeadsByPath::new(alloc)?;
         for mapped in files {
             heads.keep_beginning(alloc, memory, mapped)?;
         }
@@ -52,9 +67,7 @@ impl<'a> HeadsByPath<'a> {
     fn of_code(alloc: Global, code: &[MappedCode<'a>]) -> Result<Self, AllocError>
         ensures { IfOk result (λ heads. HasHeadsOf (map mapped_code_view code.now) heads.by_path) }
     {
-        let mut heads = HeadsByPath {
-            by_path: BTreeMap::new(alloc),
-        };
+        let mut heads = HeadsByPath::new(alloc)?;
         let mut left = code.len();
         while left > 0 {
             left -= 1;
@@ -64,6 +77,7 @@ impl<'a> HeadsByPath<'a> {
                 FileHead {
                     head: mapped.head,
                     build_id: mapped.build_id,
+                    segments: Vec::new(alloc),
                 },
             )?;
         }
@@ -71,13 +85,10 @@ impl<'a> HeadsByPath<'a> {
     }
 
     /// Returns what memory has of the file of a path.
-    pub(crate) fn file_at(&self, alloc: Global, path: &[u8]) -> Result<FileHead<'a>, AllocError>
-        ensures { IfOk result (λ file. file_head_view file ≡ unwrap_or (kept_at self.now.by_path path.now) (file_head_of [])) }
+    pub(crate) fn file_at(&self, path: &[u8]) -> &FileHead<'a>
+        ensures { file_head_view result.now ≡ unwrap_or (kept_at self.now.by_path path.now) (file_head_of []) }
     {
-        match self.by_path.get(path) {
-            Some(file) => Ok(*file),
-            None => file_head(alloc, &[]),
-        }
+        self.by_path.get(path).unwrap_or(&self.nothing)
     }
 
     /// Returns the first bytes of the file of a path, or none.
@@ -126,9 +137,11 @@ fn file_head<'a>(alloc: Global, head: &'a [u8]) -> Result<FileHead<'a>, AllocErr
     ensures { IfOk result (λ file. file_head_view file ≡ file_head_of head.entry.now) }
 {
     let headers = segments_in(alloc, head)?;
+    let segments = loaded_segments(alloc, headers.as_slice())?;
     Ok(FileHead {
         head,
         build_id: build_id_in(head, headers.as_slice()),
+        segments,
     })
 }
 

@@ -1,27 +1,33 @@
 //! What a minidump says of a process.
 //!
-//! A minidump says where a module is loaded, and not which parts of it have code. So the segments of an ELF file
-//! are read first, from the file or from its first bytes in memory; a module of Windows is code as a whole. All
-//! else becomes a `Dump`, as of a core file.
-ghost use Rattle.std.specs.Prelude.{◌≡◌, ◌⊎◌, ◌++◌, ◌∷◌, [], ℕ, List, None, Ok, Err, MatchResult, IfOk, OnOk, map, option_map};
-ghost use Rattle.std.specs.List.{flat_map};
-ghost use Rattle.framehop_dump_stacks.specs.Dump.{MappedCodeView, thread_view, mapped_code_view, dump_view};
+//! A minidump says where a module is loaded, and not which parts of it have code. So the files of the modules are read
+//! first, and the segments of an ELF file are taken from what was read or from its first bytes in memory; a module of
+//! Windows is code as a whole. All else becomes a `Dump`, as of a core file.
+ghost use Rattle.std.specs.Prelude.{◌≡◌, ◌⊎◌, ◌++◌, ◌∷◌, [], ℕ, List, None, Ok, Err, MatchResult, IfOk, OnOk, length, map, option_map};
+ghost use Rattle.std.specs.List.{flat_map, list_any};
+ghost use Rattle.framehop_dump_stacks.specs.Added.{object_called};
+ghost use Rattle.framehop_dump_stacks.specs.Dump.{thread_view, mapped_code_view, dump_view};
 ghost use Rattle.framehop_memory.specs.Memory.{memory_view};
 ghost use Rattle.framehop_dump_stacks.specs.Image.{segments_in};
-ghost use Rattle.framehop_dump_stacks.specs.Minidump.{each, machine_of, signal_of, cause_by, cause_of, last_address, mask_up_to, thread_in, loaded_view, build_id_by, loaded_in, streams_and_modules_of, separator, file_name, program_name, dump_in, headers_given, or_else, base_by_name, whole, all_regions_of, segment_code, code_with, code_by, code_of, IsGivenIf, IsCodeOf, AreCodeOf};
-ghost use Rattle.framehop_elf.specs.UnwindSections.{bytes_in};
+ghost use Rattle.framehop_dump_stacks.specs.Minidump.{each, each_within, names_limit, machine_of, sent_of, signal_of, access_of, windows_exception, cause_by, cause_of, last_address, mask_up_to, thread_in, loaded_view, loaded_size, loaded_if, build_id_by, loaded_in, named_in, parts_view, parts_of, separator, file_name, program_name, is_wow64, has_wow64, dumped_threads_of, dump_in, object_segments, or_else, base_by_name, whole, all_regions_of, segment_code, code_by, code_in, code_of, AreModuleFiles, dump_with};
+ghost use Rattle.framehop_elf.specs.Segment.{loaded_segments_of};
 ghost use Rattle.framehop_minidump.specs.CodeView.{codeview_view};
 ghost use Rattle.framehop_minidump.specs.declared.error.MinidumpError.{MinidumpError};
-ghost use Rattle.framehop_symbols.specs.Files.{is_unix_path};
+ghost use Rattle.framehop_symbols.specs.Files.{is_unix_path, IsAdded};
+ghost use Rattle.framehop_dump_stacks.specs.ThreadNames.{named_view};
 
-use crate::dump::{Cause, Dump, Kind, MappedCode, Registers, Thread};
-use crate::image::{build_id_in, head_at, segments_in};
+use crate::dump::{
+    Access, Cause, Dump, Exception as WindowsException, Kind, MappedCode, Registers, Sent, Signal,
+    Thread,
+};
+use crate::image::{head_at, segments_in};
+use crate::order::crashed_first;
+use crate::thread_names::{NamedThread, ThreadNames};
 use framehop_coredump::core_file::Machine;
-use framehop_elf::program_header::ProgramHeader;
 use framehop_elf::segment::loaded_segments;
 use framehop_memory::code::CodeSegments;
 use framehop_memory::memory::ProcessMemory;
-use framehop_memory::segment::{Segment, base_from};
+use framehop_memory::segment::{Segment, base_avma, base_from};
 use framehop_minidump::codeview::{CodeView, read_codeview};
 use framehop_minidump::error::MinidumpError;
 use framehop_minidump::exception::{Exception, context_of, read_exception};
@@ -32,11 +38,11 @@ use framehop_minidump::memory_info::read_memory_info;
 use framehop_minidump::misc_info::read_process_id;
 use framehop_minidump::module::{Module, read_modules};
 use framehop_minidump::stream::{Stream, read_streams};
-use framehop_minidump::string::read_string;
+use framehop_minidump::string::{read_far_string, read_string};
 use framehop_minidump::system_info::{Machine as SystemMachine, read_system_info};
 use framehop_minidump::thread::{Thread as ListedThread, read_threads};
-use framehop_symbols::files::{FileSource, is_unix_path, is_windows_path};
-use framehop_symbols::object_file::is_another;
+use framehop_minidump::thread_name::{ThreadName, read_thread_names};
+use framehop_symbols::files::{FileSource, Files, is_unix_path, is_windows_path};
 use std::alloc::{AllocError, Global};
 
 /// The platform of Windows.
@@ -52,6 +58,12 @@ const ANDROID: u32 = 0x8203;
 /// Breakpad.
 const DUMP_REQUESTED: u32 = 0xffff_ffff;
 
+/// `EXCEPTION_ACCESS_VIOLATION`.
+const ACCESS_VIOLATION: u32 = 0xc000_0005;
+
+/// `EXCEPTION_IN_PAGE_ERROR`.
+const IN_PAGE_ERROR: u32 = 0xc000_0006;
+
 /// A module of a minidump.
 #[derive(Drop)]
 pub struct LoadedModule {
@@ -65,25 +77,41 @@ pub struct LoadedModule {
     pub build_id: Vec<u8>,
 }
 
-/// Reads the streams of a minidump, and its modules with their names and their build ids, in the order of the file.
+/// The parts of a minidump that others are read by.
+#[derive(Drop)]
+pub struct Parts {
+    /// Its streams, in the order of the file.
+    pub streams: Vec<Stream>,
+    /// Its modules, with their names and their build ids, in the order of the file.
+    pub modules: Vec<LoadedModule>,
+    /// The names of its threads.
+    pub names: Vec<NamedThread>,
+}
+
+/// Reads the streams of a minidump, its modules with their names and their build ids, and the names of its threads, in the
+/// order of the file.
 ///
 /// # Errors
 ///
 /// The first refusal of the header, of the directory, of the list of modules, and then, module by module, of the
-/// name and of the CodeView record; `OutOfMemory`.
-#[tactic(auto, unfolding(crate::specs::Minidump::streams_and_modules_of, crate::specs::Minidump::modules_in))]
-pub fn read_streams_and_modules(
-    alloc: Global,
-    file: &[u8],
-) -> Result<(Vec<Stream>, Vec<LoadedModule>), MinidumpError>
+/// name and of the CodeView record, and `SharedNames` where these take more than twice the bytes of the file; then of the
+/// list of the names of threads, and of each of these, the same. `OutOfMemory`.
+#[tactic(auto, unfolding(crate::specs::Minidump::parts_of, crate::specs::Minidump::modules_in, crate::specs::Minidump::names_in))]
+pub fn read_parts(alloc: Global, file: &[u8]) -> Result<Parts, MinidumpError>
     ensures { MatchResult result
-        (λ read. streams_and_modules_of file.now ≡ Ok (read.0.items, map loaded_view read.1.items))
-        (λ error. (error ≡ MinidumpError.OutOfMemory) ⊎ (streams_and_modules_of file.now ≡ Err error)) }
+        (λ parts. parts_of file.now ≡ Ok (parts_view parts))
+        (λ error. (error ≡ MinidumpError.OutOfMemory) ⊎ (parts_of file.now ≡ Err error)) }
 {
     let streams = read_streams(alloc, file)?;
     let listed = read_modules(alloc, file, streams.as_slice())?;
     let modules = loaded_modules(alloc, file, listed.as_slice())?;
-    Ok((streams, modules))
+    let placed = read_thread_names(alloc, file, streams.as_slice())?;
+    let names = named_threads(alloc, file, placed.as_slice())?;
+    Ok(Parts {
+        streams,
+        modules,
+        names,
+    })
 }
 
 /// Reads the names and the build ids of modules.
@@ -93,12 +121,15 @@ fn loaded_modules(
     modules: &[Module],
 ) -> Result<Vec<LoadedModule>, MinidumpError>
     ensures { MatchResult result
-        (λ loaded. each (loaded_in file.now) modules.now ≡ Ok (map loaded_view loaded.items))
-        (λ error. (error ≡ MinidumpError.OutOfMemory) ⊎ (each (loaded_in file.now) modules.now ≡ Err error)) }
+        (λ loaded. each_within (loaded_in file.now) loaded_size (names_limit file.now) modules.now ≡ Ok (map loaded_view loaded.items))
+        (λ error. (error ≡ MinidumpError.OutOfMemory)
+        ⊎ (each_within (loaded_in file.now) loaded_size (names_limit file.now) modules.now ≡ Err error)) }
 {
     let mut loaded = Vec::new(alloc);
+    let mut left = names_limit(file);
     for module in modules {
-        let one = loaded_in(alloc, file, *module)?;
+        let one = loaded_in(alloc, file, left, *module)?;
+        left = left.saturating_sub(loaded_size(&one));
         let Ok(()) = loaded.push(one) else {
             return Err(MinidumpError::OutOfMemory);
         };
@@ -106,23 +137,112 @@ fn loaded_modules(
     Ok(loaded)
 }
 
-/// Reads the name and the build id of a module.
+/// Returns how many bytes names and build ids may take together: no more than those that share no bytes of the file.
+fn names_limit(file: &[u8]) -> usize
+    ensures { result ≡ names_limit file.now }
+{
+    file.len() + file.len()
+}
+
+/// Reads the name and the build id of a module, which may take so many bytes.
 #[tactic(auto, unfolding(crate::specs::Minidump::loaded_in))]
-fn loaded_in(alloc: Global, file: &[u8], module: Module) -> Result<LoadedModule, MinidumpError>
+fn loaded_in(
+    alloc: Global,
+    file: &[u8],
+    left: usize,
+    module: Module,
+) -> Result<LoadedModule, MinidumpError>
     ensures { MatchResult result
-        (λ loaded. loaded_in file.now «module» ≡ Ok (loaded_view loaded))
-        (λ error. (error ≡ MinidumpError.OutOfMemory) ⊎ (loaded_in file.now «module» ≡ Err error)) }
+        (λ loaded. loaded_in file.now left «module» ≡ Ok (loaded_view loaded))
+        (λ error. (error ≡ MinidumpError.OutOfMemory) ⊎ (loaded_in file.now left «module» ≡ Err error)) }
 {
     let name = read_string(alloc, file, module.name)?;
     let codeview = read_codeview(file, module.codeview)?;
     let Ok(build_id) = Vec::from_slice(alloc, build_id_by(name.as_bytes(), codeview)) else {
         return Err(MinidumpError::OutOfMemory);
     };
-    Ok(LoadedModule {
+    let loaded = LoadedModule {
         base: module.base,
         size: module.size,
         name: name.into_bytes(),
         build_id,
+    };
+    loaded_if(left, module.name, loaded)
+}
+
+/// Returns a module, if its name and its build id take at most so many bytes.
+fn loaded_if(left: usize, offset: u32, loaded: LoadedModule) -> Result<LoadedModule, MinidumpError>
+    ensures { MatchResult result
+        (λ same. loaded_if left offset (loaded_view loaded) ≡ Ok (loaded_view same))
+        (λ error. loaded_if left offset (loaded_view loaded) ≡ Err error) }
+{
+    if loaded_size(&loaded) > left {
+        return Err(MinidumpError::SharedNames {
+            offset: u64::from(offset),
+        });
+    }
+    Ok(loaded)
+}
+
+/// Returns how many bytes the name and the build id of a module take.
+fn loaded_size(loaded: &LoadedModule) -> usize
+    ensures { result ≡ loaded_size (loaded_view loaded.now) }
+{
+    loaded.name.len() + loaded.build_id.len()
+}
+
+/// Reads the names of threads.
+fn named_threads(
+    alloc: Global,
+    file: &[u8],
+    placed: &[ThreadName],
+) -> Result<Vec<NamedThread>, MinidumpError>
+    ensures { MatchResult result
+        (λ names. each_within (named_in file.now) (λ named. length named.name) (names_limit file.now) placed.now
+        ≡ Ok (map named_view names.items))
+        (λ error. (error ≡ MinidumpError.OutOfMemory)
+        ⊎ (each_within (named_in file.now) (λ named. length named.name) (names_limit file.now) placed.now ≡ Err error)) }
+{
+    let mut names = Vec::new(alloc);
+    let mut left = names_limit(file);
+    for one in placed {
+        let named = named_in(alloc, file, left, *one)?;
+        left = left.saturating_sub(named_size(&named));
+        let Ok(()) = names.push(named) else {
+            return Err(MinidumpError::OutOfMemory);
+        };
+    }
+    Ok(names)
+}
+
+/// Returns how many bytes the name of a thread takes.
+fn named_size(named: &NamedThread) -> usize
+    ensures { result ≡ length (named_view named.now).name }
+{
+    named.name.len()
+}
+
+/// Reads the name of a thread, which may take so many bytes.
+#[tactic(auto, unfolding(crate::specs::Minidump::named_in))]
+fn named_in(
+    alloc: Global,
+    file: &[u8],
+    left: usize,
+    placed: ThreadName,
+) -> Result<NamedThread, MinidumpError>
+    ensures { MatchResult result
+        (λ named. named_in file.now left placed ≡ Ok (named_view named))
+        (λ error. (error ≡ MinidumpError.OutOfMemory) ⊎ (named_in file.now left placed ≡ Err error)) }
+{
+    let name = read_far_string(alloc, file, placed.name)?;
+    if name.len() > left {
+        return Err(MinidumpError::SharedNames {
+            offset: placed.name,
+        });
+    }
+    Ok(NamedThread {
+        tid: placed.tid,
+        name: name.into_bytes(),
     })
 }
 
@@ -142,29 +262,23 @@ fn build_id_by<'a>(name: &[u8], codeview: Option<CodeView<'a>>) -> &'a [u8]
 ///
 /// # Errors
 ///
-/// The first refusal of the system information, of the exception, of the threads and their contexts, of the list
-/// of memory, of that of its regions, and of the number of the process; `OutOfMemory`.
+/// The first refusal of the system information, of the exception, of the threads and their contexts, `NoThreads` where none
+/// is listed, that of the list of memory, of that of its regions, and of the number of the process; `OutOfMemory`.
 #[tactic(auto, unfolding(crate::specs::Minidump::dump_in))]
 pub fn dump_in<'a>(
     alloc: Global,
     file: &'a [u8],
-    streams: &[Stream],
-    modules: &'a [LoadedModule],
+    parts: &'a Parts,
 ) -> Result<Dump<'a>, MinidumpError>
     ensures { MatchResult result
-        (λ dump. dump_in file.entry.now streams.now (map loaded_view modules.entry.now) ≡ Ok (dump_view dump))
+        (λ dump. dump_in file.entry.now (parts_view parts.entry.now) ≡ Ok (dump_view dump))
         (λ error. (error ≡ MinidumpError.OutOfMemory)
-        ⊎ (dump_in file.entry.now streams.now (map loaded_view modules.entry.now) ≡ Err error)) }
+        ⊎ (dump_in file.entry.now (parts_view parts.entry.now) ≡ Err error)) }
 {
+    let streams = parts.streams.as_slice();
+    let modules = parts.modules.as_slice();
     let system = read_system_info(file, streams)?;
-    let exception = read_exception(file, streams)?;
-    let listed = read_threads(alloc, file, streams)?;
-    let of_all = Circumstances {
-        platform: system.platform,
-        code_mask: mask_up_to(last_address(modules)),
-        exception,
-    };
-    let threads = threads_in(alloc, file, of_all, listed.as_slice())?;
+    let threads = dumped_threads(alloc, file, parts, system.platform)?;
     let ranges = read_memory(alloc, file, streams)?;
     let memory = ProcessMemory::new(alloc, file, ranges)?;
     let regions = all_regions(alloc, file, streams)?;
@@ -179,7 +293,41 @@ pub fn dump_in<'a>(
         code: Vec::new(alloc),
         name: program_name(system.platform, modules),
         pid,
+        wow64: has_wow64(system.platform, modules),
     })
+}
+
+/// Reads the threads, those first that ended the process.
+///
+/// # Errors
+///
+/// The first refusal of the exception, of the threads and their contexts, `NoThreads` where none is listed; `OutOfMemory`.
+#[tactic(auto, unfolding(crate::specs::Minidump::dumped_threads_of))]
+fn dumped_threads<'a>(
+    alloc: Global,
+    file: &'a [u8],
+    parts: &'a Parts,
+    platform: u32,
+) -> Result<Vec<Thread<'a>>, MinidumpError>
+    ensures { MatchResult result
+        (λ threads. dumped_threads_of file.entry.now (parts_view parts.entry.now) platform ≡ Ok (map thread_view threads.items))
+        (λ error. (error ≡ MinidumpError.OutOfMemory)
+        ⊎ (dumped_threads_of file.entry.now (parts_view parts.entry.now) platform ≡ Err error)) }
+{
+    let streams = parts.streams.as_slice();
+    let exception = read_exception(file, streams)?;
+    let listed = read_threads(alloc, file, streams)?;
+    if listed.is_empty() {
+        return Err(MinidumpError::NoThreads);
+    }
+    let of_all = Circumstances {
+        platform,
+        code_mask: mask_up_to(last_address(parts.modules.as_slice())),
+        exception,
+    };
+    let names = ThreadNames::new(alloc, parts.names.as_slice())?;
+    let threads = threads_in(alloc, file, of_all, &names, listed.as_slice())?;
+    Ok(crashed_first(alloc, threads.as_slice())?)
 }
 
 /// Reads which memory could be executed: as Windows says it, and as Linux does.
@@ -232,17 +380,18 @@ fn threads_in<'a>(
     alloc: Global,
     file: &'a [u8],
     of_all: Circumstances,
+    names: &ThreadNames<'a>,
     listed: &[ListedThread],
 ) -> Result<Vec<Thread<'a>>, MinidumpError>
     ensures { MatchResult result
-        (λ threads. each (thread_in file.entry.now of_all.platform of_all.code_mask of_all.exception) listed.now
+        (λ threads. each (thread_in file.entry.now of_all.platform of_all.code_mask of_all.exception (map named_view names.now.listed.now)) listed.now
         ≡ Ok (map thread_view threads.items))
         (λ error. (error ≡ MinidumpError.OutOfMemory)
-        ⊎ (each (thread_in file.entry.now of_all.platform of_all.code_mask of_all.exception) listed.now ≡ Err error)) }
+        ⊎ (each (thread_in file.entry.now of_all.platform of_all.code_mask of_all.exception (map named_view names.now.listed.now)) listed.now ≡ Err error)) }
 {
     let mut threads = Vec::new(alloc);
     for thread in listed {
-        let one = thread_in(file, of_all, *thread)?;
+        let one = thread_in(file, of_all, names, *thread)?;
         let Ok(()) = threads.push(one) else {
             return Err(MinidumpError::OutOfMemory);
         };
@@ -263,15 +412,17 @@ struct Circumstances {
 fn thread_in<'a>(
     file: &'a [u8],
     of_all: Circumstances,
+    names: &ThreadNames<'a>,
     thread: ListedThread,
 ) -> Result<Thread<'a>, MinidumpError>
     ensures { MatchResult result
-        (λ read. thread_in file.entry.now of_all.platform of_all.code_mask of_all.exception thread ≡ Ok (thread_view read))
-        (λ error. thread_in file.entry.now of_all.platform of_all.code_mask of_all.exception thread ≡ Err error) }
+        (λ read. thread_in file.entry.now of_all.platform of_all.code_mask of_all.exception (map named_view names.now.listed.now) thread ≡ Ok (thread_view read))
+        (λ error. thread_in file.entry.now of_all.platform of_all.code_mask of_all.exception (map named_view names.now.listed.now) thread ≡ Err error) }
 {
     let values = read_located(file, context_of(thread, of_all.exception))?;
     Ok(Thread {
         tid: thread.tid,
+        name: names.name_of(thread.tid),
         cause: cause_of(of_all.platform, thread.tid, of_all.exception),
         registers: Registers::Context {
             values,
@@ -285,30 +436,74 @@ fn cause_of(platform: u32, tid: u32, exception: Option<Exception>) -> Option<Cau
     ensures { result ≡ cause_of platform tid exception }
 {
     match exception {
-        Some(exception) if exception.tid == tid => cause_by(platform, exception.code),
+        Some(exception) if exception.tid == tid => cause_by(platform, exception),
         _ => None,
     }
 }
 
-/// Returns what the code of an exception is the cause of.
-fn cause_by(platform: u32, code: u32) -> Option<Cause>
-    ensures { result ≡ cause_by platform code }
+/// Returns what an exception is the cause of.
+fn cause_by(platform: u32, exception: Exception) -> Option<Cause>
+    ensures { result ≡ cause_by platform exception }
 {
-    if platform == LINUX || platform == ANDROID {
-        return signal_of(code);
+    match platform {
+        LINUX | ANDROID => signal_of(exception),
+        WINDOWS => Some(Cause::Exception(windows_exception(exception))),
+        _ => Some(Cause::Other(exception.code)),
     }
-    Some(Cause::Exception(code))
 }
 
-/// Returns what a code of Linux is the cause of: the signal of its number, if there is one.
-fn signal_of(code: u32) -> Option<Cause>
-    ensures { result ≡ signal_of code }
+/// Returns what an exception of Linux is the cause of: the signal of its code, if there is one.
+fn signal_of(exception: Exception) -> Option<Cause>
+    ensures { result ≡ signal_of exception }
 {
-    match code {
+    match exception.code {
         0 => None,
         DUMP_REQUESTED => None,
-        signal => Some(Cause::Signal(signal)),
+        number => Some(Cause::Signal(Signal {
+            number,
+            sent: sent_of(exception),
+        })),
     }
+}
+
+/// Returns why the signal of an exception of Linux was sent, if its flags tell it.
+fn sent_of(exception: Exception) -> Option<Sent>
+    ensures { result ≡ sent_of exception }
+{
+    if exception.flags == 0 {
+        return None;
+    }
+    Some(Sent {
+        code: exception.flags,
+        fields: exception.address,
+    })
+}
+
+/// Returns an exception of Windows.
+fn windows_exception(exception: Exception) -> WindowsException
+    ensures { result ≡ windows_exception exception }
+{
+    WindowsException {
+        code: exception.code,
+        address: exception.address,
+        access: access_of(exception),
+    }
+}
+
+/// Returns the access to memory that failed, if an exception of Windows is of one.
+///
+/// Source: `winnt.h`, `EXCEPTION_RECORD`, `ExceptionInformation`.
+fn access_of(exception: Exception) -> Option<Access>
+    ensures { result ≡ access_of exception }
+{
+    let is_access = exception.code == ACCESS_VIOLATION || exception.code == IN_PAGE_ERROR;
+    if is_access && exception.parameter_count >= 2 {
+        return Some(Access {
+            kind: exception.first_parameter,
+            address: exception.second_parameter,
+        });
+    }
+    None
 }
 
 /// Returns the machine.
@@ -342,6 +537,32 @@ fn file_name(separator: u8, path: &[u8]) -> &[u8]
     &path[start..]
 }
 
+/// Returns whether a process of 32 bits ran on a Windows of 64 bits.
+fn has_wow64(platform: u32, modules: &[LoadedModule]) -> bool
+    ensures { result ≡ has_wow64 platform (map loaded_view modules.now) }
+{
+    platform == WINDOWS && any_wow64(modules)
+}
+
+/// Returns whether the library is among modules that takes the calls of processes of 32 bits.
+fn any_wow64(modules: &[LoadedModule]) -> bool
+    ensures { result ≡ list_any is_wow64 (map loaded_view modules.now) }
+{
+    for module in modules {
+        if is_wow64(module) {
+            return true;
+        }
+    }
+    false
+}
+
+/// Returns whether a module is that library.
+fn is_wow64(module: &LoadedModule) -> bool
+    ensures { result ≡ is_wow64 (loaded_view «module».now) }
+{
+    file_name(b'\\', module.name.as_slice()).eq_ignore_ascii_case(b"wow64.dll")
+}
+
 /// Returns the byte that parts folders in the paths of a platform.
 fn separator(platform: u32) -> u8
     ensures { result ≡ separator platform }
@@ -349,103 +570,125 @@ fn separator(platform: u32) -> u8
     if platform == WINDOWS { b'\\' } else { b'/' }
 }
 
-/// Returns the code of modules, by their files or else by their first bytes in memory.
-pub fn code_of<'a, S: FileSource>(
+/// Reads the files of modules, each once.
+pub fn read_module_files<S: FileSource>(
+    alloc: Global,
+    modules: &[LoadedModule],
+    source: &S,
+) -> Result<Files, AllocError>
+    ensures { IfOk result (λ files. AreModuleFiles (S.source source.now) (map loaded_view modules.now) files) }
+{
+    let mut files = Files::new(alloc)?;
+    for module in modules {
+        add_file(alloc, source, &mut files, module)?;
+    }
+    Ok(files)
+}
+
+/// Reads the file of a module, if it has not been read.
+fn add_file<S: FileSource>(
+    alloc: Global,
+    source: &S,
+    files: &mut Files,
+    module: &LoadedModule,
+) -> Result<(), AllocError>
+    ensures { OnOk result (IsAdded (S.source source.now) (loaded_view «module».now).name (loaded_view «module».now).build_id
+        files.old files.new) }
+{
+    let build_id = module.build_id.as_slice();
+    files.add(alloc, source, module.name.as_slice(), build_id)?;
+    Ok(())
+}
+
+/// Returns a dump with the code of its modules, by what was read of their files.
+pub(crate) fn with_code<'a>(
+    alloc: Global,
+    dump: Dump<'a>,
+    files: &Files,
+    modules: &'a [LoadedModule],
+) -> Result<Dump<'a>, AllocError>
+    ensures { IfOk result (λ whole. dump_view whole ≡ dump_with (dump_view dump.entry, map loaded_view modules.entry.now) files.now) }
+{
+    let mut dump = dump;
+    dump.code = code_of(alloc, &dump.memory, files, modules)?;
+    Ok(dump)
+}
+
+/// Returns the code of modules, by what was read of their files or else by their first bytes in memory.
+pub fn code_of<'a>(
     alloc: Global,
     memory: &ProcessMemory<'a>,
+    files: &Files,
     modules: &'a [LoadedModule],
-    source: &S,
 ) -> Result<Vec<MappedCode<'a>>, AllocError>
-    ensures { IfOk result (λ code. AreCodeOf (S.source source.now) (memory_view memory.now)
-        (map loaded_view modules.entry.now) (map mapped_code_view code.items)) }
+    ensures { IfOk result (λ code. map mapped_code_view code.items
+        ≡ code_of (memory_view memory.now) files.now (map loaded_view modules.entry.now)) }
 {
     let mut code = Vec::new(alloc);
     for module in modules {
-        push_module(alloc, memory, source, &mut code, module)?;
+        push_module(alloc, memory, files, &mut code, module)?;
     }
     Ok(code)
 }
 
-/// Appends the code of a module, by its file or else by its first bytes in memory.
-fn push_module<'a, S: FileSource>(
+/// Appends the code of a module, by what was read of its file or else by its first bytes in memory.
+fn push_module<'a>(
     alloc: Global,
     memory: &ProcessMemory<'a>,
-    source: &S,
+    files: &Files,
     code: &mut Vec<MappedCode<'a>>,
     module: &'a LoadedModule,
 ) -> Result<(), AllocError>
-    ensures { OnOk result ((first : List MappedCodeView)
-        × IsCodeOf (S.source source.now) (memory_view memory.now) (loaded_view «module».entry.now) first
-        × (map mapped_code_view code.new.items ≡ map mapped_code_view code.old.items ++ first)) }
+    ensures { OnOk result (map mapped_code_view code.new.items ≡ map mapped_code_view code.old.items
+        ++ code_in (memory_view memory.now) files.now (loaded_view «module».entry.now)) }
 {
     let head = head_at(memory, module.base);
-    let given = file_of(source, module);
-    let headers = headers_of(alloc, module, given, head)?;
-    let segments = loaded_segments(alloc, headers.as_slice())?;
-    push_code(code, module, head, segments.as_slice())
+    let headers = segments_in(alloc, head)?;
+    let told = loaded_segments(alloc, headers.as_slice())?;
+    let segments = or_else(object_segments(files, module), told.as_slice());
+    push_code(code, module, head, told.as_slice(), segments)
 }
 
-/// Returns the file of a module, if it is given. Only a path of Unix is asked for: no other file is an ELF file.
-fn file_of<S: FileSource>(source: &S, module: &LoadedModule) -> Option<Vec<u8>>
-    ensures { IsGivenIf (S.source source.now) (is_unix_path (loaded_view «module».now).name)
-        (loaded_view «module».now).name (bytes_in result) }
+/// Returns the segments of an ELF file that was read for a module. Only one with a path of Unix is an ELF file.
+fn object_segments<'a>(files: &'a Files, module: &LoadedModule) -> &'a [Segment]
+    ensures { result.now ≡ object_segments (is_unix_path (loaded_view «module».now).name)
+        (object_called files.entry.now (loaded_view «module».now).name) }
 {
     let name = module.name.as_slice();
     if !is_unix_path(name) {
-        return None;
+        return &[];
     }
-    source.read_file(name)
-}
-
-/// Returns the program headers of a module: those of its file, or else those that its first bytes in memory have.
-fn headers_of(
-    alloc: Global,
-    module: &LoadedModule,
-    given: Option<Vec<u8>>,
-    head: &[u8],
-) -> Result<Vec<ProgramHeader>, AllocError>
-    ensures { IfOk result (λ segments. segments.items
-        ≡ or_else (headers_given (loaded_view «module».now).build_id (bytes_in given)) (segments_in head.now)) }
-{
-    let segments = headers_given(alloc, module.build_id.as_slice(), given)?;
-    if segments.is_empty() {
-        return segments_in(alloc, head);
-    }
-    Ok(segments)
-}
-
-/// Returns the program headers of a file that is given, if it has the build id that it must have: none, else.
-fn headers_given(
-    alloc: Global,
-    wanted: &[u8],
-    given: Option<Vec<u8>>,
-) -> Result<Vec<ProgramHeader>, AllocError>
-    ensures { IfOk result (λ segments. segments.items ≡ headers_given wanted.now (bytes_in given)) }
-{
-    let Some(bytes) = given else {
-        return Ok(Vec::new(alloc));
+    let Some(number) = files.number_of(name) else {
+        return &[];
     };
-    let segments = segments_in(alloc, bytes.as_slice())?;
-    let found = build_id_in(bytes.as_slice(), segments.as_slice());
-    if is_another(wanted, found) {
-        return Ok(Vec::new(alloc));
+    match files.object(number) {
+        Some(object) => object.segments(),
+        None => &[],
     }
-    Ok(segments)
 }
 
-/// Appends the code of a module that has these segments.
+/// Returns the first segments, or else the others.
+fn or_else<'a>(first: &'a [Segment], others: &'a [Segment]) -> &'a [Segment]
+    ensures { result.now ≡ or_else first.entry.now others.entry.now }
+{
+    if first.is_empty() { others } else { first }
+}
+
+/// Appends the code of a module that has these segments, and whose first bytes in memory tell those.
 fn push_code<'a>(
     code: &mut Vec<MappedCode<'a>>,
     module: &'a LoadedModule,
     head: &'a [u8],
+    told: &[Segment],
     segments: &[Segment],
 ) -> Result<(), AllocError>
+    requires { told.now ≡ loaded_segments_of (segments_in head.now) }
     ensures { OnOk result (map mapped_code_view code.new.items ≡ map mapped_code_view code.old.items
         ++ code_by head.entry.now (loaded_view «module».entry.now) segments.now) }
 {
     match base_from(segments, module.base) {
         Some(base) => push_segments(code, module, head, base, segments),
-        None => Ok(code.push(whole(module, head))?),
+        None => Ok(code.push(whole(module, head, told))?),
     }
 }
 
@@ -487,23 +730,28 @@ fn push_segment<'a>(
             head,
             build_id: module.build_id.as_slice(),
             base: Some(base),
+            memory_base: None,
         })?;
     }
     Ok(())
 }
 
-/// Returns all addresses of a module as mapped code.
-fn whole<'a>(module: &'a LoadedModule, head: &'a [u8]) -> MappedCode<'a>
+/// Returns all addresses of a module as mapped code, whose first bytes in memory tell these segments.
+fn whole<'a>(module: &'a LoadedModule, head: &'a [u8], told: &[Segment]) -> MappedCode<'a>
+    requires { told.now ≡ loaded_segments_of (segments_in head.now) }
     ensures { mapped_code_view result ≡ whole head.entry.now (loaded_view «module».entry.now) }
 {
+    let start = module.base;
+    let end = start.saturating_add(u64::from(module.size));
     MappedCode {
-        start: module.base,
-        end: module.base.saturating_add(u64::from(module.size)),
+        start,
+        end,
         offset: 0,
         path: module.name.as_slice(),
         head,
         build_id: module.build_id.as_slice(),
         base: base_by_name(module),
+        memory_base: base_avma(told, 0, end.saturating_sub(start), start),
     }
 }
 

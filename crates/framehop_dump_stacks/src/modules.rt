@@ -1,24 +1,20 @@
 //! The files whose code a process had mapped, and the modules of their mappings.
 ghost use Rattle.std.specs.Prelude.{◌≡◌, IfOk, IfErr, slice_get};
-ghost use Rattle.framehop_elf.specs.Segment.{loaded_segments_of};
 ghost use Rattle.framehop_elf.specs.UnwindSections.{sections_view};
 ghost use Rattle.framehop_processes.specs.Process.{HasModules};
 ghost use Rattle.framehop_symbols.specs.Files.{placed_at};
 ghost use Rattle.framehop_dump_stacks.specs.Dump.{mapped_code_view, dump_view, head_of};
 ghost use Rattle.framehop_dump_stacks.specs.Heads.{HasHeadsOf};
 ghost use Rattle.framehop_dump_stacks.specs.Ended.{drawn_in, MayEnd};
-ghost use Rattle.framehop_dump_stacks.specs.Image.{segments_in};
-ghost use Rattle.framehop_dump_stacks.specs.Modules.{AreFilesOf, base_by, base_in, mapping_based, mapping_in, mappings_in, module_with, sections_by, module_at};
+ghost use Rattle.framehop_dump_stacks.specs.Modules.{AreFilesOf, base_in, mapping_based, mapping_in, mappings_in, module_with, sections_by, module_at};
 
 use crate::dump::{Dump, MappedCode};
 use crate::error::DumpStacksError;
 use crate::heads::HeadsByPath;
-use crate::image::{sections_in, segments_in};
+use crate::image::sections_in;
 use framehop::Module;
 use framehop::generations::Generations;
 use framehop::section::ExplicitModuleSectionInfo;
-use framehop_elf::segment::loaded_segments;
-use framehop_memory::segment::base_avma;
 use framehop_processes::{Mapping, ModuleMaker, Process, ProcessUnwinder};
 use framehop_symbols::files::{FileSource, FileUnwinder, Files, placed_at};
 use std::alloc::{AllocError, Global};
@@ -145,7 +141,7 @@ where
     let mut generations = Generations::new();
     let mut process: Process<U> = Process::new(alloc, &mut generations)?;
     for code in &dump.code {
-        if let Some(mapping) = mapping_in(alloc, files, *code)? {
+        if let Some(mapping) = mapping_in(files, *code) {
             process = process.mapped(alloc, maker, mapping, &mut generations)?;
         }
     }
@@ -153,53 +149,32 @@ where
 }
 
 /// Returns the mapping of mapped code, if it has an address.
-fn mapping_in(
-    alloc: Global,
-    files: &Files,
-    code: MappedCode<'_>,
-) -> Result<Option<Mapping>, AllocError>
-    ensures { IfOk result (λ mapping. mapping ≡ mapping_in files.now (mapped_code_view code.entry)) }
+fn mapping_in(files: &Files, code: MappedCode<'_>) -> Option<Mapping>
+    ensures { result ≡ mapping_in files.now (mapped_code_view code.entry) }
 {
     if code.end <= code.start {
-        return Ok(None);
+        return None;
     }
-    let Some(number) = files.number_of(code.path) else {
-        return Ok(None);
-    };
-    let base = base_in(alloc, files, number, code)?;
-    Ok(Some(mapping_based(code, number, base)))
+    let number = files.number_of(code.path)?;
+    let base = base_in(files, number, code);
+    Some(mapping_based(code, number, base))
 }
 
 /// Returns where the stated address 0 of the file of mapped code is (AVMA): as it is known, by what was read of
 /// the file, or else by what memory has of it.
-fn base_in(
-    alloc: Global,
-    files: &Files,
-    number: u32,
-    code: MappedCode<'_>,
-) -> Result<Option<u64>, AllocError>
-    ensures { IfOk result (λ base. base ≡ base_in files.now number (mapped_code_view code.entry)) }
+fn base_in(files: &Files, number: u32, code: MappedCode<'_>) -> Option<u64>
+    ensures { result ≡ base_in files.now number (mapped_code_view code.entry) }
 {
     if let Some(base) = code.base {
-        return Ok(Some(base));
+        return Some(base);
     }
-    if let Some(object) = files.object(number) {
-        let size = code.end.saturating_sub(code.start);
-        return Ok(object.base(code.offset, size, code.start));
+    match files.object(number) {
+        Some(object) => {
+            let size = code.end.saturating_sub(code.start);
+            object.base(code.offset, size, code.start)
+        }
+        None => code.memory_base,
     }
-    base_in_memory(alloc, code)
-}
-
-/// Returns where the stated address 0 of the file of mapped code is (AVMA), by the program headers in its first
-/// bytes.
-fn base_in_memory(alloc: Global, code: MappedCode<'_>) -> Result<Option<u64>, AllocError>
-    ensures { IfOk result (λ base. base
-        ≡ base_by (loaded_segments_of (segments_in (mapped_code_view code.entry).head)) (mapped_code_view code.entry)) }
-{
-    let headers = segments_in(alloc, code.head)?;
-    let segments = loaded_segments(alloc, headers.as_slice())?;
-    let size = code.end.saturating_sub(code.start);
-    Ok(base_avma(segments.as_slice(), code.offset, size, code.start))
 }
 
 /// Returns the mapping of mapped code: with its unwind data where its base is known.

@@ -6,12 +6,12 @@ ghost use Rattle.framehop_minidump.specs.declared.error.MinidumpError.{MinidumpE
 ghost use Rattle.framehop_symbols.specs.declared.files.Files.{Files};
 ghost use Rattle.framehop_dump_stacks.specs.CoreDump.{core_dump_of};
 ghost use Rattle.framehop_dump_stacks.specs.Dump.{DumpView, dump_view};
-ghost use Rattle.framehop_dump_stacks.specs.Ended.{drawn_in, MayEnd, MayEndWith};
-ghost use Rattle.framehop_dump_stacks.specs.Minidump.{LoadedView, minidump_of, IsDumpOf};
+ghost use Rattle.framehop_dump_stacks.specs.Ended.{drawn_in, MayEnd, MayEndWith, MayEndWithModules};
+ghost use Rattle.framehop_dump_stacks.specs.Minidump.{LoadedView, minidump_of, AreModuleFiles, dump_with};
 ghost use Rattle.framehop_dump_stacks.specs.Modules.{AreFilesOf, mappings_in};
 ghost use Rattle.framehop_dump_stacks.specs.Noted.{AreThreadNotes, AreNotesBy, AreNotesOf};
 ghost use Rattle.framehop_dump_stacks.specs.Printed.{blocks_of, text_by, text_of};
-ghost use Rattle.framehop_dump_stacks.specs.Problems.{AreProblems};
+ghost use Rattle.framehop_dump_stacks.specs.Problems.{IsSaid};
 ghost use Rattle.framehop_dump_stacks.specs.Refusal.{of_core_file, of_minidump};
 ghost use Rattle.framehop_frames.specs.Explained.{IsShown};
 
@@ -21,9 +21,9 @@ use crate::error::DumpStacksError;
 use crate::explain::explained_text;
 use crate::heads::heads_of;
 use crate::machine::Dumped;
-use crate::minidump::{code_of, dump_in, read_streams_and_modules};
+use crate::minidump::{dump_in, read_module_files, read_parts, with_code};
 use crate::modules::{DumpModules, map_files, read_files};
-use crate::problems::problems_text;
+use crate::problems::said_text;
 use crate::text::threads_text;
 use framehop::aarch64::UnwinderAarch64;
 use framehop::cache::MayAllocateDuringUnwind;
@@ -34,7 +34,8 @@ use framehop_symbols::files::{FileSource, Files};
 use std::alloc::{AllocError, Global};
 use std::io::Write;
 
-/// Writes the stacks of the threads of a core file to `out`, and to `err` which files were not read. Where they are to be
+/// Writes the stacks of the threads of a core file to `out`, and then to `err` what was missing: bytes of the file itself, and
+/// files that were not read, or lack unwind data or names. Where they are to be
 /// explained, a note under each frame says what its caller came from.
 ///
 /// # Errors
@@ -53,8 +54,8 @@ pub fn write_core_stacks<S: FileSource, W: Write, E: Write>(
         × ((files : Files) × AreFilesOf (S.source source.now) dump files
         × ((shown : List ℕ) × IsShown explain (AreNotesOf limit dump files) (text_of limit dump files) shown
         × Appends (W.contents out.old) (W.contents out.new) shown)
-        × ((problems : List ℕ) × AreProblems dump files (mappings_in dump files) problems
-        × Appends (E.contents err.old) (E.contents err.new) problems))) }
+        × ((said : List ℕ) × IsSaid dump files (mappings_in dump files) said
+        × Appends (E.contents err.old) (E.contents err.new) said))) }
     ensures refused { (refusal : CoreFileError) → core_dump_of file.now ≡ Err refusal → IfErr result (λ error.
         (error ≡ of_core_file refusal) ⊎ (error ≡ DumpStacksError.OutOfMemory)) }
     ensures read { (dump : DumpView) → core_dump_of file.now ≡ Ok dump → IfErr result (MayEndWith (S.source source.now) dump) }
@@ -65,8 +66,8 @@ pub fn write_core_stacks<S: FileSource, W: Write, E: Write>(
     Ok(())
 }
 
-/// Writes the stacks of the threads of a minidump to `out`, and to `err` which files were not read, as
-/// [`write_core_stacks`] does of a core file.
+/// Writes the stacks of the threads of a minidump to `out`, and then to `err` what was missing, as [`write_core_stacks`]
+/// does of a core file.
 ///
 /// # Errors
 ///
@@ -81,23 +82,23 @@ pub fn write_minidump_stacks<S: FileSource, W: Write, E: Write>(
     err: &mut E,
 ) -> Result<(), DumpStacksError>
     ensures printed { OnOk result ((minidump : DumpView × List LoadedView) × (minidump_of file.now ≡ Ok minidump)
-        × ((dump : DumpView) × IsDumpOf (S.source source.now) minidump dump
-        × ((files : Files) × AreFilesOf (S.source source.now) dump files
-        × ((shown : List ℕ) × IsShown explain (AreNotesOf limit dump files) (text_of limit dump files) shown
+        × ((files : Files) × AreModuleFiles (S.source source.now) minidump.1 files
+        × ((shown : List ℕ) × IsShown explain (AreNotesOf limit (dump_with minidump files) files)
+        (text_of limit (dump_with minidump files) files) shown
         × Appends (W.contents out.old) (W.contents out.new) shown)
-        × ((problems : List ℕ) × AreProblems dump files (mappings_in dump files) problems
-        × Appends (E.contents err.old) (E.contents err.new) problems)))) }
+        × ((said : List ℕ) × IsSaid (dump_with minidump files) files (mappings_in (dump_with minidump files) files) said
+        × Appends (E.contents err.old) (E.contents err.new) said))) }
     ensures refused { (refusal : MinidumpError) → minidump_of file.now ≡ Err refusal → IfErr result (λ error.
         (error ≡ of_minidump refusal) ⊎ (error ≡ DumpStacksError.OutOfMemory)) }
-    ensures read { (minidump : DumpView × List LoadedView) → minidump_of file.now ≡ Ok minidump → IfErr result (λ error.
-        (error ≡ DumpStacksError.OutOfMemory)
-        ⊎ ((dump : DumpView) × IsDumpOf (S.source source.now) minidump dump × MayEndWith (S.source source.now) dump error)) }
+    ensures read { (minidump : DumpView × List LoadedView) → minidump_of file.now ≡ Ok minidump
+        → IfErr result (MayEndWithModules (S.source source.now) minidump) }
 {
-    let (streams, modules) = read_streams_and_modules(alloc, file)?;
-    let mut dump = dump_in(alloc, file, streams.as_slice(), modules.as_slice())?;
-    dump.code = code_of(alloc, &dump.memory, modules.as_slice(), source)?;
-    let files = read_files(alloc, &dump, source)?;
-    write_dump(alloc, &dump, &files, limit, explain, out, err)?;
+    let parts = read_parts(alloc, file)?;
+    let dump = dump_in(alloc, file, &parts)?;
+    let modules = parts.modules.as_slice();
+    let files = read_module_files(alloc, modules, source)?;
+    let whole = with_code(alloc, dump, &files, modules)?;
+    write_dump(alloc, &whole, &files, limit, explain, out, err)?;
     Ok(())
 }
 
@@ -114,9 +115,9 @@ fn write_dump<W: Write, E: Write>(
     ensures printed { OnOk result ((shown : List ℕ) × IsShown explain (AreNotesOf limit (dump_view dump.now) files.now)
         (text_of limit (dump_view dump.now) files.now) shown
         × Appends (W.contents out.old) (W.contents out.new) shown) }
-    ensures said { OnOk result ((problems : List ℕ)
-        × AreProblems (dump_view dump.now) files.now (mappings_in (dump_view dump.now) files.now) problems
-        × Appends (E.contents err.old) (E.contents err.new) problems) }
+    ensures said { OnOk result ((said : List ℕ)
+        × IsSaid (dump_view dump.now) files.now (mappings_in (dump_view dump.now) files.now) said
+        × Appends (E.contents err.old) (E.contents err.new) said) }
     ensures refused { IfErr result (MayEnd (drawn_in (dump_view dump.now) files.now)) }
 {
     let heads = heads_of(alloc, dump)?;
@@ -155,16 +156,16 @@ where
         × IsShown explain (AreNotesBy U.walker U.begins limit U.is_note (M.module_of maker.now) (dump_view dump.now) files.now)
         (text_by U.walker U.begins limit (M.module_of maker.now) (dump_view dump.now) files.now) shown
         × Appends (W.contents out.old) (W.contents out.new) shown) }
-    ensures said { OnOk result ((problems : List ℕ)
-        × AreProblems (dump_view dump.now) files.now (mappings_in (dump_view dump.now) files.now) problems
-        × Appends (E.contents err.old) (E.contents err.new) problems) }
+    ensures said { OnOk result ((said : List ℕ)
+        × IsSaid (dump_view dump.now) files.now (mappings_in (dump_view dump.now) files.now) said
+        × Appends (E.contents err.old) (E.contents err.new) said) }
     ensures refused { IfErr result (MayEnd (drawn_in (dump_view dump.now) files.now)) }
 {
     let process: Process<U> = map_files(alloc, maker, dump, files)?;
-    let problems = problems_text(alloc, dump, files, process.mappings())?;
-    err.write_all(problems.as_slice())?;
     let text = shown_text(alloc, dump, files, &process, limit, explain)?;
     out.write_all(text.as_slice())?;
+    let said = said_text(alloc, dump, files, process.mappings())?;
+    err.write_all(said.as_slice())?;
     Ok(())
 }
 

@@ -1,19 +1,22 @@
 //! The threads of a process as text: a block for each.
-ghost use Rattle.std.specs.Prelude.{◌≡◌, ◌++◌, ℕ, List, [], true, false, option_map, string_bytes, IfOk, OnOk};
+ghost use Rattle.std.specs.Prelude.{◌≡◌, ◌++◌, option_map, string_bytes, IfOk, OnOk};
 ghost use Rattle.framehop.specs.Modules.{UnwinderView};
 ghost use Rattle.framehop.specs.Soundness.{AreApart};
-ghost use Rattle.framehop_frames.specs.Stack.{stack_text};
+ghost use Rattle.framehop_frames.specs.Numbered.{numbered_text};
 ghost use Rattle.framehop_dump_stacks.specs.Dump.{thread_view, dump_view};
 ghost use Rattle.framehop_dump_stacks.specs.Printed.{blocks_of};
-ghost use Rattle.framehop_dump_stacks.specs.Text.{name_text, numbers_text, cause_text, thread_head, thread_text};
+ghost use Rattle.framehop_dump_stacks.specs.Text.{name_text, numbers_text, thread_name_text, reason_text, cause_text, thread_head, thread_text};
 ghost use Rattle.framehop_dump_stacks.specs.Thread.{thread_stack};
 
 use crate::dump::{Cause, Dump, Thread};
+use crate::exception::{exception_text, unnamed_exception};
 use crate::machine::Dumped;
+use crate::signal::signal_text;
 use crate::stack::walk_thread;
 use framehop_cfi::context::UnwindContext;
 use framehop_cfi::storage::StoreOnHeap;
-use framehop_frames::line::{frames_block, push_name, refused_block};
+use framehop_frames::line::{push_name, refused_block};
+use framehop_frames::numbered::numbered_block;
 use framehop_processes::Process;
 use framehop_symbols::files::Files;
 use std::alloc::{AllocError, Global};
@@ -97,6 +100,7 @@ fn thread_head(
     push_program(&mut head, name)?;
     let numbers = numbers_text(alloc, pid, thread.tid)?;
     head.extend_from_slice(numbers.as_bytes())?;
+    push_thread_name(&mut head, thread.name)?;
     let cause = cause_text(alloc, thread.cause)?;
     head.extend_from_slice(cause.as_bytes())?;
     Ok(head)
@@ -122,14 +126,38 @@ fn numbers_text(alloc: Global, pid: Option<u32>, tid: u32) -> Result<String, All
     }
 }
 
-/// Returns how the head of a block ends: with the signal or the exception of the thread, if it got one.
+/// Appends the name of a thread, if the file tells it.
+fn push_thread_name(text: &mut Vec<u8>, name: Option<&[u8]>) -> Result<(), AllocError>
+    ensures { OnOk result (text.new.items ≡ text.old.items ++ thread_name_text (option_map (λ name. name.now) name.entry)) }
+{
+    if let Some(name) = name {
+        text.extend_from_slice(b" \"")?;
+        push_name(text, name)?;
+        text.extend_from_slice(b"\"")?;
+    }
+    Ok(())
+}
+
+/// Returns how the head of a block ends: with what ended the process, if it was this thread that got it.
 fn cause_text(alloc: Global, cause: Option<Cause>) -> Result<String, AllocError>
     ensures { IfOk result (λ text. string_bytes text ≡ cause_text cause) }
 {
+    let Some(cause) = cause else {
+        return Ok(format!(in alloc; ":\n")?);
+    };
+    let reason = reason_text(alloc, cause)?;
+    let reason = reason.as_str();
+    Ok(format!(in alloc; " crashed by {reason}:\n")?)
+}
+
+/// Returns what ended a process.
+pub fn reason_text(alloc: Global, cause: Cause) -> Result<String, AllocError>
+    ensures { IfOk result (λ text. string_bytes text ≡ reason_text cause) }
+{
     match cause {
-        None => Ok(format!(in alloc; ":\n")?),
-        Some(Cause::Signal(signal)) => Ok(format!(in alloc; " signal {signal}:\n")?),
-        Some(Cause::Exception(code)) => Ok(format!(in alloc; " exception 0x{code:x}:\n")?),
+        Cause::Signal(signal) => signal_text(alloc, signal),
+        Cause::Exception(exception) => exception_text(alloc, exception),
+        Cause::Other(code) => unnamed_exception(alloc, code),
     }
 }
 
@@ -146,8 +174,7 @@ fn thread_lines<U: Dumped>(
 ) -> Result<Vec<u8>, AllocError>
     ensures stays_sound { (other : UnwinderView) → AreApart process.now.unwinder other
         → U.is_sound other cache.old → U.is_sound other cache.new }
-    ensures told { U.is_sound process.now.unwinder cache.old → IfOk result (λ block. (head : List ℕ) →
-        head ++ block.items ≡ stack_text true false files.now [] head process.now.mappings
+    ensures told { U.is_sound process.now.unwinder cache.old → IfOk result (λ block. block.items ≡ numbered_text files.now process.now.mappings
         (thread_stack U.walker U.begins limit files.now process.now.mappings process.now.unwinder.modules (dump_view dump.now) (thread_view thread.entry))) }
 {
     let walked = walk_thread(
@@ -161,7 +188,7 @@ fn thread_lines<U: Dumped>(
         limit,
     )?;
     match walked {
-        Some(stack) => frames_block(alloc, files, process.mappings(), &stack),
+        Some(stack) => numbered_block(alloc, files, process.mappings(), &stack),
         None => refused_block(alloc, "no-registers"),
     }
 }

@@ -1,5 +1,5 @@
 //! Symbols of functions, by their addresses.
-ghost use Rattle.std.specs.Prelude.{◌≡◌, ◌≤◌, Ok, Err, MatchResult, IfOk, IfErr, IsPermutation, filter, map};
+ghost use Rattle.std.specs.Prelude.{◌≡◌, ◌≤◌, Ok, Err, MatchResult, IfOk, IfErr, IsPermutation, filter, length, map, nat_eq};
 ghost use Rattle.std.specs.List.Sorted.{IsNonDecreasingBy, IsStableByKey};
 ghost use Rattle.std.specs.Ordering.{nat_cmp};
 ghost use Rattle.framehop_elf.specs.Block.{IsErrorOf};
@@ -196,6 +196,13 @@ impl SymbolTable {
         let mut symbols = symbols;
         symbols.sort_by_key(|symbol| symbol.st_value)?;
         Ok(SymbolTable { symbols })
+    }
+
+    /// Returns whether there is no function.
+    pub fn is_empty(&self) -> bool
+        ensures { result ≡ nat_eq (length self.now) 0 }
+    {
+        self.symbols.is_empty()
     }
 
     /// Returns the symbol of the function that has an address (SVMA): the one with the greatest start at

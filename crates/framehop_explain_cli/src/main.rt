@@ -62,7 +62,7 @@ fn command<'a>(alloc: Global) -> Result<Command<'a>> {
         .help("Addresses that the ELF file states, or RVAs of the PE file, in hexadecimal")
         .action(ArgAction::Append);
     let command = Command::new(alloc, "framehop-explain")
-        .version("0.1.0")
+        .version("0.16.0 (commit ............)")
         .about(ABOUT)
         .arg(elf)?
         .arg(file)?

@@ -3,3 +3,5 @@
 mod program;
 mod readme;
 mod segments;
+
+pub(crate) use program::{BUILD_ID, PROGRAM};

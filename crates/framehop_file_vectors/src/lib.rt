@@ -7,6 +7,8 @@ mod coredump;
 #[cfg(test)]
 mod elf;
 #[cfg(test)]
+mod files;
+#[cfg(test)]
 mod memory;
 #[cfg(test)]
 mod minidump;

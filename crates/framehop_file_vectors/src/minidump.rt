@@ -5,4 +5,5 @@ mod linux_maps;
 mod pieces;
 mod readme;
 mod refusals;
+mod thread_names;
 mod x86_64;

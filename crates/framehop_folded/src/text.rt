@@ -120,7 +120,7 @@ fn last_blank(line: &[u8]) -> Option<usize>
 }
 
 /// Returns the value of decimal digits, where there is one below 2^64.
-fn count_of(digits: &[u8]) -> Option<u64>
+pub fn count_of(digits: &[u8]) -> Option<u64>
     ensures { result ≡ count_of digits.now }
 {
     if digits.is_empty() {

@@ -1,3 +1,4 @@
 mod NameLemmas
 mod LineLemmas
 mod NoteLemmas
+mod NumberedLemmas

@@ -2,6 +2,7 @@
 pub mod Start
 pub mod Line
 pub mod Stack
+pub mod Numbered
 pub mod Explained
 pub mod Code
 pub mod Walker

@@ -13,7 +13,7 @@ use Rattle.framehop_backtrace.specs.declared.frame.FoundBy.{FoundBy}
 use Rattle.framehop_backtrace.specs.declared.frame.FoundBy.TheVariants.{First, Cfi, Signal, FramePointer, Guess}
 use Rattle.framehop_processes.specs.declared.mapping.Mapping.{Mapping}
 use Rattle.framehop_symbols.specs.declared.files.Files.{Files}
-use Rattle.framehop_symbols.specs.Place.{PlaceView, in_function, in_file, unmapped, place_at}
+use Rattle.framehop_symbols.specs.Place.{PlaceView, in_function, in_unnamed, in_file, unmapped, place_at}
 
 -- in lower-case hexadecimal without leading zeros
 abbrev pub hexadecimal : ℕ → List ℕ
@@ -68,6 +68,7 @@ base_name path = after_last (λ byte. byte == 47) path
 -- what a place is called: its function, or else its address in its file
 unfoldable pub label_of : PlaceView → List ℕ
 label_of (in_function file name offset) = plain name
+label_of (in_unnamed file start address) = plain (base_name file) ++ codes "+0x" ++ hexadecimal start
 label_of (in_file file address) = plain (base_name file) ++ codes "+0x" ++ hexadecimal address
 label_of unmapped = codes "[unknown]"
 
@@ -157,11 +158,16 @@ line_of sure name end label frames =
 unfoldable pub refused_line : List ℕ → List ℕ → List ℕ
 refused_line name why = plain name ++ mark why
 
+-- where an address of a file is that is in no function with a name
+abbrev pub unnamed_text : List ℕ → ℕ → List ℕ
+unnamed_text file address = codes "[unknown] (" ++ plain file ++ codes "+0x" ++ hexadecimal address ++ codes ")"
+
 -- a place in a block: its function and the file, or its file and the address in it
 unfoldable pub described : PlaceView → List ℕ
 described (in_function file name offset) =
     plain name ++ codes "+0x" ++ hexadecimal offset ++ codes " (" ++ plain file ++ codes ")"
-described (in_file file address) = codes "[unknown] (" ++ plain file ++ codes "+0x" ++ hexadecimal address ++ codes ")"
+described (in_unnamed file start address) = unnamed_text file address
+described (in_file file address) = unnamed_text file address
 described unmapped = codes "[unknown] ([unknown])"
 
 -- how a frame was found: nothing is said of the first

@@ -7,6 +7,7 @@ pub mod line;
 pub mod machine;
 pub mod memory;
 pub mod note;
+pub mod numbered;
 pub mod rows;
 pub mod stack;
 pub mod walk;

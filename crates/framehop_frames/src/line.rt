@@ -7,7 +7,7 @@ ghost use Rattle.std.specs.List.{flat_map};
 ghost use Rattle.framehop_processes.specs.Mappings.{IsInOrder};
 ghost use Rattle.framehop_symbols.specs.Place.{place_view};
 ghost use Rattle.framehop_frames.specs.Stack.{shown_frame};
-ghost use Rattle.framehop_frames.specs.Line.{has_c1_after, is_text, hex_digit, is_escaped, printed_byte, printed, plain, base_name, hexadecimal, label_of, refusal_name, end_name, is_sure_by, part_of, mark_of_part, end_text, mark, mark_of, frames_text, frame_label, line_of, refused_line, described, found_text, trampoline_text, looked_up, frame_line, last_line, block_of, time_text, head_of};
+ghost use Rattle.framehop_frames.specs.Line.{has_c1_after, is_text, hex_digit, is_escaped, printed_byte, printed, plain, base_name, hexadecimal, label_of, unnamed_text, refusal_name, end_name, is_sure_by, part_of, mark_of_part, end_text, mark, mark_of, frames_text, frame_label, line_of, refused_line, described, found_text, trampoline_text, looked_up, frame_line, last_line, block_of, time_text, head_of};
 
 use crate::stack::{Stack, StackFrame};
 use framehop::Error;
@@ -171,6 +171,10 @@ fn push_label(alloc: Global, line: &mut Vec<u8>, place: Place<'_>) -> Result<(),
 {
     match place {
         Place::Function { name, .. } => push_name(line, name)?,
+        Place::Unnamed { file, start, .. } => {
+            push_name(line, base_name(file))?;
+            push_offset(alloc, line, start)?;
+        }
         Place::File { file, address } => {
             push_name(line, base_name(file))?;
             push_offset(alloc, line, address)?;
@@ -251,7 +255,7 @@ fn push_frame_lines<R: Copy>(
 
 /// Appends the line of a frame in a block, by mappings in order.
 #[tactic(auto, unfolding(crate::specs::Line::frame_line))]
-fn push_frame_line<R: Copy>(
+pub(crate) fn push_frame_line<R: Copy>(
     alloc: Global,
     block: &mut Vec<u8>,
     files: &Files,
@@ -306,14 +310,26 @@ fn push_place(alloc: Global, line: &mut Vec<u8>, place: Place<'_>) -> Result<(),
             push_name(line, file)?;
             line.extend_from_slice(b")")?;
         }
-        Place::File { file, address } => {
-            line.extend_from_slice(b"[unknown] (")?;
-            push_name(line, file)?;
-            push_offset(alloc, line, address)?;
-            line.extend_from_slice(b")")?;
-        }
+        Place::Unnamed { file, address, .. } => push_unnamed(alloc, line, file, address)?,
+        Place::File { file, address } => push_unnamed(alloc, line, file, address)?,
         Place::Unmapped => line.extend_from_slice(b"[unknown] ([unknown])")?,
     }
+    Ok(())
+}
+
+/// Appends where an address of a file is that is in no function with a name.
+fn push_unnamed(
+    alloc: Global,
+    line: &mut Vec<u8>,
+    file: &[u8],
+    address: u64,
+) -> Result<(), AllocError>
+    ensures { OnOk result (line.new.items ≡ line.old.items ++ unnamed_text file.now address) }
+{
+    line.extend_from_slice(b"[unknown] (")?;
+    push_name(line, file)?;
+    push_offset(alloc, line, address)?;
+    line.extend_from_slice(b")")?;
     Ok(())
 }
 
@@ -340,7 +356,7 @@ fn found_text(found: FoundBy) -> &'static str
 }
 
 /// Returns what the end of a walk is called, with the address that lies in no code.
-fn end_text(alloc: Global, end: BacktraceEnd) -> Result<Vec<u8>, AllocError>
+pub(crate) fn end_text(alloc: Global, end: BacktraceEnd) -> Result<Vec<u8>, AllocError>
     ensures { IfOk result (λ text. text.items ≡ end_text end) }
 {
     let mut text = Vec::from_slice(alloc, end_name(end).as_bytes())?;
@@ -394,7 +410,7 @@ pub fn refused_block(alloc: Global, why: &str) -> Result<Vec<u8>, AllocError>
 }
 
 /// Appends the last line of a block, and a blank line.
-fn push_last_line(block: &mut Vec<u8>, end: &[u8]) -> Result<(), AllocError>
+pub(crate) fn push_last_line(block: &mut Vec<u8>, end: &[u8]) -> Result<(), AllocError>
     ensures { OnOk result (block.new.items ≡ block.old.items ++ last_line end.now) }
 {
     block.extend_from_slice(b"[")?;

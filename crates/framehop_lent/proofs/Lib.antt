@@ -1,3 +1,4 @@
 mod Reading
+mod Wanting
 mod Windows
 mod Writing

@@ -4,10 +4,12 @@
 //! C can stand on them.
 #![tactic(auto)]
 
+pub mod ahead;
 pub mod step;
 pub mod walk;
 pub mod window;
 
+pub use ahead::{Wanted, wanted_word};
 pub use step::step_over;
-pub use walk::{WalkStop, walk_into, walk_on};
+pub use walk::{WalkStop, caller_over, walk_into, walk_on};
 pub use window::{Window, told, word_at};

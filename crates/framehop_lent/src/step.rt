@@ -106,7 +106,7 @@ fn untold(windows: &[Window<'_>], asked: Option<u64>) -> Option<u64>
 }
 
 /// Returns the address (AVMA) of the stack word that a step could not read, if that is why it was refused.
-fn unreadable(answer: Result<Option<u64>, Error>) -> Option<u64>
+pub(crate) fn unreadable(answer: Result<Option<u64>, Error>) -> Option<u64>
     ensures { result ≡ unreadable_word answer }
 {
     match answer {

@@ -1,7 +1,7 @@
 //! A walk into a list that a caller lends.
-ghost use Rattle.std.specs.Prelude.{◌≡◌, ◌≢◌, ◌≤◌, ◌-◌, map, length, take, drop, Err, IfErr, MatchResult};
+ghost use Rattle.std.specs.Prelude.{◌≡◌, ◌≢◌, ◌≤◌, ◌-◌, map, length, take, drop, Err, IfOk, IfErr, MatchResult, ◌⊎◌};
 ghost use Rattle.framehop.specs.Memory.{Memory, Answering, reply};
-ghost use Rattle.framehop.specs.CodeAddress.{FrameLocation, location_of};
+ghost use Rattle.framehop.specs.CodeAddress.{FrameLocation, address_of, at_return_address, location_of};
 ghost use Rattle.framehop.specs.Outcome.{Outcome};
 ghost use Rattle.framehop.specs.Iterator.{at_frame, next_of, walk_on, cache_on};
 ghost use Rattle.framehop.specs.UnwindIterator.{unwinder_of, progress_in, regs_of, cache_of, read_stack_of};
@@ -131,7 +131,7 @@ pub fn walk_on<U: Unwinder>(
 {
     let mut callee = callee;
     for i in 0..frames.len() {
-        match caller_over(unwinder, cache, callee, regs, windows) {
+        match next_over(unwinder, cache, callee, regs, windows) {
             Ok(caller) => {
                 frames[i] = caller.address();
                 callee = caller;
@@ -142,10 +142,10 @@ pub fn walk_on<U: Unwinder>(
     (frames.len(), WalkStop::Ended(WalkEnd::Limit))
 }
 
-/// Returns the caller of a frame over the words of windows, or why there is none. The registers become the
-/// caller's; where a word is missing, they are as before.
+/// Returns the caller of a frame over the words of windows, or why there is none. The registers become
+/// the caller's; where a word is missing, they are as before.
 #[inline(always)]
-fn caller_over<U: Unwinder>(
+fn next_over<U: Unwinder>(
     unwinder: &U,
     cache: &mut U::Cache,
     callee: FrameAddress,
@@ -166,10 +166,43 @@ fn caller_over<U: Unwinder>(
         IsCallerOrEnd (next_of step (at_frame (location_of callee)) regs.old) result regs.new }
 {
     let before = *regs;
+    let found = caller_over(unwinder, cache, callee, regs, windows);
+    if let Err(WalkStop::Missing(_)) = found {
+        *regs = before;
+    }
+    found
+}
+
+/// Returns the caller of a frame over the words of windows, or why there is none. The registers become
+/// the caller's. Where a word is missing, they are not to be used: the step has gone on without it.
+#[inline(always)]
+pub fn caller_over<U: Unwinder>(
+    unwinder: &U,
+    cache: &mut U::Cache,
+    callee: FrameAddress,
+    regs: &mut U::UnwindRegs,
+    windows: &[Window<'_>],
+) -> Result<FrameAddress, WalkStop>
+    ensures stays_sound { (other : UnwinderView) → AreApart (U.unwinder_view unwinder.now) other
+        → U.is_sound other cache.old → U.is_sound other cache.new }
+    ensures is_caller { IfOk result (λ caller. location_of caller ≡ at_return_address (address_of (location_of caller))) }
+    ensures missing { IfErr result (λ stop. IsUntold windows.now stop) }
+    ensures kept { IfErr result (λ stop. WhereEnded stop (λ end. end ≢ WalkEnd.Refused Error.ReturnAddressIsNull → regs.new ≡ regs.old)) }
+    ensures may_run_out { result ≡ Err (WalkStop.Ended (WalkEnd.Refused Error.OutOfMemory))
+        → U.may_run_out unwinder.now cache.old (location_of callee) }
+    ensures out_of_memory { result ≡ Err (WalkStop.Ended (WalkEnd.Refused Error.OutOfMemory)) → regs.new ≡ regs.old }
+    ensures looked_up { (cache.new ≡ U.cache_after unwinder.now cache.old (location_of callee))
+        ⊎ (cache.new ≡ U.cache_after_lookup unwinder.now cache.old (location_of callee)) }
+    ensures cached { MatchResult result
+        (λ _. cache.new ≡ U.cache_after unwinder.now cache.old (location_of callee))
+        (λ stop. WhereEnded stop (λ _. cache.new ≡ U.cache_after unwinder.now cache.old (location_of callee))) }
+    ensures answers { U.is_sound (U.unwinder_view unwinder.now) cache.old → (memory : Memory) → AgreesWith windows.now memory →
+        let step : FrameLocation → U.UnwindRegs → Outcome U.UnwindRegs = λ location regs. U.step unwinder.now location regs memory in
+        IsCallerOrEnd (next_of step (at_frame (location_of callee)) regs.old) result regs.new }
+{
     let mut missing = None;
     let answer = step_over(unwinder, cache, callee, regs, windows, &mut missing);
     if let Some(address) = missing {
-        *regs = before;
         return Err(WalkStop::Missing(address));
     }
     match answer {

@@ -11,12 +11,17 @@ use Rattle.framehop_minidump.specs.declared.location.Location.{Location}
 use Rattle.framehop_minidump.specs.declared.stream.Stream.{Stream}
 use Rattle.framehop_minidump.specs.declared.thread.Thread.{Thread}
 
--- ThreadId, ExceptionCode, ExceptionAddress and ThreadContext
+-- ThreadId, ExceptionCode, ExceptionFlags, ExceptionAddress, NumberParameters, the first two of ExceptionInformation, and
+-- ThreadContext
 abbrev pub exception_in : List ℕ → Exception
 exception_in fields = record {
   tid = le4 fields 0;
   code = le4 fields 8;
+  flags = le4 fields 12;
   address = le8 fields 24;
+  parameter_count = le4 fields 32;
+  first_parameter = le8 fields 40;
+  second_parameter = le8 fields 48;
   context = location_at fields 160;
 }
 

@@ -13,6 +13,7 @@ pub mod Memory
 pub mod MemoryInfo
 pub mod LinuxMaps
 pub mod Thread
+pub mod ThreadName
 pub mod Exception
 pub mod Registers
 pub mod Module

@@ -34,6 +34,9 @@ MiscInfoStream = 15
 abbrev pub MemoryInfoListStream : ℕ
 MemoryInfoListStream = 16
 
+abbrev pub ThreadNamesStream : ℕ
+ThreadNamesStream = 24
+
 abbrev pub MD_LINUX_MAPS : ℕ
 MD_LINUX_MAPS = 0x47670009
 
@@ -57,6 +60,9 @@ DIRECTORY_SIZE = 12
 
 abbrev pub THREAD_SIZE : ℕ
 THREAD_SIZE = 48
+
+abbrev pub THREAD_NAME_SIZE : ℕ
+THREAD_NAME_SIZE = 12
 
 abbrev pub MODULE_SIZE : ℕ
 MODULE_SIZE = 108

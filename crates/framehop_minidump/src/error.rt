@@ -37,6 +37,12 @@ pub enum MinidumpError {
     /// The CodeView record at the offset ends before its fields do.
     #[error("the CodeView record at offset {offset} ends before its fields do")]
     ShortCodeView { offset: u64 },
+    /// No thread is listed.
+    #[error("a minidump without threads")]
+    NoThreads,
+    /// The names and the build ids up to this one, at the offset, have more bytes than the file may have: they share some.
+    #[error("names that share bytes: offset {offset}")]
+    SharedNames { offset: u64 },
     /// An allocation failed.
     #[error("out of memory")]
     OutOfMemory,

@@ -21,9 +21,18 @@ pub struct Exception {
     pub tid: u32,
     /// The exception of Windows, or the signal of Linux: `ExceptionCode`.
     pub code: u32,
+    /// Of a signal of Linux why it was sent, `si_code`, a signed number of 32 bits, by Breakpad's writer; 0 by LLDB's:
+    /// `ExceptionFlags`.
+    pub flags: u32,
     /// The address (AVMA) of the instruction that crashed, or on Linux that which it used, by Breakpad's
     /// writer: `ExceptionAddress`.
     pub address: u64,
+    /// How many of its parameters are told: `NumberParameters`.
+    pub parameter_count: u32,
+    /// The first of them, of an access to memory which access it was: `ExceptionInformation[0]`.
+    pub first_parameter: u64,
+    /// The second of them, of an access to memory the address (AVMA): `ExceptionInformation[1]`.
+    pub second_parameter: u64,
     /// The registers of the thread when it crashed: `ThreadContext`.
     pub context: Location,
 }
@@ -60,7 +69,11 @@ fn exception_in(fields: &[u8]) -> Exception
     Exception {
         tid: u32_at(fields, 0),
         code: u32_at(fields, 8),
+        flags: u32_at(fields, 12),
         address: u64_at(fields, 24),
+        parameter_count: u32_at(fields, 32),
+        first_parameter: u64_at(fields, 40),
+        second_parameter: u64_at(fields, 48),
         context: location_at(fields, 160),
     }
 }

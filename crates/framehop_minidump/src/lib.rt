@@ -18,3 +18,4 @@ pub mod stream;
 pub mod string;
 pub mod system_info;
 pub mod thread;
+pub mod thread_name;

@@ -52,6 +52,7 @@ pub(crate) fn read_block(file: &[u8], offset: u64, size: u64) -> Result<&[u8], M
         (λ block. block_at file.entry.now offset size ≡ Ok block.now)
         (λ error. block_at file.entry.now offset size ≡ Err error) }
     ensures whole { IfOk result (λ block. length block.now ≡ size) }
+    ensures within { IfOk result (λ _. offset + size ≤ length file.entry.now) }
 {
     block::read_block(file, offset, size).ok_or(MinidumpError::Eof { offset })
 }

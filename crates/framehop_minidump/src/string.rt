@@ -1,5 +1,5 @@
 //! The strings of a minidump.
-ghost use Rattle.std.specs.Prelude.{◌≡◌, ◌^◌, ◌<◌, Ok, Err, MatchResult, IfOk, map, string_bytes};
+ghost use Rattle.std.specs.Prelude.{◌≡◌, Ok, Err, MatchResult, IfOk, map, string_bytes};
 ghost use Rattle.framehop_minidump.specs.Location.{IsErrorOf};
 ghost use Rattle.framehop_minidump.specs.String.{unit_at, units_of, text_of, string_of};
 
@@ -22,20 +22,28 @@ const UNIT_SIZE: usize = 2;
 /// `OutOfMemory`.
 ///
 /// Source: `minidumpapiset.h`, `MINIDUMP_STRING`.
-#[tactic(auto, unfolding(crate::specs::String::string_of))]
 pub fn read_string(alloc: Global, file: &[u8], offset: u32) -> Result<String, MinidumpError>
     ensures { MatchResult result
         (λ text. string_of file.now offset ≡ Ok (string_bytes text))
         (λ error. IsErrorOf (string_of file.now offset) error) }
 {
-    let units = units_at(file, u64::from(offset))?;
+    read_far_string(alloc, file, u64::from(offset))
+}
+
+/// Reads the string at an offset of the file, which may be beyond 4 GiB, as [`read_string`] does.
+#[tactic(auto, unfolding(crate::specs::String::string_of))]
+pub fn read_far_string(alloc: Global, file: &[u8], offset: u64) -> Result<String, MinidumpError>
+    ensures { MatchResult result
+        (λ text. string_of file.now offset ≡ Ok (string_bytes text))
+        (λ error. IsErrorOf (string_of file.now offset) error) }
+{
+    let units = units_at(file, offset)?;
     Ok(text(alloc, units)?)
 }
 
 /// Returns the bytes of the units of the string at an offset of the file.
 #[tactic(auto, unfolding(crate::specs::String::units_of))]
 fn units_at(file: &[u8], offset: u64) -> Result<&[[u8; UNIT_SIZE]], MinidumpError>
-    requires { offset < 2 ^ 32 }
     ensures { MatchResult result
         (λ units. units_of file.entry.now offset ≡ Ok (map unit_at units.now))
         (λ error. units_of file.entry.now offset ≡ Err error) }

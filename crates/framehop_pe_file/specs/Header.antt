@@ -1,7 +1,7 @@
 -- The headers of a file ("PE Format": "MS-DOS Stub", "Signature", "COFF File Header", "Optional Header").
 use Rattle.std.specs.Prelude.{ℕ, ◌+◌, ◌*◌, List, length, not, Option, Some, None, Result, Ok, Err, nat_lt, nat_le, ◌==◌, ◌&&◌, if◌then◌else◌}
 use Rattle.framehop_bytes.specs.Bytes.{◌>>=◌, le2, le4, le8}
-use Rattle.framehop_pe_file.specs.Numbers.{IMAGE_DOS_SIGNATURE, IMAGE_NT_SIGNATURE, IMAGE_NT_OPTIONAL_HDR64_MAGIC, IMAGE_FILE_MACHINE_AMD64, IMAGE_FILE_MACHINE_ARM64, IMAGE_DIRECTORY_ENTRY_EXCEPTION, IMAGE_DIRECTORY_ENTRY_DEBUG, DOS_HEADER_SIZE, COFF_SIZE, FIELDS_SIZE}
+use Rattle.framehop_pe_file.specs.Numbers.{IMAGE_DOS_SIGNATURE, IMAGE_NT_SIGNATURE, IMAGE_NT_OPTIONAL_HDR64_MAGIC, IMAGE_FILE_MACHINE_AMD64, IMAGE_FILE_MACHINE_ARM64, IMAGE_DIRECTORY_ENTRY_EXPORT, IMAGE_DIRECTORY_ENTRY_EXCEPTION, IMAGE_DIRECTORY_ENTRY_DEBUG, DOS_HEADER_SIZE, COFF_SIZE, FIELDS_SIZE}
 use Rattle.framehop_pe_file.specs.Block.{block_at}
 use Rattle.framehop_pe_file.specs.declared.error.PeError.{PeError}
 use Rattle.framehop_pe_file.specs.declared.error.PeError.TheVariants.{NotPe, NotPe32Plus, ShortOptionalHeader}
@@ -59,6 +59,7 @@ fields_of start coff optional = record {
   size_of_image = le4 optional 56;
   size_of_headers = le4 optional 60;
   number_of_rva_and_sizes = le4 optional 108;
+  export_directory = directory_of optional IMAGE_DIRECTORY_ENTRY_EXPORT;
   exception_directory = directory_of optional IMAGE_DIRECTORY_ENTRY_EXCEPTION;
   debug_directory = directory_of optional IMAGE_DIRECTORY_ENTRY_DEBUG;
   section_table = start + 24 + le2 coff 20;

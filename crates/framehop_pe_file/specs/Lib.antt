@@ -9,3 +9,4 @@ pub mod Section
 pub mod Rva
 pub mod UnwindSections
 pub mod CodeView
+pub mod Exports

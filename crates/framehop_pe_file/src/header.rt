@@ -33,6 +33,9 @@ const MAGIC_SIZE: u64 = 2;
 /// The size of the fields before the data directories, in bytes.
 const FIELDS_SIZE: usize = 112;
 
+/// The index of the data directory that has the export directory.
+const EXPORT: usize = 0;
+
 /// The index of the data directory that has the function table.
 const EXCEPTION: usize = 3;
 
@@ -77,6 +80,8 @@ pub struct FileHeader {
     pub size_of_headers: u32,
     /// How many data directories there are: `NumberOfRvaAndSizes`.
     pub number_of_rva_and_sizes: u32,
+    /// The export directory, if there is one.
+    pub export_directory: Option<DataDirectory>,
     /// The function table, which is mostly in the section `.pdata`, if there is one.
     pub exception_directory: Option<DataDirectory>,
     /// The debug directory, if there is one.
@@ -162,6 +167,7 @@ fn fields(start: u32, coff: &[u8], optional: &[u8]) -> FileHeader
         size_of_image: u32_at(optional, 56),
         size_of_headers: u32_at(optional, 60),
         number_of_rva_and_sizes: u32_at(optional, 108),
+        export_directory: directory(optional, EXPORT),
         exception_directory: directory(optional, EXCEPTION),
         debug_directory: directory(optional, DEBUG),
         section_table: u64::from(start) + COFF_SIZE + u64::from(u16_at(coff, 20)),

@@ -5,6 +5,7 @@
 mod block;
 pub mod codeview;
 pub mod error;
+pub mod exports;
 pub mod header;
 pub mod rva;
 pub mod section;

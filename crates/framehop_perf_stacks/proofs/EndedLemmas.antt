@@ -1,5 +1,5 @@
 -- Errors of steps, one after another.
-use Rattle.std.proofs.Common.{◌≡◌, ◌≢◌, ◌⊎◌, inl, inr, ℕ, ◌+◌, ◌-◌, ◌^◌, ◌<◌, ◌≤◌, Bool, true, false, cond, List, [], ◌∷◌, ◌++◌, Option, Some, None, Result, Ok, Err, OnOk, IfErr, IsErrAnd, refl, ap, sym, ◌∙◌, subst, true≢false, arith}
+use Rattle.std.proofs.Common.{◌≡◌, ◌⊎◌, inl, inr, ℕ, ◌+◌, ◌^◌, ◌≤◌, Bool, true, false, cond, List, [], ◌∷◌, Option, Some, None, Result, Ok, Err, OnOk, IfErr, IsErrAnd, refl, ap, sym, ◌∙◌, subst, true≢false, arith}
 use Rattle.std.specs.Prelude.{is_some}
 use Rattle.std.specs.BTreeMap.{is_at}
 use Rattle.std.specs.Cmp.Lexicographic.{slice_cmp}
@@ -55,13 +55,14 @@ out_of_memory writes refusal drawn samples error is = rw is tt
 
 module _ (writes frames : Bool) (counts : Counts) (samples : ℕ) (counted : AreCounted frames samples counts) (line : List ℕ) (error : StacksError) where
   pub sample_ends : (error ≡ OutOfMemory)
-      ⊎ ((error ≡ TooManySamples) × ((2 ^ 64 ≤ count_in counts.ends line + 1) ⊎ (2 ^ 64 ≤ counts.samples + 1) ⊎ (2 ^ 64 ≤ counts.unsure + 1)))
+      ⊎ ((error ≡ TooManySamples) × ((2 ^ 64 ≤ count_in counts.ends line + 1) ⊎ (2 ^ 64 ≤ counts.samples + 1) ⊎ (2 ^ 64 ≤ counts.unsure + 1) ⊎ (2 ^ 64 ≤ counts.cut + 1)))
       → MayEnd writes None 0 (samples + 1) error
   sample_ends (inl is) = out_of_memory writes None 0 (samples + 1) error is
   sample_ends (inr (is, inl large)) =
       too_many writes (samples + 1) error is (omega (arith, large, within_total counts.ends line, counted.ends))
   sample_ends (inr (is, inr (inl large))) = too_many writes (samples + 1) error is (omega (arith, large, counted.samples))
-  sample_ends (inr (is, inr (inr large))) = too_many writes (samples + 1) error is (omega (arith, large, counted.unsure))
+  sample_ends (inr (is, inr (inr (inl large)))) = too_many writes (samples + 1) error is (omega (arith, large, counted.unsure))
+  sample_ends (inr (is, inr (inr (inr large)))) = too_many writes (samples + 1) error is (omega (arith, large, counted.cut))
 
 pub stack_ends : (writes : Bool) (counts : Counts) (line : List ℕ) (error : StacksError)
     → (error ≡ OutOfMemory) ⊎ ((error ≡ TooManySamples) × (2 ^ 64 ≤ count_in counts.stacks line + 1))

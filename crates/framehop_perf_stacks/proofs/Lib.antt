@@ -7,3 +7,5 @@ mod EventLemmas
 mod EndedLemmas
 mod SoFarLemmas
 mod PrintedLemmas
+pub mod ChoiceLemmas
+pub mod ChainLemmas

@@ -14,14 +14,15 @@ use Rattle.framehop_perf_stacks.specs.declared.error.StacksError.{StacksError}
 use Rattle.framehop_perf_stacks.specs.declared.error.StacksError.TheVariants.{Recording as Refused, OutOfMemory, GenerationsExhausted, EmptyMapping, TooManySamples, CannotWrite}
 use Rattle.framehop_perf_stacks.specs.declared.program.Unwound.{Unwound}
 use Rattle.framehop_perf_stacks.specs.declared.recording.Recording.{Recording}
+use Rattle.framehop_perf_stacks.specs.declared.run.Options.{Options}
 
-module _ (recording : Recording) (files : Files) (frames sure explain : Bool) (limit : ℕ) (before after unsaid said : Option (List ℕ)) where
+module _ (recording : Recording) (files : Files) (options : Options) (before after unsaid said : Option (List ℕ)) where
   -- what is made of records, by texts of an architecture
   abbrev pub IsMadeBy : Bool → List RecordView → Folded → Type 0
   IsMadeBy of_aarch64 records folded =
       (samples : List Told)
-      × Each (IsToldIn of_aarch64 frames sure explain limit files (map attribute_view recording.events.attributes.items)) (samples_from files beginning records) samples
-      × IsMade frames samples folded before after × IsSaid samples records unsaid said
+      × Each (IsToldIn of_aarch64 options files (map attribute_view recording.events.attributes.items)) (samples_from files beginning records) samples
+      × IsMade options.frames samples folded before after × IsSaid samples records unsaid said
 
   abbrev pub IsWholeBy : Bool → Unwound → Type 0
   IsWholeBy of_aarch64 unwound =
@@ -34,8 +35,8 @@ module _ (recording : Recording) (files : Files) (frames sure explain : Bool) (l
 
   abbrev pub IsMadeAt : Folded → Result (Option RecordingError) StacksError → Type 0
   IsMadeAt folded ended = MatchResult ended
-      (λ refusal. IsWhole recording refusal × IsMadeOf recording files frames sure explain limit folded before after unsaid said)
-      (λ error. MayEndAt recording files error × IsMadeUntil error recording files frames sure explain limit folded before after unsaid said)
+      (λ refusal. IsWhole recording refusal × IsMadeOf recording files options folded before after unsaid said)
+      (λ error. MayEndAt recording files error × IsMadeUntil error recording files options folded before after unsaid said)
 
   abbrev actual : Bool
   actual = are_of_aarch64 (map attribute_view recording.events.attributes.items)

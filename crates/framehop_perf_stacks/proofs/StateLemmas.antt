@@ -1,5 +1,5 @@
 -- States that agree lead to states that agree, and a sample has the same text at both.
-use Rattle.std.proofs.Common.{◌≡◌, ℕ, ◌<◌, ◌+◌, IfOk, Bool, true, false, cond, List, map, Option, Some, None, Result, Ok, Err, refl, ap, sym, ◌∙◌, subst, true≢false, arith}
+use Rattle.std.proofs.Common.{◌≡◌, ℕ, ◌<◌, ◌+◌, ◌++◌, IfOk, Bool, true, false, cond, List, map, Option, Some, None, Result, Ok, Err, refl, ap, sym, ◌∙◌, subst, true≢false, arith}
 use Rattle.std.specs.Prelude.{◌==◌, ◌&&◌, ◌||◌, ⊤, nat_le, is_some, option_and_then}
 use Rattle.std.proofs.lemmas.Bool.Decides.{nat_tests}
 use Rattle.std.specs.Result.{result_err}
@@ -19,18 +19,20 @@ use Rattle.framehop_recording.specs.Sample.{SampleView}
 use Rattle.framehop_recording.specs.Tasks.{CommandView, command_at, task_at, lost_at}
 use Rattle.framehop_recording.specs.declared.error.RecordingError.{RecordingError}
 use Rattle.framehop_recording.specs.declared.tasks.Task.{Task}
+use Rattle.framehop_perf_stacks.specs.Chain.{kernel_lines, kernel_text}
 use Rattle.framehop_perf_stacks.specs.Changes.{change_in, is_of_code, end_of_mapping, base_in, mapping_based, maps_numbered, maps_file, execs_program, forks_process}
 use Rattle.framehop_perf_stacks.specs.Ended.{drawn_in, naming_refusal, refusal_in, IsWithoutAddress}
 use Rattle.framehop_frames.specs.Line.{head_of}
 use Rattle.framehop_perf_stacks.specs.Names.{Named, named_by, named_as_parent, named_after}
 use Rattle.framehop_perf_stacks.specs.Processes.{Mapped, after}
-use Rattle.framehop_perf_stacks.specs.Samples.{State, mapped_by, IsUserStack, IsToldAt, Told, stack_told}
+use Rattle.framehop_perf_stacks.specs.Samples.{State, mapped_by, IsUserStack, IsToldAt, Told, thread_name, is_full_user, stack_told}
 use Rattle.framehop_perf_stacks.specs.declared.changes.Change.{Change}
 use Rattle.framehop_perf_stacks.specs.declared.changes.Change.TheVariants.{Map, Begin, Fork}
 use Rattle.framehop_symbols.specs.Files.{number_in, object_in}
 use Rattle.framehop_symbols.specs.declared.files.Files.{Files}
 use Rattle.framehop_frames.specs.Walker.{Walker}
 use Rattle.framehop_frames.specs.declared.machine.Start.{Start}
+use Rattle.framehop_perf_stacks.specs.declared.run.Options.{Options}
 
 -- a choice between values that are the same is the same
 cond-same : {A : Type 0} (b : Bool) (x x' y y' : A) → x ≡ x' → y ≡ y' → cond b x y ≡ cond b x' y'
@@ -93,25 +95,25 @@ module _ (mapped other : Mapped) (same : (pid : ℕ) → mapped pid ≡ other pi
 
 module _ {Regs : Type 0} (module_of : Mapping → ModuleView) (walker : Walker Regs)
     (is_note : List ModuleView → Memory → FrameLocation → Regs → Result FoundBy BacktraceEnd → List ℕ → Type 0)
-    (starts : List ModuleView → ℕ → List ℕ → Option (Start Regs) → Type 0) (frames sure explain : Bool) (limit : ℕ) (files : Files)
+    (starts : List ModuleView → ℕ → List ℕ → Option (Start Regs) → Type 0) (options : Options) (files : Files)
     (state other : State) (named : (tid : ℕ) → state.named tid ≡ other.named tid)
     (mapped : (pid : ℕ) → state.mapped pid ≡ other.mapped pid) where
   pub text-same : (sample : Result (SampleView × ℕ) RecordingError) (text : Told)
-      → IsToldAt module_of walker is_note starts frames sure explain limit files state sample text
-      → IsToldAt module_of walker is_note starts frames sure explain limit files other sample text
+      → IsToldAt module_of walker is_note starts options files state sample text
+      → IsToldAt module_of walker is_note starts options files other sample text
   text-same (Ok sample) text told =
       let pid = sample.0.pid in
       let tid = sample.0.tid in
       let stack = told.0 in
       let notes = told.1.0 in
-      let P : List Mapping → Type 0 = λ mappings. IsUserStack walker is_note starts (frames && explain) limit files mappings (map module_of mappings) sample.1 sample.0.user stack notes in (
+      let P : List Mapping → Type 0 = λ mappings. IsUserStack walker is_note starts (options.frames && options.explain) options.limit files mappings (map module_of mappings) sample.1 sample.0.chain sample.0.user stack notes in (
         stack,
         (
           notes,
           subst P (mapped pid) told.1.1,
           told.1.2
-              ∙ ap (λ name. stack_told frames sure explain files name (head_of name pid tid sample.0.time) (state.mapped pid) stack notes) (named tid)
-              ∙ ap (λ mappings. stack_told frames sure explain files (other.named tid) (head_of (other.named tid) pid tid sample.0.time) mappings stack notes) (mapped pid),
+              ∙ ap (λ name. stack_told options files (thread_name options.by_thread name pid tid) (head_of name pid tid sample.0.time ++ kernel_lines options sample.0.chain) (kernel_text options sample.0.chain) (state.mapped pid) (is_full_user sample.0.user) stack notes) (named tid)
+              ∙ ap (λ mappings. stack_told options files (thread_name options.by_thread (other.named tid) pid tid) (head_of (other.named tid) pid tid sample.0.time ++ kernel_lines options sample.0.chain) (kernel_text options sample.0.chain) mappings (is_full_user sample.0.user) stack notes) (mapped pid),
         ),
       )
   text-same (Err refusal) text told = told

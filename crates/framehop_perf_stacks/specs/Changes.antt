@@ -1,6 +1,6 @@
 -- What a record changes in the processes: PERF_RECORD_MMAP, PERF_RECORD_MMAP2, PERF_RECORD_COMM and PERF_RECORD_FORK of
 -- perf_event.h.
-use Rattle.std.specs.Prelude.{ℕ, ◌+◌, ◌-◌, ◌^◌, min, List, Bool, true, false, not, ◌&&◌, ◌||◌, nat_le, Option, Some, None, option_and_then, Result, Ok, Err, ◌==◌, if◌then◌else◌}
+use Rattle.std.specs.Prelude.{ℕ, ◌+◌, ◌-◌, ◌^◌, min, Bool, true, false, not, ◌&&◌, ◌||◌, nat_le, Option, Some, None, option_and_then, Result, Ok, Err, ◌==◌, if◌then◌else◌}
 use Rattle.framehop_bytes.specs.Bytes.{◌>>=◌}
 use Rattle.framehop_memory.specs.Segment.{base_of}
 use Rattle.framehop_processes.specs.declared.mapping.Mapping.{Mapping}

@@ -9,6 +9,10 @@ pub mod Start
 pub mod Counts
 pub mod Run
 pub mod Recording
+pub mod Chain
+pub mod Kallsyms
 pub mod Samples
+pub mod Window
+pub mod Choice
 pub mod Problems
 pub mod Printed

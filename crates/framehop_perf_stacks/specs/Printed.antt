@@ -20,18 +20,19 @@ use Rattle.framehop_perf_stacks.specs.declared.counts.Counts.{Counts}
 use Rattle.framehop_perf_stacks.specs.declared.error.StacksError.{StacksError}
 use Rattle.framehop_perf_stacks.specs.declared.error.StacksError.TheVariants.{Recording as Refused}
 use Rattle.framehop_perf_stacks.specs.declared.recording.Recording.{Recording}
+use Rattle.framehop_perf_stacks.specs.declared.run.Options.{Options}
 
 -- this is told of a sample of one of the two architectures, by the modules of the files
-abbrev pub IsToldIn : Bool → Bool → Bool → Bool → ℕ → Files → List AttributeView → RecordView × State → Told → Type 0
-IsToldIn true frames sure explain limit files attributes =
-    IsToldOf (module_at files) aarch64_walker IsNoteAarch64 StartsAarch64 frames sure explain limit files attributes
-IsToldIn false frames sure explain limit files attributes =
-    IsToldOf (module_at files) x86_64_walker IsNoteX86_64 StartsX86_64 frames sure explain limit files attributes
+abbrev pub IsToldIn : Bool → Options → Files → List AttributeView → RecordView × State → Told → Type 0
+IsToldIn true options files attributes =
+    IsToldOf (module_at files) aarch64_walker IsNoteAarch64 StartsAarch64 options files attributes
+IsToldIn false options files attributes =
+    IsToldOf (module_at files) x86_64_walker IsNoteX86_64 StartsX86_64 options files attributes
 
 -- what is told of the samples of records, of each by the state that the records before it lead to
-abbrev pub AreToldOf : List AttributeView → List RecordView → Files → Bool → Bool → Bool → ℕ → List Told → Type 0
-AreToldOf attributes records files frames sure explain limit samples =
-    Each (IsToldIn (are_of_aarch64 attributes) frames sure explain limit files attributes)
+abbrev pub AreToldOf : List AttributeView → List RecordView → Files → Options → List Told → Type 0
+AreToldOf attributes records files options samples =
+    Each (IsToldIn (are_of_aarch64 attributes) options files attributes)
     (samples_from files beginning records) samples
 
 -- what is said of files of which nothing was read
@@ -44,18 +45,17 @@ IsSaid samples records before after =
     (counts : Counts) × AreSummed samples records counts × Appends before after (summary_text counts)
 
 -- their texts are folded, or shown as blocks, and their summary is said
-abbrev pub IsMadeFrom : List AttributeView → List RecordView → Files → Bool → Bool → Bool → ℕ → Folded → Option (List ℕ) → Option (List ℕ)
+abbrev pub IsMadeFrom : List AttributeView → List RecordView → Files → Options → Folded → Option (List ℕ) → Option (List ℕ)
     → Option (List ℕ) → Option (List ℕ) → Type 0
-IsMadeFrom attributes records files frames sure explain limit folded before after unsaid said =
-    (samples : List Told) × AreToldOf attributes records files frames sure explain limit samples
-    × IsMade frames samples folded before after × IsSaid samples records unsaid said
+IsMadeFrom attributes records files options folded before after unsaid said =
+    (samples : List Told) × AreToldOf attributes records files options samples
+    × IsMade options.frames samples folded before after × IsSaid samples records unsaid said
 
 -- the same of all records of a recording
-abbrev pub IsMadeOf : Recording → Files → Bool → Bool → Bool → ℕ → Folded → Option (List ℕ) → Option (List ℕ)
+abbrev pub IsMadeOf : Recording → Files → Options → Folded → Option (List ℕ) → Option (List ℕ)
     → Option (List ℕ) → Option (List ℕ) → Type 0
-IsMadeOf recording files frames sure explain limit folded before after unsaid said =
-    IsMadeFrom (map attribute_view recording.events.attributes.items) (records_in recording.records.items) files frames sure
-    explain limit folded before after unsaid said
+IsMadeOf recording files options folded before after unsaid said =
+    IsMadeFrom (map attribute_view recording.events.attributes.items) (records_in recording.records.items) files options folded before after unsaid said
 
 -- none of them is refused, and the refusal at their end is the recording's
 pub record IsWhole (recording : Recording) (refusal : Option RecordingError) : Type 0 where
@@ -63,12 +63,12 @@ pub record IsWhole (recording : Recording) (refusal : Option RecordingError) : T
   pub none : first_refusal (records_in recording.records.items) ≡ None
 
 -- What is made where a run ends with an error: at the first record that is refused, of the samples before it.
-abbrev pub IsMadeUntil : StacksError → Recording → Files → Bool → Bool → Bool → ℕ → Folded → Option (List ℕ) → Option (List ℕ)
+abbrev pub IsMadeUntil : StacksError → Recording → Files → Options → Folded → Option (List ℕ) → Option (List ℕ)
     → Option (List ℕ) → Option (List ℕ) → Type 0
-IsMadeUntil (Refused refusal) recording files frames sure explain limit folded before after unsaid said =
+IsMadeUntil (Refused refusal) recording files options folded before after unsaid said =
     IsMadeFrom (map attribute_view recording.events.attributes.items)
-    (before_refusal (records_in recording.records.items)) files frames sure explain limit folded before after unsaid said
-IsMadeUntil error recording files frames sure explain limit folded before after unsaid said = ⊤
+    (before_refusal (records_in recording.records.items)) files options folded before after unsaid said
+IsMadeUntil error recording files options folded before after unsaid said = ⊤
 
 -- a run over the records of a recording may end with an error
 abbrev pub MayEndAt : Recording → Files → StacksError → Type 0

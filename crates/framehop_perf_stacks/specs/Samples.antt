@@ -1,5 +1,5 @@
 -- The samples of a recording one after another, and what is told of each: a block or a folded line.
-use Rattle.std.specs.Prelude.{◌≡◌, ℕ, zero, suc, ◌+◌, ◌-◌, ◌^◌, min, length, not, unwrap_or, Bool, true, false, ◌&&◌, nat_eq, List, [], ◌∷◌, ◌++◌, codes, map, count_by, Option, Some, None, Result, Ok, Err, ◌==◌, if◌then◌else◌}
+use Rattle.std.specs.Prelude.{◌≡◌, ◌<◌, ℕ, zero, suc, ◌+◌, ◌-◌, ◌^◌, min, length, not, unwrap_or, Bool, true, false, ◌&&◌, nat_eq, List, [], ◌∷◌, ◌++◌, codes, decimal, map, count_by, Option, Some, None, Result, Ok, Err, ◌==◌, if◌then◌else◌}
 use Rattle.std.specs.BTreeMap.{BTreeMap}
 use Rattle.std.specs.Cmp.Lexicographic.{pointwise}
 use Rattle.std.specs.Io.KnownBytes.{Appends}
@@ -7,7 +7,6 @@ use Rattle.std.specs.List.{flat_map}
 use Rattle.std.specs.Result.{result_unwrap_or}
 use Rattle.framehop_core.specs.CodeAddress.{FrameLocation}
 use Rattle.framehop_core.specs.Memory.{Memory}
-use Rattle.framehop_core.specs.Outcome.{Outcome}
 use Rattle.framehop.specs.Modules.{ModuleView}
 use Rattle.framehop.specs.StackBytes.{memory_of_bytes}
 use Rattle.framehop_folded.specs.Folded.{entry_of, IsInOrderOfBytes}
@@ -17,21 +16,25 @@ use Rattle.framehop_processes.specs.declared.mapping.Mapping.{Mapping}
 use Rattle.framehop_recording.specs.Attributes.{AttributeView}
 use Rattle.framehop_recording.specs.Numbers.{PERF_RECORD_SAMPLE, PERF_RECORD_LOST}
 use Rattle.framehop_recording.specs.Records.{RecordView}
-use Rattle.framehop_recording.specs.Sample.{SampleView, UserView}
+use Rattle.framehop_recording.specs.Sample.{SampleView, UserView, read_chain_view, read_user_view}
 use Rattle.framehop_recording.specs.Tasks.{lost_at}
 use Rattle.framehop_recording.specs.declared.error.RecordingError.{RecordingError}
 use Rattle.framehop_recording.specs.declared.sample.Sample.{Sample}
 use Rattle.framehop_perf_stacks.specs.Changes.{change_in}
+use Rattle.framehop_perf_stacks.specs.Chain.{kernel_lines, kernel_text, frames_of_chain}
 use Rattle.framehop_perf_stacks.specs.Counts.{CountsOneMore, HasSampleMore}
 use Rattle.framehop_backtrace.specs.declared.frame.BacktraceEnd.{BacktraceEnd}
+use Rattle.framehop_backtrace.specs.declared.frame.BacktraceEnd.TheVariants.{Root, FramePointerZero, Limit, SignalFrameUnread, CfaUnknown, ReturnAddressUnknown, DidNotAdvance, RegistersUnknown, Refused, NoCaller, NotCode}
+use Rattle.framehop_core.specs.declared.error.Error.TheVariants.{CouldNotReadStack}
 use Rattle.framehop_backtrace.specs.declared.frame.FoundBy.{FoundBy}
 use Rattle.framehop_frames.specs.Explained.{shown_with}
-use Rattle.framehop_frames.specs.Line.{head_of, end_name, part_of}
+use Rattle.framehop_frames.specs.Line.{ShownFrame, head_of, end_name, part_of, line_of, refused_line, frame_label, frame_line, last_line}
 use Rattle.framehop_backtrace.specs.Code.{Code}
 use Rattle.framehop_frames.specs.Code.{bytes_after, code_of}
 use Rattle.framehop_frames.specs.Notes.{NotedStack, noted_from, AreStackNotes}
 use Rattle.framehop_frames.specs.Rows.{rows_in}
-use Rattle.framehop_frames.specs.Stack.{StackView, walked, no_stack, stack_from, stack_text}
+use Rattle.framehop_frames.specs.Stack.{StackView, walked, no_stack, shown_frame, stack_from, stack_text}
+use Rattle.framehop_frames.specs.declared.stack.Stack.{Stack}
 use Rattle.framehop_frames.specs.Walker.{Walker}
 use Rattle.framehop_perf_stacks.specs.Ended.{drawn_in}
 use Rattle.framehop_perf_stacks.specs.Names.{Named, named_in, named_after}
@@ -43,6 +46,7 @@ use Rattle.framehop_perf_stacks.specs.declared.counts.Counts.{Counts}
 use Rattle.framehop_symbols.specs.declared.files.Files.{Files}
 use Rattle.framehop_frames.specs.declared.machine.Start.{Start}
 use Rattle.framehop_perf_stacks.specs.declared.names.Names.{Names}
+use Rattle.framehop_perf_stacks.specs.declared.run.Options.{Options}
 
 -- what the records before a place lead to: the names of threads, and the mappings of processes
 pub record State : Type 0 where
@@ -120,6 +124,21 @@ abbrev pub NotedIf : Bool → (List (List ℕ) → Type 0) → List (List ℕ) �
 NotedIf true are_notes notes = are_notes notes
 NotedIf false are_notes notes = notes ≡ []
 
+-- the stack of a sample: of a walk, or of its call chain
+pub data SampleStack : Type 0 where
+  of_walk : StackView → SampleStack
+  of_chain : List ShownFrame → SampleStack
+
+-- what stands for a stack that can't be read
+abbrev pub unread_stack : RecordingError → List ShownFrame → SampleStack
+unread_stack refusal [] = of_walk (no_stack (sample_refusal refusal))
+unread_stack refusal (frame ∷ frames) = of_chain (frame ∷ frames)
+
+-- a stack is that of the frames of a chain, if there are some
+abbrev pub IsStackOfChain : List ShownFrame → Option (Stack (Unit {0})) → Type 0
+IsStackOfChain frames (Some stack) = (map shown_frame stack.frames.items ≡ frames) × (stack.end ≡ Root) × (0 < length frames)
+IsStackOfChain frames None = frames ≡ []
+
 -- `is_note`: a note is that of a frame, among modules and over a memory
 module _ {Regs : Type 0} (walker : Walker Regs)
     (is_note : List ModuleView → Memory → FrameLocation → Regs → Result FoundBy BacktraceEnd → List ℕ → Type 0)
@@ -129,33 +148,55 @@ module _ {Regs : Type 0} (walker : Walker Regs)
   AreSampleNotes mappings modules bytes start notes =
       AreStackNotes (is_note modules (copied_memory bytes start)) (noted_sample walker limit files mappings modules bytes start) notes
 
-  -- the stack and the notes of the user's side of a sample, if it can be read
-  abbrev pub IsUserStack : List Mapping → List ModuleView → ℕ → Result UserView RecordingError → StackView → List (List ℕ) → Type 0
-  IsUserStack mappings modules mask (Ok user) stack notes =
+  -- the stack and the notes of the user's side of a sample, if it can be read; else the frames of its call chain, if it has
+  -- some, or why there are none
+  abbrev pub IsUserStack : List Mapping → List ModuleView → ℕ → Result (List ℕ) RecordingError → Result UserView RecordingError
+      → SampleStack → List (List ℕ) → Type 0
+  IsUserStack mappings modules mask chain (Ok user) stack notes =
       (start : Option (Start Regs)) × starts modules mask user.registers start
-      × (stack ≡ sampled_from walker limit files mappings modules user.stack start)
+      × (stack ≡ of_walk (sampled_from walker limit files mappings modules user.stack start))
       × NotedIf explained (AreSampleNotes mappings modules user.stack start) notes
-  IsUserStack mappings modules mask (Err refusal) stack notes = (stack ≡ no_stack (sample_refusal refusal)) × (notes ≡ [])
+  IsUserStack mappings modules mask chain (Err refusal) stack notes =
+      (stack ≡ unread_stack refusal (frames_of_chain refusal chain)) × (notes ≡ [])
 
   -- the same of a sample with the mask of its registers: its modules are those of its process's mappings
-  abbrev pub IsSampleStack : (Mapping → ModuleView) → Mapped → Result (SampleView × ℕ) RecordingError → StackView
+  abbrev pub IsSampleStack : (Mapping → ModuleView) → Mapped → Result (SampleView × ℕ) RecordingError → SampleStack
       → List (List ℕ) → Type 0
   IsSampleStack module_of mapped (Ok sample) stack notes =
-      IsUserStack (mapped sample.0.pid) (map module_of (mapped sample.0.pid)) sample.1 sample.0.user stack notes
-  IsSampleStack module_of mapped (Err refusal) stack notes = (stack ≡ no_stack (sample_refusal refusal)) × (notes ≡ [])
+      IsUserStack (mapped sample.0.pid) (map module_of (mapped sample.0.pid)) sample.1 sample.0.chain sample.0.user stack notes
+  IsSampleStack module_of mapped (Err refusal) stack notes =
+      (stack ≡ of_walk (no_stack (sample_refusal refusal))) × (notes ≡ [])
+
+-- The name of a thread in a folded stack. Where threads are told apart, its process and itself are after the name, as
+-- `stackcollapse-perf.pl --tid` of FlameGraph has them.
+abbrev pub thread_name : Bool → List ℕ → ℕ → ℕ → List ℕ
+thread_name by_thread name pid tid = if by_thread then name ++ 45 ∷ decimal pid ++ 47 ∷ decimal tid else name
+
+-- the same of a sample; the thread of one that can't be read is not known
+abbrev pub folded_name : Bool → List ℕ → Option Sample → List ℕ
+folded_name by_thread name (Some sample) = thread_name by_thread name sample.pid sample.tid
+folded_name by_thread name None = name
 
 -- the head of a sample's block, by the name of its thread; the thread of a sample that can't be read is not known
-abbrev pub head_text : List ℕ → Option Sample → List ℕ
-head_text name (Some sample) = head_of name sample.pid sample.tid sample.time
-head_text name None = codes "[unknown]:\n"
+-- The frames of the kernel come first in it.
+abbrev pub head_text : Options → List ℕ → Option Sample → List ℕ
+head_text options name (Some sample) =
+    head_of name sample.pid sample.tid sample.time ++ kernel_lines options (read_chain_view sample.chain)
+head_text options name None = codes "[unknown]:\n"
+
+-- what ends a folded stack: the frames of the kernel
+abbrev pub tail_text : Options → Option Sample → List ℕ
+tail_text options (Some sample) = kernel_text options (read_chain_view sample.chain)
+tail_text options None = []
 
 -- what is told of a sample: its text, the same as it is shown, with notes where it is to be explained, how its walk ended or
--- why there is none, and whether unwind data tells all its frames
+-- why there is none, whether unwind data tells all its frames, and whether it is cut where its copy ends
 pub record Told : Type 0 where
   pub text : List ℕ
   pub shown : List ℕ
   pub end : List ℕ
   pub is_sure : Bool
+  pub is_cut : Bool
 
 -- how the walk of a stack ended, or why there is none
 abbrev pub end_of : StackView → List ℕ
@@ -167,34 +208,96 @@ abbrev pub is_sure_stack : StackView → Bool
 is_sure_stack (walked frames end) = length (part_of true frames) == length frames
 is_sure_stack (no_stack why) = true
 
--- what is told of a stack with notes, by the name of its thread, the head of its block and the mappings of its process
-abbrev pub stack_told : Bool → Bool → Bool → Files → List ℕ → List ℕ → List Mapping → StackView → List (List ℕ) → Told
-stack_told frames sure explain files name head mappings stack notes = record {
-  text = stack_text frames sure files name head mappings stack;
-  shown = shown_with explain notes (stack_text frames sure files name head mappings stack);
-  end = end_of stack;
-  is_sure = is_sure_stack stack;
-}
+-- the text of a call chain, which has a mark in the place of the end of a walk
+abbrev pub chain_text : Bool → Bool → Files → List ℕ → List ℕ → List Mapping → List ShownFrame → List ℕ
+chain_text true sure files name head mappings frames =
+    head ++ flat_map (frame_line files mappings) frames ++ last_line (codes "callchain")
+chain_text false sure files name head mappings frames =
+    refused_line name (codes "callchain") ++ line_of sure [] Root (frame_label files mappings) frames
+
+abbrev pub sample_text : Bool → Bool → Files → List ℕ → List ℕ → List Mapping → SampleStack → List ℕ
+sample_text frames sure files name head mappings (of_walk stack) = stack_text frames sure files name head mappings stack
+sample_text frames sure files name head mappings (of_chain chain) = chain_text frames sure files name head mappings chain
+
+-- a folded stack with what ends it
+abbrev pub ended_with : Bool → List ℕ → List ℕ → List ℕ
+ended_with true tail text = text
+ended_with false tail text = text ++ tail
+
+abbrev pub sample_end : SampleStack → List ℕ
+sample_end (of_walk stack) = end_of stack
+sample_end (of_chain frames) = codes "callchain"
+
+abbrev pub is_sure_sample : SampleStack → Bool
+is_sure_sample (of_walk stack) = is_sure_stack stack
+is_sure_sample (of_chain frames) = length (part_of true frames) == length frames
+
+-- the end of a walk tells that words of the stack were not known
+abbrev pub is_unread_end : BacktraceEnd → Bool
+is_unread_end (Refused (CouldNotReadStack address)) = true
+is_unread_end (Refused error) = false
+is_unread_end CfaUnknown = true
+is_unread_end ReturnAddressUnknown = true
+is_unread_end RegistersUnknown = true
+is_unread_end SignalFrameUnread = true
+is_unread_end Root = false
+is_unread_end FramePointerZero = false
+is_unread_end Limit = false
+is_unread_end DidNotAdvance = false
+is_unread_end NoCaller = false
+is_unread_end (NotCode address) = false
+
+-- a stack is cut: its walk ended so, and its copy is full
+abbrev pub is_cut_sample : Bool → SampleStack → Bool
+is_cut_sample full (of_walk (walked frames end)) = full && is_unread_end end
+is_cut_sample full (of_walk (no_stack why)) = false
+is_cut_sample full (of_chain frames) = false
+
+-- what is told of a stack with notes, by the name of its thread, the head of its block, what ends its folded stack, the
+-- mappings of its process, and whether its copy is full
+abbrev pub stack_told : Options → Files → List ℕ → List ℕ → List ℕ → List Mapping → Bool → SampleStack → List (List ℕ) → Told
+stack_told options files name head tail mappings full stack notes =
+    let text = ended_with options.frames tail (sample_text options.frames options.sure files name head mappings stack) in record {
+      text = text;
+      shown = shown_with options.explain notes text;
+      end = sample_end stack;
+      is_sure = is_sure_sample stack;
+      is_cut = is_cut_sample full stack;
+    }
+
+-- the copy of a sample's stack is full
+abbrev pub is_full_user : Result UserView RecordingError → Bool
+is_full_user (Ok user) = user.is_full
+is_full_user (Err refusal) = false
+
+abbrev pub is_copy_full : Option Sample → Bool
+is_copy_full (Some sample) = is_full_user (read_user_view sample.user)
+is_copy_full None = false
+
+-- the same of a sample, by the name of its thread
+abbrev pub told_by : Options → Files → List ℕ → Option Sample → List Mapping → SampleStack → List (List ℕ) → Told
+told_by options files name sample mappings stack notes =
+    stack_told options files (folded_name options.by_thread name sample) (head_text options name sample)
+    (tail_text options sample) mappings (is_copy_full sample) stack notes
 
 -- the same by the name of its thread and the mappings of its process
-abbrev pub sample_told : Bool → Bool → Bool → Files → State → Result (SampleView × ℕ) RecordingError → StackView
-    → List (List ℕ) → Told
-sample_told frames sure explain files state (Ok sample) stack notes =
+abbrev pub sample_told : Options → Files → State → Result (SampleView × ℕ) RecordingError → SampleStack → List (List ℕ) → Told
+sample_told options files state (Ok sample) stack notes =
     let name = state.named sample.0.tid in
-    stack_told frames sure explain files name (head_of name sample.0.pid sample.0.tid sample.0.time)
-    (state.mapped sample.0.pid) stack notes
-sample_told frames sure explain files state (Err refusal) stack notes =
-    stack_told frames sure explain files (codes "[unknown]") (codes "[unknown]:\n") [] stack notes
+    stack_told options files (thread_name options.by_thread name sample.0.pid sample.0.tid)
+    (head_of name sample.0.pid sample.0.tid sample.0.time ++ kernel_lines options sample.0.chain) (kernel_text options sample.0.chain)
+    (state.mapped sample.0.pid) (is_full_user sample.0.user) stack notes
+sample_told options files state (Err refusal) stack notes =
+    stack_told options files (codes "[unknown]") (codes "[unknown]:\n") [] [] false stack notes
 
 module _ {Regs : Type 0} (module_of : Mapping → ModuleView) (walker : Walker Regs)
     (is_note : List ModuleView → Memory → FrameLocation → Regs → Result FoundBy BacktraceEnd → List ℕ → Type 0)
-    (starts : List ModuleView → ℕ → List ℕ → Option (Start Regs) → Type 0) (frames sure explain : Bool) (limit : ℕ)
-    (files : Files) where
+    (starts : List ModuleView → ℕ → List ℕ → Option (Start Regs) → Type 0) (options : Options) (files : Files) where
   -- this is told of a sample at a state: of its stack, by the modules of its process
   abbrev pub IsToldAt : State → Result (SampleView × ℕ) RecordingError → Told → Type 0
-  IsToldAt state sample told = (stack : StackView) × ((notes : List (List ℕ))
-      × IsSampleStack walker is_note starts (frames && explain) limit files module_of state.mapped sample stack notes
-      × (told ≡ sample_told frames sure explain files state sample stack notes))
+  IsToldAt state sample told = (stack : SampleStack) × ((notes : List (List ℕ))
+      × IsSampleStack walker is_note starts (options.frames && options.explain) options.limit files module_of state.mapped sample stack notes
+      × (told ≡ sample_told options files state sample stack notes))
 
   -- the same of a record of a recording with these events
   abbrev pub IsToldOf : List AttributeView → RecordView × State → Told → Type 0
@@ -224,7 +327,7 @@ IsTextTaken false told old new before after = CountsOneMore old new told.text ×
 -- a sample is counted, and its text is taken
 abbrev pub IsTaken : Bool → Told → Counts → Counts → Option (List ℕ) → Option (List ℕ) → Type 0
 IsTaken frames told old new before after =
-    HasSampleMore old new told.end told.is_sure × IsTextTaken frames told old.stacks new.stacks before after
+    HasSampleMore old new told.end told.is_sure told.is_cut × IsTextTaken frames told old.stacks new.stacks before after
 
 -- the texts of samples
 abbrev pub texts_of : List Told → List (List ℕ)
@@ -248,10 +351,15 @@ ends_of samples = map (λ told. told.end) samples
 abbrev pub unsure_among : List Told → ℕ
 unsure_among samples = count_by (λ told. not told.is_sure) samples
 
+-- how many of them are cut where their copies end
+abbrev pub cut_among : List Told → ℕ
+cut_among samples = count_by (λ told. told.is_cut) samples
+
 -- samples are counted, by the ends of their walks
 pub record HasSamplesMore (samples : List Told) (old new : Counts) : Type 0 where
   pub count : new.samples ≡ old.samples + length samples
   pub unsure : new.unsure ≡ old.unsure + unsure_among samples
+  pub cut : new.cut ≡ old.cut + cut_among samples
   pub ends : (end : List ℕ) → entry_of new.ends end ≡ more (entry_of old.ends end) (occurrences end (ends_of samples))
 
 -- several samples are counted, and their texts are taken
@@ -282,6 +390,7 @@ lost_over (r ∷ records) lost = lost_over records (lost_after r lost)
 pub record AreSummed (samples : List Told) (records : List RecordView) (counts : Counts) : Type 0 where
   pub count : counts.samples ≡ length samples
   pub unsure : counts.unsure ≡ unsure_among samples
+  pub cut : counts.cut ≡ cut_among samples
   pub lost : counts.lost ≡ lost_over records 0
   pub ends : AreFolded (ends_of samples) counts.ends
   pub ordered : IsInOrderOfBytes counts.ends

@@ -17,6 +17,8 @@ pub struct Counts {
     pub samples: u64,
     /// How many of them have a frame that no unwind data tells.
     pub unsure: u64,
+    /// How many of them are cut where the copy of their stack ends.
+    pub cut: u64,
     /// How many records the kernel lost.
     pub lost: u64,
     /// How often walks ended in which way, or why there was none.
@@ -30,6 +32,7 @@ impl Counts {
     pub fn new(alloc: Global) -> Self
         ensures samples { result.samples ≡ 0 }
         ensures unsure { result.unsure ≡ 0 }
+        ensures cut { result.cut ≡ 0 }
         ensures lost { result.lost ≡ 0 }
         ensures ends { total_of result.ends ≡ 0 }
         ensures stacks { total_of result.stacks ≡ 0 }
@@ -39,13 +42,15 @@ impl Counts {
         Counts {
             samples: 0,
             unsure: 0,
+            cut: 0,
             lost: 0,
             ends: Folded::new(alloc),
             stacks: Folded::new(alloc),
         }
     }
 
-    /// Counts a sample, by how its walk ended, and whether unwind data tells all its frames.
+    /// Counts a sample, by how its walk ended, whether unwind data tells all its frames, and whether it is cut where the
+    /// copy of its stack ends.
     ///
     /// # Errors
     ///
@@ -55,12 +60,13 @@ impl Counts {
         alloc: Global,
         end: &[u8],
         is_sure: bool,
+        is_cut: bool,
     ) -> Result<(), StacksError>
-        ensures more { OnOk result (HasSampleMore self.old self.new end.now is_sure) }
+        ensures more { OnOk result (HasSampleMore self.old self.new end.now is_sure is_cut) }
         ensures stacks { self.new.stacks ≡ self.old.stacks }
         ensures refused { IfErr result (λ refusal. (refusal ≡ OutOfMemory)
             ⊎ ((refusal ≡ TooManySamples) × ((2 ^ 64 ≤ count_in self.old.ends end.now + 1) ⊎ (2 ^ 64 ≤ self.old.samples + 1)
-            ⊎ (2 ^ 64 ≤ self.old.unsure + 1)))) }
+            ⊎ (2 ^ 64 ≤ self.old.unsure + 1) ⊎ (2 ^ 64 ≤ self.old.cut + 1)))) }
         ensures within { (writes frames : Bool) (samples : ℕ) → AreCounted frames samples self.old
             → IfErr result (MayEnd writes None 0 (samples + 1)) }
     {
@@ -72,9 +78,14 @@ impl Counts {
         let Some(unsure) = self.unsure.checked_add(more) else {
             return Err(StacksError::TooManySamples);
         };
+        let more = if is_cut { 1 } else { 0 };
+        let Some(cut) = self.cut.checked_add(more) else {
+            return Err(StacksError::TooManySamples);
+        };
         self.ends.add(end, 1)?;
         self.samples = samples;
         self.unsure = unsure;
+        self.cut = cut;
         Ok(())
     }
 
@@ -88,6 +99,7 @@ impl Counts {
         ensures samples { self.new.samples ≡ self.old.samples }
         ensures ends { self.new.ends ≡ self.old.ends }
         ensures unsure { self.new.unsure ≡ self.old.unsure }
+        ensures cut { self.new.cut ≡ self.old.cut }
         ensures lost { self.new.lost ≡ self.old.lost }
         ensures refused { IfErr result (λ refusal. (refusal ≡ OutOfMemory)
             ⊎ ((refusal ≡ TooManySamples) × (2 ^ 64 ≤ count_in self.old.stacks stack.items + 1))) }

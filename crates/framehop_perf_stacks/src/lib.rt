@@ -2,10 +2,14 @@
 //! unwinder of its process, and folds the stacks.
 #![tactic(auto)]
 
+pub mod chain;
 pub mod changes;
+pub mod choice;
 pub mod counts;
 pub mod error;
 pub mod explain;
+pub mod kallsyms;
+pub mod kernel;
 pub mod machine;
 pub mod names;
 pub mod problems;
@@ -15,3 +19,4 @@ pub mod recording;
 pub mod run;
 pub mod shared;
 pub mod stack;
+pub mod window;

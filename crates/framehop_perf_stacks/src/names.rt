@@ -1,8 +1,9 @@
 //! The names of threads at a time.
-ghost use Rattle.std.specs.Prelude.{◌≡◌, ℕ, codes, OnOk, IfErr, false, None};
+ghost use Rattle.std.specs.Prelude.{◌≡◌, ℕ, codes, OnOk, IfErr, false, None, Some};
 ghost use Rattle.framehop_recording.specs.Records.{record_view};
 ghost use Rattle.framehop_perf_stacks.specs.Ended.{naming_refusal, MayEnd};
 ghost use Rattle.framehop_perf_stacks.specs.Names.{named_in, with_name, named_after};
+ghost use Rattle.framehop_recording.specs.declared.error.RecordingError.{RecordingError};
 ghost use Rattle.framehop_perf_stacks.specs.declared.error.StacksError.TheVariants.{OutOfMemory};
 
 use crate::error::StacksError;
@@ -77,6 +78,7 @@ impl Names {
         ensures named { OnOk result ((thread : ℕ) → named_in self.new thread
             ≡ named_after (record_view «record».entry) (named_in self.old) thread) }
         ensures read { OnOk result (naming_refusal (record_view «record».entry) ≡ None) }
+        ensures kept { (refusal : RecordingError) → naming_refusal (record_view «record».entry) ≡ Some refusal → self.new ≡ self.old }
         ensures refused { IfErr result (MayEnd false (naming_refusal (record_view «record».entry)) 0 0) }
     {
         match record.kind {

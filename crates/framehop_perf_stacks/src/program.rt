@@ -5,7 +5,8 @@ ghost use Rattle.std.specs.Result.{result_err};
 ghost use Rattle.framehop_recording.specs.Attributes.{attribute_view};
 ghost use Rattle.framehop_recording.specs.BuildIds.{file_build_id_view};
 ghost use Rattle.framehop_recording.specs.declared.error.RecordingError.{RecordingError};
-ghost use Rattle.framehop_perf_stacks.specs.Counts.{summary_text};
+ghost use Rattle.framehop_perf_stacks.specs.Choice.{IsChosenOf};
+ghost use Rattle.framehop_perf_stacks.specs.Counts.{counts_text, cut_text, summary_text};
 ghost use Rattle.framehop_folded.specs.Folded.{IsInOrderOfBytes};
 ghost use Rattle.framehop_perf_stacks.specs.Ended.{before_refusal, MayEnd};
 ghost use Rattle.framehop_perf_stacks.specs.Files.{AreFilesOf};
@@ -16,6 +17,7 @@ ghost use Rattle.framehop_symbols.specs.declared.files.Files.{Files};
 ghost use Rattle.framehop_perf_stacks.specs.declared.error.StacksError.TheVariants.{OutOfMemory, CannotWrite, Recording as Refused};
 ghost use Rattle.framehop_perf_stacks.specs.declared.recording.Recording.{Recording};
 
+use crate::choice::{Choice, choose};
 use crate::counts::Counts;
 use crate::error::StacksError;
 use crate::machine::Sampled;
@@ -42,7 +44,7 @@ pub struct Unwound {
     pub ended: Result<Option<RecordingError>, StacksError>,
 }
 
-/// Folds the stacks of a recording, or writes them to `out` as blocks, and writes to `err` what was counted and which
+/// Folds the stacks of a recording's chosen samples, or writes them to `out` as blocks, and writes to `err` what was counted and which
 /// files were not read.
 ///
 /// # Errors
@@ -55,20 +57,22 @@ pub fn write_stacks<S: FileSource, W: Write, E: Write>(
     alloc: Global,
     file: &[u8],
     source: &S,
-    options: Options,
+    choice: &Choice<'_>,
+    options: Options<'_>,
     out: &mut W,
     err: &mut E,
 ) -> Result<Unwound, StacksError>
-    ensures made { IfOk result (λ unwound. (recording : Recording) × IsReadOf file.now recording
+    ensures made { IfOk result (λ unwound. (whole : Recording) × IsReadOf file.now whole
+        × ((recording : Recording) × IsChosenOf choice.now whole recording
         × ((files : Files) × AreFilesOf (S.source source.now)
         (map file_build_id_view recording.build_ids.items) (records_in recording.records.items) files
         × ((unsaid : Option (List ℕ)) × AreTold files (E.contents err.old) unsaid × MatchResult unwound.ended
-        (λ refusal. IsWhole recording refusal × IsMadeOf recording files options.frames options.sure options.explain options.limit unwound.folded (W.contents out.old) (W.contents out.new) unsaid (E.contents err.new))
-        (λ error. MayEndAt recording files error × IsMadeUntil error recording files options.frames options.sure options.explain options.limit unwound.folded (W.contents out.old) (W.contents out.new) unsaid (E.contents err.new))))) }
+        (λ refusal. IsWhole recording refusal × IsMadeOf recording files options.entry unwound.folded (W.contents out.old) (W.contents out.new) unsaid (E.contents err.new))
+        (λ error. MayEndAt recording files error × IsMadeUntil error recording files options.entry unwound.folded (W.contents out.old) (W.contents out.new) unsaid (E.contents err.new)))))) }
     ensures refused { IfErr result (MayEnd true (result_err (events_in file.now)) 0 0) }
     ensures unwritten { OnErr result (out.new ≡ out.old) }
 {
-    let recording = read_recording(alloc, file)?;
+    let recording = choose(alloc, read_recording(alloc, file)?, choice)?;
     let files = read_files(alloc, &recording, source)?;
     write_problems(alloc, err, &files)?;
     unwind_recording(alloc, &recording, &files, options, out, err)
@@ -89,13 +93,13 @@ fn unwind_recording<W: Write, E: Write>(
     alloc: Global,
     recording: &Recording<'_>,
     files: &Files,
-    options: Options,
+    options: Options<'_>,
     out: &mut W,
     err: &mut E,
 ) -> Result<Unwound, StacksError>
     ensures made { IfOk result (λ unwound. MatchResult unwound.ended
-        (λ refusal. IsWhole recording.now refusal × IsMadeOf recording.now files.now options.frames options.sure options.explain options.limit unwound.folded (W.contents out.old) (W.contents out.new) (E.contents err.old) (E.contents err.new))
-        (λ error. MayEndAt recording.now files.now error × IsMadeUntil error recording.now files.now options.frames options.sure options.explain options.limit unwound.folded (W.contents out.old) (W.contents out.new) (E.contents err.old) (E.contents err.new))) }
+        (λ refusal. IsWhole recording.now refusal × IsMadeOf recording.now files.now options.entry unwound.folded (W.contents out.old) (W.contents out.new) (E.contents err.old) (E.contents err.new))
+        (λ error. MayEndAt recording.now files.now error × IsMadeUntil error recording.now files.now options.entry unwound.folded (W.contents out.old) (W.contents out.new) (E.contents err.old) (E.contents err.new))) }
     ensures refused { IfErr result (λ error. error ≡ OutOfMemory) }
     ensures unwritten { OnErr result (out.new ≡ out.old) }
 {
@@ -119,7 +123,7 @@ fn unwind_all<U: Sampled, M: ModuleMaker<U>, W: Write, E: Write>(
     recording: &Recording<'_>,
     files: &Files,
     maker: &M,
-    options: Options,
+    options: Options<'_>,
     out: &mut W,
     err: &mut E,
 ) -> Result<Unwound, StacksError>
@@ -127,15 +131,15 @@ where
     U::Cache: Drop,
     U::Module: Drop,
     ensures made { IfOk result (λ unwound. IfOk unwound.ended (λ refusal. IsWhole recording.now refusal × ((samples : List Told)
-        × Each (IsToldOf (M.module_of maker.now) U.walker U.is_note U.starts options.frames options.sure options.explain options.limit files.now (map attribute_view recording.now.events.attributes.items))
+        × Each (IsToldOf (M.module_of maker.now) U.walker U.is_note U.starts options.entry files.now (map attribute_view recording.now.events.attributes.items))
         (samples_from files.now beginning (records_in recording.now.records.items)) samples
-        × IsMade options.frames samples unwound.folded (W.contents out.old) (W.contents out.new)
+        × IsMade options.entry.frames samples unwound.folded (W.contents out.old) (W.contents out.new)
         × IsSaid samples (records_in recording.now.records.items) (E.contents err.old) (E.contents err.new)))) }
     ensures ended { IfOk result (λ unwound. IfErr unwound.ended (MayEndAt recording.now files.now)) }
     ensures before { IfOk result (λ unwound. (refusal : RecordingError) → unwound.ended ≡ Err (Refused refusal) → (samples : List Told)
-        × Each (IsToldOf (M.module_of maker.now) U.walker U.is_note U.starts options.frames options.sure options.explain options.limit files.now (map attribute_view recording.now.events.attributes.items))
+        × Each (IsToldOf (M.module_of maker.now) U.walker U.is_note U.starts options.entry files.now (map attribute_view recording.now.events.attributes.items))
         (samples_from files.now beginning (before_refusal (records_in recording.now.records.items))) samples
-        × IsMade options.frames samples unwound.folded (W.contents out.old) (W.contents out.new)
+        × IsMade options.entry.frames samples unwound.folded (W.contents out.old) (W.contents out.new)
         × IsSaid samples (before_refusal (records_in recording.now.records.items)) (E.contents err.old) (E.contents err.new)) }
     ensures refused { IfErr result (λ error. error ≡ OutOfMemory) }
     ensures unwritten { OnErr result (out.new ≡ out.old) }
@@ -160,6 +164,17 @@ fn write_counts<E: Write>(err: &mut E, counts: &Counts) -> Result<(), StacksErro
     ensures ordered { OnOk result (IsInOrderOfBytes counts.now.ends) }
     ensures refused { IfErr result (λ error. error ≡ CannotWrite) }
 {
+    write_ends(err, counts)?;
+    write_cut(err, counts.cut)?;
+    Ok(())
+}
+
+/// Writes how many samples there are, and how their stacks ended.
+fn write_ends<E: Write>(err: &mut E, counts: &Counts) -> Result<(), StacksError>
+    ensures written { OnOk result (Appends (E.contents err.old) (E.contents err.new) (counts_text counts.now)) }
+    ensures ordered { OnOk result (IsInOrderOfBytes counts.now.ends) }
+    ensures refused { IfErr result (λ error. error ≡ CannotWrite) }
+{
     let samples = counts.samples;
     let unsure = counts.unsure;
     let lost = counts.lost;
@@ -170,5 +185,19 @@ fn write_counts<E: Write>(err: &mut E, counts: &Counts) -> Result<(), StacksErro
     )?;
     writeln!(err, "how the stacks ended:")?;
     counts.ends.write(err)?;
+    Ok(())
+}
+
+/// Writes how many stacks are cut where their copies end, if some are.
+fn write_cut<E: Write>(err: &mut E, cut: u64) -> Result<(), StacksError>
+    ensures written { OnOk result (Appends (E.contents err.old) (E.contents err.new) (cut_text cut)) }
+    ensures refused { IfErr result (λ error. error ≡ CannotWrite) }
+{
+    if cut > 0 {
+        writeln!(
+            err,
+            "{cut} samples end where the copy of their stack does: perf record --call-graph dwarf,65528 copies more"
+        )?;
+    }
     Ok(())
 }

@@ -2,7 +2,7 @@
 //!
 //! The files that a recording maps are read before, so what makes modules stays as it is while processes change.
 //! All processes share one cache, since generations tell their lists of modules apart.
-ghost use Rattle.std.specs.Prelude.{ℕ, ◌≡◌, ◌≢◌, ◌≤◌, ◌+◌, ◌-◌, ◌^◌, min, ◌&&◌, [], Some, None, IfOk, IfErr, OnOk, OnErr, Ok, Err, IsSome, Bool, false, List, map, count_by};
+ghost use Rattle.std.specs.Prelude.{ℕ, ◌≡◌, ◌++◌, true, ◌≢◌, ◌≤◌, ◌+◌, ◌-◌, ◌^◌, min, ◌&&◌, [], Some, None, IfOk, IfErr, OnOk, OnErr, Ok, Err, IsSome, Bool, false, List, map, count_by};
 ghost use Rattle.std.specs.BTreeMap.{get};
 ghost use Rattle.std.specs.Ordering.{nat_cmp};
 ghost use Rattle.std.specs.Result.{result_err, result_unwrap_or};
@@ -13,9 +13,11 @@ ghost use Rattle.framehop_processes.specs.declared.mapping.Mapping.{Mapping};
 ghost use Rattle.framehop_recording.specs.Attributes.{attribute_view};
 ghost use Rattle.framehop_recording.specs.Numbers.{PERF_RECORD_SAMPLE};
 ghost use Rattle.framehop_recording.specs.Records.{record_view};
-ghost use Rattle.framehop_recording.specs.Sample.{user_view, sample_view};
+ghost use Rattle.framehop_recording.specs.Sample.{user_view, sample_view, read_chain_view};
 ghost use Rattle.framehop_recording.specs.Tasks.{lost_at};
 ghost use Rattle.framehop_recording.specs.declared.error.RecordingError.{RecordingError};
+ghost use Rattle.framehop_backtrace.specs.declared.frame.BacktraceEnd.TheVariants.{Root};
+ghost use Rattle.framehop_perf_stacks.specs.Chain.{frames_of_chain};
 ghost use Rattle.framehop_perf_stacks.specs.Changes.{change_in};
 ghost use Rattle.framehop_perf_stacks.specs.Counts.{CountsOneMore, HasSameSamples};
 ghost use Rattle.framehop_perf_stacks.specs.Ended.{refusal_in, first_refusal, before_refusal, drawn_in, MayEnd};
@@ -23,22 +25,26 @@ ghost use Rattle.framehop_perf_stacks.specs.Names.{named_in};
 ghost use Rattle.framehop_perf_stacks.specs.Processes.{mapped_in, IsServed};
 ghost use Rattle.framehop_perf_stacks.specs.Recording.{sample_in, records_in};
 ghost use Rattle.framehop_perf_stacks.specs.Run.{AreCounted, CountsMore, is_sample, samples_in_kind, sample_refusal};
-ghost use Rattle.framehop_perf_stacks.specs.Samples.{State, beginning, state_in, state_after, state_over, drawn_over, Agrees, samples_from, head_text, copied_memory, NotedIf, IsUserStack, IsToldAt, IsToldOf, Told, stack_told, lost_after, lost_over, Each, IsTaken, AreTaken};
+ghost use Rattle.framehop_perf_stacks.specs.Samples.{State, beginning, state_in, state_after, state_over, drawn_over, Agrees, samples_from, SampleStack, of_walk, of_chain, unread_stack, IsStackOfChain, chain_text, thread_name, folded_name, head_text, tail_text, is_copy_full, is_unread_end, told_by, copied_memory, NotedIf, IsUserStack, IsToldAt, IsToldOf, Told, lost_after, lost_over, Each, IsTaken, AreTaken};
 ghost use Rattle.framehop_frames.specs.Line.{end_name};
 ghost use Rattle.framehop_frames.specs.Notes.{option_noted, AreStackNotes};
-ghost use Rattle.framehop_frames.specs.Stack.{StackView, no_stack, stack_view, option_stack_view};
+ghost use Rattle.framehop_frames.specs.Stack.{no_stack, shown_frame, stack_text, stack_view, option_stack_view};
 ghost use Rattle.framehop_perf_stacks.specs.declared.error.StacksError.TheVariants.{OutOfMemory, Recording as RecordingRefused};
 ghost use Rattle.framehop_symbols.specs.declared.files.Files.{Files};
 
+use crate::chain::chain_stack;
 use crate::changes::change_of;
 use crate::counts::Counts;
 use crate::error::StacksError;
 use crate::explain::{sample_notes, write_block};
+use crate::kernel::{KernelNames, push_kernel_labels, push_kernel_lines};
 use crate::machine::Sampled;
 use crate::names::Names;
 use crate::processes::Processes;
 use crate::recording::{Recording, sample_of};
 use crate::stack::walk_sample;
+use framehop::Error;
+use framehop_backtrace::BacktraceEnd;
 use framehop_cfi::context::UnwindContext;
 use framehop_cfi::storage::StoreOnHeap;
 use framehop_explain::Note;
@@ -48,19 +54,20 @@ use framehop_frames::line::{
 use framehop_frames::machine::Start;
 use framehop_frames::stack::Stack;
 use framehop_processes::{Mapping, ModuleMaker};
+use framehop_recording::chain::user_part;
 use framehop_recording::error::RecordingError;
 use framehop_recording::events::Events;
 use framehop_recording::kind::{LOST, SAMPLE};
 use framehop_recording::records::Record;
-use framehop_recording::sample::{Sample, UserStack};
+use framehop_recording::sample::{CallChain, Sample, UserStack};
 use framehop_recording::tasks::read_lost;
 use framehop_symbols::files::Files;
 use std::alloc::{AllocError, Global};
 use std::io::Write;
 
 /// What is asked for.
-#[derive(Clone, Copy, Debug)]
-pub struct Options {
+#[derive(Clone, Copy, Drop)]
+pub struct Options<'a> {
     /// A block for each sample, in the place of folded stacks.
     pub frames: bool,
     /// Notes under the lines of the blocks: where each frame's caller came from, and why walks ended.
@@ -69,6 +76,10 @@ pub struct Options {
     pub sure: bool,
     /// The most frames of a stack.
     pub limit: u32,
+    /// Folded stacks of each thread apart: the thread's name is followed by `-PID/TID`.
+    pub by_thread: bool,
+    /// The frames of the kernel, where nothing is explained, with these names of functions.
+    pub kernel: Option<&'a KernelNames>,
 }
 
 /// The state of a run: what is known after the records so far.
@@ -119,19 +130,19 @@ where
         sample: Sample<'_>,
         walked: &Option<Stack<U::UnwindRegs>>,
         notes: &[Note],
-        options: Options,
+        options: Options<'_>,
         out: &mut W,
     ) -> Result<(), StacksError>
         requires { IsSome (get nat_cmp self.old.processes.by_pid sample.pid) }
-        ensures counted { OnOk result (CountsMore options.frames 1 self.old.counts self.new.counts) }
+        ensures counted { OnOk result (CountsMore options.entry.frames 1 self.old.counts self.new.counts) }
         ensures processes { self.new.processes ≡ self.old.processes }
         ensures names { self.new.names ≡ self.old.names }
         ensures cache { self.new.cache ≡ self.old.cache }
-        ensures taken { OnOk result (IsTaken options.frames
-            (stack_told options.frames options.sure options.explain files.now (named_in self.old.names sample.entry.tid) (head_text (named_in self.old.names sample.entry.tid) (Some sample.entry)) (mapped_in self.old.processes.by_pid sample.entry.pid) (option_stack_view walked.now) notes.now)
+        ensures taken { OnOk result (IsTaken options.entry.frames
+            (told_by options.entry files.now (named_in self.old.names sample.entry.tid) (Some sample.entry) (mapped_in self.old.processes.by_pid sample.entry.pid) (of_walk (option_stack_view walked.now)) notes.now)
             self.old.counts self.new.counts (W.contents out.old) (W.contents out.new)) }
-        ensures refused { (samples : ℕ) → AreCounted options.frames samples self.old.counts
-            → IfErr result (MayEnd options.frames None 0 (samples + 1)) }
+        ensures refused { (samples : ℕ) → AreCounted options.entry.frames samples self.old.counts
+            → IfErr result (MayEnd options.entry.frames None 0 (samples + 1)) }
     {
         let name = self.names.get(sample.tid);
         match walked {
@@ -172,23 +183,23 @@ where
         sample: Sample<'_>,
         mask: u64,
         user: UserStack<'_>,
-        options: Options,
+        options: Options<'_>,
         out: &mut W,
     ) -> Result<(), StacksError>
         requires { IsSome (get nat_cmp self.old.processes.by_pid sample.pid) }
         ensures served { OnOk result ((module_of : Mapping → ModuleView)
             → IsServed module_of (λ view. U.is_sound view self.old.cache) self.old.processes.by_pid self.old.processes.generations
             → IsServed module_of (λ view. U.is_sound view self.new.cache) self.new.processes.by_pid self.new.processes.generations) }
-        ensures counted { OnOk result (CountsMore options.frames 1 self.old.counts self.new.counts) }
+        ensures counted { OnOk result (CountsMore options.entry.frames 1 self.old.counts self.new.counts) }
         ensures processes { self.new.processes ≡ self.old.processes }
         ensures names { self.new.names ≡ self.old.names }
         ensures told { OnOk result ((module_of : Mapping → ModuleView)
             → IsServed module_of (λ view. U.is_sound view self.old.cache) self.old.processes.by_pid self.old.processes.generations
-            → (stack : StackView) × ((notes : List (List ℕ)) × IsUserStack U.walker U.is_note U.starts (options.frames && options.explain) options.limit files.now (mapped_in self.old.processes.by_pid sample.entry.pid) (map module_of (mapped_in self.old.processes.by_pid sample.entry.pid)) mask (Ok (user_view user.entry)) stack notes
-            × IsTaken options.frames (stack_told options.frames options.sure options.explain files.now (named_in self.old.names sample.entry.tid) (head_text (named_in self.old.names sample.entry.tid) (Some sample.entry)) (mapped_in self.old.processes.by_pid sample.entry.pid) stack notes)
+            → (stack : SampleStack) × ((notes : List (List ℕ)) × IsUserStack U.walker U.is_note U.starts (options.entry.frames && options.entry.explain) options.entry.limit files.now (mapped_in self.old.processes.by_pid sample.entry.pid) (map module_of (mapped_in self.old.processes.by_pid sample.entry.pid)) mask (read_chain_view sample.entry.chain) (Ok (user_view user.entry)) stack notes
+            × IsTaken options.entry.frames (told_by options.entry files.now (named_in self.old.names sample.entry.tid) (Some sample.entry) (mapped_in self.old.processes.by_pid sample.entry.pid) stack notes)
             self.old.counts self.new.counts (W.contents out.old) (W.contents out.new))) }
-        ensures refused { (samples : ℕ) → AreCounted options.frames samples self.old.counts
-            → IfErr result (MayEnd options.frames None 0 (samples + 1)) }
+        ensures refused { (samples : ℕ) → AreCounted options.entry.frames samples self.old.counts
+            → IfErr result (MayEnd options.entry.frames None 0 (samples + 1)) }
     {
         let process = self.processes.known(sample.pid);
         let start = U::start(process.greatest_end(), mask, user.registers);
@@ -222,6 +233,57 @@ where
         Ok(())
     }
 
+    /// Counts or writes the call chain of a sample whose stack can't be read, or why it can't be.
+    fn take_unread<W: Write>(
+        &mut self,
+        alloc: Global,
+        files: &Files,
+        sample: Sample<'_>,
+        refusal: RecordingError,
+        options: Options<'_>,
+        out: &mut W,
+    ) -> Result<(), StacksError>
+        ensures counted { OnOk result (CountsMore options.entry.frames 1 self.old.counts self.new.counts) }
+        ensures processes { self.new.processes ≡ self.old.processes }
+        ensures names { self.new.names ≡ self.old.names }
+        ensures cache { self.new.cache ≡ self.old.cache }
+        ensures taken { OnOk result (IsTaken options.entry.frames
+            (told_by options.entry files.now (named_in self.old.names sample.entry.tid) (Some sample.entry) (mapped_in self.old.processes.by_pid sample.entry.pid)
+            (unread_stack refusal (frames_of_chain refusal (read_chain_view sample.entry.chain))) [])
+            self.old.counts self.new.counts (W.contents out.old) (W.contents out.new)) }
+        ensures refused { (samples : ℕ) → AreCounted options.entry.frames samples self.old.counts
+            → IfErr result (MayEnd options.entry.frames None 0 (samples + 1)) }
+    {
+        let name = self.names.get(sample.tid);
+        match stack_of_chain(alloc, refusal, sample.chain)? {
+            Some(stack) => {
+                let mappings = self.processes.mappings(sample.pid);
+                take_chain(
+                    alloc,
+                    &mut self.counts,
+                    files,
+                    mappings,
+                    name,
+                    sample,
+                    &stack,
+                    options,
+                    out,
+                )?;
+            }
+            None => take_refused(
+                alloc,
+                &mut self.counts,
+                name,
+                Some(sample),
+                refusal_name(refusal),
+                &[],
+                options,
+                out,
+            )?,
+        }
+        Ok(())
+    }
+
     /// Unwinds a sample, or counts why that can't be done.
     fn take_sample<W: Write>(
         &mut self,
@@ -229,36 +291,27 @@ where
         files: &Files,
         sample: Sample<'_>,
         mask: u64,
-        options: Options,
+        options: Options<'_>,
         out: &mut W,
     ) -> Result<(), StacksError>
         ensures served { OnOk result ((module_of : Mapping → ModuleView)
             → IsServed module_of (λ view. U.is_sound view self.old.cache) self.old.processes.by_pid self.old.processes.generations
             → IsServed module_of (λ view. U.is_sound view self.new.cache) self.new.processes.by_pid self.new.processes.generations) }
-        ensures counted { OnOk result (CountsMore options.frames 1 self.old.counts self.new.counts) }
+        ensures counted { OnOk result (CountsMore options.entry.frames 1 self.old.counts self.new.counts) }
         ensures names { self.new.names ≡ self.old.names }
         ensures mapped { OnOk result ((pid : ℕ) → mapped_in self.new.processes.by_pid pid ≡ mapped_in self.old.processes.by_pid pid) }
         ensures told { OnOk result ((module_of : Mapping → ModuleView)
             → IsServed module_of (λ view. U.is_sound view self.old.cache) self.old.processes.by_pid self.old.processes.generations
-            → (told : Told) × IsToldAt module_of U.walker U.is_note U.starts options.frames options.sure options.explain options.limit files.now (state_in self.old.names self.old.processes.by_pid) (Ok (sample_view sample.entry, mask)) told
-            × IsTaken options.frames told self.old.counts self.new.counts (W.contents out.old) (W.contents out.new)) }
+            → (told : Told) × IsToldAt module_of U.walker U.is_note U.starts options.entry files.now (state_in self.old.names self.old.processes.by_pid) (Ok (sample_view sample.entry, mask)) told
+            × IsTaken options.entry.frames told self.old.counts self.new.counts (W.contents out.old) (W.contents out.new)) }
         ensures drawn { self.new.processes.generations ≤ self.old.processes.generations + 1 }
-        ensures refused { (samples : ℕ) → AreCounted options.frames samples self.old.counts
-            → IfErr result (MayEnd options.frames None (self.old.processes.generations + 1) (samples + 1)) }
+        ensures refused { (samples : ℕ) → AreCounted options.entry.frames samples self.old.counts
+            → IfErr result (MayEnd options.entry.frames None (self.old.processes.generations + 1) (samples + 1)) }
     {
         let user = match sample.user {
             Ok(user) => user,
             Err(error) => {
-                take_refused(
-                    alloc,
-                    &mut self.counts,
-                    self.names.get(sample.tid),
-                    Some(sample),
-                    refusal_name(error),
-                    &[],
-                    options,
-                    out,
-                )?;
+                self.take_unread(alloc, files, sample, error, options, out)?;
                 return Ok(());
             }
         };
@@ -274,22 +327,22 @@ where
         events: &Events<'_>,
         files: &Files,
         record: Record<'_>,
-        options: Options,
+        options: Options<'_>,
         out: &mut W,
     ) -> Result<(), StacksError>
         ensures served { OnOk result ((module_of : Mapping → ModuleView)
             → IsServed module_of (λ view. U.is_sound view self.old.cache) self.old.processes.by_pid self.old.processes.generations
             → IsServed module_of (λ view. U.is_sound view self.new.cache) self.new.processes.by_pid self.new.processes.generations) }
-        ensures counted { OnOk result (CountsMore options.frames 1 self.old.counts self.new.counts) }
+        ensures counted { OnOk result (CountsMore options.entry.frames 1 self.old.counts self.new.counts) }
         ensures names { self.new.names ≡ self.old.names }
         ensures mapped { OnOk result ((pid : ℕ) → mapped_in self.new.processes.by_pid pid ≡ mapped_in self.old.processes.by_pid pid) }
         ensures told { OnOk result ((module_of : Mapping → ModuleView)
             → IsServed module_of (λ view. U.is_sound view self.old.cache) self.old.processes.by_pid self.old.processes.generations
-            → (told : Told) × IsToldAt module_of U.walker U.is_note U.starts options.frames options.sure options.explain options.limit files.now (state_in self.old.names self.old.processes.by_pid) (sample_in (map attribute_view events.now.attributes.items) (record_view «record».entry)) told
-            × IsTaken options.frames told self.old.counts self.new.counts (W.contents out.old) (W.contents out.new)) }
+            → (told : Told) × IsToldAt module_of U.walker U.is_note U.starts options.entry files.now (state_in self.old.names self.old.processes.by_pid) (sample_in (map attribute_view events.now.attributes.items) (record_view «record».entry)) told
+            × IsTaken options.entry.frames told self.old.counts self.new.counts (W.contents out.old) (W.contents out.new)) }
         ensures drawn { self.new.processes.generations ≤ self.old.processes.generations + 1 }
-        ensures refused { (samples : ℕ) → AreCounted options.frames samples self.old.counts
-            → IfErr result (MayEnd options.frames None (self.old.processes.generations + 1) (samples + 1)) }
+        ensures refused { (samples : ℕ) → AreCounted options.entry.frames samples self.old.counts
+            → IfErr result (MayEnd options.entry.frames None (self.old.processes.generations + 1) (samples + 1)) }
     {
         match sample_of(events, record) {
             Ok((sample, mask)) => self.take_sample(alloc, files, sample, mask, options, out)?,
@@ -340,26 +393,26 @@ where
         files: &Files,
         maker: &M,
         record: Record<'_>,
-        options: Options,
+        options: Options<'_>,
         out: &mut W,
     ) -> Result<(), StacksError>
         requires served { IsServed (M.module_of maker.now) (λ view. U.is_sound view self.old.cache) self.old.processes.by_pid self.old.processes.generations }
         ensures served { OnOk result (IsServed (M.module_of maker.now) (λ view. U.is_sound view self.new.cache) self.new.processes.by_pid self.new.processes.generations) }
-        ensures counted { OnOk result (CountsMore options.frames (samples_in_kind «record».entry.kind) self.old.counts self.new.counts) }
+        ensures counted { OnOk result (CountsMore options.entry.frames (samples_in_kind «record».entry.kind) self.old.counts self.new.counts) }
         ensures state { OnOk result (Agrees self.new.names self.new.processes.by_pid
             (state_after files.now (record_view «record».entry) (state_in self.old.names self.old.processes.by_pid))) }
         ensures sample { «record».entry.kind ≡ PERF_RECORD_SAMPLE → OnOk result ((told : Told)
-            × IsToldOf (M.module_of maker.now) U.walker U.is_note U.starts options.frames options.sure options.explain options.limit files.now (map attribute_view events.now.attributes.items)
+            × IsToldOf (M.module_of maker.now) U.walker U.is_note U.starts options.entry files.now (map attribute_view events.now.attributes.items)
             (record_view «record».entry, state_in self.old.names self.old.processes.by_pid) told
-            × IsTaken options.frames told self.old.counts self.new.counts (W.contents out.old) (W.contents out.new)) }
+            × IsTaken options.entry.frames told self.old.counts self.new.counts (W.contents out.old) (W.contents out.new)) }
         ensures other { «record».entry.kind ≢ PERF_RECORD_SAMPLE → HasSameSamples self.old.counts self.new.counts × (out.new ≡ out.old) }
         ensures lost { OnOk result (self.new.counts.lost ≡ lost_after (record_view «record».entry) self.old.counts.lost) }
         ensures lost_before { (refusal : RecordingError) → refusal_in (record_view «record».entry) ≡ Some refusal → self.new.counts.lost ≡ self.old.counts.lost }
         ensures drawn { OnOk result (self.new.processes.generations ≤ self.old.processes.generations
             + drawn_in (change_in files.now (record_view «record».entry)) (mapped_in self.old.processes.by_pid)) }
         ensures read { OnOk result (refusal_in (record_view «record».entry) ≡ None) }
-        ensures refused { (samples : ℕ) → AreCounted options.frames samples self.old.counts
-            → IfErr result (MayEnd options.frames (refusal_in (record_view «record».entry))
+        ensures refused { (samples : ℕ) → AreCounted options.entry.frames samples self.old.counts
+            → IfErr result (MayEnd options.entry.frames (refusal_in (record_view «record».entry))
             (self.old.processes.generations + drawn_in (change_in files.now (record_view «record».entry)) (mapped_in self.old.processes.by_pid))
             (samples + samples_in_kind «record».entry.kind)) }
     {
@@ -385,21 +438,21 @@ where
         recording: &Recording<'_>,
         files: &Files,
         maker: &M,
-        options: Options,
+        options: Options<'_>,
         out: &mut W,
     ) -> Result<(), StacksError>
         requires served { IsServed (M.module_of maker.now) (λ view. U.is_sound view self.old.cache) self.old.processes.by_pid self.old.processes.generations }
         requires none { AreCounted options.frames 0 self.old.counts }
         ensures served { OnOk result (IsServed (M.module_of maker.now) (λ view. U.is_sound view self.new.cache) self.new.processes.by_pid self.new.processes.generations) }
-        ensures counted { OnOk result (AreCounted options.frames (count_by is_sample recording.now.records.items) self.new.counts) }
+        ensures counted { OnOk result (AreCounted options.entry.frames (count_by is_sample recording.now.records.items) self.new.counts) }
         ensures state { (state : State) → Agrees self.old.names self.old.processes.by_pid state → OnOk result
             (Agrees self.new.names self.new.processes.by_pid (state_over files.now (records_in recording.now.records.items) state)) }
         ensures told { (state : State) → Agrees self.old.names self.old.processes.by_pid state → OnOk result ((samples : List Told)
-            × Each (IsToldOf (M.module_of maker.now) U.walker U.is_note U.starts options.frames options.sure options.explain options.limit files.now (map attribute_view recording.now.events.attributes.items))
+            × Each (IsToldOf (M.module_of maker.now) U.walker U.is_note U.starts options.entry files.now (map attribute_view recording.now.events.attributes.items))
             (samples_from files.now state (records_in recording.now.records.items)) samples
-            × AreTaken options.frames samples self.old.counts self.new.counts (W.contents out.old) (W.contents out.new)) }
+            × AreTaken options.entry.frames samples self.old.counts self.new.counts (W.contents out.old) (W.contents out.new)) }
         ensures read { OnOk result (first_refusal (records_in recording.now.records.items) ≡ None) }
-        ensures refused { (state : State) → Agrees self.old.names self.old.processes.by_pid state → IfErr result (MayEnd options.frames
+        ensures refused { (state : State) → Agrees self.old.names self.old.processes.by_pid state → IfErr result (MayEnd options.entry.frames
             (first_refusal (records_in recording.now.records.items))
             (self.old.processes.generations + drawn_over files.now (records_in recording.now.records.items) state)
             (count_by is_sample recording.now.records.items)) }
@@ -408,9 +461,9 @@ where
             → self.new.counts.lost ≡ lost_over (before_refusal (records_in recording.now.records.items)) self.old.counts.lost }
         ensures before { (state : State) → Agrees self.old.names self.old.processes.by_pid state
             → (refusal : RecordingError) → result ≡ Err (RecordingRefused refusal) → (samples : List Told)
-            × Each (IsToldOf (M.module_of maker.now) U.walker U.is_note U.starts options.frames options.sure options.explain options.limit files.now (map attribute_view recording.now.events.attributes.items))
+            × Each (IsToldOf (M.module_of maker.now) U.walker U.is_note U.starts options.entry files.now (map attribute_view recording.now.events.attributes.items))
             (samples_from files.now state (before_refusal (records_in recording.now.records.items))) samples
-            × AreTaken options.frames samples self.old.counts self.new.counts (W.contents out.old) (W.contents out.new) }
+            × AreTaken options.entry.frames samples self.old.counts self.new.counts (W.contents out.old) (W.contents out.new) }
     {
         for timed in &recording.records {
             self.take_record(
@@ -437,23 +490,24 @@ fn take_stack<R: Copy, W: Write>(
     sample: Sample<'_>,
     stack: &Stack<R>,
     notes: &[Note],
-    options: Options,
+    options: Options<'_>,
     out: &mut W,
 ) -> Result<(), StacksError>
     requires { IsInOrder 0 mappings.now }
-    ensures counted { OnOk result (CountsMore options.frames 1 counts.old counts.new) }
-    ensures taken { OnOk result (IsTaken options.frames
-        (stack_told options.frames options.sure options.explain files.now name.now (head_text name.now (Some sample.entry)) mappings.now (stack_view stack.now) notes.now)
+    ensures counted { OnOk result (CountsMore options.entry.frames 1 counts.old counts.new) }
+    ensures taken { OnOk result (IsTaken options.entry.frames
+        (told_by options.entry files.now name.now (Some sample.entry) mappings.now (of_walk (stack_view stack.now)) notes.now)
         counts.old counts.new (W.contents out.old) (W.contents out.new)) }
-    ensures refused { (samples : ℕ) → AreCounted options.frames samples counts.old
-        → IfErr result (MayEnd options.frames None 0 (samples + 1)) }
+    ensures refused { (samples : ℕ) → AreCounted options.entry.frames samples counts.old
+        → IfErr result (MayEnd options.entry.frames None 0 (samples + 1)) }
     ensures ends { OnOk result (CountsOneMore counts.old.ends counts.new.ends (end_name stack.now.end)) }
 {
     let frames = stack.frames.as_slice();
     let is_sure = sure_part(frames).len() == frames.len();
-    counts.add_sample(alloc, end_name(stack.end).as_bytes(), is_sure)?;
+    let is_cut = is_copy_full(Some(sample)) && is_unread_end(stack.end);
+    counts.add_sample(alloc, end_name(stack.end).as_bytes(), is_sure, is_cut)?;
     if options.frames {
-        let head = head_of(alloc, name, Some(sample))?;
+        let head = head_of(alloc, name, Some(sample), options)?;
         let block = frames_block(alloc, files, mappings, stack)?;
         write_block(
             alloc,
@@ -464,10 +518,144 @@ fn take_stack<R: Copy, W: Write>(
             out,
         )?;
     } else {
-        let line = folded_line(alloc, files, mappings, name, stack, options.sure)?;
+        let line = walked_line(alloc, files, mappings, name, sample, stack, options)?;
         counts.add_stack(line)?;
     }
     Ok(())
+}
+
+/// Returns the stack of the call chain of a sample whose event has no copies of stacks, if it has one.
+fn stack_of_chain(
+    alloc: Global,
+    refusal: RecordingError,
+    chain: Result<CallChain<'_>, RecordingError>,
+) -> Result<Option<Stack<()>>, AllocError>
+    ensures { IfOk result (λ stack. IsStackOfChain (frames_of_chain refusal (read_chain_view chain.entry)) stack) }
+{
+    match (refusal, chain) {
+        (RecordingError::NoUserStack { .. }, Ok(chain)) => {
+            let part = user_part(alloc, chain)?;
+            let stack = chain_stack(alloc, part.as_slice())?;
+            Ok(unless_empty(stack))
+        }
+        _ => Ok(None),
+    }
+}
+
+/// Returns a stack that has a frame.
+fn unless_empty(stack: Stack<()>) -> Option<Stack<()>>
+    requires { stack.end ≡ Root }
+    ensures { IsStackOfChain (map shown_frame stack.frames.items) result }
+{
+    if stack.frames.is_empty() {
+        None
+    } else {
+        Some(stack)
+    }
+}
+
+/// Counts or writes the call chain of a sample, by the name of its thread and its process's mappings in order.
+fn take_chain<W: Write>(
+    alloc: Global,
+    counts: &mut Counts,
+    files: &Files,
+    mappings: &[Mapping],
+    name: &[u8],
+    sample: Sample<'_>,
+    stack: &Stack<()>,
+    options: Options<'_>,
+    out: &mut W,
+) -> Result<(), StacksError>
+    requires ordered { IsInOrder 0 mappings.now }
+    requires whole { stack.now.end ≡ Root }
+    ensures counted { OnOk result (CountsMore options.entry.frames 1 counts.old counts.new) }
+    ensures taken { OnOk result (IsTaken options.entry.frames
+        (told_by options.entry files.now name.now (Some sample.entry) mappings.now (of_chain (map shown_frame stack.now.frames.items)) [])
+        counts.old counts.new (W.contents out.old) (W.contents out.new)) }
+    ensures refused { (samples : ℕ) → AreCounted options.entry.frames samples counts.old
+        → IfErr result (MayEnd options.entry.frames None 0 (samples + 1)) }
+{
+    let frames = stack.frames.as_slice();
+    let is_sure = sure_part(frames).len() == frames.len();
+    counts.add_sample(alloc, b"callchain", is_sure, false)?;
+    if options.frames {
+        let head = head_of(alloc, name, Some(sample), options)?;
+        let block = chain_block(alloc, files, mappings, stack)?;
+        write_block(
+            alloc,
+            head.as_slice(),
+            block.as_slice(),
+            options.explain,
+            &[],
+            out,
+        )?;
+    } else {
+        let line = chain_line(alloc, files, mappings, name, sample, stack, options)?;
+        counts.add_stack(line)?;
+    }
+    Ok(())
+}
+
+/// Returns the folded stack of a sample, by the name of its thread and its process's mappings in order.
+fn walked_line<R: Copy>(
+    alloc: Global,
+    files: &Files,
+    mappings: &[Mapping],
+    name: &[u8],
+    sample: Sample<'_>,
+    stack: &Stack<R>,
+    options: Options<'_>,
+) -> Result<Vec<u8>, AllocError>
+    requires { IsInOrder 0 mappings.now }
+    ensures { IfOk result (λ line. line.items ≡ stack_text false options.entry.sure files.now (folded_name options.entry.by_thread name.now (Some sample.entry)) [] mappings.now (stack_view stack.now)
+        ++ tail_text options.entry (Some sample.entry)) }
+{
+    let name = folded_name(alloc, name, Some(sample), options)?;
+    let mut line = folded_line(alloc, files, mappings, name.as_slice(), stack, options.sure)?;
+    push_kernel_labels(alloc, &mut line, options, sample.chain)?;
+    Ok(line)
+}
+
+/// Returns the folded stack of a call chain, by the name of its thread and its process's mappings in order.
+fn chain_line(
+    alloc: Global,
+    files: &Files,
+    mappings: &[Mapping],
+    name: &[u8],
+    sample: Sample<'_>,
+    stack: &Stack<()>,
+    options: Options<'_>,
+) -> Result<Vec<u8>, AllocError>
+    requires ordered { IsInOrder 0 mappings.now }
+    requires whole { stack.now.end ≡ Root }
+    ensures { IfOk result (λ line. line.items ≡ chain_text false options.entry.sure files.now (folded_name options.entry.by_thread name.now (Some sample.entry)) [] mappings.now (map shown_frame stack.now.frames.items)
+        ++ tail_text options.entry (Some sample.entry)) }
+{
+    let name = folded_name(alloc, name, Some(sample), options)?;
+    let mut line = refused_line(alloc, name.as_slice(), "callchain")?;
+    let frames = folded_line(alloc, files, mappings, b"", stack, options.sure)?;
+    line.extend_from_slice(frames.as_slice())?;
+    push_kernel_labels(alloc, &mut line, options, sample.chain)?;
+    Ok(line)
+}
+
+/// Returns the lines of a call chain, by its process's mappings in order.
+fn chain_block(
+    alloc: Global,
+    files: &Files,
+    mappings: &[Mapping],
+    stack: &Stack<()>,
+) -> Result<Vec<u8>, AllocError>
+    requires ordered { IsInOrder 0 mappings.now }
+    requires whole { stack.now.end ≡ Root }
+    ensures { IfOk result (λ block. block.items ≡ chain_text true false files.now [] [] mappings.now (map shown_frame stack.now.frames.items)) }
+{
+    let mut block = frames_block(alloc, files, mappings, stack)?;
+    // the mark of a chain in the place of `[root]` and the blank line
+    block.truncate(block.len().saturating_sub(8));
+    let end = refused_block(alloc, "callchain")?;
+    block.extend_from_slice(end.as_slice())?;
+    Ok(block)
 }
 
 /// Counts or writes a sample that has no stack, or that can't be read.
@@ -478,20 +666,20 @@ fn take_refused<W: Write>(
     sample: Option<Sample<'_>>,
     why: &str,
     notes: &[Note],
-    options: Options,
+    options: Options<'_>,
     out: &mut W,
 ) -> Result<(), StacksError>
-    ensures counted { OnOk result (CountsMore options.frames 1 counts.old counts.new) }
-    ensures taken { OnOk result ((files : Files) (mappings : List Mapping) → IsTaken options.frames
-        (stack_told options.frames options.sure options.explain files name.now (head_text name.now sample.entry) mappings (no_stack why.now) notes.now)
+    ensures counted { OnOk result (CountsMore options.entry.frames 1 counts.old counts.new) }
+    ensures taken { OnOk result ((files : Files) (mappings : List Mapping) → IsTaken options.entry.frames
+        (told_by options.entry files name.now sample.entry mappings (of_walk (no_stack why.now)) notes.now)
         counts.old counts.new (W.contents out.old) (W.contents out.new)) }
-    ensures refused { (samples : ℕ) → AreCounted options.frames samples counts.old
-        → IfErr result (MayEnd options.frames None 0 (samples + 1)) }
+    ensures refused { (samples : ℕ) → AreCounted options.entry.frames samples counts.old
+        → IfErr result (MayEnd options.entry.frames None 0 (samples + 1)) }
     ensures ends { OnOk result (CountsOneMore counts.old.ends counts.new.ends why.now) }
 {
-    counts.add_sample(alloc, why.as_bytes(), true)?;
+    counts.add_sample(alloc, why.as_bytes(), true, false)?;
     if options.frames {
-        let head = head_of(alloc, name, sample)?;
+        let head = head_of(alloc, name, sample, options)?;
         let block = refused_block(alloc, why)?;
         write_block(
             alloc,
@@ -502,17 +690,110 @@ fn take_refused<W: Write>(
             out,
         )?;
     } else {
-        counts.add_stack(refused_line(alloc, name, why)?)?;
+        let name = folded_name(alloc, name, sample, options)?;
+        let mut line = refused_line(alloc, name.as_slice(), why)?;
+        push_tail(alloc, &mut line, options, sample)?;
+        counts.add_stack(line)?;
+    }
+    Ok(())
+}
+
+/// Appends what ends a folded stack: the frames of the kernel.
+fn push_tail(
+    alloc: Global,
+    line: &mut Vec<u8>,
+    options: Options<'_>,
+    sample: Option<Sample<'_>>,
+) -> Result<(), AllocError>
+    ensures { OnOk result (line.new.items ≡ line.old.items ++ tail_text options.entry sample.entry) }
+{
+    match sample {
+        Some(sample) => push_kernel_labels(alloc, line, options, sample.chain),
+        None => Ok(()),
+    }
+}
+
+/// Returns whether the copy of a sample's stack is full.
+fn is_copy_full(sample: Option<Sample<'_>>) -> bool
+    ensures { result ≡ is_copy_full sample.entry }
+{
+    match sample {
+        Some(sample) => match sample.user {
+            Ok(user) => user.is_full,
+            Err(_) => false,
+        },
+        None => false,
+    }
+}
+
+/// Returns whether the end of a walk tells that words of the stack were not known.
+fn is_unread_end(end: BacktraceEnd) -> bool
+    ensures { result ≡ is_unread_end end }
+{
+    match end {
+        BacktraceEnd::Refused(Error::CouldNotReadStack(_))
+        | BacktraceEnd::CfaUnknown
+        | BacktraceEnd::ReturnAddressUnknown
+        | BacktraceEnd::RegistersUnknown
+        | BacktraceEnd::SignalFrameUnread => true,
+        _ => false,
+    }
+}
+
+/// Returns the name of a sample's thread in a folded stack.
+fn folded_name(
+    alloc: Global,
+    name: &[u8],
+    sample: Option<Sample<'_>>,
+    options: Options<'_>,
+) -> Result<Vec<u8>, AllocError>
+    ensures { IfOk result (λ folded. folded.items ≡ folded_name options.entry.by_thread name.now sample.entry) }
+{
+    let mut folded = Vec::from_slice(alloc, name)?;
+    if let Some(sample) = sample {
+        push_thread(
+            alloc,
+            &mut folded,
+            sample.pid,
+            sample.tid,
+            options.by_thread,
+        )?;
+    }
+    Ok(folded)
+}
+
+/// Appends the process and the thread to its name, where threads are told apart.
+fn push_thread(
+    alloc: Global,
+    name: &mut Vec<u8>,
+    pid: u32,
+    tid: u32,
+    by_thread: bool,
+) -> Result<(), AllocError>
+    ensures { OnOk result (name.new.items ≡ thread_name by_thread name.old.items pid tid) }
+{
+    if by_thread {
+        let text = format!(in alloc; "-{pid}/{tid}")?;
+        name.extend_from_slice(text.as_bytes())?;
     }
     Ok(())
 }
 
 /// Returns the head of a sample's block, by the name of its thread, where the sample can be read.
-fn head_of(alloc: Global, name: &[u8], sample: Option<Sample<'_>>) -> Result<Vec<u8>, AllocError>
-    ensures { IfOk result (λ head. head.items ≡ head_text name.now sample.entry) }
+fn head_of(
+    alloc: Global,
+    name: &[u8],
+    sample: Option<Sample<'_>>,
+    options: Options<'_>,
+) -> Result<Vec<u8>, AllocError>
+    ensures { IfOk result (λ head. head.items ≡ head_text options.entry name.now sample.entry) }
 {
     match sample {
-        Some(sample) => block_head(alloc, name, sample.pid, sample.tid, sample.time),
+        Some(sample) => {
+            let mut head = block_head(alloc, name, sample.pid, sample.tid, sample.time)?;
+            push_kernel_lines(alloc, &mut head, options, sample.chain)?;
+            Ok(head)
+        }
         None => Ok(Vec::from_slice(alloc, b"[unknown]:\n")?),
     }
 }
@@ -524,9 +805,9 @@ fn notes_of<U: Sampled>(
     start: Option<Start<U::UnwindRegs>>,
     copied: &[u8],
     walked: &Option<Stack<U::UnwindRegs>>,
-    options: Options,
+    options: Options<'_>,
 ) -> Result<Vec<Note>, AllocError>
-    ensures { IfOk result (λ notes. NotedIf (options.frames && options.explain)
+    ensures { IfOk result (λ notes. NotedIf (options.entry.frames && options.entry.explain)
         (AreStackNotes (U.is_note (U.unwinder_view unwinder.now).modules (copied_memory copied.now start)) (option_noted walked.now)) notes.items) }
 {
     if options.frames && options.explain {

@@ -16,7 +16,7 @@ pub prepended-none : {B : Type 0} (others : Result (List B) RecordingError) → 
 prepended-none (Ok others) = refl
 prepended-none (Err error) = refl
 
-prepended-more : {B : Type 0} (before : List B) (one : B) (rest : Result (List B) RecordingError) → prepended before (rest >>= (λ others. Ok (one ∷ others))) ≡ prepended (before ++ one ∷ []) rest
+pub prepended-more : {B : Type 0} (before : List B) (one : B) (rest : Result (List B) RecordingError) → prepended before (rest >>= (λ others. Ok (one ∷ others))) ≡ prepended (before ++ one ∷ []) rest
 prepended-more before one (Ok others) = ap (λ list. Ok list) (append-one before one others)
 prepended-more before one (Err error) = refl
 

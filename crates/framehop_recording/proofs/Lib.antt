@@ -3,3 +3,4 @@ pub mod RunLemmas
 pub mod EachLemmas
 pub mod EventLemmas
 pub mod TimeLemmas
+pub mod EventNameLemmas

@@ -1,15 +1,15 @@
 -- The build ids of the files that were mapped: the section of HEADER_BUILD_ID of perf.data-file-format.txt, and in
 -- it `perf_record_header_build_id` of perf's event.h.
-use Rattle.std.specs.Prelude.{ℕ, ◌+◌, ◌-◌, ◌*◌, ◌^◌, ◌%◌, List, [], take, drop, bit_and, count_ones, Option, Some, None, Result, Ok, Err, if◌then◌else◌}
+use Rattle.std.specs.Prelude.{ℕ, ◌^◌, ◌%◌, List, [], take, drop, Option, Some, None, Result, Ok, Err, if◌then◌else◌}
 use Rattle.framehop_bytes.specs.Bytes.{◌>>=◌}
 use Rattle.framehop_recording.specs.Numbers.{HEADER_BUILD_ID, PERF_RECORD_MISC_BUILD_ID_SIZE}
 use Rattle.framehop_recording.specs.Fields.{BUILD_ID_PID, BUILD_ID_BUILD_ID, BUILD_ID_SIZE, BUILD_ID_FILENAME}
-use Rattle.framehop_recording.specs.Bytes.{u32_at, block_at, each_of, has_bit}
-use Rattle.framehop_recording.specs.Header.{section_at}
+use Rattle.framehop_recording.specs.Bytes.{u32_at, each_of, has_bit}
+use Rattle.framehop_recording.specs.Header.{feature_section}
 use Rattle.framehop_recording.specs.Records.{RecordView, run_of}
 use Rattle.framehop_bytes.specs.String.{before_nul}
 use Rattle.framehop_recording.specs.declared.error.RecordingError.{RecordingError}
-use Rattle.framehop_recording.specs.declared.error.RecordingError.TheVariants.{Eof, ShortRecord}
+use Rattle.framehop_recording.specs.declared.error.RecordingError.TheVariants.{ShortRecord}
 use Rattle.framehop_recording.specs.declared.header.Header.{Header}
 use Rattle.framehop_recording.specs.declared.header.Section.{Section}
 use Rattle.framehop_recording.specs.declared.build_ids.FileBuildId.{FileBuildId}
@@ -23,13 +23,9 @@ pub record FileBuildIdView : Type 0 where
 abbrev pub file_build_id_view : FileBuildId → FileBuildIdView
 file_build_id_view b = record { pid = b.pid; build_id = b.build_id.now; name = b.name.now }
 
--- Where the section of the build ids lies. After the records is where the section of each feature lies that the file
--- has, in the order of their numbers.
-unfoldable pub build_ids_section : List ℕ → Header → Result (Option Section) RecordingError
-build_ids_section file header = if has_bit header.features (2 ^ HEADER_BUILD_ID) then (do
-  records ← block_at file header.records.offset header.records.size (Eof header.records.offset)
-  section ← section_at file (records.1 + 16 * count_ones (bit_and header.features (2 ^ HEADER_BUILD_ID - 1)))
-  Ok (Some section.0)) else Ok None
+-- where the section of the build ids lies
+abbrev pub build_ids_section : List ℕ → Header → Result (Option Section) RecordingError
+build_ids_section file header = feature_section file header (2 ^ HEADER_BUILD_ID)
 
 -- A process, 20 bytes, how many of them are the build id, three reserved bytes, and the name. Where
 -- PERF_RECORD_MISC_BUILD_ID_SIZE does not say that the number is there, all 20 are.

@@ -1,9 +1,9 @@
 -- The header of a recording: `perf_header` and `perf_file_section` of perf.data-file-format.txt.
 -- (Linux, tools/perf/util/header.c, `perf_file_header__read`.)
-use Rattle.std.specs.Prelude.{ℕ, List, Result, Ok, Err, ◌==◌, if◌then◌else◌}
+use Rattle.std.specs.Prelude.{ℕ, ◌+◌, ◌-◌, ◌*◌, List, bit_and, count_ones, Option, Some, None, Result, Ok, Err, ◌==◌, if◌then◌else◌}
 use Rattle.framehop_bytes.specs.Bytes.{◌>>=◌}
 use Rattle.framehop_recording.specs.Fields.{HEADER_MAGIC, HEADER_SIZE, HEADER_ATTR_SIZE, HEADER_ATTRS, HEADER_DATA, HEADER_EVENT_TYPES, HEADER_ADDS_FEATURES}
-use Rattle.framehop_recording.specs.Bytes.{Reading, u64_at}
+use Rattle.framehop_recording.specs.Bytes.{Reading, u64_at, block_at, has_bit}
 use Rattle.framehop_recording.specs.declared.error.RecordingError.{RecordingError}
 use Rattle.framehop_recording.specs.declared.error.RecordingError.TheVariants.{Eof, NotARecording, BigEndian, Piped, BadHeaderSize, Unfinished}
 use Rattle.framehop_recording.specs.declared.header.Header.{Header}
@@ -47,3 +47,11 @@ header_at file = do
   magic ← number_at file HEADER_MAGIC
   if magic.0 == 0x32454c4946524550 then fields_at file
       else if magic.0 == 0x50455246494c4532 then Err (BigEndian 0) else Err (NotARecording 0)
+
+-- Where the section of a feature lies, by its bit. After the records is where the section of each feature lies that the
+-- file has, in the order of their numbers.
+unfoldable pub feature_section : List ℕ → Header → ℕ → Result (Option Section) RecordingError
+feature_section file header bit = if has_bit header.features bit then (do
+  records ← block_at file header.records.offset header.records.size (Eof header.records.offset)
+  section ← section_at file (records.1 + 16 * count_ones (bit_and header.features (bit - 1)))
+  Ok (Some section.0)) else Ok None

@@ -12,6 +12,8 @@ pub mod Events
 pub mod Order
 pub mod Mapping
 pub mod BuildIds
+pub mod EventNames
 pub mod Tasks
 pub mod Sample
+pub mod Chain
 pub mod Registers

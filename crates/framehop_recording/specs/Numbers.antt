@@ -185,6 +185,20 @@ PERF_REG_ARM64_PC = 32
 abbrev pub HEADER_BUILD_ID : ℕ
 HEADER_BUILD_ID = 2
 
+abbrev pub HEADER_EVENT_DESC : ℕ
+HEADER_EVENT_DESC = 12
+
 -- a time that says that there is none: `~0ULL` of tools/perf/util/ordered-events.c
 abbrev pub NO_TIME : ℕ
 NO_TIME = 0xffffffffffffffff
+
+-- `enum perf_callchain_context`, the marks in a call chain: what follows is of the kernel, or of the user's side. Numbers
+-- from PERF_CONTEXT_MAX on are marks, and no addresses.
+abbrev pub PERF_CONTEXT_KERNEL : ℕ
+PERF_CONTEXT_KERNEL = 0xffffffffffffff80
+
+abbrev pub PERF_CONTEXT_USER : ℕ
+PERF_CONTEXT_USER = 0xfffffffffffffe00
+
+abbrev pub PERF_CONTEXT_MAX : ℕ
+PERF_CONTEXT_MAX = 0xfffffffffffff001

@@ -5,9 +5,9 @@ ghost use Rattle.framehop_recording.specs.Bytes.{each_of};
 ghost use Rattle.framehop_recording.specs.Records.{record_view};
 ghost use Rattle.framehop_recording.specs.BuildIds.{build_ids_section, file_build_id_at, file_build_id_view, build_ids_at, build_ids_of};
 
-use crate::bytes::{read_block, read_u32};
+use crate::bytes::read_u32;
 use crate::error::RecordingError;
-use crate::header::{Header, Section, read_section};
+use crate::header::{Header, Section, feature_section};
 use crate::records::{Record, read_records};
 use framehop_bytes::bytes::{back, front};
 use framehop_bytes::string::before_nul;
@@ -15,9 +15,6 @@ use std::alloc::Global;
 
 /// HEADER_BUILD_ID among the features of the header.
 const BUILD_ID: u64 = 0x4;
-
-/// The features before it.
-const BEFORE_BUILD_ID: u64 = 0x3;
 
 /// PERF_RECORD_MISC_BUILD_ID_SIZE.
 const BUILD_ID_SIZE: u16 = 0x8000;
@@ -55,26 +52,8 @@ pub fn read_build_ids<'a>(
     ensures sought { result ≡ Err RecordingError.OutOfMemory → build_ids_section file.entry.now header.now ≡ Ok None → ⊥ }
     ensures placed { (error : RecordingError) → build_ids_section file.entry.now header.now ≡ Err error → result ≡ Err error }
 {
-    let section = build_ids_section(file, header)?;
+    let section = feature_section(file, header, BUILD_ID)?;
     read_build_ids_at(alloc, file, section)
-}
-
-/// Returns where the section of the build ids lies, if the file has one.
-#[tactic(auto, unfolding(crate::specs::BuildIds::build_ids_section))]
-fn build_ids_section(file: &[u8], header: &Header) -> Result<Option<Section>, RecordingError>
-    ensures { result ≡ build_ids_section file.now header.now }
-{
-    if header.features & BUILD_ID == 0 {
-        return Ok(None);
-    }
-    let records = header.records;
-    let short = RecordingError::Eof {
-        offset: records.offset,
-    };
-    let (_, end) = read_block(file, records.offset, records.size, short)?;
-    let before = (header.features & BEFORE_BUILD_ID).count_ones() as usize;
-    let (section, _) = read_section(file, end + 16 * before)?;
-    Ok(Some(section))
 }
 
 /// Reads the build ids of a section.

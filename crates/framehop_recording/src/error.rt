@@ -18,7 +18,7 @@ pub enum RecordingError {
     #[error("a big-endian recording: offset {offset}")]
     BigEndian { offset: u64 },
     /// The header is that of a pipe, to which `perf record` wrote.
-    #[error("the header of a pipe: offset {offset}")]
+    #[error("the header of a pipe: offset {offset}; perf inject -i FILE -o OTHER, or perf record -o FILE, makes a file that can be read")]
     Piped { offset: u64 },
     /// The header has another size than that of a file.
     #[error("a header of an unknown size: offset {offset}")]
@@ -44,7 +44,7 @@ pub enum RecordingError {
     #[error("a record of a wrong size at offset {offset}")]
     BadRecordSize { offset: u64 },
     /// The record at the offset has compressed records in it.
-    #[error("compressed records at offset {offset}")]
+    #[error("compressed records at offset {offset}; perf inject -i FILE -o OTHER, or perf record without -z, makes a file that can be read")]
     Compressed { offset: u64 },
     /// The record at the offset is of another kind than the one that is to be read.
     #[error("a record of another kind at offset {offset}")]
@@ -62,6 +62,9 @@ pub enum RecordingError {
     /// raw data or a branch stack.
     #[error("a sample with counter values, raw data or branches at offset {offset}")]
     UnsupportedField { offset: u64 },
+    /// The samples of the event have no call chain.
+    #[error("a sample without a call chain at offset {offset}")]
+    NoCallChain { offset: u64 },
     /// The sample was taken where there were no user registers, as in a kernel thread.
     #[error("a sample of no user process at offset {offset}")]
     NoUserRegisters { offset: u64 },

@@ -1,8 +1,8 @@
 //! The header of a recording.
-ghost use Rattle.std.specs.Prelude.{◌≡◌};
-ghost use Rattle.framehop_recording.specs.Header.{number_at, section_at, features_at, fields_at, header_at};
+ghost use Rattle.std.specs.Prelude.{◌≡◌, ◌<◌};
+ghost use Rattle.framehop_recording.specs.Header.{number_at, section_at, features_at, fields_at, header_at, feature_section};
 
-use crate::bytes::read_u64;
+use crate::bytes::{read_block, read_u64};
 use crate::error::RecordingError;
 
 /// "PERFILE2" as a little-endian number.
@@ -102,6 +102,29 @@ fn read_features(file: &[u8], size: u64) -> Result<u64, RecordingError>
         }
         _ => Err(RecordingError::BadHeaderSize { offset: 8 }),
     }
+}
+
+/// Returns where the section of a feature lies, by its bit, if the file has it.
+#[tactic(auto, unfolding(crate::specs::Header::feature_section))]
+pub(crate) fn feature_section(
+    file: &[u8],
+    header: &Header,
+    bit: u64,
+) -> Result<Option<Section>, RecordingError>
+    requires { 0 < bit }
+    ensures { result ≡ feature_section file.now header.now bit }
+{
+    if header.features & bit == 0 {
+        return Ok(None);
+    }
+    let records = header.records;
+    let short = RecordingError::Eof {
+        offset: records.offset,
+    };
+    let (_, end) = read_block(file, records.offset, records.size, short)?;
+    let before = (header.features & (bit - 1)).count_ones() as usize;
+    let (section, _) = read_section(file, end + 16 * before)?;
+    Ok(Some(section))
 }
 
 /// Reads where a section lies.

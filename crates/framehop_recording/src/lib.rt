@@ -5,7 +5,9 @@
 pub mod attributes;
 pub mod build_ids;
 mod bytes;
+pub mod chain;
 pub mod error;
+pub mod event_names;
 pub mod events;
 pub mod header;
 pub mod kind;

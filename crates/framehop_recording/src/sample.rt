@@ -3,7 +3,7 @@ ghost use Rattle.std.specs.Prelude.{◌≡◌, Ok, Err, IfOk, MatchResult, None,
 ghost use Rattle.framehop_recording.specs.Attributes.{attribute_view};
 ghost use Rattle.framehop_recording.specs.Records.{record_view};
 ghost use Rattle.framehop_recording.specs.Events.{known_time, time_field};
-ghost use Rattle.framehop_recording.specs.Sample.{optional_at, after_chain, user_at, user_side, user_view, sample_at, sample_view};
+ghost use Rattle.framehop_recording.specs.Sample.{optional_at, chain_at, after_chain, after_period, chain_side, user_at, user_side, user_view, sample_at, sample_view};
 
 use crate::attributes::Attribute;
 use crate::bytes::{read_block, read_u32, read_u64};
@@ -30,6 +30,15 @@ pub struct UserStack<'a> {
     pub registers: &'a [u8],
     /// As many bytes as the kernel could copy.
     pub stack: &'a [u8],
+    /// Whether these are as many as it was to copy: then the stack may go on.
+    pub is_full: bool,
+}
+
+/// The call chain of a sample as the kernel found it: addresses and marks (`perf_callchain_context`).
+#[derive(Clone, Copy, Drop)]
+pub struct CallChain<'a> {
+    /// Eight bytes for each, from the innermost on.
+    pub bytes: &'a [u8],
 }
 
 /// Where a thread was at a time.
@@ -43,12 +52,14 @@ pub struct Sample<'a> {
     pub tid: u32,
     /// In nanoseconds, if the event's samples have a time.
     pub time: Option<u64>,
+    /// Its call chain, or why it can't be read.
+    pub chain: Result<CallChain<'a>, RecordingError>,
     /// Its registers and its stack, or why they can't be read.
     pub user: Result<UserStack<'a>, RecordingError>,
 }
 
-/// Reads a sample of an event from its record. Where the registers or the stack can't be read, the sample
-/// says why, and still has its thread and its time.
+/// Reads a sample of an event from its record. Where the call chain, the registers or the stack can't be read, the
+/// sample says why, and still has its thread and its time.
 ///
 /// # Errors
 ///
@@ -59,6 +70,8 @@ pub struct Sample<'a> {
 ///
 /// - of the event: `NoUserStack` and `UnsupportedField`;
 /// - of the sample: `NoUserRegisters`, `Process32Bit`, `UnknownAbi` and `ShortRecord`.
+///
+/// Those of the field `chain` are `NoCallChain`, `UnsupportedField` and `ShortRecord`.
 ///
 /// Source: Linux, `include/uapi/linux/perf_event.h`, PERF_RECORD_SAMPLE.
 pub fn read_sample<'a>(
@@ -100,12 +113,14 @@ fn read_fields<'a>(
     let (tid, at) = read_u32(bytes, at, short)?;
     let (time, at) = read_optional(kind & TIME != 0, bytes, at, short)?;
     let time = optional_time(kind & TIME != 0, time);
+    let chain = read_chain_side(attribute, record, at);
     let user = read_user_side(attribute, record, at);
     Ok(Sample {
         ip,
         pid,
         tid,
         time,
+        chain,
         user,
     })
 }
@@ -137,14 +152,55 @@ fn read_user_side<'a>(
         return Err(RecordingError::UnsupportedField { offset });
     }
     let short = RecordingError::ShortRecord { offset };
+    let at = skip_to_counters(attribute, record, at)?;
+    let at = skip_chain(kind & CALLCHAIN != 0, record.body, at, short)?;
+    read_user(offset, attribute.sample_regs_user, record.body, at)
+}
+
+/// Reads the call chain of a sample, from the offset after its time on.
+#[tactic(auto, unfolding(crate::specs::Sample::chain_side))]
+fn read_chain_side<'a>(
+    attribute: &Attribute<'_>,
+    record: Record<'a>,
+    at: usize,
+) -> Result<CallChain<'a>, RecordingError>
+    ensures exact { MatchResult result
+        (λ chain. chain_side (attribute_view attribute.now) (record_view «record».entry) at ≡ Ok chain.bytes.now)
+        (λ error. chain_side (attribute_view attribute.now) (record_view «record».entry) at ≡ Err error) }
+{
+    let offset = record.offset;
+    let kind = attribute.sample_type;
+    if kind & CALLCHAIN == 0 {
+        return Err(RecordingError::NoCallChain { offset });
+    }
+    if kind & READ != 0 {
+        return Err(RecordingError::UnsupportedField { offset });
+    }
+    let at = skip_to_counters(attribute, record, at)?;
+    let (bytes, _) = read_chain(record.body, at, RecordingError::ShortRecord { offset })?;
+    Ok(CallChain { bytes })
+}
+
+/// Passes over the fields of eight bytes between the time of a sample and the values of its counters.
+#[tactic(auto, unfolding(crate::specs::Sample::after_period))]
+fn skip_to_counters(
+    attribute: &Attribute<'_>,
+    record: Record<'_>,
+    at: usize,
+) -> Result<usize, RecordingError>
+    ensures { result ≡ after_period (attribute_view attribute.now) (record_view «record».entry) at }
+{
+    let kind = attribute.sample_type;
+    let short = RecordingError::ShortRecord {
+        offset: record.offset,
+    };
     let bytes = record.body;
     let (_, at) = read_optional(kind & ADDR != 0, bytes, at, short)?;
     let (_, at) = read_optional(kind & ID != 0, bytes, at, short)?;
     let (_, at) = read_optional(kind & STREAM_ID != 0, bytes, at, short)?;
     let (_, at) = read_optional(kind & CPU != 0, bytes, at, short)?;
     let (_, at) = read_optional(kind & PERIOD != 0, bytes, at, short)?;
-    let at = skip_chain(kind & CALLCHAIN != 0, bytes, at, short)?;
-    read_user(offset, attribute.sample_regs_user, bytes, at)
+    Ok(at)
 }
 
 /// Passes over a count and so many numbers, where they are there.
@@ -160,12 +216,26 @@ fn skip_chain(
     if !present {
         return Ok(at);
     }
+    let (_, end) = read_chain(bytes, at, short)?;
+    Ok(end)
+}
+
+/// Reads a count and so many numbers of eight bytes.
+#[tactic(auto, unfolding(crate::specs::Sample::chain_at))]
+fn read_chain<'a>(
+    bytes: &'a [u8],
+    at: usize,
+    short: RecordingError,
+) -> Result<(&'a [u8], usize), RecordingError>
+    ensures exact { MatchResult result
+        (λ read. chain_at bytes.entry.now at short ≡ Ok (read.0.now, read.1))
+        (λ error. chain_at bytes.entry.now at short ≡ Err error) }
+{
     let (count, next) = read_u64(bytes, at, short)?;
     let Some(size) = count.checked_mul(8) else {
         return Err(short);
     };
-    let (_, end) = read_block(bytes, next as u64, size, short)?;
-    Ok(end)
+    read_block(bytes, next as u64, size, short)
 }
 
 /// Reads the registers and the stack at an offset of a record's bytes.
@@ -194,7 +264,11 @@ fn read_user<'a>(
     let (copied, at) = read_block(bytes, at as u64, size, short)?;
     let (filled, _) = read_optional(size != 0, bytes, at, short)?;
     let (stack, _) = read_block(copied, 0, filled, short)?;
-    Ok(UserStack { registers, stack })
+    Ok(UserStack {
+        registers,
+        stack,
+        is_full: size != 0 && filled == size,
+    })
 }
 
 /// Reads a number that is there or not.

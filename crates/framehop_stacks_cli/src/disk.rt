@@ -1,9 +1,12 @@
 //! The files of a disk: those that were mapped, and those of a folder.
+use crate::input::read_sized;
 use anyhow::Result;
 use framehop_symbols::files::{FileSource, is_vdso, is_windows_path};
+use framehop_symbols::object_file::build_id_of;
 use std::alloc::{AllocError, Global};
-use std::fs;
+use std::io::ErrorKind;
 use std::path::PathBuf;
+use std::{fs, io};
 
 /// The folders of files that the kernel makes up: to read one may block, end nowhere, or change something.
 const MADE_UP: [&str; 3] = ["/proc", "/sys", "/dev"];
@@ -11,30 +14,236 @@ const MADE_UP: [&str; 3] = ["/proc", "/sys", "/dev"];
 /// The size of the largest file that is read for its unwind data and names, in bytes: 4 GiB.
 const LARGEST_FILE: u64 = 0x1_0000_0000;
 
+/// The folder below which systems keep debug files.
+const DEBUG_DIR: &str = "/usr/lib/debug";
+
+/// The main program, where its file is named.
+#[derive(Drop)]
+pub struct Program<'a> {
+    pub path: &'a str,
+    pub bytes: Vec<u8>,
+}
+
 /// The files of a disk.
 #[derive(Drop)]
 pub struct Disk<'a> {
     pub rt: &'a HostRuntime,
-    /// The folder below which the recorded files are.
-    pub root: &'a str,
-    /// The folder below which debug files are.
-    pub debug_dir: &'a str,
+    /// The folders below which the recorded files are looked for, one after another.
+    pub roots: &'a [&'a str],
+    /// The folders below which debug files are looked for, before that of the system.
+    pub debug_dirs: &'a [&'a str],
     /// The folder in which perf keeps copies of files, if one is named.
     pub buildid_dir: Option<&'a str>,
     /// The home folder, if it is known: perf keeps them in its `.debug`.
     pub home: Option<PathBuf>,
     /// The file of the vdso, if one is named.
     pub vdso: Option<&'a str>,
+    pub program: Option<Program<'a>>,
+}
+
+impl FileSource for Disk<'_> {
+    // what a disk gives is not known
+    ghost source = { λ disk. record {
+      gives = λ name build_id given. Unit {0};
+      gives_copied = λ build_id given. Unit {0};
+      gives_debug = λ name build_id link given. Unit {0};
+    } };
+
+    fn read_file(&self, name: &[u8], build_id: &[u8]) -> Result<Option<Vec<u8>>, AllocError> {
+        if is_vdso(name) {
+            return match self.vdso {
+                Some(path) => read_regular(self.rt, path),
+                None => Ok(None),
+            };
+        }
+        if let Some(bytes) = self.read_program(name, build_id)? {
+            return Ok(Some(bytes));
+        }
+        match std::str::from_utf8(name) {
+            Ok(path) => self.read_below_roots(path, build_id),
+            Err(_) => Ok(None),
+        }
+    }
+
+    fn read_copied_file(&self, build_id: &[u8]) -> Result<Option<Vec<u8>>, AllocError> {
+        let alloc = self.rt.alloc();
+        let folder = match (self.buildid_dir, &self.home) {
+            (Some(folder), _) => build_id_path(alloc, folder, build_id)?,
+            (None, Some(home)) => {
+                let folder = format!(in alloc; "{}/.debug", home.as_str())?;
+                build_id_path(alloc, folder.as_str(), build_id)?
+            }
+            (None, None) => return Ok(None),
+        };
+        for name in ["elf", "vdso"] {
+            let path = format!(in alloc; "{}/{name}", folder.as_str())?;
+            if let Some(bytes) = read_regular(self.rt, path.as_str())? {
+                return Ok(Some(bytes));
+            }
+        }
+        Ok(None)
+    }
+
+    fn read_debug_file(
+        &self,
+        name: &[u8],
+        build_id: &[u8],
+        link: &[u8],
+    ) -> Result<Option<Vec<u8>>, AllocError> {
+        if let Some(bytes) = self.read_debug_file_of(build_id)? {
+            return Ok(Some(bytes));
+        }
+        match (std::str::from_utf8(name), std::str::from_utf8(link)) {
+            (Ok(path), Ok(link)) if is_file_name(link) => self.read_linked(path, build_id, link),
+            _ => Ok(None),
+        }
+    }
+}
+
+impl Disk<'_> {
+    /// Reads the main program in the place of the file of a name: of that with its build id or, where none is wanted, of
+    /// that with its name.
+    fn read_program(&self, name: &[u8], build_id: &[u8]) -> Result<Option<Vec<u8>>, AllocError> {
+        let alloc = self.rt.alloc();
+        let Some(program) = &self.program else {
+            return Ok(None);
+        };
+        let bytes = program.bytes.as_slice();
+        let is_the_program = if build_id.is_empty() {
+            file_name_of(name) == file_name_of(program.path.as_bytes())
+        } else {
+            build_id_of(alloc, bytes)? == build_id
+        };
+        if is_the_program {
+            Ok(Some(Vec::from_slice(alloc, bytes)?))
+        } else {
+            Ok(None)
+        }
+    }
+
+    /// Reads a file below the first root that has one with the wanted build id, or else below the first that has one.
+    fn read_below_roots(&self, path: &str, build_id: &[u8]) -> Result<Option<Vec<u8>>, AllocError> {
+        let mut first = None;
+        for root in self.roots {
+            if let Some(bytes) = self.read_below(root, path)? {
+                if is_wanted(self.rt.alloc(), bytes.as_slice(), build_id)? {
+                    return Ok(Some(bytes));
+                }
+                if first.is_none() {
+                    first = Some(bytes);
+                }
+            }
+        }
+        Ok(first)
+    }
+
+    /// Reads a file below a root: one of Windows by its path after the drive, or else by its name in the root.
+    fn read_below(&self, root: &str, path: &str) -> Result<Option<Vec<u8>>, AllocError> {
+        let alloc = self.rt.alloc();
+        if !is_windows_path(path.as_bytes()) {
+            let path = format!(in alloc; "{root}{path}")?;
+            return self.read_mapped(root, path.as_str());
+        }
+        let below = path_below_root(alloc, root, path)?;
+        if let Some(bytes) = self.read_mapped(root, below.as_str())? {
+            return Ok(Some(bytes));
+        }
+        let inside = path_in_root(alloc, root, path)?;
+        self.read_mapped(root, inside.as_str())
+    }
+
+    /// Reads a file that was mapped, by the path to which links and `..` lead: below the root, if one is named, and else in
+    /// none of the folders of files that the kernel makes up.
+    fn read_mapped(&self, root: &str, path: &str) -> Result<Option<Vec<u8>>, AllocError> {
+        let Some(real) = known(fs::canonicalize(self.rt, path))? else {
+            return Ok(None);
+        };
+        if self.is_allowed(root, real.as_str())? {
+            read_regular(self.rt, real.as_str())
+        } else {
+            Ok(None)
+        }
+    }
+
+    /// Returns whether the file of a path without links may be read.
+    fn is_allowed(&self, root: &str, path: &str) -> Result<bool, AllocError> {
+        if root.is_empty() || root == "/" {
+            return Ok(!MADE_UP.iter().any(|folder| is_below(path, folder)));
+        }
+        match known(fs::canonicalize(self.rt, root))? {
+            Some(root) => Ok(is_below(path, root.as_str())),
+            None => Ok(false),
+        }
+    }
+
+    /// Reads the debug file of a build id below the first folder that has it.
+    fn read_debug_file_of(&self, build_id: &[u8]) -> Result<Option<Vec<u8>>, AllocError> {
+        for folder in self.debug_dirs.iter().chain(&[DEBUG_DIR]) {
+            let mut path = build_id_path(self.rt.alloc(), folder, build_id)?;
+            path.push_str(".debug")?;
+            if let Some(bytes) = read_regular(self.rt, path.as_str())? {
+                return Ok(Some(bytes));
+            }
+        }
+        Ok(None)
+    }
+
+    /// Reads the debug file of a build id by its name, where GDB looks for it: beside the file that names it, in the folder
+    /// `.debug` there, and in the same folder below those of debug files.
+    fn read_linked(
+        &self,
+        path: &str,
+        build_id: &[u8],
+        link: &str,
+    ) -> Result<Option<Vec<u8>>, AllocError> {
+        let alloc = self.rt.alloc();
+        let folder = folder_of(path);
+        for root in self.roots {
+            for inside in ["", ".debug/"] {
+                let path = format!(in alloc; "{root}{folder}/{inside}{link}")?;
+                if let Some(bytes) = self.read_mapped(root, path.as_str())?
+                    && is_wanted(alloc, bytes.as_slice(), build_id)?
+                {
+                    return Ok(Some(bytes));
+                }
+            }
+        }
+        for root in self.debug_dirs.iter().chain(&[DEBUG_DIR]) {
+            let path = format!(in alloc; "{root}{folder}/{link}")?;
+            if let Some(bytes) = self.read_mapped(root, path.as_str())?
+                && is_wanted(alloc, bytes.as_slice(), build_id)?
+            {
+                return Ok(Some(bytes));
+            }
+        }
+        Ok(None)
+    }
+}
+
+/// Returns whether a file has the wanted build id, if one is wanted.
+fn is_wanted(alloc: Global, file: &[u8], build_id: &[u8]) -> Result<bool, AllocError> {
+    Ok(build_id.is_empty() || build_id_of(alloc, file)? == build_id)
 }
 
 /// Reads a regular file of at most 4 GiB: a recording may name a device or a pipe, whose bytes don't end. A file whose size
 /// is told as 0, as those that a kernel makes up when they are read, is not read.
-fn read_regular(rt: &HostRuntime, path: &str) -> Option<Vec<u8>> {
-    let metadata = fs::metadata(rt, path).ok()?;
-    if !metadata.is_file() || metadata.len() == 0 || metadata.len() > LARGEST_FILE {
-        return None;
+fn read_regular(rt: &HostRuntime, path: &str) -> Result<Option<Vec<u8>>, AllocError> {
+    match known(fs::metadata(rt, path))? {
+        Some(metadata)
+            if metadata.is_file() && metadata.len() != 0 && metadata.len() <= LARGEST_FILE => {
+            known(read_sized(rt, path, metadata.len()))
+        }
+        _ => Ok(None),
     }
-    fs::read(rt, path).ok()
+}
+
+/// Returns what a system gives of a file, or `None` where it refuses that. It fails where memory runs out.
+fn known<T: Drop>(given: io::Result<T>) -> Result<Option<T>, AllocError> {
+    match given {
+        Ok(given) => Ok(Some(given)),
+        Err(error) if error.kind() == ErrorKind::OutOfMemory => Err(AllocError),
+        Err(_) => Ok(None),
+    }
 }
 
 /// Returns whether a path is that of a folder, or lies below it.
@@ -42,6 +251,30 @@ fn is_below(path: &str, folder: &str) -> bool {
     match path.strip_prefix(folder) {
         Some(rest) => rest.is_empty() || rest.starts_with('/') || folder.ends_with('/'),
         None => false,
+    }
+}
+
+/// Returns whether a link names a file, and none in another folder.
+fn is_file_name(link: &str) -> bool {
+    !link.is_empty() && link != "." && link != ".." && !link.contains('/')
+}
+
+/// Returns the name of a file without its folders.
+fn file_name_of(path: &[u8]) -> &[u8] {
+    match path
+        .iter()
+        .rposition(|byte| *byte == b'/' || *byte == b'\\')
+    {
+        Some(at) => &path[at + 1..],
+        None => path,
+    }
+}
+
+/// Returns the folder of a path, without the `/` after it.
+fn folder_of(path: &str) -> &str {
+    match path.rsplit_once('/') {
+        Some((folder, _)) => folder,
+        None => "",
     }
 }
 
@@ -57,122 +290,63 @@ fn build_id_path(alloc: Global, folder: &str, build_id: &[u8]) -> Result<String,
     Ok(path)
 }
 
-impl Disk<'_> {
-    /// Reads a file that was mapped, by the path to which links and `..` lead: below the root, if one is named, and else in
-    /// none of the folders of files that the kernel makes up.
-    fn read_mapped(&self, path: &str) -> Option<Vec<u8>> {
-        let real = fs::canonicalize(self.rt, path).ok()?;
-        if self.is_allowed(real.as_str()) {
-            read_regular(self.rt, real.as_str())
-        } else {
-            None
-        }
+/// Returns where the file of a path of Windows is, by the path after its drive.
+fn path_below_root(alloc: Global, root: &str, name: &str) -> Result<String, AllocError> {
+    let mut path = String::from_str(alloc, root)?;
+    for part in name.split('\\').skip(1) {
+        path.push_str("/")?;
+        path.push_str(part)?;
     }
+    Ok(path)
+}
 
-    /// Returns whether the file of a path without links may be read.
-    fn is_allowed(&self, path: &str) -> bool {
-        if self.root.is_empty() {
-            return !MADE_UP.iter().any(|folder| is_below(path, folder));
-        }
-        match fs::canonicalize(self.rt, self.root) {
-            Ok(root) => is_below(path, root.as_str()),
-            Err(_) => false,
-        }
-    }
-
-    /// Returns where the file of a path of Windows is, by the path after its drive.
-    fn path_below_root(&self, name: &str) -> Result<String, AllocError> {
-        let mut path = String::from_str(self.rt.alloc(), self.root)?;
-        for part in name.split('\\').skip(1) {
-            path.push_str("/")?;
-            path.push_str(part)?;
-        }
-        Ok(path)
-    }
-
-    /// Returns where the file of a path of Windows is, by its name only.
-    fn path_in_root(&self, name: &str) -> Result<String, AllocError> {
-        let root = self.root;
-        match name.rsplit_once('\\') {
-            Some((_, file)) => format!(in self.rt.alloc(); "{root}/{file}"),
-            None => format!(in self.rt.alloc(); "{root}/{name}"),
-        }
-    }
-
-    /// Reads the file of a path of Windows: by the path after its drive below the root, or else by its name in the root.
-    fn read_windows_file(&self, name: &str) -> Option<Vec<u8>> {
-        let path = self.path_below_root(name).ok()?;
-        if let Some(bytes) = self.read_mapped(path.as_str()) {
-            return Some(bytes);
-        }
-        let path = self.path_in_root(name).ok()?;
-        self.read_mapped(path.as_str())
+/// Returns where the file of a path of Windows is, by its name only.
+fn path_in_root(alloc: Global, root: &str, name: &str) -> Result<String, AllocError> {
+    match name.rsplit_once('\\') {
+        Some((_, file)) => format!(in alloc; "{root}/{file}"),
+        None => format!(in alloc; "{root}/{name}"),
     }
 }
 
-impl FileSource for Disk<'_> {
-    // what a disk gives is not known
-    ghost source = { λ disk. record {
-      gives = λ name given. Unit {0};
-      gives_copied = λ build_id given. Unit {0};
-      gives_debug = λ build_id given. Unit {0};
-    } };
-
-    fn read_file(&self, name: &[u8]) -> Option<Vec<u8>> {
-        if is_vdso(name) {
-            return read_regular(self.rt, self.vdso?);
-        }
-        let is_windows = is_windows_path(name);
-        let name = std::str::from_utf8(name).ok()?;
-        if is_windows {
-            return self.read_windows_file(name);
-        }
-        let root = self.root;
-        let path = format!(in self.rt.alloc(); "{root}{name}").ok()?;
-        self.read_mapped(path.as_str())
-    }
-
-    fn read_copied_file(&self, build_id: &[u8]) -> Option<Vec<u8>> {
-        let alloc = self.rt.alloc();
-        let folder = match self.buildid_dir {
-            Some(folder) => build_id_path(alloc, folder, build_id).ok()?,
-            None => {
-                let home = self.home.as_ref()?;
-                let folder = format!(in alloc; "{}/.debug", home.as_str()).ok()?;
-                build_id_path(alloc, folder.as_str(), build_id).ok()?
-            }
-        };
-        for name in ["elf", "vdso"] {
-            let path = format!(in alloc; "{}/{name}", folder.as_str()).ok()?;
-            if let Some(bytes) = read_regular(self.rt, path.as_str()) {
-                return Some(bytes);
-            }
-        }
-        None
-    }
-
-    fn read_debug_file(&self, build_id: &[u8]) -> Option<Vec<u8>> {
-        let mut path = build_id_path(self.rt.alloc(), self.debug_dir, build_id).ok()?;
-        path.push_str(".debug").ok()?;
-        read_regular(self.rt, path.as_str())
-    }
+/// The files that a path stands for.
+#[derive(Drop)]
+pub struct Listed {
+    /// Their paths, in the order of their bytes.
+    pub paths: Vec<String>,
+    /// How many files of the folder are left out, since their names are no UTF-8.
+    pub left_out: u64,
 }
 
-/// Returns the files that a path stands for: itself or, if it is a folder, those in it whose names end in `.data`, in the
-/// order of their bytes.
-pub fn files_at(rt: &HostRuntime, path: &str) -> Result<Vec<String>> {
+/// Returns the files that a path stands for: itself or, if it is a folder, those in it whose names end in `.data`.
+pub fn files_at(rt: &HostRuntime, path: &str) -> Result<Listed> {
     let alloc = rt.alloc();
-    let mut files = Vec::new(alloc);
+    let mut paths = Vec::new(alloc);
+    let mut left_out: u64 = 0;
     if !fs::metadata(rt, path).is_ok_and(|metadata| metadata.is_dir()) {
-        files.push(String::from_str(alloc, path)?)?;
-        return Ok(files);
+        paths.push(String::from_str(alloc, path)?)?;
+        return Ok(Listed { paths, left_out });
     }
     for entry in fs::read_dir(rt, path)? {
-        let entry = entry?;
-        if entry.file_name().ends_with(".data") {
-            files.push(String::from_str(alloc, entry.path().as_str())?)?;
+        match entry {
+            Ok(entry) if entry.file_name().ends_with(".data") => {
+                paths.push(String::from_str(alloc, entry.path().as_str())?)?;
+            }
+            Ok(_) => {}
+            Err(error) if error.kind() == ErrorKind::InvalidFilename => {
+                left_out = left_out.saturating_add(1);
+            }
+            Err(error) => return Err(error.into()),
         }
     }
-    files.sort()?;
-    Ok(files)
+    paths.sort()?;
+    Ok(Listed { paths, left_out })
+}
+
+/// Returns whether a folder is a recording of `perf record --threads`: it has a file `data` beside those of the threads,
+/// `data.0` and so on.
+///
+/// Source: Linux, `tools/perf/util/data.c`, `perf_data__create_dir`.
+pub fn is_recording_by_threads(rt: &HostRuntime, path: &str) -> Result<bool> {
+    let data = format!(in rt.alloc(); "{path}/data")?;
+    Ok(fs::metadata(rt, data.as_str()).is_ok_and(|metadata| metadata.is_file()))
 }

@@ -2,7 +2,8 @@
 use crate::messages::Messages;
 use anyhow::Result;
 use framehop_folded::text::is_text;
-use std::io::{Read, Write};
+use std::fs::File;
+use std::io::{ErrorKind, Read, Write};
 use std::{fs, io};
 
 /// The size from which on a recording is told of before it is read, in bytes: 50 MB.
@@ -16,6 +17,8 @@ pub enum Kind {
     Minidump,
     /// Folded stacks as text.
     Folded,
+    /// A file that is compressed, by the program that undoes it.
+    Compressed(&'static str),
 }
 
 /// Returns what a file is, by its first bytes.
@@ -24,6 +27,12 @@ pub fn kind_of(bytes: &[u8]) -> Kind {
         Kind::Core
     } else if bytes.starts_with(b"MDMP") {
         Kind::Minidump
+    } else if bytes.starts_with(b"\x1f\x8b") {
+        Kind::Compressed("gzip -d")
+    } else if bytes.starts_with(b"\x28\xb5\x2f\xfd") {
+        Kind::Compressed("zstd -d")
+    } else if bytes.starts_with(b"\xfd7zXZ\0") {
+        Kind::Compressed("xz -d")
     } else if is_text(bytes) && !bytes.starts_with(b"PERFILE2") {
         Kind::Folded
     } else {
@@ -31,34 +40,47 @@ pub fn kind_of(bytes: &[u8]) -> Kind {
     }
 }
 
-/// Reads a regular file, or standard input for `-`. Where it can't be read, says why.
-pub fn read_input(rt: &HostRuntime, path: &str) -> Result<Option<Vec<u8>>> {
+/// Reads a regular file, or standard input for `-`. Where it can't be read, says why, and returns the status: 2 where memory
+/// runs out, else 1.
+pub fn read_input(rt: &HostRuntime, path: &str) -> Result<Result<Vec<u8>, u8>> {
     let bytes = if path == "-" {
         read_standard_input(rt)
     } else {
         match fs::metadata(rt, path) {
             Ok(metadata) if metadata.is_file() => {
                 announce(rt, path, metadata.len())?;
-                fs::read(rt, path)
+                read_sized(rt, path, metadata.len())
             }
             Ok(_) => {
                 writeln!(
                     Messages { rt },
                     "framehop-stacks: {path}: not a regular file; for standard input write -"
                 )?;
-                return Ok(None);
+                return Ok(Err(1));
             }
             Err(error) => Err(error),
         }
     };
     match bytes {
-        Ok(bytes) => Ok(Some(bytes)),
+        Ok(bytes) => Ok(Ok(bytes)),
         Err(error) => {
             let name = name_of(path);
             writeln!(Messages { rt }, "framehop-stacks: {name}: {error}")?;
-            Ok(None)
+            let status = if error.kind() == ErrorKind::OutOfMemory {
+                2
+            } else {
+                1
+            };
+            Ok(Err(status))
         }
     }
+}
+
+/// Reads a file of a size, into memory that is asked for once. What is added to it meanwhile is not read.
+pub fn read_sized(rt: &HostRuntime, path: &str, size: u64) -> io::Result<Vec<u8>> {
+    let mut bytes = Vec::from_elem(rt.alloc(), 0u8, size as usize)?;
+    File::open(rt, path)?.read_exact(bytes.as_mut_slice())?;
+    Ok(bytes)
 }
 
 /// Reads standard input to its end.

@@ -4,15 +4,20 @@
 
 mod arguments;
 mod disk;
+mod events;
 mod input;
 mod messages;
+mod speedscope;
 
 use anyhow::Result;
-use arguments::{command, drawing, options};
+use arguments::{Asked, command, drawing, options, samples_asked};
 use clap::ArgMatches;
-use disk::{Disk, files_at};
+use disk::{Disk, Program, files_at, is_recording_by_threads};
+use events::numbers_of_events;
+use framehop_dump_json::json::Json;
 use framehop_dump_stacks::error::DumpStacksError;
 use framehop_dump_stacks::program::{write_core_stacks, write_minidump_stacks};
+use framehop_dump_stacks::reporting::{report_core_stacks, report_minidump_stacks};
 use framehop_flame_graph::drawing::Drawing;
 use framehop_flame_graph::error::FlameGraphError;
 use framehop_flame_graph::svg::{change_graph, flame_graph};
@@ -20,15 +25,19 @@ use framehop_folded::changes::Changes;
 use framehop_folded::error::{FoldedError, TextError};
 use framehop_folded::folded::Folded;
 use framehop_folded::text::{line_number, read_folded};
+use framehop_perf_stacks::choice::Choice;
 use framehop_perf_stacks::error::StacksError;
+use framehop_perf_stacks::kallsyms::read_kallsyms;
+use framehop_perf_stacks::kernel::KernelNames;
 use framehop_perf_stacks::program::write_stacks;
 use framehop_perf_stacks::run::Options;
 use input::{Kind, kind_of, name_of, read_input};
 use messages::Messages;
+use speedscope::speedscope_file;
 use std::io::{BufWriter, Write};
 use std::path::PathBuf;
 use std::process::ExitCode;
-use std::{env, io};
+use std::{env, fs, io};
 
 /// What is printed of the folded stacks of recordings.
 #[derive(Clone, Copy)]
@@ -37,8 +46,12 @@ enum Form<'a> {
     Text,
     /// A flame graph.
     Graph(Drawing<'a>),
+    /// A file of speedscope, of this title.
+    Speedscope(&'a str),
     /// Their lines beside those of others.
     Changes,
+    /// JSON of core files and minidumps.
+    Json,
 }
 
 fn main(rt: HostRuntime) -> Result<ExitCode> {
@@ -53,32 +66,62 @@ fn run(rt: &HostRuntime) -> Result<u8> {
         Ok(matches) => matches,
         Err(error) => return usage(rt, &error),
     };
-    let Some(options) = options(&matches) else {
+    let Some(names) = kernel_names(rt, &matches)? else {
+        return Ok(1);
+    };
+    let Some(options) = options(&matches, &names) else {
         writeln!(Messages { rt }, "framehop-stacks: the limit is no number")?;
+        return Ok(2);
+    };
+    let Some(asked) = samples_asked(alloc, &matches)? else {
+        writeln!(
+            Messages { rt },
+            "framehop-stacks: a process or a thread is no number, or the times are not FROM,TO in seconds"
+        )?;
         return Ok(2);
     };
     if let Some(misuse) = misuse_of_options(&matches, options) {
         writeln!(Messages { rt }, "framehop-stacks: {misuse}")?;
         return Ok(2);
     }
+    let program = match matches.get_str("exec") {
+        Some(path) => match read_program(rt, path)? {
+            Ok(program) => Some(program),
+            Err(status) => return Ok(status),
+        },
+        None => None,
+    };
     let disk = Disk {
         rt,
-        root: matches.get_str("root").unwrap_or(""),
-        debug_dir: matches.get_str("debug-dir").unwrap_or("/usr/lib/debug"),
+        roots: matches.get_strs("root").unwrap_or(&[""]),
+        debug_dirs: matches.get_strs("debug-dir").unwrap_or(&[]),
         buildid_dir: matches.get_str("buildid-dir"),
         home: home(rt),
         vdso: matches.get_str("vdso"),
+        program,
     };
     let paths = matches.get_strs("file").unwrap_or(&[]);
     let form = if matches.get_flag("svg") {
         Form::Graph(drawing(&matches))
+    } else if matches.get_flag("speedscope") {
+        Form::Speedscope(matches.get_str("title").unwrap_or("Flame Graph"))
+    } else if matches.get_flag("json") {
+        Form::Json
     } else {
         Form::Text
     };
     if matches.get_flag("diff") {
-        return print_changes(rt, paths, &disk, options, form);
+        return print_changes(rt, paths, &disk, &asked, options, form);
     }
-    print_all(rt, paths, &disk, options, form)
+    print_all(rt, paths, &disk, &asked, options, form)
+}
+
+/// Reads the file of the main program, or says why it can't be read, and returns the status.
+fn read_program<'a>(rt: &HostRuntime, path: &'a str) -> Result<Result<Program<'a>, u8>> {
+    match read_input(rt, path)? {
+        Ok(bytes) => Ok(Ok(Program { path, bytes })),
+        Err(status) => Ok(Err(status)),
+    }
 }
 
 /// Prints the help, the version or the error of a command line.
@@ -88,20 +131,61 @@ fn usage(rt: &HostRuntime, error: &clap::Error) -> Result<u8> {
 }
 
 /// Returns which options do not go together, if some do not.
-fn misuse_of_options(matches: &ArgMatches<'_>, options: Options) -> Option<&'static str> {
+fn misuse_of_options(matches: &ArgMatches<'_>, options: Options<'_>) -> Option<&'static str> {
     if matches.get_flag("demangle") {
         Some(
             "names are demangled by c++filt: framehop-stacks FILE.. | c++filt, and for a picture | framehop-stacks --svg -",
         )
     } else if options.sure && options.frames {
         Some("only folded stacks are cut at frames that are not sure")
+    } else if options.kernel.is_some() && options.explain {
+        Some("frames of the kernel are not explained")
+    } else if options.by_thread && options.frames {
+        Some("each block tells its thread")
     } else if matches.get_flag("svg") && options.frames {
         Some("a flame graph has no blocks of frames")
+    } else if matches.get_flag("speedscope") && (options.frames || matches.get_flag("svg")) {
+        Some("speedscope reads folded stacks: no blocks of frames, and no picture")
+    } else if matches.get_flag("speedscope") && matches.get_flag("diff") {
+        Some("speedscope reads one profile, and not two beside one another")
+    } else if matches.get_str("title").is_some()
+        && !matches.get_flag("svg")
+        && !matches.get_flag("speedscope")
+    {
+        Some("a title is that of a flame graph or of a profile: --svg or --speedscope")
     } else if matches.get_flag("diff") && options.frames {
         Some("only folded stacks are compared, and no blocks of frames")
+    } else if matches.get_flag("json") && (matches.get_flag("svg") || matches.get_flag("diff")) {
+        Some("only folded stacks are drawn and compared, and no JSON")
+    } else if matches.get_flag("json") && options.frames {
+        Some("JSON has all frames, and no notes")
     } else {
         None
     }
+}
+
+/// Returns the names of the kernel's functions, where a file of them is given: none where it is not. Says why it can't be
+/// read, if so, and returns `None`.
+fn kernel_names(rt: &HostRuntime, matches: &ArgMatches<'_>) -> Result<Option<KernelNames>> {
+    let Some(path) = matches.get_str("kallsyms") else {
+        return Ok(Some(KernelNames::new(rt.alloc())));
+    };
+    let text = match fs::read(rt, path) {
+        Ok(text) => text,
+        Err(error) => {
+            writeln!(Messages { rt }, "framehop-stacks: {path}: {error}")?;
+            return Ok(None);
+        }
+    };
+    let names = read_kallsyms(rt.alloc(), text.as_slice())?;
+    if names.by_start.is_empty() {
+        writeln!(
+            Messages { rt },
+            "framehop-stacks: {path}: it has no function with an address; /proc/kallsyms tells them to root"
+        )?;
+        return Ok(None);
+    }
+    Ok(Some(names))
 }
 
 /// Returns the home folder, if it is known.
@@ -114,7 +198,8 @@ fn print_changes(
     rt: &HostRuntime,
     paths: &[&str],
     disk: &Disk<'_>,
-    options: Options,
+    asked: &Asked<'_>,
+    options: Options<'_>,
     form: Form<'_>,
 ) -> Result<u8> {
     let alloc = rt.alloc();
@@ -126,8 +211,8 @@ fn print_changes(
         return Ok(2);
     };
     let (mut old, mut new) = (Folded::new(alloc), Folded::new(alloc));
-    let old_status = print_path(rt, old_path, disk, options, Form::Changes, &mut old)?;
-    let new_status = print_path(rt, new_path, disk, options, Form::Changes, &mut new)?;
+    let old_status = print_path(rt, old_path, disk, asked, options, Form::Changes, &mut old)?;
+    let new_status = print_path(rt, new_path, disk, asked, options, Form::Changes, &mut new)?;
     let status = old_status.max(new_status);
     if status > 0 {
         return Ok(status);
@@ -135,7 +220,7 @@ fn print_changes(
     let changes = Changes::between(alloc, old, new)?;
     match form {
         Form::Graph(drawing) => print_graph(rt, change_graph(alloc, &changes, drawing)),
-        Form::Text | Form::Changes => status_of_output(rt, write_changes(rt, &changes)),
+        _ => status_of_output(rt, write_changes(rt, &changes)),
     }
 }
 
@@ -152,15 +237,16 @@ fn print_all(
     rt: &HostRuntime,
     paths: &[&str],
     disk: &Disk<'_>,
-    options: Options,
+    asked: &Asked<'_>,
+    options: Options<'_>,
     form: Form<'_>,
 ) -> Result<u8> {
     let mut folded = Folded::new(rt.alloc());
     let mut status = 0;
     for path in paths {
-        status = status.max(print_path(rt, path, disk, options, form, &mut folded)?);
+        status = status.max(print_path(rt, path, disk, asked, options, form, &mut folded)?);
     }
-    if options.frames {
+    if options.frames || matches!(form, Form::Json) {
         return Ok(status);
     }
     Ok(status.max(print_folded(rt, &folded, form)?))
@@ -172,7 +258,8 @@ fn print_path(
     rt: &HostRuntime,
     path: &str,
     disk: &Disk<'_>,
-    options: Options,
+    asked: &Asked<'_>,
+    options: Options<'_>,
     form: Form<'_>,
     folded: &mut Folded,
 ) -> Result<u8> {
@@ -183,16 +270,25 @@ fn print_path(
             return Ok(1);
         }
     };
-    if files.is_empty() {
+    if files.left_out > 0 {
         writeln!(
             Messages { rt },
-            "framehop-stacks: {path}: no file in it has a name in .data"
+            "framehop-stacks: {path}: {} of its files left out: their names are no UTF-8",
+            files.left_out
         )?;
+    }
+    if files.paths.is_empty() {
+        let why = if is_recording_by_threads(rt, path)? {
+            "a recording of perf record --threads, which is not read; without --threads perf writes one file"
+        } else {
+            "no file in it has a name in .data"
+        };
+        writeln!(Messages { rt }, "framehop-stacks: {path}: {why}")?;
         return Ok(1);
     }
     let mut status = 0;
-    for file in &files {
-        status = status.max(print_stacks(rt, file, disk, options, form, folded)?);
+    for file in &files.paths {
+        status = status.max(print_stacks(rt, file, disk, asked, options, form, folded)?);
     }
     Ok(status)
 }
@@ -202,12 +298,14 @@ fn print_stacks(
     rt: &HostRuntime,
     path: &str,
     disk: &Disk<'_>,
-    options: Options,
+    asked: &Asked<'_>,
+    options: Options<'_>,
     form: Form<'_>,
     folded: &mut Folded,
 ) -> Result<u8> {
-    let Some(bytes) = read_input(rt, path)? else {
-        return Ok(1);
+    let bytes = match read_input(rt, path)? {
+        Ok(bytes) => bytes,
+        Err(status) => return Ok(status),
     };
     let (path, bytes) = (name_of(path), bytes.as_slice());
     let kind = kind_of(bytes);
@@ -216,25 +314,33 @@ fn print_stacks(
         return Ok(2);
     }
     match kind {
-        Kind::Core => print_core(rt, path, bytes, disk, options),
-        Kind::Minidump => print_minidump(rt, path, bytes, disk, options),
+        Kind::Core => print_core(rt, path, bytes, disk, options, form),
+        Kind::Minidump => print_minidump(rt, path, bytes, disk, options, form),
         Kind::Folded => add_folded(rt, path, bytes, folded),
-        Kind::Recording => print_recording(rt, path, bytes, disk, options, folded),
+        Kind::Compressed(program) => {
+            writeln!(
+                Messages { rt },
+                "framehop-stacks: {path}: a compressed file; {program} makes one that can be read"
+            )?;
+            Ok(1)
+        }
+        Kind::Recording => print_recording(rt, path, bytes, disk, asked, options, folded),
     }
 }
 
 /// Returns why a file of a kind is not printed as it is asked for, if so.
-fn misuse_of(kind: Kind, options: Options, form: Form<'_>) -> Option<&'static str> {
+fn misuse_of(kind: Kind, options: Options<'_>, form: Form<'_>) -> Option<&'static str> {
     match (kind, form) {
-        (Kind::Core | Kind::Minidump, Form::Graph(_)) => {
+        (Kind::Core | Kind::Minidump, Form::Graph(_) | Form::Speedscope(_)) => {
             Some("only recordings and folded stacks are drawn")
         }
         (Kind::Core | Kind::Minidump, Form::Changes) => {
             Some("only recordings and folded stacks are compared")
         }
-        (Kind::Core | Kind::Minidump, Form::Text) if options.sure => {
-            Some("only recordings are folded")
+        (Kind::Recording | Kind::Folded, Form::Json) => {
+            Some("only core files and minidumps are printed as JSON")
         }
+        (Kind::Core | Kind::Minidump, _) if options.sure => { Some("only recordings are folded") }
         (Kind::Folded, _) if options.frames => Some("folded stacks have no blocks of frames"),
         (Kind::Folded, _) if options.sure => Some("folded stacks don't say what is sure"),
         _ => None,
@@ -247,20 +353,19 @@ fn print_core(
     path: &str,
     bytes: &[u8],
     disk: &Disk<'_>,
-    options: Options,
+    options: Options<'_>,
+    form: Form<'_>,
 ) -> Result<u8> {
-    let mut out = BufWriter::new(rt.alloc(), io::writer(rt))?;
-    let mut err = Messages { rt };
-    let written = write_core_stacks(
-        rt.alloc(),
-        bytes,
-        disk,
-        options.limit,
-        options.explain,
-        &mut out,
-        &mut err,
-    );
+    let alloc = rt.alloc();
+    let Options { limit, explain, .. } = options;
+    let mut out = BufWriter::new(alloc, io::writer(rt))?;
+    let mut said = Vec::new(alloc);
+    let written = match form {
+        Form::Json => { report_core_stacks(alloc, bytes, disk, limit, &Json, &mut out, &mut said) }
+        _ => write_core_stacks(alloc, bytes, disk, limit, explain, &mut out, &mut said),
+    };
     io::Write::flush(&mut out)?;
+    Messages { rt }.write_all(said.as_slice())?;
     status_of(rt, path, written)
 }
 
@@ -270,20 +375,21 @@ fn print_minidump(
     path: &str,
     bytes: &[u8],
     disk: &Disk<'_>,
-    options: Options,
+    options: Options<'_>,
+    form: Form<'_>,
 ) -> Result<u8> {
-    let mut out = BufWriter::new(rt.alloc(), io::writer(rt))?;
-    let mut err = Messages { rt };
-    let written = write_minidump_stacks(
-        rt.alloc(),
-        bytes,
-        disk,
-        options.limit,
-        options.explain,
-        &mut out,
-        &mut err,
-    );
+    let alloc = rt.alloc();
+    let Options { limit, explain, .. } = options;
+    let mut out = BufWriter::new(alloc, io::writer(rt))?;
+    let mut said = Vec::new(alloc);
+    let written = match form {
+        Form::Json => {
+            report_minidump_stacks(alloc, bytes, disk, limit, &Json, &mut out, &mut said)
+        }
+        _ => write_minidump_stacks(alloc, bytes, disk, limit, explain, &mut out, &mut said),
+    };
     io::Write::flush(&mut out)?;
+    Messages { rt }.write_all(said.as_slice())?;
     status_of(rt, path, written)
 }
 
@@ -359,13 +465,24 @@ fn print_recording(
     path: &str,
     bytes: &[u8],
     disk: &Disk<'_>,
-    options: Options,
+    asked: &Asked<'_>,
+    options: Options<'_>,
     folded: &mut Folded,
 ) -> Result<u8> {
     let alloc = rt.alloc();
     let mut out = BufWriter::new(alloc, io::writer(rt))?;
     let mut err = Messages { rt };
-    let unwound = write_stacks(alloc, bytes, disk, options, &mut out, &mut err);
+    let Some(events) = numbers_of_events(rt, path, bytes, asked.events.as_slice())? else {
+        return Ok(1);
+    };
+    let choice = Choice {
+        commands: asked.commands.as_slice(),
+        processes: asked.processes.as_slice(),
+        threads: asked.threads.as_slice(),
+        events: events.as_slice(),
+        window: asked.window,
+    };
+    let unwound = write_stacks(alloc, bytes, disk, &choice, options, &mut out, &mut err);
     io::Write::flush(&mut out)?;
     let ended = match unwound {
         Ok(unwound) => {
@@ -394,7 +511,11 @@ fn refuse(rt: &HostRuntime, path: &str, error: StacksError) -> Result<u8> {
 fn print_folded(rt: &HostRuntime, folded: &Folded, form: Form<'_>) -> Result<u8> {
     match form {
         Form::Graph(drawing) => print_graph(rt, flame_graph(rt.alloc(), folded, drawing)),
-        Form::Text | Form::Changes => status_of_output(rt, write_lines(rt, folded)),
+        Form::Speedscope(title) => {
+            let file = speedscope_file(rt.alloc(), folded, title)?;
+            status_of_output(rt, write_graph(rt, file.as_str()))
+        }
+        _ => status_of_output(rt, write_lines(rt, folded)),
     }
 }
 

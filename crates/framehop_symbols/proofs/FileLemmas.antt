@@ -11,10 +11,10 @@ AreTables-append [] ys (s ∷ ss) ts first second = absurd first
 AreTables-append (x ∷ xs) ys [] ts first second = absurd first
 AreTables-append (x ∷ xs) ys (s ∷ ss) ts first second = (first.0, AreTables-append xs ys ss ts first.1 second)
 
-pub debug-given : (source : SourceView) (build_id : List ℕ) (given : Option (List ℕ)) → build_id ≢ []
-    → source.gives_debug build_id given → AreDebugTables source build_id (debug_tables_in build_id given)
-debug-given source [] given some gave = absurd (some refl)
-debug-given source (byte ∷ bytes) given some gave = (given, gave, refl)
+pub debug-given : (source : SourceView) (path link build_id : List ℕ) (given : Option (List ℕ)) → build_id ≢ []
+    → source.gives_debug path build_id link given → AreDebugTables source path link build_id (debug_tables_in build_id given)
+debug-given source path link [] given some gave = absurd (some refl)
+debug-given source path link (byte ∷ bytes) given some gave = (given, gave, refl)
 
 pub empty-of_length : (bytes : List ℕ) → length bytes ≡ 0 → bytes ≡ []
 empty-of_length [] none = refl

@@ -1,5 +1,5 @@
 -- The files that processes map, and the modules of mappings.
-use Rattle.std.specs.Prelude.{◌≡◌, ◌≢◌, ◌⊎◌, ℕ, nat_eq, IsSome, List, [], ◌∷◌, ◌++◌, length, codes, Option, Some, None, option_and_then, slice_get, Bool, true, false, not, ◌&&◌, ◌||◌}
+use Rattle.std.specs.Prelude.{◌≡◌, ◌≢◌, ◌⊎◌, ℕ, nat_eq, IsSome, List, [], ◌∷◌, ◌++◌, length, take, drop, ◌-◌, ◌==◌, if◌then◌else◌, codes, Option, Some, None, option_and_then, slice_get, Bool, true, false, not, ◌&&◌, ◌||◌}
 use Rattle.std.specs.BTreeMap.{get_by}
 use Rattle.std.specs.Cmp.Lexicographic.{pointwise, slice_cmp}
 use Rattle.std.specs.List.{starts_with}
@@ -62,6 +62,21 @@ is_path name = is_unix_path name || is_windows_path name
 abbrev pub is_vdso : List ℕ → Bool
 is_vdso name = pointwise nat_eq name (codes "[vdso]")
 
+-- Linux marks the path of a file that was deleted (`d_path`)
+abbrev pub DELETED : List ℕ
+DELETED = codes " (deleted)"
+
+abbrev pub is_deleted : List ℕ → Bool
+is_deleted name = pointwise nat_eq (drop (length name - length DELETED) name) DELETED
+
+-- a path without that mark
+abbrev pub path_of : List ℕ → List ℕ
+path_of name = if is_deleted name then take (length name - length DELETED) name else name
+
+-- a file that was deleted is asked for only by a build id, which tells it from a later one of its path
+abbrev pub is_asked : List ℕ → List ℕ → Bool
+is_asked name wanted = not (is_deleted name) || not (length wanted == 0)
+
 -- the names of what a source is asked for
 abbrev pub is_read : List ℕ → Bool
 is_read name = is_path name || is_vdso name
@@ -89,22 +104,31 @@ pub record IsWithoutFiles (files : Files) : Type 0 where
   pub bare : files.bare ≡ bare_module
 
 module _ (source : SourceView) where
-  -- the symbol tables of the debug file of a build id: none without one
-  abbrev pub AreDebugTables : List ℕ → List Listed → Type 0
-  AreDebugTables [] tables = tables ≡ []
-  AreDebugTables (byte ∷ bytes) tables =
-      (given : Option (List ℕ)) × source.gives_debug (byte ∷ bytes) given × (tables ≡ debug_tables_in (byte ∷ bytes) given)
+  -- the symbol tables of the debug file of a file of this path and link, by its build id: none without one
+  abbrev pub AreDebugTables : List ℕ → List ℕ → List ℕ → List Listed → Type 0
+  AreDebugTables path link [] tables = tables ≡ []
+  AreDebugTables path link (byte ∷ bytes) tables =
+      (given : Option (List ℕ)) × source.gives_debug path (byte ∷ bytes) link given
+      × (tables ≡ debug_tables_in (byte ∷ bytes) given)
+
+  -- what is given for a name and the build id that is wanted, if the source is asked
+  abbrev pub IsGivenIf : Bool → List ℕ → List ℕ → Option (List ℕ) → Type 0
+  IsGivenIf true name wanted given = source.gives (path_of name) wanted given
+  IsGivenIf false name wanted given = given ≡ None
+
+  abbrev pub IsGiven : List ℕ → List ℕ → Option (List ℕ) → Type 0
+  IsGiven name wanted given = IsGivenIf (is_asked name wanted) name wanted given
 
   -- the bytes of a file by its name, and by the build id that is wanted of it, if one is
   abbrev pub IsNamed : List ℕ → List ℕ → List ℕ → Type 0
-  IsNamed name wanted bytes = source.gives name (Some bytes) × (problem_of bytes wanted ≡ None)
+  IsNamed name wanted bytes = IsGiven name wanted (Some bytes) × (problem_of bytes wanted ≡ None)
 
   abbrev pub IsCopied : List ℕ → List ℕ → Type 0
   IsCopied wanted bytes = (wanted ≢ []) × source.gives_copied wanted (Some bytes) × (problem_of bytes wanted ≡ None)
 
   -- why none is kept by its name
   abbrev pub IsRefused : List ℕ → List ℕ → FileProblem → Type 0
-  IsRefused name wanted problem = (given : Option (List ℕ)) × source.gives name given × IsProblem given wanted problem
+  IsRefused name wanted problem = (given : Option (List ℕ)) × IsGiven name wanted given × IsProblem given wanted problem
 
   -- and none by its build id
   abbrev pub IsNotCopied : List ℕ → Type 0
@@ -117,7 +141,8 @@ module _ (source : SourceView) where
   abbrev pub IsKept : List ℕ → List ℕ → ObjectFile → Type 0
   IsKept name wanted object =
       (bytes : List ℕ) × (IsNamed name wanted bytes ⊎ (((problem : FileProblem) × IsRefused name wanted problem) × IsCopied wanted bytes))
-      × ((debug : List Listed) × AreDebugTables object.build_id.items debug × IsKeptOf bytes debug object)
+      × ((debug : List Listed) × AreDebugTables (path_of name) object.debug_link.items object.build_id.items debug
+      × IsKeptOf bytes debug object)
 
   -- or else why nothing is: a vdso that is not given is no problem
   abbrev pub IsLoaded : List ℕ → List ℕ → Option ObjectFile → Option FileProblem → Type 0

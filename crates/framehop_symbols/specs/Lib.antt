@@ -4,4 +4,7 @@ pub mod ObjectFiles
 pub mod Files
 pub mod Place
 pub mod Code
+pub mod Found
 pub mod DebugFrame
+pub mod FunctionStart
+pub mod Exports

@@ -1,6 +1,6 @@
 -- What is kept of the files that processes map, ELF files and PE files, by their bytes.
 -- What a PE file is: Microsoft, "PE Format", by the readers of `framehop_pe_file`.
-use Rattle.std.specs.Prelude.{◌≡◌, ◌⊎◌, ℕ, nat_eq, bit_and, ◌==◌, List, [], ◌∷◌, ◌++◌, map, take, drop, codes, Bool, false, not, ◌||◌, if◌then◌else◌, Option, Some, None, option_to_list, unwrap_or, Result, Ok, Err}
+use Rattle.std.specs.Prelude.{◌≡◌, ◌⊎◌, ℕ, nat_eq, bit_and, ◌==◌, List, [], ◌∷◌, ◌++◌, map, take, drop, codes, Bool, false, not, ◌||◌, if◌then◌else◌, Option, Some, None, is_some, option_to_list, unwrap_or, Result, Ok, Err}
 use Rattle.std.specs.List.{starts_with, filter, list_any}
 use Rattle.std.specs.Cmp.Lexicographic.{pointwise}
 use Rattle.std.specs.List.Sorted.{IsPermutation, IsStableByKey}
@@ -13,7 +13,8 @@ use Rattle.framehop_elf.specs.BuildId.{build_id_of_file}
 use Rattle.framehop_elf.specs.Header.{file_header_of}
 use Rattle.framehop_elf.specs.ProgramHeader.{program_headers_of}
 use Rattle.framehop_elf.specs.Segment.{loaded_segments_of}
-use Rattle.framehop_elf.specs.Section.{section_called, section_names_of}
+use Rattle.framehop_elf.specs.Numbers.{SHF_COMPRESSED}
+use Rattle.framehop_elf.specs.Section.{contents_of as contents_in, section_called, section_names_of}
 use Rattle.framehop_elf.specs.SectionHeader.{section_headers_of}
 use Rattle.framehop_bytes.specs.String.{before_nul}
 use Rattle.framehop_elf.specs.Symbol.{start_of, function_symbols_of, symbol_names_of}
@@ -25,6 +26,7 @@ use Rattle.framehop_elf.specs.declared.symbol.Symbol.{Symbol}
 use Rattle.framehop_elf.specs.declared.error.ElfError.TheVariants.{OutOfMemory as ElfOutOfMemory}
 use Rattle.framehop_memory.specs.declared.segment.Segment.{Segment}
 use Rattle.framehop_pe_file.specs.CodeView.{RsdsView, rsds_of}
+use Rattle.framehop_pe_file.specs.Exports.{directory_bytes_of}
 use Rattle.framehop_pe_file.specs.Header.{file_header_of as pe_file_header_of}
 use Rattle.framehop_pe_file.specs.SectionHeader.{section_headers_of as pe_section_headers_of}
 use Rattle.framehop_pe_file.specs.UnwindSections.{table_of as pe_table_of, unwind_sections_of as pe_unwind_sections_of}
@@ -34,6 +36,7 @@ use Rattle.framehop_pe_file.specs.declared.header.FileHeader.{FileHeader}
 use Rattle.framehop_pe_file.specs.declared.section_header.SectionHeader.{SectionHeader as PeSectionHeader}
 use Rattle.framehop.specs.Modules.{ModuleView}
 use Rattle.framehop.specs.ModuleData.{unwind_data_in}
+use Rattle.framehop_symbols.specs.Exports.{symbols_of as exported_symbols_of}
 use Rattle.framehop_symbols.specs.declared.code.SegmentCode.{SegmentCode}
 use Rattle.framehop_symbols.specs.declared.object_file.ObjectFile.{ObjectFile}
 use Rattle.framehop_symbols.specs.declared.object_file.FileProblem.{FileProblem}
@@ -62,6 +65,28 @@ headers_of file = do
 -- the build id of a file, no bytes where it has none
 abbrev pub build_id_in : List ℕ → HeadersView → List ℕ
 build_id_in file headers = unwrap_or (build_id_of_file file headers.segments headers.sections) []
+
+-- what a section holds that a file has, no bytes where it can't be read
+abbrev pub contents_or_none : List ℕ → Option SectionHeader → List ℕ
+contents_or_none file (Some section) = unwrap_or (result_ok (contents_in file section)) []
+contents_or_none file None = []
+
+-- the name of a file's debug file, no bytes where it has none (GDB, "Debugging Information in Separate Files"): the string
+-- at the front of `.gnu_debuglink`
+abbrev pub debug_link_in : List ℕ → HeadersView → List ℕ
+debug_link_in file headers =
+    before_nul (contents_or_none file (section_called headers.sections headers.names (codes ".gnu_debuglink")))
+
+-- a section is compressed, by its flag (gABI, chapter 4, "Section Compression")
+abbrev pub is_compressed : Option SectionHeader → Bool
+is_compressed (Some section) = not (bit_and section.sh_flags SHF_COMPRESSED == 0)
+is_compressed None = false
+
+-- a file has a `.debug_frame` that is compressed: by that flag or, by GNU's older form, under another name
+abbrev pub has_compressed_frames : HeadersView → Bool
+has_compressed_frames headers =
+    is_compressed (section_called headers.sections headers.names (codes ".debug_frame"))
+    || is_some (section_called headers.sections headers.names (codes ".zdebug_frame"))
 
 -- a build id that is wanted is another
 abbrev pub is_another : List ℕ → List ℕ → Bool
@@ -93,11 +118,11 @@ abbrev pub tables_of : List ℕ → HeadersView → List Listed
 tables_of file headers =
     option_to_list (symbols_called file headers (codes ".symtab")) ++ option_to_list (symbols_called file headers (codes ".dynsym"))
 
--- that of a debug file, unless its build id is another than the file's
+-- that of a debug file whose build id is the file's
 abbrev pub debug_tables_by : List ℕ → List ℕ → Result HeadersView ElfError → List Listed
 debug_tables_by build_id file (Err refusal) = []
 debug_tables_by build_id file (Ok headers) =
-    if is_another (build_id_in file headers) build_id then [] else option_to_list (symbols_called file headers (codes ".symtab"))
+    if is_another build_id (build_id_in file headers) then [] else option_to_list (symbols_called file headers (codes ".symtab"))
 
 abbrev pub debug_tables_of : List ℕ → List ℕ → List Listed
 debug_tables_of build_id file = debug_tables_by build_id file (headers_of file)
@@ -206,6 +231,8 @@ pub record Contents : Type 0 where
   pub segments : List Segment
   pub code : List CodeView
   pub build_id : List ℕ
+  pub debug_link : List ℕ
+  pub has_compressed_frames : Bool
   pub loaded : ModuleView
   pub debug_frame : ModuleView
   pub tables : List Listed
@@ -216,6 +243,8 @@ elf_contents file headers = record {
   segments = loaded_segments_of headers.segments;
   code = code_of file (loaded_segments_of headers.segments);
   build_id = build_id_in file headers;
+  debug_link = debug_link_in file headers;
+  has_compressed_frames = has_compressed_frames headers;
   loaded = module_in file headers;
   debug_frame = debug_frame_in file headers;
   tables = tables_of file headers;
@@ -259,15 +288,30 @@ pe_module_in file header sections = record {
   unwind_data = unwind_data_in (λ bytes. bytes) (pe_table_of (pe_unwind_sections_of file header sections));
 }
 
--- a PE file: it has no symbol tables
+-- the function table of a file, no bytes where it has none
+abbrev pub pdata_of : List ℕ → FileHeader → List PeSectionHeader → List ℕ
+pdata_of file header sections = unwrap_or (pe_unwind_sections_of file header sections).pdata []
+
+-- the functions that a file exports, whose names lie in its export directory: a symbol table, if the directory can be read
+abbrev pub export_tables_in : FileHeader → List ℕ → Result (List ℕ) PeError → List Listed
+export_tables_in header pdata (Ok directory) = (exported_symbols_of header pdata directory, directory) ∷ []
+export_tables_in header pdata (Err error) = []
+
+abbrev pub export_tables_of : List ℕ → FileHeader → List PeSectionHeader → List Listed
+export_tables_of file header sections =
+    export_tables_in header (pdata_of file header sections) (directory_bytes_of file header sections)
+
+-- a PE file
 abbrev pub pe_contents : List ℕ → FileHeader → List PeSectionHeader → Contents
 pe_contents file header sections = record {
   segments = map segment_of sections;
   code = code_of file (map segment_of sections);
   build_id = identity_of file header sections;
+  debug_link = [];
+  has_compressed_frames = false;
   loaded = pe_module_in file header sections;
   debug_frame = bare_module;
-  tables = [];
+  tables = export_tables_of file header sections;
 }
 
 -- the headers and the sections of a PE file
@@ -295,6 +339,11 @@ is_pe file = starts_with nat_eq file (codes "MZ")
 abbrev pub contents_of : List ℕ → Result Contents FileProblem
 contents_of file = if is_pe file then pe_contents_of file else elf_contents_of file
 
+-- the build id of a file, no bytes where the file has none or can't be read
+abbrev pub build_id_by : Result Contents FileProblem → List ℕ
+build_id_by (Ok contents) = contents.build_id
+build_id_by (Err problem) = []
+
 -- why nothing is kept of a file: the first refusal, or its build id is another than the one that is wanted
 abbrev pub problem_by : List ℕ → Result Contents FileProblem → Option FileProblem
 problem_by wanted (Err problem) = Some problem
@@ -312,6 +361,8 @@ pub record IsKeptBy (contents : Contents) (debug : List Listed) (object : Object
   pub segments : object.segments.items ≡ contents.segments
   pub code : map code_view object.code.items ≡ contents.code
   pub build_id : object.build_id.items ≡ contents.build_id
+  pub debug_link : object.debug_link.items ≡ contents.debug_link
+  pub compressed : object.has_compressed_frames ≡ contents.has_compressed_frames
   pub loaded : object.«module» ≡ contents.loaded
   pub debug_frame : object.debug_frame ≡ contents.debug_frame
   pub tables : AreTables (debug ++ contents.tables) object.symbols.items

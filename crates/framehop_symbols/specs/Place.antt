@@ -1,25 +1,28 @@
 -- Where an address is: in which function of which file.
-use Rattle.std.specs.Prelude.{ℕ, ◌-◌, List, [], ◌∷◌, ◌&&◌, nat_le, nat_lt, Bool, true, false, if◌then◌else◌, Option, Some, None, slice_get}
+use Rattle.std.specs.Prelude.{ℕ, ◌-◌, ◌^◌, List, [], ◌∷◌, ◌&&◌, nat_le, nat_lt, Bool, true, false, if◌then◌else◌, Option, Some, None, slice_get}
 use Rattle.std.specs.List.{find}
 use Rattle.framehop_bytes.specs.String.{string_of}
 use Rattle.framehop_elf.specs.Symbol.{symbol_for}
 use Rattle.framehop_elf.specs.declared.symbol.Symbol.{Symbol}
 use Rattle.framehop_processes.specs.declared.mapping.Mapping.{Mapping}
+use Rattle.framehop_symbols.specs.FunctionStart.{function_start_in}
 use Rattle.framehop_symbols.specs.declared.object_file.ObjectFile.{ObjectFile}
 use Rattle.framehop_symbols.specs.declared.object_file.Symbols.{Symbols}
 use Rattle.framehop_symbols.specs.declared.files.Files.{Files}
 use Rattle.framehop_symbols.specs.declared.files.NamedFile.{NamedFile}
 use Rattle.framehop_symbols.specs.declared.place.Place.{Place}
-use Rattle.framehop_symbols.specs.declared.place.Place.TheVariants.{Function, File, Unmapped}
+use Rattle.framehop_symbols.specs.declared.place.Place.TheVariants.{Function, Unnamed, File, Unmapped}
 
 -- a place by its values
 pub data PlaceView : Type 0 where
   in_function : List ℕ → List ℕ → ℕ → PlaceView
+  in_unnamed : List ℕ → ℕ → ℕ → PlaceView
   in_file : List ℕ → ℕ → PlaceView
   unmapped : PlaceView
 
 abbrev pub place_view : Place → PlaceView
 place_view (Function file name offset) = in_function file.now name.now offset
+place_view (Unnamed file start address) = in_unnamed file.now start address
 place_view (File file address) = in_file file.now address
 place_view Unmapped = unmapped
 
@@ -52,13 +55,24 @@ abbrev pub starting_by : ℕ → Option Mapping → Option Mapping
 starting_by address (Some mapping) = if nat_le mapping.start address then Some mapping else None
 starting_by address None = None
 
--- a place by its function, or by its address in the file
-abbrev pub place_named : List ℕ → ℕ → Option (List ℕ × ℕ) → PlaceView
-place_named file svma (Some function) = in_function file function.0 function.1
-place_named file svma None = in_file file svma
+-- where the function begins that has an address (SVMA) of 32 bits, by `.eh_frame` or `.pdata`, or else by `.debug_frame`
+abbrev pub unnamed_start : ObjectFile → ℕ → Option ℕ
+unnamed_start object svma = if nat_lt svma (2 ^ 32)
+    then or_else (function_start_in object.«module».unwind_data svma) (function_start_in object.debug_frame.unwind_data svma)
+    else None
+
+-- a place by where its function begins, or by its address in the file
+abbrev pub place_started : List ℕ → ℕ → Option ℕ → PlaceView
+place_started file svma (Some start) = in_unnamed file start svma
+place_started file svma None = in_file file svma
+
+-- a place by its function's name, or else by where that begins
+abbrev pub place_named : List ℕ → ObjectFile → ℕ → Option (List ℕ × ℕ) → PlaceView
+place_named file object svma (Some function) = in_function file function.0 function.1
+place_named file object svma None = place_started file svma (unnamed_start object svma)
 
 abbrev pub place_in_object : Bool → List ℕ → Option ObjectFile → ℕ → PlaceView
-place_in_object true file (Some object) svma = place_named file svma (function_at object.symbols.items svma)
+place_in_object true file (Some object) svma = place_named file object svma (function_at object.symbols.items svma)
 place_in_object true file None svma = in_file file svma
 place_in_object false file object svma = in_file file svma
 

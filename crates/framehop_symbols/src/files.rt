@@ -4,7 +4,7 @@ ghost use Rattle.framehop.specs.Modules.{ModuleView};
 ghost use Rattle.framehop_elf.specs.UnwindSections.{bytes_in};
 ghost use Rattle.framehop_elf.specs.declared.error.ElfError.{ElfError};
 ghost use Rattle.framehop_symbols.specs.ObjectFiles.{Listed, problem_of, IsOutOfMemory, IsKeptOf};
-ghost use Rattle.framehop_symbols.specs.Files.{number_in, object_in, module_at, placed_at, is_unix_path, has_drive, is_windows_path, is_path, is_vdso, is_read, told_of, IsNamed, IsRefused, IsCopied, IsNotCopied, AreDebugTables, IsFileOf, IsNext, IsAdded, IsWithoutFiles};
+ghost use Rattle.framehop_symbols.specs.Files.{number_in, object_in, module_at, placed_at, is_unix_path, has_drive, is_windows_path, is_path, is_vdso, is_read, is_deleted, path_of, is_asked, told_of, IsGiven, IsNamed, IsRefused, IsCopied, IsNotCopied, IsKept, AreDebugTables, IsFileOf, IsNext, IsAdded, IsWithoutFiles};
 ghost use Rattle.framehop_symbols.specs.Source.{SourceView};
 ghost use Rattle.framehop_symbols.specs.declared.object_file.FileProblem.{FileProblem};
 
@@ -17,22 +17,44 @@ use framehop_processes::{Mapping, ModuleMaker, ProcessUnwinder};
 use std::alloc::{AllocError, Global};
 use std::collections::BTreeMap;
 
+/// What Linux adds to the path of a file that was deleted.
+const DELETED: &[u8] = b" (deleted)";
+
 /// What gives files by their names and their build ids, as a disk does.
 pub trait FileSource {
     // what it can give
     ghost source: { Self → SourceView };
 
-    /// Returns the bytes of a file by its name, a path or `[vdso]`, if it is there and can be read.
-    fn read_file(&self, name: &[u8]) -> Option<Vec<u8>>
-        ensures { (source self.now).gives name.now (bytes_in result) };
+    /// Returns the bytes of a file by its name, a path or `[vdso]`, if it is there and can be read. Where several files
+    /// stand for the name, that with the wanted build id is returned, if there is one.
+    ///
+    /// # Errors
+    ///
+    /// An allocation failed.
+    fn read_file(&self, name: &[u8], build_id: &[u8]) -> Result<Option<Vec<u8>>, AllocError>
+        ensures { IfOk result (λ given. (source self.now).gives name.now build_id.now (bytes_in given)) };
 
     /// Returns the bytes of the file of a build id of which a profiler has a copy, if there is one and it can be read.
-    fn read_copied_file(&self, build_id: &[u8]) -> Option<Vec<u8>>
-        ensures { (source self.now).gives_copied build_id.now (bytes_in result) };
+    ///
+    /// # Errors
+    ///
+    /// An allocation failed.
+    fn read_copied_file(&self, build_id: &[u8]) -> Result<Option<Vec<u8>>, AllocError>
+        ensures { IfOk result (λ given. (source self.now).gives_copied build_id.now (bytes_in given)) };
 
-    /// Returns the bytes of the debug file of a build id, if it is there and can be read.
-    fn read_debug_file(&self, build_id: &[u8]) -> Option<Vec<u8>>
-        ensures { (source self.now).gives_debug build_id.now (bytes_in result) };
+    /// Returns the bytes of the debug file of a file that has this build id and names its debug file by a link, if it is
+    /// there and can be read. Without a link, that is empty.
+    ///
+    /// # Errors
+    ///
+    /// An allocation failed.
+    fn read_debug_file(
+        &self,
+        name: &[u8],
+        build_id: &[u8],
+        link: &[u8],
+    ) -> Result<Option<Vec<u8>>, AllocError>
+        ensures { IfOk result (λ given. (source self.now).gives_debug name.now build_id.now link.now (bytes_in given)) };
 }
 
 /// A file that processes map, by its name.
@@ -155,11 +177,8 @@ fn load<S: FileSource>(
         problem: None,
     };
     if is_read(name) {
-        match read_object(alloc, source, name, build_id) {
-            Ok(mut object) => {
-                add_debug_names(alloc, source, &mut object)?;
-                file.object = Some(object);
-            }
+        match read_with_names(alloc, source, name, build_id) {
+            Ok(object) => file.object = Some(object),
             Err(problem) => {
                 if problem.is_out_of_memory() {
                     return Err(AllocError);
@@ -183,6 +202,22 @@ pub fn is_vdso(name: &[u8]) -> bool
     ensures { result ≡ is_vdso name.now }
 {
     name == b"[vdso]".as_slice()
+}
+
+/// Reads a file from its source, with the names of its functions in its debug file.
+fn read_with_names<S: FileSource>(
+    alloc: Global,
+    source: &S,
+    name: &[u8],
+    build_id: &[u8],
+) -> Result<ObjectFile, FileProblem>
+    ensures kept { IfOk result (IsKept (S.source source.now) name.now build_id.now) }
+    ensures refused { IfErr result (λ problem. IsOutOfMemory problem
+        ⊎ (IsRefused (S.source source.now) name.now build_id.now problem × IsNotCopied (S.source source.now) build_id.now)) }
+{
+    let mut object = read_object(alloc, source, name, build_id)?;
+    add_debug_names(alloc, source, path_of(name), &mut object)?;
+    Ok(object)
 }
 
 /// Reads a file from its source: by its name, or else by the build id that is wanted of it.
@@ -226,9 +261,56 @@ fn read_named<S: FileSource>(
     ensures refused { IfErr result (λ problem. IsOutOfMemory problem
         ⊎ IsRefused (S.source source.now) name.now build_id.now problem) }
 {
-    match source.read_file(name) {
+    match given_by(source, name, build_id)? {
         Some(bytes) => ObjectFile::new(alloc, bytes.as_slice(), build_id),
         None => Err(FileProblem::NotRead),
+    }
+}
+
+/// Returns the bytes of the file of a name, if the source is asked for it and gives it: by its path without the mark of a
+/// file that was deleted, which is read only where a build id is wanted of it.
+///
+/// # Errors
+///
+/// An allocation failed.
+///
+/// Source of the mark: Linux, `d_path`.
+pub fn given_by<S: FileSource>(
+    source: &S,
+    name: &[u8],
+    build_id: &[u8],
+) -> Result<Option<Vec<u8>>, AllocError>
+    ensures { IfOk result (λ given. IsGiven (S.source source.now) name.now build_id.now (bytes_in given)) }
+{
+    if is_asked(name, build_id) {
+        source.read_file(path_of(name), build_id)
+    } else {
+        Ok(None)
+    }
+}
+
+/// Returns whether a source is asked for the file of a name: for one that was deleted only where a build id can tell it
+/// from a later file of its path.
+fn is_asked(name: &[u8], build_id: &[u8]) -> bool
+    ensures { result ≡ is_asked name.now build_id.now }
+{
+    !is_deleted(name) || !build_id.is_empty()
+}
+
+/// Returns whether a name has the mark that Linux adds to the path of a file that was deleted.
+fn is_deleted(name: &[u8]) -> bool
+    ensures { result ≡ is_deleted name.now }
+{
+    name.strip_suffix(DELETED).is_some()
+}
+
+/// Returns the path of the file of a name, without that mark.
+fn path_of(name: &[u8]) -> &[u8]
+    ensures { result.now ≡ path_of name.entry.now }
+{
+    match name.strip_suffix(DELETED) {
+        Some(path) => path,
+        None => name,
     }
 }
 
@@ -246,7 +328,7 @@ fn read_copied<S: FileSource>(
     if build_id.is_empty() {
         return Ok(None);
     }
-    let Some(bytes) = source.read_copied_file(build_id) else {
+    let Some(bytes) = source.read_copied_file(build_id)? else {
         return Ok(None);
     };
     match ObjectFile::new(alloc, bytes.as_slice(), build_id) {
@@ -260,19 +342,23 @@ fn read_copied<S: FileSource>(
     }
 }
 
-/// Reads the names of a file's functions in its debug file. One that can't be read counts as absent.
+/// Reads the names of a file's functions in its debug file, by the path of the file. One that can't be read counts as
+/// absent.
 fn add_debug_names<S: FileSource>(
     alloc: Global,
     source: &S,
+    path: &[u8],
     object: &mut ObjectFile,
 ) -> Result<(), AllocError>
     ensures kept { (file : List ℕ) → IsKeptOf file [] object.old → OnOk result ((debug : List Listed)
-        × AreDebugTables (S.source source.now) object.new.build_id.items debug × IsKeptOf file debug object.new) }
+        × AreDebugTables (S.source source.now) path.now object.new.debug_link.items object.new.build_id.items debug
+        × IsKeptOf file debug object.new) }
 {
     if object.build_id().is_empty() {
         return Ok(());
     }
-    let Some(bytes) = source.read_debug_file(object.build_id()) else {
+    let found = source.read_debug_file(path, object.build_id(), object.debug_link())?;
+    let Some(bytes) = found else {
         return Ok(());
     };
     match object.add_debug_names(alloc, bytes.as_slice()) {

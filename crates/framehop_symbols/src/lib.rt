@@ -4,7 +4,9 @@
 
 pub mod code;
 pub mod debug_frame;
+mod exports;
 pub mod files;
+mod function_start;
 pub mod object_file;
 mod pe_file;
 pub mod place;

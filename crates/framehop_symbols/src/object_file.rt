@@ -8,33 +8,43 @@ ghost use Rattle.framehop_elf.specs.Symbol.{symbol_for};
 ghost use Rattle.framehop_elf.specs.UnwindSections.{sections_view};
 ghost use Rattle.framehop_elf.specs.declared.error.ElfError.{ElfError};
 ghost use Rattle.framehop_memory.specs.Segment.{base_of};
-ghost use Rattle.framehop_symbols.specs.ObjectFiles.{Contents, Listed, headers_view, headers_of, build_id_in, is_another, problem_by, problem_of, symbols_in, symbols_called, tables_of, debug_tables_of, is_internal, has_version, is_underscored, plainness_of, is_so_plain, by_plainness, IsTable, AreTables, module_of, module_in, debug_frame_in, bare_module, elf_contents_of, pe_contents_of, IsOutOfMemory, IsKeptBy, IsKeptOf};
+ghost use Rattle.framehop_symbols.specs.ObjectFiles.{Contents, Listed, headers_view, headers_of, build_id_in, build_id_by, debug_link_in, has_compressed_frames, contents_of, is_another, problem_by, problem_of, symbols_in, symbols_called, tables_of, debug_tables_of, is_internal, has_version, is_underscored, plainness_of, is_so_plain, by_plainness, IsTable, AreTables, module_of, module_in, debug_frame_in, bare_module, export_tables_of, elf_contents_of, pe_contents_of, IsOutOfMemory, IsKeptBy, IsKeptOf};
 ghost use Rattle.framehop_symbols.specs.Code.{code_of_object};
-ghost use Rattle.framehop_symbols.specs.Place.{option_named, function_at};
+ghost use Rattle.framehop_symbols.specs.Found.{has_names, is_unwind_data};
+ghost use Rattle.framehop_symbols.specs.Place.{option_named, function_at, unnamed_start};
 ghost use Rattle.framehop_symbols.specs.declared.object_file.FileProblem.{FileProblem};
 
 use crate::code::{SegmentCode, code_from, code_of};
+use crate::exports::exported_functions;
+use crate::function_start::function_start;
 use crate::pe_file;
 use framehop::Module;
 use framehop::section::ExplicitModuleSectionInfo;
+use framehop::unwind_data::ModuleUnwindDataInternal;
 use framehop_bytes::bytes::{back, front};
 use framehop_bytes::string::{before_nul, string_at};
 use framehop_elf::build_id::read_build_id;
 use framehop_elf::error::ElfError;
 use framehop_elf::header::read_file_header;
 use framehop_elf::program_header::{ProgramHeader, read_program_headers};
-use framehop_elf::section::{read_section_names, section_by_name};
+use framehop_elf::section::{read_contents, read_section_names, section_by_name};
 use framehop_elf::section_header::{SectionHeader, read_section_headers};
 use framehop_elf::segment::loaded_segments;
 use framehop_elf::symbol::{Symbol, SymbolTable, read_function_symbols, read_symbol_names};
 use framehop_elf::unwind_sections::{read_debug_frame, read_unwind_sections};
 use framehop_memory::segment::{Segment, base_avma};
 use framehop_pe_file::error::PeError;
+use framehop_pe_file::exports::read_export_directory;
+use framehop_pe_file::header::FileHeader;
+use framehop_pe_file::section_header::SectionHeader as PeSectionHeader;
 use std::alloc::{AllocError, Global};
 use thiserror::Error;
 
 /// How many bytes of a symbol's name are looked at to choose among those of one function.
 const LOOKED_AT: usize = 256;
+
+/// `SHF_COMPRESSED`.
+const SHF_COMPRESSED: u64 = 0x800;
 
 /// The functions of a symbol table, and the string table that has their names.
 #[derive(Drop)]
@@ -69,6 +79,9 @@ pub struct ObjectFile {
     debug_frame: Module<Vec<u8>>,
     /// Its build id, or the GUID and the age of its program database: no bytes where it has none.
     build_id: Vec<u8>,
+    /// The name of its debug file by `.gnu_debuglink`: no bytes where it has none.
+    debug_link: Vec<u8>,
+    has_compressed_frames: bool,
 }
 
 /// Why a file gives no unwind data and no names.
@@ -150,11 +163,12 @@ impl ObjectFile {
     }
 
     /// Takes the functions of the file's debug file, which are asked before its own: nothing where it can't be
-    /// read, or has a build id that is another. Fails only where an allocation does.
+    /// read, or has not the file's build id. Fails only where an allocation does.
     pub fn add_debug_names(&mut self, alloc: Global, bytes: &[u8]) -> Result<(), ElfError>
         ensures kept { (file : List ℕ) → IsKeptOf file [] self.old
             → OnOk result (IsKeptOf file (debug_tables_of self.old.build_id.items bytes.now) self.new) }
         ensures same { self.new.build_id ≡ self.old.build_id }
+        ensures same_link { self.new.debug_link ≡ self.old.debug_link }
         ensures refused { IfErr result (λ error. error ≡ ElfError.OutOfMemory) }
     {
         let build_id = self.build_id.as_slice();
@@ -171,12 +185,55 @@ impl ObjectFile {
         self.build_id.as_slice()
     }
 
+    /// Returns the name of the file's debug file, by its section `.gnu_debuglink`, or no bytes.
+    pub fn debug_link(&self) -> &[u8]
+        ensures { result.now ≡ self.now.debug_link.items }
+    {
+        self.debug_link.as_slice()
+    }
+
+    /// Returns whether the file has a `.debug_frame` that is compressed, and so is not read.
+    pub fn has_compressed_frames(&self) -> bool
+        ensures { result ≡ self.now.has_compressed_frames }
+    {
+        self.has_compressed_frames
+    }
+
     /// Returns where the stated address 0 of the file is (AVMA), if `size` bytes of it from an offset on are
     /// mapped at an AVMA.
     pub fn base(&self, offset: u64, size: u64, avma: u64) -> Option<u64>
         ensures { result ≡ base_of self.now.segments.items offset size avma }
     {
         base_avma(self.segments.as_slice(), offset, size, avma)
+    }
+
+    /// Returns the segments that are loaded, in the order of the file.
+    pub fn segments(&self) -> &[Segment]
+        ensures { result.now ≡ self.now.segments.items }
+    {
+        self.segments.as_slice()
+    }
+
+    /// Returns whether the file or its debug file has the name of a function.
+    pub fn has_names(&self) -> bool
+        ensures { result ≡ has_names self.now.symbols.items }
+    {
+        for symbols in &self.symbols {
+            if !symbols.table.is_empty() {
+                return true;
+            }
+        }
+        false
+    }
+
+    /// Returns whether the file has unwind data.
+    pub fn has_unwind_data(&self) -> bool
+        ensures { result ≡ is_unwind_data self.now.«module».unwind_data }
+    {
+        match self.module.unwind_data() {
+            ModuleUnwindDataInternal::None(_) => false,
+            _ => true,
+        }
     }
 
     /// Returns the code of the file from an address (SVMA) on, as far as a segment has it.
@@ -213,6 +270,18 @@ impl ObjectFile {
         }
         None
     }
+
+    /// Returns where the function begins (SVMA) that has an address (SVMA) below 4 GiB, by the file's unwind data, and else
+    /// by its `.debug_frame`: for a function without a name.
+    pub fn unnamed_start(&self, svma: u64) -> Option<u64>
+        ensures { result ≡ unnamed_start self.now svma }
+    {
+        let relative_address = u32::try_from(svma).ok()?;
+        match function_start(&self.module, relative_address) {
+            Some(start) => Some(start),
+            None => function_start(&self.debug_frame, relative_address),
+        }
+    }
 }
 
 /// Reads a PE file. Where the GUID and the age of a program database are wanted, the file's must be the same.
@@ -231,15 +300,38 @@ fn read_pe(alloc: Global, bytes: &[u8], wanted: &[u8]) -> Result<ObjectFile, Fil
     let module = pe_file::module_in(alloc, bytes, header, sections.as_slice())?;
     let segments = pe_file::segments_of(alloc, sections.as_slice())?;
     let code = code_of(alloc, bytes, segments.as_slice())?;
+    let symbols = read_exports(alloc, bytes, header, sections.as_slice())?;
     let build_id = Vec::from_slice(alloc, identity)?;
     Ok(ObjectFile {
         segments,
         code,
-        symbols: Vec::new(alloc),
+        symbols,
         module,
         debug_frame: bare_module(alloc)?,
         build_id,
+        debug_link: Vec::new(alloc),
+        has_compressed_frames: false,
     })
+}
+
+/// Reads the functions that a PE file exports: none where the export directory can't be read.
+fn read_exports(
+    alloc: Global,
+    file: &[u8],
+    header: FileHeader,
+    sections: &[PeSectionHeader],
+) -> Result<Vec<Symbols>, ElfError>
+    ensures kept { IfOk result (λ all. AreTables (export_tables_of file.now header sections.now) all.items) }
+    ensures refused { IfErr result (λ error. error ≡ ElfError.OutOfMemory) }
+{
+    let mut all = Vec::new(alloc);
+    let Ok(directory) = read_export_directory(file, header, sections) else {
+        return Ok(all);
+    };
+    let pdata = pe_file::pdata_in(file, header, sections);
+    let functions = exported_functions(alloc, header, directory, pdata)?;
+    all.push(kept_symbols(alloc, functions, directory)?)?;
+    Ok(all)
 }
 
 /// Returns a module without unwind data that lies at no address.
@@ -269,6 +361,8 @@ fn read_elf(alloc: Global, bytes: &[u8], wanted: &[u8]) -> Result<ObjectFile, Fi
     let module = module_in(alloc, bytes, &headers)?;
     let debug_frame = debug_frame_in(alloc, bytes, &headers)?;
     let build_id = Vec::from_slice(alloc, found)?;
+    let debug_link = Vec::from_slice(alloc, debug_link_in(bytes, &headers))?;
+    let has_compressed_frames = has_compressed_frames(&headers);
     Ok(ObjectFile {
         segments,
         code,
@@ -276,6 +370,8 @@ fn read_elf(alloc: Global, bytes: &[u8], wanted: &[u8]) -> Result<ObjectFile, Fi
         module,
         debug_frame,
         build_id,
+        debug_link,
+        has_compressed_frames,
     })
 }
 
@@ -350,7 +446,7 @@ fn module_of(
     }
 }
 
-/// Reads the symbols of the debug file of a build id: none where it can't be read, or has another build id.
+/// Reads the symbols of the debug file of a build id: none where it can't be read, or has not the same build id.
 fn read_debug_symbols(
     alloc: Global,
     build_id: &[u8],
@@ -364,7 +460,7 @@ fn read_debug_symbols(
         Err(ElfError::OutOfMemory) => return Err(ElfError::OutOfMemory),
         Err(_) => return Ok(None),
     };
-    if is_another(build_id_in(file, &headers), build_id) {
+    if is_another(build_id, build_id_in(file, &headers)) {
         return Ok(None);
     }
     let sections = headers.sections.as_slice();
@@ -419,6 +515,61 @@ fn build_id_in<'a>(file: &'a [u8], headers: &Headers<'_>) -> &'a [u8]
     match found {
         Some(build_id) => build_id,
         None => &[],
+    }
+}
+
+/// Returns the name of a file's debug file, or no bytes: the string at the front of `.gnu_debuglink`.
+///
+/// Source: GDB, "Debugging Information in Separate Files".
+fn debug_link_in<'a>(file: &'a [u8], headers: &Headers<'_>) -> &'a [u8]
+    ensures { result.now ≡ debug_link_in file.entry.now (headers_view headers.now) }
+{
+    let sections = headers.sections.as_slice();
+    match section_by_name(sections, headers.names, b".gnu_debuglink") {
+        Some(section) => match read_contents(file, section) {
+            Ok(contents) => before_nul(contents),
+            Err(_) => &[],
+        },
+        None => &[],
+    }
+}
+
+/// Returns whether a file has a `.debug_frame` that is compressed, by its flag or, as older linkers did, by its name.
+///
+/// Source: System V gABI, chapter 4, "Section Compression"; GNU binutils, `--compress-debug-sections=zlib-gnu`.
+fn has_compressed_frames(headers: &Headers<'_>) -> bool
+    ensures { result ≡ has_compressed_frames (headers_view headers.now) }
+{
+    let sections = headers.sections.as_slice();
+    let is_flagged = match section_by_name(sections, headers.names, b".debug_frame") {
+        Some(section) => section.sh_flags & SHF_COMPRESSED != 0,
+        None => false,
+    };
+    is_flagged || section_by_name(sections, headers.names, b".zdebug_frame").is_some()
+}
+
+/// Returns the build id of a file as [`ObjectFile::build_id`] has it, or no bytes where it has none or can't be read.
+pub fn build_id_of(alloc: Global, file: &[u8]) -> Result<&[u8], AllocError>
+    ensures { IfOk result (λ build_id. build_id.now ≡ build_id_by (contents_of file.entry.now)) }
+{
+    if pe_file::is_pe(file) {
+        return build_id_of_pe(alloc, file);
+    }
+    match read_headers(alloc, file) {
+        Ok(headers) => Ok(build_id_in(file, &headers)),
+        Err(ElfError::OutOfMemory) => Err(AllocError),
+        Err(_) => Ok(&[]),
+    }
+}
+
+/// Returns the same of a PE file.
+fn build_id_of_pe(alloc: Global, file: &[u8]) -> Result<&[u8], AllocError>
+    ensures { IfOk result (λ build_id. build_id.now ≡ build_id_by (pe_contents_of file.entry.now)) }
+{
+    match pe_file::read_headers(alloc, file) {
+        Ok((header, sections)) => Ok(pe_file::identity_in(file, header, sections.as_slice())),
+        Err(PeError::OutOfMemory) => Err(AllocError),
+        Err(_) => Ok(&[]),
     }
 }
 

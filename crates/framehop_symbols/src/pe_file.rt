@@ -1,7 +1,7 @@
 //! What is kept of a PE file.
 ghost use Rattle.std.specs.Prelude.{◌≡◌, ◌⊎◌, Ok, Err, IfOk, IfErr, MatchResult, map};
 ghost use Rattle.framehop_pe_file.specs.declared.error.PeError.{PeError};
-ghost use Rattle.framehop_symbols.specs.ObjectFiles.{segment_of, identity_by, identity_of, pe_headers_of, pe_module_in, is_pe};
+ghost use Rattle.framehop_symbols.specs.ObjectFiles.{segment_of, identity_by, identity_of, pe_headers_of, pe_module_in, pdata_of, is_pe};
 
 use framehop::Module;
 use framehop_memory::segment::Segment;
@@ -9,7 +9,7 @@ use framehop_pe_file::codeview::read_rsds;
 use framehop_pe_file::error::PeError;
 use framehop_pe_file::header::{FileHeader, read_file_header};
 use framehop_pe_file::section_header::{SectionHeader, read_section_headers};
-use framehop_pe_file::unwind_sections::read_unwind_sections;
+use framehop_pe_file::unwind_sections::{lend_unwind_sections, read_unwind_sections};
 use std::alloc::{AllocError, Global};
 
 /// `IMAGE_SCN_MEM_EXECUTE`: the section may be executed.
@@ -65,6 +65,16 @@ pub fn read_headers(alloc: Global, file: &[u8]) -> Result<(FileHeader, Vec<Secti
     let header = read_file_header(file)?;
     let sections = read_section_headers(alloc, file, header)?;
     Ok((header, sections))
+}
+
+/// Returns the function table of a file, no bytes where it has none.
+pub fn pdata_in<'a>(file: &'a [u8], header: FileHeader, sections: &[SectionHeader]) -> &'a [u8]
+    ensures { result.now ≡ pdata_of file.entry.now header sections.now }
+{
+    match lend_unwind_sections(file, header, sections).pdata {
+        Some(pdata) => pdata,
+        None => &[],
+    }
 }
 
 /// Returns a module of a file that lies at no address.

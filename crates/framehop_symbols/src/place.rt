@@ -2,7 +2,7 @@
 ghost use Rattle.std.specs.Prelude.{◌≡◌, true, Some, slice_get};
 ghost use Rattle.std.specs.List.{find};
 ghost use Rattle.framehop_processes.specs.Mappings.{IsInOrder};
-ghost use Rattle.framehop_symbols.specs.Place.{place_view, starting_by, has_address, place_at, place_in_object, place_in_file};
+ghost use Rattle.framehop_symbols.specs.Place.{place_view, starting_by, has_address, unnamed_start, place_started, place_at, place_in_object, place_in_file};
 
 use crate::files::{Files, NamedFile};
 use crate::object_file::ObjectFile;
@@ -20,7 +20,16 @@ pub enum Place<'a> {
         /// From the start of the function, in bytes.
         offset: u64,
     },
-    /// In a file, at no function of which it has a name.
+    /// In a function of a file that has no name for it, by the file's unwind data.
+    Unnamed {
+        /// The name of the file, as the input has it.
+        file: &'a [u8],
+        /// Where the function begins (SVMA).
+        start: u64,
+        /// The address in the file (SVMA).
+        address: u64,
+    },
+    /// In a file, at no function that is known.
     File {
         /// The name of the file, as the input has it.
         file: &'a [u8],
@@ -88,6 +97,20 @@ fn place_in_object<'a>(file: &'a [u8], object: &'a ObjectFile, svma: u64) -> Pla
 {
     match object.function_at(svma) {
         Some((name, offset)) => Place::Function { file, name, offset },
+        None => place_without_name(file, object, svma),
+    }
+}
+
+/// Returns where an address (SVMA) of an ELF file is that is in no function with a name.
+fn place_without_name<'a>(file: &'a [u8], object: &ObjectFile, svma: u64) -> Place<'a>
+    ensures { place_view result ≡ place_started file.entry.now svma (unnamed_start object.now svma) }
+{
+    match object.unnamed_start(svma) {
+        Some(start) => Place::Unnamed {
+            file,
+            start,
+            address: svma,
+        },
         None => Place::File {
             file,
             address: svma,

@@ -4,27 +4,48 @@
 
 use framehop_walk::{Output, Refusal, refuse, run};
 use std::fs::File;
-use std::io::{Read, Stdin};
+use std::io::{Read, Stderr, Stdin};
 use std::process::ExitCode;
 use std::{env, fs, io};
 
+/// What `--version` prints. The commit is written into the built program.
+const VERSION: &str = "framehop-walk 0.16.0 (commit ............)";
+
 fn main(rt: HostRuntime) -> ExitCode {
-    let mut out = Output::new(io::writer(&rt));
     let mut err = Output::new(rt.stderr());
-    let status = match env::args(&rt) {
-        Ok(arguments) => {
-            let (status, _input) = run(
-                rt.alloc(),
-                arguments,
-                |path| Source::open(&rt, path),
-                &mut out,
-                &mut err,
-            );
-            status
-        }
-        Err(error) => refuse(&mut err, Refusal::from(error)),
+    let ended = match is_version_asked(&rt) {
+        Ok(true) => Ok(print_version(&rt)),
+        Ok(false) => run_arguments(&rt, &mut err),
+        Err(error) => Err(error),
     };
-    ExitCode::from(status)
+    ExitCode::from(match ended {
+        Ok(status) => status,
+        Err(error) => refuse(&mut err, Refusal::from(error)),
+    })
+}
+
+/// Whether the argument after the program's name asks for the version.
+fn is_version_asked(rt: &HostRuntime) -> io::Result<bool> {
+    let mut arguments = env::args(rt)?;
+    let _program = arguments.next();
+    Ok(arguments.next().as_deref() == Some("--version"))
+}
+
+/// Prints the version, and returns the exit status.
+fn print_version(rt: &HostRuntime) -> u8 {
+    match println!(rt; "{VERSION}") {
+        Ok(()) => 0,
+        Err(_) => 1,
+    }
+}
+
+/// Runs what the arguments ask for, and returns the exit status.
+fn run_arguments(rt: &HostRuntime, err: &mut Output<Stderr>) -> io::Result<u8> {
+    let mut out = Output::new(io::writer(rt));
+    let arguments = env::args(rt)?;
+    let opener = |path: Option<&str>| Source::open(rt, path);
+    let (status, _input) = run(rt.alloc(), arguments, opener, &mut out, err);
+    Ok(status)
 }
 
 /// Where the commands are read from.

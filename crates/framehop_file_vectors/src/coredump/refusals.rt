@@ -5,10 +5,12 @@ use framehop_bytes::bytes::front;
 use framehop_coredump::core_file::{Machine, read_core_file};
 use framehop_coredump::error::CoreFileError;
 use framehop_coredump::mapped_file::read_mapped_files;
-use framehop_coredump::note::read_notes;
+use framehop_coredump::note::{PlacedNote, read_notes};
+use framehop_coredump::other_system::without_threads;
 use framehop_coredump::process::read_process;
 use framehop_coredump::thread::read_threads;
 use framehop_elf::error::ElfError;
+use framehop_elf::note::ElfNote;
 use framehop_elf::program_header::ProgramHeader;
 use std::alloc::Global;
 use std::test::Fail;
@@ -150,5 +152,37 @@ fn takes_the_first_of_two_segments(rt: HostRuntime) -> Result<(), Fail> {
     change(&mut file, 0xd0, &[0, 0x10])?;
     let word = word_at(alloc, file.as_slice(), 0x403000)?;
     assert_eq!(rt; word, Some(0x10102464c457f));
+    Ok(())
+}
+
+/// Owners of notes, and how a core file is refused that has one of theirs and no thread.
+const OWNERS: [(&[u8], CoreFileError); 6] = [
+    (b"FreeBSD\0", CoreFileError::OfFreeBsd { offset: 120 }),
+    (b"NetBSD-CORE\0", CoreFileError::OfNetBsd { offset: 120 }),
+    (b"NetBSD-CORE@1\0", CoreFileError::OfNetBsd { offset: 120 }),
+    (b"OpenBSD\0", CoreFileError::OfOpenBsd { offset: 120 }),
+    (b"FreeBSD", CoreFileError::NoThreads),
+    (b"CORE\0", CoreFileError::NoThreads),
+];
+
+/// A note of an owner at an offset.
+fn note_of(owner: &[u8], offset: u64) -> PlacedNote<'_> {
+    PlacedNote {
+        offset,
+        note: ElfNote {
+            name: owner,
+            n_type: 1,
+            descriptor: &[],
+        },
+    }
+}
+
+#[test]
+fn names_other_systems(rt: HostRuntime) -> Result<(), Fail> {
+    for (owner, refusal) in OWNERS {
+        let notes = [note_of(b"CORE\0", 20), note_of(owner, 120)];
+        assert_eq!(rt; without_threads(&notes), refusal);
+    }
+    assert_eq!(rt; without_threads(&[]), CoreFileError::NoThreads);
     Ok(())
 }

@@ -11,6 +11,7 @@ use framehop_coredump::memory::memory_of;
 use framehop_coredump::note::read_notes;
 use framehop_coredump::process::read_process;
 use framehop_coredump::registers::x86_64_registers;
+use framehop_coredump::signal_info::SignalInfo;
 use framehop_coredump::thread::read_threads;
 use framehop_elf::segment::loaded_segments;
 use framehop_memory::memory::ProcessMemory;
@@ -189,6 +190,13 @@ fn reads_threads(rt: HostRuntime) -> Result<(), Fail> {
     assert_eq!(rt; threads.len(), 2);
     let first = threads.get(0).copied().ok_or("no thread")?;
     assert_eq!(rt; (first.tid, first.signal, first.offset), (32706, 11, 0x270));
+    // gdb's `$_siginfo`: SIGSEGV, SEGV_MAPERR and the address
+    let info = SignalInfo {
+        signal: 11,
+        code: 1,
+        fields: 0x10,
+    };
+    assert_eq!(rt; first.info, Some(info));
     let registers = x86_64_registers(first.registers).ok_or("no registers")?;
     assert_eq!(rt; registers.ip(), 0x40104e);
     for (register, value) in REGISTERS {
@@ -199,6 +207,7 @@ fn reads_threads(rt: HostRuntime) -> Result<(), Fail> {
         (second.tid, second.offset, second.pac_mask),
         (32707, 0x13e4, None)
     );
+    assert_eq!(rt; (second.signal, second.info), (11, None));
     let registers = x86_64_registers(second.registers).ok_or("no registers")?;
     assert_eq!(rt;
         (registers.ip(), registers.sp(), registers.bp()),

@@ -55,7 +55,7 @@ pub(crate) const PROGRAM: &str =
     75020000000000003e00000000000000000000000000000001000000000000000000000000000000";
 
 /// Its build id.
-const BUILD_ID: &str = "a7fba1f0563786fc7fac9841a10303c1ef557bee";
+pub(crate) const BUILD_ID: &str = "a7fba1f0563786fc7fac9841a10303c1ef557bee";
 
 /// What `readelf -h` prints.
 const HEADER: FileHeader = FileHeader {

@@ -65,6 +65,7 @@ const HEADER: FileHeader = FileHeader {
     size_of_image: 0x8000,
     size_of_headers: 0x2a0,
     number_of_rva_and_sizes: 16,
+    export_directory: None,
     exception_directory: Some(DataDirectory {
         virtual_address: 0x5000,
         size: 0x24,

@@ -17,7 +17,7 @@ loop-mapped-preserved c =
     let memory = memory_view c.args.memory.now in
     let views = map mapped_file_view files in
     let within : l.mapped-index < length files = omega arith in
-    let kept = c.in_ok-file.ensures ∙ file-kept memory views _ _ (c.in_ok-heads.ensures _) in
+    let kept = c.file_at.ensures ∙ file-kept memory views _ _ (c.in_ok-heads.ensures _) in
     text-next (λ mapped. code_if memory c.args.dumped.now.segments.now views (mapped_file_view mapped))
     files files refl l.mapped-index _ within _ _ l.invariant (c.in_ok-push_code.ensures _ kept)
 

@@ -1,9 +1,13 @@
-use Rattle.std.proofs.Common.{◌≡◌, ◌<◌, List, [], map, drop, length, refl, sym, subst, arith}
+use Rattle.std.proofs.Common.{◌≡◌, ◌<◌, ℕ, List, [], map, drop, length, refl, sym, subst, ap, arith}
 use Rattle.std.proofs.lemmas.List.{at_drop_all}
 use Rattle.framehop_dump_stacks.proofs.DumpLemmas.{code-left}
+use Rattle.framehop_dump_stacks.specs.Added.{AreAdded}
 use Rattle.framehop_dump_stacks.specs.Dump.{MappedCodeView, mapped_code_view}
-use Rattle.framehop_dump_stacks.specs.Modules.{AreAdded}
 use Rattle.framehop_dump_stacks.proofs.modules.read_files.Goals as goal
+
+-- what is wanted of the file of mapped code
+abbrev wanted : MappedCodeView → List ℕ × List ℕ
+wanted code = (code.path, code.build_id)
 
 pub loop-code-init : goal.loop-code-init
 loop-code-init g c = (c.in_ok-files.files, c.in_ok-files.ensures, λ last added. added)
@@ -18,7 +22,7 @@ loop-code-preserved g c =
       l.invariant.0,
       l.invariant.1,
       λ last rest. l.invariant.2 last
-          (subst (λ code. AreAdded source code l.files last) (sym left) (c.add.new.self, c.in_ok-add.ensures.either, rest)),
+          (subst (λ (code : List MappedCodeView). AreAdded source (map wanted code) l.files last) (sym left) (c.add.new.self, c.in_ok-add.ensures.either, rest)),
     )
 
 pub returns : goal.returns
@@ -29,5 +33,5 @@ returns g c =
       l.invariant.0,
       l.invariant.1,
       l.invariant.2 l.files (subst (λ (code : List MappedCodeView). AreAdded (g.S.FileSource.source c.args.source.now)
-          code l.files l.files) (sym none) refl),
+          (map wanted code) l.files l.files) (sym none) refl),
     )

@@ -1,14 +1,14 @@
 use Rattle.std.proofs.Common.{map, drop}
 use Rattle.framehop_symbols.specs.Files.{IsWithoutFiles}
 use Rattle.framehop_symbols.specs.declared.files.Files.{Files}
+use Rattle.framehop_dump_stacks.specs.Added.{AreAdded}
 use Rattle.framehop_dump_stacks.specs.Dump.{mapped_code_view}
-use Rattle.framehop_dump_stacks.specs.Modules.{AreAdded}
 use Rattle.framehop_dump_stacks.proofs.modules.read_files.Given as goal
 
 abbrev pub invariant-loop-code : goal.invariant-loop-code
 invariant-loop-code g l =
     (none : Files) × IsWithoutFiles none × ((last : Files)
     → AreAdded (g.S.FileSource.source l.source)
-    (map mapped_code_view (drop l.code-index l.dump.code.items)) l.files last
+    (map (λ code. (code.path, code.build_id)) (map mapped_code_view (drop l.code-index l.dump.code.items))) l.files last
     → AreAdded (g.S.FileSource.source l.source)
-    (map mapped_code_view l.dump.code.items) none last)
+    (map (λ code. (code.path, code.build_id)) (map mapped_code_view l.dump.code.items)) none last)

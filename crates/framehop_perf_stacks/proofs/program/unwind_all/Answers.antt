@@ -1,4 +1,4 @@
-use Rattle.std.proofs.Common.{◌≡◌, Err, true, refl, ap, sym, ◌∙◌, true≢false, arith}
+use Rattle.std.proofs.Common.{Err, true, refl, ap, sym, ◌∙◌, true≢false, arith}
 use Rattle.std.specs.Result.{is_err}
 use Rattle.std.proofs.lemmas.Result.{IfOk-from_err}
 use Rattle.framehop_perf_stacks.proofs.EndedLemmas.{first_ok, first_ok_refused, ends_more, either_error, refusal_of_second, cannot_write, same_error, if_err_weaker, if_err_at, if_err_none}
@@ -35,7 +35,7 @@ returns-clause-made g c = elim c.match-and.branch [
           (
             c.take_records-taken.new.self.counts,
             summed told.0 _ c.in_ok-run.run'.counts c.take_records-taken.new.self.counts told.2.0
-                (c.in_ok-run.ensures.none c.args.options.frames).samples (omega (arith, (c.in_ok-run.ensures.none c.args.options.frames).unsure))
+                (c.in_ok-run.ensures.none c.args.options.frames).samples (omega (arith, (c.in_ok-run.ensures.none c.args.options.frames).unsure)) (omega (arith, (c.in_ok-run.ensures.none c.args.options.frames).cut))
                 c.in_ok-run.ensures.endless
                 (both_ok c.write_counts-counted.result c.take_records-taken.result _ both c.take_records-taken.ensures.lost
                 ∙ ap (lost_over (records_in c.args.recording.now.records.items)) c.in_ok-run.ensures.unlost)
@@ -76,7 +76,7 @@ returns-clause-before g c = elim c.match-and.branch [
         (
           c.take_records-taken.new.self.counts,
           summed told.0 _ c.in_ok-run.run'.counts c.take_records-taken.new.self.counts told.2.0
-              (c.in_ok-run.ensures.none c.args.options.frames).samples (omega (arith, (c.in_ok-run.ensures.none c.args.options.frames).unsure))
+              (c.in_ok-run.ensures.none c.args.options.frames).samples (omega (arith, (c.in_ok-run.ensures.none c.args.options.frames).unsure)) (omega (arith, (c.in_ok-run.ensures.none c.args.options.frames).cut))
               c.in_ok-run.ensures.endless
               (c.take_records-taken.ensures.lost_before refusal taken
               ∙ ap (lost_over (before_refusal (records_in c.args.recording.now.records.items))) c.in_ok-run.ensures.unlost)

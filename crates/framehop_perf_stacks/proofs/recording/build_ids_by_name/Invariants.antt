@@ -1,4 +1,4 @@
-use Rattle.std.proofs.Common.{◌≡◌, ◌≤◌, map, drop, length}
+use Rattle.std.proofs.Common.{◌≤◌, map, drop, length}
 use Rattle.framehop_recording.specs.BuildIds.{file_build_id_view}
 use Rattle.framehop_perf_stacks.specs.Files.{HasBuildIds}
 use Rattle.framehop_perf_stacks.proofs.recording.build_ids_by_name.Given as goal

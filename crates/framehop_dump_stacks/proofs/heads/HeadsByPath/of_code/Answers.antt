@@ -15,7 +15,7 @@ loop-left-preserved c =
     let code = c.args.code.now in
     let left = l.left - 1 in
     let none : Bor (List ℕ) = record { ref_ptr = (0, 0); now = [] } in
-    let default : MappedCode = record { start = 0; end = 0; offset = 0; path = none; head = none; build_id = none; base = None } in
+    let default : MappedCode = record { start = 0; end = 0; offset = 0; path = none; head = none; build_id = none; base = None; memory_base = None } in
     let b = get_or code left default in
     let test = c.loop-left-test.true in
     let bound = l.invariant.0 in

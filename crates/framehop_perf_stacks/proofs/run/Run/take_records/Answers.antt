@@ -42,7 +42,7 @@ loop-timed-preserved g c =
     let records = c.args.recording.now.records.items in
     let attributes = map attribute_view c.args.recording.now.events.attributes.items in
     let module_of = g.M.ModuleMaker.module_of c.args.maker.now in
-    let text = text-same module_of g.U.Steps.walker g.U.Steps.is_note g.U.Sampled.starts c.args.options.frames c.args.options.sure c.args.options.explain c.args.options.limit c.args.files.now in
+    let text = text-same module_of g.U.Steps.walker g.U.Steps.is_note g.U.Sampled.starts c.args.options c.args.files.now in
     let after = c.in_ok-take_record.ensures in
     let items = c.deref-timed-items.result.now in
     let same = c.deref-timed-items.ensures.value in
@@ -55,7 +55,7 @@ loop-timed-preserved g c =
           let so = l.invariant.2 first agrees in
           let left = records-left items records same l.timed-index _ within in
           step c.args.files.now
-          (IsToldOf module_of g.U.Steps.walker g.U.Steps.is_note g.U.Sampled.starts c.args.options.frames c.args.options.sure c.args.options.explain c.args.options.limit c.args.files.now attributes)
+          (IsToldOf module_of g.U.Steps.walker g.U.Steps.is_note g.U.Sampled.starts c.args.options c.args.files.now attributes)
           (λ r state other named mapped. text state other named mapped (sample_in attributes r))
           c.args.options.frames (records_in records) first c.args.self.now.counts (g.W.Write.contents c.args.out.now)
           c.args.self.now.processes.generations
@@ -64,7 +64,7 @@ loop-timed-preserved g c =
           (g.W.Write.contents l.out) (g.W.Write.contents c.take_record.new.out)
           l.self.processes.generations c.take_record.new.self.processes.generations
           (subst (λ rest. IsSoFar c.args.files.now
-          (IsToldOf module_of g.U.Steps.walker g.U.Steps.is_note g.U.Sampled.starts c.args.options.frames c.args.options.sure c.args.options.explain c.args.options.limit c.args.files.now attributes)
+          (IsToldOf module_of g.U.Steps.walker g.U.Steps.is_note g.U.Sampled.starts c.args.options c.args.files.now attributes)
           c.args.options.frames (records_in records) first c.args.self.now.counts (g.W.Write.contents c.args.out.now)
           c.args.self.now.processes.generations rest
           l.self.names l.self.processes.by_pid l.self.counts (g.W.Write.contents l.out) l.self.processes.generations) left so)
@@ -93,7 +93,7 @@ returns-clause-told g c = λ first agrees.
     sym (append-nil so.told) ∙ ap (λ rest. so.told ++ rest) (sym none) ∙ so.samples in (
       so.texts,
       subst (λ told. Each (IsToldOf (g.M.ModuleMaker.module_of c.args.maker.now) g.U.Steps.walker g.U.Steps.is_note g.U.Sampled.starts
-          c.args.options.frames c.args.options.sure c.args.options.explain c.args.options.limit files (map attribute_view c.args.recording.now.events.attributes.items)) told so.texts) all so.each,
+          c.args.options files (map attribute_view c.args.recording.now.events.attributes.items)) told so.texts) all so.each,
       so.taken,
     )
 
@@ -117,7 +117,7 @@ returns-in_err-take_record-clause-before g c = λ first agrees refusal is.
     let frames = c.args.options.frames in
     let records = c.args.recording.now.records.items in
     let IsText = IsToldOf (g.M.ModuleMaker.module_of c.args.maker.now) g.U.Steps.walker g.U.Steps.is_note g.U.Sampled.starts
-    frames c.args.options.sure c.args.options.explain c.args.options.limit files (map attribute_view c.args.recording.now.events.attributes.items) in
+    c.args.options files (map attribute_view c.args.recording.now.events.attributes.items) in
     let items = c.deref-timed-items.result.now in
     let same = c.deref-timed-items.ensures.value in
     let within : l.timed-index < length items = omega arith in
@@ -158,7 +158,7 @@ returns-in_err-take_record-clause-lost_before g c = λ refusal is.
     let records = c.args.recording.now.records.items in
     let begun = state_in c.args.self.now.names c.args.self.now.processes.by_pid in
     let IsText = IsToldOf (g.M.ModuleMaker.module_of c.args.maker.now) g.U.Steps.walker g.U.Steps.is_note g.U.Sampled.starts
-    frames c.args.options.sure c.args.options.explain c.args.options.limit files (map attribute_view c.args.recording.now.events.attributes.items) in
+    c.args.options files (map attribute_view c.args.recording.now.events.attributes.items) in
     let items = c.deref-timed-items.result.now in
     let within : l.timed-index < length items = omega arith in
     let left = records-left items records c.deref-timed-items.ensures.value l.timed-index _ within in
@@ -181,7 +181,7 @@ returns-in_err-take_record-clause-refused g c = λ first agrees.
     let frames = c.args.options.frames in
     let records = c.args.recording.now.records.items in
     let IsText = IsToldOf (g.M.ModuleMaker.module_of c.args.maker.now) g.U.Steps.walker g.U.Steps.is_note g.U.Sampled.starts
-    frames c.args.options.sure c.args.options.explain c.args.options.limit files (map attribute_view c.args.recording.now.events.attributes.items) in
+    c.args.options files (map attribute_view c.args.recording.now.events.attributes.items) in
     let items = c.deref-timed-items.result.now in
     let same = c.deref-timed-items.ensures.value in
     let within : l.timed-index < length items = omega arith in

@@ -14,7 +14,7 @@ invariant-loop-timed g l =
     l.self.processes.by_pid l.self.processes.generations
     × AreCounted l.options.frames (count_by is_sample (take l.timed-index l.recording.records.items)) l.self.counts
     × ((first : State) → Agrees l.initial.self.names l.initial.self.processes.by_pid first →
-    IsSoFar l.files (IsToldOf (g.M.ModuleMaker.module_of l.maker) g.U.Steps.walker g.U.Steps.is_note g.U.Sampled.starts l.options.frames l.options.sure l.options.explain l.options.limit l.files
+    IsSoFar l.files (IsToldOf (g.M.ModuleMaker.module_of l.maker) g.U.Steps.walker g.U.Steps.is_note g.U.Sampled.starts l.options l.files
     (map attribute_view l.recording.events.attributes.items)) l.options.frames (records_in l.recording.records.items) first
     l.initial.self.counts (g.W.Write.contents l.initial.out) l.initial.self.processes.generations
     (records_in (drop l.timed-index l.recording.records.items))

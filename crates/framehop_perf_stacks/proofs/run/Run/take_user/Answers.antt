@@ -4,9 +4,9 @@ use Rattle.framehop.specs.Modules.{ModuleView, UnwinderView}
 use Rattle.framehop_frames.specs.Notes.{NotedStack, option_noted, AreStackNotes}
 use Rattle.framehop_frames.specs.Stack.{option_stack_view}
 use Rattle.framehop_processes.specs.declared.mapping.Mapping.{Mapping}
-use Rattle.framehop_recording.specs.Sample.{user_view}
+use Rattle.framehop_recording.specs.Sample.{user_view, read_chain_view}
 use Rattle.framehop_perf_stacks.specs.Processes.{mapped_in}
-use Rattle.framehop_perf_stacks.specs.Samples.{copied_memory, NotedIf, IsUserStack}
+use Rattle.framehop_perf_stacks.specs.Samples.{of_walk, copied_memory, NotedIf, IsUserStack}
 use Rattle.framehop_perf_stacks.proofs.ServedLemmas.{served-after, fit-known, modules-known}
 use Rattle.framehop_perf_stacks.proofs.run.Run.take_user.Goals as goal
 
@@ -27,7 +27,7 @@ returns-clause-told g c = λ module_of served.
     sym (ap (λ found. unwrap_or (option_map (λ known. known.mappings) found) []) c.known-process.ensures) in
     let explained = c.args.options.frames && c.args.options.explain in
     let start = c.start-start.result in
-    let stack = option_stack_view c.in_ok-walked.walked in
+    let stack = of_walk (option_stack_view c.in_ok-walked.walked) in
     let notes = c.as_slice.result.now in
     let memory = copied_memory c.args.user.stack.now start in
     let by-view = subst (λ (view : UnwinderView). NotedIf explained (AreStackNotes (g.U.Steps.is_note view.modules memory) (option_noted c.in_ok-walked.walked)) notes)
@@ -36,13 +36,13 @@ returns-clause-told g c = λ module_of served.
     let noted = subst (λ (of : Option (NotedStack g.row.U-UnwindRegs.Denot)). NotedIf explained (AreStackNotes (g.U.Steps.is_note process.unwinder.modules memory) of) notes)
     (c.in_ok-walked.ensures.noted fit.sound) by-view in
     let Told : List Mapping → List ModuleView → Type 0 = λ mappings list.
-    IsUserStack g.U.Steps.walker g.U.Steps.is_note g.U.Sampled.starts explained c.args.options.limit c.args.files.now mappings list c.args.mask (Ok (user_view c.args.user)) stack notes in (
+    IsUserStack g.U.Steps.walker g.U.Steps.is_note g.U.Sampled.starts explained c.args.options.limit c.args.files.now mappings list c.args.mask (read_chain_view c.args.sample.chain) (Ok (user_view c.args.user)) stack notes in (
       stack,
       (
         notes,
         subst (λ mappings. Told mappings (map module_of (mapped_in c.args.self.now.processes.by_pid pid))) mapped
             (subst (Told process.mappings) modules
-            (start, c.start-start.ensures process.unwinder.modules (sym c.greatest_end.ensures), c.in_ok-walked.ensures.walked fit.sound, noted)),
+            (start, c.start-start.ensures process.unwinder.modules (sym c.greatest_end.ensures), ap of_walk (c.in_ok-walked.ensures.walked fit.sound), noted)),
         c.in_ok-take_walked.ensures.taken,
       ),
     )

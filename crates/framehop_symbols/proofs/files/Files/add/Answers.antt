@@ -1,4 +1,4 @@
-use Rattle.std.proofs.Common.{rules, ◌≡◌, None, inr, ◌∙◌}
+use Rattle.std.proofs.Common.{rules, ◌≡◌, ℕ, true, None, is_some, inr, ◌∙◌}
 use Rattle.framehop_symbols.specs.Files.{number_in}
 use Rattle.framehop_symbols.proofs.MapLemmas.{lookup-insert_other}
 use Rattle.framehop_symbols.proofs.files.Files.add.Goals as goal
@@ -16,3 +16,9 @@ pub returns-clause-either : goal.returns-clause-either
 returns-clause-either g c =
     let none : number_in c.args.self.now c.args.name.now ≡ None = search rules in
     inr (none, returns-clause-added g c none)
+
+pub returns-in_err-insert-clause-known : goal.returns-in_err-insert-clause-known
+returns-in_err-insert-clause-known g c = λ some.
+    let none : number_in c.args.self.now c.args.name.now ≡ None = search rules in
+    let never : is_some {T = ℕ} None ≡ true = rw none at some in
+    cc

@@ -1,0 +1,52 @@
+//! The modules of a process as JSON.
+use crate::json::{hexadecimal, name_text};
+use framehop_processes::Mapping;
+use framehop_symbols::files::{Files, NamedFile};
+use serde_json::{Value, json};
+use std::alloc::{AllocError, Global};
+
+/// Returns the mappings of code of a process, in the order of their addresses, with what was found in their files.
+pub(crate) fn modules_value(
+    alloc: Global,
+    files: &Files,
+    mappings: &[Mapping],
+) -> Result<Value, AllocError> {
+    let mut values = Vec::new(alloc);
+    for mapping in mappings {
+        if let Some(file) = files.get(mapping.file) {
+            values.push(module_value(alloc, mapping, file)?)?;
+        }
+    }
+    Ok(Value::Array(values))
+}
+
+/// Returns a mapping of a file.
+fn module_value(alloc: Global, mapping: &Mapping, file: &NamedFile) -> Result<Value, AllocError> {
+    let name = name_text(alloc, file.name.as_slice())?;
+    let start = hexadecimal(alloc, mapping.start)?;
+    let end = hexadecimal(alloc, mapping.end)?;
+    json!(in alloc; {
+        "file": name.as_str(),
+        "start": start.as_str(),
+        "end": end.as_str(),
+        "file_read": file.object.is_some(),
+        "unwind_data": has_unwind_data(file),
+        "names": has_names(file)
+    })
+}
+
+/// Returns whether a file was read and has unwind data.
+fn has_unwind_data(file: &NamedFile) -> bool {
+    match &file.object {
+        Some(object) => object.has_unwind_data(),
+        None => false,
+    }
+}
+
+/// Returns whether a file was read and has names of functions.
+fn has_names(file: &NamedFile) -> bool {
+    match &file.object {
+        Some(object) => object.has_names(),
+        None => false,
+    }
+}

@@ -1,0 +1,163 @@
+//! From the bytes of a core file or a minidump to a report of its stacks.
+ghost use Rattle.std.specs.Prelude.{◌≡◌, ◌⊎◌, List, ℕ, Ok, Err, IfOk, IfErr, OnOk};
+ghost use Rattle.std.specs.Io.KnownBytes.{Appends};
+ghost use Rattle.framehop_coredump.specs.declared.error.CoreFileError.{CoreFileError};
+ghost use Rattle.framehop_minidump.specs.declared.error.MinidumpError.{MinidumpError};
+ghost use Rattle.framehop_symbols.specs.declared.files.Files.{Files};
+ghost use Rattle.framehop_dump_stacks.specs.CoreDump.{core_dump_of};
+ghost use Rattle.framehop_dump_stacks.specs.Dump.{DumpView, dump_view};
+ghost use Rattle.framehop_dump_stacks.specs.Minidump.{LoadedView, minidump_of, AreModuleFiles, dump_with};
+ghost use Rattle.framehop_dump_stacks.specs.Modules.{AreFilesOf, mappings_in};
+ghost use Rattle.framehop_dump_stacks.specs.Problems.{IsSaid};
+ghost use Rattle.framehop_dump_stacks.specs.Refusal.{of_core_file, of_minidump};
+ghost use Rattle.framehop_dump_stacks.specs.Report.{stacks_by, stacks_in};
+
+use crate::core_dump::read_core_dump;
+use crate::dump::Dump;
+use crate::error::DumpStacksError;
+use crate::heads::heads_of;
+use crate::machine::Dumped;
+use crate::minidump::{dump_in, read_module_files, read_parts, with_code};
+use crate::modules::{DumpModules, map_files, read_files};
+use crate::problems::said_text;
+use crate::report::{Report, stacks_of};
+use framehop::aarch64::UnwinderAarch64;
+use framehop::cache::MayAllocateDuringUnwind;
+use framehop::x86_64::UnwinderX86_64;
+use framehop_coredump::core_file::Machine;
+use framehop_processes::{ModuleMaker, Process};
+use framehop_symbols::files::{FileSource, Files};
+use std::alloc::Global;
+use std::io::Write;
+
+/// Writes a report of the stacks of a core file to `out`, and then to `err` what was missing, as
+/// [`crate::program::write_core_stacks`] does.
+///
+/// # Errors
+///
+/// `Core` with the first refusal of the core file; `OutOfMemory`, `GenerationsExhausted` and `CannotWrite`.
+pub fn report_core_stacks<S: FileSource, R: Report, W: Write, E: Write>(
+    alloc: Global,
+    file: &[u8],
+    source: &S,
+    limit: u32,
+    report: &R,
+    out: &mut W,
+    err: &mut E,
+) -> Result<(), DumpStacksError>
+    ensures printed { OnOk result ((dump : DumpView) × (core_dump_of file.now ≡ Ok dump)
+        × ((files : Files) × AreFilesOf (S.source source.now) dump files
+        × ((text : List ℕ) × R.makes report.now dump files (mappings_in dump files) (stacks_in limit dump files) text
+        × Appends (W.contents out.old) (W.contents out.new) text)
+        × ((said : List ℕ) × IsSaid dump files (mappings_in dump files) said
+        × Appends (E.contents err.old) (E.contents err.new) said))) }
+    ensures refused { (refusal : CoreFileError) → core_dump_of file.now ≡ Err refusal → IfErr result (λ error.
+        (error ≡ of_core_file refusal) ⊎ (error ≡ DumpStacksError.OutOfMemory)) }
+{
+    let dump = read_core_dump(alloc, file)?;
+    let files = read_files(alloc, &dump, source)?;
+    report_dump(alloc, &dump, &files, limit, report, out, err)?;
+    Ok(())
+}
+
+/// Writes a report of the stacks of a minidump to `out`, and then to `err` what was missing, as
+/// [`crate::program::write_minidump_stacks`] does.
+///
+/// # Errors
+///
+/// `Minidump` with the first refusal of the minidump; `OutOfMemory`, `GenerationsExhausted` and `CannotWrite`.
+pub fn report_minidump_stacks<S: FileSource, R: Report, W: Write, E: Write>(
+    alloc: Global,
+    file: &[u8],
+    source: &S,
+    limit: u32,
+    report: &R,
+    out: &mut W,
+    err: &mut E,
+) -> Result<(), DumpStacksError>
+    ensures printed { OnOk result ((minidump : DumpView × List LoadedView) × (minidump_of file.now ≡ Ok minidump)
+        × ((files : Files) × AreModuleFiles (S.source source.now) minidump.1 files
+        × ((text : List ℕ) × R.makes report.now (dump_with minidump files) files
+        (mappings_in (dump_with minidump files) files) (stacks_in limit (dump_with minidump files) files) text
+        × Appends (W.contents out.old) (W.contents out.new) text)
+        × ((said : List ℕ) × IsSaid (dump_with minidump files) files (mappings_in (dump_with minidump files) files) said
+        × Appends (E.contents err.old) (E.contents err.new) said))) }
+    ensures refused { (refusal : MinidumpError) → minidump_of file.now ≡ Err refusal → IfErr result (λ error.
+        (error ≡ of_minidump refusal) ⊎ (error ≡ DumpStacksError.OutOfMemory)) }
+{
+    let parts = read_parts(alloc, file)?;
+    let dump = dump_in(alloc, file, &parts)?;
+    let modules = parts.modules.as_slice();
+    let files = read_module_files(alloc, modules, source)?;
+    let whole = with_code(alloc, dump, &files, modules)?;
+    report_dump(alloc, &whole, &files, limit, report, out, err)?;
+    Ok(())
+}
+
+/// Writes a report of all threads, by the unwinder of their machine.
+fn report_dump<R: Report, W: Write, E: Write>(
+    alloc: Global,
+    dump: &Dump<'_>,
+    files: &Files,
+    limit: u32,
+    report: &R,
+    out: &mut W,
+    err: &mut E,
+) -> Result<(), DumpStacksError>
+    ensures printed { OnOk result ((text : List ℕ) × R.makes report.now (dump_view dump.now) files.now
+        (mappings_in (dump_view dump.now) files.now) (stacks_in limit (dump_view dump.now) files.now) text
+        × Appends (W.contents out.old) (W.contents out.new) text) }
+    ensures said { OnOk result ((said : List ℕ)
+        × IsSaid (dump_view dump.now) files.now (mappings_in (dump_view dump.now) files.now) said
+        × Appends (E.contents err.old) (E.contents err.new) said) }
+{
+    let heads = heads_of(alloc, dump)?;
+    let maker = DumpModules { dump, files, heads };
+    match dump.machine {
+        Machine::X86_64 => report_threads::<
+            UnwinderX86_64<Vec<u8>, MayAllocateDuringUnwind>,
+            DumpModules<'_, '_>,
+            R,
+            W,
+            E,
+        >(alloc, &maker, dump, files, limit, report, out, err),
+        Machine::Aarch64 => report_threads::<
+            UnwinderAarch64<Vec<u8>, MayAllocateDuringUnwind>,
+            DumpModules<'_, '_>,
+            R,
+            W,
+            E,
+        >(alloc, &maker, dump, files, limit, report, out, err),
+    }
+}
+
+/// Writes a report of all threads.
+fn report_threads<U: Dumped, M: ModuleMaker<U>, R: Report, W: Write, E: Write>(
+    alloc: Global,
+    maker: &M,
+    dump: &Dump<'_>,
+    files: &Files,
+    limit: u32,
+    report: &R,
+    out: &mut W,
+    err: &mut E,
+) -> Result<(), DumpStacksError>
+where
+    U::Cache: Drop,
+    U::Module: Drop,
+    ensures printed { OnOk result ((text : List ℕ) × R.makes report.now (dump_view dump.now) files.now
+        (mappings_in (dump_view dump.now) files.now)
+        (stacks_by U.walker U.begins limit (M.module_of maker.now) (dump_view dump.now) files.now) text
+        × Appends (W.contents out.old) (W.contents out.new) text) }
+    ensures said { OnOk result ((said : List ℕ)
+        × IsSaid (dump_view dump.now) files.now (mappings_in (dump_view dump.now) files.now) said
+        × Appends (E.contents err.old) (E.contents err.new) said) }
+{
+    let process: Process<U> = map_files(alloc, maker, dump, files)?;
+    let stacks = stacks_of(alloc, dump, files, &process, limit)?;
+    let text = report.report(alloc, dump, files, process.mappings(), stacks.as_slice())?;
+    out.write_all(text.as_slice())?;
+    let said = said_text(alloc, dump, files, process.mappings())?;
+    err.write_all(said.as_slice())?;
+    Ok(())
+}
