@@ -13,17 +13,16 @@ ghost use Rattle.framehop.specs.Modules.{greatest_end};
 ghost use Rattle.framehop.specs.Fresh.{step};
 ghost use Rattle.framehop.specs.Soundness.{MayRunOut, cache_after, cache_after_lookup};
 ghost use Rattle.framehop.specs.Aarch64.{aarch64, IsSoundAarch64};
-ghost use Rattle.framehop_cache.specs.Cache.{empty_cache};
 ghost use Rattle.framehop_lent.specs.Window.{words_from, told_in, AgreesWith, IsReadAs};
 ghost use Rattle.framehop_lent.specs.Walk.{BeginsWalk};
 ghost use Rattle.framehop_c.specs.Status.{ok, missing_word, out_of_memory, wrong_handle, generations_exhausted, could_not_read_stack, return_address_is_null};
 ghost use Rattle.framehop_c.specs.Ahead.{IsNoAhead, IsNullNext, IsToldNext, IsAsked, IsNeeded};
 ghost use Rattle.framehop_c.specs.Lookups.{lookup_between};
-ghost use Rattle.framehop_c.specs.Told.{IsToldWalk, IsToldPart, IsToldUpTo, IsToldStep, IsNullStep, IsNullWalk, IsStats, location_at, is_null_return, module_of};
+ghost use Rattle.framehop_c.specs.Told.{IsToldWalk, IsToldPart, IsToldUpTo, IsToldStep, IsNullStep, IsNullWalk, location_at, is_null_return, module_of};
 ghost use Rattle.framehop_c.specs.Objects.{generations_in, ForGenerations, policy_for, IsDrawn, IsAddition, IsRemoval};
-ghost use Rattle.framehop_c.specs.Aarch64.{registers_in, unwinder_in, cache_in, IsPaired, ForPair, ForUnwinder, StaysSound, RunsOutOnly, walk_over};
+ghost use Rattle.framehop_c.specs.Aarch64.{registers_in, unwinder_in, IsPaired, ForPair, ForUnwinder, StaysSound, RunsOutOnly, walk_over};
 
-use crate::calls::{self, FramehopCacheStats, FramehopStep, FramehopWalk};
+use crate::calls::{self, FramehopStep, FramehopWalk};
 use crate::handle::{Handle, HandlePlace, hand_out};
 use crate::next::{self, FramehopNext};
 use crate::object::Object;
@@ -65,50 +64,6 @@ impl FramehopRegistersAarch64 {
         self.sp = regs.sp();
         self.fp = regs.fp();
     }
-}
-
-/// Makes an empty cache.
-#[unsafe(no_mangle)]
-pub extern "C" fn framehop_cache_aarch64_new(
-    alloc: Global,
-    may_allocate: bool,
-    place: &mut HandlePlace,
-) -> i32
-    ensures made { result ≡ ok → cache_in place.new.object ≡ Some (policy_for may_allocate, empty_cache) }
-    ensures kept { result ≢ ok → place.new ≡ place.old }
-    ensures statuses { (result ≡ ok) ⊎ (result ≡ out_of_memory) }
-{
-    if may_allocate {
-        match CacheAarch64::new(alloc) {
-            Ok(cache) => hand_out(alloc, Object::CacheAarch64(cache), place),
-            Err(_) => FRAMEHOP_OUT_OF_MEMORY,
-        }
-    } else {
-        match CacheAarch64::new_in(alloc) {
-            Ok(cache) => hand_out(alloc, Object::LimitedCacheAarch64(cache), place),
-            Err(_) => FRAMEHOP_OUT_OF_MEMORY,
-        }
-    }
-}
-
-/// Writes the counts of a cache's lookups.
-#[unsafe(no_mangle)]
-pub extern "C" fn framehop_cache_aarch64_stats(
-    cache: &mut Handle,
-    stats: &mut FramehopCacheStats,
-) -> i32
-    ensures stats { MatchOption (cache_in cache.old.object) (result ≡ wrong_handle)
-        (λ cache. (result ≡ ok) × IsStats stats.new cache.1.stats) }
-    ensures unchanged { result ≡ wrong_handle → stats.new ≡ stats.old }
-    ensures kept { cache.new.object ≡ cache.old.object }
-{
-    let counts = match cache.object_mut() {
-        Object::CacheAarch64(cache) => cache.stats(),
-        Object::LimitedCacheAarch64(cache) => cache.stats(),
-        _ => return FRAMEHOP_WRONG_HANDLE,
-    };
-    stats.store(&counts);
-    FRAMEHOP_OK
 }
 
 /// Makes an unwinder without modules, of the next generation.

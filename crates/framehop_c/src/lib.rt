@@ -2,6 +2,7 @@
 #![tactic(auto)]
 
 pub mod aarch64;
+pub mod cache;
 pub mod calls;
 pub mod handle;
 pub mod lookups;
