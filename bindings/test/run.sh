@@ -143,7 +143,7 @@ if command -v gcore > /dev/null && command -v eu-stack > /dev/null; then
             | sed -nE 's/^(TID [0-9]+:|#[0-9]+ +0x[0-9a-f]+).*/\1/p' | tr -s ' ' | diff - "$work/frames"
         echo "framehop.py: $(grep -c '^#' "$work/frames") frames of $(grep -c '^TID' "$work/frames") threads as eu-stack has them"
         if [ -x "$top/out/framehop-stacks" ]; then
-            "$top/out/framehop-stacks" "$work/core.$profiled" | sed -nE 's/^([0-9a-f]+) .*/\1/p' > "$work/expected"
+            "$top/out/framehop-stacks" "$work/core.$profiled" | sed -nE 's/^#[0-9]+ ([0-9a-f]+) .*/\1/p' > "$work/expected"
             sed -n 's/^#[0-9]* 0x0*//p' "$work/stacks" | diff "$work/expected" -
             echo "framehop.py: the same frames as framehop-stacks has them"
         fi
