@@ -1,8 +1,8 @@
 #!/usr/bin/env python3
 """mutate_core_files.py PROGRAM COUNT CORE..: runs framehop-stacks on copies of core files with bytes changed, cut out or repeated.
 
-Each run must end with status 0, or with status 1 and a refusal that names an offset, within a second and one more for each megabyte.
-Half of the changes are in the program headers and the notes. Prints how many ended by which status, what was refused how often, and
+Each run must end with status 0, or with status 1 and a refusal that names an offset or what the file is not, within a second and one
+more for each megabyte. Half of the changes are in the program headers and the notes. Prints how many ended by which status, what was refused how often, and
 the slowest run; with status 1 where a run ended otherwise. The changes are the same in each run of this script.
 """
 
@@ -31,7 +31,7 @@ def changed_core(cores, source):
 
 
 def is_named(said):
-    return re.search(r"offset \d+", said)
+    return re.search(r"offset \d+|without threads|no folded stack", said)
 
 
 def main():
@@ -57,4 +57,5 @@ def main():
     sys.exit(1 if bad else 0)
 
 
-main()
+if __name__ == "__main__":
+    main()

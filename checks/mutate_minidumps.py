@@ -1,7 +1,8 @@
 #!/usr/bin/env python3
 """mutate_minidumps.py PROGRAM COUNT MINIDUMP..: runs framehop-stacks on copies of minidumps with bytes changed, cut out or repeated.
 
-Each run must end with status 0, or with status 1 and a refusal that names an offset, within a second and one more for each megabyte.
+Each run must end with status 0, or with status 1 and a refusal that names an offset or what the file is not, within a second and one
+more for each megabyte.
 Half of the changes are in the header, the directory and the streams that it names; in those of text from /proc, too. Prints how many
 ended by which status, what was refused how often, and the slowest run; with status 1 where a run ended otherwise. The changes are the
 same in each run of this script.
@@ -13,6 +14,7 @@ import struct
 import sys
 from collections import Counter
 
+from mutate_core_files import is_named
 from mutate_recordings import changed, run
 
 
@@ -43,7 +45,7 @@ def main():
         slowest = max(slowest, (took, seed))
         if status == 1:
             refusals[re.sub(r"\d+", "N", said.split(": ", 2)[-1])] += 1
-        if status not in (0, 1) or took > 1 + len(data) / 1e6 or (status == 1 and not re.search(r"offset \d+", said)):
+        if status not in (0, 1) or took > 1 + len(data) / 1e6 or (status == 1 and not is_named(said)):
             bad.append((seed, status, took, said))
     print("status", dict(ends), "slowest %.2f s (seed %s)" % slowest)
     for text, number in refusals.most_common():

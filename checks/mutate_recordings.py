@@ -58,7 +58,9 @@ def main():
         slowest = max(slowest, (took, seed))
         if status == 1:
             refusals[said.split(": ", 2)[-1].rstrip("0123456789")] += 1
-        if status not in (0, 1) or took > 1:
+        # what is left of a recording may be taken for folded stacks, of which there are no frames
+        is_text = status == 2 and "folded stacks" in said
+        if not (status in (0, 1) or is_text) or took > 1:
             bad.append((seed, status, took))
     print("status", dict(ends), "slowest %.2f s for a megabyte (seed %s)" % slowest)
     for text, number in refusals.most_common():
