@@ -10,7 +10,7 @@ top=$(cd "$(dirname "$0")/../.." && pwd)
 root=$(realpath -- "$1")
 work=$(mktemp -d)
 inside=/tmp/framehop-tried
-trap 'rm -rf "$work" "$root$inside"' EXIT
+trap 'chroot "$root" dpkg -r framehop >/dev/null 2>&1; rm -rf "$work" "$root$inside"' EXIT
 version=$(sed -n 's/^version = "\(.*\)"/\1/p' "$top/bindings/rust/Cargo.toml")
 
 # Runs a command in the root, in the folder of what is tried there.
@@ -34,8 +34,7 @@ echo "each program says its version"
 # shellcheck disable=SC2046
 within framehop-stacks $(cat "$top/crates/framehop_stacks_cli/args") 2>/dev/null | cmp - "$top/crates/framehop_stacks_cli/stdout"
 echo "framehop-stacks: its stored run"
-within framehop-walk libm-walk.json | python3 -c 'import json, sys; print(len(json.load(sys.stdin)))' >"$work/replies"
-[ "$(cat "$work/replies")" -gt 0 ]
+within framehop-walk libm-walk.json | cmp - "$top/examples/libm-walk.expected"
 within framehop-explain --elf srv/tiny | grep -q .
 within framehop-check srv/tiny >/dev/null || [ $? = 1 ]
 echo "framehop-walk, framehop-explain and framehop-check: a run each"
