@@ -10,9 +10,12 @@ ghost use Rattle.framehop_cfi.specs.RowMeaning.{IsRowAt};
 ghost use Rattle.framehop_cfi.specs.RowRoom.{needs_room, list_needs_room, row_needs_room};
 ghost use Rattle.framehop_cfi.specs.RowAt.{location_after, risen, is_beyond, run_from, rows_at, row_at, start, begun, covers};
 ghost use Rattle.framehop_cfi.specs.RowCursor.{HasReached, HaveRow, HaveNoRow};
+ghost use Rattle.framehop_cfi.specs.Turn.{Turns, turn, obeyed, turn_needs_room, obeying_needs_room};
 
 use crate::entry::{CommonInformationEntry, FrameDescriptionEntry, UnwindSection};
-use crate::instruction::CallFrameInstruction;
+use crate::instruction::{CallFrameInstruction, read_next_factored, read_next_offset};
+use crate::instruction_code::*;
+use crate::numbers::read_u8;
 use crate::pointer::SectionBaseAddresses;
 use crate::read_error::ReadError;
 use crate::row::UnwindTableRow;
@@ -194,19 +197,110 @@ impl<S: UnwindContextStorage> UnwindContext<S> {
         ensures room { IsErrOf result ReadError.OutOfMemory →
             list_needs_room (record { cie = cie.now; bases = bases.now; bytes = bytes.now; address = address }) at start ≡ true }
     {
-        let mut location = start;
-        let mut next = at;
-        while next < bytes.len() {
-            let (instruction, after_instruction) = cie.read_next(bases, bytes, next)?;
-            let moved = location_after(cie, address, location, instruction)?;
-            if is_beyond(address, moved) {
-                return Ok(());
+        let mut cursor = RowCursor {
+            next: at,
+            location: start,
+        };
+        while cursor.next < bytes.len() {
+            match self.run_next(cie, bases, bytes, address, cursor)? {
+                Some(after) => cursor = after,
+                None => return Ok(()),
             }
-            self.execute(instruction)?;
-            location = moved;
-            next = after_instruction;
         }
         Ok(())
+    }
+
+    /// Runs the instruction at a cursor, and returns the cursor after it, or `None` where the location moves beyond
+    /// the address. Those that are common are read and run inlined, so that they are never in memory; another by a call.
+    #[inline(always)]
+    #[tactic(auto, unfolding(crate::specs::Instruction::instruction_at))]
+    fn run_next(
+        &mut self,
+        cie: &CommonInformationEntry,
+        bases: &SectionBaseAddresses,
+        bytes: &[u8],
+        address: Option<u64>,
+        cursor: RowCursor,
+    ) -> Result<Option<RowCursor>, ReadError>
+        ensures exact { Turns result self.new (turn S.limits (record { cie = cie.now; bases = bases.now; bytes = bytes.now; address = address }) cursor.next cursor.location self.old) }
+        ensures memory { IsErrOf result ReadError.OutOfMemory → S.limits ≡ None }
+        ensures room { IsErrOf result ReadError.OutOfMemory →
+            turn_needs_room (record { cie = cie.now; bases = bases.now; bytes = bytes.now; address = address }) cursor.next cursor.location ≡ true }
+    {
+        let location = cursor.location;
+        let (code, at) = read_u8(bytes, cursor.next)?;
+        if DW_CFA_ADVANCE_LOC <= code && code < DW_CFA_OFFSET {
+            let delta = u32::from(code - DW_CFA_ADVANCE_LOC);
+            let advance = CallFrameInstruction::AdvanceLoc { delta };
+            return self.obey(cie, address, location, advance, at);
+        }
+        if DW_CFA_OFFSET <= code && code < DW_CFA_RESTORE {
+            let register = Register(u16::from(code - DW_CFA_OFFSET));
+            let (offset, next) = read_next_factored(cie.data_alignment_factor, bytes, at)?;
+            let rule = RegisterRule::Offset(offset);
+            let set_rule = CallFrameInstruction::SetRule { register, rule };
+            return self.obey(cie, address, location, set_rule, next);
+        }
+        if code == DW_CFA_DEF_CFA_OFFSET {
+            let (offset, next) = read_next_offset(bytes, at)?;
+            let set_offset = CallFrameInstruction::DefCfaOffset { offset };
+            return self.obey(cie, address, location, set_offset, next);
+        }
+        if code == DW_CFA_NOP {
+            return self.obey(cie, address, location, CallFrameInstruction::Nop, at);
+        }
+        if code == DW_CFA_ADVANCE_LOC1 {
+            let (delta, next) = read_u8(bytes, at)?;
+            let delta = u32::from(delta);
+            let advance = CallFrameInstruction::AdvanceLoc { delta };
+            return self.obey(cie, address, location, advance, next);
+        }
+        self.run_other(cie, bases, bytes, address, cursor)
+    }
+
+    /// Runs any instruction at a cursor.
+    #[inline(never)]
+    fn run_other(
+        &mut self,
+        cie: &CommonInformationEntry,
+        bases: &SectionBaseAddresses,
+        bytes: &[u8],
+        address: Option<u64>,
+        cursor: RowCursor,
+    ) -> Result<Option<RowCursor>, ReadError>
+        ensures exact { Turns result self.new (turn S.limits (record { cie = cie.now; bases = bases.now; bytes = bytes.now; address = address }) cursor.next cursor.location self.old) }
+        ensures memory { IsErrOf result ReadError.OutOfMemory → S.limits ≡ None }
+        ensures room { IsErrOf result ReadError.OutOfMemory →
+            turn_needs_room (record { cie = cie.now; bases = bases.now; bytes = bytes.now; address = address }) cursor.next cursor.location ≡ true }
+    {
+        let (instruction, next) = cie.read_instruction(bases, bytes, cursor.next)?;
+        self.obey(cie, address, cursor.location, instruction, next)
+    }
+
+    /// Does what an instruction says, and returns the cursor after it, or `None` where it moves the location beyond the
+    /// address.
+    #[inline(always)]
+    fn obey(
+        &mut self,
+        cie: &CommonInformationEntry,
+        address: Option<u64>,
+        location: u64,
+        instruction: CallFrameInstruction,
+        next: usize,
+    ) -> Result<Option<RowCursor>, ReadError>
+        ensures exact { Turns result self.new (obeyed S.limits cie.now address location (instruction, next) self.old) }
+        ensures memory { IsErrOf result ReadError.OutOfMemory → S.limits ≡ None }
+        ensures room { IsErrOf result ReadError.OutOfMemory → obeying_needs_room cie.now address location instruction ≡ true }
+    {
+        let moved = location_after(cie, address, location, instruction)?;
+        if is_beyond(address, moved) {
+            return Ok(None);
+        }
+        self.execute(instruction)?;
+        Ok(Some(RowCursor {
+            next,
+            location: moved,
+        }))
     }
 
     /// Keeps the row as the one that the CIE left.

@@ -228,6 +228,36 @@ fn read_short_factored(alignment: i64, bytes: &[u8], at: usize) -> Option<(i64, 
     Some((product, next))
 }
 
+/// Returns an offset that is not factored: one of one byte inlined, another by a call.
+#[inline(always)]
+pub(crate) fn read_next_offset(bytes: &[u8], at: usize) -> Result<(i64, usize), ReadError>
+    ensures exact { result ≡ offset_at bytes.now at }
+    ensures forward { IfOk result (λ read. at < read.1) }
+    ensures memory { result ≢ Err ReadError.OutOfMemory }
+{
+    match read_short_offset(bytes, at) {
+        Some(read) => Ok(read),
+        None => read_offset(bytes, at),
+    }
+}
+
+/// Returns an unsigned number times the data alignment: one of one byte inlined, another by a call.
+#[inline(always)]
+pub(crate) fn read_next_factored(
+    alignment: i64,
+    bytes: &[u8],
+    at: usize,
+) -> Result<(i64, usize), ReadError>
+    ensures exact { result ≡ factored_at alignment bytes.now at }
+    ensures forward { IfOk result (λ read. at < read.1) }
+    ensures memory { result ≢ Err ReadError.OutOfMemory }
+{
+    match read_short_factored(alignment, bytes, at) {
+        Some(read) => Ok(read),
+        None => read_factored(alignment, bytes, at),
+    }
+}
+
 /// Returns an advance of the location by one, two or four bytes, by its code.
 fn read_advance(
     code: u8,
@@ -306,6 +336,7 @@ fn read_def_cfa(bytes: &[u8], at: usize) -> Result<(CallFrameInstruction, usize)
 
 /// Returns an offset that is not factored.
 #[tactic(auto, unfolding(crate::specs::Instruction::offset_at))]
+#[inline(never)]
 fn read_offset(bytes: &[u8], at: usize) -> Result<(i64, usize), ReadError>
     ensures exact { result ≡ offset_at bytes.now at }
     ensures forward { IfOk result (λ read. at < read.1) }
@@ -398,6 +429,7 @@ fn read_rule(
 
 /// Returns an unsigned number times the data alignment.
 #[tactic(auto, unfolding(crate::specs::Instruction::factored_at))]
+#[inline(never)]
 fn read_factored(alignment: i64, bytes: &[u8], at: usize) -> Result<(i64, usize), ReadError>
     ensures exact { result ≡ factored_at alignment bytes.now at }
     ensures forward { IfOk result (λ read. at < read.1) }
