@@ -102,7 +102,7 @@ module _ (limits : Option StorageLimits) (code : InstructionList) where
               reads = read.1 ∙ ap (λ n. Ok (read.0.0, n)) next;
               moves = moved.1 ∙ ap (λ n. Ok n) there;
               near = ap (λ n. is_beyond code.address n) (sym there) ∙ near;
-              does = done.1 ∙ ap (λ r. Ok r) same.1
+              does = done.1 ∙ ap (λ r. Ok r) same.1;
             }
       ]
 
@@ -112,6 +112,11 @@ module _ (limits : Option StorageLimits) (code : InstructionList) where
   turn-forward at location rows cursor after is =
       let step = goes at location rows cursor after is in
       instruction-forward code.cie code.bases code.bytes at (step.instruction, cursor.next) step.reads
+
+  -- and its location is not beyond the address
+  pub turn-near : (at location : ℕ) (rows : TableRows) (cursor : RowCursor) (after : TableRows)
+      → turn limits code at location rows ≡ Ok (Some cursor, after) → is_beyond code.address cursor.location ≡ false
+  turn-near at location rows cursor after is = (goes at location rows cursor after is).near
 
   -- what is known of a list at one of its instructions is known after it
   pub turn-on : (n at location : ℕ) (rows : TableRows) (cursor : RowCursor) (after : TableRows)

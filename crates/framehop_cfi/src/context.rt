@@ -2,7 +2,7 @@
 //!
 //! A row is changed in place, instruction by instruction. The room for rows is kept from one address to the next,
 //! so that no memory is taken under `StoreOnStack`.
-ghost use Rattle.std.specs.Prelude.{◌≡◌, ◌≢◌, ◌*◌, ◌+◌, ◌^◌, ◌<◌, ◌≤◌, length, true, IfOk, IfErr, OnOk, OnErr, IsErrOf, None, Err, vec_len};
+ghost use Rattle.std.specs.Prelude.{◌≡◌, ◌≢◌, ◌*◌, ◌+◌, ◌^◌, ◌<◌, ◌≤◌, length, true, false, IfOk, IfErr, OnOk, OnErr, IsErrOf, None, Err, vec_len};
 ghost use Rattle.framehop_cfi.specs.TableRows.{TableRows, effect, setting, restoring, remembering, restoring_state};
 ghost use Rattle.framehop_cfi.specs.Outcome.{Becomes};
 ghost use Rattle.framehop_cfi.specs.Row.{Row};
@@ -13,9 +13,11 @@ ghost use Rattle.framehop_cfi.specs.RowCursor.{HasReached, HaveRow, HaveNoRow};
 ghost use Rattle.framehop_cfi.specs.Turn.{Turns, turn, obeyed, turn_needs_room, obeying_needs_room};
 
 use crate::entry::{CommonInformationEntry, FrameDescriptionEntry, UnwindSection};
-use crate::instruction::{CallFrameInstruction, read_next_factored, read_next_offset};
+use crate::instruction::{
+    CallFrameInstruction, read_next_factored, read_next_offset, read_next_register,
+};
 use crate::instruction_code::*;
-use crate::numbers::read_u8;
+use crate::numbers::{read_u8, read_u16};
 use crate::pointer::SectionBaseAddresses;
 use crate::read_error::ReadError;
 use crate::row::UnwindTableRow;
@@ -192,6 +194,7 @@ impl<S: UnwindContextStorage> UnwindContext<S> {
         start: u64,
         address: Option<u64>,
     ) -> Result<(), ReadError>
+        requires near { is_beyond address start ≡ false }
         ensures exact { Becomes result self.new (run_from S.limits (record { cie = cie.now; bases = bases.now; bytes = bytes.now; address = address }) at start self.old) }
         ensures memory { IsErrOf result ReadError.OutOfMemory → S.limits ≡ None }
         ensures room { IsErrOf result ReadError.OutOfMemory →
@@ -222,6 +225,7 @@ impl<S: UnwindContextStorage> UnwindContext<S> {
         address: Option<u64>,
         cursor: RowCursor,
     ) -> Result<Option<RowCursor>, ReadError>
+        requires near { is_beyond address cursor.location ≡ false }
         ensures exact { Turns result self.new (turn S.limits (record { cie = cie.now; bases = bases.now; bytes = bytes.now; address = address }) cursor.next cursor.location self.old) }
         ensures memory { IsErrOf result ReadError.OutOfMemory → S.limits ≡ None }
         ensures room { IsErrOf result ReadError.OutOfMemory →
@@ -241,21 +245,101 @@ impl<S: UnwindContextStorage> UnwindContext<S> {
             let set_rule = CallFrameInstruction::SetRule { register, rule };
             return self.obey(cie, address, location, set_rule, next);
         }
-        if code == DW_CFA_DEF_CFA_OFFSET {
-            let (offset, next) = read_next_offset(bytes, at)?;
-            let set_offset = CallFrameInstruction::DefCfaOffset { offset };
-            return self.obey(cie, address, location, set_offset, next);
+        self.run_coded(cie, bases, bytes, address, cursor)
+    }
+
+    /// Runs the instruction at a cursor: one of the common ones whose byte is only a code inlined, another by a call.
+    #[inline(always)]
+    #[tactic(auto, unfolding(crate::specs::Instruction::instruction_at, crate::specs::Instruction::def_cfa_at))]
+    fn run_coded(
+        &mut self,
+        cie: &CommonInformationEntry,
+        bases: &SectionBaseAddresses,
+        bytes: &[u8],
+        address: Option<u64>,
+        cursor: RowCursor,
+    ) -> Result<Option<RowCursor>, ReadError>
+        requires near { is_beyond address cursor.location ≡ false }
+        ensures exact { Turns result self.new (turn S.limits (record { cie = cie.now; bases = bases.now; bytes = bytes.now; address = address }) cursor.next cursor.location self.old) }
+        ensures memory { IsErrOf result ReadError.OutOfMemory → S.limits ≡ None }
+        ensures room { IsErrOf result ReadError.OutOfMemory →
+            turn_needs_room (record { cie = cie.now; bases = bases.now; bytes = bytes.now; address = address }) cursor.next cursor.location ≡ true }
+    {
+        let location = cursor.location;
+        let (code, at) = read_u8(bytes, cursor.next)?;
+        match code {
+            DW_CFA_NOP => self.obey(cie, address, location, CallFrameInstruction::Nop, at),
+            DW_CFA_DEF_CFA_OFFSET => {
+                let (offset, next) = read_next_offset(bytes, at)?;
+                let set_offset = CallFrameInstruction::DefCfaOffset { offset };
+                self.obey(cie, address, location, set_offset, next)
+            }
+            DW_CFA_ADVANCE_LOC1 => {
+                let (delta, next) = read_u8(bytes, at)?;
+                let delta = u32::from(delta);
+                let advance = CallFrameInstruction::AdvanceLoc { delta };
+                self.obey(cie, address, location, advance, next)
+            }
+            DW_CFA_ADVANCE_LOC2 => {
+                let (delta, next) = read_u16(bytes, at)?;
+                let delta = u32::from(delta);
+                let advance = CallFrameInstruction::AdvanceLoc { delta };
+                self.obey(cie, address, location, advance, next)
+            }
+            DW_CFA_REMEMBER_STATE => {
+                self.obey(
+                    cie,
+                    address,
+                    location,
+                    CallFrameInstruction::RememberState,
+                    at,
+                )
+            }
+            DW_CFA_RESTORE_STATE => {
+                self.obey(
+                    cie,
+                    address,
+                    location,
+                    CallFrameInstruction::RestoreState,
+                    at,
+                )
+            }
+            DW_CFA_DEF_CFA => {
+                let (register, next) = read_next_register(bytes, at)?;
+                let (offset, next) = read_next_offset(bytes, next)?;
+                let rule = CfaRule::RegisterAndOffset { register, offset };
+                self.obey(
+                    cie,
+                    address,
+                    location,
+                    CallFrameInstruction::DefCfa(rule),
+                    next,
+                )
+            }
+            _ => self.run_rare(cie, bases, bytes, address, cursor),
         }
-        if code == DW_CFA_NOP {
-            return self.obey(cie, address, location, CallFrameInstruction::Nop, at);
+    }
+
+    /// Runs any instruction at a cursor, by a call. What it returns is taken apart, so that only here it is in memory.
+    #[inline(always)]
+    fn run_rare(
+        &mut self,
+        cie: &CommonInformationEntry,
+        bases: &SectionBaseAddresses,
+        bytes: &[u8],
+        address: Option<u64>,
+        cursor: RowCursor,
+    ) -> Result<Option<RowCursor>, ReadError>
+        requires near { is_beyond address cursor.location ≡ false }
+        ensures exact { Turns result self.new (turn S.limits (record { cie = cie.now; bases = bases.now; bytes = bytes.now; address = address }) cursor.next cursor.location self.old) }
+        ensures memory { IsErrOf result ReadError.OutOfMemory → S.limits ≡ None }
+        ensures room { IsErrOf result ReadError.OutOfMemory →
+            turn_needs_room (record { cie = cie.now; bases = bases.now; bytes = bytes.now; address = address }) cursor.next cursor.location ≡ true }
+    {
+        match self.run_other(cie, bases, bytes, address, cursor)? {
+            Some(RowCursor { next, location }) => Ok(Some(RowCursor { next, location })),
+            None => Ok(None),
         }
-        if code == DW_CFA_ADVANCE_LOC1 {
-            let (delta, next) = read_u8(bytes, at)?;
-            let delta = u32::from(delta);
-            let advance = CallFrameInstruction::AdvanceLoc { delta };
-            return self.obey(cie, address, location, advance, next);
-        }
-        self.run_other(cie, bases, bytes, address, cursor)
     }
 
     /// Runs any instruction at a cursor.
@@ -268,6 +352,7 @@ impl<S: UnwindContextStorage> UnwindContext<S> {
         address: Option<u64>,
         cursor: RowCursor,
     ) -> Result<Option<RowCursor>, ReadError>
+        requires near { is_beyond address cursor.location ≡ false }
         ensures exact { Turns result self.new (turn S.limits (record { cie = cie.now; bases = bases.now; bytes = bytes.now; address = address }) cursor.next cursor.location self.old) }
         ensures memory { IsErrOf result ReadError.OutOfMemory → S.limits ≡ None }
         ensures room { IsErrOf result ReadError.OutOfMemory →
@@ -288,12 +373,13 @@ impl<S: UnwindContextStorage> UnwindContext<S> {
         instruction: CallFrameInstruction,
         next: usize,
     ) -> Result<Option<RowCursor>, ReadError>
+        requires near { is_beyond address location ≡ false }
         ensures exact { Turns result self.new (obeyed S.limits cie.now address location (instruction, next) self.old) }
         ensures memory { IsErrOf result ReadError.OutOfMemory → S.limits ≡ None }
         ensures room { IsErrOf result ReadError.OutOfMemory → obeying_needs_room cie.now address location instruction ≡ true }
     {
         let moved = location_after(cie, address, location, instruction)?;
-        if is_beyond(address, moved) {
+        if moved != location && is_beyond(address, moved) {
             return Ok(None);
         }
         self.execute(instruction)?;

@@ -2,12 +2,12 @@ use Rattle.std.proofs.Common.{suc, length, refl, sym, ◌∙◌, arith}
 use Rattle.std.proofs.lemmas.Result.{err_from_is_err_and}
 use Rattle.framehop_cfi.specs.RowAt.{run_from}
 use Rattle.framehop_cfi.specs.RowRoom.{list_needs_room}
-use Rattle.framehop_cfi.proofs.Turn.{turn-refused, turn-forward, turn-on}
+use Rattle.framehop_cfi.proofs.Turn.{turn-refused, turn-forward, turn-near, turn-on}
 use Rattle.framehop_cfi.proofs.context.UnwindContext.run.Goals as goal
 
 pub loop-cursor-init : goal.loop-cursor-init
 unfolding run_from list_needs_room
-loop-cursor-init g c = (suc (length c.args.bytes.now), omega arith, refl, λ needs. needs)
+loop-cursor-init g c = (suc (length c.args.bytes.now), omega arith, refl, λ needs. needs, c.requires.near)
 
 pub returns-in_err-after-clause-exact : goal.returns-in_err-after-clause-exact
 returns-in_err-after-clause-exact g c =
@@ -27,5 +27,8 @@ pub loop-cursor-preserved : goal.loop-cursor-preserved
 loop-cursor-preserved g c =
     let inv = c.loop-cursor.invariant in
     let is = rw c.in-Some.is at c.in_ok-after.ensures.exact in
-    turn-on g.S.UnwindContextStorage.limits _ inv.0 c.loop-cursor.cursor.next c.loop-cursor.cursor.location
-    c.loop-cursor.self c.in-Some.after c.run_next.new.self _ _ (inv.1, c.loop-cursor-test.true) is inv.2 inv.3
+    let on = turn-on g.S.UnwindContextStorage.limits _ inv.0 c.loop-cursor.cursor.next c.loop-cursor.cursor.location
+    c.loop-cursor.self c.in-Some.after c.run_next.new.self _ _ (inv.1, c.loop-cursor-test.true) is inv.2 inv.3 in
+    let near = turn-near g.S.UnwindContextStorage.limits _ c.loop-cursor.cursor.next c.loop-cursor.cursor.location
+    c.loop-cursor.self c.in-Some.after c.run_next.new.self is in
+    (on.0, on.1, on.2, on.3, near)
