@@ -248,7 +248,7 @@ impl<S: UnwindContextStorage> UnwindContext<S> {
         self.run_coded(cie, bases, bytes, address, cursor)
     }
 
-    /// Runs the instruction at a cursor: one of the common ones whose byte is only a code inlined, another by a call.
+    /// Runs the instruction at a cursor: one of the common ones on the CFA, a `DW_CFA_nop`, or another.
     #[inline(always)]
     #[tactic(auto, unfolding(crate::specs::Instruction::instruction_at, crate::specs::Instruction::def_cfa_at))]
     fn run_coded(
@@ -274,6 +274,37 @@ impl<S: UnwindContextStorage> UnwindContext<S> {
                 let set_offset = CallFrameInstruction::DefCfaOffset { offset };
                 self.obey(cie, address, location, set_offset, next)
             }
+            DW_CFA_DEF_CFA => {
+                let (register, next) = read_next_register(bytes, at)?;
+                let (offset, next) = read_next_offset(bytes, next)?;
+                let rule = CfaRule::RegisterAndOffset { register, offset };
+                let set_cfa = CallFrameInstruction::DefCfa(rule);
+                self.obey(cie, address, location, set_cfa, next)
+            }
+            _ => self.run_less_common(cie, bases, bytes, address, cursor),
+        }
+    }
+
+    /// Runs the instruction at a cursor: an advance of one or two bytes, one on the remembered rows, or another.
+    #[inline(always)]
+    #[tactic(auto, unfolding(crate::specs::Instruction::instruction_at))]
+    fn run_less_common(
+        &mut self,
+        cie: &CommonInformationEntry,
+        bases: &SectionBaseAddresses,
+        bytes: &[u8],
+        address: Option<u64>,
+        cursor: RowCursor,
+    ) -> Result<Option<RowCursor>, ReadError>
+        requires near { is_beyond address cursor.location ≡ false }
+        ensures exact { Turns result self.new (turn S.limits (record { cie = cie.now; bases = bases.now; bytes = bytes.now; address = address }) cursor.next cursor.location self.old) }
+        ensures memory { IsErrOf result ReadError.OutOfMemory → S.limits ≡ None }
+        ensures room { IsErrOf result ReadError.OutOfMemory →
+            turn_needs_room (record { cie = cie.now; bases = bases.now; bytes = bytes.now; address = address }) cursor.next cursor.location ≡ true }
+    {
+        let location = cursor.location;
+        let (code, at) = read_u8(bytes, cursor.next)?;
+        match code {
             DW_CFA_ADVANCE_LOC1 => {
                 let (delta, next) = read_u8(bytes, at)?;
                 let delta = u32::from(delta);
@@ -287,34 +318,12 @@ impl<S: UnwindContextStorage> UnwindContext<S> {
                 self.obey(cie, address, location, advance, next)
             }
             DW_CFA_REMEMBER_STATE => {
-                self.obey(
-                    cie,
-                    address,
-                    location,
-                    CallFrameInstruction::RememberState,
-                    at,
-                )
+                let remember = CallFrameInstruction::RememberState;
+                self.obey(cie, address, location, remember, at)
             }
             DW_CFA_RESTORE_STATE => {
-                self.obey(
-                    cie,
-                    address,
-                    location,
-                    CallFrameInstruction::RestoreState,
-                    at,
-                )
-            }
-            DW_CFA_DEF_CFA => {
-                let (register, next) = read_next_register(bytes, at)?;
-                let (offset, next) = read_next_offset(bytes, next)?;
-                let rule = CfaRule::RegisterAndOffset { register, offset };
-                self.obey(
-                    cie,
-                    address,
-                    location,
-                    CallFrameInstruction::DefCfa(rule),
-                    next,
-                )
+                let restore = CallFrameInstruction::RestoreState;
+                self.obey(cie, address, location, restore, at)
             }
             _ => self.run_rare(cie, bases, bytes, address, cursor),
         }
