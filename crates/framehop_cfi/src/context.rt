@@ -245,6 +245,11 @@ impl<S: UnwindContextStorage> UnwindContext<S> {
             let set_rule = CallFrameInstruction::SetRule { register, rule };
             return self.obey(cie, address, location, set_rule, next);
         }
+        if DW_CFA_RESTORE <= code {
+            let register = Register(u16::from(code - DW_CFA_RESTORE));
+            let restore = CallFrameInstruction::Restore { register };
+            return self.obey(cie, address, location, restore, at);
+        }
         self.run_coded(cie, bases, bytes, address, cursor)
     }
 
@@ -324,6 +329,10 @@ impl<S: UnwindContextStorage> UnwindContext<S> {
             DW_CFA_RESTORE_STATE => {
                 let restore = CallFrameInstruction::RestoreState;
                 self.obey(cie, address, location, restore, at)
+            }
+            DW_CFA_AARCH64_NEGATE_RA_STATE => {
+                let negate = CallFrameInstruction::NegateRaState;
+                self.obey(cie, address, location, negate, at)
             }
             _ => self.run_rare(cie, bases, bytes, address, cursor),
         }
