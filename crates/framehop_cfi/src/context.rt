@@ -233,17 +233,17 @@ impl<S: UnwindContextStorage> UnwindContext<S> {
     {
         let location = cursor.location;
         let (code, at) = read_u8(bytes, cursor.next)?;
-        if DW_CFA_ADVANCE_LOC <= code && code < DW_CFA_OFFSET {
-            let delta = u32::from(code - DW_CFA_ADVANCE_LOC);
-            let advance = CallFrameInstruction::AdvanceLoc { delta };
-            return self.obey(cie, address, location, advance, at);
-        }
         if DW_CFA_OFFSET <= code && code < DW_CFA_RESTORE {
             let register = Register(u16::from(code - DW_CFA_OFFSET));
             let (offset, next) = read_next_factored(cie.data_alignment_factor, bytes, at)?;
             let rule = RegisterRule::Offset(offset);
             let set_rule = CallFrameInstruction::SetRule { register, rule };
             return self.obey(cie, address, location, set_rule, next);
+        }
+        if DW_CFA_ADVANCE_LOC <= code && code < DW_CFA_OFFSET {
+            let delta = u32::from(code - DW_CFA_ADVANCE_LOC);
+            let advance = CallFrameInstruction::AdvanceLoc { delta };
+            return self.obey(cie, address, location, advance, at);
         }
         if DW_CFA_RESTORE <= code {
             let register = Register(u16::from(code - DW_CFA_RESTORE));
