@@ -361,6 +361,7 @@ impl<S: UnwindContextStorage> UnwindContext<S> {
     }
 
     /// Runs any instruction at a cursor.
+    #[cold]
     #[inline(never)]
     fn run_other(
         &mut self,

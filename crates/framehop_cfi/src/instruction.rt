@@ -378,6 +378,7 @@ fn read_def_cfa(bytes: &[u8], at: usize) -> Result<(CallFrameInstruction, usize)
 
 /// Returns an offset that is not factored.
 #[tactic(auto, unfolding(crate::specs::Instruction::offset_at))]
+#[cold]
 #[inline(never)]
 fn read_offset(bytes: &[u8], at: usize) -> Result<(i64, usize), ReadError>
     ensures exact { result ≡ offset_at bytes.now at }
@@ -471,6 +472,7 @@ fn read_rule(
 
 /// Returns an unsigned number times the data alignment.
 #[tactic(auto, unfolding(crate::specs::Instruction::factored_at))]
+#[cold]
 #[inline(never)]
 fn read_factored(alignment: i64, bytes: &[u8], at: usize) -> Result<(i64, usize), ReadError>
     ensures exact { result ≡ factored_at alignment bytes.now at }
@@ -484,6 +486,7 @@ fn read_factored(alignment: i64, bytes: &[u8], at: usize) -> Result<(i64, usize)
 
 /// Returns a register's number.
 #[tactic(auto, unfolding(crate::specs::Instruction::register_at))]
+#[cold]
 #[inline(never)]
 fn read_register(bytes: &[u8], at: usize) -> Result<(Register, usize), ReadError>
     ensures exact { result ≡ register_at bytes.now at }
