@@ -3,6 +3,7 @@ pub mod Rows
 pub mod Run
 pub mod Cursor
 pub mod Table
+pub mod Turn
 pub mod Forward
 pub mod Room
 pub mod RowMeaning

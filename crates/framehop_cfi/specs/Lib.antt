@@ -27,4 +27,5 @@ pub mod RowRoom
 pub mod Section
 pub mod EntryExtent
 pub mod TableRows
+pub mod Turn
 pub mod X86_64

@@ -2,7 +2,7 @@
 //!
 //! A row is changed in place, instruction by instruction. The room for rows is kept from one address to the next,
 //! so that no memory is taken under `StoreOnStack`.
-ghost use Rattle.std.specs.Prelude.{◌≡◌, ◌≢◌, ◌*◌, ◌+◌, ◌^◌, ◌<◌, ◌≤◌, length, true, IfOk, IfErr, OnOk, OnErr, IsErrOf, None, Err, vec_len};
+ghost use Rattle.std.specs.Prelude.{◌≡◌, ◌≢◌, ◌*◌, ◌+◌, ◌^◌, ◌<◌, ◌≤◌, length, true, false, IfOk, IfErr, OnOk, OnErr, IsErrOf, None, Err, vec_len};
 ghost use Rattle.framehop_cfi.specs.TableRows.{TableRows, effect, setting, restoring, remembering, restoring_state};
 ghost use Rattle.framehop_cfi.specs.Outcome.{Becomes};
 ghost use Rattle.framehop_cfi.specs.Row.{Row};
@@ -10,9 +10,14 @@ ghost use Rattle.framehop_cfi.specs.RowMeaning.{IsRowAt};
 ghost use Rattle.framehop_cfi.specs.RowRoom.{needs_room, list_needs_room, row_needs_room};
 ghost use Rattle.framehop_cfi.specs.RowAt.{location_after, risen, is_beyond, run_from, rows_at, row_at, start, begun, covers};
 ghost use Rattle.framehop_cfi.specs.RowCursor.{HasReached, HaveRow, HaveNoRow};
+ghost use Rattle.framehop_cfi.specs.Turn.{Turns, turn, obeyed, turn_needs_room, obeying_needs_room};
 
 use crate::entry::{CommonInformationEntry, FrameDescriptionEntry, UnwindSection};
-use crate::instruction::CallFrameInstruction;
+use crate::instruction::{
+    CallFrameInstruction, read_next_factored, read_next_offset, read_next_register,
+};
+use crate::instruction_code::*;
+use crate::numbers::{read_u8, read_u16};
 use crate::pointer::SectionBaseAddresses;
 use crate::read_error::ReadError;
 use crate::row::UnwindTableRow;
@@ -189,24 +194,218 @@ impl<S: UnwindContextStorage> UnwindContext<S> {
         start: u64,
         address: Option<u64>,
     ) -> Result<(), ReadError>
+        requires near { is_beyond address start ≡ false }
         ensures exact { Becomes result self.new (run_from S.limits (record { cie = cie.now; bases = bases.now; bytes = bytes.now; address = address }) at start self.old) }
         ensures memory { IsErrOf result ReadError.OutOfMemory → S.limits ≡ None }
         ensures room { IsErrOf result ReadError.OutOfMemory →
             list_needs_room (record { cie = cie.now; bases = bases.now; bytes = bytes.now; address = address }) at start ≡ true }
     {
-        let mut location = start;
-        let mut next = at;
-        while next < bytes.len() {
-            let (instruction, after_instruction) = cie.read_next(bases, bytes, next)?;
-            let moved = location_after(cie, address, location, instruction)?;
-            if is_beyond(address, moved) {
-                return Ok(());
+        let mut cursor = RowCursor {
+            next: at,
+            location: start,
+        };
+        while cursor.next < bytes.len() {
+            match self.run_next(cie, bases, bytes, address, cursor)? {
+                Some(after) => cursor = after,
+                None => return Ok(()),
             }
-            self.execute(instruction)?;
-            location = moved;
-            next = after_instruction;
         }
         Ok(())
+    }
+
+    /// Runs the instruction at a cursor, and returns the cursor after it, or `None` where the location moves beyond
+    /// the address. Those that are common are read and run inlined, so that they are never in memory; another by a call.
+    #[inline(always)]
+    #[tactic(auto, unfolding(crate::specs::Instruction::instruction_at))]
+    fn run_next(
+        &mut self,
+        cie: &CommonInformationEntry,
+        bases: &SectionBaseAddresses,
+        bytes: &[u8],
+        address: Option<u64>,
+        cursor: RowCursor,
+    ) -> Result<Option<RowCursor>, ReadError>
+        requires near { is_beyond address cursor.location ≡ false }
+        ensures exact { Turns result self.new (turn S.limits (record { cie = cie.now; bases = bases.now; bytes = bytes.now; address = address }) cursor.next cursor.location self.old) }
+        ensures memory { IsErrOf result ReadError.OutOfMemory → S.limits ≡ None }
+        ensures room { IsErrOf result ReadError.OutOfMemory →
+            turn_needs_room (record { cie = cie.now; bases = bases.now; bytes = bytes.now; address = address }) cursor.next cursor.location ≡ true }
+    {
+        let location = cursor.location;
+        let (code, at) = read_u8(bytes, cursor.next)?;
+        if DW_CFA_OFFSET <= code && code < DW_CFA_RESTORE {
+            let register = Register(u16::from(code - DW_CFA_OFFSET));
+            let (offset, next) = read_next_factored(cie.data_alignment_factor, bytes, at)?;
+            let rule = RegisterRule::Offset(offset);
+            let set_rule = CallFrameInstruction::SetRule { register, rule };
+            return self.obey(cie, address, location, set_rule, next);
+        }
+        if DW_CFA_ADVANCE_LOC <= code && code < DW_CFA_OFFSET {
+            let delta = u32::from(code - DW_CFA_ADVANCE_LOC);
+            let advance = CallFrameInstruction::AdvanceLoc { delta };
+            return self.obey(cie, address, location, advance, at);
+        }
+        if DW_CFA_RESTORE <= code {
+            let register = Register(u16::from(code - DW_CFA_RESTORE));
+            let restore = CallFrameInstruction::Restore { register };
+            return self.obey(cie, address, location, restore, at);
+        }
+        self.run_coded(cie, bases, bytes, address, cursor)
+    }
+
+    /// Runs the instruction at a cursor: one of the common ones on the CFA, a `DW_CFA_nop`, or another.
+    #[inline(always)]
+    #[tactic(auto, unfolding(crate::specs::Instruction::instruction_at, crate::specs::Instruction::def_cfa_at))]
+    fn run_coded(
+        &mut self,
+        cie: &CommonInformationEntry,
+        bases: &SectionBaseAddresses,
+        bytes: &[u8],
+        address: Option<u64>,
+        cursor: RowCursor,
+    ) -> Result<Option<RowCursor>, ReadError>
+        requires near { is_beyond address cursor.location ≡ false }
+        ensures exact { Turns result self.new (turn S.limits (record { cie = cie.now; bases = bases.now; bytes = bytes.now; address = address }) cursor.next cursor.location self.old) }
+        ensures memory { IsErrOf result ReadError.OutOfMemory → S.limits ≡ None }
+        ensures room { IsErrOf result ReadError.OutOfMemory →
+            turn_needs_room (record { cie = cie.now; bases = bases.now; bytes = bytes.now; address = address }) cursor.next cursor.location ≡ true }
+    {
+        let location = cursor.location;
+        let (code, at) = read_u8(bytes, cursor.next)?;
+        match code {
+            DW_CFA_NOP => self.obey(cie, address, location, CallFrameInstruction::Nop, at),
+            DW_CFA_DEF_CFA_OFFSET => {
+                let (offset, next) = read_next_offset(bytes, at)?;
+                let set_offset = CallFrameInstruction::DefCfaOffset { offset };
+                self.obey(cie, address, location, set_offset, next)
+            }
+            DW_CFA_DEF_CFA => {
+                let (register, next) = read_next_register(bytes, at)?;
+                let (offset, next) = read_next_offset(bytes, next)?;
+                let rule = CfaRule::RegisterAndOffset { register, offset };
+                let set_cfa = CallFrameInstruction::DefCfa(rule);
+                self.obey(cie, address, location, set_cfa, next)
+            }
+            _ => self.run_less_common(cie, bases, bytes, address, cursor),
+        }
+    }
+
+    /// Runs the instruction at a cursor: an advance of one or two bytes, one on the remembered rows, or another.
+    #[inline(always)]
+    #[tactic(auto, unfolding(crate::specs::Instruction::instruction_at))]
+    fn run_less_common(
+        &mut self,
+        cie: &CommonInformationEntry,
+        bases: &SectionBaseAddresses,
+        bytes: &[u8],
+        address: Option<u64>,
+        cursor: RowCursor,
+    ) -> Result<Option<RowCursor>, ReadError>
+        requires near { is_beyond address cursor.location ≡ false }
+        ensures exact { Turns result self.new (turn S.limits (record { cie = cie.now; bases = bases.now; bytes = bytes.now; address = address }) cursor.next cursor.location self.old) }
+        ensures memory { IsErrOf result ReadError.OutOfMemory → S.limits ≡ None }
+        ensures room { IsErrOf result ReadError.OutOfMemory →
+            turn_needs_room (record { cie = cie.now; bases = bases.now; bytes = bytes.now; address = address }) cursor.next cursor.location ≡ true }
+    {
+        let location = cursor.location;
+        let (code, at) = read_u8(bytes, cursor.next)?;
+        match code {
+            DW_CFA_ADVANCE_LOC1 => {
+                let (delta, next) = read_u8(bytes, at)?;
+                let delta = u32::from(delta);
+                let advance = CallFrameInstruction::AdvanceLoc { delta };
+                self.obey(cie, address, location, advance, next)
+            }
+            DW_CFA_ADVANCE_LOC2 => {
+                let (delta, next) = read_u16(bytes, at)?;
+                let delta = u32::from(delta);
+                let advance = CallFrameInstruction::AdvanceLoc { delta };
+                self.obey(cie, address, location, advance, next)
+            }
+            DW_CFA_REMEMBER_STATE => {
+                let remember = CallFrameInstruction::RememberState;
+                self.obey(cie, address, location, remember, at)
+            }
+            DW_CFA_RESTORE_STATE => {
+                let restore = CallFrameInstruction::RestoreState;
+                self.obey(cie, address, location, restore, at)
+            }
+            DW_CFA_AARCH64_NEGATE_RA_STATE => {
+                let negate = CallFrameInstruction::NegateRaState;
+                self.obey(cie, address, location, negate, at)
+            }
+            _ => self.run_rare(cie, bases, bytes, address, cursor),
+        }
+    }
+
+    /// Runs any instruction at a cursor, by a call. What it returns is taken apart, so that only here it is in memory.
+    #[inline(always)]
+    fn run_rare(
+        &mut self,
+        cie: &CommonInformationEntry,
+        bases: &SectionBaseAddresses,
+        bytes: &[u8],
+        address: Option<u64>,
+        cursor: RowCursor,
+    ) -> Result<Option<RowCursor>, ReadError>
+        requires near { is_beyond address cursor.location ≡ false }
+        ensures exact { Turns result self.new (turn S.limits (record { cie = cie.now; bases = bases.now; bytes = bytes.now; address = address }) cursor.next cursor.location self.old) }
+        ensures memory { IsErrOf result ReadError.OutOfMemory → S.limits ≡ None }
+        ensures room { IsErrOf result ReadError.OutOfMemory →
+            turn_needs_room (record { cie = cie.now; bases = bases.now; bytes = bytes.now; address = address }) cursor.next cursor.location ≡ true }
+    {
+        match self.run_other(cie, bases, bytes, address, cursor)? {
+            Some(RowCursor { next, location }) => Ok(Some(RowCursor { next, location })),
+            None => Ok(None),
+        }
+    }
+
+    /// Runs any instruction at a cursor.
+    #[cold]
+    #[inline(never)]
+    fn run_other(
+        &mut self,
+        cie: &CommonInformationEntry,
+        bases: &SectionBaseAddresses,
+        bytes: &[u8],
+        address: Option<u64>,
+        cursor: RowCursor,
+    ) -> Result<Option<RowCursor>, ReadError>
+        requires near { is_beyond address cursor.location ≡ false }
+        ensures exact { Turns result self.new (turn S.limits (record { cie = cie.now; bases = bases.now; bytes = bytes.now; address = address }) cursor.next cursor.location self.old) }
+        ensures memory { IsErrOf result ReadError.OutOfMemory → S.limits ≡ None }
+        ensures room { IsErrOf result ReadError.OutOfMemory →
+            turn_needs_room (record { cie = cie.now; bases = bases.now; bytes = bytes.now; address = address }) cursor.next cursor.location ≡ true }
+    {
+        let (instruction, next) = cie.read_instruction(bases, bytes, cursor.next)?;
+        self.obey(cie, address, cursor.location, instruction, next)
+    }
+
+    /// Does what an instruction says, and returns the cursor after it, or `None` where it moves the location beyond the
+    /// address.
+    #[inline(always)]
+    fn obey(
+        &mut self,
+        cie: &CommonInformationEntry,
+        address: Option<u64>,
+        location: u64,
+        instruction: CallFrameInstruction,
+        next: usize,
+    ) -> Result<Option<RowCursor>, ReadError>
+        requires near { is_beyond address location ≡ false }
+        ensures exact { Turns result self.new (obeyed S.limits cie.now address location (instruction, next) self.old) }
+        ensures memory { IsErrOf result ReadError.OutOfMemory → S.limits ≡ None }
+        ensures room { IsErrOf result ReadError.OutOfMemory → obeying_needs_room cie.now address location instruction ≡ true }
+    {
+        let moved = location_after(cie, address, location, instruction)?;
+        if moved != location && is_beyond(address, moved) {
+            return Ok(None);
+        }
+        self.execute(instruction)?;
+        Ok(Some(RowCursor {
+            next,
+            location: moved,
+        }))
     }
 
     /// Keeps the row as the one that the CIE left.

@@ -228,6 +228,78 @@ fn read_short_factored(alignment: i64, bytes: &[u8], at: usize) -> Option<(i64, 
     Some((product, next))
 }
 
+/// Returns an offset that is not factored: one of one byte inlined, another by a call.
+#[inline(always)]
+pub(crate) fn read_next_offset(bytes: &[u8], at: usize) -> Result<(i64, usize), ReadError>
+    ensures exact { result ≡ offset_at bytes.now at }
+    ensures forward { IfOk result (λ read. at < read.1) }
+    ensures memory { result ≢ Err ReadError.OutOfMemory }
+{
+    match read_short_offset(bytes, at) {
+        Some(read) => Ok(read),
+        None => read_long_offset(bytes, at),
+    }
+}
+
+/// Returns an offset that is not factored, by a call. It is taken apart, so that only here it is in memory.
+#[inline(always)]
+fn read_long_offset(bytes: &[u8], at: usize) -> Result<(i64, usize), ReadError>
+    ensures exact { result ≡ offset_at bytes.now at }
+    ensures forward { IfOk result (λ read. at < read.1) }
+    ensures memory { result ≢ Err ReadError.OutOfMemory }
+{
+    let (offset, next) = read_offset(bytes, at)?;
+    Ok((offset, next))
+}
+
+/// Returns a register's number: one of one byte inlined, another by a call.
+#[inline(always)]
+#[tactic(auto, unfolding(crate::specs::Instruction::register_at))]
+pub(crate) fn read_next_register(bytes: &[u8], at: usize) -> Result<(Register, usize), ReadError>
+    ensures exact { result ≡ register_at bytes.now at }
+    ensures forward { IfOk result (λ read. at < read.1) }
+    ensures memory { result ≢ Err ReadError.OutOfMemory }
+{
+    match read_short_uleb128(bytes, at) {
+        Some((number, next)) => match u16::try_from(number) {
+            Ok(number) => Ok((Register(number), next)),
+            Err(_) => Err(ReadError::NumberTooBig),
+        },
+        None => {
+            let (register, next) = read_register(bytes, at)?;
+            Ok((register, next))
+        }
+    }
+}
+
+/// Returns an unsigned number times the data alignment: one of one byte inlined, another by a call.
+#[inline(always)]
+pub(crate) fn read_next_factored(
+    alignment: i64,
+    bytes: &[u8],
+    at: usize,
+) -> Result<(i64, usize), ReadError>
+    ensures exact { result ≡ factored_at alignment bytes.now at }
+    ensures forward { IfOk result (λ read. at < read.1) }
+    ensures memory { result ≢ Err ReadError.OutOfMemory }
+{
+    match read_short_factored(alignment, bytes, at) {
+        Some(read) => Ok(read),
+        None => read_long_factored(alignment, bytes, at),
+    }
+}
+
+/// Returns an unsigned number times the data alignment, by a call. It is taken apart, so that only here it is in memory.
+#[inline(always)]
+fn read_long_factored(alignment: i64, bytes: &[u8], at: usize) -> Result<(i64, usize), ReadError>
+    ensures exact { result ≡ factored_at alignment bytes.now at }
+    ensures forward { IfOk result (λ read. at < read.1) }
+    ensures memory { result ≢ Err ReadError.OutOfMemory }
+{
+    let (product, next) = read_factored(alignment, bytes, at)?;
+    Ok((product, next))
+}
+
 /// Returns an advance of the location by one, two or four bytes, by its code.
 fn read_advance(
     code: u8,
@@ -306,6 +378,8 @@ fn read_def_cfa(bytes: &[u8], at: usize) -> Result<(CallFrameInstruction, usize)
 
 /// Returns an offset that is not factored.
 #[tactic(auto, unfolding(crate::specs::Instruction::offset_at))]
+#[cold]
+#[inline(never)]
 fn read_offset(bytes: &[u8], at: usize) -> Result<(i64, usize), ReadError>
     ensures exact { result ≡ offset_at bytes.now at }
     ensures forward { IfOk result (λ read. at < read.1) }
@@ -398,6 +472,8 @@ fn read_rule(
 
 /// Returns an unsigned number times the data alignment.
 #[tactic(auto, unfolding(crate::specs::Instruction::factored_at))]
+#[cold]
+#[inline(never)]
 fn read_factored(alignment: i64, bytes: &[u8], at: usize) -> Result<(i64, usize), ReadError>
     ensures exact { result ≡ factored_at alignment bytes.now at }
     ensures forward { IfOk result (λ read. at < read.1) }
@@ -410,6 +486,8 @@ fn read_factored(alignment: i64, bytes: &[u8], at: usize) -> Result<(i64, usize)
 
 /// Returns a register's number.
 #[tactic(auto, unfolding(crate::specs::Instruction::register_at))]
+#[cold]
+#[inline(never)]
 fn read_register(bytes: &[u8], at: usize) -> Result<(Register, usize), ReadError>
     ensures exact { result ≡ register_at bytes.now at }
     ensures forward { IfOk result (λ read. at < read.1) }

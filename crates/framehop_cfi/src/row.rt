@@ -62,6 +62,7 @@ impl<S: UnwindContextStorage> UnwindTableRow<S> {
     }
 
     /// Sets how a register is found. A refusal leaves the row as it was.
+    #[inline]
     #[tactic(auto, unfolding(crate::specs::Row::with_rule))]
     pub(crate) fn set_rule(
         &mut self,
