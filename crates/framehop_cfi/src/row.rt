@@ -107,6 +107,14 @@ impl<S: UnwindContextStorage> UnwindTableRow<S> {
         rule_in(&self.rules, register)
     }
 
+    /// Returns the registers that have a rule, with it: of each the first is its rule.
+    #[inline]
+    pub fn registers(&self) -> &[(Register, RegisterRule)]
+        ensures { result.now ≡ self.now.rules }
+    {
+        self.rules.as_slice()
+    }
+
     /// Makes this row equal to another.
     pub(crate) fn copy_from(&mut self, other: &Self) -> Result<(), ReadError>
         ensures ok { OnOk result (self.new ≡ other.now) }

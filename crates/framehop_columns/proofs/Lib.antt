@@ -1,4 +1,5 @@
 pub mod Columns
 pub mod Meaning
+pub mod Named
 pub mod ReturnAddress
 pub mod Values

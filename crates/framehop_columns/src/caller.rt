@@ -1,11 +1,13 @@
 //! The caller's registers by a row.
 ghost use Rattle.std.specs.Prelude.{◌≡◌, Ok, Err, IfOk, MatchResult, length};
 ghost use Rattle.framehop_columns.specs.Caller.{is_end, is_stuck, is_same, HasColumns, caller_column, step_of};
+ghost use Rattle.framehop_columns.specs.RegisterFile.{word_of};
+ghost use Rattle.framehop_columns.specs.Rules.{by_convention};
 
 use crate::convention::Convention;
 use crate::memory::WordMemory;
 use crate::register_file::RegisterFile;
-use crate::rules::{cfa_of, column_by};
+use crate::rules::{by_convention, cfa_of, value_by};
 use framehop_cfi::row::UnwindTableRow;
 use framehop_cfi::rule::{Register, RegisterRule};
 use framehop_cfi::storage::UnwindContextStorage;
@@ -128,18 +130,34 @@ fn caller_registers<M: WordMemory, S: UnwindContextStorage>(
     ensures columns { HasColumns (caller_column convention (record { bytes = section.now; words = regs.now; memory = M.memory memory.now }) row.now cfa) result }
     ensures whole { length result ≡ 33 }
 {
+    let mut caller = unnamed_registers(convention, cfa, regs);
+    let rules = row.registers();
+    // From the last on, since of two rules of a register the first is its rule.
+    let mut left = rules.len();
+    while left > 0 {
+        left -= 1;
+        let named = rules[left];
+        let own = regs.get(named.0);
+        let word = value_by(alloc, section, named.1, cfa, own, regs, memory);
+        caller.set(named.0, word);
+    }
+    let return_address = caller.get(convention.return_address());
+    caller.set(convention.program_counter(), return_address);
+    caller
+}
+
+/// Returns the registers of the caller by the calling convention, as if a row named none of them.
+fn unnamed_registers(convention: Convention, cfa: u64, regs: &RegisterFile) -> RegisterFile
+    ensures columns { HasColumns (λ column. by_convention convention column cfa (word_of regs.now (record { 0 = column }))) result }
+    ensures whole { length result ≡ 33 }
+{
     let mut caller = RegisterFile::new();
     let mut column = 0u16;
     while column < 33 {
         let register = Register(column);
-        let rule = row.register(register);
-        let word = column_by(
-            alloc, convention, section, rule, register, cfa, regs, memory,
-        );
+        let word = by_convention(convention, register, cfa, regs.get(register));
         caller.set(register, word);
         column += 1;
     }
-    let return_address = caller.get(convention.return_address());
-    caller.set(convention.program_counter(), return_address);
     caller
 }

@@ -1,6 +1,6 @@
 //! The values that the rules of a row give (DWARF 5 section 6.4.1).
-ghost use Rattle.std.specs.Prelude.{◌≡◌, Option, Some, None, option_and_then};
-ghost use Rattle.framehop_columns.specs.Rules.{sum_of, cfa_of, value_by, by_convention, column_by};
+ghost use Rattle.std.specs.Prelude.{◌≡◌, option_and_then};
+ghost use Rattle.framehop_columns.specs.Rules.{sum_of, cfa_of, value_by, by_convention};
 
 use crate::convention::Convention;
 use crate::evaluation::evaluate;
@@ -30,30 +30,9 @@ pub fn cfa_of<M: WordMemory>(
     }
 }
 
-/// Returns the value of a register in the caller's frame: by its rule if the row names it, and else by the calling
-/// convention.
-pub fn column_by<M: WordMemory>(
-    alloc: Global,
-    convention: Convention,
-    section: &[u8],
-    rule: Option<RegisterRule>,
-    register: Register,
-    cfa: u64,
-    regs: &RegisterFile,
-    memory: &M,
-) -> Option<u64>
-    ensures { result ≡ column_by convention (record { bytes = section.now; words = regs.now; memory = M.memory memory.now }) cfa register.0 rule }
-{
-    let own = regs.get(register);
-    match rule {
-        Some(rule) => value_by(alloc, section, rule, cfa, own, regs, memory),
-        None => by_convention(convention, register, cfa, own),
-    }
-}
-
 /// Returns the value of a register that a row doesn't name: the stack pointer is the CFA, a register that functions keep
 /// has its own value, and of others nothing is known.
-fn by_convention(
+pub fn by_convention(
     convention: Convention,
     register: Register,
     cfa: u64,

@@ -1,17 +1,18 @@
-use Rattle.std.proofs.Common.{◌≡◌, ◌≤◌, ◌-◌, length}
-use Rattle.framehop_cfi.specs.Row.{rule_of}
-use Rattle.framehop_columns.specs.Rules.{Source, column_by}
-use Rattle.framehop_columns.proofs.Columns.{HasBefore}
+use Rattle.std.proofs.Common.{◌≡◌, ◌≤◌, length}
+use Rattle.std.specs.Prelude.{drop}
+use Rattle.framehop_columns.specs.Caller.{HasColumns}
+use Rattle.framehop_columns.specs.Rules.{Source}
+use Rattle.framehop_columns.proofs.Named.{named_by}
 use Rattle.framehop_columns.proofs.caller.caller_registers.Given as goal
 
-abbrev pub invariant-loop-column : goal.invariant-loop-column
-invariant-loop-column g l =
+abbrev pub invariant-loop-left : goal.invariant-loop-left
+invariant-loop-left g l =
     let source : Source = record { bytes = l.section; words = l.regs; memory = g.M.WordMemory.memory l.memory } in
     record {
-      within : l.column ≤ 33;
+      within : l.left ≤ length l.rules;
       long : length l.caller ≡ 33;
-      set : HasBefore (λ k. column_by l.convention source l.cfa k (rule_of l.row.rules (record { 0 = k }))) l.column l.caller;
+      set : HasColumns (named_by l.convention source l.cfa (drop l.left l.rules)) l.caller;
     }
 
-abbrev pub decreases-loop-column : goal.decreases-loop-column
-decreases-loop-column g l = 33 - l.column
+abbrev pub decreases-loop-left : goal.decreases-loop-left
+decreases-loop-left g l = l.left
