@@ -44,6 +44,11 @@ run "$work/other" . && is "a folder" 1 "$work/nothing" "cannot read input" "$wor
 run "$work/other" "" && is "an empty name" 1 "$work/nothing" "cannot read input" "$work/other"
 run "$work/other" $'\xff' && is "a name that is not UTF-8" 1 "$work/nothing" "cannot read input" "$work/other"
 run "$work/other" other && is "a file that is not JSON" 1 "$work/nothing" "input refused: not JSON" "$work/other"
+# (the commit is there where tools/stamp.sh has written it)
+run "$work/other" --version && {
+    grep -xE 'framehop-walk [0-9]+\.[0-9]+\.[0-9]+ \(commit ([0-9a-f]{11}[0-9a-f+]|unknown     |\.{12})\)' "$work/out" >"$work/version"
+    is "the version" 0 "$work/version" "" "$work/other"
+}
 run "$work/other" input input && is "two arguments" 1 "$work/nothing" "usage: framehop-walk [FILE]" "$work/other"
 run "$work/other" input missing - && is "three arguments" 1 "$work/nothing" "usage: framehop-walk [FILE]" "$work/other"
 
