@@ -1,8 +1,8 @@
 -- Which unwinder of the session each unwinder of the input is, and how many are the same.
-use Rattle.std.proofs.Common.{◌≡◌, ◌≢◌, ℕ, zero, suc, ◌+◌, ◌-◌, ◌<◌, ◌≤◌, Bool, true, false, cond, ◌==◌, ◌⊎◌, List, [], ◌∷◌, ◌++◌, map, length, get_or, set, refl, sym, ap, ◌∙◌, subst, inl, inr, ⊎_elim, arith, ltb-true, eq-eqb, ne_eqb, nat_lt}
+use Rattle.std.proofs.Common.{◌≡◌, ◌≢◌, ℕ, zero, suc, ◌+◌, ◌-◌, ◌<◌, ◌≤◌, Bool, true, false, ◌==◌, ◌⊎◌, List, [], ◌∷◌, ◌++◌, map, length, get_or, set, refl, sym, ap, ◌∙◌, subst, inl, inr, ⊎_elim, arith, ltb-true, eq-eqb, ne_eqb, nat_lt}
 use Rattle.std.specs.Prelude.{OnOk, Result, Ok, Err}
 use Rattle.std.proofs.lemmas.Bool.{ltb-false, eqb-true}
-use Rattle.std.proofs.lemmas.List.{length-map, length-set, map-append}
+use Rattle.std.proofs.lemmas.List.{length-set, map-append}
 use Rattle.framehop.specs.Modules.{UnwinderView}
 use Rattle.framehop_walk.specs.Sharing.{times, one_if, IsCounted, unwinder_in}
 

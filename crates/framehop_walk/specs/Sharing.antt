@@ -1,5 +1,5 @@
--- Commands for a session that clones an unwinder only where one of those that are the same is to be changed, and the replies to
--- the commands of the input by its replies.
+-- Commands for a session that clones an unwinder only where one of those that are the same is to be changed, and the
+-- replies to the commands of the input by its replies.
 use Rattle.std.specs.Prelude.{◌≡◌, ◌<◌, ◌≤◌, ◌⊎◌, ◌==◌, ◌+◌, ℕ, List, [], ◌∷◌, ◌++◌, length, map, slice_index_or, slice_set, Bool, true, false, Option, Some, None, Result, Ok, Err}
 use Rattle.std.specs.Global.{Global}
 use Rattle.std.specs.declared.vec.Vec.{Vec}
@@ -53,8 +53,9 @@ abbrev pub told_by : {Regs : Type 0} → List Told → Result (List (CachedReply
 told_by told (Ok replies) = Ok (tell told replies)
 told_by told (Err error) = Err error
 
--- what is made of the commands of the input so far: for each of its unwinders the one of the session that it is (`places`),
--- for each of the session how many of the input it is (`counts`), the commands for the session, and where the replies are
+-- what is made of the commands of the input so far: for each of its unwinders the one of the session that it is
+-- (`places`), for each of the session how many of the input it is (`counts`), the commands for the session, and where
+-- the replies are
 pub record Plan (Regs : Type 0) : Type 0 where
   pub places : List ℕ
   pub counts : List ℕ
@@ -94,25 +95,27 @@ unwinder_in unwinders place = slice_index_or unwinders place (record { modules =
 abbrev pub seen_by : {Rule : Type 0} → List ℕ → CachedWorld Rule → CachedWorld Rule
 seen_by places state = record state { unwinders = map (unwinder_in state.unwinders) places }
 
--- However the commands for the session go on: if from each state on its replies tell those to the commands that are left, then
--- from the start on they tell those to all commands.
+-- However the commands for the session go on: if from each state on its replies tell those to the commands that are
+-- left, then from the start on they tell those to all commands.
 unfoldable pub Continues : {Rule Regs : Type 0} → Unwinding Rule Regs → CachedWorld Rule → Plan Regs
     → List (Command (Vec ℕ Global) Regs) → List (Command (Vec ℕ Global) Regs) → Type 0
 Continues {Rule} {Regs} unwinding start plan rest all =
     (more : List (Command (Vec ℕ Global) Regs)) (more_told : List Told)
     → ((state : CachedWorld Rule) → length plan.counts ≡ length state.unwinders
-    → cached_replies unwinding (seen_by plan.places state) rest ≡ told_by more_told (cached_replies unwinding state more))
+    → cached_replies unwinding (seen_by plan.places state) rest
+    ≡ told_by more_told (cached_replies unwinding state more))
     → cached_replies unwinding start all
     ≡ told_by (plan.told ++ more_told) (cached_replies unwinding start (plan.commands ++ more))
 
 -- a command of the input is taken into the plan
-unfoldable pub Takes : {Rule Regs : Type 0} → Unwinding Rule Regs → Command (Vec ℕ Global) Regs → Plan Regs → Plan Regs → Type 0
+unfoldable pub Takes : {Rule Regs : Type 0} → Unwinding Rule Regs → Command (Vec ℕ Global) Regs → Plan Regs → Plan Regs
+    → Type 0
 Takes {Rule} {Regs} unwinding command old new =
     (start : CachedWorld Rule) (rest all : List (Command (Vec ℕ Global) Regs))
     → Continues unwinding start old (command ∷ rest) all → Continues unwinding start new rest all
 
--- `place` is the session's unwinder for one of the input that is to be changed: it is only that one, or there is none; or the
--- session clones it first, and the clone is only that one
+-- `place` is the session's unwinder for one of the input that is to be changed: it is only that one, or there is none;
+-- or the session clones it first, and the clone is only that one
 unfoldable pub Owns : {Regs : Type 0} → Plan Regs → Plan Regs → ℕ → ℕ → Told → Type 0
 Owns old new unwinder place one =
     ((new ≡ old) × (place ≡ place_in old.places old.counts unwinder) × (one ≡ Next)
@@ -121,12 +124,13 @@ Owns old new unwinder place one =
     × (new.places ≡ slice_set old.places unwinder place) × (length new.counts ≡ length old.counts + 1)
     × (new.commands ≡ old.commands ++ Clone (place_in old.places old.counts unwinder) ∷ []) × (new.told ≡ old.told))
 
--- a clone of an unwinder of the input is the same one of the session, of which there is one more; where there is no such
--- unwinder the session is asked for a clone of none
+-- a clone of an unwinder of the input is the same one of the session, which is one more of the input; where there is no
+-- such unwinder the session is asked for a clone of none
 unfoldable pub IsSharedBy : {Regs : Type 0} → Plan Regs → Plan Regs → ℕ → Type 0
 IsSharedBy old new unwinder =
     ((unwinder < length old.places) × (new.places ≡ old.places ++ slice_index_or old.places unwinder 0 ∷ [])
-    × (new.counts ≡ slice_set old.counts (slice_index_or old.places unwinder 0) (slice_index_or old.counts (slice_index_or old.places unwinder 0) 0 + 1))
+    × (new.counts ≡ slice_set old.counts (slice_index_or old.places unwinder 0)
+    (slice_index_or old.counts (slice_index_or old.places unwinder 0) 0 + 1))
     × (new.commands ≡ old.commands) × (new.told ≡ old.told ++ Made (length old.places) ∷ []))
     ⊎ ((length old.places ≤ unwinder) × (new.places ≡ old.places) × (new.counts ≡ old.counts)
     × (new.commands ≡ old.commands ++ Clone (length old.counts) ∷ []) × (new.told ≡ old.told ++ Next ∷ []))

@@ -1,7 +1,7 @@
 //! Clones that are one unwinder with their original until one of the two is changed.
 // The commands of the input become those of a session that clones an unwinder only where it is to be changed and is more than
 // one of the input: a clone that is not changed takes no memory for modules.
-ghost use Rattle.std.specs.Prelude.{◌≡◌, ◌≢◌, ◌<◌, ◌≤◌, ◌+◌, ◌-◌, ◌++◌, ◌∷◌, [], ℕ, List, Ok, Err, true, false, IfOk, OnOk, map, length, slice_index_or, slice_set};
+ghost use Rattle.std.specs.Prelude.{◌≡◌, ◌<◌, ◌++◌, ◌∷◌, [], ℕ, true, false, IfOk, OnOk, map, length, slice_index_or};
 ghost use Rattle.std.specs.Vec.Iter.{into_iter_items};
 ghost use Rattle.framehop.specs.CachedWorld.{CachedWorld, cached_replies, empty_cached_world};
 ghost use Rattle.framehop.specs.SessionView.{reply_view};

@@ -1,9 +1,9 @@
-use Rattle.std.proofs.Common.{◌≡◌, [], ◌∷◌, refl, sym, ap, ◌∙◌, subst, rules}
+use Rattle.std.proofs.Common.{◌≡◌, [], ◌∷◌, refl, sym, ◌∙◌, subst, rules}
 use Rattle.std.proofs.lemmas.List.{nil_from_length}
 use Rattle.std.specs.Vec.Iter.{into_iter_items}
 use Rattle.framehop.specs.CachedWorld.{empty_cached_world}
 use Rattle.framehop_walk.specs.Sharing.{Plan, plan_of, IsCounted, Continues}
-use Rattle.framehop_walk.proofs.Places.{counted-none, counted-by}
+use Rattle.framehop_walk.proofs.Places.{counted-none}
 use Rattle.framehop_walk.proofs.Plans.{Continues-start, Continues-taken, Continues-end}
 use Rattle.framehop_walk.proofs.sharing.share_clones.Goals as goal
 

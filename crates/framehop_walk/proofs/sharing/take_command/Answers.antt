@@ -1,4 +1,4 @@
-use Rattle.std.proofs.Common.{◌≡◌, ◌++◌, ◌∷◌, [], length, refl, sym, ap, ◌∙◌, subst, rules}
+use Rattle.std.proofs.Common.{sym, subst}
 use Rattle.framehop_walk.specs.Sharing.{plan_of, Takes}
 use Rattle.framehop_walk.proofs.Places.{counted-made, counted-by, on_ok_1, on_ok_2, on_ok_4}
 use Rattle.framehop_walk.proofs.Plans.{takes-by, takes-new, takes-stats, takes-step, takes-walk, takes-add, takes-remove, shared-takes, shared-counted}

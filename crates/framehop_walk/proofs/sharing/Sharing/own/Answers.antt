@@ -1,4 +1,4 @@
-use Rattle.std.proofs.Common.{◌≡◌, ◌≤◌, ◌-◌, ◌++◌, ◌∷◌, [], true, false, length, get_or, refl, ap, ◌∙◌, rules, arith}
+use Rattle.std.proofs.Common.{◌≡◌, ◌-◌, ◌++◌, ◌∷◌, [], true, false, length, get_or, refl, ap, ◌∙◌, rules, arith}
 use Rattle.framehop.specs.declared.session.Command.TheVariants.{Clone}
 use Rattle.framehop_walk.specs.Sharing.{plan_of}
 use Rattle.framehop_walk.proofs.Places.{get-default, counted-some, own-counted, own-size}

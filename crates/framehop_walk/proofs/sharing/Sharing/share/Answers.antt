@@ -1,4 +1,4 @@
-use Rattle.std.proofs.Common.{◌≡◌, ◌<◌, ◌≤◌, ◌+◌, ◌++◌, ◌∷◌, [], length, get_or, set, refl, sym, ap, ◌∙◌, rules, arith}
+use Rattle.std.proofs.Common.{◌≡◌, ◌<◌, ◌≤◌, ◌+◌, ◌++◌, ◌∷◌, [], length, get_or, set, refl, ap, ◌∙◌, rules, arith}
 use Rattle.framehop.specs.declared.session.Command.TheVariants.{Clone}
 use Rattle.framehop_walk.specs.Sharing.{plan_of}
 use Rattle.framehop_walk.specs.declared.sharing.Told.TheVariants.{Made}
