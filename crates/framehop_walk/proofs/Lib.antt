@@ -6,7 +6,10 @@ pub mod Items
 pub mod Lines
 pub mod NamedSections
 pub mod Outputs
+pub mod Places
+pub mod Plans
 pub mod Readings
 pub mod Sequences
 pub mod Tables
+pub mod Tellings
 pub mod Writes

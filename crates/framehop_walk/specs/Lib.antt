@@ -9,5 +9,6 @@ pub mod Refusals
 pub mod Registers
 pub mod Runs
 pub mod Sections
+pub mod Sharing
 pub mod Streams
 pub mod Text

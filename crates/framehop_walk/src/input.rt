@@ -1,17 +1,20 @@
-//! A reader that keeps whether a read has failed.
+//! A reader that keeps whether a read has failed, and what was read.
 ghost use Rattle.std.specs.Prelude.{◌≡◌, is_err, ◌||◌, IfOk, IfSome};
 ghost use Rattle.framehop_walk.specs.Streams.{input_over};
 
+use serde_json::Value;
 use std::alloc::Global;
 use std::io;
 use std::io::Read;
 use std::marker::Model;
 
-/// A reader that keeps whether a read from it has failed.
+/// A reader that keeps whether a read from it has failed. It can keep the value that was read from it, too, so that the value is
+/// freed only with it.
 #[derive(Drop)]
 pub struct Input<R: Read> {
     reader: R,
     has_failed: bool,
+    value: Option<Value>,
 }
 
 impl<R: Read> Model for Input<R> {
@@ -30,6 +33,7 @@ impl<R: Read> Input<R> {
         Input {
             reader,
             has_failed: false,
+            value: None,
         }
     }
 
@@ -53,5 +57,12 @@ impl<R: Read> Input<R> {
                 Err(error)
             }
         }
+    }
+
+    /// Keeps the value that was read.
+    pub fn keep(&mut self, value: Value)
+        ensures { self.new ≡ self.old }
+    {
+        self.value = Some(value);
     }
 }

@@ -13,6 +13,7 @@ mod refusal;
 pub mod registers;
 mod replies;
 pub mod sections;
+mod sharing;
 
 pub use command_line::run;
 pub use input::Input;

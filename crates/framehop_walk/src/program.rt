@@ -20,6 +20,7 @@ use crate::output::Output;
 use crate::refusal::Refusal;
 use crate::registers::Registers;
 use crate::replies::print_reply;
+use crate::sharing::{replies_told, share_clones};
 use framehop::aarch64::ArchAarch64;
 use framehop::session::{Command, Reply, run};
 use framehop::x86_64::ArchX86_64;
@@ -48,6 +49,8 @@ pub enum PolicyName {
 /// Reads commands, carries them out and writes the replies to `out`, or one line that says why
 /// the run was refused to `err`. The answer is the exit status: 0, or that of the refusal. Nothing
 /// is written to `out` by a run that is refused, unless a write to it fails.
+///
+/// What was read is kept with the input, and is freed when that is dropped.
 pub fn walk_program<R: Read, W: Write, E: Write>(
     alloc: Global,
     input: &mut Input<R>,
@@ -127,7 +130,9 @@ fn replies_to_input<R: Read>(alloc: Global, input: &mut Input<R>) -> Result<Stri
         → IsOfInput input.new.has_failed input.old.remaining refusal) }
 {
     let value = read_value(alloc, input)?;
-    replies_to_value(alloc, &value)
+    let replies = replies_to_value(alloc, &value);
+    input.keep(value);
+    replies
 }
 
 fn read_value<R: Read>(alloc: Global, input: &mut Input<R>) -> Result<Value, Refusal>
@@ -265,9 +270,11 @@ fn run_commands<A: Registers, P: AllocationPolicy>(
         ≡ printed A.text (map (λ verb. verb.now) verbs.now.items)
         (cached_replies (A.unwinding P.policy) (empty_cached_world cache_count 0) commands.items) }
 {
+    let shared = share_clones::<A, P>(alloc, commands)?;
     let mut generations = Generations::new();
-    let replies = run::<Vec<u8>, A, P>(alloc, commands, cache_count, &mut generations)?;
-    Ok(print_replies::<A>(alloc, verbs, &replies)?)
+    let replies = run::<Vec<u8>, A, P>(alloc, shared.commands, cache_count, &mut generations)?;
+    let told = replies_told(alloc, shared.told, replies)?;
+    Ok(print_replies::<A>(alloc, verbs, &told)?)
 }
 
 /// Returns the lines of the replies to commands of these verbs.

@@ -6,7 +6,7 @@ use framehop_walk::{Output, Refusal, refuse, run};
 use std::fs::File;
 use std::io::{Read, Stderr, Stdin};
 use std::process::ExitCode;
-use std::{env, fs, io};
+use std::{env, fs, io, mem};
 
 /// What `--version` prints. The commit is written into the built program.
 const VERSION: &str = "framehop-walk 0.16.0 (commit ............)";
@@ -39,12 +39,13 @@ fn print_version(rt: &HostRuntime) -> u8 {
     }
 }
 
-/// Runs what the arguments ask for, and returns the exit status.
+/// Runs what the arguments ask for, and returns the exit status. What was read is left to the end of the process.
 fn run_arguments(rt: &HostRuntime, err: &mut Output<Stderr>) -> io::Result<u8> {
     let mut out = Output::new(io::writer(rt));
     let arguments = env::args(rt)?;
     let opener = |path: Option<&str>| Source::open(rt, path);
-    let (status, _input) = run(rt.alloc(), arguments, opener, &mut out, err);
+    let (status, input) = run(rt.alloc(), arguments, opener, &mut out, err);
+    mem::forget(input);
     Ok(status)
 }
 
