@@ -4,15 +4,18 @@ ghost use Rattle.framehop_bytes.specs.Place.{place_of, IsPlace};
 ghost use Rattle.framehop_cfi.specs.Header.{size_of_format, table_size, encoded_at, encodings_at, layout_of, start_of_row, fde_of_row, starts_of, fde_offset_of, fde_offset_in, IsOfRowFor, value_or_zero};
 ghost use Rattle.framehop_cfi.specs.Pointer.{pointer_at};
 
-use crate::numbers::read_u8;
+use crate::numbers::{read_u8, read_u32};
 use crate::pointer::{
-    DW_EH_PE_FUNCREL, DW_EH_PE_INDIRECT, DW_EH_PE_PCREL, DW_EH_PE_SDATA2, DW_EH_PE_SDATA4,
-    DW_EH_PE_SDATA8, DW_EH_PE_UDATA2, DW_EH_PE_UDATA4, DW_EH_PE_UDATA8, SectionBaseAddresses,
-    read_raw_pointer,
+    DW_EH_PE_DATAREL, DW_EH_PE_FUNCREL, DW_EH_PE_INDIRECT, DW_EH_PE_PCREL, DW_EH_PE_SDATA2,
+    DW_EH_PE_SDATA4, DW_EH_PE_SDATA8, DW_EH_PE_UDATA2, DW_EH_PE_UDATA4, DW_EH_PE_UDATA8,
+    SectionBaseAddresses, read_raw_pointer, sign_extend_32,
 };
 use crate::read_error::ReadError;
 use framehop_bytes::place::{Starts, place};
 use std::marker::Model;
+
+/// Signed numbers of four bytes that count from the data: the encoding of the table that linkers write.
+const LINKERS_ENCODING: u8 = DW_EH_PE_DATAREL | DW_EH_PE_SDATA4;
 
 /// Where the header's table lies, and how it is encoded.
 #[derive(Clone, Copy)]
@@ -154,9 +157,13 @@ impl<'a> Table<'a> {
     }
 
     /// Returns the address that stands at an offset of the table.
+    #[inline]
     fn number_at(&self, at: usize) -> u64
         ensures { result ≡ value_or_zero (pointer_at self.now.bases self.now.layout.encoding self.now.bytes.now at) }
     {
+        if self.layout.encoding() == LINKERS_ENCODING {
+            return data_relative_at(&self.bases, self.bytes, at);
+        }
         match self
             .bases
             .read_pointer(self.bytes, at, self.layout.encoding())
@@ -270,6 +277,18 @@ impl TableLayout {
         ensures fits { result + self.now.size < 2 ^ 64 }
     {
         self.rows + 2 * self.size * index
+    }
+}
+
+/// Returns the address at an offset of a table in the encoding that linkers write.
+#[inline]
+#[tactic(auto, unfolding(crate::specs::Pointer::pointer_at, crate::specs::Raw::raw_at))]
+fn data_relative_at(bases: &SectionBaseAddresses, bytes: &[u8], at: usize) -> u64
+    ensures { result ≡ value_or_zero (pointer_at bases.now LINKERS_ENCODING bytes.now at) }
+{
+    match read_u32(bytes, at) {
+        Ok((number, _)) => bases.data.wrapping_add(sign_extend_32(number)),
+        Err(_) => 0,
     }
 }
 

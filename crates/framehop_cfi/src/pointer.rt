@@ -156,7 +156,7 @@ fn sign_extend_16(number: u16) -> u64
 }
 
 /// Returns the signed number as one of 64 bits.
-fn sign_extend_32(number: u32) -> u64
+pub(crate) fn sign_extend_32(number: u32) -> u64
     ensures { result ≡ sign_extended 32 number }
 {
     i64::from(number.cast_signed()).cast_unsigned()
