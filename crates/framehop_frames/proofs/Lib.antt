@@ -1,4 +1,5 @@
 mod NameLemmas
+mod PrintedLemmas
 mod LineLemmas
 mod NoteLemmas
 mod NumberedLemmas

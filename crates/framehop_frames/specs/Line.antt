@@ -46,6 +46,10 @@ escaped byte = codes "\\x" ++ hex_digit (byte / 16) ∷ hex_digit (byte % 16) �
 abbrev pub is_escaped : Bool → ℕ → Bool
 is_escaped text byte = nat_lt byte 32 || (byte == 127) || (nat_le 128 byte && not text)
 
+-- a byte that is not printed as it is
+abbrev pub is_changed : Bool → ℕ → Bool
+is_changed text byte = (byte == 59) || is_escaped text byte
+
 -- a byte of a name as it is printed: a `;` would end the name, so a colon is in its place
 abbrev pub printed_byte : Bool → ℕ → List ℕ
 printed_byte text byte = if byte == 59 then codes ":" else (if is_escaped text byte then escaped byte else byte ∷ [])

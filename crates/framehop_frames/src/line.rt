@@ -3,11 +3,11 @@
 //! A frame is named by the nearest symbol at or before its address, as debuggers do, and otherwise by its place in
 //! the file.
 ghost use Rattle.std.specs.Prelude.{◌≡◌, ◌<◌, ◌++◌, ◌∷◌, [], map, OnOk, IfOk, codes, string_bytes, true, if◌then◌else◌};
-ghost use Rattle.std.specs.List.{flat_map};
+ghost use Rattle.std.specs.List.{flat_map, list_any};
 ghost use Rattle.framehop_processes.specs.Mappings.{IsInOrder};
 ghost use Rattle.framehop_symbols.specs.Place.{place_view};
 ghost use Rattle.framehop_frames.specs.Stack.{shown_frame};
-ghost use Rattle.framehop_frames.specs.Line.{has_c1_after, is_text, hex_digit, is_escaped, printed_byte, printed, plain, base_name, hexadecimal, label_of, unnamed_text, refusal_name, end_name, is_sure_by, part_of, mark_of_part, end_text, mark, mark_of, frames_text, frame_label, line_of, refused_line, described, found_text, trampoline_text, looked_up, frame_line, last_line, block_of, time_text, head_of};
+ghost use Rattle.framehop_frames.specs.Line.{has_c1_after, is_text, hex_digit, is_changed, is_escaped, printed_byte, printed, plain, base_name, hexadecimal, label_of, unnamed_text, refusal_name, end_name, is_sure_by, part_of, mark_of_part, end_text, mark, mark_of, frames_text, frame_label, line_of, refused_line, described, found_text, trampoline_text, looked_up, frame_line, last_line, block_of, time_text, head_of};
 
 use crate::stack::{Stack, StackFrame};
 use framehop::Error;
@@ -453,14 +453,33 @@ pub fn push_name(line: &mut Vec<u8>, name: &[u8]) -> Result<(), AllocError>
 }
 
 /// Appends the part of a name that is printed.
+#[tactic(auto, using(crate::proofs::PrintedLemmas::printed_as_it_is))]
 fn push_printed(line: &mut Vec<u8>, part: &[u8]) -> Result<(), AllocError>
     ensures { OnOk result (line.new.items ≡ line.old.items ++ printed part.now) }
 {
     let is_text = is_text(part);
+    if !is_any_changed(is_text, part) {
+        line.extend_from_slice(part)?;
+        return Ok(());
+    }
     for byte in part {
         push_byte(line, is_text, *byte)?;
     }
     Ok(())
+}
+
+/// Returns whether a part of a name has a byte that is printed as something else, by whether the name is a text.
+fn is_any_changed(is_text: bool, part: &[u8]) -> bool
+    ensures { result ≡ list_any (is_changed is_text) part.now }
+{
+    part.iter().any(|byte| is_changed(is_text, *byte))
+}
+
+/// Returns whether a byte of a name is printed as something else, by whether the name is a text.
+fn is_changed(is_text: bool, byte: u8) -> bool
+    ensures { result ≡ is_changed is_text byte }
+{
+    byte == b';' || is_escaped(is_text, byte)
 }
 
 /// Appends a byte of a name as it is printed, by whether the name is a text.
