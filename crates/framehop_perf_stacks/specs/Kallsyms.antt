@@ -3,11 +3,12 @@
 use Rattle.std.specs.Prelude.{ℕ, ◌+◌, ◌-◌, ◌*◌, ◌^◌, drop, Bool, ◌&&◌, ◌||◌, nat_le, nat_lt, List, [], ◌∷◌, Option, Some, None, option_and_then, ◌==◌, if◌then◌else◌}
 use Rattle.framehop_perf_stacks.specs.Window.{before_byte, after_byte}
 
--- the value of a digit of a number in hexadecimal, in lower case
+-- the value of a digit of a number in hexadecimal
 abbrev pub digit_of : ℕ → Option ℕ
 digit_of byte =
     if nat_le 48 byte && nat_le byte 57 then Some (byte - 48)
-    else if nat_le 97 byte && nat_le byte 102 then Some (byte - 87) else None
+    else if nat_le 97 byte && nat_le byte 102 then Some (byte - 87)
+    else if nat_le 65 byte && nat_le byte 70 then Some (byte - 55) else None
 
 -- a number with a digit after it, below 2^64, and with several
 abbrev pub next_value : ℕ → Option ℕ → Option ℕ

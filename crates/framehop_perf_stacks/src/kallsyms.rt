@@ -53,8 +53,8 @@ fn is_function(letter: u8) -> bool
     letter == b't' || letter == b'T' || letter == b'w' || letter == b'W'
 }
 
-/// Returns the value of digits in hexadecimal, in lower case, below 2^64.
-fn value_of(digits: &[u8]) -> Option<u64>
+/// Returns the value of digits in hexadecimal, below 2^64: 0 of none.
+pub(crate) fn value_of(digits: &[u8]) -> Option<u64>
     ensures { result ≡ value_after (Some 0) digits.now }
 {
     let mut value: u64 = 0;
@@ -72,7 +72,7 @@ fn next_value(value: u64, digit: Option<u64>) -> Option<u64>
     value.checked_mul(16)?.checked_add(digit?)
 }
 
-/// Returns the value of a digit in hexadecimal, in lower case.
+/// Returns the value of a digit in hexadecimal.
 fn digit_of(byte: u8) -> Option<u64>
     ensures digit { result ≡ digit_of byte }
     ensures small { IfSome result (λ digit. digit < 16) }
@@ -80,6 +80,7 @@ fn digit_of(byte: u8) -> Option<u64>
     match byte {
         b'0'..=b'9' => Some(u64::from(byte) - 48),
         b'a'..=b'f' => Some(u64::from(byte) - 87),
+        b'A'..=b'F' => Some(u64::from(byte) - 55),
         _ => None,
     }
 }

@@ -12,6 +12,7 @@ pub mod kallsyms;
 pub mod kernel;
 pub mod machine;
 pub mod names;
+pub mod perf_map;
 pub mod problems;
 pub mod processes;
 pub mod program;

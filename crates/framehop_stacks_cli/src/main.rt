@@ -98,6 +98,7 @@ fn run(rt: &HostRuntime) -> Result<u8> {
         buildid_dir: matches.get_str("buildid-dir"),
         home: home(rt),
         vdso: matches.get_str("vdso"),
+        perf_map: matches.get_str("perf-map"),
         program,
     };
     let paths = matches.get_strs("file").unwrap_or(&[]);

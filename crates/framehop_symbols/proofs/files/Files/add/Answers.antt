@@ -10,6 +10,7 @@ returns-clause-added g c = λ none. record {
   others = λ other ne.
       let a = lookup-insert_other other c.in_ok-key.key c.in-Ok.number (λ same. ne (same ∙ c.in_ok-key.ensures.items)) c.args.self.now.numbers.entries in
       search (rules, a);
+  maps = search rules;
 }
 
 pub returns-clause-either : goal.returns-clause-either
