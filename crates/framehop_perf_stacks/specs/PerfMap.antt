@@ -1,14 +1,14 @@
 -- The maps that JIT compilers write for perf, one for each process: a line for each function, with its start, its size and its
 -- name (Linux, tools/perf/Documentation/jit-interface.txt).
-use Rattle.std.specs.Prelude.{◌≡◌, ℕ, ◌+◌, ◌-◌, ◌^◌, ◌⊎◌, nat_lt, nat_eq, IsSome, drop, length, filter, map, not, Bool, true, false, ◌||◌, List, [], ◌++◌, codes, decimal, Option, Some, None, option_and_then, ◌==◌, if◌then◌else◌}
-use Rattle.std.specs.List.{starts_with, filter_map, slice_split}
+use Rattle.std.specs.Prelude.{◌≡◌, ℕ, ◌+◌, ◌^◌, ◌⊎◌, nat_lt, nat_eq, IsSome, drop, length, map, count_by, is_some, not, Bool, true, false, ◌&&◌, ◌||◌, List, [], ◌++◌, codes, decimal, Option, Some, None, option_and_then, ◌==◌, if◌then◌else◌}
+use Rattle.std.specs.List.{starts_with, filter_map}
 use Rattle.framehop_recording.specs.Mapping.{MappingView}
 use Rattle.framehop_symbols.specs.Files.{map_number_in, IsMapAdded}
 use Rattle.framehop_symbols.specs.declared.code_map.CodeFunction.{CodeFunction}
 use Rattle.framehop_symbols.specs.declared.code_map.CodeMap.{CodeMap}
 use Rattle.framehop_symbols.specs.declared.files.Files.{Files}
 use Rattle.framehop_perf_stacks.specs.Kallsyms.{value_after}
-use Rattle.framehop_perf_stacks.specs.Window.{before_byte, after_byte}
+use Rattle.framehop_perf_stacks.specs.Window.{before_byte, after_byte, lines_of}
 use Rattle.framehop_perf_stacks.specs.declared.perf_map.MapLine.{MapLine}
 
 -- the names that perf gives to memory of no file (tools/perf/util/map.c, `is_anon_memory` and `is_no_dso_memory`), or that
@@ -52,12 +52,13 @@ function_from start rest =
 abbrev pub function_in : List ℕ → Option Told
 function_in line = option_and_then (λ start. function_from start (after_byte 32 line)) (number_of (before_byte 32 line))
 
--- the lines of a text that are not empty, and their functions
-abbrev pub lines_of : List ℕ → List (List ℕ)
-lines_of text = filter (λ line. not (length line == 0)) (slice_split (λ byte. byte == 10) text)
-
+-- the functions of lines, in their order
 abbrev pub functions_of : List (List ℕ) → List Told
 functions_of lines = filter_map function_in lines
+
+-- a line that is not of this form is left out; an empty one is no line
+abbrev pub is_left_out : List ℕ → Bool
+is_left_out line = not (length line == 0) && not (is_some (function_in line))
 
 abbrev pub told_view : CodeFunction → Told
 told_view function = (function.start, function.end, function.name.items)
@@ -68,7 +69,7 @@ line_view line = (line.start, line.end, line.name.now)
 -- a map is that of a text: it has the functions of its lines, and the number of the others
 pub record IsMapOfText (text : List ℕ) (code_map : CodeMap) : Type 0 where
   pub functions : map told_view code_map.functions ≡ functions_of (lines_of text)
-  pub left_out : code_map.left_out ≡ length (lines_of text) - length (functions_of (lines_of text))
+  pub left_out : code_map.left_out ≡ count_by is_left_out (lines_of text)
 
 module _ (gives_map : ℕ → Option (List ℕ) → Type 0) where
   -- a map that is given, or none, is added to the files

@@ -18,6 +18,7 @@ pub mod processes;
 pub mod program;
 pub mod recording;
 pub mod run;
+pub mod sample_text;
 pub mod shared;
 pub mod stack;
 pub mod window;

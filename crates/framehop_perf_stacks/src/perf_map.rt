@@ -1,13 +1,13 @@
 //! The names of code that JIT compilers make, by the maps that they write for perf, one for each process.
 //!
 //! Source: Linux, `tools/perf/Documentation/jit-interface.txt`.
-ghost use Rattle.std.specs.Prelude.{◌≡◌, ℕ, List, Option, map, option_map, IfOk, OnOk};
+ghost use Rattle.std.specs.Prelude.{◌≡◌, ℕ, List, Option, map, count_by, option_map, IfOk, OnOk};
 ghost use Rattle.framehop_elf.specs.UnwindSections.{bytes_in};
 ghost use Rattle.framehop_recording.specs.Mapping.{mapping_view};
-ghost use Rattle.framehop_perf_stacks.specs.PerfMap.{is_anonymous, without_prefix, number_of, function_from, function_in, lines_of, functions_of, told_view, line_view, map_name, IsMapOfText, IsMapRead};
+ghost use Rattle.framehop_perf_stacks.specs.PerfMap.{is_anonymous, without_prefix, number_of, function_from, function_in, functions_of, is_left_out, told_view, line_view, map_name, IsMapOfText, IsMapRead};
 
 use crate::kallsyms::value_of;
-use crate::window::{after_byte, before_byte};
+use crate::window::{after_byte, before_byte, lines_of};
 use framehop_recording::mapping::Mapping;
 use framehop_symbols::code_map::{CodeFunction, CodeFunctions, CodeMap};
 use framehop_symbols::files::Files;
@@ -90,31 +90,44 @@ pub fn read_perf_map(alloc: Global, text: &[u8]) -> Result<CodeMap, AllocError>
 {
     let lines = lines_of(alloc, text)?;
     let told = told_in(alloc, lines.as_slice())?;
-    let left_out = lines.len().saturating_sub(told.len());
     let functions = functions_of(alloc, told.as_slice())?;
     Ok(CodeMap {
         functions: CodeFunctions::new(alloc, functions)?,
-        left_out,
+        left_out: count_left_out(lines.as_slice()),
     })
-}
-
-/// Returns the lines of a text that are not empty.
-fn lines_of(alloc: Global, text: &[u8]) -> Result<Vec<&[u8]>, AllocError>
-    ensures { IfOk result (λ lines. map (λ line. line.now) lines.items ≡ lines_of text.entry.now) }
-{
-    text.split(|byte| *byte == b'\n')
-        .filter(|line| !line.is_empty())
-        .collect(alloc)
 }
 
 /// Returns what lines tell.
 fn told_in<'a>(alloc: Global, lines: &[&'a [u8]]) -> Result<Vec<MapLine<'a>>, AllocError>
     ensures { IfOk result (λ told. map line_view told.items ≡ functions_of (map (λ line. line.now) lines.now)) }
 {
-    lines
-        .iter()
-        .filter_map(|line| line_in(*line))
-        .collect(alloc)
+    let mut told = Vec::new(alloc);
+    for line in lines {
+        if let Some(line) = line_in(line) {
+            told.push(line)?;
+        }
+    }
+    Ok(told)
+}
+
+/// Returns how many lines tell nothing, but for empty ones.
+fn count_left_out(lines: &[&[u8]]) -> usize
+    ensures { result ≡ count_by is_left_out (map (λ line. line.now) lines.now) }
+{
+    let mut count = 0;
+    for line in lines {
+        if is_left_out(line) {
+            count += 1;
+        }
+    }
+    count
+}
+
+/// Returns whether a line tells nothing and is not empty.
+fn is_left_out(line: &[u8]) -> bool
+    ensures { result ≡ is_left_out line.now }
+{
+    !line.is_empty() && line_in(line).is_none()
 }
 
 /// Returns the functions of lines.
