@@ -240,6 +240,17 @@ for program in "$@"; do
     try 0 "$checks/stacks/crash.fallback" any --root srv --explain crash.core
     try 0 "$checks/stacks/debug_frame.stacks" any --root . debug_frame.core
     try 0 "$checks/stacks/debug_frame.explained" any --root . --explain debug_frame.core
+    # the same file with its .debug_frame compressed, and again as it was
+    compressed=$work/compressed/usr/local/bin/debug_frame restored=$work/restored/usr/local/bin/debug_frame
+    if command -v objcopy >"$work/out"; then
+        mkdir -p "${compressed%/*}" "${restored%/*}"
+        objcopy --compress-debug-sections=zlib "$data/usr/local/bin/debug_frame" "$compressed" || failed=1
+        objcopy --decompress-debug-sections "$compressed" "$restored" || failed=1
+        (cd "$data" && "$program" --root "$work/compressed" debug_frame.core) 2>"$work/err" >"$work/out"
+        echo "/usr/local/bin/debug_frame: its .debug_frame is compressed; objcopy --decompress-debug-sections makes a file of which it can be read" |
+            cmp -s - "$work/err" || { echo "$program: it says of a compressed .debug_frame: $(cat "$work/err")" >&2; failed=1; }
+        try 0 "$checks/stacks/debug_frame.stacks" "$work/nothing" --root "$work/restored" debug_frame.core
+    fi
     try 1 "$work/nothing" any "$work/short.core"
     try 0 "$checks/stacks/minidump.stacks" any --root . crash.dmp
     try 0 "$checks/stacks/minidump.limit" any --root . --limit 1 crash.dmp
