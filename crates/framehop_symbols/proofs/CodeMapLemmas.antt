@@ -1,11 +1,11 @@
 -- Which function is in force at an address, of those that were put one after another.
-use Rattle.std.proofs.Common.{rules, tests, ◌≡◌, ◌≢◌, ℕ, ◌+◌, ◌<◌, ◌≤◌, ◌⊎◌, inl, inr, Bool, true, false, cond, List, [], ◌∷◌, ◌++◌, length, take, reverse, get_or, Option, Some, None, if◌then◌else◌, refl, ap, sym, ◌∙◌, subst, arith}
+use Rattle.std.proofs.Common.{◌≡◌, ◌≢◌, ℕ, ◌+◌, ◌<◌, ◌≤◌, ◌⊎◌, inl, inr, Bool, true, false, cond, List, [], ◌∷◌, length, take, reverse, get_or, Option, Some, None, if◌then◌else◌, refl, ap, sym, ◌∙◌, subst, arith}
 use Rattle.std.proofs.lemmas.Bool.{cases_lt, cases_order, lt-ltb, le-ltb, le-leb, lt-leb}
 use Rattle.std.proofs.lemmas.Bool.Decides.{nat_tests}
 use Rattle.std.proofs.lemmas.List.{take_more, reverse-append}
 use Rattle.std.proofs.lemmas.Option.{slice_get-get_or}
-use Rattle.std.specs.BTreeMap.{BTreeMap, get, get_by, UpdatesBy, is_at}
-use Rattle.std.specs.List.{find, slice_get}
+use Rattle.std.specs.BTreeMap.{BTreeMap, get}
+use Rattle.std.specs.List.{slice_get}
 use Rattle.std.specs.Option.{IsSome}
 use Rattle.std.specs.Ordering.{nat_cmp, is_eq, is_lt, is_gt}
 use Rattle.std.proofs.lemmas.Map.Keys.{ge_from_not_lt}
@@ -52,8 +52,12 @@ module _ (old new : BTreeMap ℕ (Option ℕ)) (start end : ℕ) (number after :
   put-below a before low (inl none) = inl (λ key at. below key (omega (arith, low, at)) ∙ none.0 key at, none.1)
   put-below a before low (inr found) =
       let key-low = found.1 in
-      inr (found.0, found.1, below found.0 (omega (arith, low, key-low)) ∙ found.2,
-      λ above more at. below above (omega (arith, low, at)) ∙ found.3 above more at)
+      inr (
+        found.0,
+        found.1,
+        below found.0 (omega (arith, low, key-low)) ∙ found.2,
+        λ above more at. below above (omega (arith, low, at)) ∙ found.3 above more at,
+      )
 
   put-inside : (a : ℕ) → start ≤ a → a < end → IsInForce new a number
   put-inside a from within = inr (start, from, at-start, λ above more at. inside above more (omega (arith, at, within)))
@@ -95,6 +99,14 @@ key-below k q low = grind (arith, nat_tests)
 
 pub key-over : (k q : ℕ) → k < q → is_eq (nat_cmp k q) ≡ false
 key-over k q high = grind (arith, nat_tests)
+
+key-by : (k q : ℕ) → q ≢ k → (q ≡ k) ⊎ ((q < k) ⊎ (k < q)) → is_eq (nat_cmp k q) ≡ false
+key-by k q ne (inl same) = absurd (ne same)
+key-by k q ne (inr (inl low)) = key-below k q low
+key-by k q ne (inr (inr high)) = key-over k q high
+
+pub key-other : (k q : ℕ) → q ≢ k → is_eq (nat_cmp k q) ≡ false
+key-other k q ne = key-by k q ne (cases_order q k)
 
 -- ---- functions, one after another
 

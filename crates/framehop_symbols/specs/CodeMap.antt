@@ -1,5 +1,5 @@
 -- The names of functions whose code is in no file, as those that a JIT compiler makes, by their addresses.
-use Rattle.std.specs.Prelude.{◌≡◌, ℕ, ◌<◌, ◌≤◌, ◌⊎◌, ◌-◌, nat_le, nat_lt, ◌&&◌, Bool, List, reverse, Option, Some, None, option_map, option_and_then, slice_get, if◌then◌else◌}
+use Rattle.std.specs.Prelude.{◌≡◌, ℕ, ◌<◌, ◌≤◌, ◌⊎◌, ◌-◌, nat_le, nat_lt, ◌&&◌, Bool, List, reverse, Option, Some, None, option_map, option_and_then, slice_get}
 use Rattle.std.specs.BTreeMap.{BTreeMap, get}
 use Rattle.std.specs.List.{find}
 use Rattle.std.specs.Ordering.{nat_cmp}

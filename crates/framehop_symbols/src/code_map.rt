@@ -127,11 +127,7 @@ fn clear(by_address: &mut BTreeMap<u64, Option<usize>>, start: u64, end: u64)
 }
 
 /// Returns the first address between two, the second excluded, at which something begins.
-fn first_between(
-    by_address: &BTreeMap<u64, Option<usize>>,
-    start: u64,
-    end: u64,
-) -> Option<u64>
+fn first_between(by_address: &BTreeMap<u64, Option<usize>>, start: u64, end: u64) -> Option<u64>
     requires { start ≤ end }
     ensures { MatchOption result ((key : ℕ) → start ≤ key → key < end → get nat_cmp by_address.now key ≡ None)
         (λ key. (start ≤ key) × (key < end) × IsSome (get nat_cmp by_address.now key)) }

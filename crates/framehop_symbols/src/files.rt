@@ -124,12 +124,7 @@ impl Files {
 
     /// Adds the map of a process's code that is in no file, under a name, unless it has one. Fails only where an allocation
     /// does, or from 2^32 files on.
-    pub fn add_map(
-        &mut self,
-        pid: u32,
-        name: Vec<u8>,
-        code_map: CodeMap,
-    ) -> Result<(), AllocError>
+    pub fn add_map(&mut self, pid: u32, name: Vec<u8>, code_map: CodeMap) -> Result<(), AllocError>
         ensures bare { self.new.bare ≡ self.old.bare }
         ensures added { OnOk result (IsMapAdded pid name.items code_map self.old self.new) }
     {

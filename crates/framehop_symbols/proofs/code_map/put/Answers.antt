@@ -1,6 +1,4 @@
-use Rattle.std.proofs.Common.{rules, ◌≡◌, ℕ, ◌<◌, inl, inr, Some, None, sym, ◌∙◌, arith}
-use Rattle.std.specs.BTreeMap.{get}
-use Rattle.std.specs.Ordering.{nat_cmp}
+use Rattle.std.proofs.Common.{◌<◌, inl, inr, Some, ◌∙◌, arith}
 use Rattle.framehop_symbols.proofs.CodeMapLemmas.{put-in-force, key-below, key-over}
 use Rattle.framehop_symbols.proofs.code_map.put.Goals as goal
 

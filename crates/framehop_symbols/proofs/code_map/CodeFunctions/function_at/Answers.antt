@@ -1,6 +1,5 @@
-use Rattle.std.proofs.Common.{rules, ◌≡◌, ◌-◌, ℕ, List, Option, Some, None, refl, ap, sym, ◌∙◌, subst}
-use Rattle.std.specs.Prelude.{option_map}
-use Rattle.framehop_symbols.specs.CodeMap.{function_of, code_function_at, code_name_at}
+use Rattle.std.proofs.Common.{rules, ◌≡◌, ◌-◌, ℕ, List, Some, None, refl}
+use Rattle.framehop_symbols.specs.CodeMap.{code_function_at, code_name_at}
 use Rattle.framehop_symbols.specs.declared.code_map.CodeFunction.{CodeFunction}
 use Rattle.framehop_symbols.proofs.CodeMapLemmas.{function-in-force}
 use Rattle.framehop_symbols.proofs.code_map.CodeFunctions.function_at.Goals as goal

@@ -1,4 +1,4 @@
-use Rattle.std.proofs.Common.{rules, ◌≡◌, ℕ, ◌<◌, ◌≤◌, List, length, take, get_or, inl, None, refl, sym, ap, subst, ◌∙◌, arith}
+use Rattle.std.proofs.Common.{rules, ◌≤◌, List, length, inl, None, refl, subst}
 use Rattle.std.proofs.lemmas.List.{take_all}
 use Rattle.framehop_symbols.specs.declared.code_map.CodeFunction.{CodeFunction}
 use Rattle.framehop_symbols.specs.CodeMap.{AreNumberedOf}
@@ -14,7 +14,7 @@ loop-number-preserved c = λ address.
       _,
       c.in_ok-put.ensures address was.0 was.1,
       last-more address c.deref-function-items.result.now c.args.functions.items c.loop-number.number c.function-item.result _ was.0
-      c.deref-function-items.ensures.value c.loop-number-test.true c.function-item.is was.2,
+          c.deref-function-items.ensures.value c.loop-number-test.true c.function-item.is was.2,
     )
 
 pub invariant_of-result : goal.invariant_of-result
