@@ -116,7 +116,9 @@ fn left_out_text(alloc: Global, left_out: usize) -> Result<String, AllocError>
     if left_out == 0 {
         return Ok(String::new(alloc));
     }
-    Ok(format!(in alloc; ": lines that are left out, since they are not START SIZE NAME: {left_out}")?)
+    Ok(format!(in alloc;
+        ": lines that are left out, since they are not START SIZE NAME: {left_out}"
+    )?)
 }
 
 /// Returns how many lines of a map tell no function.

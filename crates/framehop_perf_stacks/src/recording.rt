@@ -16,8 +16,8 @@ ghost use Rattle.framehop_perf_stacks.specs.Refusal.{of_recording};
 ghost use Rattle.framehop_perf_stacks.specs.declared.error.StacksError.{StacksError};
 
 use crate::changes::code_mapping;
-use crate::perf_map::{MapSource, add_map};
 use crate::error::StacksError;
+use crate::perf_map::{MapSource, add_map};
 use framehop_recording::attributes::Attribute;
 use framehop_recording::build_ids::{FileBuildId, read_build_ids};
 use framehop_recording::error::RecordingError;
