@@ -134,18 +134,18 @@ work.joinpath("lines.folded").write_text("".join(lines))
 name = "x" * 60000
 # a name is cut after 2,048 bytes
 cut = name[:2048] + "..."
-within = "vm;[frame-pointer-0];app+0x12ff;js:run script.js:1:2: x;"
+within = "vm;[frame-pointer-0];js:run script.js:1:2: x;"
 named = [("first", 3), ("later", 2), ("perf-300.map+0x1800", 1)]
 work.joinpath("jit.folded").write_text(
-    "other;[frame-pointer-0];[anon:jit]+0xf;[anon:jit]+0x8 1\n" + "".join(f"{within}{name} {count}\n" for name, count in named)
+    "other;[frame-pointer-0];[anon:jit]+0x8 1\n" + "".join(f"{within}{name} {count}\n" for name, count in named)
 )
 app, left_out = "/srv/app: can't be read\n", "perf-300.map: lines that are left out, since they are not START SIZE NAME: 2\n"
-work.joinpath("jit.errors").write_text(app + left_out + counted.format(7, 7))
+work.joinpath("jit.errors").write_text(app + left_out + counted.format(7, 6))
 # without the map each is named by its place
 places = [("anon+0x10", 2), ("anon+0x1800", 1), ("anon+0x80", 1), ("anon+0xdf", 1), ("anon+0xe0", 1)]
 work.joinpath("no-jit.folded").write_text(
-    "other;[frame-pointer-0];[anon:jit]+0xf;[anon:jit]+0x8 1\n"
-    + "".join(f"vm;[frame-pointer-0];app+0x12ff;anon+0x103;{place} {count}\n" for place, count in places)
+    "other;[frame-pointer-0];[anon:jit]+0x8 1\n"
+    + "".join(f"vm;[frame-pointer-0];anon+0x103;{place} {count}\n" for place, count in places)
 )
 work.joinpath("long.folded").write_text(f"app;[frame-pointer-0];{cut}+0x1203;{cut}+0x1124 1\n")
 work.joinpath("long.errors").write_text(f"/srv/{name[:2043]}...: can't be read\n" + counted.format(1, 1))
