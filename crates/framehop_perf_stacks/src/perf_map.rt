@@ -2,7 +2,6 @@
 //!
 //! Source: Linux, `tools/perf/Documentation/jit-interface.txt`.
 ghost use Rattle.std.specs.Prelude.{◌≡◌, ℕ, List, Option, map, count_by, option_map, IfOk, OnOk};
-ghost use Rattle.framehop_elf.specs.UnwindSections.{bytes_in};
 ghost use Rattle.framehop_recording.specs.Mapping.{mapping_view};
 ghost use Rattle.framehop_perf_stacks.specs.PerfMap.{is_anonymous, without_prefix, number_of, function_from, function_in, functions_of, is_left_out, told_view, line_view, map_name, IsMapOfText, IsMapRead};
 
@@ -24,7 +23,7 @@ pub trait MapSource {
     ///
     /// An allocation failed.
     fn read_map(&self, pid: u32) -> Result<Option<Vec<u8>>, AllocError>
-        ensures { IfOk result (λ given. gives_map self.now pid (bytes_in given)) };
+        ensures { IfOk result (λ given. gives_map self.now pid (option_map (λ bytes. bytes.items) given)) };
 }
 
 /// A line of a map.
