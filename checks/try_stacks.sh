@@ -118,7 +118,7 @@ made=$work/made
 mkdir "$made" || exit 1
 dumps=$work/dumps
 mkdir "$dumps" && python3 "$checks/stacks/made_up_dumps.py" "$data" "$dumps" || exit 1
-for case in cut short_comm short_fork lost files lines long build_ids chains kernel full events; do
+for case in cut short_comm short_fork lost files lines long build_ids chains kernel full events jit; do
     python3 "$checks/stacks/made_up_recording.py" "$made/$case.data" "$case" || exit 1
 done
 python3 - "$work" <<'END' || exit 1
@@ -134,6 +134,19 @@ work.joinpath("lines.folded").write_text("".join(lines))
 name = "x" * 60000
 # a name is cut after 2,048 bytes
 cut = name[:2048] + "..."
+within = "vm;[frame-pointer-0];js:run script.js:1:2: x;"
+named = [("first", 3), ("later", 2), ("perf-300.map+0x1800", 1)]
+work.joinpath("jit.folded").write_text(
+    "other;[frame-pointer-0];[anon:jit]+0x8 1\n" + "".join(f"{within}{name} {count}\n" for name, count in named)
+)
+app, left_out = "/srv/app: can't be read\n", "perf-300.map: lines that are left out, since they are not START SIZE NAME: 2\n"
+work.joinpath("jit.errors").write_text(app + left_out + counted.format(7, 6))
+# without the map each is named by its place
+places = [("anon+0x10", 2), ("anon+0x1800", 1), ("anon+0x80", 1), ("anon+0xdf", 1), ("anon+0xe0", 1)]
+work.joinpath("no-jit.folded").write_text(
+    "other;[frame-pointer-0];[anon:jit]+0x8 1\n"
+    + "".join(f"vm;[frame-pointer-0];anon+0x103;{place} {count}\n" for place, count in places)
+)
 work.joinpath("long.folded").write_text(f"app;[frame-pointer-0];{cut}+0x1203;{cut}+0x1124 1\n")
 work.joinpath("long.errors").write_text(f"/srv/{name[:2043]}...: can't be read\n" + counted.format(1, 1))
 work.joinpath("build_ids.folded").write_text("app;[frame-pointer-0];app+0x1203;app+0x1124 1\n")
@@ -227,6 +240,17 @@ for program in "$@"; do
     try 0 "$checks/stacks/crash.fallback" any --root srv --explain crash.core
     try 0 "$checks/stacks/debug_frame.stacks" any --root . debug_frame.core
     try 0 "$checks/stacks/debug_frame.explained" any --root . --explain debug_frame.core
+    # the same file with its .debug_frame compressed, and again as it was
+    compressed=$work/compressed/usr/local/bin/debug_frame restored=$work/restored/usr/local/bin/debug_frame
+    if command -v objcopy >"$work/out"; then
+        mkdir -p "${compressed%/*}" "${restored%/*}"
+        objcopy --compress-debug-sections=zlib "$data/usr/local/bin/debug_frame" "$compressed" || failed=1
+        objcopy --decompress-debug-sections "$compressed" "$restored" || failed=1
+        (cd "$data" && "$program" --root "$work/compressed" debug_frame.core) 2>"$work/err" >"$work/out"
+        echo "/usr/local/bin/debug_frame: its .debug_frame is compressed; objcopy --decompress-debug-sections makes a file of which it can be read" |
+            cmp -s - "$work/err" || { echo "$program: it says of a compressed .debug_frame: $(cat "$work/err")" >&2; failed=1; }
+        try 0 "$checks/stacks/debug_frame.stacks" "$work/nothing" --root "$work/restored" debug_frame.core
+    fi
     try 1 "$work/nothing" any "$work/short.core"
     try 0 "$checks/stacks/minidump.stacks" any --root . crash.dmp
     try 0 "$checks/stacks/minidump.limit" any --root . --limit 1 crash.dmp
@@ -333,6 +357,11 @@ for program in "$@"; do
     try_in "$made" 0 "$work/all" any events.data
     try_in "$made" 0 "$work/first" any --event cycles events.data
     try_in "$made" 0 "$work/later" any --event 1 events.data
+    mkdir -p "$work/maps" && cp "$checks/stacks/made_up_map.txt" "$work/maps/perf-300.map"
+    try_in "$made" 0 "$work/jit.folded" "$work/jit.errors" --perf-map "$work/maps" jit.data
+    try_in "$made" 0 "$work/no-jit.folded" any --perf-map "$work/other" jit.data
+    try_in "$made" 0 "$work/no-jit.folded" any jit.data
+    try_in "$made" 1 "$work/nothing" "$(said "$work/no: no folder")" --perf-map "$work/no" jit.data
     try_in "$made" 0 "$work/all" any --event cycles --event task-clock events.data
     try_in "$made" 1 "$work/nothing" "$(said "events.data: no event 2; the events are 0 cycles, 1 task-clock")" --event 2 events.data
     try_in "$made" 0 "$work/first" any --time ,0.00000001 events.data

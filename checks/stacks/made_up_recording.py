@@ -17,6 +17,7 @@ order of their times. The cases, whose output `checks/try_stacks.sh` has:
     kernel      samples with a copy of the stack, and a call chain of the kernel
     full        samples of whose stacks as much was copied as was asked for, of which one goes on
     events      samples of two events, which have names
+    jit         samples in code of no file, for which `perf-300.map` of made_up_map.txt has names, and a process without such a map
 
 Layout: Linux, include/uapi/linux/perf_event.h, and tools/perf/Documentation/perf.data-file-format.txt.
 """
@@ -209,7 +210,28 @@ def events():
     ]
 
 
-CASES = {"short_comm": short_comm, "short_fork": short_fork, "lost": lost_twice, "files": files, "lines": lines, "long": long, "build_ids": unread_build_ids, "chains": chains, "kernel": kernel, "full": full, "events": events}
+def jit():
+    whole = [(STACK + 16, 0x40104), (0, 0x10300)]
+    return [
+        comm(300, "vm", 1),
+        mapping(300, 0x10000, 0x3000, 0x1000, "/srv/app", 2),
+        mapping(300, 0x40000, 0x2000, 0, "//anon", 3),
+        sample(300, 10, 0x40010, whole),
+        # the first and the last address of later code over earlier code
+        sample(300, 11, 0x40080, whole),
+        sample(300, 12, 0x400DF, whole),
+        sample(300, 13, 0x400E0, whole),
+        # no line has it
+        sample(300, 14, 0x41800, whole),
+        fork(301, 300, 20),
+        sample(301, 21, 0x40010, whole),
+        comm(302, "other", 30),
+        mapping(302, 0x50000, 0x1000, 0, "[anon:jit]", 31),
+        sample(302, 32, 0x50008, [(0, 0x50010)]),
+    ]
+
+
+CASES = {"short_comm": short_comm, "short_fork": short_fork, "lost": lost_twice, "files": files, "lines": lines, "long": long, "build_ids": unread_build_ids, "chains": chains, "kernel": kernel, "full": full, "events": events, "jit": jit}
 
 
 def event_names(names, ids):

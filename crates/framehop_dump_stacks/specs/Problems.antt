@@ -1,4 +1,4 @@
--- What is said of the files of which nothing was read.
+-- What is said of files: of which nothing was read, and of which something was not.
 use Rattle.std.specs.Prelude.{◌≡◌, ℕ, ◌+◌, ◌-◌, ◌^◌, nat_eq, nat_lt, max, min, ◌&&◌, Bool, true, false, if◌then◌else◌, List, [], ◌∷◌, ◌++◌, length, codes, find, fold, is_some, Option, Some, None}
 use Rattle.std.specs.Fmt.{decimal}
 use Rattle.framehop_memory.specs.declared.memory.MemoryRange.{MemoryRange}
@@ -61,6 +61,18 @@ abbrev pub lack_line : List ℕ → List ℕ → List ℕ
 lack_line name [] = []
 lack_line name (byte ∷ bytes) = plain name ++ (byte ∷ bytes) ++ 10 ∷ []
 
+-- a `.debug_frame` that is compressed is not read: by which program it can be
+abbrev pub compressed_text : Bool → List ℕ
+compressed_text true =
+    codes ": its .debug_frame is compressed; objcopy --decompress-debug-sections makes a file of which it can be read"
+compressed_text false = []
+
+-- both, of a file that was read
+abbrev pub object_lines : List ℕ → ObjectFile → List ℕ
+object_lines name object =
+    lack_line name (lack_text (is_unwind_data object.«module».unwind_data) (has_names object.symbols.items))
+    ++ lack_line name (compressed_text object.has_compressed_frames)
+
 -- why nothing was read of a file, after its name: it is not there, it is another one, or its reader's reason, which is
 -- printed
 abbrev pub IsReason : List ℕ → Type 0
@@ -90,13 +102,12 @@ in_memory_text kind true = codes "; its unwind data is the " ++ kind_name kind +
 in_memory_text kind false = []
 
 module _ (dump : DumpView) (files : Files) (mappings : List Mapping) where
-  -- the line of a file: its name, why nothing was read of it, and whether memory has its unwind data; or what was not found
-  -- in it
+  -- the lines of a file: its name, why nothing was read of it, and whether memory has its unwind data; or what was not found
+  -- in it, and that its unwind data is compressed
   abbrev pub IsLineOf : List ℕ → Option ObjectFile → Option FileProblem → List ℕ → Type 0
   IsLineOf name object (Some problem) line = (why : List ℕ) × IsProblemText dump.kind problem why
       × (line ≡ plain name ++ why ++ in_memory_text dump.kind (is_in_memory dump files mappings name) ++ 10 ∷ [])
-  IsLineOf name (Some object) None line =
-      line ≡ lack_line name (lack_text (is_unwind_data object.«module».unwind_data) (has_names object.symbols.items))
+  IsLineOf name (Some object) None line = line ≡ object_lines name object
   IsLineOf name None None line = line ≡ []
 
   -- the lines of files, in their order

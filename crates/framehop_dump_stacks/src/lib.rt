@@ -12,6 +12,7 @@ pub mod heads;
 pub mod image;
 pub mod machine;
 pub mod minidump;
+mod minidump_cause;
 pub mod modules;
 mod order;
 mod problems;

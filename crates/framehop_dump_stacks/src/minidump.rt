@@ -9,18 +9,16 @@ ghost use Rattle.framehop_dump_stacks.specs.Added.{object_called};
 ghost use Rattle.framehop_dump_stacks.specs.Dump.{thread_view, mapped_code_view, dump_view};
 ghost use Rattle.framehop_memory.specs.Memory.{memory_view};
 ghost use Rattle.framehop_dump_stacks.specs.Image.{segments_in};
-ghost use Rattle.framehop_dump_stacks.specs.Minidump.{each, each_within, names_limit, machine_of, sent_of, signal_of, access_of, windows_exception, cause_by, cause_of, last_address, mask_up_to, thread_in, loaded_view, loaded_size, loaded_if, build_id_by, loaded_in, named_in, parts_view, parts_of, separator, file_name, program_name, is_wow64, has_wow64, dumped_threads_of, dump_in, object_segments, or_else, base_by_name, whole, all_regions_of, segment_code, code_by, code_in, code_of, AreModuleFiles, dump_with};
+ghost use Rattle.framehop_dump_stacks.specs.Minidump.{each, each_within, names_limit, machine_of, cause_of, last_address, mask_up_to, thread_in, loaded_view, loaded_size, loaded_if, build_id_by, loaded_in, named_in, parts_view, parts_of, separator, file_name, program_name, is_wow64, has_wow64, dumped_threads_of, dump_in, object_segments, or_else, base_by_name, whole, all_regions_of, segment_code, code_by, code_in, code_of, AreModuleFiles, dump_with};
 ghost use Rattle.framehop_elf.specs.Segment.{loaded_segments_of};
 ghost use Rattle.framehop_minidump.specs.CodeView.{codeview_view};
 ghost use Rattle.framehop_minidump.specs.declared.error.MinidumpError.{MinidumpError};
 ghost use Rattle.framehop_symbols.specs.Files.{is_unix_path, IsAdded};
 ghost use Rattle.framehop_dump_stacks.specs.ThreadNames.{named_view};
 
-use crate::dump::{
-    Access, Cause, Dump, Exception as WindowsException, Kind, MappedCode, Registers, Sent, Signal,
-    Thread,
-};
+use crate::dump::{Dump, Kind, MappedCode, Registers, Thread};
 use crate::image::{head_at, segments_in};
+use crate::minidump_cause::cause_of;
 use crate::order::crashed_first;
 use crate::thread_names::{NamedThread, ThreadNames};
 use framehop_coredump::core_file::Machine;
@@ -46,23 +44,7 @@ use framehop_symbols::files::{FileSource, Files, is_unix_path, is_windows_path};
 use std::alloc::{AllocError, Global};
 
 /// The platform of Windows.
-const WINDOWS: u32 = 2;
-
-/// The platform of Linux, `MD_OS_LINUX` of Breakpad.
-const LINUX: u32 = 0x8201;
-
-/// The platform of Android, `MD_OS_ANDROID` of Breakpad.
-const ANDROID: u32 = 0x8203;
-
-/// The code of a minidump of Linux that was asked for without a crash, `MD_EXCEPTION_CODE_LIN_DUMP_REQUESTED` of
-/// Breakpad.
-const DUMP_REQUESTED: u32 = 0xffff_ffff;
-
-/// `EXCEPTION_ACCESS_VIOLATION`.
-const ACCESS_VIOLATION: u32 = 0xc000_0005;
-
-/// `EXCEPTION_IN_PAGE_ERROR`.
-const IN_PAGE_ERROR: u32 = 0xc000_0006;
+pub(crate) const WINDOWS: u32 = 2;
 
 /// A module of a minidump.
 #[derive(Drop)]
@@ -429,81 +411,6 @@ fn thread_in<'a>(
             code_mask: of_all.code_mask,
         },
     })
-}
-
-/// Returns what a thread got, if the exception is of it.
-fn cause_of(platform: u32, tid: u32, exception: Option<Exception>) -> Option<Cause>
-    ensures { result ≡ cause_of platform tid exception }
-{
-    match exception {
-        Some(exception) if exception.tid == tid => cause_by(platform, exception),
-        _ => None,
-    }
-}
-
-/// Returns what an exception is the cause of.
-fn cause_by(platform: u32, exception: Exception) -> Option<Cause>
-    ensures { result ≡ cause_by platform exception }
-{
-    match platform {
-        LINUX | ANDROID => signal_of(exception),
-        WINDOWS => Some(Cause::Exception(windows_exception(exception))),
-        _ => Some(Cause::Other(exception.code)),
-    }
-}
-
-/// Returns what an exception of Linux is the cause of: the signal of its code, if there is one.
-fn signal_of(exception: Exception) -> Option<Cause>
-    ensures { result ≡ signal_of exception }
-{
-    match exception.code {
-        0 => None,
-        DUMP_REQUESTED => None,
-        number => Some(Cause::Signal(Signal {
-            number,
-            sent: sent_of(exception),
-        })),
-    }
-}
-
-/// Returns why the signal of an exception of Linux was sent, if its flags tell it.
-fn sent_of(exception: Exception) -> Option<Sent>
-    ensures { result ≡ sent_of exception }
-{
-    if exception.flags == 0 {
-        return None;
-    }
-    Some(Sent {
-        code: exception.flags,
-        fields: exception.address,
-    })
-}
-
-/// Returns an exception of Windows.
-fn windows_exception(exception: Exception) -> WindowsException
-    ensures { result ≡ windows_exception exception }
-{
-    WindowsException {
-        code: exception.code,
-        address: exception.address,
-        access: access_of(exception),
-    }
-}
-
-/// Returns the access to memory that failed, if an exception of Windows is of one.
-///
-/// Source: `winnt.h`, `EXCEPTION_RECORD`, `ExceptionInformation`.
-fn access_of(exception: Exception) -> Option<Access>
-    ensures { result ≡ access_of exception }
-{
-    let is_access = exception.code == ACCESS_VIOLATION || exception.code == IN_PAGE_ERROR;
-    if is_access && exception.parameter_count >= 2 {
-        return Some(Access {
-            kind: exception.first_parameter,
-            address: exception.second_parameter,
-        });
-    }
-    None
 }
 
 /// Returns the machine.

@@ -1,9 +1,9 @@
-//! What is said of the files of which nothing was read.
+//! What is said of files: of which nothing was read, and of which something was not.
 ghost use Rattle.std.specs.Prelude.{◌≡◌, Some, None, find, string_bytes, IfOk};
 ghost use Rattle.framehop_symbols.specs.Files.{number_in};
 ghost use Rattle.framehop_symbols.specs.Found.{has_names, is_unwind_data};
 ghost use Rattle.framehop_dump_stacks.specs.Dump.{dump_view};
-ghost use Rattle.framehop_dump_stacks.specs.Problems.{kind_name, range_end, needed_size, sizes_text, cut_text, wow64_text, file_text, lack_text, lack_line, IsReason, IsProblemText, is_of_file, has_frames, is_in_memory, in_memory_text, IsLineOf, AreProblems, IsSaid};
+ghost use Rattle.framehop_dump_stacks.specs.Problems.{kind_name, range_end, needed_size, sizes_text, cut_text, wow64_text, file_text, lack_text, lack_line, compressed_text, object_lines, IsReason, IsProblemText, is_of_file, has_frames, is_in_memory, in_memory_text, IsLineOf, AreProblems, IsSaid};
 
 use crate::dump::{Dump, Kind};
 use crate::heads::heads_of;
@@ -20,7 +20,7 @@ use std::alloc::{AllocError, Global};
 const FIRST_OF_KERNEL: u64 = 0x8000_0000_0000_0000;
 
 /// Returns what is said of a dump: that its file is cut short, that it is of a 32-bit process of Windows, and of each file of
-/// which nothing was read, or that lacks unwind data or names.
+/// which nothing was read, that lacks unwind data or names, or whose unwind data is compressed.
 pub fn said_text(
     alloc: Global,
     dump: &Dump<'_>,
@@ -99,7 +99,7 @@ fn wow64_text(wow64: bool) -> &'static str
 }
 
 /// Returns a line for each file of which nothing was read, in the order of the files: its name, why, and whether memory
-/// has its unwind data; and for each that lacks unwind data or names.
+/// has its unwind data; and for each that lacks unwind data or names, or whose unwind data is compressed.
 fn problems_text(
     alloc: Global,
     dump: &Dump<'_>,
@@ -118,7 +118,7 @@ fn problems_text(
     Ok(text)
 }
 
-/// Returns the line of a file: none where it was read and lacks nothing.
+/// Returns the lines of a file: none where it was read and lacks nothing.
 fn problem_line(
     alloc: Global,
     modules: &DumpModules<'_, '_>,
@@ -129,7 +129,7 @@ fn problem_line(
 {
     match (file.problem, &file.object) {
         (Some(problem), _) => unread_line(alloc, modules, mappings, file.name.as_slice(), problem),
-        (None, Some(object)) => lack_line(alloc, file.name.as_slice(), object),
+        (None, Some(object)) => object_lines(alloc, file.name.as_slice(), object),
         (None, None) => Ok(Vec::new(alloc)),
     }
 }
@@ -141,6 +141,28 @@ fn lack_line(alloc: Global, name: &[u8], object: &ObjectFile) -> Result<Vec<u8>,
 {
     let lack = lack_text(object.has_unwind_data(), object.has_names());
     name_line(alloc, name, lack)
+}
+
+/// Returns the lines of a file that was read: what it lacks, and that its `.debug_frame` is compressed.
+fn object_lines(alloc: Global, name: &[u8], object: &ObjectFile) -> Result<Vec<u8>, AllocError>
+    ensures { IfOk result (λ lines. lines.items ≡ object_lines name.now object.now) }
+{
+    let mut lines = lack_line(alloc, name, object)?;
+    let compressed = compressed_text(object.has_compressed_frames());
+    let line = name_line(alloc, name, compressed)?;
+    lines.extend_from_slice(line.as_slice())?;
+    Ok(lines)
+}
+
+/// Returns what is said of a file whose `.debug_frame` is compressed.
+fn compressed_text(compressed: bool) -> &'static str
+    ensures { result.now ≡ compressed_text compressed }
+{
+    if compressed {
+        ": its .debug_frame is compressed; objcopy --decompress-debug-sections makes a file of which it can be read"
+    } else {
+        ""
+    }
 }
 
 /// Returns a line of a name and what is said of it, if something is.

@@ -4,6 +4,8 @@ mod ProblemLemmas
 mod StateLemmas
 mod TakenLemmas
 mod EventLemmas
+mod LinesLemmas
+mod KallsymsLemmas
 mod EndedLemmas
 mod SoFarLemmas
 mod PrintedLemmas

@@ -6,7 +6,7 @@ use Rattle.framehop_perf_stacks.specs.Problems.{IsLineOf, AreLinesOf}
 
 -- the line of the next file comes before those of the files after it
 pub lines-next : (files : List NamedFile) (i : ℕ) (d file : NamedFile) (line later : List ℕ) → i < length files → file ≡ get_or files i d
-    → IsLineOf file.name.items file.problem line → AreLinesOf (drop (i + 1) files) later → AreLinesOf (drop i files) (line ++ later)
+    → IsLineOf file line → AreLinesOf (drop (i + 1) files) later → AreLinesOf (drop i files) (line ++ later)
 lines-next files i d file line later within is told rest =
     let one : i + 1 ≡ suc i = omega arith in
     let head : drop i files ≡ file ∷ drop (i + 1) files =
@@ -18,7 +18,7 @@ abbrev pub AreLinesSoFar : List NamedFile → ℕ → List ℕ → Type 0
 AreLinesSoFar files i text = (later : List ℕ) → AreLinesOf (drop i files) later → AreLinesOf files (text ++ later)
 
 pub one-line-more : (items files : List NamedFile) (i : ℕ) (d file : NamedFile) (line text : List ℕ) → items ≡ files → i < length items
-    → file ≡ get_or items i d → IsLineOf file.name.items file.problem line → AreLinesSoFar files i text
+    → file ≡ get_or items i d → IsLineOf file line → AreLinesSoFar files i text
     → AreLinesSoFar files (i + 1) (text ++ line)
 one-line-more items files i d file line text same within is told so_far later rest =
     let inside = subst (λ list. i < length list) same within in

@@ -20,7 +20,7 @@ use Rattle.framehop_recording.specs.Tasks.{CommandView, command_at, task_at, los
 use Rattle.framehop_recording.specs.declared.error.RecordingError.{RecordingError}
 use Rattle.framehop_recording.specs.declared.tasks.Task.{Task}
 use Rattle.framehop_perf_stacks.specs.Chain.{kernel_lines, kernel_text}
-use Rattle.framehop_perf_stacks.specs.Changes.{change_in, is_of_code, end_of_mapping, base_in, mapping_based, maps_numbered, maps_file, execs_program, forks_process}
+use Rattle.framehop_perf_stacks.specs.Changes.{number_for, change_in, is_of_code, end_of_mapping, base_in, mapping_based, maps_numbered, maps_file, execs_program, forks_process}
 use Rattle.framehop_perf_stacks.specs.Ended.{drawn_in, naming_refusal, refusal_in, IsWithoutAddress}
 use Rattle.framehop_frames.specs.Line.{head_of}
 use Rattle.framehop_perf_stacks.specs.Names.{Named, named_by, named_as_parent, named_after}
@@ -28,7 +28,7 @@ use Rattle.framehop_perf_stacks.specs.Processes.{Mapped, after}
 use Rattle.framehop_perf_stacks.specs.Samples.{State, mapped_by, IsUserStack, IsToldAt, Told, thread_name, is_full_user, stack_told}
 use Rattle.framehop_perf_stacks.specs.declared.changes.Change.{Change}
 use Rattle.framehop_perf_stacks.specs.declared.changes.Change.TheVariants.{Map, Begin, Fork}
-use Rattle.framehop_symbols.specs.Files.{number_in, object_in}
+use Rattle.framehop_symbols.specs.Files.{object_in}
 use Rattle.framehop_symbols.specs.declared.files.Files.{Files}
 use Rattle.framehop_frames.specs.Walker.{Walker}
 use Rattle.framehop_frames.specs.declared.machine.Start.{Start}
@@ -222,8 +222,8 @@ found-addressed : (files : Files) (m : MappingView) (found : Option ℕ) → IsA
 found-addressed files m None = tt
 found-addressed files m (Some file) = numbered-by files m file (nat_le (end_of_mapping m) m.start) refl
 
-maps-by : (files : Files) (m : MappingView) (b : Bool) → IsAddressed (cond b (option_and_then (maps_numbered files m) (number_in files m.name)) None)
-maps-by files m true = found-addressed files m (number_in files m.name)
+maps-by : (files : Files) (m : MappingView) (b : Bool) → IsAddressed (cond b (option_and_then (maps_numbered files m) (number_for files m)) None)
+maps-by files m true = found-addressed files m (number_for files m)
 maps-by files m false = tt
 
 begins-by : (pid : ℕ) (b : Bool) → IsAddressed (cond b (Some (Begin pid)) None)

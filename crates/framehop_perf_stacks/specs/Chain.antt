@@ -1,6 +1,6 @@
 -- The frames of a sample's call chain: those of the kernel, and those of the user's side where there is no copy of the stack.
 use Rattle.std.specs.Prelude.{ℕ, ◌-◌, ◌++◌, Bool, true, false, List, [], ◌∷◌, map, codes, Option, Some, None, option_map, Result, Ok, Err, ◌==◌, if◌then◌else◌}
-use Rattle.std.specs.BTreeMap.{BTreeMap}
+use Rattle.std.specs.BTreeMap.{BTreeMap, get}
 use Rattle.std.specs.BTreeMap.Range.{entries_between}
 use Rattle.std.specs.Borrow.{Bor}
 use Rattle.std.specs.Global.{Global}
@@ -31,6 +31,10 @@ chain_locations (address ∷ addresses) = at_instruction_pointer address ∷ map
 -- the names of functions, by where they start
 abbrev pub FunctionNames : Type 0
 FunctionNames = BTreeMap ℕ (Vec ℕ Global)
+
+-- the name of the function that starts at an address
+abbrev pub name_from : FunctionNames → ℕ → Option (List ℕ)
+name_from names start = option_map (λ name. name.items) (get nat_cmp names start)
 
 abbrev pub last_of : {A : Type 0} → List A → Option A
 last_of [] = None

@@ -10,7 +10,9 @@ use Rattle.framehop_recording.specs.Records.{RecordView}
 use Rattle.framehop_recording.specs.Tasks.{CommandView, command_at, task_at}
 use Rattle.framehop_recording.specs.declared.error.RecordingError.{RecordingError}
 use Rattle.framehop_recording.specs.declared.tasks.Task.{Task}
-use Rattle.framehop_symbols.specs.Files.{number_in, object_in}
+use Rattle.framehop_symbols.specs.Files.{number_in, map_number_in, object_in}
+use Rattle.framehop_symbols.specs.Place.{or_else}
+use Rattle.framehop_perf_stacks.specs.PerfMap.{is_anonymous}
 use Rattle.framehop_perf_stacks.specs.declared.changes.Change.{Change}
 use Rattle.framehop_perf_stacks.specs.declared.changes.Change.TheVariants.{Map, Begin, Fork}
 use Rattle.framehop_symbols.specs.declared.object_file.ObjectFile.{ObjectFile}
@@ -45,6 +47,11 @@ mapping_based m file (Some base) =
 mapping_based m file None =
     record { start = m.start; end = end_of_mapping m; base_avma = m.start - m.offset; file = file; has_sections = false }
 
+-- the number of the file of a mapping: of one that is of no file that of the map of its process, if there is one
+abbrev pub number_for : Files → MappingView → Option ℕ
+number_for files m =
+    if is_anonymous m.name then or_else (map_number_in files m.pid) (number_in files m.name) else number_in files m.name
+
 -- none without an address
 abbrev pub maps_numbered : Files → MappingView → ℕ → Option Change
 maps_numbered files m file =
@@ -53,7 +60,7 @@ maps_numbered files m file =
 
 -- the change of a record that maps a file which is known
 abbrev pub maps_file : Files → MappingView → Option Change
-maps_file files m = if is_of_code m then option_and_then (maps_numbered files m) (number_in files m.name) else None
+maps_file files m = if is_of_code m then option_and_then (maps_numbered files m) (number_for files m) else None
 
 -- another program begins without mappings
 abbrev pub execs_program : CommandView → Option Change

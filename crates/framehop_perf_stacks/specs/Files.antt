@@ -12,6 +12,7 @@ use Rattle.framehop_symbols.specs.Files.{IsWithoutFiles, IsAdded}
 use Rattle.framehop_symbols.specs.Source.{SourceView}
 use Rattle.framehop_symbols.specs.declared.files.Files.{Files}
 use Rattle.framehop_perf_stacks.specs.Changes.{code_mapping_in}
+use Rattle.framehop_perf_stacks.specs.PerfMap.{IsMapRead}
 
 -- the build id that a recording has of the file of a name: the first, or no bytes
 abbrev pub build_id_for : List FileBuildIdView → List ℕ → List ℕ
@@ -35,11 +36,13 @@ wanted_by build_ids name (byte ∷ bytes) = byte ∷ bytes
 abbrev pub wanted_for : List FileBuildIdView → MappingView → List ℕ
 wanted_for build_ids m = wanted_by build_ids m.name m.build_id
 
-module _ (source : SourceView) where
+-- `gives_map`: what can be given as the map of a process
+module _ (source : SourceView) (gives_map : ℕ → Option (List ℕ) → Type 0) where
   -- The files after a record: that of a mapping of code is added. The build id that is wanted of it is the mapping's, or
-  -- else the one that the recording has of its name.
+  -- else the one that the recording has of its name. Where the mapping is of no file, the map of its process is added.
   abbrev pub IsAddedFor : List FileBuildIdView → Option MappingView → Files → Files → Type 0
-  IsAddedFor build_ids (Some m) old new = IsAdded source m.name (wanted_for build_ids m) old new
+  IsAddedFor build_ids (Some m) old new =
+      (between : Files) × IsAdded source m.name (wanted_for build_ids m) old between × IsMapRead gives_map m between new
   IsAddedFor build_ids None old new = new ≡ old
 
   -- the same of records, one after another

@@ -11,6 +11,7 @@ pub mod Run
 pub mod Recording
 pub mod Chain
 pub mod Kallsyms
+pub mod PerfMap
 pub mod Samples
 pub mod Window
 pub mod Choice

@@ -1,7 +1,7 @@
 -- A window of times, as it is asked for: two times in seconds with a comma between them, of which each may be left out
 -- (tools/perf/Documentation/perf-script.txt, `--time`).
 use Rattle.std.specs.Prelude.{ℕ, ◌+◌, ◌-◌, ◌++◌, length, drop, take, replicate, List, nat_lt, Option, Some, None, option_map, option_and_then, ◌==◌, if◌then◌else◌}
-use Rattle.std.specs.List.{list_any, position_or_len}
+use Rattle.std.specs.List.{list_any, position_or_len, slice_split}
 use Rattle.framehop_folded.specs.Text.{count_of}
 use Rattle.framehop_perf_stacks.specs.declared.window.Window.{Window}
 
@@ -11,6 +11,10 @@ before_byte byte text = take (position_or_len (λ b. b == byte) text) text
 
 abbrev pub after_byte : ℕ → List ℕ → List ℕ
 after_byte byte text = drop (position_or_len (λ b. b == byte) text + 1) text
+
+-- the lines of a text
+abbrev pub lines_of : List ℕ → List (List ℕ)
+lines_of text = slice_split (λ b. b == 10) text
 
 -- A time in nanoseconds, of the digits of its seconds and at most nine after the point: as many as nanoseconds have, where
 -- those that are missing are 0. It is below 2^64.

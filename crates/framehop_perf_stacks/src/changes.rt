@@ -3,8 +3,9 @@ ghost use Rattle.std.specs.Prelude.{◌≡◌, option_map};
 ghost use Rattle.framehop_recording.specs.Mapping.{mapping_view};
 ghost use Rattle.framehop_recording.specs.Records.{record_view};
 ghost use Rattle.framehop_symbols.specs.Files.{object_in};
-ghost use Rattle.framehop_perf_stacks.specs.Changes.{is_of_code, base_in, mapping_based, code_mapping_in, maps_file, forks_process, change_in};
+ghost use Rattle.framehop_perf_stacks.specs.Changes.{is_of_code, number_for, base_in, mapping_based, code_mapping_in, maps_file, forks_process, change_in};
 
+use crate::perf_map::is_anonymous;
 use framehop_processes::Mapping;
 use framehop_recording::error::RecordingError;
 use framehop_recording::kind::{COMM, FORK, MMAP, MMAP2};
@@ -82,7 +83,7 @@ fn map_change(files: &Files, mapping: RecordedMapping<'_>) -> Option<Change>
     if !is_of_code(&mapping) {
         return None;
     }
-    let file = files.number_of(mapping.name)?;
+    let file = number_for(files, &mapping)?;
     let base = base_of(files, &mapping, file);
     let made = mapping_of(&mapping, file, base);
     if made.end <= made.start {
@@ -92,6 +93,18 @@ fn map_change(files: &Files, mapping: RecordedMapping<'_>) -> Option<Change>
         pid: mapping.pid,
         mapping: made,
     })
+}
+
+/// Returns the number of the file of a mapping: of one that is of no file that of the map of its process, if there is one.
+fn number_for(files: &Files, mapping: &RecordedMapping<'_>) -> Option<u32>
+    ensures { result ≡ number_for files.now (mapping_view mapping.now) }
+{
+    if is_anonymous(mapping.name) {
+        if let Some(number) = files.map_number_of(mapping.pid) {
+            return Some(number);
+        }
+    }
+    files.number_of(mapping.name)
 }
 
 /// Returns whether a mapping is one of a process's code.

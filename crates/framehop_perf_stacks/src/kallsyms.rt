@@ -1,9 +1,10 @@
 //! The names of the kernel's functions, as the kernel tells them.
-ghost use Rattle.std.specs.Prelude.{◌≡◌, ◌<◌, Some, IfSome, option_map};
-ghost use Rattle.framehop_perf_stacks.specs.Kallsyms.{digit_of, next_value, value_after, is_function, function_by, function_of};
+ghost use Rattle.std.specs.Prelude.{◌≡◌, ◌<◌, Some, IfOk, IfSome, option_map};
+ghost use Rattle.framehop_perf_stacks.specs.Kallsyms.{digit_of, next_value, value_after, is_function, function_by, function_of, function_view, functions_in, AreNamesOf};
+ghost use Rattle.framehop_perf_stacks.specs.Window.{lines_of};
 
 use crate::kernel::{KernelFunction, KernelNames};
-use crate::window::{after_byte, before_byte};
+use crate::window::{after_byte, before_byte, lines_of};
 use std::alloc::{AllocError, Global};
 
 /// Reads the names of the kernel's functions from the text of `/proc/kallsyms` or of a `System.map`: lines of an address
@@ -11,14 +12,15 @@ use std::alloc::{AllocError, Global};
 /// the last has its name. Lines of data, of the address 0 and others are passed over.
 ///
 /// Source: Linux, `kernel/kallsyms.c`, `s_show`; nm(1), the letters T, t, W and w.
-pub fn read_kallsyms(alloc: Global, text: &[u8]) -> Result<KernelNames, AllocError> {
+pub fn read_kallsyms(alloc: Global, text: &[u8]) -> Result<KernelNames, AllocError>
+    ensures { IfOk result (λ names. AreNamesOf (functions_in (lines_of text.now)) names.by_start) }
+{
+    let lines = lines_of(alloc, text)?;
     let mut names = KernelNames::new(alloc);
-    let mut rest = text;
-    while !rest.is_empty() {
-        if let Some(function) = function_of(before_byte(b'\n', rest)) {
+    for line in lines.as_slice() {
+        if let Some(function) = function_of(line) {
             names.add(alloc, function)?;
         }
-        rest = after_byte(b'\n', rest);
     }
     Ok(names)
 }
@@ -26,7 +28,7 @@ pub fn read_kallsyms(alloc: Global, text: &[u8]) -> Result<KernelNames, AllocErr
 /// Returns the function that a line tells of, if it does.
 #[tactic(auto, unfolding(crate::specs::Kallsyms::function_of))]
 pub fn function_of(line: &[u8]) -> Option<KernelFunction<'_>>
-    ensures { option_map (λ function. (function.start, function.name.now)) result ≡ function_of line.entry.now }
+    ensures { option_map function_view result ≡ function_of line.entry.now }
 {
     let start = value_of(before_byte(b' ', line))?;
     function_by(start, after_byte(b' ', line))
@@ -34,7 +36,7 @@ pub fn function_of(line: &[u8]) -> Option<KernelFunction<'_>>
 
 /// Returns the function that starts at an address, by its letter and its name, if the letter is that of a function.
 fn function_by(start: u64, after: &[u8]) -> Option<KernelFunction<'_>>
-    ensures { option_map (λ function. (function.start, function.name.now)) result ≡ function_by start after.entry.now }
+    ensures { option_map function_view result ≡ function_by start after.entry.now }
 {
     let (letter, name) = after.split_first()?;
     if !is_function(*letter) || start == 0 {
@@ -53,8 +55,8 @@ fn is_function(letter: u8) -> bool
     letter == b't' || letter == b'T' || letter == b'w' || letter == b'W'
 }
 
-/// Returns the value of digits in hexadecimal, in lower case, below 2^64.
-fn value_of(digits: &[u8]) -> Option<u64>
+/// Returns the value of digits in hexadecimal, below 2^64: 0 of none.
+pub(crate) fn value_of(digits: &[u8]) -> Option<u64>
     ensures { result ≡ value_after (Some 0) digits.now }
 {
     let mut value: u64 = 0;
@@ -72,7 +74,7 @@ fn next_value(value: u64, digit: Option<u64>) -> Option<u64>
     value.checked_mul(16)?.checked_add(digit?)
 }
 
-/// Returns the value of a digit in hexadecimal, in lower case.
+/// Returns the value of a digit in hexadecimal.
 fn digit_of(byte: u8) -> Option<u64>
     ensures digit { result ≡ digit_of byte }
     ensures small { IfSome result (λ digit. digit < 16) }
@@ -80,6 +82,7 @@ fn digit_of(byte: u8) -> Option<u64>
     match byte {
         b'0'..=b'9' => Some(u64::from(byte) - 48),
         b'a'..=b'f' => Some(u64::from(byte) - 87),
+        b'A'..=b'F' => Some(u64::from(byte) - 55),
         _ => None,
     }
 }

@@ -1,11 +1,11 @@
 //! The frames of the kernel in the call chain of a sample, and the names of its functions.
-ghost use Rattle.std.specs.Prelude.{ℕ, ◌≡◌, ◌++◌, ◌∷◌, map, codes, Some, option_map, IfOk, OnOk};
+ghost use Rattle.std.specs.Prelude.{ℕ, ◌≡◌, ◌++◌, ◌∷◌, ◌==◌, if◌then◌else◌, map, codes, Some, None, option_map, IfOk, OnOk};
 ghost use Rattle.std.specs.List.{flat_map};
 ghost use Rattle.framehop_core.specs.CodeAddress.{location_of, address_of};
 ghost use Rattle.framehop_frames.specs.Line.{frames_text, hexadecimal};
 ghost use Rattle.framehop_recording.specs.Chain.{kernel_part};
 ghost use Rattle.framehop_recording.specs.Sample.{read_chain_view};
-ghost use Rattle.framehop_perf_stacks.specs.Chain.{chain_locations, function_at, label_by, kernel_label, place_by, kernel_line, kernel_text, kernel_lines};
+ghost use Rattle.framehop_perf_stacks.specs.Chain.{name_from, chain_locations, function_at, label_by, kernel_label, place_by, kernel_line, kernel_text, kernel_lines};
 
 use crate::chain::chain_locations;
 use crate::run::Options;
@@ -35,14 +35,19 @@ pub struct KernelFunction<'a> {
 
 impl KernelNames {
     /// Returns no names.
-    pub fn new(alloc: Global) -> Self {
+    pub fn new(alloc: Global) -> Self
+        ensures { (start : ℕ) → name_from result.by_start start ≡ None }
+    {
         KernelNames {
             by_start: BTreeMap::new(alloc),
         }
     }
 
     /// Gives a function its name, in the place of one that starts where it does.
-    pub fn add(&mut self, alloc: Global, function: KernelFunction<'_>) -> Result<(), AllocError> {
+    pub fn add(&mut self, alloc: Global, function: KernelFunction<'_>) -> Result<(), AllocError>
+        ensures { OnOk result ((start : ℕ) → name_from self.new.by_start start
+            ≡ (if function.entry.start == start then Some function.entry.name.now else name_from self.old.by_start start)) }
+    {
         let name = Vec::from_slice(alloc, function.name)?;
         self.by_start.insert(function.start, name)?;
         Ok(())

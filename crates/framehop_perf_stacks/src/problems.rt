@@ -1,13 +1,15 @@
-//! What is said of the files of which nothing was read.
-ghost use Rattle.std.specs.Prelude.{string_bytes, IfOk};
-ghost use Rattle.framehop_perf_stacks.specs.Problems.{IsProblemText, IsLineOf, AreProblems};
+//! What is said of files: of which nothing was read, and of which something was not.
+ghost use Rattle.std.specs.Prelude.{◌≡◌, string_bytes, IfOk};
+ghost use Rattle.framehop_perf_stacks.specs.Problems.{compressed_text, left_out_text, has_compressed_frames, lines_left_out, said_of, noted_line, unread_line, IsProblemText, IsLineOf, AreProblems};
 
 use framehop_frames::line::push_name;
+use framehop_symbols::code_map::CodeMap;
 use framehop_symbols::files::{Files, NamedFile};
-use framehop_symbols::object_file::FileProblem;
+use framehop_symbols::object_file::{FileProblem, ObjectFile};
 use std::alloc::{AllocError, Global};
 
-/// Returns a line for each file of which nothing was read, in the order of the files: its name, and why.
+/// Returns a line for each file of which nothing was read, or of which something was not, in the order of the files: its
+/// name, and why.
 pub fn problems_text(alloc: Global, files: &Files) -> Result<Vec<u8>, AllocError>
     ensures { IfOk result (λ text. AreProblems files.now text.items) }
 {
@@ -19,18 +21,31 @@ pub fn problems_text(alloc: Global, files: &Files) -> Result<Vec<u8>, AllocError
     Ok(text)
 }
 
-/// Returns the line of a file: none where it was read.
+/// Returns the line of a file: none where all of it was read.
 fn problem_line(alloc: Global, file: &NamedFile) -> Result<Vec<u8>, AllocError>
-    ensures { IfOk result (λ line. IsLineOf file.now.name.items file.now.problem line.items) }
+    ensures { IfOk result (λ line. IsLineOf file.now line.items) }
+{
+    let name = file.name.as_slice();
+    match file.problem {
+        Some(problem) => {
+            let why = problem_text(alloc, problem)?;
+            unread_line(alloc, name, why.as_bytes())
+        }
+        None => {
+            let said = said_of(alloc, file)?;
+            noted_line(alloc, name, said.as_bytes())
+        }
+    }
+}
+
+/// Returns the line of a file of which nothing was read.
+fn unread_line(alloc: Global, name: &[u8], why: &[u8]) -> Result<Vec<u8>, AllocError>
+    ensures { IfOk result (λ line. line.items ≡ unread_line name.now why.now) }
 {
     let mut line = Vec::new(alloc);
-    let Some(problem) = file.problem else {
-        return Ok(line);
-    };
-    push_name(&mut line, file.name.as_slice())?;
+    push_name(&mut line, name)?;
     line.extend_from_slice(b": ")?;
-    let why = problem_text(alloc, problem)?;
-    line.extend_from_slice(why.as_bytes())?;
+    line.extend_from_slice(why)?;
     line.push(b'\n')?;
     Ok(line)
 }
@@ -46,5 +61,72 @@ fn problem_text(alloc: Global, problem: FileProblem) -> Result<String, AllocErro
         }
         FileProblem::Elf(error) => format!(in alloc; "{error}"),
         FileProblem::Pe(error) => format!(in alloc; "{error}"),
+    }
+}
+
+/// Returns the line of a file that was read: none where nothing is said of it.
+fn noted_line(alloc: Global, name: &[u8], said: &[u8]) -> Result<Vec<u8>, AllocError>
+    ensures { IfOk result (λ line. line.items ≡ noted_line name.now said.now) }
+{
+    let mut line = Vec::new(alloc);
+    if !said.is_empty() {
+        push_name(&mut line, name)?;
+        line.extend_from_slice(said)?;
+        line.push(b'\n')?;
+    }
+    Ok(line)
+}
+
+/// Returns what of a file was not read.
+fn said_of(alloc: Global, file: &NamedFile) -> Result<String, AllocError>
+    ensures { IfOk result (λ text. string_bytes text ≡ said_of file.now) }
+{
+    let compressed = compressed_text(has_compressed_frames(&file.object));
+    let mut text = String::from_str(alloc, compressed)?;
+    let left_out = left_out_text(alloc, lines_left_out(&file.code_map))?;
+    text.push_str(left_out.as_str())?;
+    Ok(text)
+}
+
+/// Returns what is said of a file whose `.debug_frame` is compressed.
+fn compressed_text(compressed: bool) -> &'static str
+    ensures { result.now ≡ compressed_text compressed }
+{
+    if compressed {
+        ": its .debug_frame is compressed; objcopy --decompress-debug-sections makes a file of which it can be read"
+    } else {
+        ""
+    }
+}
+
+/// Returns whether a file has a `.debug_frame` that is compressed.
+fn has_compressed_frames(object: &Option<ObjectFile>) -> bool
+    ensures { result ≡ has_compressed_frames object.now }
+{
+    match object {
+        Some(object) => object.has_compressed_frames(),
+        None => false,
+    }
+}
+
+/// Returns how many lines of a map are left out, if some are.
+fn left_out_text(alloc: Global, left_out: usize) -> Result<String, AllocError>
+    ensures { IfOk result (λ text. string_bytes text ≡ left_out_text left_out) }
+{
+    if left_out == 0 {
+        return Ok(String::new(alloc));
+    }
+    Ok(format!(in alloc;
+        ": lines that are left out, since they are not START SIZE NAME: {left_out}"
+    )?)
+}
+
+/// Returns how many lines of a map tell no function.
+fn lines_left_out(code_map: &Option<CodeMap>) -> usize
+    ensures { result ≡ lines_left_out code_map.now }
+{
+    match code_map {
+        Some(code_map) => code_map.left_out,
+        None => 0,
     }
 }

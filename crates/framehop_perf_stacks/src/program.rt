@@ -21,6 +21,7 @@ use crate::choice::{Choice, choose};
 use crate::counts::Counts;
 use crate::error::StacksError;
 use crate::machine::Sampled;
+use crate::perf_map::MapSource;
 use crate::problems::problems_text;
 use crate::recording::{Recording, is_aarch64, read_files, read_recording};
 use crate::run::{Options, Run};
@@ -53,7 +54,7 @@ pub struct Unwound {
 /// not read can't be told: nothing was folded or written to `out` then. What is refused later is in [`Unwound::ended`]:
 /// `Recording` with the first refusal of a record that is no sample, `OutOfMemory`, `GenerationsExhausted`,
 /// `TooManySamples` and `CannotWrite`.
-pub fn write_stacks<S: FileSource, W: Write, E: Write>(
+pub fn write_stacks<S: FileSource + MapSource, W: Write, E: Write>(
     alloc: Global,
     file: &[u8],
     source: &S,
@@ -64,7 +65,7 @@ pub fn write_stacks<S: FileSource, W: Write, E: Write>(
 ) -> Result<Unwound, StacksError>
     ensures made { IfOk result (λ unwound. (whole : Recording) × IsReadOf file.now whole
         × ((recording : Recording) × IsChosenOf choice.now whole recording
-        × ((files : Files) × AreFilesOf (S.source source.now)
+        × ((files : Files) × AreFilesOf (S.source source.now) (S.gives_map source.now)
         (map file_build_id_view recording.build_ids.items) (records_in recording.records.items) files
         × ((unsaid : Option (List ℕ)) × AreTold files (E.contents err.old) unsaid × MatchResult unwound.ended
         (λ refusal. IsWhole recording refusal × IsMadeOf recording files options.entry unwound.folded (W.contents out.old) (W.contents out.new) unsaid (E.contents err.new))

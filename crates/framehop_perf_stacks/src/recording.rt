@@ -17,6 +17,7 @@ ghost use Rattle.framehop_perf_stacks.specs.declared.error.StacksError.{StacksEr
 
 use crate::changes::code_mapping;
 use crate::error::StacksError;
+use crate::perf_map::{MapSource, add_map};
 use framehop_recording::attributes::Attribute;
 use framehop_recording::build_ids::{FileBuildId, read_build_ids};
 use framehop_recording::error::RecordingError;
@@ -107,13 +108,13 @@ impl<'a> BuildIdsByName<'a> {
     }
 }
 
-/// Reads the files whose code is mapped, each once. Fails only where an allocation does, or from 2^32 files on.
-pub fn read_files<S: FileSource>(
+/// Reads the files whose code is mapped, and the maps of code that is in no file, each once. Fails only where an allocation does, or from 2^32 files on.
+pub fn read_files<S: FileSource + MapSource>(
     alloc: Global,
     recording: &Recording<'_>,
     source: &S,
 ) -> Result<Files, StacksError>
-    ensures read { IfOk result (λ files. AreFilesOf (S.source source.now)
+    ensures read { IfOk result (λ files. AreFilesOf (S.source source.now) (S.gives_map source.now)
         (map file_build_id_view recording.now.build_ids.items) (records_in recording.now.records.items) files) }
     ensures refused { IfErr result (λ error. error ≡ StacksError.OutOfMemory) }
 {
@@ -142,8 +143,8 @@ fn build_ids_by_name<'a>(
     Ok(BuildIdsByName { by_name })
 }
 
-/// Reads the file of a record's mapping, if it is one of code.
-fn add_file<'a, S: FileSource>(
+/// Reads the file of a record's mapping, if it is one of code, or the map of its process, if it is of no file.
+fn add_file<'a, S: FileSource + MapSource>(
     alloc: Global,
     build_ids: &BuildIdsByName<'a>,
     source: &S,
@@ -151,7 +152,7 @@ fn add_file<'a, S: FileSource>(
     record: Record<'a>,
 ) -> Result<(), StacksError>
     ensures added { (recorded : List FileBuildIdView) → HasBuildIds recorded build_ids.now.by_name
-        → OnOk result (IsAddedFor (S.source source.now) recorded (code_mapping_in (record_view «record».entry)) files.old files.new) }
+        → OnOk result (IsAddedFor (S.source source.now) (S.gives_map source.now) recorded (code_mapping_in (record_view «record».entry)) files.old files.new) }
     ensures refused { IfErr result (λ error. error ≡ StacksError.OutOfMemory) }
 {
     let Some(mapping) = code_mapping(record) else {
@@ -159,6 +160,7 @@ fn add_file<'a, S: FileSource>(
     };
     let build_id = build_ids.wanted(&mapping);
     files.add(alloc, source, mapping.name, build_id)?;
+    add_map(alloc, source, files, &mapping)?;
     Ok(())
 }
 

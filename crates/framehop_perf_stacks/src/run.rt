@@ -25,10 +25,10 @@ ghost use Rattle.framehop_perf_stacks.specs.Names.{named_in};
 ghost use Rattle.framehop_perf_stacks.specs.Processes.{mapped_in, IsServed};
 ghost use Rattle.framehop_perf_stacks.specs.Recording.{sample_in, records_in};
 ghost use Rattle.framehop_perf_stacks.specs.Run.{AreCounted, CountsMore, is_sample, samples_in_kind, sample_refusal};
-ghost use Rattle.framehop_perf_stacks.specs.Samples.{State, beginning, state_in, state_after, state_over, drawn_over, Agrees, samples_from, SampleStack, of_walk, of_chain, unread_stack, IsStackOfChain, chain_text, thread_name, folded_name, head_text, tail_text, is_copy_full, is_unread_end, told_by, copied_memory, NotedIf, IsUserStack, IsToldAt, IsToldOf, Told, lost_after, lost_over, Each, IsTaken, AreTaken};
+ghost use Rattle.framehop_perf_stacks.specs.Samples.{State, beginning, state_in, state_after, state_over, drawn_over, Agrees, samples_from, SampleStack, of_walk, of_chain, unread_stack, IsStackOfChain, is_copy_full, is_unread_end, told_by, copied_memory, NotedIf, IsUserStack, IsToldAt, IsToldOf, Told, lost_after, lost_over, Each, IsTaken, AreTaken};
 ghost use Rattle.framehop_frames.specs.Line.{end_name};
 ghost use Rattle.framehop_frames.specs.Notes.{option_noted, AreStackNotes};
-ghost use Rattle.framehop_frames.specs.Stack.{no_stack, shown_frame, stack_text, stack_view, option_stack_view};
+ghost use Rattle.framehop_frames.specs.Stack.{no_stack, shown_frame, stack_view, option_stack_view};
 ghost use Rattle.framehop_perf_stacks.specs.declared.error.StacksError.TheVariants.{OutOfMemory, Recording as RecordingRefused};
 ghost use Rattle.framehop_symbols.specs.declared.files.Files.{Files};
 
@@ -37,20 +37,19 @@ use crate::changes::change_of;
 use crate::counts::Counts;
 use crate::error::StacksError;
 use crate::explain::{sample_notes, write_block};
-use crate::kernel::{KernelNames, push_kernel_labels, push_kernel_lines};
+use crate::kernel::KernelNames;
 use crate::machine::Sampled;
 use crate::names::Names;
 use crate::processes::Processes;
 use crate::recording::{Recording, sample_of};
+use crate::sample_text::{chain_block, chain_line, folded_name, head_of, push_tail, walked_line};
 use crate::stack::walk_sample;
 use framehop::Error;
 use framehop_backtrace::BacktraceEnd;
 use framehop_cfi::context::UnwindContext;
 use framehop_cfi::storage::StoreOnHeap;
 use framehop_explain::Note;
-use framehop_frames::line::{
-    block_head, end_name, folded_line, frames_block, refused_block, refused_line, sure_part,
-};
+use framehop_frames::line::{end_name, frames_block, refused_block, refused_line, sure_part};
 use framehop_frames::machine::Start;
 use framehop_frames::stack::Stack;
 use framehop_processes::{Mapping, ModuleMaker};
@@ -596,68 +595,6 @@ fn take_chain<W: Write>(
     Ok(())
 }
 
-/// Returns the folded stack of a sample, by the name of its thread and its process's mappings in order.
-fn walked_line<R: Copy>(
-    alloc: Global,
-    files: &Files,
-    mappings: &[Mapping],
-    name: &[u8],
-    sample: Sample<'_>,
-    stack: &Stack<R>,
-    options: Options<'_>,
-) -> Result<Vec<u8>, AllocError>
-    requires { IsInOrder 0 mappings.now }
-    ensures { IfOk result (λ line. line.items ≡ stack_text false options.entry.sure files.now (folded_name options.entry.by_thread name.now (Some sample.entry)) [] mappings.now (stack_view stack.now)
-        ++ tail_text options.entry (Some sample.entry)) }
-{
-    let name = folded_name(alloc, name, Some(sample), options)?;
-    let mut line = folded_line(alloc, files, mappings, name.as_slice(), stack, options.sure)?;
-    push_kernel_labels(alloc, &mut line, options, sample.chain)?;
-    Ok(line)
-}
-
-/// Returns the folded stack of a call chain, by the name of its thread and its process's mappings in order.
-fn chain_line(
-    alloc: Global,
-    files: &Files,
-    mappings: &[Mapping],
-    name: &[u8],
-    sample: Sample<'_>,
-    stack: &Stack<()>,
-    options: Options<'_>,
-) -> Result<Vec<u8>, AllocError>
-    requires ordered { IsInOrder 0 mappings.now }
-    requires whole { stack.now.end ≡ Root }
-    ensures { IfOk result (λ line. line.items ≡ chain_text false options.entry.sure files.now (folded_name options.entry.by_thread name.now (Some sample.entry)) [] mappings.now (map shown_frame stack.now.frames.items)
-        ++ tail_text options.entry (Some sample.entry)) }
-{
-    let name = folded_name(alloc, name, Some(sample), options)?;
-    let mut line = refused_line(alloc, name.as_slice(), "callchain")?;
-    let frames = folded_line(alloc, files, mappings, b"", stack, options.sure)?;
-    line.extend_from_slice(frames.as_slice())?;
-    push_kernel_labels(alloc, &mut line, options, sample.chain)?;
-    Ok(line)
-}
-
-/// Returns the lines of a call chain, by its process's mappings in order.
-fn chain_block(
-    alloc: Global,
-    files: &Files,
-    mappings: &[Mapping],
-    stack: &Stack<()>,
-) -> Result<Vec<u8>, AllocError>
-    requires ordered { IsInOrder 0 mappings.now }
-    requires whole { stack.now.end ≡ Root }
-    ensures { IfOk result (λ block. block.items ≡ chain_text true false files.now [] [] mappings.now (map shown_frame stack.now.frames.items)) }
-{
-    let mut block = frames_block(alloc, files, mappings, stack)?;
-    // the mark of a chain in the place of `[root]` and the blank line
-    block.truncate(block.len().saturating_sub(8));
-    let end = refused_block(alloc, "callchain")?;
-    block.extend_from_slice(end.as_slice())?;
-    Ok(block)
-}
-
 /// Counts or writes a sample that has no stack, or that can't be read.
 fn take_refused<W: Write>(
     alloc: Global,
@@ -698,21 +635,6 @@ fn take_refused<W: Write>(
     Ok(())
 }
 
-/// Appends what ends a folded stack: the frames of the kernel.
-fn push_tail(
-    alloc: Global,
-    line: &mut Vec<u8>,
-    options: Options<'_>,
-    sample: Option<Sample<'_>>,
-) -> Result<(), AllocError>
-    ensures { OnOk result (line.new.items ≡ line.old.items ++ tail_text options.entry sample.entry) }
-{
-    match sample {
-        Some(sample) => push_kernel_labels(alloc, line, options, sample.chain),
-        None => Ok(()),
-    }
-}
-
 /// Returns whether the copy of a sample's stack is full.
 fn is_copy_full(sample: Option<Sample<'_>>) -> bool
     ensures { result ≡ is_copy_full sample.entry }
@@ -737,64 +659,6 @@ fn is_unread_end(end: BacktraceEnd) -> bool
         | BacktraceEnd::RegistersUnknown
         | BacktraceEnd::SignalFrameUnread => true,
         _ => false,
-    }
-}
-
-/// Returns the name of a sample's thread in a folded stack.
-fn folded_name(
-    alloc: Global,
-    name: &[u8],
-    sample: Option<Sample<'_>>,
-    options: Options<'_>,
-) -> Result<Vec<u8>, AllocError>
-    ensures { IfOk result (λ folded. folded.items ≡ folded_name options.entry.by_thread name.now sample.entry) }
-{
-    let mut folded = Vec::from_slice(alloc, name)?;
-    if let Some(sample) = sample {
-        push_thread(
-            alloc,
-            &mut folded,
-            sample.pid,
-            sample.tid,
-            options.by_thread,
-        )?;
-    }
-    Ok(folded)
-}
-
-/// Appends the process and the thread to its name, where threads are told apart.
-fn push_thread(
-    alloc: Global,
-    name: &mut Vec<u8>,
-    pid: u32,
-    tid: u32,
-    by_thread: bool,
-) -> Result<(), AllocError>
-    ensures { OnOk result (name.new.items ≡ thread_name by_thread name.old.items pid tid) }
-{
-    if by_thread {
-        let text = format!(in alloc; "-{pid}/{tid}")?;
-        name.extend_from_slice(text.as_bytes())?;
-    }
-    Ok(())
-}
-
-/// Returns the head of a sample's block, by the name of its thread, where the sample can be read.
-fn head_of(
-    alloc: Global,
-    name: &[u8],
-    sample: Option<Sample<'_>>,
-    options: Options<'_>,
-) -> Result<Vec<u8>, AllocError>
-    ensures { IfOk result (λ head. head.items ≡ head_text options.entry name.now sample.entry) }
-{
-    match sample {
-        Some(sample) => {
-            let mut head = block_head(alloc, name, sample.pid, sample.tid, sample.time)?;
-            push_kernel_lines(alloc, &mut head, options, sample.chain)?;
-            Ok(head)
-        }
-        None => Ok(Vec::from_slice(alloc, b"[unknown]:\n")?),
     }
 }
 

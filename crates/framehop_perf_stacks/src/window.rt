@@ -1,7 +1,7 @@
 //! Windows of times, as they are asked for.
-ghost use Rattle.std.specs.Prelude.{◌≡◌, ◌≤◌, ◌++◌, ◌==◌, length, replicate, IfOk, OnOk};
+ghost use Rattle.std.specs.Prelude.{◌≡◌, ◌≤◌, ◌++◌, ◌==◌, map, length, replicate, IfOk, OnOk};
 ghost use Rattle.std.specs.List.{list_any, position_or_len};
-ghost use Rattle.framehop_perf_stacks.specs.Window.{before_byte, after_byte, nanoseconds_by, nanoseconds_of, bound_of, window_by, window_of};
+ghost use Rattle.framehop_perf_stacks.specs.Window.{before_byte, after_byte, lines_of, nanoseconds_by, nanoseconds_of, bound_of, window_by, window_of};
 
 use framehop_folded::text::count_of;
 use std::alloc::{AllocError, Global};
@@ -29,6 +29,13 @@ pub fn window_of(alloc: Global, text: &[u8]) -> Result<Option<Window>, AllocErro
     let first = bound_of(alloc, before_byte(b',', text))?;
     let last = bound_of(alloc, after_byte(b',', text))?;
     Ok(window_by(first, last))
+}
+
+/// Returns the lines of a text.
+pub(crate) fn lines_of(alloc: Global, text: &[u8]) -> Result<Vec<&[u8]>, AllocError>
+    ensures { IfOk result (λ lines. map (λ line. line.now) lines.items ≡ lines_of text.entry.now) }
+{
+    text.split(|byte| *byte == b'\n').collect(alloc)
 }
 
 /// Returns whether a text has a comma.

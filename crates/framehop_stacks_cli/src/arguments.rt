@@ -68,8 +68,14 @@ fn with_places<'a>(alloc: Global, command: Command<'a>) -> Result<Command<'a>> {
         "FILE",
         "The vdso of the kernel that ran, of a recording without a copy of it",
     );
+    let perf_map = valued(
+        alloc,
+        "perf-map",
+        "DIR",
+        "The names of code that JIT compilers make, of a recording: perf-PID.map in this folder, where programs write it as /tmp/perf-PID.map [default: such code has no names]",
+    );
     let command = command.arg(root)?.arg(exec)?.arg(debug_dir)?;
-    Ok(command.arg(buildid_dir)?.arg(vdso)?)
+    Ok(command.arg(buildid_dir)?.arg(vdso)?.arg(perf_map)?)
 }
 
 /// Returns the command with the arguments that say which frames are printed.

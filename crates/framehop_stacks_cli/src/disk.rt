@@ -1,10 +1,12 @@
 //! The files of a disk: those that were mapped, and those of a folder.
 use crate::input::read_sized;
+use crate::messages::Messages;
 use anyhow::Result;
+use framehop_perf_stacks::perf_map::MapSource;
 use framehop_symbols::files::{FileSource, is_vdso, is_windows_path};
 use framehop_symbols::object_file::build_id_of;
 use std::alloc::{AllocError, Global};
-use std::io::ErrorKind;
+use std::io::{ErrorKind, Write};
 use std::path::PathBuf;
 use std::{fs, io};
 
@@ -38,6 +40,8 @@ pub struct Disk<'a> {
     pub home: Option<PathBuf>,
     /// The file of the vdso, if one is named.
     pub vdso: Option<&'a str>,
+    /// The folder of the maps that JIT compilers write, if one is named.
+    pub perf_map: Option<&'a str>,
     pub program: Option<Program<'a>>,
 }
 
@@ -97,6 +101,18 @@ impl FileSource for Disk<'_> {
             (Ok(path), Ok(link)) if is_file_name(link) => self.read_linked(path, build_id, link),
             _ => Ok(None),
         }
+    }
+}
+
+impl MapSource for Disk<'_> {
+    ghost gives_map = { λ disk pid given. Unit {0} };
+
+    fn read_map(&self, pid: u32) -> Result<Option<Vec<u8>>, AllocError> {
+        let Some(folder) = self.perf_map else {
+            return Ok(None);
+        };
+        let path = format!(in self.rt.alloc(); "{folder}/perf-{pid}.map")?;
+        read_or_tell(self.rt, path.as_str())
     }
 }
 
@@ -234,6 +250,23 @@ fn read_regular(rt: &HostRuntime, path: &str) -> Result<Option<Vec<u8>>, AllocEr
             known(read_sized(rt, path, metadata.len()))
         }
         _ => Ok(None),
+    }
+}
+
+/// Reads a regular file, if there is one. Says why one that is there can't be read.
+fn read_or_tell(rt: &HostRuntime, path: &str) -> Result<Option<Vec<u8>>, AllocError> {
+    let read = match fs::metadata(rt, path) {
+        Ok(metadata) if metadata.is_file() => read_sized(rt, path, metadata.len()),
+        Ok(_) => Err(ErrorKind::InvalidInput.into()),
+        Err(error) if error.kind() == ErrorKind::NotFound => return Ok(None),
+        Err(error) => Err(error),
+    };
+    match read {
+        Err(error) if error.kind() != ErrorKind::OutOfMemory => {
+            known(writeln!(Messages { rt }, "framehop-stacks: {path}: {error}"))?;
+            Ok(None)
+        }
+        read => known(read),
     }
 }
 

@@ -80,6 +80,12 @@ fn run(rt: &HostRuntime) -> Result<u8> {
         )?;
         return Ok(2);
     };
+    if let Some(folder) = matches.get_str("perf-map")
+        && !is_folder(rt, folder)
+    {
+        writeln!(Messages { rt }, "framehop-stacks: {folder}: no folder")?;
+        return Ok(1);
+    }
     if let Some(misuse) = misuse_of_options(&matches, options) {
         writeln!(Messages { rt }, "framehop-stacks: {misuse}")?;
         return Ok(2);
@@ -98,6 +104,7 @@ fn run(rt: &HostRuntime) -> Result<u8> {
         buildid_dir: matches.get_str("buildid-dir"),
         home: home(rt),
         vdso: matches.get_str("vdso"),
+        perf_map: matches.get_str("perf-map"),
         program,
     };
     let paths = matches.get_strs("file").unwrap_or(&[]);
@@ -186,6 +193,11 @@ fn kernel_names(rt: &HostRuntime, matches: &ArgMatches<'_>) -> Result<Option<Ker
         return Ok(None);
     }
     Ok(Some(names))
+}
+
+/// Returns whether a path is that of a folder.
+fn is_folder(rt: &HostRuntime, path: &str) -> bool {
+    fs::metadata(rt, path).is_ok_and(|metadata| metadata.is_dir())
 }
 
 /// Returns the home folder, if it is known.

@@ -1,3 +1,4 @@
+mod CodeMapLemmas
 mod FileLemmas
 mod MapLemmas
 mod PlaceLemmas

@@ -1,5 +1,6 @@
 -- A map whose keys are bytes, after an insertion.
-use Rattle.std.proofs.Common.{◌≡◌, ◌≢◌, ℕ, List, [], ◌∷◌, false, cond, refl, ap, sym, ◌∙◌, Option, Some}
+use Rattle.std.proofs.Common.{◌≡◌, ◌≢◌, ℕ, List, [], ◌∷◌, Bool, true, false, cond, is_some, refl, ap, sym, ◌∙◌, Option, Some, None, Bor}
+use Rattle.std.specs.Prelude.{option_copied}
 use Rattle.std.specs.Global.{Global}
 use Rattle.std.specs.declared.vec.Vec.{Vec}
 use Rattle.std.specs.BTreeMap.{insert_entry, is_at}
@@ -36,3 +37,11 @@ module _ (other : List ℕ) (k : Vec ℕ Global) (v : ℕ) (ne : other ≢ k.ite
   pub lookup-insert_other : (es : List (Vec ℕ Global × ℕ)) → value_in (insert_entry by_items es k v) ≡ value_in es
   lookup-insert_other [] = rw (apart-by other k.items (slice_cmp nat_cmp other k.items) refl ne) refl
   lookup-insert_other (e ∷ es) = after-head e es (by_items k e.0) refl (lookup-insert_other es)
+
+-- nothing was found at a key
+pub none-found : {A : Type 0} (found : Option (Bor A)) (value : Option A) (b : Bool) → option_copied found ≡ value → b ≡ is_some found
+    → b ≡ false → value ≡ None
+none-found None value b is tells not = sym is
+none-found (Some x) value b is tells not =
+    let both : true ≡ false = sym tells ∙ not in
+    cc

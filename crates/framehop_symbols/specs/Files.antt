@@ -1,6 +1,6 @@
 -- The files that processes map, and the modules of mappings.
 use Rattle.std.specs.Prelude.{◌≡◌, ◌≢◌, ◌⊎◌, ℕ, nat_eq, IsSome, List, [], ◌∷◌, ◌++◌, length, take, drop, ◌-◌, ◌==◌, if◌then◌else◌, codes, Option, Some, None, option_and_then, slice_get, Bool, true, false, not, ◌&&◌, ◌||◌}
-use Rattle.std.specs.BTreeMap.{get_by}
+use Rattle.std.specs.BTreeMap.{get, get_by}
 use Rattle.std.specs.Cmp.Lexicographic.{pointwise, slice_cmp}
 use Rattle.std.specs.List.{starts_with}
 use Rattle.std.specs.Ordering.{nat_cmp}
@@ -8,6 +8,7 @@ use Rattle.framehop.specs.Modules.{ModuleView}
 use Rattle.framehop_processes.specs.declared.mapping.Mapping.{Mapping}
 use Rattle.framehop_symbols.specs.ObjectFiles.{Listed, problem_of, debug_tables_of, bare_module, IsKeptOf}
 use Rattle.framehop_symbols.specs.Source.{SourceView}
+use Rattle.framehop_symbols.specs.declared.code_map.CodeMap.{CodeMap}
 use Rattle.framehop_symbols.specs.declared.object_file.ObjectFile.{ObjectFile}
 use Rattle.framehop_symbols.specs.declared.object_file.FileProblem.{FileProblem}
 use Rattle.framehop_symbols.specs.declared.object_file.FileProblem.TheVariants.{NotRead}
@@ -17,6 +18,10 @@ use Rattle.framehop_symbols.specs.declared.files.NamedFile.{NamedFile}
 -- the number of a file by its name
 abbrev pub number_in : Files → List ℕ → Option ℕ
 number_in files name = get_by (λ key. slice_cmp nat_cmp name key.items) files.numbers
+
+-- the number of the map of a process's code that is in no file
+abbrev pub map_number_in : Files → ℕ → Option ℕ
+map_number_in files pid = get nat_cmp files.maps pid
 
 -- what was read of the file of a number
 abbrev pub object_in : Files → ℕ → Option ObjectFile
@@ -101,7 +106,27 @@ debug_tables_in build_id (Some bytes) = debug_tables_of build_id bytes
 pub record IsWithoutFiles (files : Files) : Type 0 where
   pub list : files.list.items ≡ []
   pub numbers : (name : List ℕ) → number_in files name ≡ None
+  pub maps : (pid : ℕ) → map_number_in files pid ≡ None
   pub bare : files.bare ≡ bare_module
+
+-- a file of a name is a map of code that is in no file
+pub record IsMapOf (name : List ℕ) (code_map : CodeMap) (file : NamedFile) : Type 0 where
+  pub called : file.name.items ≡ name
+  pub told : file.code_map ≡ Some code_map
+  pub no_object : file.object ≡ None
+  pub no_problem : file.problem ≡ None
+
+-- such a map is the next of all files, that of its process
+pub record IsNextMap (pid : ℕ) (name : List ℕ) (code_map : CodeMap) (old new : Files) : Type 0 where
+  pub file : (file : NamedFile) × (new.list.items ≡ old.list.items ++ file ∷ []) × IsMapOf name code_map file
+  pub number : map_number_in new pid ≡ Some (length old.list.items)
+  pub others : (other : ℕ) → other ≢ pid → map_number_in new other ≡ map_number_in old other
+  pub numbers : new.numbers ≡ old.numbers
+
+-- it is added, unless its process has one
+abbrev pub IsMapAdded : ℕ → List ℕ → CodeMap → Files → Files → Type 0
+IsMapAdded pid name code_map old new =
+    (IsSome (map_number_in old pid) × (new ≡ old)) ⊎ ((map_number_in old pid ≡ None) × IsNextMap pid name code_map old new)
 
 module _ (source : SourceView) where
   -- the symbol tables of the debug file of a file of this path and link, by its build id: none without one
@@ -160,12 +185,14 @@ module _ (source : SourceView) where
   pub record IsFileOf (name wanted : List ℕ) (file : NamedFile) : Type 0 where
     pub called : file.name.items ≡ name
     pub loaded : IsLoadedIf (is_read name) name wanted file.object file.problem
+    pub no_map : file.code_map ≡ None
 
   -- a file is the next of all, under its name
   pub record IsNext (name wanted : List ℕ) (old new : Files) : Type 0 where
     pub file : (file : NamedFile) × (new.list.items ≡ old.list.items ++ file ∷ []) × IsFileOf name wanted file
     pub number : number_in new name ≡ Some (length old.list.items)
     pub others : (other : List ℕ) → other ≢ name → number_in new other ≡ number_in old other
+    pub maps : new.maps ≡ old.maps
 
   -- a file is added, unless one has its name
   abbrev pub IsAdded : List ℕ → List ℕ → Files → Files → Type 0

@@ -5,7 +5,9 @@ use Rattle.framehop_bytes.specs.String.{string_of}
 use Rattle.framehop_elf.specs.Symbol.{symbol_for}
 use Rattle.framehop_elf.specs.declared.symbol.Symbol.{Symbol}
 use Rattle.framehop_processes.specs.declared.mapping.Mapping.{Mapping}
+use Rattle.framehop_symbols.specs.CodeMap.{code_name_at}
 use Rattle.framehop_symbols.specs.FunctionStart.{function_start_in}
+use Rattle.framehop_symbols.specs.declared.code_map.CodeMap.{CodeMap}
 use Rattle.framehop_symbols.specs.declared.object_file.ObjectFile.{ObjectFile}
 use Rattle.framehop_symbols.specs.declared.object_file.Symbols.{Symbols}
 use Rattle.framehop_symbols.specs.declared.files.Files.{Files}
@@ -76,10 +78,19 @@ place_in_object true file (Some object) svma = place_named file object svma (fun
 place_in_object true file None svma = in_file file svma
 place_in_object false file object svma = in_file file svma
 
--- by the names of the file, where the mapping has its sections
+-- the function of an address (AVMA) by a map of code that is in no file, if there is a map
+abbrev pub name_in_map : Option CodeMap → ℕ → Option (List ℕ × ℕ)
+name_in_map (Some code_map) address = code_name_at code_map.functions address
+name_in_map None address = None
+
+abbrev pub place_in_map : List ℕ → Option (List ℕ × ℕ) → PlaceView → PlaceView
+place_in_map file (Some function) place = in_function file function.0 function.1
+place_in_map file None place = place
+
+-- by such a map, or else by the names of the file, where the mapping has its sections
 abbrev pub place_in_file : Option NamedFile → Mapping → ℕ → PlaceView
-place_in_file (Some file) mapping address =
-    place_in_object mapping.has_sections file.name.items file.object (address - mapping.base_avma)
+place_in_file (Some file) mapping address = place_in_map file.name.items (name_in_map file.code_map address)
+    (place_in_object mapping.has_sections file.name.items file.object (address - mapping.base_avma))
 place_in_file None mapping address = unmapped
 
 -- the place of an address by its mapping

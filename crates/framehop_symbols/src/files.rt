@@ -4,10 +4,11 @@ ghost use Rattle.framehop.specs.Modules.{ModuleView};
 ghost use Rattle.framehop_elf.specs.UnwindSections.{bytes_in};
 ghost use Rattle.framehop_elf.specs.declared.error.ElfError.{ElfError};
 ghost use Rattle.framehop_symbols.specs.ObjectFiles.{Listed, problem_of, IsOutOfMemory, IsKeptOf};
-ghost use Rattle.framehop_symbols.specs.Files.{number_in, object_in, module_at, placed_at, is_unix_path, has_drive, is_windows_path, is_path, is_vdso, is_read, is_deleted, path_of, is_asked, told_of, IsGiven, IsNamed, IsRefused, IsCopied, IsNotCopied, IsKept, AreDebugTables, IsFileOf, IsNext, IsAdded, IsWithoutFiles};
+ghost use Rattle.framehop_symbols.specs.Files.{number_in, object_in, module_at, placed_at, is_unix_path, has_drive, is_windows_path, is_path, is_vdso, is_read, is_deleted, path_of, is_asked, told_of, IsGiven, IsNamed, IsRefused, IsCopied, IsNotCopied, IsKept, AreDebugTables, IsFileOf, IsNext, IsNextMap, IsAdded, IsMapAdded, IsWithoutFiles, map_number_in};
 ghost use Rattle.framehop_symbols.specs.Source.{SourceView};
 ghost use Rattle.framehop_symbols.specs.declared.object_file.FileProblem.{FileProblem};
 
+use crate::code_map::CodeMap;
 use crate::object_file::{FileProblem, ObjectFile, bare_module};
 use framehop::Module;
 use framehop::aarch64::UnwinderAarch64;
@@ -64,6 +65,8 @@ pub struct NamedFile {
     pub name: Vec<u8>,
     /// What was read of it.
     pub object: Option<ObjectFile>,
+    /// What was read of it, where it is a map of code that is in no file.
+    pub code_map: Option<CodeMap>,
     /// Why nothing was read of it. The vdso and other memory that is no file have no problem.
     pub problem: Option<FileProblem>,
 }
@@ -73,6 +76,8 @@ pub struct NamedFile {
 pub struct Files {
     list: Vec<NamedFile>,
     numbers: BTreeMap<Vec<u8>, u32>,
+    /// The numbers of maps of code that is in no file, by their processes.
+    maps: BTreeMap<u32, u32>,
     bare: Module<Vec<u8>>,
 }
 
@@ -84,6 +89,7 @@ impl Files {
         Ok(Files {
             list: Vec::new(alloc),
             numbers: BTreeMap::new(alloc),
+            maps: BTreeMap::new(alloc),
             bare: bare_module(alloc)?,
         })
     }
@@ -116,11 +122,40 @@ impl Files {
         Ok(())
     }
 
+    /// Adds the map of a process's code that is in no file, under a name, unless it has one. Fails only where an allocation
+    /// does, or from 2^32 files on.
+    pub fn add_map(&mut self, pid: u32, name: Vec<u8>, code_map: CodeMap) -> Result<(), AllocError>
+        ensures bare { self.new.bare ≡ self.old.bare }
+        ensures added { OnOk result (IsMapAdded pid name.items code_map self.old self.new) }
+    {
+        if self.maps.get(&pid).is_some() {
+            return Ok(());
+        }
+        let Ok(number) = u32::try_from(self.list.len()) else {
+            return Err(AllocError);
+        };
+        self.maps.insert(pid, number)?;
+        self.list.push(NamedFile {
+            name,
+            object: None,
+            code_map: Some(code_map),
+            problem: None,
+        })?;
+        Ok(())
+    }
+
     /// Returns the number of a file by its name.
     pub fn number_of(&self, name: &[u8]) -> Option<u32>
         ensures { result ≡ number_in self.now name.now }
     {
         self.numbers.get(name).copied()
+    }
+
+    /// Returns the number of the map of a process's code that is in no file.
+    pub fn map_number_of(&self, pid: u32) -> Option<u32>
+        ensures { result ≡ map_number_in self.now pid }
+    {
+        self.maps.get(&pid).copied()
     }
 
     /// Returns the file of a number.
@@ -174,6 +209,7 @@ fn load<S: FileSource>(
     let mut file = NamedFile {
         name: Vec::from_slice(alloc, name)?,
         object: None,
+        code_map: None,
         problem: None,
     };
     if is_read(name) {

@@ -3,6 +3,7 @@
 #![tactic(auto)]
 
 pub mod code;
+pub mod code_map;
 pub mod debug_frame;
 mod exports;
 pub mod files;

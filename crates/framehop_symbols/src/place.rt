@@ -1,9 +1,10 @@
 //! Where an address is: in which function of which file.
-ghost use Rattle.std.specs.Prelude.{◌≡◌, true, Some, slice_get};
+ghost use Rattle.std.specs.Prelude.{◌≡◌, ◌-◌, true, Some, slice_get, option_map};
 ghost use Rattle.std.specs.List.{find};
 ghost use Rattle.framehop_processes.specs.Mappings.{IsInOrder};
-ghost use Rattle.framehop_symbols.specs.Place.{place_view, starting_by, has_address, unnamed_start, place_started, place_at, place_in_object, place_in_file};
+ghost use Rattle.framehop_symbols.specs.Place.{place_view, starting_by, has_address, unnamed_start, place_started, place_at, name_in_map, place_in_object, place_in_file};
 
+use crate::code_map::CodeMap;
 use crate::files::{Files, NamedFile};
 use crate::object_file::ObjectFile;
 use framehop_processes::Mapping;
@@ -11,7 +12,7 @@ use framehop_processes::Mapping;
 /// Where an address is.
 #[derive(Clone, Copy, Drop)]
 pub enum Place<'a> {
-    /// In a function of a file.
+    /// In a function of a file, or of code that is in no file, by its map.
     Function {
         /// The name of the file, as the input has it.
         file: &'a [u8],
@@ -77,6 +78,31 @@ fn mapping_from(mappings: &[Mapping], place: usize, address: u64) -> Option<Mapp
 /// Returns where an address (AVMA) of a mapping of a file is.
 fn place_in_file<'a>(file: &'a NamedFile, mapping: Mapping, address: u64) -> Place<'a>
     ensures { place_view result ≡ place_in_file (Some file.entry.now) mapping address }
+{
+    match name_in_map(&file.code_map, address) {
+        Some((name, offset)) => Place::Function {
+            file: file.name.as_slice(),
+            name,
+            offset,
+        },
+        None => place_in_sections(file, mapping, address),
+    }
+}
+
+/// Returns the name of the function that has an address (AVMA) by a map of code, if there is one, and how far the address is
+/// from its start.
+fn name_in_map(code_map: &Option<CodeMap>, address: u64) -> Option<(&[u8], u64)>
+    ensures { option_map (λ found. (found.0.now, found.1)) result ≡ name_in_map code_map.entry.now address }
+{
+    match code_map {
+        Some(code_map) => code_map.functions.function_at(address),
+        None => None,
+    }
+}
+
+/// Returns where an address (AVMA) of a mapping of a file is, by the sections of the file.
+fn place_in_sections<'a>(file: &'a NamedFile, mapping: Mapping, address: u64) -> Place<'a>
+    ensures { place_view result ≡ place_in_object mapping.has_sections file.entry.now.name.items file.entry.now.object (address - mapping.base_avma) }
 {
     let name = file.name.as_slice();
     let svma = address.saturating_sub(mapping.base_avma);

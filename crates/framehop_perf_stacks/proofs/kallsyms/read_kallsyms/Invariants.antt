@@ -1,5 +1,7 @@
-use Rattle.std.proofs.Common.{length}
+use Rattle.std.proofs.Common.{map, take}
+use Rattle.framehop_perf_stacks.specs.Kallsyms.{functions_in, AreNamesOf}
+use Rattle.framehop_perf_stacks.proofs.LinesLemmas.{now_of}
 use Rattle.framehop_perf_stacks.proofs.kallsyms.read_kallsyms.Given as goal
 
-abbrev pub decreases-loop-rest : goal.decreases-loop-rest
-decreases-loop-rest l = length l.rest
+abbrev pub invariant-loop-line : goal.invariant-loop-line
+invariant-loop-line l = AreNamesOf (functions_in (map now_of (take l.line-index l.line-items))) l.names.by_start

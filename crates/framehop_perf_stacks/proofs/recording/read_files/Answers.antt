@@ -14,6 +14,7 @@ pub loop-timed-preserved : goal.loop-timed-preserved
 loop-timed-preserved g c =
     let l = c.loop-timed in
     let source = g.S.FileSource.source c.args.source.now in
+    let gives_map = g.S.MapSource.gives_map c.args.source.now in
     let build_ids = map file_build_id_view c.args.recording.now.build_ids.items in
     let records = c.args.recording.now.records.items in
     let items = c.deref-timed-items.result.now in
@@ -25,7 +26,7 @@ loop-timed-preserved g c =
       l.invariant.0,
       l.invariant.1,
       λ last rest. l.invariant.2 last
-          (subst (λ records. AreAdded source build_ids records l.files last) (sym left) (c.add_file.new.files, c.in_ok-add_file.ensures.added build_ids has, rest)),
+          (subst (λ records. AreAdded source gives_map build_ids records l.files last) (sym left) (c.add_file.new.files, c.in_ok-add_file.ensures.added build_ids has, rest)),
     )
 
 pub returns-clause-read : goal.returns-clause-read
@@ -35,6 +36,6 @@ returns-clause-read g c =
     let none : records_in (drop l.timed-index records) ≡ [] = at_drop_all records_in records l.timed-index (omega arith) in (
       l.invariant.0,
       l.invariant.1,
-      l.invariant.2 l.files (subst (λ (records : List RecordView). AreAdded (g.S.FileSource.source c.args.source.now)
+      l.invariant.2 l.files (subst (λ (records : List RecordView). AreAdded (g.S.FileSource.source c.args.source.now) (g.S.MapSource.gives_map c.args.source.now)
           (map file_build_id_view c.args.recording.now.build_ids.items) records l.files l.files) (sym none) refl),
     )

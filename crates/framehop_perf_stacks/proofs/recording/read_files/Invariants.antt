@@ -9,7 +9,7 @@ use Rattle.framehop_perf_stacks.proofs.recording.read_files.Given as goal
 abbrev pub invariant-loop-timed : goal.invariant-loop-timed
 invariant-loop-timed g l =
     (none : Files) × IsWithoutFiles none × ((last : Files)
-    → AreAdded (g.S.FileSource.source l.source) (map file_build_id_view l.recording.build_ids.items)
+    → AreAdded (g.S.FileSource.source l.source) (g.S.MapSource.gives_map l.source) (map file_build_id_view l.recording.build_ids.items)
     (records_in (drop l.timed-index l.recording.records.items)) l.files last
-    → AreAdded (g.S.FileSource.source l.source) (map file_build_id_view l.recording.build_ids.items)
+    → AreAdded (g.S.FileSource.source l.source) (g.S.MapSource.gives_map l.source) (map file_build_id_view l.recording.build_ids.items)
     (records_in l.recording.records.items) none last)

@@ -3,7 +3,7 @@ use Rattle.std.specs.List.{flat_map}
 use Rattle.framehop_frames.specs.Line.{frame_line, block_of, last_line}
 use Rattle.framehop_frames.specs.Stack.{shown_frame}
 use Rattle.framehop_perf_stacks.proofs.ChainLemmas.{without-end}
-use Rattle.framehop_perf_stacks.proofs.run.chain_block.Goals as goal
+use Rattle.framehop_perf_stacks.proofs.sample_text.chain_block.Goals as goal
 
 pub returns : goal.returns
 returns c =
