@@ -32,5 +32,5 @@ crc32 bytes = bit_xor (fold after_byte 0xFFFFFFFF bytes) 0xFFFFFFFF
 
 -- LLDB makes up the build id of an ELF file that has none (`ObjectFileELF::GetUUID`): the CRC-32 of its bytes, the lowest byte
 -- first
-abbrev pub is_made_up : List ℕ → List ℕ → Bool
+unfoldable pub is_made_up : List ℕ → List ℕ → Bool
 is_made_up wanted file = (length wanted == 4) && (le4 wanted 0 == crc32 file)

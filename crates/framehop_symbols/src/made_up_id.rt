@@ -12,6 +12,7 @@ use framehop_bytes::bytes::u32_at;
 const DIVISOR: u32 = 0xEDB8_8320;
 
 /// Returns whether a build id that is wanted is the one that LLDB makes up for a file without one.
+#[tactic(auto, unfolding(crate::specs::MadeUpId::is_made_up))]
 pub fn is_made_up(wanted: &[u8], file: &[u8]) -> bool
     ensures { result ≡ is_made_up wanted.now file.now }
 {
