@@ -4,6 +4,7 @@ use crate::messages::Messages;
 use anyhow::Result;
 use framehop_perf_stacks::perf_map::MapSource;
 use framehop_symbols::files::{FileSource, is_vdso, is_windows_path};
+use framehop_symbols::made_up_id::is_made_up;
 use framehop_symbols::object_file::build_id_of;
 use std::alloc::{AllocError, Global};
 use std::io::{ErrorKind, Write};
@@ -238,7 +239,8 @@ impl Disk<'_> {
 
 /// Returns whether a file has the wanted build id, if one is wanted.
 fn is_wanted(alloc: Global, file: &[u8], build_id: &[u8]) -> Result<bool, AllocError> {
-    Ok(build_id.is_empty() || build_id_of(alloc, file)? == build_id)
+    let found = build_id_of(alloc, file)?;
+    Ok(build_id.is_empty() || found == build_id || (found.is_empty() && is_made_up(build_id, file)))
 }
 
 /// Reads a regular file of at most 4 GiB: a recording may name a device or a pipe, whose bytes don't end. A file whose size

@@ -1,6 +1,6 @@
 -- What is kept of the files that processes map, ELF files and PE files, by their bytes.
 -- What a PE file is: Microsoft, "PE Format", by the readers of `framehop_pe_file`.
-use Rattle.std.specs.Prelude.{◌≡◌, ◌⊎◌, ℕ, nat_eq, bit_and, ◌==◌, List, [], ◌∷◌, ◌++◌, map, take, drop, codes, Bool, false, not, ◌||◌, if◌then◌else◌, Option, Some, None, is_some, option_to_list, unwrap_or, Result, Ok, Err}
+use Rattle.std.specs.Prelude.{◌≡◌, ◌⊎◌, ℕ, nat_eq, bit_and, ◌==◌, List, [], ◌∷◌, ◌++◌, map, take, drop, codes, Bool, false, not, ◌&&◌, ◌||◌, length, if◌then◌else◌, Option, Some, None, is_some, option_to_list, unwrap_or, Result, Ok, Err}
 use Rattle.std.specs.List.{starts_with, filter, list_any}
 use Rattle.std.specs.Cmp.Lexicographic.{pointwise}
 use Rattle.std.specs.List.Sorted.{IsPermutation, IsStableByKey}
@@ -37,6 +37,7 @@ use Rattle.framehop_pe_file.specs.declared.section_header.SectionHeader.{Section
 use Rattle.framehop.specs.Modules.{ModuleView}
 use Rattle.framehop.specs.ModuleData.{unwind_data_in}
 use Rattle.framehop_symbols.specs.Exports.{symbols_of as exported_symbols_of}
+use Rattle.framehop_symbols.specs.MadeUpId.{is_made_up}
 use Rattle.framehop_symbols.specs.declared.code.SegmentCode.{SegmentCode}
 use Rattle.framehop_symbols.specs.declared.object_file.ObjectFile.{ObjectFile}
 use Rattle.framehop_symbols.specs.declared.object_file.FileProblem.{FileProblem}
@@ -92,6 +93,10 @@ has_compressed_frames headers =
 abbrev pub is_another : List ℕ → List ℕ → Bool
 is_another [] found = false
 is_another (byte ∷ bytes) found = not (pointwise nat_eq found (byte ∷ bytes))
+
+-- a file is another than the one that is wanted; one without a build id is that for which LLDB makes it up
+abbrev pub is_another_file : List ℕ → List ℕ → List ℕ → Bool
+is_another_file wanted found file = is_another wanted found && not ((length found == 0) && is_made_up wanted file)
 
 -- the functions of a symbol table in its order, and the strings that have their names
 abbrev pub Listed : Type 0
@@ -345,12 +350,12 @@ build_id_by (Ok contents) = contents.build_id
 build_id_by (Err problem) = []
 
 -- why nothing is kept of a file: the first refusal, or its build id is another than the one that is wanted
-abbrev pub problem_by : List ℕ → Result Contents FileProblem → Option FileProblem
-problem_by wanted (Err problem) = Some problem
-problem_by wanted (Ok contents) = if is_another wanted contents.build_id then Some OtherBuildId else None
+abbrev pub problem_by : List ℕ → List ℕ → Result Contents FileProblem → Option FileProblem
+problem_by file wanted (Err problem) = Some problem
+problem_by file wanted (Ok contents) = if is_another_file wanted contents.build_id file then Some OtherBuildId else None
 
 abbrev pub problem_of : List ℕ → List ℕ → Option FileProblem
-problem_of file wanted = problem_by wanted (contents_of file)
+problem_of file wanted = problem_by file wanted (contents_of file)
 
 -- out of memory, at a file of either kind
 abbrev pub IsOutOfMemory : FileProblem → Type 0

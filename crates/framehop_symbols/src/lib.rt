@@ -8,6 +8,7 @@ pub mod debug_frame;
 mod exports;
 pub mod files;
 mod function_start;
+pub mod made_up_id;
 pub mod object_file;
 mod pe_file;
 pub mod place;

@@ -8,7 +8,7 @@ ghost use Rattle.framehop_elf.specs.Symbol.{symbol_for};
 ghost use Rattle.framehop_elf.specs.UnwindSections.{sections_view};
 ghost use Rattle.framehop_elf.specs.declared.error.ElfError.{ElfError};
 ghost use Rattle.framehop_memory.specs.Segment.{base_of};
-ghost use Rattle.framehop_symbols.specs.ObjectFiles.{Contents, Listed, headers_view, headers_of, build_id_in, build_id_by, debug_link_in, has_compressed_frames, contents_of, is_another, problem_by, problem_of, symbols_in, symbols_called, tables_of, debug_tables_of, is_internal, has_version, is_underscored, plainness_of, is_so_plain, by_plainness, IsTable, AreTables, module_of, module_in, debug_frame_in, bare_module, export_tables_of, elf_contents_of, pe_contents_of, IsOutOfMemory, IsKeptBy, IsKeptOf};
+ghost use Rattle.framehop_symbols.specs.ObjectFiles.{Contents, Listed, headers_view, headers_of, build_id_in, build_id_by, debug_link_in, has_compressed_frames, contents_of, is_another, is_another_file, problem_by, problem_of, symbols_in, symbols_called, tables_of, debug_tables_of, is_internal, has_version, is_underscored, plainness_of, is_so_plain, by_plainness, IsTable, AreTables, module_of, module_in, debug_frame_in, bare_module, export_tables_of, elf_contents_of, pe_contents_of, IsOutOfMemory, IsKeptBy, IsKeptOf};
 ghost use Rattle.framehop_symbols.specs.Code.{code_of_object};
 ghost use Rattle.framehop_symbols.specs.Found.{has_names, is_unwind_data};
 ghost use Rattle.framehop_symbols.specs.Place.{option_named, function_at, unnamed_start};
@@ -17,6 +17,7 @@ ghost use Rattle.framehop_symbols.specs.declared.object_file.FileProblem.{FilePr
 use crate::code::{SegmentCode, code_from, code_of};
 use crate::exports::exported_functions;
 use crate::function_start::function_start;
+use crate::made_up_id::is_made_up;
 use crate::pe_file;
 use framehop::Module;
 use framehop::section::ExplicitModuleSectionInfo;
@@ -288,13 +289,13 @@ impl ObjectFile {
 fn read_pe(alloc: Global, bytes: &[u8], wanted: &[u8]) -> Result<ObjectFile, FileProblem>
     ensures kept { IfOk result (λ object. (contents : Contents) × (pe_contents_of bytes.now ≡ Ok contents)
         × IsKeptBy contents [] object) }
-    ensures wanted { IfOk result (λ _. problem_by wanted.now (pe_contents_of bytes.now) ≡ None) }
+    ensures wanted { IfOk result (λ _. problem_by bytes.now wanted.now (pe_contents_of bytes.now) ≡ None) }
     ensures refused { IfErr result (λ problem. IsOutOfMemory problem
-        ⊎ (problem_by wanted.now (pe_contents_of bytes.now) ≡ Some problem)) }
+        ⊎ (problem_by bytes.now wanted.now (pe_contents_of bytes.now) ≡ Some problem)) }
 {
     let (header, sections) = pe_file::read_headers(alloc, bytes)?;
     let identity = pe_file::identity_in(bytes, header, sections.as_slice());
-    if is_another(wanted, identity) {
+    if is_another_file(wanted, identity, bytes) {
         return Err(FileProblem::OtherBuildId);
     }
     let module = pe_file::module_in(alloc, bytes, header, sections.as_slice())?;
@@ -346,13 +347,13 @@ pub(crate) fn bare_module(alloc: Global) -> Result<Module<Vec<u8>>, AllocError>
 fn read_elf(alloc: Global, bytes: &[u8], wanted: &[u8]) -> Result<ObjectFile, FileProblem>
     ensures kept { IfOk result (λ object. (contents : Contents) × (elf_contents_of bytes.now ≡ Ok contents)
         × IsKeptBy contents [] object) }
-    ensures wanted { IfOk result (λ _. problem_by wanted.now (elf_contents_of bytes.now) ≡ None) }
+    ensures wanted { IfOk result (λ _. problem_by bytes.now wanted.now (elf_contents_of bytes.now) ≡ None) }
     ensures refused { IfErr result (λ problem. IsOutOfMemory problem
-        ⊎ (problem_by wanted.now (elf_contents_of bytes.now) ≡ Some problem)) }
+        ⊎ (problem_by bytes.now wanted.now (elf_contents_of bytes.now) ≡ Some problem)) }
 {
     let headers = read_headers(alloc, bytes)?;
     let found = build_id_in(bytes, &headers);
-    if is_another(wanted, found) {
+    if is_another_file(wanted, found, bytes) {
         return Err(FileProblem::OtherBuildId);
     }
     let segments = loaded_segments(alloc, headers.segments.as_slice())?;
@@ -501,6 +502,14 @@ pub fn is_another(wanted: &[u8], found: &[u8]) -> bool
     ensures { result ≡ is_another wanted.now found.now }
 {
     !wanted.is_empty() && found != wanted
+}
+
+/// Returns whether a file is another than the one whose build id is wanted. One without a build id is that for which LLDB makes
+/// it up.
+fn is_another_file(wanted: &[u8], found: &[u8], file: &[u8]) -> bool
+    ensures { result ≡ is_another_file wanted.now found.now file.now }
+{
+    is_another(wanted, found) && !(found.is_empty() && is_made_up(wanted, file))
 }
 
 /// Returns the build id of a file, or no bytes.
