@@ -15,5 +15,6 @@ pub mod PerfMap
 pub mod Samples
 pub mod Window
 pub mod Choice
+pub mod EventChoice
 pub mod Problems
 pub mod Printed

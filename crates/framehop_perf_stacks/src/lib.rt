@@ -7,6 +7,7 @@ pub mod changes;
 pub mod choice;
 pub mod counts;
 pub mod error;
+pub mod event_choice;
 pub mod explain;
 pub mod kallsyms;
 pub mod kernel;

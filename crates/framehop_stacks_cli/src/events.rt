@@ -2,6 +2,7 @@
 use crate::messages::Messages;
 use anyhow::Result;
 use framehop_frames::line::printed_name;
+use framehop_perf_stacks::event_choice::events_asked;
 use framehop_recording::event_names::read_event_names;
 use framehop_recording::header::read_header;
 use std::io::Write;
@@ -27,21 +28,13 @@ pub fn numbers_of_events(
         Err(_) => Vec::new(alloc),
     };
     for wanted in asked {
-        let known = numbers.len();
-        for (number, name) in names.iter().enumerate() {
-            if *name == wanted.as_bytes() {
-                numbers.push(number)?;
-            }
+        let number = wanted.parse::<usize>().ok();
+        let found = events_asked(alloc, names.as_slice(), wanted.as_bytes(), number)?;
+        if found.is_empty() {
+            tell_events(rt, path, wanted, names.as_slice())?;
+            return Ok(None);
         }
-        if numbers.len() == known {
-            match wanted.parse::<usize>() {
-                Ok(number) if number < names.len() => numbers.push(number)?,
-                _ => {
-                    tell_events(rt, path, wanted, names.as_slice())?;
-                    return Ok(None);
-                }
-            }
-        }
+        numbers.extend_from_slice(found.as_slice())?;
     }
     Ok(Some(numbers))
 }
