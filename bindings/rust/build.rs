@@ -1,5 +1,6 @@
 //! Links libframehop_c.a and liblibc_c.a: from the folders of FRAMEHOP_LIB (separated by colons), or from the repository
-//! that this crate is in, where `rt lib` builds the archive if it is missing or older than what it is made of.
+//! that this crate is in, where `rt lib` builds the archive if it is missing or older than what it is made of. Where the
+//! folders have libframehop.a, as `tools/install.sh` installs it, and not libframehop_c.a, that is linked in their place.
 use std::collections::BTreeSet;
 use std::fs;
 use std::path::{Path, PathBuf};
@@ -55,18 +56,22 @@ fn archive_of(top: &Path) -> Vec<PathBuf> {
 fn main() {
     println!("cargo:rerun-if-changed=build.rs");
     println!("cargo:rerun-if-env-changed=FRAMEHOP_LIB");
-    let folders = match std::env::var_os("FRAMEHOP_LIB") {
+    let folders: Vec<PathBuf> = match std::env::var_os("FRAMEHOP_LIB") {
         Some(folders) => std::env::split_paths(&folders).collect(),
         None => archive_of(&Path::new(env!("CARGO_MANIFEST_DIR")).join("../..")),
     };
+    let is_there = |name: &str| folders.iter().any(|folder: &PathBuf| folder.join(name).is_file());
+    let is_installed = is_there("libframehop.a") && !is_there("libframehop_c.a");
+    let libraries: &[&str] = if is_installed { &["framehop"] } else { &["framehop_c", "libc_c"] };
     for folder in &folders {
-        for archive in ["libframehop_c.a", "liblibc_c.a"].map(|name| folder.join(name)) {
+        for archive in libraries.iter().map(|name| folder.join(format!("lib{name}.a"))) {
             if archive.exists() {
                 println!("cargo:rerun-if-changed={}", archive.display());
             }
         }
         println!("cargo:rustc-link-search=native={}", folder.display());
     }
-    println!("cargo:rustc-link-lib=static=framehop_c");
-    println!("cargo:rustc-link-lib=static=libc_c");
+    for name in libraries {
+        println!("cargo:rustc-link-lib=static={name}");
+    }
 }

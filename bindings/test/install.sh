@@ -53,6 +53,12 @@ if [ -f "$prefix/lib/libframehop.a" ]; then
     "$work/walk" | diff - <(grep -E '^(ip|ra|end)' "$top/examples/libm-walk.expected")
     [ "$(pkg-config --modversion framehop)" = "$(python3 -c 'import framehop; framehop.Unwinder().close(); print(framehop.library_version())')" ]
     echo "a program in C is linked by pkg-config, and Python imports the module"
+    if command -v cargo >/dev/null; then
+        FRAMEHOP_LIB=$prefix/lib CARGO_TARGET_DIR=$work/target cargo test --offline --quiet --tests --manifest-path "$top/bindings/rust/Cargo.toml" >"$work/cargo" 2>&1 ||
+            { cat "$work/cargo"; exit 1; }
+        rm -rf "$work/target" "$work/cargo"
+        echo "the crate for Rust passes its tests over the installed archive"
+    fi
 fi
 
 "$top/tools/install.sh" --uninstall "$prefix"
