@@ -256,6 +256,10 @@ for program in "$@"; do
     try 0 "$checks/stacks/minidump.limit" any --root . --limit 1 crash.dmp
     try 0 "$checks/stacks/minidump.explained" any --root . --explain crash.dmp
     try 1 "$work/nothing" any "$work/short.dmp"
+    # a build id that LLDB makes up: zlib's CRC-32 of a file without one, and another number
+    try 0 "$checks/stacks/minidump.stacks" any --root "$dumps" "$dumps/checksum.dmp"
+    "$program" --root "$dumps" "$dumps/another.dmp" 2>&1 >"$work/out" | grep -qx "/usr/local/bin/crash: its build id is not the minidump's" ||
+        { echo "$program: it does not say that the build id of another.dmp is another" >&2; failed=1; }
     # what ended the process, and its threads: as gdb's $_siginfo has the stored core files, and worked out by hand of those that are
     # changed
     heads kill.core "crash 32706/32706 crashed by SIGSEGV (SI_USER from process 4711):" "crash 32706/32707:"

@@ -7,6 +7,7 @@ crash.dmp with other streams.
 """
 import struct
 import sys
+import zlib
 from pathlib import Path
 
 data, folder = Path(sys.argv[1]), Path(sys.argv[2])
@@ -94,6 +95,27 @@ def exception(tid, code, flags, address, *parameters):
     return lambda at: struct.pack("<II", tid, 0) + struct.pack("<IIQQII15Q", code, flags, 0, address, len(parameters), 0, *words) + bytes(8)
 
 
+def without_build_id(program):
+    """A program whose note of its build id is of another type."""
+    changed = bytearray(program)
+    changed[changed.index(struct.pack("<III", 4, 20, 3) + b"GNU\0") + 8] = 9
+    return bytes(changed)
+
+
+def with_checksum(name, checksum):
+    """A stored minidump whose first module has a checksum in the place of its build id, as LLDB writes it."""
+    dump = bytearray((data / name).read_bytes())
+    record = dump.index(b"LEpB")
+    place = dump.index(struct.pack("<II", 24, record))
+    struct.pack_into("<I", dump, place, 8)
+    struct.pack_into("<I", dump, record + 4, checksum)
+    return bytes(dump)
+
+
+program = without_build_id((data / "usr/local/bin/crash").read_bytes())
+(folder / "usr/local/bin").mkdir(parents=True)
+(folder / "usr/local/bin/crash").write_bytes(program)
+
 files = {
     "freebsd.core": core_of(("FreeBSD", 1, bytes(240)), ("FreeBSD", 3, bytes(120))),
     "netbsd.core": core_of(("NetBSD-CORE", 1, bytes(160)), ("NetBSD-CORE@1", 33, bytes(208))),
@@ -109,6 +131,8 @@ files = {
     "abort.dmp": with_streams("crash.dmp", [(6, exception(31455, 6, 0xfffffffa, 31455))], [6]),
     "fault.dmp": with_streams("crash.dmp", [(6, exception(31455, 11, 1, 0x10))], [6]),
     "names.dmp": with_streams("small.dmp", [(24, thread_names((284, "first"), (244, "UI thread"), (248, "größe\x1b[31m"), (284, "writer")))]),
+    "checksum.dmp": with_checksum("crash.dmp", zlib.crc32(program)),
+    "another.dmp": with_checksum("crash.dmp", zlib.crc32(program) ^ 1),
     "read.dmp": with_streams("small.dmp", [(6, exception(244, 0xc0000006, 0, 0x1400010a8, 8, 0xdead0000, 0xc000000e))], [6]),
     "breakpoint.dmp": with_streams("small.dmp", [(6, exception(244, 0x80000003, 0, 0x1400010a8, 0))], [6]),
     "other.dmp": with_streams("small.dmp", [(6, exception(244, 0xe06d7363, 1, 0x1400010a8, 0x19930520, 1))], [6]),
