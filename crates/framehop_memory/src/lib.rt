@@ -3,6 +3,7 @@
 #![tactic(auto)]
 
 pub mod code;
+pub mod left_out;
 pub mod memory;
 mod ranges;
 pub mod segment;

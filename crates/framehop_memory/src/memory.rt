@@ -1,7 +1,9 @@
 //! The memory of a process that is gone, as far as a file has it.
-ghost use Rattle.std.specs.Prelude.{◌≡◌, IfOk, IfSome, option_map, length};
+ghost use Rattle.std.specs.Prelude.{◌≡◌, true, IfOk, IfSome, find, option_map, length};
+ghost use Rattle.framehop_memory.specs.Range.{has};
 ghost use Rattle.framehop_memory.specs.Memory.{memory_view, bytes_of, bytes_after, word_of};
 
+use crate::left_out::LeftOut;
 use crate::ranges::{MemoryRanges, dumped};
 use framehop_bytes::bytes::{back, front, u64_at};
 use std::alloc::{AllocError, Global};
@@ -24,6 +26,8 @@ pub struct ProcessMemory<'a> {
     pub file: &'a [u8],
     /// Which of them are where.
     ranges: MemoryRanges,
+    /// What the file has beside them, where it was not read whole.
+    left_out: Option<&'a LeftOut>,
 }
 
 impl<'a> ProcessMemory<'a> {
@@ -33,7 +37,23 @@ impl<'a> ProcessMemory<'a> {
         ensures { IfOk result (λ memory. memory_view memory ≡ record { file = file.entry.now; ranges = ranges.items }) }
     {
         let ranges = MemoryRanges::new(alloc, ranges)?;
-        Ok(ProcessMemory { file, ranges })
+        Ok(ProcessMemory {
+            file,
+            ranges,
+            left_out: None,
+        })
+    }
+
+    /// Returns this memory, of a file of which parts were not read: what is asked for there, and is not in the ranges, is
+    /// noted.
+    pub fn noting(self, left_out: &'a LeftOut) -> Self
+        ensures { memory_view result ≡ memory_view self.entry }
+    {
+        ProcessMemory {
+            file: self.file,
+            ranges: self.ranges,
+            left_out: Some(left_out),
+        }
     }
 
     /// Returns which ranges of memory the file has, in its order.
@@ -48,7 +68,7 @@ impl<'a> ProcessMemory<'a> {
     pub fn bytes_from(&self, address: u64) -> Option<&'a [u8]>
         ensures { option_map (λ bytes. bytes.now) result ≡ bytes_after (memory_view self.now) address }
     {
-        let range = self.ranges.first_with(self.file, address, 1)?;
+        let range = self.range_with(address, 1)?;
         Some(back(dumped(self.file, range), address - range.start))
     }
 
@@ -67,8 +87,29 @@ impl<'a> ProcessMemory<'a> {
         ensures exact { option_map (λ bytes. bytes.now) result ≡ bytes_of (memory_view self.now) address size }
         ensures whole { IfSome result (λ bytes. length bytes.now ≡ size) }
     {
-        let range = self.ranges.first_with(self.file, address, size)?;
+        let range = self.range_with(address, size)?;
         let bytes = back(dumped(self.file, range), address - range.start);
         Some(front(bytes, size as usize))
+    }
+
+    /// Returns the first range that has so many bytes from an address on. Where none has, notes that the address was
+    /// asked for.
+    fn range_with(&self, address: u64, size: u64) -> Option<MemoryRange>
+        ensures first { result ≡ find (has self.now.file.now address size) (memory_view self.now).ranges }
+        ensures found { IfSome result (λ range. has self.now.file.now address size range ≡ true) }
+    {
+        let found = self.ranges.first_with(self.file, address, size);
+        if found.is_none() {
+            self.note(address);
+        }
+        found
+    }
+
+    /// Notes that an address was asked for that no range has.
+    #[cold]
+    fn note(&self, address: u64) {
+        if let Some(left_out) = self.left_out {
+            left_out.note(address);
+        }
     }
 }
