@@ -17,6 +17,7 @@ use Rattle.framehop_coredump.specs.declared.error.CoreFileError.{CoreFileError}
 use Rattle.framehop_coredump.specs.declared.signal_info.SignalInfo.{SignalInfo}
 use Rattle.framehop_coredump.specs.Memory.{range_of}
 use Rattle.framehop_elf.specs.Segment.{loaded_segments_of}
+use Rattle.framehop_elf.specs.declared.program_header.ProgramHeader.{ProgramHeader}
 use Rattle.framehop_memory.specs.Code.{has_address}
 use Rattle.framehop_memory.specs.Memory.{MemoryView}
 use Rattle.framehop_memory.specs.Segment.{base_of}
@@ -162,23 +163,33 @@ vdso_code memory dumped (Some start) = vdso_in memory start (find (has_address s
 abbrev pub dumped_memory : List ℕ → List Segment → MemoryView
 dumped_memory file dumped = record { file = file; ranges = map range_of dumped }
 
--- what the headers and the notes of a core file say, or the first refusal
-unfoldable pub core_dump_of : List ℕ → Result DumpView CoreFileError
-core_dump_of file = do
-  core ← core_file_of file
+-- what the notes of a core file with these headers say, over memory of these segments, or the first refusal
+unfoldable pub dump_by_notes : List ℕ → Machine × List ProgramHeader → List Segment → MemoryView → Result DumpView CoreFileError
+dump_by_notes file core dumped memory = do
   notes ← notes_of file core.1
   threads ← noted_threads_of core.0 notes
   files ← mapped_files_of notes
   process ← process_of notes
   Ok (record {
     kind = CoreFile;
-    memory = dumped_memory file (loaded_segments_of core.1);
-    segments = loaded_segments_of core.1;
+    memory = memory;
+    segments = dumped;
     machine = core.0;
     threads = crashed_first (threads_by false threads);
-    code = code_of (dumped_memory file (loaded_segments_of core.1)) (loaded_segments_of core.1) files
-        ++ vdso_code (dumped_memory file (loaded_segments_of core.1)) (loaded_segments_of core.1) (vdso_of notes);
+    code = code_of memory dumped files ++ vdso_code memory dumped (vdso_of notes);
     name = name_of process;
     pid = pid_of process;
     wow64 = false;
   })
+
+-- what the headers and the notes of a core file say, over the memory that was dumped, or the first refusal
+unfoldable pub core_dump_of : List ℕ → Result DumpView CoreFileError
+core_dump_of file = do
+  core ← core_file_of file
+  dump_by_notes file core (loaded_segments_of core.1) (dumped_memory file (loaded_segments_of core.1))
+
+-- the same of the front of a core file, which has its headers and its notes, over another memory
+unfoldable pub core_dump_over : List ℕ → MemoryView → Result DumpView CoreFileError
+core_dump_over head memory = do
+  core ← core_file_of head
+  dump_by_notes head core (loaded_segments_of core.1) memory

@@ -7,7 +7,7 @@ ghost use Rattle.framehop_coredump.specs.Process.{process_view};
 ghost use Rattle.framehop_coredump.specs.Thread.{thread_view as noted_view};
 ghost use Rattle.framehop_dump_stacks.specs.Dump.{thread_view, mapped_code_view, dump_view, crashed_first};
 ghost use Rattle.framehop_memory.specs.Memory.{memory_view};
-ghost use Rattle.framehop_dump_stacks.specs.CoreDump.{sent_of, cause_unless, thread_of, threads_by, noted_threads_of, name_of, pid_of, base_in_memory, is_mapped_code, code_by, code_of, vdso_mapped, vdso_at, vdso_code, core_dump_of};
+ghost use Rattle.framehop_dump_stacks.specs.CoreDump.{sent_of, cause_unless, thread_of, threads_by, noted_threads_of, name_of, pid_of, base_in_memory, is_mapped_code, code_by, code_of, vdso_mapped, vdso_at, vdso_code, dump_by_notes, core_dump_of, core_dump_over};
 ghost use Rattle.framehop_dump_stacks.specs.Heads.{file_head_view, file_head_of};
 
 use crate::dump::{Cause, Dump, Kind, MappedCode, Registers, Sent, Signal, Thread};
@@ -16,7 +16,7 @@ use crate::heads::{FileHead, HeadsByPath};
 use crate::image::{head_at, segments_in};
 use crate::order::crashed_first;
 use framehop_coredump::auxiliary_vector::vdso_of;
-use framehop_coredump::core_file::{Machine, read_core_file};
+use framehop_coredump::core_file::{CoreFile, Machine, read_core_file};
 use framehop_coredump::error::CoreFileError;
 use framehop_coredump::mapped_file::{MappedFile, read_mapped_files};
 use framehop_coredump::memory::memory_of;
@@ -44,16 +44,56 @@ pub fn read_core_dump<'a>(alloc: Global, file: &'a [u8]) -> Result<Dump<'a>, Cor
         (λ error. (error ≡ CoreFileError.OutOfMemory) ⊎ (core_dump_of file.entry.now ≡ Err error)) }
 {
     let core = read_core_file(alloc, file)?;
-    let notes = read_notes(alloc, file, core.segments.as_slice())?;
-    let noted = noted_threads(alloc, core.machine, notes.as_slice())?;
-    let files = read_mapped_files(alloc, notes.as_slice())?;
-    let process = read_process(notes.as_slice())?;
     let Ok(dumped) = loaded_segments(alloc, core.segments.as_slice()) else {
         return Err(CoreFileError::OutOfMemory);
     };
     let Ok(memory) = memory_of(alloc, file, dumped.as_slice()) else {
         return Err(CoreFileError::OutOfMemory);
     };
+    dump_by_notes(alloc, file, &core, dumped, memory)
+}
+
+/// Reads what a core file says of its process over a memory, by the front of the file, which has its headers and its notes:
+/// as [`read_core_dump`] does where the memory is that of the whole file.
+///
+/// # Errors
+///
+/// Those of [`read_core_dump`].
+#[tactic(auto, unfolding(crate::specs::CoreDump::core_dump_over))]
+pub fn read_core_dump_over<'a>(
+    alloc: Global,
+    head: &'a [u8],
+    memory: ProcessMemory<'a>,
+) -> Result<Dump<'a>, CoreFileError>
+    ensures { MatchResult result
+        (λ dump. core_dump_over head.entry.now (memory_view memory.entry) ≡ Ok (dump_view dump))
+        (λ error. (error ≡ CoreFileError.OutOfMemory) ⊎ (core_dump_over head.entry.now (memory_view memory.entry) ≡ Err error)) }
+{
+    let core = read_core_file(alloc, head)?;
+    let Ok(dumped) = loaded_segments(alloc, core.segments.as_slice()) else {
+        return Err(CoreFileError::OutOfMemory);
+    };
+    dump_by_notes(alloc, head, &core, dumped, memory)
+}
+
+/// Reads what the notes of a core file with these headers say, over memory of these segments.
+#[tactic(auto, unfolding(crate::specs::CoreDump::dump_by_notes))]
+fn dump_by_notes<'a>(
+    alloc: Global,
+    file: &'a [u8],
+    core: &CoreFile,
+    dumped: Vec<Segment>,
+    memory: ProcessMemory<'a>,
+) -> Result<Dump<'a>, CoreFileError>
+    ensures { MatchResult result
+        (λ dump. dump_by_notes file.entry.now (core.now.machine, core.now.segments.items) dumped.items (memory_view memory.entry) ≡ Ok (dump_view dump))
+        (λ error. (error ≡ CoreFileError.OutOfMemory)
+        ⊎ (dump_by_notes file.entry.now (core.now.machine, core.now.segments.items) dumped.items (memory_view memory.entry) ≡ Err error)) }
+{
+    let notes = read_notes(alloc, file, core.segments.as_slice())?;
+    let noted = noted_threads(alloc, core.machine, notes.as_slice())?;
+    let files = read_mapped_files(alloc, notes.as_slice())?;
+    let process = read_process(notes.as_slice())?;
     let Ok(threads) = ordered_threads(alloc, noted.as_slice()) else {
         return Err(CoreFileError::OutOfMemory);
     };

@@ -55,8 +55,34 @@ pub fn report_core_stacks<S: FileSource, R: Report, W: Write, E: Write>(
         (error ≡ of_core_file refusal) ⊎ (error ≡ DumpStacksError.OutOfMemory)) }
 {
     let dump = read_core_dump(alloc, file)?;
-    let files = read_files(alloc, &dump, source)?;
-    report_dump(alloc, &dump, &files, limit, report, out, err)?;
+    report_dump_stacks(alloc, &dump, source, limit, report, out, err)?;
+    Ok(())
+}
+
+/// Writes a report of the stacks of a core file that was read to `out`, and then to `err` what was missing, as
+/// [`report_core_stacks`] does.
+///
+/// # Errors
+///
+/// `OutOfMemory`, `GenerationsExhausted` and `CannotWrite`.
+pub fn report_dump_stacks<S: FileSource, R: Report, W: Write, E: Write>(
+    alloc: Global,
+    dump: &Dump<'_>,
+    source: &S,
+    limit: u32,
+    report: &R,
+    out: &mut W,
+    err: &mut E,
+) -> Result<(), DumpStacksError>
+    ensures printed { OnOk result ((files : Files) × AreFilesOf (S.source source.now) (dump_view dump.now) files
+        × ((text : List ℕ) × R.makes report.now (dump_view dump.now) files (mappings_in (dump_view dump.now) files)
+        (stacks_in limit (dump_view dump.now) files) text
+        × Appends (W.contents out.old) (W.contents out.new) text)
+        × ((said : List ℕ) × IsSaid (dump_view dump.now) files (mappings_in (dump_view dump.now) files) said
+        × Appends (E.contents err.old) (E.contents err.new) said)) }
+{
+    let files = read_files(alloc, dump, source)?;
+    report_dump(alloc, dump, &files, limit, report, out, err)?;
     Ok(())
 }
 

@@ -42,7 +42,7 @@ impl LeftOut {
     }
 
     /// Notes that an address (AVMA) was asked for, if it is in one of the ranges.
-    pub(crate) fn note(&self, address: u64) {
+    pub fn note(&self, address: u64) {
         let later = self
             .parts
             .partition_point(|part| part.range.start <= address);

@@ -3,6 +3,8 @@
 #![tactic(auto)]
 
 mod arguments;
+mod core_parts;
+mod cores;
 mod disk;
 mod events;
 mod input;
@@ -12,12 +14,13 @@ mod speedscope;
 use anyhow::Result;
 use arguments::{Asked, command, drawing, options, samples_asked};
 use clap::ArgMatches;
+use cores::{print_core, print_core_parts};
 use disk::{Disk, Program, files_at, is_recording_by_threads};
 use events::numbers_of_events;
 use framehop_dump_json::json::Json;
 use framehop_dump_stacks::error::DumpStacksError;
-use framehop_dump_stacks::program::{write_core_stacks, write_minidump_stacks};
-use framehop_dump_stacks::reporting::{report_core_stacks, report_minidump_stacks};
+use framehop_dump_stacks::program::write_minidump_stacks;
+use framehop_dump_stacks::reporting::report_minidump_stacks;
 use framehop_flame_graph::drawing::Drawing;
 use framehop_flame_graph::error::FlameGraphError;
 use framehop_flame_graph::svg::{change_graph, flame_graph};
@@ -315,6 +318,11 @@ fn print_stacks(
     form: Form<'_>,
     folded: &mut Folded,
 ) -> Result<u8> {
+    if path != "-"
+        && let Some(status) = print_core_parts(rt, path, disk, options, form)?
+    {
+        return Ok(status);
+    }
     let bytes = match read_input(rt, path)? {
         Ok(bytes) => bytes,
         Err(status) => return Ok(status),
@@ -357,28 +365,6 @@ fn misuse_of(kind: Kind, options: Options<'_>, form: Form<'_>) -> Option<&'stati
         (Kind::Folded, _) if options.sure => Some("folded stacks don't say what is sure"),
         _ => None,
     }
-}
-
-/// Prints the stacks of the threads of a core file, by its bytes.
-fn print_core(
-    rt: &HostRuntime,
-    path: &str,
-    bytes: &[u8],
-    disk: &Disk<'_>,
-    options: Options<'_>,
-    form: Form<'_>,
-) -> Result<u8> {
-    let alloc = rt.alloc();
-    let Options { limit, explain, .. } = options;
-    let mut out = BufWriter::new(alloc, io::writer(rt))?;
-    let mut said = Vec::new(alloc);
-    let written = match form {
-        Form::Json => { report_core_stacks(alloc, bytes, disk, limit, &Json, &mut out, &mut said) }
-        _ => write_core_stacks(alloc, bytes, disk, limit, explain, &mut out, &mut said),
-    };
-    io::Write::flush(&mut out)?;
-    Messages { rt }.write_all(said.as_slice())?;
-    status_of(rt, path, written)
 }
 
 /// Prints the stacks of the threads of a minidump, by its bytes.

@@ -3,4 +3,4 @@ use Rattle.framehop_dump_stacks.proofs.reporting.report_core_stacks.Goals as goa
 
 pub returns-clause-printed : goal.returns-clause-printed
 returns-clause-printed g c =
-    (dump_view c.in_ok-dump.dump, c.in_ok-dump.ensures, (c.in_ok-files.files, c.in_ok-files.ensures, c.in_ok-report_dump.ensures.printed, c.in_ok-report_dump.ensures.said))
+    (dump_view c.in_ok-dump.dump, c.in_ok-dump.ensures, c.in_ok-report_dump_stacks.ensures.printed)

@@ -1,0 +1,310 @@
+//! Core files of which only parts are read: the headers and the notes, and of memory what is asked for.
+use framehop_coredump::core_file::{Machine, read_core_file};
+use framehop_coredump::registers::{aarch64_registers, code_ptr_auth_mask, x86_64_registers};
+use framehop_dump_stacks::dump::{Dump, Registers};
+use framehop_elf::header::read_file_header;
+use framehop_elf::program_header::ProgramHeader;
+use framehop_elf::segment::loaded_segments;
+use framehop_memory::left_out::LeftOut;
+use framehop_memory::memory::MemoryRange;
+use std::alloc::{AllocError, Global};
+use std::fs::File;
+use std::io::{Read, Seek, SeekFrom};
+use std::{fs, io};
+
+/// The most bytes of headers and notes that are read apart from memory: 64 MiB.
+const LARGEST_FRONT: u64 = 0x400_0000;
+
+/// The size of an ELF header, in bytes.
+const ELF_HEADER_SIZE: u64 = 64;
+
+/// The size of a program header, in bytes.
+const PROGRAM_HEADER_SIZE: u64 = 56;
+
+/// `PT_NOTE`.
+const PT_NOTE: u32 = 4;
+
+/// How many bytes before an address that is asked for are read with it: a walk may ask for what lies below it.
+const MARGIN: u64 = 0x1_0000;
+
+/// The first address (AVMA) that is the kernel's.
+const FIRST_OF_KERNEL: u64 = 0x8000_0000_0000_0000;
+
+/// A core file of which parts are read.
+#[derive(Drop)]
+pub struct CoreParts {
+    file: File,
+    /// The front of the file, with its headers and its notes.
+    front: Vec<u8>,
+    /// The memory that the file has, in the order of addresses, and apart.
+    segments: Vec<WantedSegment>,
+}
+
+/// A segment of memory, of which an end is read.
+#[derive(Clone, Copy)]
+struct WantedSegment {
+    /// Where the file has it.
+    range: MemoryRange,
+    /// The size of the end that is read, in bytes.
+    wanted: u64,
+}
+
+/// What was read of the memory of a core file.
+#[derive(Drop)]
+pub struct ReadMemory {
+    /// The bytes that were read.
+    pub bytes: Vec<u8>,
+    /// Which of them are where in memory.
+    pub ranges: Vec<MemoryRange>,
+    /// What was not read.
+    pub left_out: LeftOut,
+}
+
+impl CoreParts {
+    /// Opens a core file, and reads its front. `None` of what is no core file, of one whose memory overlaps or does not lie
+    /// in the file, and of one whose notes are far from its beginning: such a file is read whole.
+    pub fn open(rt: &HostRuntime, path: &str) -> io::Result<Option<CoreParts>> {
+        let metadata = fs::metadata(rt, path)?;
+        if !metadata.is_file() || metadata.len() < ELF_HEADER_SIZE {
+            return Ok(None);
+        }
+        let alloc = rt.alloc();
+        let mut file = File::open(rt, path)?;
+        let header = read_at(alloc, &mut file, 0, ELF_HEADER_SIZE)?;
+        let most = metadata.len().min(LARGEST_FRONT);
+        let Some(size) = headers_size(header.as_slice(), most) else {
+            return Ok(None);
+        };
+        let headers = read_at(alloc, &mut file, 0, size)?;
+        let Ok(core) = read_core_file(alloc, headers.as_slice()) else {
+            return Ok(None);
+        };
+        let Some(size) = front_size(core.segments.as_slice(), size, most) else {
+            return Ok(None);
+        };
+        let front = read_at(alloc, &mut file, 0, size)?;
+        let segments = segments_of(alloc, core.segments.as_slice(), metadata.len())?;
+        Ok(segments.map(|segments| CoreParts {
+            file,
+            front,
+            segments,
+        }))
+    }
+
+    /// Returns the front of the file, with its headers and its notes.
+    pub fn front(&self) -> &[u8] {
+        self.front.as_slice()
+    }
+
+    /// Reads the memory that is wanted.
+    pub fn read_memory(&mut self, alloc: Global) -> io::Result<ReadMemory> {
+        let mut size: u64 = 0;
+        let mut ranges = Vec::new(alloc);
+        let mut left_out = Vec::new(alloc);
+        for segment in &self.segments {
+            if let Some(range) = segment.read_part(size) {
+                ranges.push(range)?;
+                size = size.saturating_add(range.size);
+            }
+            if let Some(range) = segment.left_out() {
+                left_out.push(range)?;
+            }
+        }
+        let mut bytes = Vec::from_elem(alloc, 0u8, size as usize)?;
+        let mut rest = bytes.as_mut_slice();
+        for segment in &self.segments {
+            rest = read_front(
+                &mut self.file,
+                segment.wanted_offset(),
+                segment.wanted,
+                rest,
+            )?;
+        }
+        Ok(ReadMemory {
+            bytes,
+            ranges,
+            left_out: LeftOut::new(alloc, left_out.as_slice())?,
+        })
+    }
+
+    /// Wants memory from addresses (AVMAs) on, each up to the end of its segment. Returns whether some of it was not wanted
+    /// before.
+    pub fn want(&mut self, addresses: &[u64]) -> bool {
+        let mut is_new = false;
+        for address in addresses {
+            let later = self
+                .segments
+                .partition_point(|segment| segment.range.start <= *address);
+            if let Some(segment) = self.segments.get_mut(later.saturating_sub(1)) {
+                is_new = segment.want(*address) || is_new;
+            }
+        }
+        is_new
+    }
+}
+
+impl WantedSegment {
+    /// Returns where the file has the end that is read.
+    fn wanted_offset(&self) -> u64 {
+        self.range.offset.saturating_add(self.unwanted())
+    }
+
+    /// Returns how many bytes are not read, before those that are.
+    fn unwanted(&self) -> u64 {
+        self.range.size.saturating_sub(self.wanted)
+    }
+
+    /// Returns the range that is read, whose bytes are to be at an offset, if some of it is.
+    fn read_part(&self, offset: u64) -> Option<MemoryRange> {
+        if self.wanted == 0 {
+            return None;
+        }
+        Some(MemoryRange {
+            start: self.range.start.saturating_add(self.unwanted()),
+            size: self.wanted,
+            offset,
+        })
+    }
+
+    /// Returns the range that is not read, if there is one.
+    fn left_out(&self) -> Option<MemoryRange> {
+        if self.unwanted() == 0 {
+            return None;
+        }
+        Some(MemoryRange {
+            start: self.range.start,
+            size: self.unwanted(),
+            offset: self.range.offset,
+        })
+    }
+
+    /// Wants the memory from an address (AVMA) on, if it is in this segment. Returns whether it was not wanted before.
+    fn want(&mut self, address: u64) -> bool {
+        let Some(before) = address.checked_sub(self.range.start) else {
+            return false;
+        };
+        let is_new = before < self.unwanted();
+        if is_new {
+            self.wanted = self
+                .range
+                .size
+                .saturating_sub(before.saturating_sub(MARGIN));
+        }
+        is_new
+    }
+}
+
+/// Returns the stack pointers (AVMAs) of all threads.
+pub fn stack_pointers(alloc: Global, dump: &Dump<'_>) -> Result<Vec<u64>, AllocError> {
+    dump.threads
+        .iter()
+        .filter_map(|thread| stack_pointer(dump.machine, thread.registers))
+        .collect(alloc)
+}
+
+/// Returns the stack pointer (AVMA) of a thread of a core file, if it has its registers.
+fn stack_pointer(machine: Machine, registers: Registers<'_>) -> Option<u64> {
+    let Registers::Kernel { values, pac_mask } = registers else {
+        return None;
+    };
+    match machine {
+        Machine::X86_64 => Some(x86_64_registers(values)?.sp()),
+        Machine::Aarch64 => {
+            let (_, regs) = aarch64_registers(code_ptr_auth_mask(pac_mask), values)?;
+            Some(regs.sp())
+        }
+    }
+}
+
+/// Returns where the program headers of a core file end, if they are in its first bytes, of which there are at most so many.
+fn headers_size(header: &[u8], most: u64) -> Option<u64> {
+    let header = read_file_header(header).ok()?;
+    let size = PROGRAM_HEADER_SIZE * u64::from(header.e_phnum);
+    let end = header.e_phoff.checked_add(size)?;
+    if end <= most {
+        Some(end.max(ELF_HEADER_SIZE))
+    } else {
+        None
+    }
+}
+
+/// Returns where the notes of a core file end, or its program headers, if these are in its first bytes, of which there are at
+/// most so many.
+fn front_size(headers: &[ProgramHeader], size: u64, most: u64) -> Option<u64> {
+    let mut front = size;
+    for header in headers {
+        if header.p_type == PT_NOTE {
+            front = front.max(header.p_offset.checked_add(header.p_filesz)?);
+        }
+    }
+    if front <= most { Some(front) } else { None }
+}
+
+/// Returns the segments of memory that a file of a size has, of which nothing is wanted, in the order of their addresses; `None`
+/// where they overlap, or do not lie in the file.
+fn segments_of(
+    alloc: Global,
+    headers: &[ProgramHeader],
+    size: u64,
+) -> Result<Option<Vec<WantedSegment>>, AllocError> {
+    let mut segments = Vec::new(alloc);
+    for loaded in &loaded_segments(alloc, headers)? {
+        let has = size.saturating_sub(loaded.offset).min(loaded.file_size);
+        if has < loaded.file_size && loaded.address < FIRST_OF_KERNEL {
+            return Ok(None);
+        }
+        if has > 0 {
+            let range = MemoryRange {
+                start: loaded.address,
+                size: has,
+                offset: loaded.offset,
+            };
+            segments.push(WantedSegment { range, wanted: 0 })?;
+        }
+    }
+    segments.sort_by_key(|segment| segment.range.start)?;
+    if are_apart(segments.as_slice()) {
+        Ok(Some(segments))
+    } else {
+        Ok(None)
+    }
+}
+
+/// Returns whether each segment ends before the next one begins.
+fn are_apart(segments: &[WantedSegment]) -> bool {
+    let mut end: u64 = 0;
+    for segment in segments {
+        let Some(next) = segment.range.start.checked_add(segment.range.size) else {
+            return false;
+        };
+        if segment.range.start < end {
+            return false;
+        }
+        end = next;
+    }
+    true
+}
+
+/// Reads so many bytes of a file from an offset on.
+fn read_at(alloc: Global, file: &mut File, offset: u64, size: u64) -> io::Result<Vec<u8>> {
+    let mut bytes = Vec::from_elem(alloc, 0u8, size as usize)?;
+    file.seek(SeekFrom::Start(offset))?;
+    file.read_exact(bytes.as_mut_slice())?;
+    Ok(bytes)
+}
+
+/// Reads so many bytes of a file from an offset on to the front of a slice, and returns the rest of it.
+fn read_front<'a>(
+    file: &mut File,
+    offset: u64,
+    size: u64,
+    slice: &'a mut [u8],
+) -> io::Result<&'a mut [u8]> {
+    let size = (size as usize).min(slice.len());
+    let (front, rest) = slice.split_at_mut(size);
+    if size > 0 {
+        file.seek(SeekFrom::Start(offset))?;
+        file.read_exact(front)?;
+    }
+    Ok(rest)
+}

@@ -1,0 +1,150 @@
+//! The stacks of core files.
+use crate::core_parts::{CoreParts, ReadMemory, stack_pointers};
+use crate::disk::Disk;
+use crate::input::Kind;
+use crate::messages::Messages;
+use crate::{Form, misuse_of, status_of};
+use anyhow::Result;
+use framehop_dump_json::json::Json;
+use framehop_dump_stacks::core_dump::read_core_dump_over;
+use framehop_dump_stacks::dump::Dump;
+use framehop_dump_stacks::error::DumpStacksError;
+use framehop_dump_stacks::program::{write_core_stacks, write_dump_stacks};
+use framehop_dump_stacks::reporting::{report_core_stacks, report_dump_stacks};
+use framehop_memory::memory::ProcessMemory;
+use framehop_perf_stacks::run::Options;
+use std::io;
+use std::io::Write;
+
+/// How often more of a core file is read before it is read whole.
+const MOST_ROUNDS: u32 = 16;
+
+/// What came of a round over the parts that were read of a core file.
+#[derive(Drop)]
+enum Round {
+    /// The stacks are printed, and this is the status.
+    Printed(u8),
+    /// Memory at these addresses (AVMAs), which was not read, was asked for. Nothing is printed.
+    Asked(Vec<u64>),
+    /// The file is refused. Nothing is printed.
+    Refused,
+}
+
+/// What is written of a core file.
+#[derive(Drop)]
+struct Written {
+    out: Vec<u8>,
+    said: Vec<u8>,
+    ended: std::result::Result<(), DumpStacksError>,
+}
+
+/// Prints the stacks of the threads of a core file, of which its front is read and the memory that is asked for. Where memory
+/// is asked for that was not read, nothing is printed, and all is done again with it. Returns the status, or `None` where
+/// nothing is printed: of what is no core file, and of one that is to be read whole.
+pub fn print_core_parts(
+    rt: &HostRuntime,
+    path: &str,
+    disk: &Disk<'_>,
+    options: Options<'_>,
+    form: Form<'_>,
+) -> Result<Option<u8>> {
+    let Ok(Some(mut core)) = CoreParts::open(rt, path) else {
+        return Ok(None);
+    };
+    if misuse_of(Kind::Core, options, form).is_some() {
+        return Ok(None);
+    }
+    for _round in 0..MOST_ROUNDS {
+        let Ok(memory) = core.read_memory(rt.alloc()) else {
+            return Ok(None);
+        };
+        match print_read_core(rt, path, core.front(), memory, disk, options, form)? {
+            Round::Printed(status) => return Ok(Some(status)),
+            Round::Asked(addresses) if core.want(addresses.as_slice()) => {}
+            _ => return Ok(None),
+        }
+    }
+    Ok(None)
+}
+
+/// Prints the stacks of the threads of a core file, if they ask for no memory but that which was read.
+fn print_read_core(
+    rt: &HostRuntime,
+    path: &str,
+    front: &[u8],
+    memory: ReadMemory,
+    disk: &Disk<'_>,
+    options: Options<'_>,
+    form: Form<'_>,
+) -> Result<Round> {
+    let alloc = rt.alloc();
+    let ReadMemory {
+        bytes,
+        ranges,
+        left_out,
+    } = memory;
+    let known = ProcessMemory::new(alloc, bytes.as_slice(), ranges)?.noting(&left_out);
+    let Ok(dump) = read_core_dump_over(alloc, front, known) else {
+        return Ok(Round::Refused);
+    };
+    for stack_pointer in &stack_pointers(alloc, &dump)? {
+        left_out.note(*stack_pointer);
+    }
+    let asked = left_out.asked(alloc)?;
+    if !asked.is_empty() {
+        return Ok(Round::Asked(asked));
+    }
+    let written = written_stacks(rt, &dump, disk, options, form);
+    let asked = left_out.asked(alloc)?;
+    if !asked.is_empty() {
+        return Ok(Round::Asked(asked));
+    }
+    Ok(Round::Printed(print_written(rt, path, &written)?))
+}
+
+/// Returns what is written of the stacks of a core file that was read.
+fn written_stacks(
+    rt: &HostRuntime,
+    dump: &Dump<'_>,
+    disk: &Disk<'_>,
+    options: Options<'_>,
+    form: Form<'_>,
+) -> Written {
+    let alloc = rt.alloc();
+    let Options { limit, explain, .. } = options;
+    let (mut out, mut said) = (Vec::new(alloc), Vec::new(alloc));
+    let ended = match form {
+        Form::Json => report_dump_stacks(alloc, dump, disk, limit, &Json, &mut out, &mut said),
+        _ => write_dump_stacks(alloc, dump, disk, limit, explain, &mut out, &mut said),
+    };
+    Written { out, said, ended }
+}
+
+/// Prints the stacks of the threads of a core file, by its bytes.
+pub fn print_core(
+    rt: &HostRuntime,
+    path: &str,
+    bytes: &[u8],
+    disk: &Disk<'_>,
+    options: Options<'_>,
+    form: Form<'_>,
+) -> Result<u8> {
+    let alloc = rt.alloc();
+    let Options { limit, explain, .. } = options;
+    let (mut out, mut said) = (Vec::new(alloc), Vec::new(alloc));
+    let ended = match form {
+        Form::Json => { report_core_stacks(alloc, bytes, disk, limit, &Json, &mut out, &mut said) }
+        _ => write_core_stacks(alloc, bytes, disk, limit, explain, &mut out, &mut said),
+    };
+    print_written(rt, path, &Written { out, said, ended })
+}
+
+/// Prints what is written of a core file, what is said of it, and why it was refused, if it was. Returns the status.
+fn print_written(rt: &HostRuntime, path: &str, written: &Written) -> Result<u8> {
+    let printed = io::writer(rt).write_all(written.out.as_slice());
+    Messages { rt }.write_all(written.said.as_slice())?;
+    match printed {
+        Ok(()) => status_of(rt, path, written.ended),
+        Err(error) => status_of(rt, path, Err(error.into())),
+    }
+}
