@@ -1,9 +1,9 @@
 pub mod Leb
-pub mod Rows
 pub mod Run
 pub mod Cursor
 pub mod Table
 pub mod Turn
+pub mod SharedRules
 pub mod Forward
 pub mod Room
 pub mod RowMeaning

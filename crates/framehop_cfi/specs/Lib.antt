@@ -19,6 +19,7 @@ pub mod Pointer
 pub mod PointerEncoding
 pub mod Raw
 pub mod Refusal
+pub mod Remembered
 pub mod Row
 pub mod RowAt
 pub mod RowCursor

@@ -2,7 +2,7 @@
 //!
 //! A row is changed in place, instruction by instruction. The room for rows is kept from one address to the next,
 //! so that no memory is taken under `StoreOnStack`.
-ghost use Rattle.std.specs.Prelude.{◌≡◌, ◌≢◌, ◌*◌, ◌+◌, ◌^◌, ◌<◌, ◌≤◌, length, true, false, IfOk, IfErr, OnOk, OnErr, IsErrOf, None, Err, vec_len};
+ghost use Rattle.std.specs.Prelude.{◌≡◌, ◌≢◌, ◌*◌, ◌+◌, ◌^◌, ◌<◌, ◌≤◌, length, true, false, IfOk, IfErr, OnOk, OnErr, IsErrOf, None, Err};
 ghost use Rattle.framehop_cfi.specs.TableRows.{TableRows, effect, setting, restoring, remembering, restoring_state};
 ghost use Rattle.framehop_cfi.specs.Outcome.{Becomes};
 ghost use Rattle.framehop_cfi.specs.Row.{Row};
@@ -20,13 +20,13 @@ use crate::instruction_code::*;
 use crate::numbers::{read_u8, read_u16};
 use crate::pointer::SectionBaseAddresses;
 use crate::read_error::ReadError;
+use crate::remembered::RememberedRows;
 use crate::row::UnwindTableRow;
 use crate::rule::{CfaRule, Register, RegisterRule};
 use crate::storage::UnwindContextStorage;
 use framehop_bytes::bytes::front;
 use std::alloc::{AllocError, Global};
 use std::marker::Model;
-use std::mem;
 
 /// The room in which rows are made. It is made once and used for any number of rows.
 #[derive(Drop)]
@@ -36,23 +36,18 @@ pub struct UnwindContext<S: UnwindContextStorage> {
     /// Whether the CIE's instructions have been run.
     has_initial: bool,
     row: UnwindTableRow<S>,
-    /// The rows that were remembered, and after them rows to be used for the next ones.
-    remembered: Vec<UnwindTableRow<S>>,
-    /// How many rows are remembered.
-    count: usize,
-    alloc: Global,
+    /// The rows that were remembered. They share the rules of `row` until these are written.
+    remembered: RememberedRows<S>,
 }
 
 impl<S: UnwindContextStorage> Model for UnwindContext<S> {
     ghost use Rattle.framehop_cfi.specs.TableRows.{TableRows};
-    ghost use Rattle.framehop_cfi.specs.Context.{initial_of, HasSpareRows};
-    ghost use Rattle.std.specs.Prelude.{vec_len, take};
+    ghost use Rattle.framehop_cfi.specs.Context.{initial_of};
+    ghost use Rattle.framehop_cfi.specs.Remembered.{remembered_rows};
 
     ghost Value = { TableRows };
 
-    ghost view = { λ context. record { initial = initial_of context.has_initial context.initial; row = context.row; remembered = take context.count context.remembered.items } };
-
-    ghost invariant = { λ context. HasSpareRows S.limits context.count (vec_len context.remembered) };
+    ghost view = { λ context. record { initial = initial_of context.has_initial context.initial; row = context.row; remembered = remembered_rows context.remembered context.row.rules } };
 }
 
 /// Where the rows of an FDE have got to.
@@ -70,20 +65,11 @@ impl<S: UnwindContextStorage> UnwindContext<S> {
     pub fn new_in(alloc: Global) -> Result<Self, AllocError>
         ensures { IfOk result (λ context. context ≡ start) }
     {
-        let initial = UnwindTableRow::new(alloc)?;
-        let row = UnwindTableRow::new(alloc)?;
-        let spare = match S::limits() {
-            Some(limits) => limits.rows,
-            None => 0,
-        };
-        let remembered = spare_rows(alloc, spare)?;
         Ok(UnwindContext {
-            initial,
+            initial: UnwindTableRow::new(alloc)?,
             has_initial: false,
-            row,
-            remembered,
-            count: 0,
-            alloc,
+            row: UnwindTableRow::new(alloc)?,
+            remembered: RememberedRows::new(alloc)?,
         })
     }
 
@@ -179,7 +165,7 @@ impl<S: UnwindContextStorage> UnwindContext<S> {
         ensures { self.new ≡ start }
     {
         self.has_initial = false;
-        self.count = 0;
+        self.remembered.clear();
         self.row.clear();
     }
 
@@ -505,8 +491,9 @@ impl<S: UnwindContextStorage> UnwindContext<S> {
             return Err(ReadError::InvalidContext);
         }
         match self.initial.register(register) {
-            Some(rule) => self.row.set_rule(register, rule),
+            Some(rule) => self.set_rule(register, rule),
             None => {
+                self.remembered.keep(&self.row)?;
                 self.row.remove_rule(register);
                 Ok(())
             }
@@ -518,6 +505,7 @@ impl<S: UnwindContextStorage> UnwindContext<S> {
         ensures exact { Becomes result self.new (setting S.limits register rule self.old) }
         ensures memory { IsErrOf result ReadError.OutOfMemory → S.limits ≡ None }
     {
+        self.remembered.keep(&self.row)?;
         self.row.set_rule(register, rule)
     }
 
@@ -527,19 +515,7 @@ impl<S: UnwindContextStorage> UnwindContext<S> {
         ensures exact { Becomes result self.new (remembering S.limits self.old) }
         ensures memory { IsErrOf result ReadError.OutOfMemory → S.limits ≡ None }
     {
-        if let Some(limits) = S::limits()
-            && self.count >= limits.rows
-        {
-            return Err(ReadError::TooManyRows);
-        }
-        if self.count == self.remembered.len() {
-            let spare = UnwindTableRow::new(self.alloc)?;
-            self.remembered.push(spare)?;
-        }
-        let spare = &mut self.remembered[self.count];
-        spare.copy_from(&self.row)?;
-        self.count += 1;
-        Ok(())
+        self.remembered.push(*self.row.cfa())
     }
 
     /// Makes the row the one that was remembered last, which is then not remembered any more.
@@ -548,13 +524,7 @@ impl<S: UnwindContextStorage> UnwindContext<S> {
         ensures exact { Becomes result self.new (restoring_state self.old) }
         ensures memory { result ≢ Err ReadError.OutOfMemory }
     {
-        if self.count == 0 {
-            return Err(ReadError::NothingRemembered);
-        }
-        self.count -= 1;
-        let latest = &mut self.remembered[self.count];
-        mem::swap(&mut self.row, latest);
-        Ok(())
+        self.remembered.pop(&mut self.row)
     }
 
     #[inline(always)]
@@ -586,21 +556,6 @@ impl<S: UnwindContextStorage> UnwindContext<S> {
             CfaRule::Expression(_) => Err(ReadError::InvalidContext),
         }
     }
-}
-
-/// Returns so many empty rows.
-fn spare_rows<S: UnwindContextStorage>(
-    alloc: Global,
-    count: usize,
-) -> Result<Vec<UnwindTableRow<S>>, AllocError>
-    ensures { IfOk result (λ rows. vec_len rows ≡ count) }
-{
-    let mut rows = Vec::with_capacity(alloc, count)?;
-    for _made in 0..count {
-        let row = UnwindTableRow::new(alloc)?;
-        rows.push(row)?;
-    }
-    Ok(rows)
 }
 
 /// Returns whether the FDE covers the address.

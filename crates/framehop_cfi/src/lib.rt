@@ -14,6 +14,7 @@ pub mod leb128;
 pub mod numbers;
 pub mod pointer;
 pub mod read_error;
+mod remembered;
 pub mod row;
 pub mod rule;
 pub mod storage;

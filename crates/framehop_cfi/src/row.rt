@@ -115,6 +115,18 @@ impl<S: UnwindContextStorage> UnwindTableRow<S> {
         self.rules.as_slice()
     }
 
+    /// Gives this row the rules of another.
+    pub(crate) fn copy_rules(&mut self, other: &Self) -> Result<(), ReadError>
+        ensures ok { OnOk result (self.new ≡ record self.old { rules = other.now.rules }) }
+        ensures memory { OnErr result (S.limits ≡ None) }
+        ensures error { IfErr result (λ error. error ≡ ReadError.OutOfMemory) }
+        ensures room { OnErr result (0 < length other.now.rules) }
+    {
+        self.rules.clear();
+        self.rules.extend_from_slice(&other.rules)?;
+        Ok(())
+    }
+
     /// Makes this row equal to another.
     pub(crate) fn copy_from(&mut self, other: &Self) -> Result<(), ReadError>
         ensures ok { OnOk result (self.new ≡ other.now) }
@@ -122,8 +134,7 @@ impl<S: UnwindContextStorage> UnwindTableRow<S> {
         ensures error { IfErr result (λ error. error ≡ ReadError.OutOfMemory) }
         ensures room { OnErr result (0 < length other.now.rules) }
     {
-        self.rules.clear();
-        self.rules.extend_from_slice(&other.rules)?;
+        self.copy_rules(other)?;
         self.cfa = other.cfa;
         Ok(())
     }
