@@ -4,6 +4,7 @@ careless.
 Each function of KINDS returns the commands of a number of items.
 """
 import json
+import struct
 import sys
 
 
@@ -42,18 +43,43 @@ def changed_clones(count):
     return modules(1) + made + [add(1 + at, 1) for at in range(count)]
 
 
+def uleb128(number):
+    low, rest = number & 0x7F, number >> 7
+    return bytes([low | 0x80]) + uleb128(rest) if rest else bytes([low])
+
+
+def entry(body):
+    """An entry of `.eh_frame`, with its length."""
+    body += bytes(-len(body) % 8)
+    return struct.pack("<I", len(body)) + body
+
+
+def remembered_rows(count):
+    """A walk by a row that has so many rules and is remembered as often, before the rules are written once more."""
+    cie = entry(bytes(4) + bytes([1, 0, 1, 0x78, 16]))
+    rule = lambda register: b"\x05" + uleb128(register) + b"\x01"
+    rows = b"".join(map(rule, range(20, 20 + count))) + b"\x0a" * count + rule(20)
+    fde = entry(struct.pack("<IQQ", len(cie) + 4, 0x1000, 0x1000) + rows)
+    section = {"name": ".eh_frame", "svma": ["2000", f"{0x2000 + len(cie) + len(fde):x}"], "data": (cie + fde).hex()}
+    module = add(0, 0) | {"start": "1000", "end": "2000", "base": "0", "sections": [section]}
+    regs = {"ip": "1100", "sp": "10", "bp": "20"}
+    step = {"do": "walk", "unwinder": 0, "cache": 0, "pc": "1100", "regs": regs, "memory": {"base": "0", "words": []}, "limit": 2}
+    return [{"do": "new"}, module, step]
+
+
 KINDS = {
     "modules": modules,
     "clones": clones,
     "clones-of-clones": clones_of_clones,
     "clones-of-a-changed-one": clones_of_a_changed_one,
     "changed-clones": changed_clones,
+    "remembered-rows": remembered_rows,
 }
 
 
 def document(commands):
     """The input of the program."""
-    return json.dumps({"arch": "x86_64", "policy": "may", "caches": 0, "commands": commands})
+    return json.dumps({"arch": "x86_64", "policy": "may", "caches": 1, "commands": commands})
 
 
 if __name__ == "__main__":
