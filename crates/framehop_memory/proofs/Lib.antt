@@ -1,3 +1,4 @@
 -- Lemmas of this crate.
 pub mod RangeLemmas
 pub mod CodeLemmas
+pub mod PartLemmas

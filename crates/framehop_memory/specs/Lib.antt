@@ -3,5 +3,6 @@
 -- The source is the System V gABI, chapter 5.
 pub mod Range
 pub mod Memory
+pub mod Parts
 pub mod Segment
 pub mod Code

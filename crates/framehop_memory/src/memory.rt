@@ -1,9 +1,10 @@
 //! The memory of a process that is gone, as far as a file has it.
-ghost use Rattle.std.specs.Prelude.{◌≡◌, true, IfOk, IfSome, find, option_map, length};
+ghost use Rattle.std.specs.Prelude.{◌≡◌, ◌<◌, ℕ, List, true, false, IfOk, IfSome, find, map, option_map, length};
+ghost use Rattle.framehop_memory.specs.Parts.{read_range, whole_memory, is_left_out, AreReadFrom};
 ghost use Rattle.framehop_memory.specs.Range.{has};
 ghost use Rattle.framehop_memory.specs.Memory.{memory_view, bytes_of, bytes_after, word_of};
 
-use crate::left_out::LeftOut;
+use crate::left_out::{LeftOut, ReadPart};
 use crate::ranges::{MemoryRanges, dumped};
 use framehop_bytes::bytes::{back, front, u64_at};
 use std::alloc::{AllocError, Global};
@@ -44,16 +45,29 @@ impl<'a> ProcessMemory<'a> {
         })
     }
 
-    /// Returns this memory, of a file of which parts were not read: what is asked for there, and is not in the ranges, is
-    /// noted.
-    pub fn noting(self, left_out: &'a LeftOut) -> Self
-        ensures { memory_view result ≡ memory_view self.entry }
+    /// Returns the memory of which these parts were read from a file, whose bytes are those of the file: of each address that
+    /// was read it has what the whole file has. What is asked for of the rest is noted.
+    pub fn of_parts(
+        alloc: Global,
+        bytes: &'a [u8],
+        parts: &[ReadPart],
+        left_out: &'a LeftOut,
+    ) -> Result<Self, AllocError>
+        ensures ranges { IfOk result (λ memory. memory_view memory ≡ record { file = bytes.entry.now; ranges = map read_range parts.now }) }
+        ensures whole { IfOk result (λ memory. (file : List ℕ) → AreReadFrom file bytes.entry.now parts.now
+            → (address size : ℕ) → is_left_out address parts.now ≡ false → 0 < size
+            → bytes_of (memory_view memory) address size ≡ bytes_of (whole_memory file parts.now) address size) }
+        ensures rest { IfOk result (λ memory. (file : List ℕ) → AreReadFrom file bytes.entry.now parts.now
+            → (address : ℕ) → is_left_out address parts.now ≡ false
+            → bytes_after (memory_view memory) address ≡ bytes_after (whole_memory file parts.now) address) }
     {
-        ProcessMemory {
-            file: self.file,
-            ranges: self.ranges,
+        let ranges = read_ranges(alloc, parts)?;
+        let ranges = MemoryRanges::new(alloc, ranges)?;
+        Ok(ProcessMemory {
+            file: bytes,
+            ranges,
             left_out: Some(left_out),
-        }
+        })
     }
 
     /// Returns which ranges of memory the file has, in its order.
@@ -112,4 +126,11 @@ impl<'a> ProcessMemory<'a> {
             left_out.note(address);
         }
     }
+}
+
+/// Returns where the parts are that were read.
+fn read_ranges(alloc: Global, parts: &[ReadPart]) -> Result<Vec<MemoryRange>, AllocError>
+    ensures { IfOk result (λ ranges. ranges.items ≡ map read_range parts.now) }
+{
+    parts.iter().map(|part| part.read).collect(alloc)
 }
