@@ -5,7 +5,7 @@ use framehop_dump_stacks::dump::{Dump, Registers};
 use framehop_elf::header::read_file_header;
 use framehop_elf::program_header::ProgramHeader;
 use framehop_elf::segment::loaded_segments;
-use framehop_memory::left_out::LeftOut;
+use framehop_memory::left_out::ReadPart;
 use framehop_memory::memory::MemoryRange;
 use std::alloc::{AllocError, Global};
 use std::fs::File;
@@ -54,10 +54,8 @@ struct WantedSegment {
 pub struct ReadMemory {
     /// The bytes that were read.
     pub bytes: Vec<u8>,
-    /// Which of them are where in memory.
-    pub ranges: Vec<MemoryRange>,
-    /// What was not read.
-    pub left_out: LeftOut,
+    /// Of which ends of which segments they are.
+    pub parts: Vec<ReadPart>,
 }
 
 impl CoreParts {
@@ -99,16 +97,10 @@ impl CoreParts {
     /// Reads the memory that is wanted.
     pub fn read_memory(&mut self, alloc: Global) -> io::Result<ReadMemory> {
         let mut size: u64 = 0;
-        let mut ranges = Vec::new(alloc);
-        let mut left_out = Vec::new(alloc);
+        let mut parts = Vec::with_capacity(alloc, self.segments.len())?;
         for segment in &self.segments {
-            if let Some(range) = segment.read_part(size) {
-                ranges.push(range)?;
-                size = size.saturating_add(range.size);
-            }
-            if let Some(range) = segment.left_out() {
-                left_out.push(range)?;
-            }
+            parts.push(segment.read_part(size))?;
+            size = size.saturating_add(segment.wanted);
         }
         let mut bytes = Vec::from_elem(alloc, 0u8, size as usize)?;
         let mut rest = bytes.as_mut_slice();
@@ -120,11 +112,7 @@ impl CoreParts {
                 rest,
             )?;
         }
-        Ok(ReadMemory {
-            bytes,
-            ranges,
-            left_out: LeftOut::new(alloc, left_out.as_slice())?,
-        })
+        Ok(ReadMemory { bytes, parts })
     }
 
     /// Wants memory from addresses (AVMAs) on, each up to the end of its segment. Returns whether some of it was not wanted
@@ -154,28 +142,16 @@ impl WantedSegment {
         self.range.size.saturating_sub(self.wanted)
     }
 
-    /// Returns the range that is read, whose bytes are to be at an offset, if some of it is.
-    fn read_part(&self, offset: u64) -> Option<MemoryRange> {
-        if self.wanted == 0 {
-            return None;
+    /// Returns what is read of this segment, with its bytes at an offset.
+    fn read_part(&self, offset: u64) -> ReadPart {
+        ReadPart {
+            segment: self.range,
+            read: MemoryRange {
+                start: self.range.start.saturating_add(self.unwanted()),
+                size: self.wanted,
+                offset,
+            },
         }
-        Some(MemoryRange {
-            start: self.range.start.saturating_add(self.unwanted()),
-            size: self.wanted,
-            offset,
-        })
-    }
-
-    /// Returns the range that is not read, if there is one.
-    fn left_out(&self) -> Option<MemoryRange> {
-        if self.unwanted() == 0 {
-            return None;
-        }
-        Some(MemoryRange {
-            start: self.range.start,
-            size: self.unwanted(),
-            offset: self.range.offset,
-        })
     }
 
     /// Wants the memory from an address (AVMA) on, if it is in this segment. Returns whether it was not wanted before.

@@ -11,6 +11,7 @@ use framehop_dump_stacks::dump::Dump;
 use framehop_dump_stacks::error::DumpStacksError;
 use framehop_dump_stacks::program::{write_core_stacks, write_dump_stacks};
 use framehop_dump_stacks::reporting::{report_core_stacks, report_dump_stacks};
+use framehop_memory::left_out::LeftOut;
 use framehop_memory::memory::ProcessMemory;
 use framehop_perf_stacks::run::Options;
 use std::io;
@@ -58,7 +59,7 @@ pub fn print_core_parts(
         let Ok(memory) = core.read_memory(rt.alloc()) else {
             return Ok(None);
         };
-        match print_read_core(rt, path, core.front(), memory, disk, options, form)? {
+        match print_read_core(rt, path, core.front(), &memory, disk, options, form)? {
             Round::Printed(status) => return Ok(Some(status)),
             Round::Asked(addresses) if core.want(addresses.as_slice()) => {}
             _ => return Ok(None),
@@ -72,18 +73,15 @@ fn print_read_core(
     rt: &HostRuntime,
     path: &str,
     front: &[u8],
-    memory: ReadMemory,
+    memory: &ReadMemory,
     disk: &Disk<'_>,
     options: Options<'_>,
     form: Form<'_>,
 ) -> Result<Round> {
     let alloc = rt.alloc();
-    let ReadMemory {
-        bytes,
-        ranges,
-        left_out,
-    } = memory;
-    let known = ProcessMemory::new(alloc, bytes.as_slice(), ranges)?.noting(&left_out);
+    let (bytes, parts) = (memory.bytes.as_slice(), memory.parts.as_slice());
+    let left_out = LeftOut::new(alloc, parts)?;
+    let known = ProcessMemory::of_parts(alloc, bytes, parts, &left_out)?;
     let Ok(dump) = read_core_dump_over(alloc, front, known) else {
         return Ok(Round::Refused);
     };
