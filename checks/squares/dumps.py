@@ -120,6 +120,18 @@ def mappings_of_one_file(count):
     return {"dump": core_of_code(files, [(starts[0], image(min(count, 0xFE00)))] + [(start, bytes(16)) for start in starts[1:]])}
 
 
+def shared_images(count):
+    """Mapped files that are not given, each with a path and a segment of its own; all segments are the same bytes of the file, eight
+    for each, with a table of unwind data from the first page on."""
+    table = bytes([1, 0x1B, 3, 0x3B]) + struct.pack("<iI", 8, 0)
+    front = image(0)[:56] + struct.pack("<H", 2) + image(0)[58:] + struct.pack("<IIQQQQQQ", 0x6474E550, 4, 0x200, 0x200, 0, len(table), len(table), 4)
+    shared = front.ljust(0x200, b"\0") + table
+    size = PAGE * (1 + 8 * count // PAGE)
+    starts = [0x10000000 + size * at for at in range(count)]
+    files = [(start, start + size, b"/lib/%08d.so" % at) for at, start in enumerate(starts)]
+    return {"dump": core_of_code(files, [(start, shared.ljust(size, b"\0")) for start in starts])}
+
+
 def section_names(count):
     """A mapped file whose sections have names of one table without a 0, of as many bytes as sections."""
     table = b"." * (8 * count)
@@ -209,8 +221,8 @@ def write(folder, files):
 
 
 KINDS = {function.__name__.replace("_", "-"): function for function in (
-    threads, threads_backwards, masks, paths, code_in_memory, mappings_of_one_file, section_names, notes_of_one_place, minidump_threads,
-    minidump_modules, minidump_maps, minidump_streams)}
+    threads, threads_backwards, masks, paths, code_in_memory, mappings_of_one_file, shared_images, section_names, notes_of_one_place,
+    minidump_threads, minidump_modules, minidump_maps, minidump_streams)}
 
 if __name__ == "__main__":
     if len(sys.argv) != 4:

@@ -34,6 +34,8 @@ const FIRST_OF_KERNEL: u64 = 0x8000_0000_0000_0000;
 #[derive(Drop)]
 pub struct CoreParts {
     file: File,
+    /// The size of the file, in bytes.
+    size: u64,
     /// The front of the file, with its headers and its notes.
     front: Vec<u8>,
     /// The memory that the file has, in the order of addresses, and apart.
@@ -84,6 +86,7 @@ impl CoreParts {
         let segments = segments_of(alloc, core.segments.as_slice(), metadata.len())?;
         Ok(segments.map(|segments| CoreParts {
             file,
+            size: metadata.len(),
             front,
             segments,
         }))
@@ -94,13 +97,16 @@ impl CoreParts {
         self.front.as_slice()
     }
 
-    /// Reads the memory that is wanted.
-    pub fn read_memory(&mut self, alloc: Global) -> io::Result<ReadMemory> {
+    /// Reads the memory that is wanted. `None` where it has more bytes than the file, since segments share some.
+    pub fn read_memory(&mut self, alloc: Global) -> io::Result<Option<ReadMemory>> {
         let mut size: u64 = 0;
         let mut parts = Vec::with_capacity(alloc, self.segments.len())?;
         for segment in &self.segments {
             parts.push(segment.read_part(size))?;
             size = size.saturating_add(segment.wanted);
+        }
+        if size > self.size {
+            return Ok(None);
         }
         let mut bytes = Vec::from_elem(alloc, 0u8, size as usize)?;
         let mut rest = bytes.as_mut_slice();
@@ -112,7 +118,7 @@ impl CoreParts {
                 rest,
             )?;
         }
-        Ok(ReadMemory { bytes, parts })
+        Ok(Some(ReadMemory { bytes, parts }))
     }
 
     /// Wants memory from addresses (AVMAs) on, each up to the end of its segment. Returns whether some of it was not wanted

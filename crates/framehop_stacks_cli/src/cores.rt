@@ -3,7 +3,7 @@ use crate::core_parts::{CoreParts, ReadMemory, stack_pointers};
 use crate::disk::Disk;
 use crate::input::Kind;
 use crate::messages::Messages;
-use crate::{Form, misuse_of, status_of};
+use crate::{Form, misuse_of, say_misuse, status_of};
 use anyhow::Result;
 use framehop_dump_json::json::Json;
 use framehop_dump_stacks::core_dump::read_core_dump_over;
@@ -52,11 +52,11 @@ pub fn print_core_parts(
     let Ok(Some(mut core)) = CoreParts::open(rt, path) else {
         return Ok(None);
     };
-    if misuse_of(Kind::Core, options, form).is_some() {
-        return Ok(None);
+    if let Some(misuse) = misuse_of(Kind::Core, options, form) {
+        return Ok(Some(say_misuse(rt, path, misuse)?));
     }
     for _round in 0..MOST_ROUNDS {
-        let Ok(memory) = core.read_memory(rt.alloc()) else {
+        let Ok(Some(memory)) = core.read_memory(rt.alloc()) else {
             return Ok(None);
         };
         match print_read_core(rt, path, core.front(), &memory, disk, options, form)? {
@@ -115,7 +115,7 @@ fn written_stacks(
         Form::Json => report_dump_stacks(alloc, dump, disk, limit, &Json, &mut out, &mut said),
         _ => write_dump_stacks(alloc, dump, disk, limit, explain, &mut out, &mut said),
     };
-    Written { out, said, ended }
+    in_memory(out, said, ended)
 }
 
 /// Prints the stacks of the threads of a core file, by its bytes.
@@ -134,7 +134,20 @@ pub fn print_core(
         Form::Json => { report_core_stacks(alloc, bytes, disk, limit, &Json, &mut out, &mut said) }
         _ => write_core_stacks(alloc, bytes, disk, limit, explain, &mut out, &mut said),
     };
-    print_written(rt, path, &Written { out, said, ended })
+    print_written(rt, path, &in_memory(out, said, ended))
+}
+
+/// Returns what is written of a core file into memory, where a write fails only where memory runs out.
+fn in_memory(
+    out: Vec<u8>,
+    said: Vec<u8>,
+    ended: std::result::Result<(), DumpStacksError>,
+) -> Written {
+    let ended = match ended {
+        Err(DumpStacksError::CannotWrite) => Err(DumpStacksError::OutOfMemory),
+        ended => ended,
+    };
+    Written { out, said, ended }
 }
 
 /// Prints what is written of a core file, what is said of it, and why it was refused, if it was. Returns the status.

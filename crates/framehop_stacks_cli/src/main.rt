@@ -330,8 +330,7 @@ fn print_stacks(
     let (path, bytes) = (name_of(path), bytes.as_slice());
     let kind = kind_of(bytes);
     if let Some(misuse) = misuse_of(kind, options, form) {
-        writeln!(Messages { rt }, "framehop-stacks: {path}: {misuse}")?;
-        return Ok(2);
+        return say_misuse(rt, path, misuse);
     }
     match kind {
         Kind::Core => print_core(rt, path, bytes, disk, options, form),
@@ -346,6 +345,12 @@ fn print_stacks(
         }
         Kind::Recording => print_recording(rt, path, bytes, disk, asked, options, folded),
     }
+}
+
+/// Says why a file is not printed as it is asked for, and returns the status.
+fn say_misuse(rt: &HostRuntime, path: &str, misuse: &str) -> Result<u8> {
+    writeln!(Messages { rt }, "framehop-stacks: {path}: {misuse}")?;
+    Ok(2)
 }
 
 /// Returns why a file of a kind is not printed as it is asked for, if so.
