@@ -231,10 +231,11 @@ fn segments_of(
 ) -> Result<Option<Vec<WantedSegment>>, AllocError> {
     let mut segments = Vec::new(alloc);
     for loaded in &loaded_segments(alloc, headers)? {
-        let has = size.saturating_sub(loaded.offset).min(loaded.file_size);
-        if has < loaded.file_size && loaded.address < FIRST_OF_KERNEL {
+        let end = loaded.offset.saturating_add(loaded.file_size);
+        if end > size && loaded.address < FIRST_OF_KERNEL {
             return Ok(None);
         }
+        let has = size.saturating_sub(loaded.offset).min(loaded.file_size);
         if has > 0 {
             let range = MemoryRange {
                 start: loaded.address,
