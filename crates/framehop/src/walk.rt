@@ -58,9 +58,10 @@ impl Words for StackBytes<'_> {
 
     #[inline]
     fn read(&self, address: u64) -> Result<u64, ()> {
-        let Some(offset) = address.checked_sub(self.base) else {
+        if address < self.base {
             return Err(());
-        };
+        }
+        let offset = address - self.base;
         match read_u64(self.bytes, offset as usize) {
             Some((word, _)) => Ok(word),
             None => Err(()),

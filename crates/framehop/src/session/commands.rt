@@ -22,9 +22,10 @@ impl Words for Memory {
     ghost memory = { memory_of };
 
     fn read(&self, address: u64) -> Result<u64, ()> {
-        let Some(offset) = address.checked_sub(self.base) else {
+        if address < self.base {
             return Err(());
-        };
+        }
+        let offset = address - self.base;
         if offset % 8 != 0 {
             return Err(());
         }

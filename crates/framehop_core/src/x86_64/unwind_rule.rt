@@ -400,9 +400,8 @@ fn read_bp_beside<F: FnMut(u64) -> Result<u64, ()>>(
     }
 }
 
-/// Returns the step by pops, the first one at the address (AVMA). It stands apart, since it copies all
-/// registers and the other rules need few.
-#[inline(never)]
+/// Returns the step by pops, the first one at the address (AVMA).
+#[inline(always)]
 fn exec_pops<F: FnMut(u64) -> Result<u64, ()>>(
     regs: &mut UnwindRegsX86_64,
     read_stack: &mut F,
@@ -424,7 +423,8 @@ fn exec_pops<F: FnMut(u64) -> Result<u64, ()>>(
 }
 
 /// Pops registers off the stack, the first one at the address (AVMA), and sets sp above them and
-/// the return address.
+/// the return address. It is called, and `exec_pops` is not, so that no step is handed on in memory.
+#[inline(never)]
 fn pop_registers<F: FnMut(u64) -> Result<u64, ()>>(
     regs: &mut UnwindRegsX86_64,
     read_stack: &mut F,
