@@ -296,8 +296,8 @@ typedef size_t (*framehop_read_words)(void *data, uint64_t address, uint64_t *wo
 
 /* How often a frame may ask for words, how many words a call of the callback may read, and how many are kept. */
 #define FRAMEHOP_READS_A_FRAME 64
-#define FRAMEHOP_WORDS_A_READ 64
-#define FRAMEHOP_WORDS_KEPT 320
+#define FRAMEHOP_WORDS_A_READ 256
+#define FRAMEHOP_WORDS_KEPT 640
 
 /* What a callback has read. */
 typedef struct {
@@ -355,13 +355,15 @@ static inline int32_t framehop_unwinder_x86_64_walk_with(framehop_handle *unwind
 }
 
 /* Walks with a callback: the call above, again while it asks for a word that was not read. A word is not asked for twice
- * while a frame is unwound. Where a frame asks for words more often than FRAMEHOP_READS_A_FRAME times, the walk ends with
- * FRAMEHOP_COULD_NOT_READ_STACK. */
+ * while a frame is unwound. A step asks for the return address first, and in a frame record the frame pointer is in the word
+ * below it, so a frame's words are read from there on. Where a frame asks for words more often than FRAMEHOP_READS_A_FRAME
+ * times, the walk ends with FRAMEHOP_COULD_NOT_READ_STACK. */
 static inline int32_t framehop_unwinder_aarch64_walk_with(framehop_handle *unwinder, framehop_handle *cache, uint64_t pc,
     framehop_registers_aarch64 *registers, framehop_read_words read, void *data, uint64_t *frames, size_t frame_capacity,
     framehop_walk *walk)
 {
     framehop_words_read known;
+    uint64_t from;
     size_t count = 1;
     known.window_count = known.word_count = 0;
     if (frame_capacity == 0)
@@ -378,7 +380,10 @@ static inline int32_t framehop_unwinder_aarch64_walk_with(framehop_handle *unwin
         walk->frame_count = count;
         if (status != FRAMEHOP_MISSING_WORD)
             return status;
-        if (!framehop_read_more(&known, read, data, walk->unreadable))
+        from = walk->unreadable;
+        if (known.window_count == 0 && from >= 8 && from - 8 >= registers->sp)
+            from -= 8;
+        if (!framehop_read_more(&known, read, data, from))
             return FRAMEHOP_COULD_NOT_READ_STACK;
     }
 }

@@ -260,14 +260,19 @@ impl Memory {
 
     /// Reads words from an address upwards, as many as there are.
     fn read(&self, address: u64, words: &mut [u64]) -> usize {
-        let addresses = (address..=u64::MAX).step_by(8);
-        let mut count = 0;
-        for (word, address) in words.iter_mut().zip(addresses) {
-            let Ok(found) = self.word(address) else { break };
-            *word = found;
-            count += 1;
-        }
+        let rest = self.rest(address).unwrap_or(&[]);
+        let count = rest.len().min(words.len());
+        words[..count].copy_from_slice(&rest[..count]);
         count
+    }
+
+    /// The words from an address upwards.
+    fn rest(&self, address: u64) -> Option<&[u64]> {
+        let offset = address.checked_sub(self.base)?;
+        if offset % 8 != 0 {
+            return None;
+        }
+        self.words.get(usize::try_from(offset / 8).ok()?..)
     }
 }
 

@@ -1,5 +1,5 @@
 //! Unwinding on aarch64.
-use crate::unwinder::{Ahead, Step, Unwinder, end_of, next_with, step_with, unwinder, walk_with};
+use crate::unwinder::{Ahead, FrameWords, Step, Unwinder, end_of, next_with, step_with, unwinder, walk_with};
 use crate::words::Words;
 use crate::{
     AllocationPolicy, CacheStats, Error, FrameAddress, Generations, MayAllocateDuringUnwind, Module, ModuleListError,
@@ -74,6 +74,16 @@ impl UnwindRegsAarch64 {
 
     pub fn set_fp(&mut self, fp: u64) {
         self.0.fp = fp;
+    }
+}
+
+impl FrameWords for UnwindRegsAarch64 {
+    /// A step asks for the return address first, and in a frame record the frame pointer is in the word below it.
+    fn words_from(&self, missing: u64) -> u64 {
+        match missing.checked_sub(8) {
+            Some(below) if below >= self.sp() => below,
+            _ => missing,
+        }
     }
 }
 

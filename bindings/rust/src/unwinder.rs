@@ -238,11 +238,18 @@ fn next_over<R>(
     }
 }
 
+/// Registers by which it is known where a frame's words begin.
+pub(crate) trait FrameWords {
+    /// Returns the address (AVMA) from which a frame's words are read, by that of the first one that is missing.
+    fn words_from(&self, missing: u64) -> u64;
+}
+
 /// Walks on from an instruction pointer (AVMA) until no word is missing: `walk_on` writes the return addresses of the
 /// frames that called a frame, over windows. The words of frames that are unwound are let go.
-pub(crate) fn walk_with(
-    mut walk_on: impl FnMut(u64, bool, &[raw::Window], &mut [u64], &mut raw::Walk) -> i32,
+pub(crate) fn walk_with<R: FrameWords>(
+    mut walk_on: impl FnMut(u64, bool, &mut R, &[raw::Window], &mut [u64], &mut raw::Walk) -> i32,
     pc: u64,
+    regs: &mut R,
     read_words: &mut impl FnMut(u64, &mut [u64]) -> usize,
     frames: &mut [u64],
 ) -> (usize, Result<bool, Error>) {
@@ -253,7 +260,7 @@ pub(crate) fn walk_with(
     let mut count = 1;
     loop {
         let (found, rest) = frames.split_at_mut(count);
-        let status = walk_on(found[count - 1], count > 1, chunks.windows(), rest, &mut told);
+        let status = walk_on(found[count - 1], count > 1, regs, chunks.windows(), rest, &mut told);
         if told.frame_count > 0 {
             chunks.clear();
         }
@@ -262,7 +269,8 @@ pub(crate) fn walk_with(
             told.frame_count = count;
             return end_of(status, &told);
         }
-        if !chunks.read(told.unreadable, read_words) {
+        let from = if chunks.is_empty() { regs.words_from(told.unreadable) } else { told.unreadable };
+        if !chunks.read(from, read_words) {
             return (count, Err(Error::CouldNotReadStack(told.unreadable)));
         }
     }
@@ -495,25 +503,29 @@ macro_rules! unwinder {
                 mut read_words: impl FnMut(u64, &mut [u64]) -> usize,
                 frames: &mut [u64],
             ) -> (usize, Result<bool, Error>) {
-                let walk_on =
-                    |address, is_return_address, windows: &[raw::Window], frames: &mut [u64], told: &mut _| {
-                        // SAFETY: an unwinder and a cache of one policy, and windows and a list that are lent for the call
-                        unsafe {
-                            raw::$walk_on(
-                                &mut self.unwinder.handle(),
-                                &mut cache.cache.handle(),
-                                address,
-                                is_return_address,
-                                &mut regs.0,
-                                windows.as_ptr(),
-                                windows.len(),
-                                frames.as_mut_ptr(),
-                                frames.len(),
-                                told,
-                            )
-                        }
-                    };
-                walk_with(walk_on, pc, &mut read_words, frames)
+                let walk_on = |address,
+                               is_return_address,
+                               regs: &mut $regs,
+                               windows: &[raw::Window],
+                               frames: &mut [u64],
+                               told: &mut _| {
+                    // SAFETY: an unwinder and a cache of one policy, and windows and a list that are lent for the call
+                    unsafe {
+                        raw::$walk_on(
+                            &mut self.unwinder.handle(),
+                            &mut cache.cache.handle(),
+                            address,
+                            is_return_address,
+                            &mut regs.0,
+                            windows.as_ptr(),
+                            windows.len(),
+                            frames.as_mut_ptr(),
+                            frames.len(),
+                            told,
+                        )
+                    }
+                };
+                walk_with(walk_on, pc, regs, &mut read_words, frames)
             }
         }
 

@@ -126,11 +126,11 @@ impl Known {
 /// How often a frame may ask for words.
 const READS: usize = 64;
 
-/// How many words one call of a callback may read.
-const WORDS_A_READ: usize = 64;
+/// How many words one call of a callback may read: those of some 60 frames, so that few calls of the archive ask for more.
+const WORDS_A_READ: usize = 256;
 
 /// How many words are kept.
-const KEPT: usize = 320;
+const KEPT: usize = 640;
 
 /// What a callback has read for a walk: words from some addresses upwards, each run in a window of its own. A window
 /// without words says that the word at its base can't be read. It takes no memory.
@@ -150,6 +150,11 @@ impl Chunks {
     pub fn clear(&mut self) {
         self.window_count = 0;
         self.word_count = 0;
+    }
+
+    /// Returns whether nothing was read since the words were cleared.
+    pub fn is_empty(&self) -> bool {
+        self.window_count == 0
     }
 
     /// Reads words from an address (AVMA) upwards, or returns `false` where there is no room for a further window. Of

@@ -1,5 +1,5 @@
 //! Unwinding on x86_64.
-use crate::unwinder::{Ahead, Step, Unwinder, end_of, next_with, step_with, unwinder, walk_with};
+use crate::unwinder::{Ahead, FrameWords, Step, Unwinder, end_of, next_with, step_with, unwinder, walk_with};
 use crate::words::Words;
 use crate::{
     AllocationPolicy, CacheStats, Error, FrameAddress, Generations, MayAllocateDuringUnwind, Module, ModuleListError,
@@ -72,6 +72,13 @@ impl UnwindRegsX86_64 {
 
     pub fn set_bp(&mut self, bp: u64) {
         self.set(Reg::RBP, bp);
+    }
+}
+
+impl FrameWords for UnwindRegsX86_64 {
+    /// The first word that a step asks for is mostly the lowest.
+    fn words_from(&self, missing: u64) -> u64 {
+        missing
     }
 }
 

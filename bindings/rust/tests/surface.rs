@@ -145,11 +145,13 @@ fn walks_by_many_words() {
     let (mut regs, mut frames) = (start, [0; 200]);
     let whole = unwinder.walk_into(0x7fff, &mut regs, &mut cache, 0, &stack, &mut frames);
     assert_eq!(whole.0, 101);
-    for (most, limit, calls) in [(1, 200, 202), (2, 200, 101), (5, 7, 4), (64, 200, 4), (64, 1, 0), (1, 0, 0)] {
+    for (most, limit, calls) in
+        [(1, 200, 202), (2, 200, 101), (5, 7, 4), (64, 200, 4), (256, 200, 1), (64, 1, 0), (1, 0, 0)]
+    {
         let (mut again, mut found, mut called) = (start, [0; 200], 0);
         let read_words = |address: u64, words: &mut [u64]| {
             called += 1;
-            assert!((1..=64).contains(&words.len()));
+            assert!((1..=256).contains(&words.len()));
             let rest = stack.get(address as usize / 8..).unwrap_or(&[]);
             let count = rest.len().min(words.len()).min(most);
             words[..count].copy_from_slice(&rest[..count]);
@@ -166,6 +168,40 @@ fn walks_by_many_words() {
             assert_eq!(again, regs);
         }
     }
+}
+
+/// On aarch64 a frame's words are read from its frame pointer on, which lies below the return address that is asked for first.
+#[test]
+fn walks_by_many_words_on_aarch64() {
+    let stack = records();
+    let unwinder = UnwinderAarch64::<Vec<u8>>::new();
+    let mut cache = CacheAarch64::new();
+    let start = UnwindRegsAarch64::new(0x7fff, 16, 16);
+    let (mut regs, mut frames) = (start, [0; 200]);
+    let whole = unwinder.walk_into(0x7fff, &mut regs, &mut cache, 0, &stack, &mut frames);
+    assert_eq!(whole.0, 101);
+    for (most, calls) in [(1, 202), (2, 101), (64, 4), (256, 1)] {
+        let (mut again, mut found, mut asked) = (start, [0; 200], Vec::new());
+        let read_words = |address: u64, words: &mut [u64]| {
+            asked.push(address);
+            let rest = stack.get(address as usize / 8..).unwrap_or(&[]);
+            let count = rest.len().min(words.len()).min(most);
+            words[..count].copy_from_slice(&rest[..count]);
+            count
+        };
+        let walked = unwinder.walk_with(0x7fff, &mut again, &mut cache, read_words, &mut found);
+        assert_eq!((walked, found, again), (whole, frames, regs));
+        assert_eq!((asked.first(), asked.len()), (Some(&16), calls), "with {most} words a call");
+    }
+    // nothing is read below the stack pointer
+    let mut regs = UnwindRegsAarch64::new(0x7fff, 24, 16);
+    let mut asked = Vec::new();
+    let read_words = |address: u64, _: &mut [u64]| {
+        asked.push(address);
+        0
+    };
+    let walked = unwinder.walk_with(0x7fff, &mut regs, &mut cache, read_words, &mut [0; 2]);
+    assert_eq!((walked, asked), ((1, Err(Error::CouldNotReadStack(24))), vec![24]));
 }
 
 /// The iterator by the calls of a trait that is of the shape of `fallible_iterator::FallibleIterator`.

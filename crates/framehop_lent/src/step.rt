@@ -47,21 +47,32 @@ pub fn step_over<U: Unwinder>(
     let mut read_stack = |address: u64| -> Result<u64, ()>
         ensures reads { result ≡ reply (words_in windows.entry.now address) }
         ensures notes { first_missing.exit ≡ noted windows.entry.now first_missing.entry address }
-    {
-        if let Some(window) = windows.first() {
-            // most words are in the first one, and are read at once
-            if let Ok(word) = word_at(window.base, window.words, address) {
-                return Ok(word);
-            }
-        }
-        look_up(windows, &mut first_missing, address)
-    };
+    { read_noting(windows, &mut first_missing, address) };
     let answer = unwinder.unwind_frame(address, regs, cache, &mut read_stack);
     *missing = match (first_missing, answer) {
         (None, Ok(_)) => None,
         _ => missing_word(windows, first_missing, answer),
     };
     answer
+}
+
+/// Returns the word of windows at an address (AVMA). The first address of which they tell nothing is noted.
+#[inline(always)]
+pub(crate) fn read_noting(
+    windows: &[Window<'_>],
+    first_missing: &mut Option<u64>,
+    address: u64,
+) -> Result<u64, ()>
+    ensures reads { result ≡ reply (words_in windows.now address) }
+    ensures notes { first_missing.new ≡ noted windows.now first_missing.old address }
+{
+    if let Some(window) = windows.first() {
+        // most words are in the first one, and are read at once
+        if let Ok(word) = word_at(window.base, window.words, address) {
+            return Ok(word);
+        }
+    }
+    look_up(windows, first_missing, address)
 }
 
 /// Returns what the windows tell of an address (AVMA). The first one of which they tell nothing is noted.
@@ -81,7 +92,7 @@ fn look_up(windows: &[Window<'_>], first_missing: &mut Option<u64>, address: u64
 
 /// Returns the first word (AVMA) that was asked for and of which no window tells, if there is one.
 #[inline(never)]
-fn missing_word(
+pub(crate) fn missing_word(
     windows: &[Window<'_>],
     first_missing: Option<u64>,
     answer: Result<Option<u64>, Error>,

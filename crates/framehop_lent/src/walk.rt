@@ -1,17 +1,18 @@
 //! A walk into a list that a caller lends.
-ghost use Rattle.std.specs.Prelude.{◌≡◌, ◌≢◌, ◌≤◌, ◌-◌, map, length, take, drop, Err, IfOk, IfErr, MatchResult, ◌⊎◌};
+ghost use Rattle.std.specs.Prelude.{◌≡◌, ◌≢◌, ◌≤◌, ◌-◌, map, length, take, drop, None, Err, IfOk, IfErr, IfSome, IfNone, MatchResult, ◌⊎◌};
+ghost use Rattle.std.specs.Option.{is_some};
 ghost use Rattle.framehop.specs.Memory.{Memory, Answering, reply};
 ghost use Rattle.framehop.specs.CodeAddress.{FrameLocation, address_of, at_return_address, location_of};
-ghost use Rattle.framehop.specs.Outcome.{Outcome};
+ghost use Rattle.framehop.specs.Outcome.{Outcome, answer_of, registers_after};
 ghost use Rattle.framehop.specs.Iterator.{at_frame, next_of, walk_on, cache_on};
 ghost use Rattle.framehop.specs.UnwindIterator.{unwinder_of, progress_in, regs_of, cache_of, read_stack_of};
 ghost use Rattle.framehop.specs.Modules.{UnwinderView};
 ghost use Rattle.framehop.specs.Soundness.{AreApart};
 ghost use Rattle.framehop.specs.Walk.{walk_from, cache_after_walk, cache_after_callers};
-ghost use Rattle.framehop_lent.specs.Window.{words_from, told_in, AgreesWith};
+ghost use Rattle.framehop_lent.specs.Window.{words_from, words_in, told_in, noted, unreadable_word, AgreesWith, IsReadAs};
 ghost use Rattle.framehop_lent.specs.Walk.{IsWrittenWalk, BeginsWalk, IsWrittenUpTo, IsCallerOrEnd, IsUntold, WhereEnded};
 
-use crate::step::step_over;
+use crate::step::{missing_word, read_noting, step_over};
 use crate::window::{Window, word_at};
 use framehop::session::WalkEnd;
 use framehop::{Error, FrameAddress, UnwindIterator, Unwinder};
@@ -166,11 +167,100 @@ fn next_over<U: Unwinder>(
         IsCallerOrEnd (next_of step (at_frame (location_of callee)) regs.old) result regs.new }
 {
     let before = *regs;
-    let found = caller_over(unwinder, cache, callee, regs, windows);
-    if let Err(WalkStop::Missing(_)) = found {
-        *regs = before;
+    let mut past = None;
+    let found = caller_past(unwinder, cache, callee, regs, windows, &mut past);
+    let Some(address) = past else {
+        return found;
+    };
+    *regs = before;
+    Err(WalkStop::Missing(address))
+}
+
+/// Returns the caller of a frame over the words of windows, or why there is none. The registers become the caller's.
+/// `past` is the address (AVMA) of a missing word without which the step has gone on: then the registers are not to be used.
+#[inline(always)]
+fn caller_past<U: Unwinder>(
+    unwinder: &U,
+    cache: &mut U::Cache,
+    callee: FrameAddress,
+    regs: &mut U::UnwindRegs,
+    windows: &[Window<'_>],
+    past: &mut Option<u64>,
+) -> Result<FrameAddress, WalkStop>
+    ensures stays_sound { (other : UnwinderView) → AreApart (U.unwinder_view unwinder.now) other
+        → U.is_sound other cache.old → U.is_sound other cache.new }
+    ensures is_caller { IfOk result (λ caller. location_of caller ≡ at_return_address (address_of (location_of caller))) }
+    ensures missing { IfErr result (λ stop. IsUntold windows.now stop) }
+    ensures past { IfSome past.new (λ address. told_in windows.now address ≡ None) }
+    ensures kept { past.new ≡ None → IfErr result (λ stop. stop ≢ WalkStop.Ended (WalkEnd.Refused Error.ReturnAddressIsNull) → regs.new ≡ regs.old) }
+    ensures ended { IfErr result (λ stop. WhereEnded stop (λ end. end ≢ WalkEnd.Refused Error.ReturnAddressIsNull → regs.new ≡ regs.old)) }
+    ensures may_run_out { result ≡ Err (WalkStop.Ended (WalkEnd.Refused Error.OutOfMemory))
+        → U.may_run_out unwinder.now cache.old (location_of callee) }
+    ensures out_of_memory { result ≡ Err (WalkStop.Ended (WalkEnd.Refused Error.OutOfMemory)) → regs.new ≡ regs.old }
+    ensures looked_up { (cache.new ≡ U.cache_after unwinder.now cache.old (location_of callee))
+        ⊎ (cache.new ≡ U.cache_after_lookup unwinder.now cache.old (location_of callee)) }
+    ensures cached { MatchResult result
+        (λ _. cache.new ≡ U.cache_after unwinder.now cache.old (location_of callee))
+        (λ stop. WhereEnded stop (λ _. cache.new ≡ U.cache_after unwinder.now cache.old (location_of callee))) }
+    ensures answers { U.is_sound (U.unwinder_view unwinder.now) cache.old → (memory : Memory) → AgreesWith windows.now memory →
+        let step : FrameLocation → U.UnwindRegs → Outcome U.UnwindRegs = λ location regs. U.step unwinder.now location regs memory in
+        IsCallerOrEnd (next_of step (at_frame (location_of callee)) regs.old) result regs.new }
+{
+    let mut missing = None;
+    let answer = step_on(unwinder, cache, callee, regs, windows, &mut missing);
+    *past = None;
+    if let Some(address) = missing {
+        if let Ok(Some(_)) = answer {
+            *past = missing;
+        }
+        return Err(WalkStop::Missing(address));
     }
-    found
+    match answer {
+        Ok(Some(return_address)) => FrameAddress::from_return_address(return_address).ok_or(
+            WalkStop::Ended(WalkEnd::Refused(Error::ReturnAddressIsNull)),
+        ),
+        Ok(None) => Err(WalkStop::Ended(WalkEnd::Root)),
+        Err(error) => Err(WalkStop::Ended(WalkEnd::Refused(error))),
+    }
+}
+
+/// Unwinds a single frame as [`step_over`] does, whose other callers share one copy of the step: that of a walk is compiled
+/// into its loop.
+#[inline(always)]
+fn step_on<U: Unwinder>(
+    unwinder: &U,
+    cache: &mut U::Cache,
+    address: FrameAddress,
+    regs: &mut U::UnwindRegs,
+    windows: &[Window<'_>],
+    missing: &mut Option<u64>,
+) -> Result<Option<u64>, Error>
+    ensures kept { MatchResult result
+        (λ answer. IfNone answer (regs.new ≡ regs.old))
+        (λ _. regs.new ≡ regs.old) }
+    ensures missing { IfSome missing.new (λ asked. told_in windows.now asked ≡ None) }
+    ensures unreadable { missing.new ≡ None → IfSome (unreadable_word result) (λ address. told_in windows.now address ≢ None) }
+    ensures may_run_out { result ≡ Err Error.OutOfMemory → U.may_run_out unwinder.now cache.old (location_of address) }
+    ensures cached { result ≢ Err Error.OutOfMemory → cache.new ≡ U.cache_after unwinder.now cache.old (location_of address) }
+    ensures not_cached { result ≡ Err Error.OutOfMemory → cache.new ≡ U.cache_after_lookup unwinder.now cache.old (location_of address) }
+    ensures stays_sound { (other : UnwinderView) → AreApart (U.unwinder_view unwinder.now) other
+        → U.is_sound other cache.old → U.is_sound other cache.new }
+    ensures answers { U.is_sound (U.unwinder_view unwinder.now) cache.old → result ≢ Err Error.OutOfMemory →
+        (memory : Memory) → IsReadAs windows.now (is_some missing.new) memory →
+        let stepping = U.step unwinder.now (location_of address) regs.old memory in
+        (result ≡ answer_of stepping) × (regs.new ≡ registers_after regs.old stepping) }
+{
+    let mut first_missing: Option<u64> = None;
+    let mut read_stack = |address: u64| -> Result<u64, ()>
+        ensures reads { result ≡ reply (words_in windows.entry.now address) }
+        ensures notes { first_missing.exit ≡ noted windows.entry.now first_missing.entry address }
+    { read_noting(windows, &mut first_missing, address) };
+    let answer = unwinder.unwind_frame(address, regs, cache, &mut read_stack);
+    *missing = match (first_missing, answer) {
+        (None, Ok(_)) => None,
+        _ => missing_word(windows, first_missing, answer),
+    };
+    answer
 }
 
 /// Returns the caller of a frame over the words of windows, or why there is none. The registers become
