@@ -1,6 +1,8 @@
 -- A walk that is written into a list of addresses, one call of the iterator at a time.
 use Rattle.std.proofs.Common.{◌≡◌, ◌≢◌, ℕ, zero, suc, ◌+◌, ◌-◌, ◌<◌, ◌≤◌, List, [], ◌∷◌, ◌++◌, map, length, take, drop, set, Some, None, Ok, Err, refl, sym, ap, ◌∙◌, subst, arith}
-use Rattle.std.proofs.lemmas.List.{take_more_set, map-append, length-append, length-map, take_all, take-append-le, append-nil}
+use borrow.Rule.Slice.PartMut.{put_mid, post_of}
+use Rattle.std.specs.List.{between}
+use Rattle.std.proofs.lemmas.List.{take_more_set, map-append, length-append, length-map, take_all, take-append-le, append-nil, drop_at, drop-drop, take-append-drop, take-take, length-take-le, length-drop}
 use Rattle.framehop_core.specs.Outcome.{Outcome}
 use Rattle.framehop_core.specs.CodeAddress.{FrameLocation, address_of}
 use Rattle.framehop.specs.Walk.{callers, cache_after_callers}
@@ -24,6 +26,20 @@ pub drop-more : (xs ys : List ℕ) (i : ℕ) → drop i xs ≡ drop i ys → dro
 drop-more xs ys i same =
     let next : i + 1 ≡ suc i = omega arith in
     ap (λ n. drop n xs) next ∙ drop-tail i xs ∙ ap (drop 1) same ∙ sym (drop-tail i ys) ∙ sym (ap (λ n. drop n ys) next)
+
+-- the first elements of a copy of a part of a list
+pub part-kept : (from m end : ℕ) (list first copy rest : List ℕ) → from + m ≤ end → end ≤ length list → copy ≡ between from end list → drop from list ≡ drop from first → take m (copy ++ rest) ≡ take m (drop from first)
+part-kept from m end list first copy rest few within is same =
+    let long : length copy ≡ end - from = ap length is ∙ length-take-le (end - from) (drop from list) (omega (arith, within, length-drop from list)) in
+    take-append-le m copy rest (omega (arith, few, long)) ∙ ap (take m) is ∙ take-take m (end - from) (drop from list) (omega (arith, few)) ∙ ap (take m) same
+
+-- a list of which a part is put back
+pub put-back : (from m i : ℕ) (list first part : List ℕ) → from + m ≡ i → from ≤ length list → part ≡ take m (drop from first) → drop i list ≡ drop i first → drop from (put_mid from m list part) ≡ drop from first
+put-back from m i list first part at within is rest =
+    drop_at (take from list) (part ++ post_of from m list) from (length-take-le from list within)
+    ∙ ap (λ after. part ++ after) (drop-drop m from list ∙ ap (λ n. drop n list) at ∙ rest ∙ sym (ap (λ n. drop n first) at) ∙ sym (drop-drop m from first))
+    ∙ ap (λ before. before ++ drop m (drop from first)) is
+    ∙ take-append-drop m (drop from first)
 
 module _ {Regs Cache : Type 0} (step : FrameLocation → Regs → Outcome Regs) (cache_after : Cache → FrameLocation → Cache) where
   -- the addresses of the frames so far are written, and the walk goes on from there, by any number of further calls

@@ -17,6 +17,9 @@ use crate::window::{Window, word_at};
 use framehop::session::WalkEnd;
 use framehop::{Error, FrameAddress, UnwindIterator, Unwinder};
 
+/// How many frames are walked with one copy of the registers before them.
+const FRAMES_A_COPY: usize = 16;
+
 /// Why a walk over windows has stopped.
 #[derive(Clone, Copy, Debug, PartialEq, Eq)]
 pub enum WalkStop {
@@ -131,49 +134,32 @@ pub fn walk_on<U: Unwinder>(
         × WhereEnded result.1 (λ _. cache.new ≡ cache_after_callers step (U.cache_after unwinder.now) limit (location_of callee) regs.old cache.old) }
 {
     let mut callee = callee;
-    for i in 0..frames.len() {
-        match next_over(unwinder, cache, callee, regs, windows) {
-            Ok(caller) => {
-                frames[i] = caller.address();
-                callee = caller;
+    let mut from = 0;
+    while from < frames.len() {
+        let before = *regs;
+        let end = from + (frames.len() - from).min(FRAMES_A_COPY);
+        let mut old = [0; FRAMES_A_COPY];
+        old[..end - from].copy_from_slice(&frames[from..end]);
+        for i in from..end {
+            let mut past = None;
+            match caller_past(unwinder, cache, callee, regs, windows, &mut past) {
+                Ok(caller) => {
+                    frames[i] = caller.address();
+                    callee = caller;
+                }
+                Err(stop) => {
+                    let Some(address) = past else {
+                        return (i, stop);
+                    };
+                    frames[from..i].copy_from_slice(&old[..i - from]);
+                    *regs = before;
+                    return (from, WalkStop::Missing(address));
+                }
             }
-            Err(stop) => return (i, stop),
         }
+        from = end;
     }
     (frames.len(), WalkStop::Ended(WalkEnd::Limit))
-}
-
-/// Returns the caller of a frame over the words of windows, or why there is none. The registers become
-/// the caller's; where a word is missing, they are as before.
-#[inline(always)]
-fn next_over<U: Unwinder>(
-    unwinder: &U,
-    cache: &mut U::Cache,
-    callee: FrameAddress,
-    regs: &mut U::UnwindRegs,
-    windows: &[Window<'_>],
-) -> Result<FrameAddress, WalkStop>
-    ensures stays_sound { (other : UnwinderView) → AreApart (U.unwinder_view unwinder.now) other
-        → U.is_sound other cache.old → U.is_sound other cache.new }
-    ensures missing { IfErr result (λ stop. IsUntold windows.now stop) }
-    ensures kept { IfErr result (λ stop. stop ≢ WalkStop.Ended (WalkEnd.Refused Error.ReturnAddressIsNull) → regs.new ≡ regs.old) }
-    ensures may_run_out { result ≡ Err (WalkStop.Ended (WalkEnd.Refused Error.OutOfMemory))
-        → U.may_run_out unwinder.now cache.old (location_of callee) }
-    ensures cached { MatchResult result
-        (λ _. cache.new ≡ U.cache_after unwinder.now cache.old (location_of callee))
-        (λ stop. WhereEnded stop (λ _. cache.new ≡ U.cache_after unwinder.now cache.old (location_of callee))) }
-    ensures answers { U.is_sound (U.unwinder_view unwinder.now) cache.old → (memory : Memory) → AgreesWith windows.now memory →
-        let step : FrameLocation → U.UnwindRegs → Outcome U.UnwindRegs = λ location regs. U.step unwinder.now location regs memory in
-        IsCallerOrEnd (next_of step (at_frame (location_of callee)) regs.old) result regs.new }
-{
-    let before = *regs;
-    let mut past = None;
-    let found = caller_past(unwinder, cache, callee, regs, windows, &mut past);
-    let Some(address) = past else {
-        return found;
-    };
-    *regs = before;
-    Err(WalkStop::Missing(address))
 }
 
 /// Returns the caller of a frame over the words of windows, or why there is none. The registers become the caller's.
