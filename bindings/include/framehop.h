@@ -297,7 +297,7 @@ typedef size_t (*framehop_read_words)(void *data, uint64_t address, uint64_t *wo
 /* How often a frame may ask for words, how many words a call of the callback may read, and how many are kept. */
 #define FRAMEHOP_READS_A_FRAME 64
 #define FRAMEHOP_WORDS_A_READ 256
-#define FRAMEHOP_WORDS_KEPT 640
+#define FRAMEHOP_WORDS_KEPT 320
 
 /* What a callback has read. */
 typedef struct {

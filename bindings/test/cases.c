@@ -81,12 +81,13 @@ static struct memory read_memory(void)
 static size_t read_words(void *data, uint64_t at, uint64_t *words, size_t capacity)
 {
     const struct memory *memory = (const struct memory *)data;
-    size_t first = (at - memory->base) / 8, i;
-    if (at < memory->base || (at - memory->base) % 8)
+    size_t first = (at - memory->base) / 8, count = by_chunks ? capacity : 1;
+    if (at < memory->base || (at - memory->base) % 8 || first >= memory->count)
         return 0;
-    for (i = 0; i < (by_chunks ? capacity : 1) && first + i < memory->count; i++)
-        words[i] = memory->words[first + i];
-    return i;
+    if (count > memory->count - first)
+        count = memory->count - first;
+    memcpy(words, &memory->words[first], count * sizeof *words);
+    return count;
 }
 
 /* reads a word into a window of its own; false where it can't be read */

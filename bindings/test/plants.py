@@ -56,6 +56,8 @@ PLANTS = [
      "read_words(address, words).max(1);"),
     ("a walk by words looks each frame up as a first one", CRATE + "unwinder.rs", "walk_on(found[count - 1], count > 1,",
      "walk_on(found[count - 1], false,"),
+    ("a frame record is read from its return address on", CRATE + "aarch64.rs", "Some(below) if below >= self.sp() => below,", "Some(_) => missing,"),
+    ("words below the stack pointer are read", CRATE + "aarch64.rs", "Some(below) if below >= self.sp() => below,", "Some(below) => below,"),
     ("a walk by words counts the frames of its last call", CRATE + "unwinder.rs", "            told.frame_count = count;\n", ""),
     ("a window lends the words of its neighbour", CRATE + "words.rs", "            rest = others;\n", "            let _ = others;\n"),
     ("C: capacity off by one", HEADER, "frame_capacity - count, walk);", "frame_capacity - count + 1, walk);"),

@@ -130,7 +130,7 @@ const READS: usize = 64;
 const WORDS_A_READ: usize = 256;
 
 /// How many words are kept.
-const KEPT: usize = 640;
+const KEPT: usize = 320;
 
 /// What a callback has read for a walk: words from some addresses upwards, each run in a window of its own. A window
 /// without words says that the word at its base can't be read. It takes no memory.
