@@ -9,6 +9,9 @@ use std::{fs, io};
 /// The size from which on a recording is told of before it is read, in bytes: 50 MB.
 const LARGE_RECORDING: u64 = 50_000_000;
 
+/// How many bytes of a file are read at a time.
+const PART: usize = 0x4_0000;
+
 /// What a file is.
 #[derive(Clone, Copy)]
 pub enum Kind {
@@ -76,10 +79,16 @@ pub fn read_input(rt: &HostRuntime, path: &str) -> Result<Result<Vec<u8>, u8>> {
     }
 }
 
-/// Reads a file of a size, into memory that is asked for once. What is added to it meanwhile is not read.
+/// Reads a file of a size, into memory that is asked for once. What is added to it meanwhile is not read. Each part is filled
+/// with zeros right before it is read, so these stay in the processor's cache.
 pub fn read_sized(rt: &HostRuntime, path: &str, size: u64) -> io::Result<Vec<u8>> {
-    let mut bytes = Vec::from_elem(rt.alloc(), 0u8, size as usize)?;
-    File::open(rt, path)?.read_exact(bytes.as_mut_slice())?;
+    let size = size as usize;
+    let mut file = File::open(rt, path)?;
+    let mut bytes = Vec::with_capacity(rt.alloc(), size)?;
+    for start in (0..size).step_by(PART) {
+        bytes.resize(start + (size - start).min(PART), 0u8)?;
+        file.read_exact(&mut bytes.as_mut_slice()[start..])?;
+    }
     Ok(bytes)
 }
 
