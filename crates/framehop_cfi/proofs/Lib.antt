@@ -11,3 +11,5 @@ pub mod Extents
 pub mod Cut
 pub mod AugmentationMeaning
 pub mod EntryMeaning
+pub mod RememberedLog
+pub mod WhatIsRemembered

@@ -1,5 +1,5 @@
 -- Where no instruction needs room, the row has no rule.
-use Rattle.std.proofs.Common.{◌≡◌, ℕ, zero, suc, ◌+◌, ◌<◌, Bool, true, false, ◌||◌, [], length, Option, Result, Ok, refl, subst, arith, inl, inr}
+use Rattle.std.proofs.Common.{◌≡◌, ℕ, zero, suc, ◌+◌, ◌<◌, Bool, true, false, ◌||◌, [], length, Option, Result, Ok, Err, refl, ap, subst, arith, inl, inr}
 use Rattle.std.proofs.lemmas.Bool.{cases_Bool, cases_lt, lt-leb, le-leb, or_parts}
 use Rattle.framehop_cfi.specs.Instruction.{instruction_at}
 use Rattle.framehop_cfi.specs.TableRows.{TableRows, effect, cfa_register, cfa_offset}
@@ -56,6 +56,38 @@ module _ (limits : Option StorageLimits) where
       let cfa = bind_ok (cfa_offset offset rows.row.cfa) _ after is in
       as-before _ after (record { rules = bare.rules; remembered = bare.remembered }) (same _ after cfa.2)
 
+  -- an instruction that needs no room remembers no row
+  pub none-stays : (instruction : CallFrameInstruction) (rows after : TableRows) → needs_room instruction ≡ false → rows.remembered ≡ [] → effect limits instruction rows ≡ Ok after → after.remembered ≡ []
+  none-stays Nop rows after needless none is = rw (← same rows after is) none
+  none-stays NegateRaState rows after needless none is = rw (← same rows after is) none
+  none-stays (ArgsSize size) rows after needless none is = rw (← same rows after is) none
+  none-stays (SetLoc address) rows after needless none is = rw (← same rows after is) none
+  none-stays (AdvanceLoc delta) rows after needless none is = rw (← same rows after is) none
+  none-stays (SetRule register rule) rows after needless none is = cc
+  none-stays (Restore register) rows after needless none is = cc
+  none-stays RememberState rows after needless none is = cc
+  none-stays RestoreState rows after needless none is = let e = rw none at is in cc
+  none-stays (DefCfa cfa) rows after needless none is = rw (← same _ after is) none
+  none-stays (DefCfaRegister register) rows after needless none is =
+      let cfa = bind_ok (cfa_register register rows.row.cfa) _ after is in rw (← same _ after cfa.2) none
+  none-stays (DefCfaOffset offset) rows after needless none is =
+      let cfa = bind_ok (cfa_offset offset rows.row.cfa) _ after is in rw (← same _ after cfa.2) none
+
+-- what holds, or else where it does not
+pub needed-or : (needed : Bool) → (needed ≡ false → needed ≡ true) → needed ≡ true
+needed-or true else-true = refl
+needed-or false else-true = else-true refl
+
+-- an error is the same in the place of any value
+pub error-same : {A B : Type 0} (x y : ReadError) → ◌≡◌ {A = Result A ReadError} (Err x) (Err y)
+    → ◌≡◌ {A = Result B ReadError} (Err x) (Err y)
+error-same x y is = let e : x ≡ y = cc in ap (λ error. Err error) e
+
+-- what no place of a list needs, none of its places does
+pub needless : (here whole : Bool) → (here ≡ true → whole ≡ true) → whole ≡ false → here ≡ false
+needless true whole needs none = let e = needs refl in cc
+needless false whole needs none = refl
+
 module _ (code : InstructionList) where
   run-bare : (limits : Option StorageLimits) (n at location : ℕ) (rows after : TableRows) → IsBare rows
       → one_needs_room code n at location ≡ false → run limits code n at location rows ≡ Ok after → IsBare after
@@ -91,6 +123,14 @@ module _ (code : InstructionList) where
             let many = rw bare.rules at some in
             absurd (omega (arith, many))
       ]
+
+  -- a list that begins with nothing remembers a row only where an instruction needs room
+  pub rows-need : (limits : Option StorageLimits) (at location : ℕ) (after : TableRows)
+      → run_from limits code at location start ≡ Ok after → list_needs_room code at location ≡ false
+      → after.remembered ≡ []
+  unfolding run_from list_needs_room
+  rows-need limits at location after is none =
+      (run-bare limits (suc (length code.bytes)) at location start after (record { rules = refl; remembered = refl }) none is).remembered
 
   -- an instruction at the place needs room
   pub needs-here : (n at location moved : ℕ) (read : CallFrameInstruction × ℕ) → IsIn code n at

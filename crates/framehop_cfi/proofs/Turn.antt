@@ -1,5 +1,5 @@
 -- Turns of a list, one after another.
-use Rattle.std.proofs.Common.{◌≡◌, ℕ, suc, zero, ◌+◌, ◌<◌, Bool, true, false, not, length, Option, Some, None, Result, Ok, Err, refl, sym, ap, ◌∙◌, arith, inl, inr}
+use Rattle.std.proofs.Common.{◌≡◌, ℕ, suc, zero, ◌+◌, ◌<◌, Bool, true, false, not, [], length, Option, Some, None, Result, Ok, Err, refl, sym, ap, ◌∙◌, arith, inl, inr}
 use Rattle.std.proofs.lemmas.Bool.{cases_Bool, lt-leb, and_parts}
 use Rattle.framehop_bytes.specs.Bytes.{◌>>=◌}
 use Rattle.framehop_cfi.specs.Instruction.{instruction_at}
@@ -14,7 +14,7 @@ use Rattle.framehop_cfi.specs.declared.read_error.ReadError.{ReadError}
 use Rattle.framehop_cfi.proofs.Cursor.{bind-same}
 use Rattle.framehop_cfi.proofs.Extents.{bind_ok}
 use Rattle.framehop_cfi.proofs.Forward.{instruction-forward}
-use Rattle.framehop_cfi.proofs.Room.{one-on, needs-here}
+use Rattle.framehop_cfi.proofs.Room.{one-on, needs-here, none-stays, needless}
 use Rattle.framehop_cfi.proofs.Run.{IsIn}
 
 bind-again : {A B C E : Type 0} (r : Result A E) (f : A → Result B E) (g : B → Result C E) → ((r >>= f) >>= g) ≡ (r >>= λ x. f x >>= g)
@@ -139,3 +139,14 @@ module _ (limits : Option StorageLimits) (code : InstructionList) where
       let moved = ok-and _ (location_after code.cie code.address location read.0.0) read.2 in
       let parts = and_parts (not (is_beyond code.address moved.0)) (needs_room read.0.0) moved.2 in
       needs-here code n at location moved.0 read.0 inside read.1 moved.1 (not-false (is_beyond code.address moved.0) parts.0) parts.1
+
+  -- and remembers no row where none of the list needs room
+  pub turn-forgets : (n at location : ℕ) (rows : TableRows) (cursor : RowCursor) (after : TableRows) (needed : Bool)
+      → IsIn code n at → turn limits code at location rows ≡ Ok (Some cursor, after)
+      → (one_needs_room code n at location ≡ true → needed ≡ true)
+      → needed ≡ false → rows.remembered ≡ [] → after.remembered ≡ []
+  turn-forgets n at location rows cursor after needed inside is needs none bare =
+      let step = goes at location rows cursor after is in
+      let here = needless (needs_room step.instruction) needed (λ room. needs (needs-here code n at location cursor.location
+      (step.instruction, cursor.next) inside step.reads step.moves step.near room)) none in
+      none-stays limits step.instruction rows after here bare step.does

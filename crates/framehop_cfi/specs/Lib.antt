@@ -20,6 +20,8 @@ pub mod PointerEncoding
 pub mod Raw
 pub mod Refusal
 pub mod Remembered
+pub mod RememberedCopies
+pub mod RememberedLog
 pub mod Row
 pub mod RowAt
 pub mod RowCursor

@@ -1,52 +1,27 @@
--- Rows that are remembered (DWARF 5 section 6.4.2.4), each of which has its rules or shares them.
-use Rattle.std.specs.Prelude.{Bool, false, List, [], ◌∷◌, ◌++◌, length, Option, Some, None, Result, Ok, Err, unwrap_or, is_some, not, if◌then◌else◌}
+-- Rows that are remembered (DWARF 5 section 6.4.2.4): a log of what changed since, or copies where the storage has limits.
+use Rattle.std.specs.Prelude.{List, [], ◌∷◌, ◌++◌, length, Option, Some, None, Result, Ok, Err, if◌then◌else◌}
+use Rattle.framehop_cfi.specs.RememberedCopies.{CopiedView, copied_rows}
+use Rattle.framehop_cfi.specs.RememberedLog.{Rules, logged_rows}
 use Rattle.framehop_cfi.specs.Row.{Row}
 use Rattle.framehop_cfi.specs.TableRows.{rows_are_full}
 use Rattle.framehop_cfi.specs.declared.read_error.ReadError.{ReadError}
 use Rattle.framehop_cfi.specs.declared.read_error.ReadError.TheVariants.{TooManyRows}
-use Rattle.framehop_cfi.specs.declared.rule.CfaRule.{CfaRule}
-use Rattle.framehop_cfi.specs.declared.rule.Register.{Register}
-use Rattle.framehop_cfi.specs.declared.rule.RegisterRule.{RegisterRule}
+use Rattle.framehop_cfi.specs.declared.remembered_log.Note.{Note}
 use Rattle.framehop_cfi.specs.declared.storage.StorageLimits.{StorageLimits}
 
--- a remembered row: its CFA, and its rules if it has them; else they are those of the next one, or after the latest those of
--- the row that instructions work on
-pub record RememberedView : Type 0 where
-  pub cfa : CfaRule
-  pub rules : Option (List (Register × RegisterRule))
+-- what is kept of them: a log in a storage without limits, copies in one with limits; of the other there is nothing
+pub record Remembered : Type 0 where
+  pub log : List Note
+  pub copies : List CopiedView
 
-abbrev pub remembered_view : Row → Bool → RememberedView
-remembered_view row has_rules = record { cfa = row.cfa; rules = if has_rules then Some row.rules else None }
-
--- the row of one that was remembered last, by the rules of the row that instructions work on
-abbrev pub popped_row : RememberedView → List (Register × RegisterRule) → Row
-popped_row remembered rules = record { cfa = remembered.cfa; rules = unwrap_or remembered.rules rules }
-
--- the rules of the first of them, or of the row that instructions work on
-abbrev pub first_rules : List RememberedView → List (Register × RegisterRule) → List (Register × RegisterRule)
-first_rules [] rules = rules
-first_rules (remembered ∷ later) rules = unwrap_or remembered.rules (first_rules later rules)
+abbrev pub nothing_remembered : Remembered
+nothing_remembered = record { log = []; copies = [] }
 
 -- the rows that are remembered, by the rules of the row that instructions work on
-abbrev pub remembered_rows : List RememberedView → List (Register × RegisterRule) → List Row
-remembered_rows [] rules = []
-remembered_rows (remembered ∷ later) rules =
-    popped_row remembered (first_rules later rules) ∷ remembered_rows later rules
+abbrev pub remembered_rows : Option StorageLimits → Remembered → Rules → List Row
+remembered_rows None remembered rules = logged_rows remembered.log rules
+remembered_rows (Some limits) remembered rules = copied_rows remembered.copies rules
 
--- the latest shares the rules of the row that instructions work on
-abbrev pub is_shared : List RememberedView → Bool
-is_shared [] = false
-is_shared (remembered ∷ []) = not (is_some remembered.rules)
-is_shared (remembered ∷ next ∷ later) = is_shared (next ∷ later)
-
--- another one, which shares them
-abbrev pub pushed : Option StorageLimits → CfaRule → List RememberedView → Result (List RememberedView) ReadError
-pushed limits cfa remembered =
-    if rows_are_full limits (length remembered) then Err TooManyRows
-    else Ok (remembered ++ record { cfa = cfa; rules = None } ∷ [])
-
--- the latest with rules, where it had none
-abbrev pub kept : List (Register × RegisterRule) → List RememberedView → List RememberedView
-kept rules [] = []
-kept rules (remembered ∷ []) = record remembered { rules = Some (unwrap_or remembered.rules rules) } ∷ []
-kept rules (remembered ∷ next ∷ later) = remembered ∷ kept rules (next ∷ later)
+-- and with another row, if there is room
+abbrev pub remembering_row : Option StorageLimits → Row → List Row → Result (List Row) ReadError
+remembering_row limits row rows = if rows_are_full limits (length rows) then Err TooManyRows else Ok (rows ++ row ∷ [])

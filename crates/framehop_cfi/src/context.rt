@@ -2,7 +2,7 @@
 //!
 //! A row is changed in place, instruction by instruction. The room for rows is kept from one address to the next,
 //! so that no memory is taken under `StoreOnStack`.
-ghost use Rattle.std.specs.Prelude.{◌≡◌, ◌≢◌, ◌*◌, ◌+◌, ◌^◌, ◌<◌, ◌≤◌, length, true, false, IfOk, IfErr, OnOk, OnErr, IsErrOf, None, Err};
+ghost use Rattle.std.specs.Prelude.{◌≡◌, ◌≢◌, ◌*◌, ◌+◌, ◌^◌, ◌<◌, ◌≤◌, [], length, true, false, IfOk, IfErr, OnOk, OnErr, IsErrOf, None, Err};
 ghost use Rattle.framehop_cfi.specs.TableRows.{TableRows, effect, setting, restoring, remembering, restoring_state};
 ghost use Rattle.framehop_cfi.specs.Outcome.{Becomes};
 ghost use Rattle.framehop_cfi.specs.Row.{Row};
@@ -36,7 +36,7 @@ pub struct UnwindContext<S: UnwindContextStorage> {
     /// Whether the CIE's instructions have been run.
     has_initial: bool,
     row: UnwindTableRow<S>,
-    /// The rows that were remembered. They share the rules of `row` until these are written.
+    /// The rows that were remembered: copies, or what changed in `row` since.
     remembered: RememberedRows<S>,
 }
 
@@ -47,7 +47,7 @@ impl<S: UnwindContextStorage> Model for UnwindContext<S> {
 
     ghost Value = { TableRows };
 
-    ghost view = { λ context. record { initial = initial_of context.has_initial context.initial; row = context.row; remembered = remembered_rows context.remembered context.row.rules } };
+    ghost view = { λ context. record { initial = initial_of context.has_initial context.initial; row = context.row; remembered = remembered_rows S.limits context.remembered context.row.rules } };
 }
 
 /// Where the rows of an FDE have got to.
@@ -183,7 +183,7 @@ impl<S: UnwindContextStorage> UnwindContext<S> {
         requires near { is_beyond address start ≡ false }
         ensures exact { Becomes result self.new (run_from S.limits (record { cie = cie.now; bases = bases.now; bytes = bytes.now; address = address }) at start self.old) }
         ensures memory { IsErrOf result ReadError.OutOfMemory → S.limits ≡ None }
-        ensures room { IsErrOf result ReadError.OutOfMemory →
+        ensures room { IsErrOf result ReadError.OutOfMemory → self.old.remembered ≡ [] →
             list_needs_room (record { cie = cie.now; bases = bases.now; bytes = bytes.now; address = address }) at start ≡ true }
     {
         let mut cursor = RowCursor {
@@ -214,7 +214,7 @@ impl<S: UnwindContextStorage> UnwindContext<S> {
         requires near { is_beyond address cursor.location ≡ false }
         ensures exact { Turns result self.new (turn S.limits (record { cie = cie.now; bases = bases.now; bytes = bytes.now; address = address }) cursor.next cursor.location self.old) }
         ensures memory { IsErrOf result ReadError.OutOfMemory → S.limits ≡ None }
-        ensures room { IsErrOf result ReadError.OutOfMemory →
+        ensures room { IsErrOf result ReadError.OutOfMemory → self.old.remembered ≡ [] →
             turn_needs_room (record { cie = cie.now; bases = bases.now; bytes = bytes.now; address = address }) cursor.next cursor.location ≡ true }
     {
         let location = cursor.location;
@@ -253,7 +253,7 @@ impl<S: UnwindContextStorage> UnwindContext<S> {
         requires near { is_beyond address cursor.location ≡ false }
         ensures exact { Turns result self.new (turn S.limits (record { cie = cie.now; bases = bases.now; bytes = bytes.now; address = address }) cursor.next cursor.location self.old) }
         ensures memory { IsErrOf result ReadError.OutOfMemory → S.limits ≡ None }
-        ensures room { IsErrOf result ReadError.OutOfMemory →
+        ensures room { IsErrOf result ReadError.OutOfMemory → self.old.remembered ≡ [] →
             turn_needs_room (record { cie = cie.now; bases = bases.now; bytes = bytes.now; address = address }) cursor.next cursor.location ≡ true }
     {
         let location = cursor.location;
@@ -290,7 +290,7 @@ impl<S: UnwindContextStorage> UnwindContext<S> {
         requires near { is_beyond address cursor.location ≡ false }
         ensures exact { Turns result self.new (turn S.limits (record { cie = cie.now; bases = bases.now; bytes = bytes.now; address = address }) cursor.next cursor.location self.old) }
         ensures memory { IsErrOf result ReadError.OutOfMemory → S.limits ≡ None }
-        ensures room { IsErrOf result ReadError.OutOfMemory →
+        ensures room { IsErrOf result ReadError.OutOfMemory → self.old.remembered ≡ [] →
             turn_needs_room (record { cie = cie.now; bases = bases.now; bytes = bytes.now; address = address }) cursor.next cursor.location ≡ true }
     {
         let location = cursor.location;
@@ -337,7 +337,7 @@ impl<S: UnwindContextStorage> UnwindContext<S> {
         requires near { is_beyond address cursor.location ≡ false }
         ensures exact { Turns result self.new (turn S.limits (record { cie = cie.now; bases = bases.now; bytes = bytes.now; address = address }) cursor.next cursor.location self.old) }
         ensures memory { IsErrOf result ReadError.OutOfMemory → S.limits ≡ None }
-        ensures room { IsErrOf result ReadError.OutOfMemory →
+        ensures room { IsErrOf result ReadError.OutOfMemory → self.old.remembered ≡ [] →
             turn_needs_room (record { cie = cie.now; bases = bases.now; bytes = bytes.now; address = address }) cursor.next cursor.location ≡ true }
     {
         match self.run_other(cie, bases, bytes, address, cursor)? {
@@ -360,7 +360,7 @@ impl<S: UnwindContextStorage> UnwindContext<S> {
         requires near { is_beyond address cursor.location ≡ false }
         ensures exact { Turns result self.new (turn S.limits (record { cie = cie.now; bases = bases.now; bytes = bytes.now; address = address }) cursor.next cursor.location self.old) }
         ensures memory { IsErrOf result ReadError.OutOfMemory → S.limits ≡ None }
-        ensures room { IsErrOf result ReadError.OutOfMemory →
+        ensures room { IsErrOf result ReadError.OutOfMemory → self.old.remembered ≡ [] →
             turn_needs_room (record { cie = cie.now; bases = bases.now; bytes = bytes.now; address = address }) cursor.next cursor.location ≡ true }
     {
         let (instruction, next) = cie.read_instruction(bases, bytes, cursor.next)?;
@@ -381,7 +381,7 @@ impl<S: UnwindContextStorage> UnwindContext<S> {
         requires near { is_beyond address location ≡ false }
         ensures exact { Turns result self.new (obeyed S.limits cie.now address location (instruction, next) self.old) }
         ensures memory { IsErrOf result ReadError.OutOfMemory → S.limits ≡ None }
-        ensures room { IsErrOf result ReadError.OutOfMemory → obeying_needs_room cie.now address location instruction ≡ true }
+        ensures room { IsErrOf result ReadError.OutOfMemory → self.old.remembered ≡ [] → obeying_needs_room cie.now address location instruction ≡ true }
     {
         let moved = location_after(cie, address, location, instruction)?;
         if moved != location && is_beyond(address, moved) {
@@ -460,7 +460,7 @@ impl<S: UnwindContextStorage> UnwindContext<S> {
     fn execute(&mut self, instruction: CallFrameInstruction) -> Result<(), ReadError>
         ensures exact { Becomes result self.new (effect S.limits instruction self.old) }
         ensures memory { IsErrOf result ReadError.OutOfMemory → S.limits ≡ None }
-        ensures room { IsErrOf result ReadError.OutOfMemory → needs_room instruction ≡ true }
+        ensures room { IsErrOf result ReadError.OutOfMemory → self.old.remembered ≡ [] → needs_room instruction ≡ true }
     {
         match instruction {
             CallFrameInstruction::Nop
@@ -493,7 +493,7 @@ impl<S: UnwindContextStorage> UnwindContext<S> {
         match self.initial.register(register) {
             Some(rule) => self.set_rule(register, rule),
             None => {
-                self.remembered.keep(&self.row)?;
+                self.remembered.keep_for_removal(&self.row, register)?;
                 self.row.remove_rule(register);
                 Ok(())
             }
@@ -505,7 +505,7 @@ impl<S: UnwindContextStorage> UnwindContext<S> {
         ensures exact { Becomes result self.new (setting S.limits register rule self.old) }
         ensures memory { IsErrOf result ReadError.OutOfMemory → S.limits ≡ None }
     {
-        self.remembered.keep(&self.row)?;
+        self.remembered.keep_for_setting(&self.row, register)?;
         self.row.set_rule(register, rule)
     }
 
@@ -522,7 +522,8 @@ impl<S: UnwindContextStorage> UnwindContext<S> {
     #[inline(never)]
     fn restore_state(&mut self) -> Result<(), ReadError>
         ensures exact { Becomes result self.new (restoring_state self.old) }
-        ensures memory { result ≢ Err ReadError.OutOfMemory }
+        ensures memory { IsErrOf result ReadError.OutOfMemory → S.limits ≡ None }
+        ensures room { IsErrOf result ReadError.OutOfMemory → self.old.remembered ≢ [] }
     {
         self.remembered.pop(&mut self.row)
     }

@@ -15,6 +15,8 @@ pub mod numbers;
 pub mod pointer;
 pub mod read_error;
 mod remembered;
+mod remembered_copies;
+mod remembered_log;
 pub mod row;
 pub mod rule;
 pub mod storage;

@@ -1,168 +1,117 @@
 //! The rows that a context remembers (DWARF 5 section 6.4.2.4).
 //!
-//! A remembered row has no copy of its rules until they are written: until then they are those of the row that instructions
-//! work on.
-ghost use Rattle.std.specs.Prelude.{◌≡◌, true, ◌++◌, ◌∷◌, [], None, IfOk, IfErr, IsErrOf, OnOk, OnErr, vec_len};
+//! A storage with limits copies their rules into room that is made before. One without limits has a log of what changed.
+ghost use Rattle.std.specs.Prelude.{◌≡◌, ◌≢◌, ◌++◌, ◌∷◌, [], None, Ok, IfOk, IfErr, IsErrOf, OnOk, OnErr};
 ghost use Rattle.framehop_cfi.specs.Outcome.{Becomes};
-ghost use Rattle.framehop_cfi.specs.Remembered.{RememberedView, is_shared, pushed, kept, popped_row};
+ghost use Rattle.framehop_cfi.specs.Remembered.{nothing_remembered, remembered_rows, remembering_row};
+ghost use Rattle.framehop_cfi.specs.RememberedLog.{Rules};
+ghost use Rattle.framehop_cfi.specs.Row.{with_rule, without_rule};
 
 use crate::read_error::ReadError;
+use crate::remembered_copies::RememberedCopies;
+use crate::remembered_log::RememberedLog;
 use crate::row::UnwindTableRow;
-use crate::rule::CfaRule;
+use crate::rule::{CfaRule, Register, RegisterRule};
 use crate::storage::UnwindContextStorage;
 use std::alloc::{AllocError, Global};
 use std::marker::Model;
-use std::mem;
 
-/// Rows that are remembered, the latest last.
+/// Rows that are remembered.
 #[derive(Drop)]
 pub(crate) struct RememberedRows<S: UnwindContextStorage> {
-    /// Those, and after them some to be used for the next ones.
-    rows: Vec<RememberedRow<S>>,
-    /// How many are remembered.
-    count: usize,
-    alloc: Global,
-}
-
-/// A row that is remembered.
-#[derive(Drop)]
-pub(crate) struct RememberedRow<S: UnwindContextStorage> {
-    row: UnwindTableRow<S>,
-    /// Whether the rules are this row's. Else they are those of the next one, or of the row that instructions work on.
-    has_rules: bool,
+    /// Those of a storage without limits.
+    log: RememberedLog,
+    /// Those of a storage with limits.
+    copies: RememberedCopies<S>,
 }
 
 impl<S: UnwindContextStorage> Model for RememberedRows<S> {
-    ghost use Rattle.framehop_cfi.specs.Context.{HasSpareRows};
-    ghost use Rattle.framehop_cfi.specs.Remembered.{RememberedView, remembered_view};
-    ghost use Rattle.std.specs.Prelude.{List, map, take, vec_len};
+    ghost use Rattle.framehop_cfi.specs.Remembered.{Remembered};
 
-    ghost Value = { List RememberedView };
+    ghost Value = { Remembered };
 
-    ghost view = { λ remembered. map (λ row. remembered_view row.row row.has_rules) (take remembered.count remembered.rows.items) };
-
-    ghost invariant = { λ remembered. HasSpareRows S.limits remembered.count (vec_len remembered.rows) };
+    ghost view = { λ remembered. record { log = remembered.log; copies = remembered.copies } };
 }
 
 impl<S: UnwindContextStorage> RememberedRows<S> {
     /// Returns none, with the room that the storage wants.
     pub(crate) fn new(alloc: Global) -> Result<Self, AllocError>
-        ensures { IfOk result (λ remembered. remembered ≡ []) }
+        ensures { IfOk result (λ remembered. remembered ≡ nothing_remembered) }
     {
-        let spare = match S::limits() {
-            Some(limits) => limits.rows,
-            None => 0,
-        };
-        let rows = spare_rows(alloc, spare)?;
         Ok(RememberedRows {
-            rows,
-            count: 0,
-            alloc,
+            log: RememberedLog::new(alloc),
+            copies: RememberedCopies::new(alloc)?,
         })
     }
 
     /// Forgets all rows.
     pub(crate) fn clear(&mut self)
-        ensures { self.new ≡ [] }
+        ensures { self.new ≡ nothing_remembered }
     {
-        self.count = 0;
+        self.log.clear();
+        self.copies.clear();
     }
 
-    /// Returns whether the latest row shares the rules of the row that instructions work on.
-    #[inline(always)]
-    fn is_shared(&self) -> bool
-        ensures { result ≡ is_shared self.now }
-    {
-        self.count > 0 && !self.rows[self.count - 1].has_rules
-    }
-
-    /// Remembers a row with this CFA, which shares the rules of the row that instructions work on.
+    /// Remembers a row with this CFA, and the rules of the row that instructions work on.
     pub(crate) fn push(&mut self, cfa: CfaRule) -> Result<(), ReadError>
-        ensures exact { Becomes result self.new (pushed S.limits cfa self.old) }
+        ensures exact { (rules : Rules) → Becomes result (remembered_rows S.limits self.new rules)
+            (remembering_row S.limits (record { cfa = cfa; rules = rules }) (remembered_rows S.limits self.old rules)) }
         ensures memory { IsErrOf result ReadError.OutOfMemory → S.limits ≡ None }
     {
-        if let Some(limits) = S::limits()
-            && self.count >= limits.rows
-        {
-            return Err(ReadError::TooManyRows);
+        match S::limits() {
+            Some(_) => self.copies.push(cfa),
+            None => self.log.push(cfa),
         }
-        if self.count == self.rows.len() {
-            let spare = spare_row(self.alloc)?;
-            self.rows.push(spare)?;
-        }
-        let latest = &mut self.rows[self.count];
-        latest.row.set_cfa(cfa);
-        latest.has_rules = false;
-        self.count += 1;
-        Ok(())
     }
 
-    /// Gives the latest row the rules of another, if it shares those of the row that instructions work on.
+    /// Keeps what a row has of a register, before a rule of it is set there: the rows that are remembered stay as they are.
     #[inline(always)]
-    pub(crate) fn keep(&mut self, row: &UnwindTableRow<S>) -> Result<(), ReadError>
-        ensures kept { OnOk result (self.new ≡ kept row.now.rules self.old) }
+    pub(crate) fn keep_for_setting(
+        &mut self,
+        row: &UnwindTableRow<S>,
+        register: Register,
+    ) -> Result<(), ReadError>
+        ensures kept { OnOk result ((rule : RegisterRule) (rules : Rules) →
+            with_rule S.limits register rule row.now.rules ≡ Ok rules →
+            remembered_rows S.limits self.new rules ≡ remembered_rows S.limits self.old row.now.rules) }
         ensures error { IfErr result (λ error. error ≡ ReadError.OutOfMemory) }
         ensures memory { OnErr result (S.limits ≡ None) }
     {
-        if self.is_shared() {
-            return self.keep_rules(row);
+        match S::limits() {
+            Some(_) => self.copies.keep(row),
+            None => self.log.keep_for_setting(row, register),
         }
-        Ok(())
     }
 
-    /// Gives the latest row, which shares the rules of the row that instructions work on, those of another.
-    #[cold]
-    #[inline(never)]
-    fn keep_rules(&mut self, row: &UnwindTableRow<S>) -> Result<(), ReadError>
-        requires { is_shared self.old ≡ true }
-        ensures kept { OnOk result (self.new ≡ kept row.now.rules self.old) }
+    /// Keeps what a row has of a register, before its rule is taken away there: the rows that are remembered stay as they are.
+    pub(crate) fn keep_for_removal(
+        &mut self,
+        row: &UnwindTableRow<S>,
+        register: Register,
+    ) -> Result<(), ReadError>
+        ensures kept { OnOk result (remembered_rows S.limits self.new (without_rule register row.now.rules)
+            ≡ remembered_rows S.limits self.old row.now.rules) }
         ensures error { IfErr result (λ error. error ≡ ReadError.OutOfMemory) }
         ensures memory { OnErr result (S.limits ≡ None) }
     {
-        let latest = &mut self.rows[self.count - 1];
-        latest.row.copy_rules(row)?;
-        latest.has_rules = true;
-        Ok(())
+        match S::limits() {
+            Some(_) => self.copies.keep(row),
+            None => self.log.keep_for_removal(row, register),
+        }
     }
 
-    /// Makes the row that instructions work on the latest one, which is forgotten.
+    /// Makes the row that instructions work on the one that was remembered last, which is forgotten.
     pub(crate) fn pop(&mut self, row: &mut UnwindTableRow<S>) -> Result<(), ReadError>
-        ensures popped { OnOk result ((latest : RememberedView) × (self.old ≡ self.new ++ latest ∷ [])
-            × (row.new ≡ popped_row latest row.old.rules)) }
-        ensures none { IfErr result (λ error. (error ≡ ReadError.NothingRemembered) × (self.old ≡ [])) }
+        ensures popped { OnOk result (remembered_rows S.limits self.old row.old.rules
+            ≡ remembered_rows S.limits self.new row.new.rules ++ row.new ∷ []) }
+        ensures none { IfErr result (λ error. error ≢ ReadError.OutOfMemory →
+            (error ≡ ReadError.NothingRemembered) × (remembered_rows S.limits self.old row.old.rules ≡ [])) }
+        ensures memory { IsErrOf result ReadError.OutOfMemory → S.limits ≡ None }
+        ensures some { IsErrOf result ReadError.OutOfMemory → remembered_rows S.limits self.old row.old.rules ≢ [] }
     {
-        if self.count == 0 {
-            return Err(ReadError::NothingRemembered);
+        match S::limits() {
+            Some(_) => self.copies.pop(row),
+            None => self.log.pop(row),
         }
-        self.count -= 1;
-        let latest = &mut self.rows[self.count];
-        if latest.has_rules {
-            mem::swap(row, &mut latest.row);
-        } else {
-            row.set_cfa(*latest.row.cfa());
-        }
-        Ok(())
     }
-}
-
-/// Returns so many rows to be used.
-fn spare_rows<S: UnwindContextStorage>(
-    alloc: Global,
-    count: usize,
-) -> Result<Vec<RememberedRow<S>>, AllocError>
-    ensures { IfOk result (λ rows. vec_len rows ≡ count) }
-{
-    let mut rows = Vec::with_capacity(alloc, count)?;
-    for _made in 0..count {
-        rows.push(spare_row(alloc)?)?;
-    }
-    Ok(rows)
-}
-
-/// Returns a row to be used.
-fn spare_row<S: UnwindContextStorage>(alloc: Global) -> Result<RememberedRow<S>, AllocError> {
-    Ok(RememberedRow {
-        row: UnwindTableRow::new(alloc)?,
-        has_rules: false,
-    })
 }

@@ -1,6 +1,7 @@
 //! A row of a call frame table: how the CFA and the registers are found at an address.
 ghost use Rattle.std.specs.Prelude.{◌≡◌, ◌<◌, length, position, IfOk, IfSome, IfErr, OnOk, OnErr, IsErrOf, None};
 ghost use Rattle.framehop_cfi.specs.Row.{empty_row, rule_of, is_of, with_rule, without_rule};
+ghost use Rattle.framehop_cfi.specs.RememberedLog.{undone};
 ghost use Rattle.framehop_cfi.specs.Outcome.{Becomes};
 
 use crate::read_error::ReadError;
@@ -8,6 +9,23 @@ use crate::rule::{CfaRule, Register, RegisterRule};
 use crate::storage::UnwindContextStorage;
 use std::alloc::{AllocError, Global};
 use std::marker::{Model, PhantomData};
+
+/// A change of a row's rules, as what undoes it.
+#[derive(Clone, Copy)]
+pub(crate) enum RuleChange {
+    /// Another rule was set at a place.
+    Set {
+        place: usize,
+        was: (Register, RegisterRule),
+    },
+    /// A rule was added at the end.
+    Added,
+    /// The rule at a place was taken away.
+    Removed {
+        place: usize,
+        was: (Register, RegisterRule),
+    },
+}
 
 /// A row of a call frame table.
 #[derive(Drop)]
@@ -98,6 +116,36 @@ impl<S: UnwindContextStorage> UnwindTableRow<S> {
         if let Some(place) = place_of(&self.rules, register) {
             self.rules.remove(place);
         }
+    }
+
+    /// Undoes the latest change of the rules. A rule that was taken away has room where it was: the room never shrinks.
+    pub(crate) fn undo(&mut self, change: RuleChange) -> Result<(), ReadError>
+        requires { S.limits ≡ None }
+        ensures ok { OnOk result (self.new ≡ record self.old { rules = undone change self.old.rules }) }
+        ensures error { IfErr result (λ error. error ≡ ReadError.OutOfMemory) }
+    {
+        match change {
+            RuleChange::Set { place, was } => {
+                if place < self.rules.len() {
+                    self.rules[place] = was;
+                }
+            }
+            RuleChange::Added => {
+                self.rules.pop();
+            }
+            RuleChange::Removed { place, was } => {
+                self.rules.insert(place.min(self.rules.len()), was)?;
+            }
+        }
+        Ok(())
+    }
+
+    /// Returns the place of that register's rule among the rules.
+    pub(crate) fn place(&self, register: Register) -> Option<usize>
+        ensures exact { result ≡ position (is_of register) self.now.rules }
+        ensures within { IfSome result (λ place. place < length self.now.rules) }
+    {
+        place_of(&self.rules, register)
     }
 
     /// Returns how that register is found, or `None` where the row says nothing of it.

@@ -1,6 +1,6 @@
 use Rattle.std.proofs.Common.{sym}
 use Rattle.framehop_cfi.proofs.SharedRules.{kept-unshared}
-use Rattle.framehop_cfi.proofs.remembered.RememberedRows.keep.Goals as goal
+use Rattle.framehop_cfi.proofs.remembered_copies.RememberedCopies.keep.Goals as goal
 
 pub returns-clause-kept : goal.returns-clause-kept
 returns-clause-kept g c =
